@@ -1,0 +1,5 @@
+pub mod Ascents
+pub mod Buffers
+pub mod Listings
+pub mod MarkLists
+pub mod Orders

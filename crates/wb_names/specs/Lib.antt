@@ -1,0 +1,15 @@
+pub mod Values
+pub mod Faults
+pub mod TextFields
+pub mod Drawing
+pub mod Shapes
+pub mod Orders
+pub mod Same
+pub mod Listing
+pub mod History
+pub mod Arrivals
+pub mod Ascending
+pub mod AscendingEchoes
+pub mod ListFaults
+pub mod Marks
+pub mod Stream

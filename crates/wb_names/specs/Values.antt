@@ -1,0 +1,21 @@
+-- Names, drawops and marks, as contracts see them.
+use Rattle.std.specs.Prelude.{ℕ}
+use Rattle.wb_names.specs.declared.name.PageId.{PageId}
+use Rattle.wb_names.specs.declared.drawop.Op.{Op}
+
+-- the name of a drawop
+pub record NameValue : Type 0 where
+  pub source : ℕ
+  pub page : PageId
+  pub seq : ℕ
+
+-- a drawop
+pub record DrawopValue : Type 0 where
+  pub name : NameValue
+  pub time : ℕ
+  pub op : Op
+
+-- a source with the greatest number that is known of it
+pub record MarkValue : Type 0 where
+  pub source : ℕ
+  pub high : ℕ

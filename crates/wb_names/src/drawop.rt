@@ -1,0 +1,116 @@
+ghost use Rattle.std.specs.Prelude.{◌≡◌};
+ghost use Rattle.wb_names.specs.Drawing.{IsLawful, text_of};
+
+use crate::name::Name;
+use crate::text::Text;
+use std::marker::Model;
+
+/// What a drawop does. Coordinates are cells from 0 to 4095, x to the right and y down; a glyph is
+/// a visible character of ASCII. A target is a source and a sequence number on the drawop's own
+/// page.
+#[derive(Clone, Copy, Debug)]
+pub enum Op {
+    /// A line between two points, both of them drawn.
+    Line {
+        x0: u16,
+        y0: u16,
+        x1: u16,
+        y1: u16,
+        glyph: u8,
+    },
+    /// The four sides of the rectangle with two opposite corners.
+    Frame {
+        x0: u16,
+        y0: u16,
+        x1: u16,
+        y1: u16,
+        glyph: u8,
+    },
+    /// A row of 1 to 64 characters that begins at a point.
+    Text {
+        x: u16,
+        y: u16,
+        text: Text,
+    },
+    /// Hides the drawop that it names, unless a later restore of it is held.
+    Delete {
+        source: u32,
+        seq: u32,
+    },
+    /// Shows the drawop that it names again, unless a later delete of it is held.
+    Restore {
+        source: u32,
+        seq: u32,
+    },
+}
+
+impl Op {
+    /// The bytes of a text, and none where the operation is no text.
+    #[inline(always)]
+    pub fn text(&self) -> &[u8]
+        ensures { result.now ≡ text_of self.now }
+    {
+        match self {
+            Op::Text { text, .. } => text.as_slice(),
+            _ => &[],
+        }
+    }
+}
+
+/// One named step of a drawing. Its fields never change.
+#[derive(Clone, Copy, Debug)]
+pub struct Drawop {
+    name: Name,
+    time: u64,
+    op: Op,
+}
+
+impl Model for Drawop {
+    ghost use Rattle.wb_names.specs.Values.{DrawopValue};
+    ghost use Rattle.wb_names.specs.Drawing.{IsLawful};
+
+    ghost Value = { DrawopValue };
+
+    ghost view = { λ d. record { name = d.name; time = d.time; op = d.op } };
+
+    ghost invariant = { λ d. IsLawful d.name d.op };
+
+    ghost inverse = { λ v. record { name = v.name; time = v.time; op = v.op } };
+}
+
+impl Drawop {
+    /// The drawop with these parts.
+    #[inline(always)]
+    pub(crate) fn from_parts(name: Name, time: u64, op: Op) -> Drawop
+        requires { IsLawful name op }
+        ensures { result ≡ record { name = name; time = time; op = op } }
+    {
+        Drawop { name, time, op }
+    }
+
+    /// Its name.
+    #[inline(always)]
+    pub fn name(&self) -> Name
+        ensures { result ≡ self.now.name }
+    {
+        self.name
+    }
+
+    /// Its timestamp, which decides in which order drawops are displayed: any number of the
+    /// sender's clock.
+    #[inline(always)]
+    pub fn time(&self) -> u64
+        ensures { result ≡ self.now.time }
+    {
+        self.time
+    }
+
+    /// What it does.
+    #[inline(always)]
+    pub fn op(&self) -> &Op
+        ensures op { result.now ≡ self.now.op }
+        ensures lawful { IsLawful self.now.name result.now }
+    {
+        &self.op
+    }
+}

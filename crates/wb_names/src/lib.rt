@@ -1,0 +1,36 @@
+//! Names and drawops of a shared whiteboard, and the small lists that members tell one another.
+//!
+//! Any member may create a page and draw on any page. Each step of a drawing is a drawop: it has a
+//! name that always means the same data, a time, and one operation. This crate says which names,
+//! drawops, marks and echoes there are, when two are the same, and in which order drawops are
+//! displayed. It also has the two ends that the layers above read from and write to. It does not
+//! know datagrams, boards or threads.
+//!
+//! The words are those of Floyd, Jacobson, Liu, McCanne and Zhang, "A Reliable Multicast Framework
+//! for Light-weight Sessions and Application Level Framing", 1997, sections II and III.
+#![tactic(auto)]
+
+mod drawop;
+mod echo;
+mod fault;
+mod gap;
+mod mark;
+mod name;
+mod order;
+mod same;
+mod shape;
+mod stream;
+#[cfg(test)]
+mod tests;
+mod text;
+
+pub use drawop::{Drawop, Op};
+pub use echo::{Echo, Echoes};
+pub use fault::{FieldFault, ListFault};
+pub use gap::Gap;
+pub use mark::{Mark, Marks};
+pub use name::{Name, PageId};
+pub use order::{before, display_order};
+pub use shape::Shape;
+pub use stream::{FromRead, Sink, Source, ToWrite};
+pub use text::Text;

@@ -1,0 +1,92 @@
+ghost use Rattle.std.specs.Prelude.{◌≡◌, ◌↔◌, IsTrue};
+ghost use Rattle.wb_names.specs.Same.{same_op, same_drawop, same_op_laws, same_drawop_laws};
+ghost use Rattle.std.specs.Cmp.{partial_equiv_from_equiv};
+
+use crate::drawop::{Drawop, Op};
+
+/// Two operations are the same where they are of one kind and all fields are equal.
+impl PartialEq for Op {
+    ghost eq = { same_op };
+
+    ghost laws = { partial_equiv_from_equiv same_op_laws };
+
+    #[inline]
+    fn eq(&self, other: &Op) -> bool
+        ensures value { result ≡ same_op self.now other.now }
+        ensures same { IsTrue result ↔ (self.now ≡ other.now) }
+    {
+        match self {
+            Op::Line {
+                x0,
+                y0,
+                x1,
+                y1,
+                glyph,
+            } => match other {
+                Op::Line {
+                    x0: a0,
+                    y0: b0,
+                    x1: a1,
+                    y1: b1,
+                    glyph: g,
+                } => x0 == a0 && y0 == b0 && x1 == a1 && y1 == b1 && glyph == g,
+                _ => false,
+            },
+            Op::Frame {
+                x0,
+                y0,
+                x1,
+                y1,
+                glyph,
+            } => match other {
+                Op::Frame {
+                    x0: a0,
+                    y0: b0,
+                    x1: a1,
+                    y1: b1,
+                    glyph: g,
+                } => x0 == a0 && y0 == b0 && x1 == a1 && y1 == b1 && glyph == g,
+                _ => false,
+            },
+            Op::Text { x, y, text } => match other {
+                Op::Text {
+                    x: a,
+                    y: b,
+                    text: bytes,
+                } => x == a && y == b && text.as_slice() == bytes.as_slice(),
+                _ => false,
+            },
+            Op::Delete { source, seq } => match other {
+                Op::Delete { source: s, seq: n } => source == s && seq == n,
+                _ => false,
+            },
+            Op::Restore { source, seq } => match other {
+                Op::Restore { source: s, seq: n } => source == s && seq == n,
+                _ => false,
+            },
+        }
+    }
+}
+
+impl Eq for Op {
+    ghost laws = { same_op_laws };
+}
+
+/// Two drawops are the same where their names, times and operations are.
+impl PartialEq for Drawop {
+    ghost eq = { same_drawop };
+
+    ghost laws = { partial_equiv_from_equiv same_drawop_laws };
+
+    #[inline]
+    fn eq(&self, other: &Drawop) -> bool
+        ensures value { result ≡ same_drawop self.now other.now }
+        ensures same { IsTrue result ↔ (self.now ≡ other.now) }
+    {
+        self.name() == other.name() && self.time() == other.time() && self.op() == other.op()
+    }
+}
+
+impl Eq for Drawop {
+    ghost laws = { same_drawop_laws };
+}

@@ -1,0 +1,184 @@
+ghost use Rattle.std.specs.Prelude.{◌≡◌, None, Some, OnOk, nat_le};
+ghost use Rattle.std.specs.List.{list_all};
+ghost use Rattle.wb_names.specs.Faults.{value_unless};
+ghost use Rattle.wb_names.specs.Drawing.{IsLawful, op_fault, stroke_fault, text_fault, target_fault, is_coordinate as is_coordinate_number, is_glyph as is_glyph_code, is_printable as is_printable_code};
+ghost use Rattle.wb_names.specs.Shapes.{op_of, TextFits};
+
+use crate::drawop::{Drawop, Op};
+use crate::fault::FieldFault;
+use crate::name::Name;
+use crate::text::Text;
+
+/// An operation as a caller hands it in, its fields not yet checked.
+#[derive(Clone, Copy, Debug)]
+pub enum Shape<'a> {
+    Line {
+        x0: u16,
+        y0: u16,
+        x1: u16,
+        y1: u16,
+        glyph: u8,
+    },
+    Frame {
+        x0: u16,
+        y0: u16,
+        x1: u16,
+        y1: u16,
+        glyph: u8,
+    },
+    Text {
+        x: u16,
+        y: u16,
+        bytes: &'a [u8],
+    },
+    Delete {
+        source: u32,
+        seq: u32,
+    },
+    Restore {
+        source: u32,
+        seq: u32,
+    },
+}
+
+const MAX_COORDINATE: u16 = 4095;
+
+#[inline(always)]
+fn is_coordinate(number: u16) -> bool
+    ensures { result ≡ is_coordinate_number number }
+{
+    number <= MAX_COORDINATE
+}
+
+#[inline(always)]
+fn check_stroke(x0: u16, y0: u16, x1: u16, y1: u16, glyph: u8) -> Option<FieldFault>
+    ensures { result ≡ stroke_fault x0 y0 x1 y1 glyph }
+{
+    if !(is_coordinate(x0) && is_coordinate(y0) && is_coordinate(x1) && is_coordinate(y1)) {
+        return Some(FieldFault::Coordinate);
+    }
+    if !(b'!'..=b'~').contains(&glyph) {
+        return Some(FieldFault::Glyph);
+    }
+    None
+}
+
+#[inline(always)]
+fn is_all_printable(bytes: &[u8]) -> bool
+    ensures { result ≡ list_all is_printable_code bytes.now }
+{
+    bytes.iter().all(|byte| b' ' <= *byte && *byte <= b'~')
+}
+
+#[inline(always)]
+fn check_text(x: u16, y: u16, bytes: &[u8]) -> Option<FieldFault>
+    ensures { result ≡ text_fault x y bytes.now }
+{
+    if !(is_coordinate(x) && is_coordinate(y)) {
+        return Some(FieldFault::Coordinate);
+    }
+    if bytes.is_empty() || bytes.len() > Text::MAX_LEN {
+        return Some(FieldFault::TextLength);
+    }
+    if !is_all_printable(bytes) {
+        return Some(FieldFault::TextByte);
+    }
+    None
+}
+
+#[inline(always)]
+fn check_target(name: Name, source: u32, seq: u32) -> Option<FieldFault>
+    ensures { result ≡ target_fault name source seq }
+{
+    if seq == 0 {
+        return Some(FieldFault::TargetZero);
+    }
+    if source == name.source() && seq == name.seq() {
+        return Some(FieldFault::TargetSelf);
+    }
+    None
+}
+
+/// The first fault of a shape under a name.
+#[inline(always)]
+fn fault_of(name: Name, shape: &Shape<'_>) -> Option<FieldFault>
+    ensures { result ≡ op_fault name (op_of shape.now) }
+{
+    match *shape {
+        Shape::Line {
+            x0,
+            y0,
+            x1,
+            y1,
+            glyph,
+        } => check_stroke(x0, y0, x1, y1, glyph),
+        Shape::Frame {
+            x0,
+            y0,
+            x1,
+            y1,
+            glyph,
+        } => check_stroke(x0, y0, x1, y1, glyph),
+        Shape::Text { x, y, bytes } => check_text(x, y, bytes),
+        Shape::Delete { source, seq } => check_target(name, source, seq),
+        Shape::Restore { source, seq } => check_target(name, source, seq),
+    }
+}
+
+/// The operation of a shape whose text fits.
+#[inline(always)]
+fn op_from(shape: Shape<'_>) -> Op
+    requires { TextFits shape }
+    ensures { result ≡ op_of shape.entry }
+{
+    match shape {
+        Shape::Line {
+            x0,
+            y0,
+            x1,
+            y1,
+            glyph,
+        } => Op::Line {
+            x0,
+            y0,
+            x1,
+            y1,
+            glyph,
+        },
+        Shape::Frame {
+            x0,
+            y0,
+            x1,
+            y1,
+            glyph,
+        } => Op::Frame {
+            x0,
+            y0,
+            x1,
+            y1,
+            glyph,
+        },
+        Shape::Text { x, y, bytes } => Op::Text {
+            x,
+            y,
+            text: Text::new(bytes),
+        },
+        Shape::Delete { source, seq } => Op::Delete { source, seq },
+        Shape::Restore { source, seq } => Op::Restore { source, seq },
+    }
+}
+
+impl Drawop {
+    /// The drawop of this name, time and shape, or the first fault of the shape: `Coordinate`,
+    /// `Glyph`, `TextLength`, `TextByte`, `TargetZero` or `TargetSelf`, in this order.
+    #[inline(always)]
+    pub fn new(name: Name, time: u64, shape: Shape<'_>) -> Result<Drawop, FieldFault>
+        ensures drawop { let op = op_of shape.entry in result ≡ value_unless (op_fault name op) (record { name = name; time = time; op = op }) }
+        ensures lawful { OnOk result (IsLawful name (op_of shape.entry)) }
+    {
+        if let Some(fault) = fault_of(name, &shape) {
+            return Err(fault);
+        }
+        Ok(Drawop::from_parts(name, time, op_from(shape)))
+    }
+}
