@@ -1,0 +1,34 @@
+//! `wb run` runs a script of a whiteboard: what it prints goes to standard output, and a fault to
+//! standard error. `wb check` only says whether each of its lines parses.
+#![tactic(auto)]
+
+mod command;
+mod serving;
+#[cfg(test)]
+mod tests;
+
+use serving::{NO_MEMORY, serve};
+use std::env;
+use std::process::ExitCode;
+use wb_names::{FromRead, ToWrite};
+
+fn main(rt: HostRuntime) -> ExitCode {
+    let Ok(arguments) = env::args(&rt) else {
+        return ExitCode::from(NO_MEMORY);
+    };
+    let Ok(texts) = arguments.skip(1).collect::<Vec<String>>(rt.alloc()) else {
+        return ExitCode::from(NO_MEMORY);
+    };
+    let Ok(words) = texts
+        .iter()
+        .map(|text| text.as_str())
+        .collect::<Vec<&str>>(rt.alloc())
+    else {
+        return ExitCode::from(NO_MEMORY);
+    };
+    let mut source = FromRead::new(rt.stdin());
+    let mut sink = ToWrite::new(rt.stdout());
+    let mut errors = ToWrite::new(rt.stderr());
+    let status = serve(&rt, words.as_slice(), &mut source, &mut sink, &mut errors);
+    ExitCode::from(status)
+}

@@ -1,0 +1,112 @@
+use crate::command::{Task, task_of};
+use clap::Error;
+use clap::error::ErrorKind;
+use std::alloc::Global;
+use wb_names::{Sink, Source};
+use wb_script::{RunFault, check, run};
+
+const DONE: u8 = 0;
+
+/// A line is refused, or a limit is passed.
+const REFUSED: u8 = 1;
+
+/// The words of the command line are not understood.
+const MISUSED: u8 = 2;
+
+/// Reading or writing failed.
+const DISCONNECTED: u8 = 3;
+
+/// Memory or a thread was refused.
+pub const NO_MEMORY: u8 = 4;
+
+fn status_of(fault: RunFault) -> u8 {
+    match fault {
+        RunFault::Line(_, _) | RunFault::Endless => REFUSED,
+        RunFault::Read | RunFault::Write => DISCONNECTED,
+        RunFault::Memory | RunFault::Start => NO_MEMORY,
+    }
+}
+
+/// Writes all of the bytes. Answers whether that was done.
+fn push_all<S: Sink>(sink: &mut S, bytes: &[u8]) -> bool {
+    let mut sent = 0;
+    while sent < bytes.len() {
+        match sink.push(&bytes[sent..]) {
+            Some(count) => sent += count,
+            None => return false,
+        }
+    }
+    true
+}
+
+/// Writes a line about a fault, and answers the status for it. A failure to write it changes
+/// nothing.
+fn report<E: Sink>(alloc: Global, errors: &mut E, fault: RunFault) -> u8 {
+    if let Ok(text) = format!(in alloc; "wb: {fault}\n") {
+        push_all(errors, text.as_bytes());
+    }
+    status_of(fault)
+}
+
+/// Writes the parser's text about the words, and answers the status for it.
+fn misuse<E: Sink>(alloc: Global, errors: &mut E, error: Error) -> u8 {
+    if error.kind() == ErrorKind::OutOfMemory {
+        return report(alloc, errors, RunFault::Memory);
+    }
+    match error.to_string(alloc) {
+        Ok(text) => {
+            push_all(errors, text.as_bytes());
+            MISUSED
+        }
+        Err(_) => report(alloc, errors, RunFault::Memory),
+    }
+}
+
+/// Writes that each line parses.
+fn approve<W: Sink>(alloc: Global, sink: &mut W, lines: u32) -> Result<(), RunFault> {
+    let text = format!(in alloc; "ok {lines}\n")?;
+    if push_all(sink, text.as_bytes()) {
+        Ok(())
+    } else {
+        Err(RunFault::Write)
+    }
+}
+
+fn perform<R: Source, W: Sink>(
+    alloc: Global,
+    task: Task,
+    source: &mut R,
+    sink: &mut W,
+) -> Result<(), RunFault> {
+    match task {
+        Task::Run { .. } => {
+            run(alloc, source, sink)?;
+        }
+        Task::Check => {
+            let lines = check(alloc, source)?;
+            approve(alloc, sink, lines)?;
+        }
+    }
+    Ok(())
+}
+
+/// Does what the words after the program's name ask for, and answers the status of the program: 0;
+/// 1 where a line is refused or a limit is passed; 2 where the words are not understood, or ask for
+/// help, and then nothing is read; 3 where reading or writing fails; 4 where memory is refused.
+pub fn serve<T: AllocGlobal, R: Source, W: Sink, E: Sink>(
+    rt: &T,
+    words: &[&str],
+    source: &mut R,
+    sink: &mut W,
+    errors: &mut E,
+) -> u8 {
+    let alloc = rt.alloc();
+    let task = match task_of(alloc, words) {
+        Ok(task) => task,
+        Err(error) => return misuse(alloc, errors, error),
+    };
+    match perform(alloc, task, source, sink) {
+        Ok(()) => DONE,
+        Err(fault) => report(alloc, errors, fault),
+    }
+}

@@ -1,0 +1,14 @@
+pub mod Words
+pub mod Parsing
+pub mod Faults
+pub mod Board
+pub mod Reply
+pub mod Script
+pub mod Output
+pub mod Ahead
+pub mod Running
+pub use Rattle.wb_names.specs.Values
+pub use Rattle.wb_names.specs.History
+pub use Rattle.wb_names.specs.Arrivals
+pub use Rattle.wb_names.specs.Stream
+pub use Rattle.wb_codec.specs.Reading

@@ -1,0 +1,149 @@
+-- What a line of a script says, or its first fault.
+use Rattle.std.specs.Prelude.{◌≡◌, ◌≤◌, IfErr, ℕ, ◌-◌, ◌^◌, List, [], ◌∷◌, Bool, false, nat_eq, Option, Some, None, Result, Ok, Err, if◌then◌else◌, codes}
+use Rattle.std.specs.Str.{bytes_eq}
+use Rattle.wb_names.specs.declared.name.PageId.{PageId}
+use Rattle.wb_codec.specs.Reading.{reading}
+use Rattle.wb_codec.specs.declared.datagram.Datagram.{Datagram}
+use Rattle.wb_codec.specs.declared.datagram.Datagram.TheVariants.{Draw}
+use Rattle.wb_codec.specs.declared.fault.ReadFault.{ReadFault}
+use Rattle.wb_script.specs.declared.fault.LineFault.{LineFault}
+use Rattle.wb_script.specs.declared.fault.LineFault.TheVariants as faults
+use Rattle.wb_script.specs.declared.fault.ParseFault.{ParseFault}
+use Rattle.wb_script.specs.declared.fault.ParseFault.TheVariants as parse_faults
+use Rattle.wb_script.specs.Faults.{line_code}
+use Rattle.wb_script.specs.declared.line.Line.{Line}
+use Rattle.wb_script.specs.declared.line.Line.TheVariants.{Skip, Board, Arrive, Distance, Tick, Look, Session, Show, Gaps, Report, Pages}
+use Rattle.wb_script.specs.Words.{words, number_of, unhex}
+
+infixl 10 ◌>>=◌
+abbrev pub ◌>>=◌ : {A B : Type 0} → Result A LineFault → (A → Result B LineFault) → Result B LineFault
+(Ok x) >>= f = f x
+(Err e) >>= f = Err e
+
+abbrev pub or_fault : {A : Type 0} → LineFault → Option A → Result A LineFault
+or_fault e (Some x) = Ok x
+or_fault e None = Err e
+
+-- a number of a range
+abbrev pub number : ℕ → ℕ → List ℕ → Result ℕ LineFault
+number low high word = or_fault faults.Number (number_of low high word)
+
+-- no words, the only word, the only two, and the only four
+abbrev pub none_of : List (List ℕ) → Option (Unit {0})
+none_of [] = Some tt
+none_of (a ∷ more) = None
+
+abbrev pub one_of : List (List ℕ) → Option (List ℕ)
+one_of [] = None
+one_of (a ∷ []) = Some a
+one_of (a ∷ b ∷ more) = None
+
+abbrev pub two_of : List (List ℕ) → Option (List ℕ × List ℕ)
+two_of [] = None
+two_of (a ∷ []) = None
+two_of (a ∷ b ∷ []) = Some (a, b)
+two_of (a ∷ b ∷ c ∷ more) = None
+
+abbrev pub four_of : List (List ℕ) → Option (List ℕ × List ℕ × List ℕ × List ℕ)
+four_of [] = None
+four_of (a ∷ []) = None
+four_of (a ∷ b ∷ []) = None
+four_of (a ∷ b ∷ c ∷ []) = None
+four_of (a ∷ b ∷ c ∷ d ∷ []) = Some (a, b, c, d)
+four_of (a ∷ b ∷ c ∷ d ∷ e ∷ more) = None
+
+-- the member, the cells, the workers and the seed of a board
+unfoldable pub board : List (List ℕ) → Result Line LineFault
+board arguments = do
+  words' ← or_fault faults.Words (four_of arguments)
+  member ← number 0 (2 ^ 32 - 1) words'.0
+  cells ← number 1 65535 words'.1
+  workers ← number 1 8 words'.2
+  seed ← number 0 (2 ^ 64 - 1) words'.3
+  Ok (Board member cells workers seed)
+
+-- the page, the width and the height of a canvas
+unfoldable pub show : List (List ℕ) → Result Line LineFault
+show arguments = do
+  words' ← or_fault faults.Words (four_of arguments)
+  creator ← number 0 (2 ^ 32 - 1) words'.0
+  number' ← number 0 (2 ^ 32 - 1) words'.1
+  width ← number 1 200 words'.2
+  height ← number 1 100 words'.3
+  Ok (Show (record { creator = creator; number = number' }) width height)
+
+-- a source, and a delay below 2^24 microseconds
+unfoldable pub distance : List (List ℕ) → Result Line LineFault
+distance arguments = do
+  words' ← or_fault faults.Words (two_of arguments)
+  source ← number 0 (2 ^ 32 - 1) words'.0
+  micros ← number 0 (2 ^ 24 - 1) words'.1
+  Ok (Distance source micros)
+
+-- a moment below 2^48 microseconds
+unfoldable pub tick : List (List ℕ) → Result Line LineFault
+tick arguments = do
+  word ← or_fault faults.Words (one_of arguments)
+  moment ← number 0 (2 ^ 48 - 1) word
+  Ok (Tick moment)
+
+-- a page, by its creator and its number
+unfoldable pub page : List (List ℕ) → Result PageId LineFault
+page arguments = do
+  words' ← or_fault faults.Words (two_of arguments)
+  creator ← number 0 (2 ^ 32 - 1) words'.0
+  number' ← number 0 (2 ^ 32 - 1) words'.1
+  Ok (record { creator = creator; number = number' })
+
+abbrev pub pages : List (List ℕ) → Result Line LineFault
+pages arguments = or_fault faults.Words (none_of arguments) >>= λ nothing. Ok Pages
+
+-- the datagram that digits spell, as a line that it arrived
+abbrev pub arrived : Result Datagram ReadFault → Result Line LineFault
+arrived (Ok (Draw d)) = Ok (Arrive d)
+arrived (Err e) = Err (faults.Datagram e)
+
+unfoldable pub arrive : List (List ℕ) → Result Line LineFault
+arrive arguments = do
+  digits ← or_fault faults.Words (one_of arguments)
+  bytes ← or_fault faults.Hex (unhex digits)
+  arrived (reading bytes)
+
+-- the line of a page with this first word
+unfoldable pub page_line : List ℕ → List (List ℕ) → Result Line LineFault
+page_line word arguments =
+    if bytes_eq word (codes "look") then page arguments >>= (λ p. Ok (Look p))
+    else (if bytes_eq word (codes "session") then page arguments >>= (λ p. Ok (Session p))
+    else (if bytes_eq word (codes "gaps") then page arguments >>= (λ p. Ok (Gaps p))
+    else (if bytes_eq word (codes "report") then page arguments >>= (λ p. Ok (Report p))
+    else Err faults.Unknown)))
+
+-- the line with this first word and these further ones
+unfoldable pub command : List ℕ → List (List ℕ) → Result Line LineFault
+command word arguments =
+    if bytes_eq word (codes "board") then board arguments
+    else (if bytes_eq word (codes "arrive") then arrive arguments
+    else (if bytes_eq word (codes "show") then show arguments
+    else (if bytes_eq word (codes "distance") then distance arguments
+    else (if bytes_eq word (codes "tick") then tick arguments
+    else (if bytes_eq word (codes "pages") then pages arguments
+    else page_line word arguments)))))
+
+-- a comment begins with `#`
+abbrev pub begins_comment : List ℕ → Bool
+begins_comment [] = false
+begins_comment (b ∷ bs) = nat_eq b 35
+
+abbrev pub line_of_words : List (List ℕ) → Result Line LineFault
+line_of_words [] = Ok Skip
+line_of_words (word ∷ arguments) = if begins_comment word then Ok Skip else command word arguments
+
+-- the line, which stands without its end
+abbrev pub line_of : List ℕ → Result Line LineFault
+line_of bytes = line_of_words (words bytes)
+
+-- What parsing answers to a line: the line that it says, its first fault, or want of memory, once the digits have been looked at.
+abbrev pub Parses : Result Line ParseFault → Result Line LineFault → Type 0
+Parses (Ok line) said = said ≡ Ok line
+Parses (Err (parse_faults.Line e)) said = said ≡ Err e
+Parses (Err parse_faults.Memory) said = IfErr said (λ e. 5 ≤ line_code e)

@@ -1,0 +1,32 @@
+//! Scripts for a whiteboard, and what they print.
+//!
+//! A script stands in for the network and the clock of a host: its lines hand in the datagrams that
+//! arrive, set the moment, and ask for what a page shows. This crate reads lines, runs them, and
+//! writes exactly what one thread prints for them. What reads text (lines, words, numbers,
+//! hexadecimal) stands in modules of its own, apart from what runs.
+#![tactic(auto)]
+
+mod batch;
+mod checking;
+mod fault;
+mod hexadecimal;
+mod history;
+mod host;
+mod line;
+mod line_reader;
+mod number;
+mod output;
+mod painting;
+mod parsing;
+mod running;
+mod summary;
+#[cfg(test)]
+mod tests;
+mod words;
+
+pub use checking::check;
+pub use fault::{LineFault, ParseFault, RunFault};
+pub use line::Line;
+pub use parsing::parse_line;
+pub use running::run;
+pub use summary::Summary;

@@ -1,0 +1,243 @@
+ghost use Rattle.std.specs.Prelude.{◌≡◌, ◌≤◌, IfOk, Result, Ok, Err};
+ghost use Rattle.std.specs.Option.{option_map};
+ghost use Rattle.wb_script.specs.Words.{words};
+ghost use Rattle.wb_script.specs.Parsing.{Parses, number, none_of, one_of, two_of, four_of, board, show, distance, tick, page, pages, page_line, arrived, arrive, command, begins_comment, line_of};
+
+use crate::fault::{LineFault, ParseFault};
+use crate::hexadecimal::{is_hex, unhex};
+use crate::line::Line;
+use crate::number::number;
+use crate::words::next_word;
+use std::alloc::Global;
+use wb_codec::{Datagram, ReadFault, read};
+use wb_names::PageId;
+
+const MAX_CELLS: u32 = 65_535;
+
+const MAX_WORKERS: u32 = 8;
+
+const MAX_WIDTH: u32 = 200;
+
+const MAX_HEIGHT: u32 = 100;
+
+/// The greatest delay, in microseconds.
+const MAX_DELAY: u64 = (1 << 24) - 1;
+
+/// The greatest moment, in microseconds.
+const MAX_MOMENT: u64 = (1 << 48) - 1;
+
+/// That there are no words.
+fn no_words(rest: &[u8]) -> Option<()>
+    ensures { result ≡ none_of (words rest.now) }
+{
+    match next_word(rest) {
+        Some(_) => None,
+        None => Some(()),
+    }
+}
+
+/// The only word.
+fn one_word(rest: &[u8]) -> Option<&[u8]>
+    ensures { option_map (λ x. x.now) result ≡ one_of (words rest.now) }
+{
+    let (word, rest) = next_word(rest)?;
+    match next_word(rest) {
+        Some(_) => None,
+        None => Some(word),
+    }
+}
+
+/// The only two words.
+fn two_words(rest: &[u8]) -> Option<(&[u8], &[u8])>
+    ensures { option_map (λ x. (x.0.now, x.1.now)) result ≡ two_of (words rest.now) }
+{
+    let (first, rest) = next_word(rest)?;
+    let (second, rest) = next_word(rest)?;
+    match next_word(rest) {
+        Some(_) => None,
+        None => Some((first, second)),
+    }
+}
+
+/// The only four words.
+fn four_words(rest: &[u8]) -> Option<(&[u8], &[u8], &[u8], &[u8])>
+    ensures { option_map (λ x. (x.0.now, x.1.now, x.2.now, x.3.now)) result ≡ four_of (words rest.now) }
+{
+    let (first, rest) = next_word(rest)?;
+    let (second, rest) = next_word(rest)?;
+    let (third, rest) = next_word(rest)?;
+    let (fourth, rest) = next_word(rest)?;
+    match next_word(rest) {
+        Some(_) => None,
+        None => Some((first, second, third, fourth)),
+    }
+}
+
+fn number_word(word: &[u8], low: u64, high: u64) -> Result<u64, LineFault>
+    ensures value { result ≡ number low high word.now }
+    ensures bound { IfOk result (λ n. n ≤ high) }
+{
+    number(word, low, high).ok_or(LineFault::Number)
+}
+
+fn u32_word(word: &[u8], low: u32, high: u32) -> Result<u32, LineFault>
+    ensures { result ≡ number low high word.now }
+{
+    let value = number_word(word, u64::from(low), u64::from(high))?;
+    Ok(value as u32)
+}
+
+#[tactic(auto, unfolding(crate::specs::Parsing::board))]
+fn board(rest: &[u8]) -> Result<Line, LineFault>
+    ensures { result ≡ board (words rest.now) }
+{
+    let (member, cells, workers, seed) = four_words(rest).ok_or(LineFault::Words)?;
+    let member = u32_word(member, 0, u32::MAX)?;
+    let cells = u32_word(cells, 1, MAX_CELLS)?;
+    let workers = u32_word(workers, 1, MAX_WORKERS)?;
+    let seed = number_word(seed, 0, u64::MAX)?;
+    Ok(Line::Board {
+        member,
+        cells,
+        workers,
+        seed,
+    })
+}
+
+#[tactic(auto, unfolding(crate::specs::Parsing::show))]
+fn show(rest: &[u8]) -> Result<Line, LineFault>
+    ensures { result ≡ show (words rest.now) }
+{
+    let (creator, number, width, height) = four_words(rest).ok_or(LineFault::Words)?;
+    let creator = u32_word(creator, 0, u32::MAX)?;
+    let number = u32_word(number, 0, u32::MAX)?;
+    let width = u32_word(width, 1, MAX_WIDTH)?;
+    let height = u32_word(height, 1, MAX_HEIGHT)?;
+    let page = PageId { creator, number };
+    Ok(Line::Show {
+        page,
+        width,
+        height,
+    })
+}
+
+#[tactic(auto, unfolding(crate::specs::Parsing::distance))]
+fn distance(rest: &[u8]) -> Result<Line, LineFault>
+    ensures { result ≡ distance (words rest.now) }
+{
+    let (source, micros) = two_words(rest).ok_or(LineFault::Words)?;
+    let source = u32_word(source, 0, u32::MAX)?;
+    let micros = number_word(micros, 0, MAX_DELAY)?;
+    Ok(Line::Distance { source, micros })
+}
+
+#[tactic(auto, unfolding(crate::specs::Parsing::tick))]
+fn tick(rest: &[u8]) -> Result<Line, LineFault>
+    ensures { result ≡ tick (words rest.now) }
+{
+    let word = one_word(rest).ok_or(LineFault::Words)?;
+    let moment = number_word(word, 0, MAX_MOMENT)?;
+    Ok(Line::Tick { moment })
+}
+
+#[tactic(auto, unfolding(crate::specs::Parsing::page))]
+fn page(rest: &[u8]) -> Result<PageId, LineFault>
+    ensures { result ≡ page (words rest.now) }
+{
+    let (creator, number) = two_words(rest).ok_or(LineFault::Words)?;
+    let creator = u32_word(creator, 0, u32::MAX)?;
+    let number = u32_word(number, 0, u32::MAX)?;
+    Ok(PageId { creator, number })
+}
+
+fn pages(rest: &[u8]) -> Result<Line, LineFault>
+    ensures { result ≡ pages (words rest.now) }
+{
+    no_words(rest).ok_or(LineFault::Words)?;
+    Ok(Line::Pages)
+}
+
+fn arrived(reading: Result<Datagram, ReadFault>) -> Result<Line, LineFault>
+    ensures { result ≡ arrived reading }
+{
+    let datagram = reading.map_err(LineFault::Datagram)?;
+    let Datagram::Draw(drawop) = datagram;
+    Ok(Line::Arrive(drawop))
+}
+
+#[tactic(auto, unfolding(crate::specs::Parsing::arrive))]
+fn arrive(alloc: Global, rest: &[u8]) -> Result<Line, ParseFault>
+    ensures { Parses result (arrive (words rest.now)) }
+{
+    let digits = one_word(rest).ok_or(LineFault::Words)?;
+    if !is_hex(digits) {
+        return Err(ParseFault::Line(LineFault::Hex));
+    }
+    let bytes = unhex(alloc, digits)?;
+    let line = arrived(read(alloc, &bytes))?;
+    Ok(line)
+}
+
+#[tactic(auto, unfolding(crate::specs::Parsing::page_line))]
+fn page_line(word: &[u8], rest: &[u8]) -> Result<Line, LineFault>
+    ensures { result ≡ page_line word.now (words rest.now) }
+{
+    if word == b"look".as_slice() {
+        Ok(Line::Look(page(rest)?))
+    } else if word == b"session".as_slice() {
+        Ok(Line::Session(page(rest)?))
+    } else if word == b"gaps".as_slice() {
+        Ok(Line::Gaps(page(rest)?))
+    } else if word == b"report".as_slice() {
+        Ok(Line::Report(page(rest)?))
+    } else {
+        Err(LineFault::Unknown)
+    }
+}
+
+#[tactic(auto, unfolding(crate::specs::Parsing::command))]
+fn command(alloc: Global, word: &[u8], rest: &[u8]) -> Result<Line, ParseFault>
+    ensures { Parses result (command word.now (words rest.now)) }
+{
+    if word == b"board".as_slice() {
+        Ok(board(rest)?)
+    } else if word == b"arrive".as_slice() {
+        arrive(alloc, rest)
+    } else if word == b"show".as_slice() {
+        Ok(show(rest)?)
+    } else if word == b"distance".as_slice() {
+        Ok(distance(rest)?)
+    } else if word == b"tick".as_slice() {
+        Ok(tick(rest)?)
+    } else if word == b"pages".as_slice() {
+        Ok(pages(rest)?)
+    } else {
+        Ok(page_line(word, rest)?)
+    }
+}
+
+fn begins_comment(word: &[u8]) -> bool
+    ensures { result ≡ begins_comment word.now }
+{
+    match word {
+        [] => false,
+        [first, ..] => *first == b'#',
+    }
+}
+
+/// The line that the bytes say, which stand without their end; or its first fault: `Unknown`,
+/// `Words`, `Number`, `Hex`, `Datagram` or `Kind`, in this order. Memory can run out only once the
+/// hexadecimal digits are checked.
+pub fn parse_line(alloc: Global, bytes: &[u8]) -> Result<Line, ParseFault>
+    ensures { Parses result (line_of bytes.now) }
+{
+    match next_word(bytes) {
+        None => Ok(Line::Skip),
+        Some((word, rest)) => {
+            if begins_comment(word) {
+                return Ok(Line::Skip);
+            }
+            command(alloc, word, rest)
+        }
+    }
+}

@@ -1,0 +1,153 @@
+ghost use Rattle.std.specs.Prelude.{◌≡◌, ◌≤◌, ◌<◌, ◌+◌, ◌^◌, ◌++◌, [], List, ℕ, length, true, false, Err};
+ghost use Rattle.std.specs.Str.Lines.{strip_carriage_return};
+ghost use Rattle.wb_script.specs.Output.{Sends};
+ghost use Rattle.wb_script.specs.Ahead.{Pulls};
+ghost use Rattle.wb_script.specs.Script.{most_lines};
+ghost use Rattle.wb_script.specs.Running.{RunsLine, RunsLines, is_stop, Closes, Runs};
+
+use crate::fault::RunFault;
+use crate::host::Host;
+use crate::line_reader::{Found, LineReader, Pulled};
+use crate::output::Output;
+use crate::summary::Summary;
+use std::alloc::Global;
+use wb_names::{Sink, Source};
+
+/// A script has at most so many lines.
+pub const MAX_LINES: u32 = 1 << 20;
+
+/// A line without the one carriage return at its end.
+pub fn without_carriage_return(line: &[u8]) -> &[u8]
+    ensures { result.now ≡ strip_carriage_return line.now }
+{
+    match line {
+        [front @ .., b'\r'] => front,
+        _ => line,
+    }
+}
+
+/// Runs the next line. Answers whether there was one.
+fn run_line<R: Source, W: Sink>(
+    alloc: Global,
+    done: u32,
+    reader: &mut LineReader,
+    host: &mut Host,
+    source: &mut R,
+    output: &mut Output,
+    sink: &mut W,
+) -> Result<bool, RunFault>
+    requires few { done < most_lines }
+    requires waiting { length host.old.waiting ≤ done }
+    ensures text { (given : List ℕ) × (written : List ℕ)
+        × Pulls reader.old reader.new (R.left source.old) (R.left source.new) (R.has_failed source.old) (R.has_failed source.new) given
+        × Sends (W.taken sink.old) output.old (W.taken sink.new) output.new written
+        × RunsLine done host.old reader.old given written host.new reader.new (R.has_failed source.new) result }
+    ensures waiting { length host.new.waiting ≤ done + 1 }
+    ensures failed { result ≡ Err RunFault.Write → W.has_failed sink.new ≡ true }
+{
+    let mut line = Vec::new(alloc);
+    match reader.next_line(source, &mut line, output, sink)? {
+        Found::Unwritten => Err(RunFault::Write),
+        Found::End => Ok(false),
+        Found::Failed => Err(RunFault::Read),
+        Found::TooLong => Err(RunFault::Endless),
+        Found::Last => {
+            host.take_line(alloc, done + 1, &line, output)?;
+            Ok(true)
+        }
+        Found::Whole => {
+            host.take_line(alloc, done + 1, without_carriage_return(&line), output)?;
+            Ok(true)
+        }
+    }
+}
+
+/// Runs line after line. Answers how many there were.
+fn run_lines<R: Source, W: Sink>(
+    alloc: Global,
+    reader: &mut LineReader,
+    host: &mut Host,
+    source: &mut R,
+    output: &mut Output,
+    sink: &mut W,
+) -> Result<u32, RunFault>
+    requires { length host.old.waiting ≡ 0 }
+    ensures text { (given : List ℕ) × (written : List ℕ)
+        × Pulls reader.old reader.new (R.left source.old) (R.left source.new) (R.has_failed source.old) (R.has_failed source.new) given
+        × Sends (W.taken sink.old) output.old (W.taken sink.new) output.new written
+        × RunsLines host.old reader.old given written host.new reader.new (R.has_failed source.new) result }
+    ensures waiting { length host.new.waiting < 2 ^ 32 }
+    ensures failed { result ≡ Err RunFault.Write → W.has_failed sink.new ≡ true }
+{
+    for done in 0..MAX_LINES {
+        let goes_on = run_line(alloc, done, reader, host, source, output, sink)?;
+        if !goes_on {
+            return Ok(done);
+        }
+    }
+    match reader.next_byte(source, output, sink) {
+        Pulled::End => Ok(MAX_LINES),
+        Pulled::Failed => Err(RunFault::Read),
+        Pulled::Unwritten => Err(RunFault::Write),
+        Pulled::Byte(_) => Err(RunFault::Endless),
+    }
+}
+
+/// Whether a run can't even end its batch.
+fn is_stop(fault: RunFault) -> bool
+    ensures { result ≡ is_stop fault }
+{
+    matches!(&fault, RunFault::Memory | RunFault::Write)
+}
+
+/// Ends the present batch, and the run.
+fn close<W: Sink>(
+    alloc: Global,
+    host: &mut Host,
+    ending: Result<u32, RunFault>,
+    output: &mut Output,
+    sink: &mut W,
+) -> Result<Summary, RunFault>
+    requires { length host.old.waiting < 2 ^ 32 }
+    ensures text { (written : List ℕ) × Sends (W.taken sink.old) output.old (W.taken sink.new) output.new written
+        × Closes host.old ending written output.new result }
+    ensures read { result ≡ Err RunFault.Read → ending ≡ Err RunFault.Read }
+    ensures failed { (ending ≡ Err RunFault.Write → W.has_failed sink.old ≡ true) → result ≡ Err RunFault.Write → W.has_failed sink.new ≡ true }
+{
+    match ending {
+        Ok(lines) => {
+            host.end_batch(alloc, output)?;
+            output.flush(sink)?;
+            let held = host.held();
+            Ok(Summary { lines, held })
+        }
+        Err(fault) => {
+            if is_stop(fault) {
+                return Err(fault);
+            }
+            host.end_batch(alloc, output)?;
+            output.flush(sink)?;
+            Err(fault)
+        }
+    }
+}
+
+/// Runs the script that a source has left, and writes what it prints to a sink.
+///
+/// What is written, and the answer, are those of the script. Where memory runs out or the sink fails,
+/// a front of it is written.
+pub fn run<R: Source, W: Sink>(
+    alloc: Global,
+    source: &mut R,
+    sink: &mut W,
+) -> Result<Summary, RunFault>
+    ensures script { Runs (R.left source.old) (R.left source.new) (R.has_failed source.new) (W.taken sink.old) (W.taken sink.new) result }
+    ensures read { result ≡ Err RunFault.Read → R.has_failed source.new ≡ true }
+    ensures write { result ≡ Err RunFault.Write → W.has_failed sink.new ≡ true }
+{
+    let mut reader = LineReader::new(alloc)?;
+    let mut host = Host::new(alloc);
+    let mut output = Output::new(alloc);
+    let ending = run_lines(alloc, &mut reader, &mut host, source, &mut output, sink);
+    close(alloc, &mut host, ending, &mut output, sink)
+}
