@@ -1,0 +1,2 @@
+pub mod PageOrder
+pub mod HeldNumbers

@@ -1,0 +1,13 @@
+//! What a list of drawops lacks, reports and holds: missing ranges, marks and pages.
+//!
+//! Members of a whiteboard find their losses by comparing what they hold with what others report. This
+//! crate answers, for a list of drawops, which pages it has, the greatest number of each source on a page,
+//! and which numbers are missing there, and it merges what two members reported. All calls are pure: they
+//! know no board, no clock and no datagrams, and they ask nothing of the order of the list. A name may
+//! stand twice in it.
+#![tactic(auto)]
+
+mod held;
+mod page_list;
+
+pub use page_list::pages;
