@@ -1,6 +1,6 @@
 -- What was pushed for a page's members, sorted, each kept once, is the numbers that are held.
-use Rattle.std.proofs.Common.{◌≡◌, ℕ, ◌≤◌, Bool, true, List, refl, ap, ◌∙◌, sym, subst, eqb-true, arith}
-use Rattle.std.specs.Prelude.{All, map, filter, IsPermutation, Any, Contains, nat_eq, ◌&&◌, IsTrue}
+use Rattle.std.proofs.Common.{◌≡◌, ℕ, ◌≤◌, Bool, true, List, ap, ◌∙◌, sym, subst, eqb-true, arith}
+use Rattle.std.specs.Prelude.{All, map, filter, IsPermutation, Contains, nat_eq, ◌&&◌, IsTrue}
 use Rattle.std.specs.Cmp.{IsTotalOrder, nat_cmp_total}
 use Rattle.std.specs.List.{dedup}
 use Rattle.std.specs.List.Sorted.{IsSorted}
@@ -11,7 +11,6 @@ use Rattle.std.proofs.lemmas.List.Filters.{All-dedup}
 use Rattle.std.proofs.lemmas.List.Sorted.{All-permutation}
 use Rattle.std.proofs.lemmas.Cmp.{on_total, then_total}
 use Rattle.wb_names.specs.Values.{NameValue, DrawopValue}
-use Rattle.wb_names.specs.Listing.{Lists}
 use Rattle.wb_names.specs.Orders.{same_page}
 use Rattle.wb_names.specs.History.{IsHeld, name_of}
 use Rattle.wb_names.specs.declared.name.PageId.{PageId}
@@ -41,7 +40,7 @@ same_number-is m n e = let h = and_both _ _ e in number_parts _ _ _ _ (eqb-true 
 number_ties : (m n : Number) → same_number m n ≡ eq_by_cmp number_cmp m n
 number_ties m n = ap (λ (b : Bool). b && nat_eq m.seq n.seq) (nat_ties m.source n.source) ∙ ap (λ (b : Bool). is_eq (nat_cmp m.source n.source) && b) (nat_ties m.seq n.seq) ∙ sym (then_is _ _)
 
-same_page-here : (p q : PageId) → p ≡ q → same_page p q ≡ true
+pub same_page-here : (p q : PageId) → p ≡ q → same_page p q ≡ true
 same_page-here p q e = subst (λ (r : PageId). same_page p r ≡ true) e (grind (arith, nat_tests))
 
 -- the name of a member on the page is told by its source and number

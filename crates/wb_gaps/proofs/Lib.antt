@@ -1,2 +1,5 @@
 pub mod PageOrder
 pub mod HeldNumbers
+pub mod GreatestNumbers
+pub mod Reports
+pub mod Lists

@@ -14,7 +14,11 @@ pub(crate) struct Number {
 }
 
 /// The numbers of the drawops on a page, ascending by source and number, each once.
-pub(crate) fn numbers(alloc: Global, list: &[Drawop], page: PageId) -> Result<Vec<Number>, AllocError>
+pub(crate) fn numbers(
+    alloc: Global,
+    list: &[Drawop],
+    page: PageId,
+) -> Result<Vec<Number>, AllocError>
     ensures numbers { IfOk result (λ numbers. AreNumbers list.now page numbers.items) }
     ensures positive { IfOk result (λ numbers. All (λ n. 1 ≤ n.seq) numbers.items) }
     ensures few { IfOk result (λ numbers. length numbers.items ≤ length list.now) }

@@ -8,6 +8,10 @@
 #![tactic(auto)]
 
 mod held;
+mod highest;
+mod mark_list;
 mod page_list;
+mod page_report;
 
 pub use page_list::pages;
+pub use page_report::report;

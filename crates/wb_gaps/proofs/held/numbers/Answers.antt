@@ -1,4 +1,4 @@
-use Rattle.std.proofs.Common.{◌≡◌, ◌∙◌, ap, filter, map}
+use Rattle.std.proofs.Common.{◌∙◌, ap, filter, map}
 use Rattle.std.proofs.lemmas.List.{take_all}
 use Rattle.std.proofs.lemmas.List.Filters.{dedup_is}
 use Rattle.wb_gaps.proofs.HeldNumbers.{is_on, number_of, numbers_listed, positive_left}
