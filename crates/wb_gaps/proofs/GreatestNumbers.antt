@@ -16,7 +16,7 @@ use Rattle.wb_gaps.specs.Numbers.{number_cmp}
 use Rattle.wb_gaps.specs.Greatest.{continues, IsGreatest, HasNumber, AreGreatest}
 use Rattle.wb_gaps.specs.declared.held.Number.{Number}
 
-same_or_not : (a b : ℕ) → (a ≡ b) ⊎ (a ≢ b)
+pub same_or_not : (a b : ℕ) → (a ≡ b) ⊎ (a ≢ b)
 same_or_not a b = ⊎_elim (λ (lt : a < b). inr (omega arith)) (λ (le : b ≤ a). ⊎_elim (λ (lt : b < a). inr (omega arith)) (λ (ge : a ≤ b). inl (omega arith)) (cases_lt b a)) (cases_lt a b)
 
 abbrev pub mark : Number → MarkValue

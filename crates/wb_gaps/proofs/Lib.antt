@@ -3,3 +3,4 @@ pub mod HeldNumbers
 pub mod GreatestNumbers
 pub mod Reports
 pub mod Lists
+pub mod JoinedMarks

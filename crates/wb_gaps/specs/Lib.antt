@@ -1,3 +1,5 @@
 pub mod Pages
 pub mod Numbers
 pub mod Greatest
+pub mod Merging
+pub mod MergeFaults

@@ -9,9 +9,12 @@
 
 mod held;
 mod highest;
+mod joined;
 mod mark_list;
+mod merged;
 mod page_list;
 mod page_report;
 
+pub use merged::{MergeFault, merge_marks};
 pub use page_list::pages;
 pub use page_report::report;
