@@ -56,7 +56,7 @@ less_parts a b c d e = ⊎_elim
 less_is : (m n : Number) → number_cmp m n ≡ Less → Precedes m n
 less_is m n e = record { order = less_parts _ _ _ _ e }
 
-later_all : (x : Number) (xs : List Number) → IsStrictlySortedBy number_cmp (x ∷ xs) → All (Precedes x) xs
+pub later_all : (x : Number) (xs : List Number) → IsStrictlySortedBy number_cmp (x ∷ xs) → All (Precedes x) xs
 later_all x xs s = All-weaker (λ (y : Number). number_cmp x y ≡ Less) (Precedes x) (less_is x) xs (All-from_recursion _ xs (sorted_head number_cmp x xs s))
 
 above_last : (b : ℕ) (xs : List Number) → All (λ n. b < n.source) xs → All (λ m. b < m.source) (last_marks xs)
@@ -101,16 +101,16 @@ few_last (x ∷ xs) =
     ]
 
 -- of the first number: its source is the one asked for, or not
-number_cases : (x : Number) (xs : List Number) (s n : ℕ) → HasNumber (x ∷ xs) s n → ((x.source ≡ s) × (x.seq ≡ n)) ⊎ HasNumber xs s n
+pub number_cases : (x : Number) (xs : List Number) (s n : ℕ) → HasNumber (x ∷ xs) s n → ((x.source ≡ s) × (x.seq ≡ n)) ⊎ HasNumber xs s n
 number_cases x xs s n h = ⊎_elim
     (λ (e : x ≡ record { source = s; seq = n }). inl (ap (λ (v : Number). v.source) e, ap (λ (v : Number). v.seq) e))
     (λ (c : HasNumber xs s n). inr c)
     (Contains-cases x _ xs h)
 
-number_here : (x : Number) (xs : List Number) (s : ℕ) → x.source ≡ s → HasNumber (x ∷ xs) s x.seq
+pub number_here : (x : Number) (xs : List Number) (s : ℕ) → x.source ≡ s → HasNumber (x ∷ xs) s x.seq
 number_here x xs s e = subst (λ (v : ℕ). HasNumber (x ∷ xs) v x.seq) e (Contains-here x xs)
 
-number_there : (x : Number) (xs : List Number) (s n : ℕ) → HasNumber xs s n → HasNumber (x ∷ xs) s n
+pub number_there : (x : Number) (xs : List Number) (s n : ℕ) → HasNumber xs s n → HasNumber (x ∷ xs) s n
 number_there x xs s n h = Contains-there x _ xs h
 
 -- a first number that the next one of its source passes
@@ -162,8 +162,19 @@ greatest_last (x ∷ y ∷ ys) s sorted =
       | false ↦ λ e. greatest_kept x (y ∷ ys) (last_marks (y ∷ ys)) s (ended x (y ∷ ys) sorted e) rest
     ] refl
 
-pub are_greatest : (xs : List Number) → IsStrictlySortedBy number_cmp xs → AreGreatest xs (last_marks xs)
-are_greatest xs sorted = record { ascending = rises_last xs sorted; greatest = λ s. greatest_last xs s sorted; few = few_last xs }
+positive_last : (xs : List Number) → All (λ n. 1 ≤ n.seq) xs → All (λ m. 1 ≤ m.high) (last_marks xs)
+positive_last [] all = All-nil _
+positive_last (x ∷ xs) all =
+    let P : Number → Type 0 = λ n. 1 ≤ n.seq in
+    let Q : MarkValue → Type 0 = λ m. 1 ≤ m.high in
+    let rest : All Q (last_marks xs) = positive_last xs (All-tail P x xs all) in
+    elim (continues x.source xs) as (λ c. All Q (cond c (last_marks xs) (mark x ∷ last_marks xs))) [
+      | true ↦ rest
+      | false ↦ All-cons Q (mark x) _ (All-head P x xs all) rest
+    ]
+
+pub are_greatest : (xs : List Number) → IsStrictlySortedBy number_cmp xs → All (λ n. 1 ≤ n.seq) xs → AreGreatest xs (last_marks xs)
+are_greatest xs sorted positive = record { ascending = rises_last xs sorted; positive = positive_last xs positive; greatest = λ s. greatest_last xs s sorted; few = few_last xs }
 
 -- two tests of one thing give one greatest number
 pub one_greatest : (P Q : ℕ → Type 0) (a b : ℕ) → IsGreatest P a → IsGreatest Q b → ((n : ℕ) → P n → Q n) → ((n : ℕ) → Q n → P n) → a ≡ b

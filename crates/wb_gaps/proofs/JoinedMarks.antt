@@ -12,7 +12,7 @@ use Rattle.wb_names.specs.Marks.{mark_of, IsMerge}
 use Rattle.wb_gaps.specs.Merging.{source_count, greater, joined, joined_at}
 use Rattle.wb_gaps.proofs.GreatestNumbers.{same_or_not}
 
-abbrev Above : ℕ → List MarkValue → Type 0
+abbrev pub Above : ℕ → List MarkValue → Type 0
 Above b marks = All (λ m. b < m.source) marks
 
 abbrev pub Rises : List MarkValue → Type 0
@@ -21,7 +21,7 @@ Rises marks = AllPairs (λ m n. m.source < n.source) marks
 abbrev pub Positive : List MarkValue → Type 0
 Positive marks = All (λ m. 1 ≤ m.high) marks
 
-rest_above : (m : MarkValue) (marks : List MarkValue) → Rises (m ∷ marks) → Above m.source marks
+pub rest_above : (m : MarkValue) (marks : List MarkValue) → Rises (m ∷ marks) → Above m.source marks
 rest_above m marks up k d h = up 0 (suc k) d (omega arith) (omega arith)
 
 pub rest_rises : (m : MarkValue) (marks : List MarkValue) → Rises (m ∷ marks) → Rises marks
@@ -40,7 +40,7 @@ none_above (m ∷ marks) s above =
     let lt : s < m.source = All-head (λ (m : MarkValue). s < m.source) m marks above in
     there m marks s (omega arith) ∙ none_above marks s (All-tail (λ (m : MarkValue). s < m.source) m marks above)
 
-above_less : (a b : ℕ) (marks : List MarkValue) → a ≤ b → Above b marks → Above a marks
+pub above_less : (a b : ℕ) (marks : List MarkValue) → a ≤ b → Above b marks → Above a marks
 above_less a b marks le above = All-weaker (λ (m : MarkValue). b < m.source) (λ (m : MarkValue). a < m.source) (λ m lt. omega arith) marks above
 
 -- the marks of a list whose sources another list lacks

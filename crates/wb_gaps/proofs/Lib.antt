@@ -4,3 +4,6 @@ pub mod GreatestNumbers
 pub mod Reports
 pub mod Lists
 pub mod JoinedMarks
+pub mod OneGaps
+pub mod RangeSteps
+pub mod Filling

@@ -1,6 +1,6 @@
 -- The marks of the numbers that a page holds are its report.
 use Rattle.std.proofs.Common.{◌≡◌, ℕ, zero, suc, ◌<◌, ◌≤◌, Bool, true, false, cond, max, List, [], ◌∷◌, length, refl, ap, ◌∙◌, sym, subst, arith, ◌⊎◌, inl, inr, ⊎_elim, eqb-true, true≢false}
-use Rattle.std.specs.Prelude.{All, nat_eq, ◌&&◌}
+use Rattle.std.specs.Prelude.{nat_eq, ◌&&◌}
 use Rattle.std.proofs.lemmas.Bool.{cases_lt}
 use Rattle.std.proofs.lemmas.Bool.Decides.{nat_tests}
 use Rattle.wb_names.specs.Values.{NameValue, DrawopValue, MarkValue}
@@ -76,7 +76,7 @@ highest_from_marks history page numbers marks held tops source =
     (λ n h. (held.members (record { source = source; seq = n })).1 h)
 
 -- and so they are the report, since there are no more of them than members
-pub is_report : (history : List DrawopValue) (page : PageId) (numbers : List Number) (marks : List MarkValue) → AreNumbers history page numbers → AreGreatest numbers marks → All (λ m. 1 ≤ m.high) marks → length numbers ≤ length history → length history ≤ 65535 → IsReport history page marks
-is_report history page numbers marks held tops positive short few =
+pub is_report : (history : List DrawopValue) (page : PageId) (numbers : List Number) (marks : List MarkValue) → AreNumbers history page numbers → AreGreatest numbers marks → length numbers ≤ length history → length history ≤ 65535 → IsReport history page marks
+is_report history page numbers marks held tops short few =
     let fewer = tops.few in
-    (record { ascending = tops.ascending; positive = positive; few = omega arith }, highest_from_marks history page numbers marks held tops)
+    (record { ascending = tops.ascending; positive = tops.positive; few = omega arith }, highest_from_marks history page numbers marks held tops)

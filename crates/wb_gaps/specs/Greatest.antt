@@ -1,5 +1,5 @@
 -- The greatest number of each source.
-use Rattle.std.specs.Prelude.{◌≡◌, ℕ, ◌<◌, ◌≤◌, ◌⊎◌, List, [], ◌∷◌, Bool, false, nat_eq, AllPairs, Contains, length}
+use Rattle.std.specs.Prelude.{◌≡◌, ℕ, ◌<◌, ◌≤◌, ◌⊎◌, List, [], ◌∷◌, Bool, false, nat_eq, All, AllPairs, Contains, length}
 use Rattle.wb_names.specs.Values.{MarkValue}
 use Rattle.wb_names.specs.Marks.{mark_of}
 use Rattle.wb_gaps.specs.declared.held.Number.{Number}
@@ -21,5 +21,6 @@ HasNumber numbers source n = Contains numbers (record { source = source; seq = n
 -- one mark for each source of the numbers, ascending, with its greatest number
 pub record AreGreatest (numbers : List Number) (marks : List MarkValue) : Type 0 where
   pub ascending : AllPairs (λ m n. m.source < n.source) marks
+  pub positive : All (λ m. 1 ≤ m.high) marks
   pub greatest : (source : ℕ) → IsGreatest (HasNumber numbers source) (mark_of marks source)
   pub few : length marks ≤ length numbers

@@ -3,3 +3,5 @@ pub mod Numbers
 pub mod Greatest
 pub mod Merging
 pub mod MergeFaults
+pub mod Gaps
+pub mod Ranges

@@ -12,9 +12,11 @@ mod highest;
 mod joined;
 mod mark_list;
 mod merged;
+mod missing;
 mod page_list;
 mod page_report;
 
 pub use merged::{MergeFault, merge_marks};
+pub use missing::gaps;
 pub use page_list::pages;
 pub use page_report::report;
