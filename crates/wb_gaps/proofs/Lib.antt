@@ -7,3 +7,5 @@ pub mod JoinedMarks
 pub mod OneGaps
 pub mod RangeSteps
 pub mod Filling
+pub mod Rearranged
+pub mod MergeLength

@@ -5,3 +5,4 @@ pub mod Merging
 pub mod MergeFaults
 pub mod Gaps
 pub mod Ranges
+pub mod Laws

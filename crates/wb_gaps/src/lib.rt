@@ -10,6 +10,7 @@
 mod held;
 mod highest;
 mod joined;
+pub mod laws;
 mod mark_list;
 mod merged;
 mod missing;
