@@ -21,28 +21,32 @@ impl Joined<'_> {
     pub(crate) fn next(&mut self) -> Option<Mark>
         ensures { MatchOption result (joined self.old.first.now self.old.second.now ≡ []) (λ m. joined self.old.first.now self.old.second.now ≡ m ∷ joined self.new.first.now self.new.second.now) }
     {
-        let Some((m, ms)) = self.first.split_first() else {
-            let (n, ns) = self.second.split_first()?;
-            self.second = ns;
-            return Some(*n);
+        let Some((first, later_first)) = self.first.split_first() else {
+            let (second, later_second) = self.second.split_first()?;
+            self.second = later_second;
+            return Some(*second);
         };
-        let Some((n, ns)) = self.second.split_first() else {
-            self.first = ms;
-            return Some(*m);
+        let Some((second, later_second)) = self.second.split_first() else {
+            self.first = later_first;
+            return Some(*first);
         };
-        match m.source().cmp(&n.source()) {
+        match first.source().cmp(&second.source()) {
             Ordering::Less => {
-                self.first = ms;
-                Some(*m)
+                self.first = later_first;
+                Some(*first)
             }
             Ordering::Greater => {
-                self.second = ns;
-                Some(*n)
+                self.second = later_second;
+                Some(*second)
             }
             Ordering::Equal => {
-                self.first = ms;
-                self.second = ns;
-                Some(if m.high() < n.high() { *n } else { *m })
+                self.first = later_first;
+                self.second = later_second;
+                Some(if first.high() < second.high() {
+                    *second
+                } else {
+                    *first
+                })
             }
         }
     }

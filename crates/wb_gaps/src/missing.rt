@@ -50,7 +50,7 @@ fn add_ranges<'a>(
     let mut done = 0;
     let mut rest = numbers;
     while let Some((number, later)) = next_of(mark.source(), rest) {
-        // number 0 names nothing, so a first number of 1 leaves nothing free
+        // numbers begin at 1, so the one before this is at least 0
         add_range(gaps, mark.source(), done, number.seq.saturating_sub(1))?;
         done = number.seq;
         rest = later;
@@ -92,7 +92,7 @@ pub fn gaps(
     ensures { IfOk result (λ gaps. AreGaps list.now page marks.now gaps.items) }
 {
     let held = numbers(alloc, list, page)?;
-    let highs = highs(alloc, held.as_slice())?;
-    let gaps = fill(alloc, held.as_slice(), highs.as_slice(), marks.as_slice())?;
+    let reported = highs(alloc, held.as_slice())?;
+    let gaps = fill(alloc, held.as_slice(), reported.as_slice(), marks.as_slice())?;
     Ok(gaps)
 }
