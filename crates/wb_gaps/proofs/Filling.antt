@@ -12,9 +12,9 @@ use Rattle.wb_names.specs.declared.gap.Gap.{Gap}
 use Rattle.wb_names.specs.declared.name.PageId.{PageId}
 use Rattle.wb_names.proofs.Listings.{Contains-here, Contains-there, Contains-none}
 use Rattle.wb_gaps.specs.Numbers.{number_cmp, AreNumbers}
-use Rattle.wb_gaps.specs.Greatest.{HasNumber, AreGreatest}
+use Rattle.wb_gaps.specs.LastNumbers.{HasNumber, AreGreatest}
 use Rattle.wb_gaps.specs.Gaps.{Covers, IsApart, AreGaps}
-use Rattle.wb_gaps.specs.Merging.{joined}
+use Rattle.wb_gaps.specs.Joining.{joined}
 use Rattle.wb_gaps.specs.Ranges.{ranges, after, all_ranges}
 use Rattle.wb_gaps.specs.declared.held.Number.{Number}
 use Rattle.wb_gaps.proofs.GreatestNumbers.{same_or_not}

@@ -1,5 +1,5 @@
 -- The walk over ascending numbers that keeps the last one of each source.
-use Rattle.std.proofs.Common.{◌≡◌, ℕ, suc, ◌<◌, ◌≤◌, Bool, true, false, cond, List, [], ◌∷◌, length, refl, ap, ◌∙◌, sym, subst, arith, ◌⊎◌, inl, inr, ⊎_elim, eqb-true}
+use Rattle.std.proofs.Common.{◌≡◌, ℕ, suc, ◌<◌, ◌≤◌, true, false, cond, List, [], ◌∷◌, length, refl, ap, ◌∙◌, sym, subst, arith, ◌⊎◌, inl, inr, ⊎_elim, eqb-true}
 use Rattle.std.proofs.lemmas.Bool.{cases_lt}
 use Rattle.std.specs.Ordering.{nat_cmp, ordering_then}
 use Rattle.std.specs.Prelude.{◌≢◌, All, AllPairs, nat_eq}
@@ -13,7 +13,8 @@ use Rattle.wb_names.specs.Values.{MarkValue}
 use Rattle.wb_names.specs.Marks.{mark_of}
 use Rattle.wb_names.proofs.Listings.{Contains-here, Contains-there, Contains-cases, Contains-none}
 use Rattle.wb_gaps.specs.Numbers.{number_cmp}
-use Rattle.wb_gaps.specs.Greatest.{continues, IsGreatest, HasNumber, AreGreatest}
+use Rattle.wb_gaps.specs.LastNumbers.{continues, HasNumber, AreGreatest}
+use Rattle.wb_gaps.specs.Greatest.{IsGreatest}
 use Rattle.wb_gaps.specs.declared.held.Number.{Number}
 
 pub same_or_not : (a b : ℕ) → (a ≡ b) ⊎ (a ≢ b)
@@ -26,14 +27,6 @@ mark n = record { source = n.source; high = n.seq }
 abbrev pub last_marks : List Number → List MarkValue
 last_marks [] = []
 last_marks (n ∷ ns) = cond (continues n.source ns) (last_marks ns) (mark n ∷ last_marks ns)
-
-cond_true : {X : Type 0} (b : Bool) (x y : X) → b ≡ true → cond b x y ≡ x
-cond_true true x y e = refl
-cond_true false x y e = cc
-
-cond_false : {X : Type 0} (b : Bool) (x y : X) → b ≡ false → cond b x y ≡ y
-cond_false true x y e = cc
-cond_false false x y e = refl
 
 -- m stands before n
 pub record Precedes (m n : Number) : Type 0 where

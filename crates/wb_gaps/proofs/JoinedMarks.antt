@@ -9,7 +9,8 @@ use Rattle.std.proofs.lemmas.List.Kept.{AllPairs-cons}
 use Rattle.wb_names.specs.Values.{MarkValue}
 use Rattle.wb_names.specs.Ascending.{AreMarks}
 use Rattle.wb_names.specs.Marks.{mark_of, IsMerge}
-use Rattle.wb_gaps.specs.Merging.{source_count, greater, joined, joined_at}
+use Rattle.wb_gaps.specs.Merging.{source_count}
+use Rattle.wb_gaps.specs.Joining.{greater, joined, joined_at}
 use Rattle.wb_gaps.proofs.GreatestNumbers.{same_or_not}
 
 abbrev pub Above : ℕ → List MarkValue → Type 0

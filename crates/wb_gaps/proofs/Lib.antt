@@ -2,7 +2,7 @@ pub mod PageOrder
 pub mod HeldNumbers
 pub mod GreatestNumbers
 pub mod Reports
-pub mod Lists
+pub mod MarkFaults
 pub mod JoinedMarks
 pub mod OneGaps
 pub mod RangeSteps

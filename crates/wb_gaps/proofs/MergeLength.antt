@@ -6,7 +6,7 @@ use Rattle.std.proofs.lemmas.List.Elements.{All-cons, All-head, All-tail}
 use Rattle.wb_names.specs.Values.{MarkValue}
 use Rattle.wb_names.specs.Marks.{mark_of}
 use Rattle.wb_gaps.specs.Laws.{MergesAllSources}
-use Rattle.wb_gaps.specs.Merging.{greater, joined, joined_at}
+use Rattle.wb_gaps.specs.Joining.{greater, joined, joined_at}
 use Rattle.wb_gaps.proofs.JoinedMarks.{Rises, Positive, rest_above, rest_rises, here, there, none_above, above_less, joins}
 
 abbrev High : MarkValue → Type 0

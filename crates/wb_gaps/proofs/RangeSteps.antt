@@ -10,7 +10,7 @@ use Rattle.std.proofs.lemmas.Map.Keys.{sorted_tail}
 use Rattle.wb_names.specs.declared.gap.Gap.{Gap}
 use Rattle.wb_names.proofs.Listings.{Contains-here, Contains-there, Contains-cases, Contains-none}
 use Rattle.wb_gaps.specs.Numbers.{number_cmp}
-use Rattle.wb_gaps.specs.Greatest.{HasNumber}
+use Rattle.wb_gaps.specs.LastNumbers.{HasNumber}
 use Rattle.wb_gaps.specs.Ranges.{range, ranges, after}
 use Rattle.wb_gaps.specs.declared.held.Number.{Number}
 use Rattle.wb_gaps.proofs.GreatestNumbers.{Precedes, later_all, number_cases, number_here, number_there}

@@ -9,7 +9,8 @@ use Rattle.wb_names.specs.Marks.{mark_of, IsReport}
 use Rattle.wb_names.specs.declared.name.PageId.{PageId}
 use Rattle.wb_names.proofs.Orders.{and_both, same_page-is, name_parts}
 use Rattle.wb_gaps.specs.Numbers.{AreNumbers}
-use Rattle.wb_gaps.specs.Greatest.{IsGreatest, HasNumber, AreGreatest}
+use Rattle.wb_gaps.specs.Greatest.{IsGreatest}
+use Rattle.wb_gaps.specs.LastNumbers.{HasNumber, AreGreatest}
 use Rattle.wb_gaps.proofs.HeldNumbers.{same_page-here}
 use Rattle.wb_gaps.proofs.GreatestNumbers.{one_greatest}
 use Rattle.wb_gaps.specs.declared.held.Number.{Number}

@@ -1,8 +1,10 @@
 pub mod Pages
-pub mod Numbers
+pub mod Gaps
 pub mod Greatest
 pub mod Merging
 pub mod MergeFaults
-pub mod Gaps
-pub mod Ranges
 pub mod Laws
+pub mod Numbers
+pub mod LastNumbers
+pub mod Joining
+pub mod Ranges

@@ -6,7 +6,7 @@ ghost use Rattle.wb_gaps.specs.Numbers.{AreNumbers};
 use std::alloc::{AllocError, Global};
 use wb_names::{Drawop, PageId};
 
-/// A number that a source has used on some page. Numbers are ordered by source.
+/// A number that a source has used on some page. Numbers are ordered by source, then by number.
 #[derive(Clone, Copy, PartialEq, Eq, PartialOrd, Ord)]
 pub(crate) struct Number {
     pub(crate) source: u32,

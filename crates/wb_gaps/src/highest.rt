@@ -2,7 +2,7 @@
 
 ghost use Rattle.std.specs.Prelude.{◌≡◌, ◌≤◌, All, IfOk};
 ghost use Rattle.std.specs.List.Sorted.{IsStrictlySortedBy};
-ghost use Rattle.wb_gaps.specs.Greatest.{continues, AreGreatest};
+ghost use Rattle.wb_gaps.specs.LastNumbers.{continues, AreGreatest};
 ghost use Rattle.wb_gaps.specs.Numbers.{number_cmp};
 
 use crate::held::Number;

@@ -2,7 +2,8 @@
 
 ghost use Rattle.std.specs.Prelude.{◌≡◌, ◌≤◌, [], ◌∷◌, MatchOption, IfOk};
 ghost use Rattle.wb_names.specs.Ascending.{AreMarks};
-ghost use Rattle.wb_gaps.specs.Merging.{joined, source_count};
+ghost use Rattle.wb_gaps.specs.Joining.{joined};
+ghost use Rattle.wb_gaps.specs.Merging.{source_count};
 
 use std::alloc::{AllocError, Global};
 use std::cmp::Ordering;

@@ -1,10 +1,13 @@
 //! What a list of drawops lacks, reports and holds: missing ranges, marks and pages.
 //!
-//! Members of a whiteboard find their losses by comparing what they hold with what others report. This
-//! crate answers, for a list of drawops, which pages it has, the greatest number of each source on a page,
-//! and which numbers are missing there, and it merges what two members reported. All calls are pure: they
-//! know no board, no clock and no datagrams, and they ask nothing of the order of the list. A name may
-//! stand twice in it.
+//! Members of a whiteboard find their losses by comparing what they hold with what others report. For a
+//! list of drawops this crate answers which pages it has (`page_list`), the greatest number of each
+//! source on a page (`page_report`) and which numbers are missing there (`missing`); and it merges what
+//! two members reported (`merged`). Each answer is a walk over the sorted numbers that the page holds
+//! (`held`), the last of each source (`highest`), or two lists of marks taken as one (`joined`).
+//!
+//! It knows no board, no clock and no datagram, and it asks for nothing that is missing. It needs no
+//! order of the list, and a name may stand twice in it.
 #![tactic(auto)]
 
 mod held;

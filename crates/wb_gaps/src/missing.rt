@@ -2,8 +2,8 @@
 
 ghost use Rattle.std.specs.Prelude.{◌≡◌, ◌∷◌, ◌++◌, false, IfOk, OnOk, MatchOption};
 ghost use Rattle.wb_gaps.specs.Gaps.{AreGaps};
-ghost use Rattle.wb_gaps.specs.Greatest.{continues};
-ghost use Rattle.wb_gaps.specs.Merging.{joined};
+ghost use Rattle.wb_gaps.specs.LastNumbers.{continues};
+ghost use Rattle.wb_gaps.specs.Joining.{joined};
 ghost use Rattle.wb_gaps.specs.Ranges.{after, all_ranges, range, ranges};
 
 use crate::held::{Number, numbers};
@@ -93,6 +93,11 @@ pub fn gaps(
 {
     let held = numbers(alloc, list, page)?;
     let reported = highs(alloc, held.as_slice())?;
-    let gaps = fill(alloc, held.as_slice(), reported.as_slice(), marks.as_slice())?;
+    let gaps = fill(
+        alloc,
+        held.as_slice(),
+        reported.as_slice(),
+        marks.as_slice(),
+    )?;
     Ok(gaps)
 }

@@ -1,6 +1,6 @@
 use Rattle.std.proofs.Common.{◌++◌, ◌∙◌, ap, sym, subst, append-nil}
 use Rattle.std.proofs.lemmas.List.{drop_all}
-use Rattle.wb_gaps.specs.Greatest.{AreGreatest}
+use Rattle.wb_gaps.specs.LastNumbers.{AreGreatest}
 use Rattle.wb_gaps.proofs.GreatestNumbers.{last_marks, are_greatest}
 use Rattle.wb_gaps.proofs.highest.highs.Goals as goal
 

@@ -1,5 +1,5 @@
 use Rattle.std.proofs.Common.{rules, ◌≡◌, [], length, ap, arith}
-use Rattle.wb_gaps.specs.Merging.{joined}
+use Rattle.wb_gaps.specs.Joining.{joined}
 use Rattle.wb_gaps.proofs.JoinedMarks.{joined_count}
 use Rattle.wb_gaps.proofs.joined.count_sources.Goals as goal
 

@@ -1,5 +1,5 @@
 use Rattle.std.proofs.Common.{◌≡◌, ◌++◌, length}
-use Rattle.wb_gaps.specs.Merging.{joined}
+use Rattle.wb_gaps.specs.Joining.{joined}
 use Rattle.wb_gaps.proofs.joined.join.Given as goal
 
 abbrev pub invariant-loop-mark : goal.invariant-loop-mark

@@ -1,4 +1,4 @@
-use Rattle.wb_gaps.proofs.Lists.{no_fault}
+use Rattle.wb_gaps.proofs.MarkFaults.{no_fault}
 use Rattle.wb_gaps.proofs.mark_list.as_marks.Goals as goal
 
 pub unreachable-requires : goal.unreachable-requires

@@ -1,5 +1,5 @@
 use Rattle.std.proofs.Common.{◌≡◌, ◌++◌, length}
-use Rattle.wb_gaps.specs.Merging.{joined}
+use Rattle.wb_gaps.specs.Joining.{joined}
 use Rattle.wb_gaps.specs.Ranges.{all_ranges}
 use Rattle.wb_gaps.proofs.missing.fill.Given as goal
 

@@ -1,6 +1,6 @@
 use Rattle.std.proofs.Common.{subst, sym}
 use Rattle.wb_names.specs.Marks.{IsReport}
-use Rattle.wb_gaps.specs.Greatest.{AreGreatest}
+use Rattle.wb_gaps.specs.LastNumbers.{AreGreatest}
 use Rattle.wb_gaps.proofs.Reports.{is_report}
 use Rattle.wb_gaps.proofs.page_report.report.Goals as goal
 
