@@ -1,5 +1,6 @@
 -- Gaps, reports and page lists do not depend on the order of the history.
-use Rattle.std.proofs.Common.{◌≡◌, ◌≤◌, ℕ, max, List, ap, ◌∙◌, sym, subst, arith}
+use Rattle.std.proofs.Common.{◌≡◌, ◌<◌, ◌≤◌, ℕ, max, List, ap, ◌∙◌, sym, subst, arith, inl, inr, ⊎_elim}
+use Rattle.std.proofs.lemmas.Bool.{cases_lt}
 use Rattle.std.specs.Prelude.{Any, IsPermutation}
 use Rattle.std.proofs.lemmas.List.Sorted.{Contains-permutation, IsPermutation-sym}
 use Rattle.wb_names.specs.Values.{DrawopValue}
@@ -9,7 +10,7 @@ use Rattle.wb_names.specs.declared.name.PageId.{PageId}
 use Rattle.wb_names.proofs.Listings.{one_list, lists_same}
 use Rattle.wb_names.proofs.MarkLists.{one_marks}
 use Rattle.wb_names.proofs.Orders.{page_total}
-use Rattle.wb_gaps.specs.Laws.{OneReport, OnePages, OneMerge, GapsOfRearranged, ReportOfRearranged, PagesOfRearranged, ReportsGreatest, MergesGreater}
+use Rattle.wb_gaps.specs.Laws.{OneReport, OnePages, OneMerge, GapsOfRearranged, ReportOfRearranged, PagesOfRearranged, ReportsGreatest, KnownIsReached, MergesGreater}
 use Rattle.wb_gaps.specs.Greatest.{IsGreatest}
 use Rattle.wb_gaps.proofs.GreatestNumbers.{one_greatest}
 use Rattle.wb_gaps.proofs.Reports.{greatest_held}
@@ -55,3 +56,19 @@ reports_greatest history page marks r source = subst (IsGreatest (IsHeld history
 
 pub merges_greater : MergesGreater
 merges_greater a b marks m source = m.1 source
+
+pub known_is_reached : KnownIsReached
+known_is_reached history page marks source n pos =
+    let g = greatest_held history page source in
+    let high : ℕ = highest page source history in (
+      (λ (le : n ≤ known history page marks source). ⊎_elim
+          (λ (lt : mark_of marks source < n).
+          let low : n ≤ high = omega arith in
+          ⊎_elim (λ (e : high ≡ 0). absurd (omega arith)) (λ (h : IsHeld history page source high). inl (high, low, h)) g.reached)
+          (λ (low : n ≤ mark_of marks source). inr low)
+          (cases_lt (mark_of marks source) n)),
+      (λ h. ⊎_elim
+          (λ (p : (m : ℕ) × (n ≤ m) × IsHeld history page source m). let a : n ≤ p.0 = p.1 in let b : p.0 ≤ high = g.bound p.0 p.2 in omega arith)
+          (λ (low : n ≤ mark_of marks source). omega arith)
+          h),
+    )

@@ -1,8 +1,8 @@
 -- Laws of gaps, reports, page lists and merges.
-use Rattle.std.specs.Prelude.{◌≡◌, ℕ, List, IsPermutation, length, max}
+use Rattle.std.specs.Prelude.{◌≡◌, ℕ, List, IsPermutation, length, max, ◌≤◌, ◌⊎◌, ◌↔◌}
 use Rattle.wb_names.specs.Values.{DrawopValue, MarkValue}
 use Rattle.wb_names.specs.History.{IsHeld}
-use Rattle.wb_names.specs.Marks.{mark_of, IsReport, IsMerge}
+use Rattle.wb_names.specs.Marks.{mark_of, known, IsReport, IsMerge}
 use Rattle.wb_names.specs.Ascending.{AreMarks}
 use Rattle.wb_names.specs.declared.gap.Gap.{Gap}
 use Rattle.wb_names.specs.declared.name.PageId.{PageId}
@@ -42,6 +42,10 @@ PagesOfRearranged = (history other : List DrawopValue) → IsPermutation history
 -- the number that a report has for a source is the greatest that is held
 abbrev pub ReportsGreatest : Type 0
 ReportsGreatest = (history : List DrawopValue) (page : PageId) (marks : List MarkValue) → IsReport history page marks → (source : ℕ) → IsGreatest (IsHeld history page source) (mark_of marks source)
+
+-- a number is known of exactly where one at least as great is held, or the marks have one
+abbrev pub KnownIsReached : Type 0
+KnownIsReached = (history : List DrawopValue) (page : PageId) (marks : List MarkValue) (source n : ℕ) → 1 ≤ n → (n ≤ known history page marks source) ↔ (((m : ℕ) × (n ≤ m) × IsHeld history page source m) ⊎ (n ≤ mark_of marks source))
 
 -- the number that a merge has for a source is the greater of the two
 abbrev pub MergesGreater : Type 0

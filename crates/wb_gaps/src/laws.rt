@@ -1,7 +1,7 @@
 //! Laws of gaps, reports, page lists and merges, proved for all lists. The functions do nothing: each
 //! stands here for its clause.
 
-ghost use Rattle.wb_gaps.specs.Laws.{OneGaps, OneReport, OnePages, OneMerge, GapsOfRearranged, ReportOfRearranged, PagesOfRearranged, ReportsGreatest, MergesGreater, MergesAllSources};
+ghost use Rattle.wb_gaps.specs.Laws.{OneGaps, OneReport, OnePages, OneMerge, GapsOfRearranged, ReportOfRearranged, PagesOfRearranged, ReportsGreatest, KnownIsReached, MergesGreater, MergesAllSources};
 
 /// There is one list of gaps, one report and one list of pages of a list of drawops, and one merge of
 /// two lists of marks, whichever of the two comes first.
@@ -19,11 +19,12 @@ pub fn order_is_free()
     ensures pages { PagesOfRearranged }
 {}
 
-/// The number that a report has for a source is the greatest that the page holds of it. The number that
-/// a merge has for a source is the greater of the two, and it has as many marks as the two have sources
-/// together.
+/// The number that a report has for a source is the greatest that the page holds of it, and a number is
+/// known of exactly where one at least as great is held or reported. The number that a merge has for a
+/// source is the greater of the two, and it has as many marks as the two have sources together.
 pub fn marks_are_greatest()
     ensures report { ReportsGreatest }
+    ensures known { KnownIsReached }
     ensures merge { MergesGreater }
     ensures count { MergesAllSources }
 {}
