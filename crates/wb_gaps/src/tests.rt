@@ -215,7 +215,18 @@ fn merges_of_a_full_list(rt: HostRuntime) -> Result<(), Fail> {
         merged.as_slice().last().copied(),
         Some(Mark::new(65_535, 8)?)
     );
-    assert_eq!(rt; MergeFault::TooMany.code(), 1);
-    assert_eq!(rt; MergeFault::Memory.code(), 2);
+    Ok(())
+}
+
+#[test]
+fn faults_of_a_merge(rt: HostRuntime) -> Result<(), Fail> {
+    for (fault, code, text) in [
+        (MergeFault::TooMany, 1, "over 65535 sources together"),
+        (MergeFault::Memory, 2, "out of memory"),
+    ] {
+        assert_eq!(rt; fault.code(), code);
+        let shown = again!(format!(in rt.alloc(); "{fault}"));
+        assert_eq!(rt; shown.as_str(), text);
+    }
     Ok(())
 }
