@@ -20,7 +20,9 @@ impl Joined<'_> {
     /// Takes the mark of the next source that either has; where both have it, the one with the
     /// greater number.
     pub(crate) fn next(&mut self) -> Option<Mark>
-        ensures { MatchOption result (joined self.old.first.now self.old.second.now ≡ []) (λ m. joined self.old.first.now self.old.second.now ≡ m ∷ joined self.new.first.now self.new.second.now) }
+        ensures { let before = joined self.old.first.now self.old.second.now in
+            let after = joined self.new.first.now self.new.second.now in
+            MatchOption result (before ≡ []) (λ m. before ≡ m ∷ after) }
     {
         let Some((first, later_first)) = self.first.split_first() else {
             let (second, later_second) = self.second.split_first()?;

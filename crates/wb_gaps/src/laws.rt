@@ -1,7 +1,9 @@
 //! Laws of gaps, reports, page lists and merges, proved for all lists. The functions do nothing: each
 //! stands here for its clause.
 
-ghost use Rattle.wb_gaps.specs.Laws.{OneGaps, OneReport, OnePages, OneMerge, GapsOfRearranged, ReportOfRearranged, PagesOfRearranged, ReportsGreatest, KnownIsReached, MergesGreater, MergesAllSources};
+ghost use Rattle.wb_gaps.specs.Laws.{OneGaps, OneReport, OnePages, OneMerge};
+ghost use Rattle.wb_gaps.specs.Laws.{GapsOfRearranged, ReportOfRearranged, PagesOfRearranged};
+ghost use Rattle.wb_gaps.specs.Laws.{ReportsGreatest, KnownIsReached, MergesGreater, MergesAllSources};
 
 /// There is one list of gaps, one report and one list of pages of a list of drawops, and one merge of
 /// two lists of marks, whichever of the two comes first.

@@ -41,7 +41,8 @@ impl MergeFault {
 /// for, and with `Memory` where memory is refused.
 pub fn merge_marks(alloc: Global, first: &Marks, second: &Marks) -> Result<Marks, MergeFault>
     ensures merge { IfOk result (λ marks. IsMerge first.now second.now marks) }
-    ensures fault { MatchResult result (λ _. source_count first.now second.now ≤ 65535) (IsMergeFault first.now second.now) }
+    ensures fault { MatchResult result (λ _. source_count first.now second.now ≤ 65535)
+        (IsMergeFault first.now second.now) }
 {
     let first = first.as_slice();
     let second = second.as_slice();

@@ -14,7 +14,8 @@ use wb_names::{Drawop, Gap, Mark, Marks, PageId};
 
 /// The first of the numbers and those after it, where it is of this source.
 fn next_of(source: u32, numbers: &[Number]) -> Option<(Number, &[Number])>
-    ensures { MatchOption result (continues source numbers.now ≡ false) (λ p. (numbers.now ≡ p.0 ∷ p.1.now) × (p.0.source ≡ source)) }
+    ensures { MatchOption result (continues source numbers.now ≡ false)
+        (λ p. (numbers.now ≡ p.0 ∷ p.1.now) × (p.0.source ≡ source)) }
 {
     let (number, later) = numbers.split_first()?;
     if number.source != source {
@@ -44,7 +45,8 @@ fn add_ranges<'a>(
     numbers: &'a [Number],
     mark: Mark,
 ) -> Result<&'a [Number], AllocError>
-    ensures ranges { OnOk result (gaps.new.items ≡ gaps.old.items ++ ranges mark.source 0 mark.high numbers.now) }
+    ensures ranges { OnOk result
+        (gaps.new.items ≡ gaps.old.items ++ ranges mark.source 0 mark.high numbers.now) }
     ensures rest { IfOk result (λ rest. rest.now ≡ after mark.source numbers.now) }
 {
     let mut done = 0;
