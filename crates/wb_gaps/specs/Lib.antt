@@ -1,0 +1,10 @@
+pub mod Pages
+pub mod Gaps
+pub mod Greatest
+pub mod Merging
+pub mod MergeFaults
+pub mod Laws
+pub mod Numbers
+pub mod LastNumbers
+pub mod Joining
+pub mod Ranges
