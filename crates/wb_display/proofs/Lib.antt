@@ -1,0 +1,4 @@
+pub mod RunningError
+pub mod Overlaying
+pub mod Spans
+pub mod LineSteps

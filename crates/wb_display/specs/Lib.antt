@@ -1,0 +1,6 @@
+pub mod Display
+pub mod Canvas
+pub mod Cells
+pub mod Walking
+pub mod Walks
+pub mod Faults

@@ -1,0 +1,8 @@
+//! What a page shows, in order, and its canvas.
+#![tactic(auto)]
+
+mod canvas;
+mod line_points;
+mod strokes;
+
+pub use canvas::CanvasFault;
