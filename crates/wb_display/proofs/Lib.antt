@@ -2,3 +2,4 @@ pub mod RunningError
 pub mod Overlaying
 pub mod Spans
 pub mod LineSteps
+pub mod CanvasRows
