@@ -3,3 +3,4 @@ pub mod Overlaying
 pub mod Spans
 pub mod LineSteps
 pub mod CanvasRows
+pub mod Sent

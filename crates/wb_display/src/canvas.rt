@@ -1,7 +1,8 @@
 //! The canvas of a list of drawops: rows of glyphs, each ended by a line feed. A later drawop of the
 //! list covers an earlier one.
 
-ghost use Rattle.std.specs.Prelude.{◌≡◌, ◌+◌, ◌*◌, ◌↔◌, IfOk, false, length, [], slice_index, ℕ, ◌<◌};
+ghost use Rattle.std.specs.Prelude.{◌≡◌, ◌+◌, ◌*◌, ◌<◌, ◌↔◌, IfOk, OnOk, IfErr, OnErr, true, false, length, take, []};
+ghost use Rattle.std.specs.Io.KnownBytes.{Appends};
 ghost use Rattle.wb_display.specs.Canvas.{canvas_text, is_canvas_size as is_canvas_size_of};
 ghost use Rattle.wb_display.specs.Cells.{Shows};
 
@@ -9,7 +10,7 @@ use crate::strokes::{Size, draw};
 use std::alloc::{AllocError, Global};
 use std::marker::Model;
 use thiserror::Error;
-use wb_names::Drawop;
+use wb_names::{Drawop, Sink};
 
 /// Why no canvas was painted: the first fault in the order of the variants.
 #[derive(Clone, Copy, Debug, PartialEq, Eq, Error)]
@@ -45,6 +46,13 @@ impl From<AllocError> for CanvasFault {
     fn from(_: AllocError) -> CanvasFault {
         CanvasFault::Memory
     }
+}
+
+/// A sink failed: it had taken this many bytes, from the front, and no more.
+#[derive(Clone, Copy, Debug, PartialEq, Eq, Error)]
+#[error("stopped after {sent} bytes")]
+pub struct Stopped {
+    pub sent: usize,
 }
 
 /// A painted canvas.
@@ -100,6 +108,25 @@ impl Canvas {
         ensures { result.now ≡ self.now }
     {
         &self.bytes
+    }
+
+    /// Writes the rows into the sink: all of them, or those bytes of which `Stopped` tells where the
+    /// sink has failed.
+    pub fn write_to<W: Sink>(&self, sink: &mut W) -> Result<(), Stopped>
+        ensures ok { OnOk result (Appends (W.taken sink.old) (W.taken sink.new) self.now) }
+        ensures part { IfErr result (λ s. Appends (W.taken sink.old) (W.taken sink.new) (take s.sent self.now)) }
+        ensures short { IfErr result (λ s. s.sent < length self.now) }
+        ensures failed { OnErr result (W.has_failed sink.new ≡ true) }
+    {
+        let bytes = self.bytes();
+        let mut sent = 0;
+        while sent < bytes.len() {
+            match sink.push(&bytes[sent..]) {
+                Some(count) => sent += count,
+                None => return Err(Stopped { sent }),
+            }
+        }
+        Ok(())
     }
 }
 

@@ -5,4 +5,4 @@ mod canvas;
 mod line_points;
 mod strokes;
 
-pub use canvas::{Canvas, CanvasFault};
+pub use canvas::{Canvas, CanvasFault, Stopped};
