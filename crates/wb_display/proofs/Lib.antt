@@ -4,3 +4,6 @@ pub mod Spans
 pub mod LineSteps
 pub mod CanvasRows
 pub mod Sent
+pub mod Hearing
+pub mod Deciding
+pub mod Views

@@ -1,4 +1,6 @@
 pub mod Display
+pub mod LastWord
+pub mod LastWords
 pub mod Canvas
 pub mod Cells
 pub mod Walking

@@ -2,7 +2,10 @@
 #![tactic(auto)]
 
 mod canvas;
+mod last_words;
 mod line_points;
 mod strokes;
+mod view;
 
 pub use canvas::{Canvas, CanvasFault, Stopped};
+pub use view::order;
