@@ -7,3 +7,4 @@ pub mod Sent
 pub mod Hearing
 pub mod Deciding
 pub mod Views
+pub mod Settling

@@ -6,3 +6,4 @@ pub mod Cells
 pub mod Walking
 pub mod Walks
 pub mod Faults
+pub mod DisplayList

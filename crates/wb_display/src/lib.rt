@@ -2,6 +2,7 @@
 #![tactic(auto)]
 
 mod canvas;
+mod display_list;
 mod last_words;
 mod line_points;
 mod strokes;
