@@ -53,7 +53,7 @@ tied_unless Greater Less e p q = cc
 tied_unless Greater Equal e p q = cc
 tied_unless Greater Greater e p q = cc
 
-and_false : (a b : Bool) → b ≡ false → (a && b) ≡ false
+pub and_false : (a b : Bool) → b ≡ false → (a && b) ≡ false
 and_false true b e = e
 and_false false b e = refl
 
@@ -65,7 +65,7 @@ not_false : (b : Bool) → b ≡ false → not b ≡ true
 not_false true e = cc
 not_false false e = refl
 
-false_from_not : (b : Bool) → not b ≡ true → b ≡ false
+pub false_from_not : (b : Bool) → not b ≡ true → b ≡ false
 false_from_not true e = cc
 false_from_not false e = refl
 
@@ -76,7 +76,7 @@ list_any_here p xs x (k, h, e) t = list_any_at p xs k x h (ap p e ∙ t)
 list_any_nowhere : (p : DrawopValue → Bool) (xs : List DrawopValue) → ((x : DrawopValue) → Contains xs x → p x ≡ false) → list_any p xs ≡ false
 list_any_nowhere p xs none = list_any_none p xs (λ k d h. none (get_or xs k d) (Contains-get_or xs k d h))
 
-nowhere_from : (p : DrawopValue → Bool) (xs : List DrawopValue) → list_any p xs ≡ false → (x : DrawopValue) → Contains xs x → p x ≡ false
+pub nowhere_from : (p : DrawopValue → Bool) (xs : List DrawopValue) → list_any p xs ≡ false → (x : DrawopValue) → Contains xs x → p x ≡ false
 nowhere_from p xs none x c = false_unless (p x) (λ (t : p x ≡ true). let e : true ≡ false = sym (list_any_here p xs x c t) ∙ none in cc)
 
 module _ (history : List DrawopValue) (d : DrawopValue) where

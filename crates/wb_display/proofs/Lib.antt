@@ -8,3 +8,6 @@ pub mod Hearing
 pub mod Deciding
 pub mod Views
 pub mod Settling
+pub mod Putting
+pub mod Holding
+pub mod Layers

@@ -1,5 +1,5 @@
 -- The latest of the deletes and restores that name a drawop.
-use Rattle.std.specs.Prelude.{◌≡◌, Bool, true, false, ◌&&◌, not, List, Contains, Option, Some, None, nat_eq, if◌then◌else◌}
+use Rattle.std.specs.Prelude.{◌≡◌, Bool, true, false, ◌&&◌, not, List, Contains, Option, Some, None, nat_eq, unwrap_or, if◌then◌else◌}
 use Rattle.std.specs.declared.cmp.Ordering.{Ordering}
 use Rattle.std.specs.Ordering.{nat_cmp, ordering_then, is_lt}
 use Rattle.wb_names.specs.Values.{DrawopValue}
@@ -38,6 +38,10 @@ target_label (Frame x0 y0 x1 y1 glyph) = None
 target_label (Text x y text) = None
 target_label (Delete source seq) = Some (record { source = source; seq = seq })
 target_label (Restore source seq) = Some (record { source = source; seq = seq })
+
+-- the label of the one drawop whose showing d may change: its target, or itself where it names none
+abbrev pub stake_label : DrawopValue → Label
+stake_label d = unwrap_or (target_label d.op) (label_of d)
 
 -- e is a delete or a restore on the page, of the drawop of this label
 abbrev pub speaks_of : PageId → Label → DrawopValue → Bool

@@ -7,3 +7,6 @@ pub mod Walking
 pub mod Walks
 pub mod Faults
 pub mod DisplayList
+pub mod Layer
+pub mod LayerFields
+pub mod TakingIn

@@ -7,7 +7,7 @@ ghost use Rattle.std.specs.Ordering.{is_lt};
 ghost use Rattle.wb_names.specs.Values.{DrawopValue};
 ghost use Rattle.wb_names.specs.Orders.{same_page};
 ghost use Rattle.wb_display.specs.Display.{is_drawing as is_drawing_op, is_delete as is_delete_op};
-ghost use Rattle.wb_display.specs.LastWord.{label_of, target_label, word_of, word_cmp, later_word as later_word_of, hides, is_shown_by};
+ghost use Rattle.wb_display.specs.LastWord.{label_of, target_label, stake_label, word_of, word_cmp, later_word as later_word_of, hides, is_shown_by};
 ghost use Rattle.wb_display.specs.declared.last_words.Label.{Label};
 ghost use Rattle.wb_display.specs.LastWords.{AreLastWords, word_on};
 
@@ -98,10 +98,22 @@ fn target_of(op: &Op) -> Option<Label>
     }
 }
 
+/// The label of the one drawop whose showing may change where this one is put on its page: its
+/// target, or itself where it names none.
+#[inline(always)]
+pub(crate) fn stake_of(drawop: &Drawop) -> Label
+    ensures { result ≡ stake_label drawop.now }
+{
+    match target_of(drawop.op()) {
+        Some(label) => label,
+        None => Label::of(drawop),
+    }
+}
+
 /// The last words of a page.
 #[derive(Drop)]
 pub(crate) struct LastWords {
-    page: PageId,
+    pub page: PageId,
     latest: HashMap<Label, LastWord>,
 }
 
@@ -156,8 +168,9 @@ impl LastWords {
         }
     }
 
+    /// Whether a drawop is of the page.
     #[inline(always)]
-    fn is_on_page(&self, drawop: &Drawop) -> bool
+    pub fn is_on_page(&self, drawop: &Drawop) -> bool
         ensures { result ≡ same_page drawop.now.name.page self.now.page }
     {
         drawop.name().page() == self.page
