@@ -1,9 +1,9 @@
 -- The rows of a canvas in memory: cells that show a list are its canvas text.
-use Rattle.std.proofs.Common.{◌≡◌, ℕ, zero, suc, ◌+◌, ◌*◌, ◌/◌, ◌%◌, ◌<◌, ◌≤◌, ◌≢◌, List, [], ◌∷◌, ◌++◌, length, get_or, take, map, refl, ap, ◌∙◌, sym, subst, arith, ◌⊎◌, inl, inr, ⊎_elim, length-append, set, get_or-set_same, get_or-set_other, below_more}
-use Rattle.std.specs.Prelude.{Bool, true, false, cond, nat_lt, ◌&&◌, find, reverse, Option, Some, None}
+use Rattle.std.proofs.Common.{◌≡◌, ℕ, zero, suc, ◌+◌, ◌*◌, ◌/◌, ◌%◌, ◌<◌, ◌≤◌, ◌≢◌, List, [], ◌∷◌, ◌++◌, length, get_or, take, map, refl, ap, ◌∙◌, sym, subst, arith, ◌⊎◌, inl, inr, length-append, set, get_or-set_same, get_or-set_other, below_more}
+use Rattle.std.specs.Prelude.{Bool, true, false, cond, nat_lt, ◌&&◌, find, reverse, Option, Some}
 use Rattle.std.specs.List.{range_with_len, flat_map}
 use Rattle.std.specs.Option.{option_map_or}
-use Rattle.std.proofs.lemmas.List.{get_or_append_left, get_or-append-add, get_or_at, reverse-append, ext_get_or, take_more, take_all}
+use Rattle.std.proofs.lemmas.List.{get_or_append_left, get_or-append-add, get_or_at, reverse-append, ext_get_or, take_more}
 use Rattle.std.proofs.lemmas.List.FromFn.{length-map-range_with_len, get_or-map-range_with_len}
 use Rattle.std.proofs.lemmas.Bool.{cases_lt}
 use Rattle.std.proofs.lemmas.Bool.Decides.{nat_tests}
@@ -53,25 +53,27 @@ pub shown_text : (w h : ℕ) (ds : List DrawopValue) (cells : List ℕ) → Show
 shown_text w h ds cells s =
     ext_get_or 0 cells (canvas_text ds w h) (s.len ∙ sym (length-rows (row_text ds w) (w + 1) (length-row ds w) h 0))
     (λ i lt. here i (i / (w + 1)) (i % (w + 1)) (div-add-mod' i (w + 1)) (div_below i (w + 1) h (omega arith) (let l = s.len in omega arith)) (mod_below i (w + 1) (omega arith))) where
-  text_at : (y x : ℕ) → y < h → x < w + 1 → get_or (canvas_text ds w h) (place w x y) 0 ≡ get_or (row_text ds w y) x 0
-  text_at y x hy hx = let same : 0 + y ≡ y = omega arith in get_or-rows (row_text ds w) (w + 1) (length-row ds w) h 0 y x hy hx ∙ ap (λ (t : ℕ). get_or (row_text ds w t) x 0) same
-  cell : (y x : ℕ) → y < h → x < w + 1 → (x < w) ⊎ (w ≤ x) → get_or cells (place w x y) 0 ≡ get_or (row_text ds w y) x 0
-  cell y x hy hx (inl lt) = s.columns x y lt hy ∙ sym (in_row ds w y x lt)
-  cell y x hy hx (inr le) =
-      let e : x ≡ w = omega arith in
-      ap (λ (t : ℕ). get_or cells (place w t y) 0) e ∙ s.feeds y hy ∙ sym (at_feed ds w y) ∙ ap (λ (t : ℕ). get_or (row_text ds w y) t 0) (sym e)
-  here : (i y x : ℕ) → y * (w + 1) + x ≡ i → y < h → x < w + 1 → get_or cells i 0 ≡ get_or (canvas_text ds w h) i 0
-  here i y x e hy hx =
-      ap (λ (t : ℕ). get_or cells t 0) (sym e) ∙ cell y x hy hx (cases_lt x w) ∙ sym (text_at y x hy hx) ∙ ap (λ (t : ℕ). get_or (canvas_text ds w h) t 0) e
+      text_at : (y x : ℕ) → y < h → x < w + 1 → get_or (canvas_text ds w h) (place w x y) 0 ≡ get_or (row_text ds w y) x 0
+      text_at y x hy hx = let same : 0 + y ≡ y = omega arith in get_or-rows (row_text ds w) (w + 1) (length-row ds w) h 0 y x hy hx ∙ ap (λ (t : ℕ). get_or (row_text ds w t) x 0) same
+
+      cell : (y x : ℕ) → y < h → x < w + 1 → (x < w) ⊎ (w ≤ x) → get_or cells (place w x y) 0 ≡ get_or (row_text ds w y) x 0
+      cell y x hy hx (inl lt) = s.columns x y lt hy ∙ sym (in_row ds w y x lt)
+      cell y x hy hx (inr le) =
+          let e : x ≡ w = omega arith in
+          ap (λ (t : ℕ). get_or cells (place w t y) 0) e ∙ s.feeds y hy ∙ sym (at_feed ds w y) ∙ ap (λ (t : ℕ). get_or (row_text ds w y) t 0) (sym e)
+
+      here : (i y x : ℕ) → y * (w + 1) + x ≡ i → y < h → x < w + 1 → get_or cells i 0 ≡ get_or (canvas_text ds w h) i 0
+      here i y x e hy hx =
+          ap (λ (t : ℕ). get_or cells t 0) (sym e) ∙ cell y x hy hx (cases_lt x w) ∙ sym (text_at y x hy hx) ∙ ap (λ (t : ℕ). get_or (canvas_text ds w h) t 0) e
 
 -- the glyph where one more drawop is drawn
 glyph_more : (ds : List DrawopValue) (d : DrawopValue) (x y : ℕ) → glyph_at (ds ++ d ∷ []) x y ≡ cond (covers d.op x y) (glyph_of d.op x) (glyph_at ds x y)
 glyph_more ds d x y =
     ap (λ (r : List DrawopValue). option_map_or (λ d. glyph_of d.op x) (find (λ d. covers d.op x y) r) 32) (reverse-append ds (d ∷ []))
     ∙ first (covers d.op x y) (find (λ (d : DrawopValue). covers d.op x y) (reverse ds)) where
-  first : (b : Bool) (r : Option DrawopValue) → option_map_or (λ (d : DrawopValue). glyph_of d.op x) (cond b (Some d) r) 32 ≡ cond b (glyph_of d.op x) (option_map_or (λ (d : DrawopValue). glyph_of d.op x) r 32)
-  first true r = refl
-  first false r = refl
+      first : (b : Bool) (r : Option DrawopValue) → option_map_or (λ (d : DrawopValue). glyph_of d.op x) (cond b (Some d) r) 32 ≡ cond b (glyph_of d.op x) (option_map_or (λ (d : DrawopValue). glyph_of d.op x) r 32)
+      first true r = refl
+      first false r = refl
 
 pub shows_more : (w h : ℕ) (ds : List DrawopValue) (d : DrawopValue) (old new : List ℕ) → Shows w h ds old → Overlays w h (covers d.op) (glyph_of d.op) old new → Shows w h (ds ++ d ∷ []) new
 shows_more w h ds d old new s over = record {

@@ -1,11 +1,11 @@
 -- The last word on a drawop, as more is said.
-use Rattle.std.proofs.Common.{◌≡◌, ℕ, List, [], ◌∷◌, ◌++◌, refl, ap, ◌∙◌, sym, subst, ◌⊎◌, inl, inr, ⊎_elim, eqb-true, arith}
+use Rattle.std.proofs.Common.{◌≡◌, ℕ, List, [], ◌∷◌, ◌++◌, refl, ap, ◌∙◌, sym, subst, ⊎_elim, eqb-true}
 use Rattle.std.specs.Prelude.{Bool, true, false, cond, ◌&&◌, Contains, Option, Some, None, nat_eq}
 use Rattle.std.specs.declared.cmp.Ordering.{Ordering}
 use Rattle.std.specs.declared.cmp.Ordering.TheVariants.{Less, Equal, Greater}
 use Rattle.std.specs.Cmp.{IsTotalOrder, nat_cmp_total}
 use Rattle.std.specs.Ordering.{is_lt}
-use Rattle.std.proofs.lemmas.Cmp.{on_total, then_total, tied_itself, alike_right}
+use Rattle.std.proofs.lemmas.Cmp.{on_total, then_total, tied_itself}
 use Rattle.std.proofs.lemmas.List.Elements.{Contains-append_left, Contains-push, Contains-push_cases}
 use Rattle.wb_names.specs.Values.{DrawopValue}
 use Rattle.wb_names.specs.Orders.{same_page}
@@ -21,12 +21,12 @@ use Rattle.wb_display.specs.declared.last_words.LastWord.{LastWord}
 pub word_total : IsTotalOrder word_cmp
 word_total = then_total (on_total (λ (w : LastWord). w.time) nat_cmp_total) (then_total (on_total (λ (w : LastWord). w.source) nat_cmp_total) (on_total (λ (w : LastWord). w.seq) nat_cmp_total))
 
-less_is : (r : Ordering) → is_lt r ≡ true → r ≡ Less
+pub less_is : (r : Ordering) → is_lt r ≡ true → r ≡ Less
 less_is Less e = refl
 less_is Equal e = cc
 less_is Greater e = cc
 
-is_less : (r : Ordering) → r ≡ Less → is_lt r ≡ true
+pub is_less : (r : Ordering) → r ≡ Less → is_lt r ≡ true
 is_less r e = ap is_lt e
 
 pub false_unless : (b : Bool) → (b ≡ true → ⊥) → b ≡ false
@@ -45,21 +45,27 @@ module _ (history : List DrawopValue) (page : PageId) (label : Label) (e : Drawo
   pub unheard : (r : Option LastWord) → speaks_of page label e ≡ false → IsLastWord history page label r → IsLastWord (history ++ e ∷ []) page label r
   unheard None silent last = λ f h. ⊎_elim (λ (c : Contains history f). last f c) (λ (s : e ≡ f). ap (speaks_of page label) (sym s) ∙ silent) (Contains-push_cases history e f h)
   unheard (Some w) silent last =
-      let from = last.0 in
-      ((from.0, Contains-append_left history (e ∷ []) from.0 from.1, from.2, from.3),
-       λ f h spoken. ⊎_elim (λ (c : Contains history f). last.1 f c spoken) (λ (s : e ≡ f). absurd (let t : true ≡ false = sym spoken ∙ ap (speaks_of page label) (sym s) ∙ silent in cc)) (Contains-push_cases history e f h))
+      let from = last.0 in (
+        (from.0, Contains-append_left history (e ∷ []) from.0 from.1, from.2, from.3),
+        λ f h spoken. ⊎_elim (λ (c : Contains history f). last.1 f c spoken) (λ (s : e ≡ f). absurd (let t : true ≡ false = sym spoken ∙ ap (speaks_of page label) (sym s) ∙ silent in cc)) (Contains-push_cases history e f h),
+      )
 
   -- one that says something
   pub heard : (r : Option LastWord) → speaks_of page label e ≡ true → IsLastWord history page label r → IsLastWord (history ++ e ∷ []) page label (Some (later_word r (word_of e)))
-  heard None spoken last =
-      ((e, Contains-push history e, spoken, refl),
-       λ f h said. ⊎_elim (λ (c : Contains history f). absurd (let t : true ≡ false = sym said ∙ last f c in cc)) (λ (s : e ≡ f). ap (λ (g : DrawopValue). is_lt (word_cmp (word_of e) (word_of g))) (sym s) ∙ not_before_itself (word_of e)) (Contains-push_cases history e f h))
+  heard None spoken last = (
+    (e, Contains-push history e, spoken, refl),
+    λ f h said. ⊎_elim (λ (c : Contains history f). absurd (let t : true ≡ false = sym said ∙ last f c in cc)) (λ (s : e ≡ f). ap (λ (g : DrawopValue). is_lt (word_cmp (word_of e) (word_of g))) (sym s) ∙ not_before_itself (word_of e)) (Contains-push_cases history e f h),
+  )
   heard (Some w) spoken last =
       elim (is_lt (word_cmp w (word_of e))) as (λ b. is_lt (word_cmp w (word_of e)) ≡ b → IsLastWord (history ++ e ∷ []) page label (Some (cond b (word_of e) w))) [
-        | true ↦ λ later. ((e, Contains-push history e, spoken, refl),
-          λ f h said. ⊎_elim (λ (c : Contains history f). stays_last w (word_of e) (word_of f) later (last.1 f c said)) (λ (s : e ≡ f). ap (λ (g : DrawopValue). is_lt (word_cmp (word_of e) (word_of g))) (sym s) ∙ not_before_itself (word_of e)) (Contains-push_cases history e f h))
-        | false ↦ λ earlier. let from = last.0 in ((from.0, Contains-append_left history (e ∷ []) from.0 from.1, from.2, from.3),
-          λ f h said. ⊎_elim (λ (c : Contains history f). last.1 f c said) (λ (s : e ≡ f). ap (λ (g : DrawopValue). is_lt (word_cmp w (word_of g))) (sym s) ∙ earlier) (Contains-push_cases history e f h))
+        | true ↦ λ later. (
+          (e, Contains-push history e, spoken, refl),
+          λ f h said. ⊎_elim (λ (c : Contains history f). stays_last w (word_of e) (word_of f) later (last.1 f c said)) (λ (s : e ≡ f). ap (λ (g : DrawopValue). is_lt (word_cmp (word_of e) (word_of g))) (sym s) ∙ not_before_itself (word_of e)) (Contains-push_cases history e f h),
+        )
+        | false ↦ λ earlier. let from = last.0 in (
+          (from.0, Contains-append_left history (e ∷ []) from.0 from.1, from.2, from.3),
+          λ f h said. ⊎_elim (λ (c : Contains history f). last.1 f c said) (λ (s : e ≡ f). ap (λ (g : DrawopValue). is_lt (word_cmp w (word_of g))) (sym s) ∙ earlier) (Contains-push_cases history e f h),
+        )
       ] refl
 
 label_parts : (a b m n : ℕ) → a ≡ b → m ≡ n → let l : Label = record { source = a; seq = m } in let k : Label = record { source = b; seq = n } in l ≡ k
@@ -97,6 +103,7 @@ module _ (history : List DrawopValue) (page : PageId) (d : DrawopValue) (f g : L
   hear_word l here named changed last q = at (same_label l q) refl where
     spoken : speaks_of page q d ≡ same_label l q
     spoken = and_true _ _ here ∙ aims_where d.op l q named
+
     at : (b : Bool) → same_label l q ≡ b → IsLastWord (history ++ d ∷ []) page q (g q)
     at true e =
         let s : l ≡ q = same_label-is l q e in

@@ -1,22 +1,19 @@
 -- What a layer holds, by the labels of its drawops.
-use Rattle.std.proofs.Common.{◌≡◌, ℕ, ◌<◌, List, [], ◌∷◌, ◌++◌, length, get_or, map, refl, ap, ◌∙◌, sym, subst, arith, ◌⊎◌, inl, inr, ⊎_elim}
-use Rattle.std.specs.Prelude.{◌≢◌, Bool, true, false, not, cond, ◌&&◌, ◌||◌, All, Contains, Option, Some, None, is_some, nat_eq}
-use Rattle.std.specs.List.{list_any}
+use Rattle.std.proofs.Common.{◌≡◌, List, [], ◌∷◌, ◌++◌, get_or, refl, ap, ◌∙◌, sym, subst, arith, ⊎_elim}
+use Rattle.std.specs.Prelude.{◌≢◌, Bool, true, false, cond, ◌||◌, All, Contains, Option, Some, None, is_some}
 use Rattle.std.specs.Map.{lookup}
 use Rattle.std.proofs.lemmas.Bool.Decides.{nat_tests}
-use Rattle.std.proofs.lemmas.List.Elements.{All-head, All-tail, All-push, Contains-get_or, Contains-push_cases}
+use Rattle.std.proofs.lemmas.List.Elements.{All-head, All-tail, Contains-get_or}
 use Rattle.std.proofs.lemmas.List.Quantifiers.{all_pairs_push}
 use Rattle.wb_names.specs.Values.{DrawopValue, NameValue}
 use Rattle.wb_names.specs.History.{IsHistory}
 use Rattle.wb_names.specs.Orders.{same_page, same_name}
 use Rattle.wb_names.specs.declared.name.PageId.{PageId}
 use Rattle.wb_names.proofs.Listings.{Contains-here, Contains-there, Contains-cases, Contains-none}
-use Rattle.wb_names.proofs.Orders.{and_both}
 use Rattle.wb_display.specs.LastWord.{same_label, label_of}
-use Rattle.wb_display.specs.Layer.{holds_name, is_news}
+use Rattle.wb_display.specs.Layer.{holds_name}
 use Rattle.wb_display.specs.LayerFields.{held_of}
 use Rattle.wb_display.specs.declared.last_words.Label.{Label}
-use Rattle.wb_display.proofs.Hearing.{false_unless, same_label-is}
 use Rattle.wb_display.proofs.Deciding.{nowhere_from}
 
 -- an entry stands under the label of its drawop, which is of the page
@@ -45,6 +42,7 @@ found_held page l a [] all e = cc
 found_held page l a (e ∷ es) all f = at (found_held page l a es (All-tail (IsLabelled page) e es all)) (same_label l e.0) refl f where
   head : IsLabelled page e
   head = All-head (IsLabelled page) e es all
+
   at : (lookup (same_label l) es ≡ Some a → Contains (held_of es) a × (same_label l (label_of a) ≡ true)) → (b : Bool) → same_label l e.0 ≡ b → cond b (Some e.1) (lookup (same_label l) es) ≡ Some a → Contains (held_of (e ∷ es)) a × (same_label l (label_of a) ≡ true)
   at rest true t s =
       let same : e.1 ≡ a = cc in
@@ -57,6 +55,7 @@ not_found page l [] all e x c = absurd (Contains-none x c)
 not_found page l (e ∷ es) all f x c = at (λ s h. not_found page l es (All-tail (IsLabelled page) e es all) s x h) (same_label l e.0) refl f where
   head : IsLabelled page e
   head = All-head (IsLabelled page) e es all
+
   at : (lookup (same_label l) es ≡ None → Contains (held_of es) x → same_label l (label_of x) ≡ false) → (b : Bool) → same_label l e.0 ≡ b → cond b (Some e.1) (lookup (same_label l) es) ≡ None → same_label l (label_of x) ≡ false
   at rest true t s = cc
   at rest false t s = ⊎_elim

@@ -11,3 +11,7 @@ pub mod Settling
 pub mod Putting
 pub mod Holding
 pub mod Layers
+pub mod Convergence
+pub mod OlderRule
+pub mod PutLaws
+pub mod Pages

@@ -1,11 +1,11 @@
 -- A line, drawn a point at a time.
-use Rattle.std.proofs.Common.{◌≡◌, ℕ, ◌+◌, ◌<◌, ◌≤◌, List, [], ◌∷◌, ◌++◌, refl, ap, ◌∙◌, sym, arith, map}
-use Rattle.std.specs.Prelude.{Bool, true, false, ◌&&◌, ◌||◌, nat_eq, max, min}
+use Rattle.std.proofs.Common.{◌≡◌, ℕ, ◌+◌, List, [], ◌∷◌, ◌++◌, refl, ap, ◌∙◌, sym, arith}
+use Rattle.std.specs.Prelude.{Bool, true, false, ◌||◌}
 use Rattle.std.specs.List.{list_any, range_with_len}
 use Rattle.std.proofs.lemmas.List.{map-id}
 use Rattle.std.proofs.lemmas.List.FromFn.{map-range_with_len_more}
 use Rattle.std.proofs.lemmas.List.Folds.{list_any-append}
-use Rattle.wb_display.specs.Canvas.{line_at, line_len, is_line_point, is_on_line}
+use Rattle.wb_display.specs.Canvas.{line_at, is_line_point}
 use Rattle.wb_display.specs.Cells.{is_at, Overlays}
 use Rattle.wb_display.proofs.Overlaying.{drawn_over, agreeing}
 

@@ -1,6 +1,6 @@
 -- One thing drawn after another.
-use Rattle.std.proofs.Common.{◌≡◌, ℕ, zero, suc, ◌+◌, ◌*◌, ◌<◌, ◌≤◌, ◌≢◌, List, length, get_or, set, refl, ap, ◌∙◌, sym, subst, arith, ◌⊎◌, inl, inr, ⊎_elim, length-set, get_or-set_same, get_or-set_other}
-use Rattle.std.specs.Prelude.{Bool, true, false, cond, ◌&&◌, ◌||◌, nat_eq, nat_lt, nat_le}
+use Rattle.std.proofs.Common.{◌≡◌, ℕ, ◌+◌, ◌*◌, ◌<◌, ◌≤◌, ◌≢◌, List, length, get_or, set, refl, ap, ◌∙◌, sym, arith, ◌⊎◌, inl, inr, length-set, get_or-set_same, get_or-set_other}
+use Rattle.std.specs.Prelude.{Bool, true, false, cond, ◌&&◌, ◌||◌, nat_lt}
 use Rattle.std.proofs.lemmas.Bool.{cases_eq}
 use Rattle.std.proofs.lemmas.Bool.Decides.{nat_tests}
 use Rattle.std.proofs.lemmas.Nat.{same_from_place, mul-add-lt}
@@ -14,8 +14,10 @@ plotted w h px py g old lx ly len = record {
 } where
   room : py * (w + 1) + px < length old
   room = omega (arith, mul-add-lt py (w + 1) px h ly (omega arith), len)
+
   missed : (x y : ℕ) → place w x y ≢ place w px py → (nat_lt x w && is_at px py x y) ≡ false → get_or (set old (py * (w + 1) + px) g) (place w x y) 0 ≡ cond (nat_lt x w && is_at px py x y) g (get_or old (place w x y) 0)
   missed x y ne f = get_or-set_other old (place w px py) (place w x y) g 0 ne ∙ ap (λ (b : Bool). cond b g (get_or old (place w x y) 0)) (sym f)
+
   here : (x y : ℕ) → x ≤ w → y < h → (x ≡ px) ⊎ (x ≢ px) → (y ≡ py) ⊎ (y ≢ py) → get_or (set old (py * (w + 1) + px) g) (place w x y) 0 ≡ cond (nat_lt x w && is_at px py x y) g (get_or old (place w x y) 0)
   here x y hx hy (inr n) e = missed x y (λ s. n (same_from_place y x py px (w + 1) (omega arith) (omega arith) s).1) (grind (arith, nat_tests))
   here x y hx hy (inl d) (inr n) = missed x y (λ s. n (same_from_place y x py px (w + 1) (omega arith) (omega arith) s).0) (grind (arith, nat_tests))
@@ -67,6 +69,7 @@ agreeing w h a b g old new drawn same = record {
 } where
   here : (x : ℕ) → nat_lt x w ≡ true → x < w
   here x e = grind (arith, nat_tests)
+
   alike : (x y : ℕ) → y < h → (l : Bool) → (l ≡ true → x < w) → (l && a x y) ≡ (l && b x y)
   alike x y hy true in_row = same x y (in_row refl) hy
   alike x y hy false in_row = refl

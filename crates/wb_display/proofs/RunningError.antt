@@ -1,10 +1,10 @@
 -- A running error is the remainder of the division, step by step.
-use Rattle.std.proofs.Common.{◌≡◌, ℕ, zero, suc, ◌+◌, ◌-◌, ◌*◌, ◌/◌, ◌%◌, ◌<◌, ◌≤◌, refl, ap, ◌∙◌, sym, subst, arith}
+use Rattle.std.proofs.Common.{◌≡◌, ℕ, zero, suc, ◌+◌, ◌-◌, ◌*◌, ◌/◌, ◌%◌, ◌<◌, ◌≤◌, ap, ◌∙◌, sym, arith}
 use Rattle.std.specs.Prelude.{nat_le, cond, true, false}
 use Rattle.std.proofs.lemmas.Bool.Decides.{nat_tests}
 use Rattle.std.proofs.lemmas.Nat.{div-mul-add, mod-mul-add}
 use Rattle.std.proofs.Math.Nat.{div-add-mod}
-use Rattle.wb_display.specs.Canvas.{distance, toward, share, line_at}
+use Rattle.wb_display.specs.Canvas.{distance, toward, share}
 use Rattle.wb_display.specs.Walks.{error_at, IsWalk}
 use Rattle.wb_display.specs.declared.line_points.Walk.TheInside.{Inside}
 
@@ -35,16 +35,18 @@ start a b m reach = record {
 over : (n w e : ℕ) → e ≤ w → 0 < w → w ≤ n % w + e → ((n + e) / w ≡ n / w + 1) × ((n + e) % w ≡ n % w + e - w)
 over n w e le pos past =
     let same : n + e ≡ (n / w + 1) * w + (n % w + e - w) = omega (arith, div-add-mod n w) in
-    let low : n % w + e - w < w = omega arith in
-    (ap (λ (t : ℕ). t / w) same ∙ div-mul-add (n / w + 1) w (n % w + e - w) low,
-     ap (λ (t : ℕ). t % w) same ∙ mod-mul-add (n / w + 1) w (n % w + e - w) low)
+    let low : n % w + e - w < w = omega arith in (
+      ap (λ (t : ℕ). t / w) same ∙ div-mul-add (n / w + 1) w (n % w + e - w) low,
+      ap (λ (t : ℕ). t % w) same ∙ mod-mul-add (n / w + 1) w (n % w + e - w) low,
+    )
 
 -- a sum whose remainder stays below the divisor
 under : (n w e : ℕ) → n % w + e < w → ((n + e) / w ≡ n / w) × ((n + e) % w ≡ n % w + e)
 under n w e low =
-    let same : n + e ≡ (n / w) * w + (n % w + e) = omega (arith, div-add-mod n w) in
-    (ap (λ (t : ℕ). t / w) same ∙ div-mul-add (n / w) w (n % w + e) low,
-     ap (λ (t : ℕ). t % w) same ∙ mod-mul-add (n / w) w (n % w + e) low)
+    let same : n + e ≡ (n / w) * w + (n % w + e) = omega (arith, div-add-mod n w) in (
+      ap (λ (t : ℕ). t / w) same ∙ div-mul-add (n / w) w (n % w + e) low,
+      ap (λ (t : ℕ). t % w) same ∙ mod-mul-add (n / w) w (n % w + e) low,
+    )
 
 one_more : (k d m : ℕ) → 2 * (k + 1) * d + m ≡ (2 * k * d + m) + 2 * d
 one_more k d m = omega arith

@@ -1,18 +1,18 @@
 -- Drawops that enter a list in the order of display, or leave it.
-use Rattle.std.proofs.Common.{◌≡◌, ℕ, zero, suc, ◌+◌, ◌-◌, ◌<◌, ◌≤◌, List, [], ◌∷◌, length, get_or, refl, ap, ◌∙◌, sym, subst, arith, ◌⊎◌, inl, inr, ⊎_elim}
-use Rattle.std.specs.Prelude.{◌≢◌, Bool, true, false, Contains, insert, remove, ◌↔◌, Result, Ok, Err}
+use Rattle.std.proofs.Common.{◌≡◌, ℕ, ◌+◌, ◌-◌, ◌<◌, ◌≤◌, List, ◌∷◌, length, get_or, refl, ap, ◌∙◌, sym, arith, ◌⊎◌, inl, inr, ⊎_elim}
+use Rattle.std.specs.Prelude.{true, false, Contains, insert, remove, Result, Ok, Err}
 use Rattle.std.specs.declared.cmp.Ordering.{Ordering}
 use Rattle.std.specs.declared.cmp.Ordering.TheVariants.{Less, Equal, Greater}
-use Rattle.std.specs.List.{AllWithin, HoldsAt, IsDistinct}
-use Rattle.std.specs.List.Sorted.{IsStrictlySortedBy, IsSorted, IsPermutation, IsPartitionPoint, IsSearchInRange, IsBinarySearchResult}
-use Rattle.std.specs.Ordering.{is_lt, is_eq, eq_by_cmp, ordering_reverse}
+use Rattle.std.specs.List.{HoldsAt}
+use Rattle.std.specs.List.Sorted.{IsStrictlySortedBy, IsSorted, IsPartitionPoint, IsSearchInRange, IsBinarySearchResult}
+use Rattle.std.specs.Ordering.{is_lt, ordering_reverse}
 use Rattle.std.proofs.lemmas.Bool.{cases_lt}
 use Rattle.std.proofs.lemmas.Cmp.{tied_itself}
 use Rattle.std.proofs.lemmas.List.{get_or_default}
 use Rattle.std.proofs.lemmas.List.Edits.{length-insert, get_or-insert_below, get_or-insert_at, get_or-insert_above, length-remove, get_or-remove_below, get_or-remove_above}
 use Rattle.std.proofs.lemmas.List.Elements.{Contains-get_or}
 use Rattle.std.proofs.lemmas.List.Sorted.{IsPermutation-insert, IsPermutation-remove, IsPermutation-sym, Contains-permutation, searchable_from_sorted}
-use Rattle.std.proofs.lemmas.Map.Keys.{Less-from_sorted, sorted_from_all_adjacent, IsDistinct-from_sorted, IsDistinct-head, IsDistinct-IsPermutation}
+use Rattle.std.proofs.lemmas.Map.Keys.{Less-from_sorted, sorted_from_all_adjacent}
 use Rattle.wb_names.specs.Values.{DrawopValue}
 use Rattle.wb_names.specs.Orders.{display_cmp}
 use Rattle.wb_names.proofs.Listings.{Contains-here, Contains-there, Contains-cases}
@@ -62,13 +62,13 @@ module _ (xs : List DrawopValue) (up : IsStrictlySortedBy display_cmp xs) where
         ∙ after xs (k - 1) k d up (omega arith) h
     step k h (inr ge) (inr le') = ⊎_elim
         (λ (lt : k < i). let at : k + 1 ≡ i = omega arith in
-          ap (λ (x : DrawopValue). display_cmp x (get_or (insert xs i d) (k + 1) d)) (get_or-insert_below xs i d d k lt le)
-          ∙ ap (λ (x : DrawopValue). display_cmp (get_or xs k d) x) (ap (λ (j : ℕ). get_or (insert xs i d) j d) at ∙ get_or-insert_at xs i d d le)
-          ∙ place.0 k d (omega arith) lt)
+        ap (λ (x : DrawopValue). display_cmp x (get_or (insert xs i d) (k + 1) d)) (get_or-insert_below xs i d d k lt le)
+        ∙ ap (λ (x : DrawopValue). display_cmp (get_or xs k d) x) (ap (λ (j : ℕ). get_or (insert xs i d) j d) at ∙ get_or-insert_at xs i d d le)
+        ∙ place.0 k d (omega arith) lt)
         (λ (ge' : i ≤ k). let at : k ≡ i = omega arith in
-          ap (λ (x : DrawopValue). display_cmp x (get_or (insert xs i d) (k + 1) d)) (ap (λ (j : ℕ). get_or (insert xs i d) j d) at ∙ get_or-insert_at xs i d d le)
-          ∙ ap (λ (x : DrawopValue). display_cmp d x) (get_or-insert_above xs i d d k ge' le)
-          ∙ turned _ _ (display_total.antisymm (get_or xs k d) d) (place.1 k d ge' h))
+        ap (λ (x : DrawopValue). display_cmp x (get_or (insert xs i d) (k + 1) d)) (ap (λ (j : ℕ). get_or (insert xs i d) j d) at ∙ get_or-insert_at xs i d d le)
+        ∙ ap (λ (x : DrawopValue). display_cmp d x) (get_or-insert_above xs i d d k ge' le)
+        ∙ turned _ _ (display_total.antisymm (get_or xs k d) d) (place.1 k d ge' h))
         (cases_lt k i)
 
   -- one taken out
@@ -130,13 +130,13 @@ module _ (xs : List DrawopValue) (up : IsStrictlySortedBy display_cmp xs) where
         others = λ x ne. ((λ h. Contains-permutation (d ∷ remove xs i) xs x (IsPermutation-sym xs (d ∷ remove xs i) moved) (Contains-there d x (remove xs i) h)), (λ h. ⊎_elim (λ (e : d ≡ x). absurd (ne (sym e))) (λ (c : Contains (remove xs i) x). c) (Contains-cases d x (remove xs i) (Contains-permutation xs (d ∷ remove xs i) x moved h))));
         itself = ((λ h. absurd (gone h)), (λ e. cc));
       } where
-    gone : Contains (remove xs i) d → ⊥
-    gone (k, h, e) =
-        let n = length-remove xs i lt in
-        ⊎_elim
-        (λ (a : k < i). let r : Equal ≡ Less = sym (tied_itself display_total d) ∙ ap (λ (x : DrawopValue). display_cmp x d) (sym e ∙ get_or-remove_below xs i d k a lt) ∙ ap (λ (x : DrawopValue). display_cmp (get_or xs k d) x) (sym is) ∙ after xs k i d up a lt in cc)
-        (λ (a : i ≤ k). let r : Equal ≡ Less = sym (tied_itself display_total d) ∙ ap (λ (x : DrawopValue). display_cmp x d) (sym is) ∙ ap (λ (x : DrawopValue). display_cmp (get_or xs i d) x) (sym e ∙ get_or-remove_above xs i d k a lt) ∙ after xs i (k + 1) d up (omega arith) (omega arith) in cc)
-        (cases_lt k i)
+        gone : Contains (remove xs i) d → ⊥
+        gone (k, h, e) =
+            let n = length-remove xs i lt in
+            ⊎_elim
+            (λ (a : k < i). let r : Equal ≡ Less = sym (tied_itself display_total d) ∙ ap (λ (x : DrawopValue). display_cmp x d) (sym e ∙ get_or-remove_below xs i d k a lt) ∙ ap (λ (x : DrawopValue). display_cmp (get_or xs k d) x) (sym is) ∙ after xs k i d up a lt in cc)
+            (λ (a : i ≤ k). let r : Equal ≡ Less = sym (tied_itself display_total d) ∙ ap (λ (x : DrawopValue). display_cmp x d) (sym is) ∙ ap (λ (x : DrawopValue). display_cmp (get_or xs i d) x) (sym e ∙ get_or-remove_above xs i d k a lt) ∙ after xs i (k + 1) d up (omega arith) (omega arith) in cc)
+            (cases_lt k i)
 
 -- the member that ties with d is d
 pub tied_is : (xs : List DrawopValue) (d : DrawopValue) (i : ℕ) → i < length xs → HoldsAt (λ x. display_cmp x d ≡ Equal) xs i → TiesAlone xs d → get_or xs i d ≡ d

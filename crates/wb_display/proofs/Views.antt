@@ -1,5 +1,5 @@
 -- A view, picked from a list by the last words on it and sorted.
-use Rattle.std.proofs.Common.{◌≡◌, ℕ, ◌+◌, ◌<◌, List, [], ◌∷◌, ◌++◌, length, get_or, take, refl, ap, ◌∙◌, sym, subst, append-nil}
+use Rattle.std.proofs.Common.{◌≡◌, ℕ, ◌+◌, ◌<◌, List, [], ◌∷◌, ◌++◌, length, get_or, take, ap, ◌∙◌, sym, append-nil}
 use Rattle.std.specs.Prelude.{Bool, true, false, cond, filter}
 use Rattle.std.proofs.lemmas.List.Elements.{filter_more}
 use Rattle.wb_names.specs.Values.{DrawopValue}

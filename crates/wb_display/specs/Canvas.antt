@@ -1,5 +1,5 @@
 -- What a canvas shows: the glyph at each point, and the text of the whole. x runs right and y down, from 0.
-use Rattle.std.specs.Prelude.{◌≡◌, ℕ, ◌+◌, ◌-◌, ◌*◌, ◌/◌, Bool, true, false, ◌&&◌, ◌||◌, List, [], ◌∷◌, ◌++◌, length, map, max, min, nat_eq, nat_lt, nat_le, slice_index, if◌then◌else◌, find, reverse, Option, unwrap_or}
+use Rattle.std.specs.Prelude.{ℕ, ◌+◌, ◌-◌, ◌*◌, ◌/◌, Bool, false, ◌&&◌, ◌||◌, List, [], ◌∷◌, ◌++◌, length, map, max, min, nat_eq, nat_lt, nat_le, slice_index, if◌then◌else◌, find, reverse}
 use Rattle.std.specs.List.{list_any, range_with_len, flat_map}
 use Rattle.std.specs.Option.{option_map_or}
 use Rattle.wb_names.specs.Values.{DrawopValue}

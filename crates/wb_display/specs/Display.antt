@@ -1,5 +1,5 @@
 -- What a page shows.
-use Rattle.std.specs.Prelude.{◌≡◌, ℕ, Bool, true, false, not, ◌&&◌, IsTrue, List, Contains, IsPermutation, nat_eq}
+use Rattle.std.specs.Prelude.{ℕ, Bool, true, false, not, ◌&&◌, IsTrue, List, Contains, nat_eq}
 use Rattle.std.specs.List.{list_any}
 use Rattle.std.specs.Ordering.{is_lt}
 use Rattle.wb_names.specs.Values.{DrawopValue}
@@ -23,6 +23,13 @@ is_delete (Frame x0 y0 x1 y1 glyph) = false
 is_delete (Text x y text) = false
 is_delete (Delete source seq) = true
 is_delete (Restore source seq) = false
+
+abbrev pub is_restore : Op → Bool
+is_restore (Line x0 y0 x1 y1 glyph) = false
+is_restore (Frame x0 y0 x1 y1 glyph) = false
+is_restore (Text x y text) = false
+is_restore (Delete source seq) = false
+is_restore (Restore source seq) = true
 
 -- a delete or a restore of this number of this source
 abbrev pub has_target : Op → ℕ → ℕ → Bool

@@ -10,3 +10,4 @@ pub mod DisplayList
 pub mod Layer
 pub mod LayerFields
 pub mod TakingIn
+pub mod Laws

@@ -1,9 +1,8 @@
 -- What a layer keeps after a new drawop.
-use Rattle.std.specs.Prelude.{◌≡◌, Bool, true, false, All, List, [], ◌∷◌, ◌++◌}
+use Rattle.std.specs.Prelude.{◌≡◌, true, false, All, List, [], ◌∷◌, ◌++◌}
 use Rattle.wb_names.specs.Values.{DrawopValue}
 use Rattle.wb_names.specs.History.{IsHistory}
 use Rattle.wb_names.specs.Orders.{same_page}
-use Rattle.wb_names.specs.declared.name.PageId.{PageId}
 use Rattle.wb_display.specs.Display.{IsView}
 use Rattle.wb_display.specs.LastWord.{label_of}
 use Rattle.wb_display.specs.LastWords.{AreLastWords}

@@ -1,7 +1,6 @@
 -- The running error of a coordinate on its way along a line, against the division.
-use Rattle.std.specs.Prelude.{◌≡◌, ℕ, Bool, ◌+◌, ◌*◌, ◌%◌, ◌≤◌, nat_le}
+use Rattle.std.specs.Prelude.{◌≡◌, ℕ, ◌+◌, ◌*◌, ◌%◌, ◌≤◌}
 use Rattle.wb_display.specs.Canvas.{distance, line_at}
-use Rattle.wb_display.specs.Walking.{Progress}
 use Rattle.wb_display.specs.declared.line_points.Walk.TheInside.{Inside}
 
 -- the remainder of the division whose quotient is the share after k of m steps from a to b

@@ -71,6 +71,7 @@ impl Model for Canvas {
 
 impl Canvas {
     const MAX_WIDTH: u32 = 200;
+
     const MAX_HEIGHT: u32 = 100;
 
     fn is_size(width: u32, height: u32) -> bool

@@ -74,7 +74,13 @@ fn draw_text(cells: &mut [u8], size: Size, from: Point, text: &[u8])
     ensures { Overlays size.width size.height (is_on_text from.x from.y (length text.now)) (text_glyph from.x text.now) cells.old cells.new }
 {
     for (i, byte) in text.iter().enumerate() {
-        plot(cells, size, usize::from(from.x) + i, usize::from(from.y), *byte);
+        plot(
+            cells,
+            size,
+            usize::from(from.x) + i,
+            usize::from(from.y),
+            *byte,
+        );
     }
 }
 
@@ -106,14 +112,26 @@ pub(crate) fn draw(cells: &mut [u8], size: Size, op: &Op)
             x1,
             y1,
             glyph,
-        } => draw_line(cells, size, Point { x: x0, y: y0 }, Point { x: x1, y: y1 }, glyph),
+        } => draw_line(
+            cells,
+            size,
+            Point { x: x0, y: y0 },
+            Point { x: x1, y: y1 },
+            glyph,
+        ),
         Op::Frame {
             x0,
             y0,
             x1,
             y1,
             glyph,
-        } => draw_frame(cells, size, Point { x: x0, y: y0 }, Point { x: x1, y: y1 }, glyph),
+        } => draw_frame(
+            cells,
+            size,
+            Point { x: x0, y: y0 },
+            Point { x: x1, y: y1 },
+            glyph,
+        ),
         Op::Text { x, y, text } => draw_text(cells, size, Point { x, y }, text.as_slice()),
         Op::Delete { .. } | Op::Restore { .. } => {}
     }

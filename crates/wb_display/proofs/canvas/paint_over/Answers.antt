@@ -1,9 +1,7 @@
-use Rattle.std.proofs.Common.{◌≡◌, ◌∙◌, ap, sym, subst, take, rules, List}
-use Rattle.std.proofs.lemmas.List.{take_all, take_more}
+use Rattle.std.proofs.Common.{◌∙◌, ap, List}
+use Rattle.std.proofs.lemmas.List.{take_all}
 use Rattle.wb_names.specs.Values.{DrawopValue}
-use Rattle.wb_names.specs.declared.drawop.Op.{Op}
-use Rattle.wb_display.specs.Canvas.{covers, glyph_of, canvas_text}
-use Rattle.wb_display.specs.Cells.{Shows}
+use Rattle.wb_display.specs.Canvas.{canvas_text}
 use Rattle.wb_display.proofs.CanvasRows.{shown_text, shows_next}
 use Rattle.wb_display.proofs.canvas.paint_over.Goals as goal
 

@@ -1,10 +1,8 @@
-use Rattle.std.proofs.Common.{◌≡◌, ◌∙◌, ◌++◌, ◌∷◌, [], ap, sym, subst, List}
-use Rattle.std.specs.Prelude.{Option, Some, None, OnOk}
+use Rattle.std.proofs.Common.{◌∙◌, ap, sym, subst, List}
 use Rattle.std.specs.Map.{lookup}
 use Rattle.indexmap.specs.IndexMap.{insert_entry}
 use Rattle.wb_names.specs.Values.{DrawopValue}
-use Rattle.wb_display.specs.LastWord.{same_label, label_of, stake_label}
-use Rattle.wb_display.specs.LastWords.{AreLastWords}
+use Rattle.wb_display.specs.LastWord.{same_label, stake_label}
 use Rattle.wb_display.specs.TakingIn.{AreKept}
 use Rattle.wb_display.specs.declared.last_words.Label.{Label}
 use Rattle.wb_display.proofs.Layers.{on_ok, entries_with, took_in, took_in_alone}

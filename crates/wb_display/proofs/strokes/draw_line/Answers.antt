@@ -1,4 +1,4 @@
-use Rattle.std.proofs.Common.{◌≡◌, ◌∙◌, ◌+◌, ap}
+use Rattle.std.proofs.Common.{◌∙◌, ◌+◌, ap}
 use Rattle.wb_display.specs.Canvas.{line_at}
 use Rattle.wb_display.specs.Walking.{Progress}
 use Rattle.wb_display.proofs.LineSteps.{line_first, line_more}

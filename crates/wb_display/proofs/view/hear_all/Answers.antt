@@ -1,4 +1,4 @@
-use Rattle.std.proofs.Common.{◌≡◌, ◌∙◌, ◌++◌, ◌∷◌, ap, sym, subst, take, List, []}
+use Rattle.std.proofs.Common.{◌∙◌, ◌++◌, ◌∷◌, ap, sym, subst, take, List, []}
 use Rattle.std.proofs.lemmas.List.{take_all, take_more}
 use Rattle.wb_names.specs.Values.{DrawopValue}
 use Rattle.wb_display.specs.LastWords.{AreLastWords}

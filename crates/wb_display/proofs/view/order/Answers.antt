@@ -1,5 +1,5 @@
-use Rattle.std.proofs.Common.{◌≡◌, ◌∙◌, ap, sym, rules, List}
-use Rattle.std.specs.Prelude.{Bool, filter, IsPermutation}
+use Rattle.std.proofs.Common.{◌∙◌, ap, sym, rules, List}
+use Rattle.std.specs.Prelude.{Bool, filter}
 use Rattle.std.specs.Ordering.{is_lt}
 use Rattle.std.proofs.lemmas.List.{take_all}
 use Rattle.std.proofs.lemmas.List.Sorted.{answers_always, ranks_by}

@@ -1,9 +1,7 @@
-use Rattle.std.proofs.Common.{◌∙◌, ap, sym, arith}
-use Rattle.std.specs.Prelude.{Option, Some, cond}
-use Rattle.wb_names.specs.declared.drawop.Op.{Op}
-use Rattle.wb_display.specs.LastWord.{target_label, same_label, later_word, word_of}
+use Rattle.std.proofs.Common.{◌∙◌, ap, sym}
+use Rattle.std.specs.Prelude.{Some, cond}
+use Rattle.wb_display.specs.LastWord.{target_label, same_label, later_word}
 use Rattle.wb_display.specs.LastWords.{word_on}
-use Rattle.wb_display.specs.declared.last_words.Label.{Label}
 use Rattle.wb_display.specs.declared.last_words.LastWord.{LastWord}
 use Rattle.wb_display.proofs.Hearing.{hear_nothing, hear_word}
 use Rattle.wb_display.proofs.last_words.LastWords.hear.Goals as goal

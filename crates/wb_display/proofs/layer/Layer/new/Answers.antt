@@ -1,4 +1,4 @@
-use Rattle.std.proofs.Common.{◌≡◌, arith}
+use Rattle.std.proofs.Common.{arith}
 use Rattle.wb_display.proofs.Layers.{nothing_shown}
 use Rattle.wb_display.proofs.layer.Layer.new.Goals as goal
 

@@ -1,8 +1,5 @@
-use Rattle.std.proofs.Common.{◌≡◌, ◌∙◌, ap, sym, subst}
-use Rattle.wb_names.specs.declared.name.PageId.{PageId}
-use Rattle.wb_display.specs.Layer.{LayerValue, is_news, held_with}
-use Rattle.wb_display.specs.LayerFields.{held_of}
-use Rattle.wb_display.proofs.Layers.{kept_with_room, news_parts, put_news}
+use Rattle.std.proofs.Common.{◌∙◌, sym}
+use Rattle.wb_display.proofs.Layers.{put_news}
 use Rattle.wb_display.proofs.layer.Layer.put.Goals as goal
 
 pub invariant_of-self-2 : goal.invariant_of-self-2

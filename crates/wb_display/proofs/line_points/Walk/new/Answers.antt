@@ -1,4 +1,3 @@
-use Rattle.std.proofs.Common.{◌≡◌, rules, ap}
 use Rattle.wb_display.proofs.RunningError.{start}
 use Rattle.wb_display.proofs.line_points.Walk.new.Goals as goal
 

@@ -1,4 +1,4 @@
-use Rattle.std.proofs.Common.{◌∙◌, ap, rules, ◌<◌, arith}
+use Rattle.std.proofs.Common.{◌∙◌, rules}
 use Rattle.wb_display.proofs.RunningError.{step_up, step_down, step_along}
 use Rattle.wb_display.proofs.line_points.Walk.step.Goals as goal
 
