@@ -1,0 +1,5 @@
+use Rattle.wb_display.proofs.OlderRule.{older_rule}
+use Rattle.wb_display.proofs.laws.older_rule.Goals as goal
+
+pub returns : goal.returns
+returns c = older_rule

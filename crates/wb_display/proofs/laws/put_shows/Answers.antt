@@ -1,0 +1,5 @@
+use Rattle.wb_display.proofs.PutLaws.{put_shows}
+use Rattle.wb_display.proofs.laws.put_shows.Goals as goal
+
+pub returns : goal.returns
+returns c = put_shows

@@ -1,0 +1,40 @@
+//! Laws of what a page shows. Each function does nothing: its contract is a law, for proofs to cite.
+
+ghost use Rattle.wb_display.specs.Laws.{Converges, PaintsAlike, AgreesWithOlderRule, PutsShow, StandsAlone, HoldsItsPage, HoldsAHistory};
+
+/// Histories that hold the same drawops, in any order, show the same list on every page.
+pub fn order_is_free()
+    ensures { Converges }
+{}
+
+/// Histories that hold the same drawops, in any order, paint the same canvas of every page and size.
+pub fn canvas_is_free()
+    ensures { PaintsAlike }
+{}
+
+/// Where nothing is restored, what is shown is what the older rule showed, by which a drawop is
+/// hidden where some delete names it.
+pub fn older_rule()
+    ensures { AgreesWithOlderRule }
+{}
+
+/// What one more drawop changes of what a page shows: a drawing enters unless it is hidden, a delete
+/// takes its target out and a restore brings it back, where nothing later was said of that.
+pub fn put_shows()
+    ensures { PutsShow }
+{}
+
+/// The drawops of other pages change nothing of what a page shows.
+pub fn page_stands_alone()
+    ensures { StandsAlone }
+{}
+
+/// A layer that was given a history holds what the history has of its page, in the same order.
+pub fn layer_holds_its_page()
+    ensures { HoldsItsPage }
+{}
+
+/// Whatever is put on a layer, it holds no name twice.
+pub fn layer_holds_a_history()
+    ensures { HoldsAHistory }
+{}

@@ -1,0 +1,114 @@
+//! What layers show, while drawops come one by one.
+
+use super::{in_order, is_history, line, make_samples, name, page, text};
+use crate::{Layer, order};
+use std::alloc::{AllocError, Global};
+use std::test::Fail;
+use wb_names::{Drawop, Name, Shape};
+
+/// Page 7/1, after these were put on it in turn.
+fn layer_of(alloc: Global, list: &[Drawop]) -> Result<Layer, AllocError> {
+    let mut layer = Layer::new(alloc, page(1));
+    for drawop in list {
+        layer.put(drawop)?;
+    }
+    Ok(layer)
+}
+
+#[test]
+fn a_delete_waits_for_its_target(rt: HostRuntime) -> Result<(), Fail> {
+    let s = make_samples()?;
+    let other = line(name(7, 2, 1)?, 1, (0, 0), (2, 1), b'a')?;
+    let mut layer = Layer::new(rt.alloc(), page(1));
+    for drawop in [s.c, s.a, s.d] {
+        layer.put(&drawop)?;
+    }
+    assert!(rt; layer.shown() == [s.d].as_slice());
+    layer.put(&s.e)?;
+    assert!(rt; layer.shown() == [s.d, s.e].as_slice());
+    for drawop in [s.f, other, s.b] {
+        layer.put(&drawop)?;
+    }
+    assert!(rt; layer.shown() == [s.d, s.e].as_slice());
+    Ok(())
+}
+
+#[test]
+fn the_first_put_of_a_name_stands(rt: HostRuntime) -> Result<(), Fail> {
+    let s = make_samples()?;
+    let mut layer = Layer::new(rt.alloc(), page(1));
+    for drawop in [s.a, s.b] {
+        layer.put(&drawop)?;
+        assert!(rt; layer.shown() == [s.a].as_slice());
+    }
+    for drawop in [s.c, s.a, s.b] {
+        layer.put(&drawop)?;
+        assert!(rt; layer.shown().is_empty());
+    }
+    layer.put(&s.x)?;
+    assert!(rt; layer.shown() == [s.a].as_slice());
+    layer.put(&s.y)?;
+    assert!(rt; layer.shown().is_empty());
+    Ok(())
+}
+
+#[test]
+fn all_orders_of_four_end_alike(rt: HostRuntime) -> Result<(), Fail> {
+    let s = make_samples()?;
+    for number in 0..24 {
+        let layer = layer_of(rt.alloc(), &in_order([s.a, s.c, s.x, s.y], number))?;
+        assert!(rt; layer.shown().is_empty(), "order {number}");
+    }
+    Ok(())
+}
+
+/// A number that looks like chance, from the one before.
+fn scrambled(number: u64) -> u64 {
+    let mixed = (number ^ (number >> 33)).wrapping_mul(0xff51afd7ed558ccd);
+    mixed ^ (mixed >> 33)
+}
+
+/// Of two sources, four pages' worth of names, times that often tie, and every third one a delete
+/// or a restore.
+fn chance(number: u32) -> Result<Drawop, Fail> {
+    let word = scrambled(u64::from(number) + 1);
+    let own = Name::new(number % 3, page(1 + (word % 2) as u32), 1 + number / 3)?;
+    let source = (word >> 8 & 0xffff) as u32 % 3;
+    let seq = 1 + (word >> 16 & 0xffff) as u32 % 400;
+    let shape = match word >> 40 & 3 {
+        0 => Shape::Delete { source, seq },
+        1 => Shape::Restore { source, seq },
+        _ => Shape::Text {
+            x: 0,
+            y: 0,
+            bytes: b"x",
+        },
+    };
+    let time = word >> 50 & 15;
+    match Drawop::new(own, time, shape) {
+        Ok(drawop) => Ok(drawop),
+        Err(_) => Ok(text(own, time, (1, 1), b"y")?),
+    }
+}
+
+#[test]
+fn order_and_layer_agree(rt: HostRuntime) -> Result<(), Fail> {
+    let mut list = Vec::new(rt.alloc());
+    for number in 0..1200 {
+        list.push(chance(number)?)?;
+    }
+    list.as_mut_slice()
+        .sort_unstable_by_key(|drawop| scrambled(u64::from(drawop.name().seq())));
+    assert!(rt; is_history(&list));
+    for number in [1, 2, 3] {
+        let mut layer = Layer::new(rt.alloc(), page(number));
+        for drawop in &list {
+            layer.put(drawop)?;
+            layer.put(drawop)?;
+        }
+        let shown = order(rt.alloc(), &list, page(number))?;
+        assert!(rt; layer.shown() == shown.as_slice());
+        assert_eq!(rt; shown.is_empty(), number == 3);
+    }
+    Ok(())
+}

@@ -1,0 +1,80 @@
+//! What pages show, by `order`.
+
+use super::{delete, drawn, in_order, is_history, make_samples, name, page};
+use crate::order;
+use std::test::Fail;
+
+#[test]
+fn deletes_hide_and_ties_go_by_source(rt: HostRuntime) -> Result<(), Fail> {
+    let s = make_samples()?;
+    let stars = b"_____/*****/_____/";
+    let none = b"_____/_____/_____/";
+    let both = b"_____/_acd_/_____/";
+    for (list, want) in [
+        (&[s.a][..], stars),
+        (&[s.c, s.a][..], none),
+        (&[s.a, s.g][..], stars),
+        (&[s.a, s.g, s.c, s.f][..], none),
+        (&[s.d, s.e][..], both),
+        (&[s.e, s.d][..], both),
+    ] {
+        assert_eq!(rt;
+            drawn(rt.alloc(), list, 1, (5, 3))?.as_slice(),
+            want.as_slice()
+        );
+    }
+    assert_eq!(rt;
+        drawn(rt.alloc(), &[s.a, s.d], 2, (2, 1))?.as_slice(),
+        b"__/".as_slice()
+    );
+    Ok(())
+}
+
+#[test]
+fn order_gives_drawops_by_time_then_source(rt: HostRuntime) -> Result<(), Fail> {
+    let s = make_samples()?;
+    let list = [s.e, s.d];
+    assert!(rt; is_history(&list));
+    let shown = order(rt.alloc(), &list, page(1))?;
+    assert!(rt; shown.as_slice() == [s.d, s.e].as_slice());
+    Ok(())
+}
+
+#[test]
+fn the_latest_word_decides(rt: HostRuntime) -> Result<(), Fail> {
+    let s = make_samples()?;
+    let earlier = delete(name(8, 1, 3)?, 6, 7, 1)?;
+    let same = delete(name(8, 1, 5)?, 6, 7, 1)?;
+    let stars = b"_____/*****/_____/";
+    let none = b"_____/_____/_____/";
+    for (list, want) in [
+        (&[s.c, s.a, s.x][..], stars),
+        (&[s.x, s.c, s.a][..], stars),
+        (&[s.x, s.a, s.y][..], none),
+        (&[s.y, s.x, s.a][..], none),
+        (&[s.a, s.x, earlier][..], stars),
+        (&[earlier, s.x, s.a][..], stars),
+        (&[s.a, s.x, same][..], none),
+        (&[same, s.a, s.x][..], none),
+    ] {
+        assert_eq!(rt;
+            drawn(rt.alloc(), list, 1, (5, 3))?.as_slice(),
+            want.as_slice()
+        );
+    }
+    Ok(())
+}
+
+#[test]
+fn all_orders_of_four_end_alike(rt: HostRuntime) -> Result<(), Fail> {
+    let s = make_samples()?;
+    for number in 0..24 {
+        let list = in_order([s.a, s.c, s.x, s.y], number);
+        assert_eq!(rt;
+            drawn(rt.alloc(), &list, 1, (5, 3))?.as_slice(),
+            b"_____/_____/_____/".as_slice(),
+            "order {number}"
+        );
+    }
+    Ok(())
+}
