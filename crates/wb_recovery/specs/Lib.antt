@@ -1,0 +1,4 @@
+pub mod Faults
+pub mod Timing
+pub mod Distance
+pub mod Events
