@@ -1,1 +1,4 @@
 pub mod Bounds
+pub mod AlarmOrder
+pub mod AlarmMoves
+pub mod AlarmReads

@@ -1,4 +1,5 @@
 pub mod Faults
 pub mod Timing
+pub mod Alarms
 pub mod Distance
 pub mod Events

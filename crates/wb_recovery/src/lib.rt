@@ -15,6 +15,7 @@
 #![tactic(auto)]
 
 mod action;
+mod alarms;
 
 mod draw;
 mod fault;

@@ -1,0 +1,46 @@
+-- Alarms: for each name with a timer, the moment at which it is due, in order of the moments.
+use Rattle.std.specs.Prelude.{◌≡◌, ℕ, ◌≤◌, Bool, true, false, not, ◌&&◌, List, Option, Some, None, nat_eq, nat_le, if◌then◌else◌}
+use Rattle.std.specs.BTreeSet.{contains}
+use Rattle.std.specs.Ordering.{nat_cmp, ordering_then}
+use Rattle.std.specs.declared.cmp.Ordering.{Ordering}
+use Rattle.wb_names.specs.Values.{NameValue}
+use Rattle.wb_names.specs.Orders.{same_name, name_cmp}
+use Rattle.wb_recovery.specs.declared.alarms.Alarm.{Alarm}
+use Rattle.wb_recovery.specs.declared.alarms.Alarms.{Alarms}
+
+-- by moment, then by name
+abbrev pub alarm_cmp : Alarm → Alarm → Ordering
+alarm_cmp a b = ordering_then (nat_cmp a.due b.due) (name_cmp a.name b.name)
+
+abbrev pub alarm : ℕ → NameValue → Alarm
+alarm d n = record { due = d; name = n }
+
+abbrev pub has_alarm : Alarms → ℕ → NameValue → Bool
+has_alarm alarms d n = contains alarm_cmp alarms.set (alarm d n)
+
+-- a timer that is due at this very moment
+abbrev pub is_set_to : ℕ → Option ℕ → Bool
+is_set_to d None = false
+is_set_to d (Some e) = nat_eq e d
+
+-- a timer that is due by this moment
+abbrev pub is_until : ℕ → Option ℕ → Bool
+is_until now None = false
+is_until now (Some e) = nat_le e now
+
+-- there is an alarm for each timer, at its moment, and no other
+pub record Keep (dues : NameValue → Option ℕ) (alarms : Alarms) : Type 0 where
+  pub each : (d : ℕ) (n : NameValue) → has_alarm alarms d n ≡ is_set_to d (dues n)
+
+-- the moments with that of one name changed
+abbrev pub with_due : (NameValue → Option ℕ) → NameValue → Option ℕ → NameValue → Option ℕ
+with_due dues name due n = if same_name name n then due else dues n
+
+-- the moments without those that have come
+abbrev pub later : (NameValue → Option ℕ) → ℕ → NameValue → Option ℕ
+later dues now n = if is_until now (dues n) then None else dues n
+
+-- the least of all moments, or None where there is none
+abbrev pub IsFirst : (NameValue → Option ℕ) → Option ℕ → Type 0
+IsFirst dues None = (n : NameValue) → dues n ≡ None
+IsFirst dues (Some d) = (n : NameValue) × (dues n ≡ Some d) × ((m : NameValue) (e : ℕ) → dues m ≡ Some e → d ≤ e)
