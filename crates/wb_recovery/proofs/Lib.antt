@@ -2,3 +2,4 @@ pub mod Bounds
 pub mod AlarmOrder
 pub mod AlarmMoves
 pub mod AlarmReads
+pub mod AlarmNames

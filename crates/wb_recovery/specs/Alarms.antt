@@ -1,10 +1,11 @@
 -- Alarms: for each name with a timer, the moment at which it is due, in order of the moments.
-use Rattle.std.specs.Prelude.{◌≡◌, ℕ, ◌≤◌, Bool, true, false, not, ◌&&◌, List, Option, Some, None, nat_eq, nat_le, if◌then◌else◌}
+use Rattle.std.specs.Prelude.{◌≡◌, ℕ, ◌≤◌, Bool, true, false, not, ◌&&◌, List, Option, Some, None, nat_eq, nat_le, is_some, length, if◌then◌else◌}
 use Rattle.std.specs.BTreeSet.{contains}
 use Rattle.std.specs.Ordering.{nat_cmp, ordering_then}
 use Rattle.std.specs.declared.cmp.Ordering.{Ordering}
 use Rattle.wb_names.specs.Values.{NameValue}
 use Rattle.wb_names.specs.Orders.{same_name, name_cmp}
+use Rattle.wb_names.specs.Listing.{Lists}
 use Rattle.wb_recovery.specs.declared.alarms.Alarm.{Alarm}
 use Rattle.wb_recovery.specs.declared.alarms.Alarms.{Alarms}
 
@@ -23,10 +24,14 @@ abbrev pub is_set_to : ℕ → Option ℕ → Bool
 is_set_to d None = false
 is_set_to d (Some e) = nat_eq e d
 
+-- a timer whose moment passes a test
+abbrev pub is_due_where : (ℕ → Bool) → Option ℕ → Bool
+is_due_where test None = false
+is_due_where test (Some e) = test e
+
 -- a timer that is due by this moment
 abbrev pub is_until : ℕ → Option ℕ → Bool
-is_until now None = false
-is_until now (Some e) = nat_le e now
+is_until now = is_due_where (λ e. nat_le e now)
 
 -- there is an alarm for each timer, at its moment, and no other
 pub record Keep (dues : NameValue → Option ℕ) (alarms : Alarms) : Type 0 where
@@ -39,6 +44,13 @@ with_due dues name due n = if same_name name n then due else dues n
 -- the moments without those that have come
 abbrev pub later : (NameValue → Option ℕ) → ℕ → NameValue → Option ℕ
 later dues now n = if is_until now (dues n) then None else dues n
+
+-- how many timers there are, and how many are due by this moment
+abbrev pub CountsAll : (NameValue → Option ℕ) → ℕ → Type 0
+CountsAll dues k = (names : List NameValue) → Lists name_cmp (λ n. is_some (dues n) ≡ true) names → k ≡ length names
+
+abbrev pub CountsUntil : ℕ → (NameValue → Option ℕ) → ℕ → Type 0
+CountsUntil now dues k = (names : List NameValue) → Lists name_cmp (λ n. is_until now (dues n) ≡ true) names → k ≡ length names
 
 -- the least of all moments, or None where there is none
 abbrev pub IsFirst : (NameValue → Option ℕ) → Option ℕ → Type 0

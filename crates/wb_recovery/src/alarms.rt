@@ -1,7 +1,10 @@
-ghost use Rattle.std.specs.Prelude.{◌≡◌, ℕ, Option, OnOk, OnErr};
+ghost use Rattle.std.specs.Prelude.{◌≡◌, ℕ, Option, true, map, take_while, nat_le, length, IfOk, OnOk, OnErr};
 ghost use Rattle.std.specs.Prelude.{Some as some, None as none};
+ghost use Rattle.std.specs.BTreeSet.{IsOrdered};
 ghost use Rattle.wb_names.specs.Values.{NameValue};
-ghost use Rattle.wb_recovery.specs.Alarms.{Keep, with_due, later, IsFirst};
+ghost use Rattle.wb_names.specs.Orders.{name_cmp};
+ghost use Rattle.wb_names.specs.Listing.{Lists};
+ghost use Rattle.wb_recovery.specs.Alarms.{alarm_cmp, Keep, is_until, with_due, later, CountsAll, CountsUntil, IsFirst};
 
 use std::alloc::{AllocError, Global};
 use std::collections::BTreeSet;
@@ -36,6 +39,47 @@ impl Alarms {
     {
         let alarm = self.set.first()?;
         Some(alarm.due)
+    }
+
+    /// How many timers there are: a number that the set keeps.
+    pub(crate) fn len(&self) -> usize
+        ensures { (dues : NameValue → Option ℕ) → Keep dues self.now → CountsAll dues result }
+    {
+        self.set.len()
+    }
+
+    /// How many timers are due by this moment. It looks at these alone, and at the next one.
+    pub(crate) fn count_until(&self, now: u64) -> usize
+        ensures { (dues : NameValue → Option ℕ) → Keep dues self.now → CountsUntil now dues result }
+    {
+        self.due_len(now)
+    }
+
+    /// How many alarms come first that are due.
+    fn due_len(&self, now: u64) -> usize
+        ensures len { result ≡ length (take_while (λ a. nat_le a.due now) self.now.set.keys) }
+        ensures ordered { IsOrdered alarm_cmp self.now.set }
+    {
+        self.set.iter().take_while(|alarm| alarm.due <= now).count()
+    }
+
+    /// The names whose timers are due by this moment, ascending. It looks at these alone, and at the
+    /// next one.
+    pub(crate) fn names_until(&self, alloc: Global, now: u64) -> Result<Vec<Name>, AllocError>
+        ensures { (dues : NameValue → Option ℕ) → Keep dues self.now → IfOk result (λ v. Lists name_cmp (λ n. is_until now (dues n) ≡ true) v.items) }
+    {
+        let mut names = self.due_names(alloc, now)?;
+        names.sort_unstable();
+        Ok(names)
+    }
+
+    /// The same, in the order of the alarms.
+    fn due_names(&self, alloc: Global, now: u64) -> Result<Vec<Name>, AllocError>
+        ensures ordered { IsOrdered alarm_cmp self.now.set }
+        ensures names { IfOk result (λ v. v.items ≡ map (λ a. a.name) (take_while (λ a. nat_le a.due now) self.now.set.keys)) }
+    {
+        let due = self.set.iter().take_while(|alarm| alarm.due <= now);
+        due.map(|alarm| alarm.name).collect(alloc)
     }
 
     /// Moves the alarm of a name.
