@@ -3,3 +3,4 @@ pub mod AlarmOrder
 pub mod AlarmMoves
 pub mod AlarmReads
 pub mod AlarmNames
+pub mod Soundness

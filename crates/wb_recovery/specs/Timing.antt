@@ -35,6 +35,9 @@ new_answer t now delay word = record { due = draw now 0 t.d1 t.d2 delay word; de
 abbrev pub no_timers : Timers
 no_timers = record { ask = None; answer = None; quiet = 0 }
 
+abbrev pub is_standing : Timers → Bool
+is_standing s = is_some s.ask || is_some s.answer
+
 abbrev pub is_ask_due : ℕ → Option AskTimer → Bool
 is_ask_due now None = false
 is_ask_due now (Some ask) = nat_le ask.due now
@@ -75,7 +78,7 @@ asked t true now delay word s = if is_none s.answer && nat_le s.quiet now then r
 
 -- The name has come: its timers end, and if one stood the name is quiet for three delays.
 abbrev pub got : ℕ → ℕ → Timers → Timers
-got now delay s = if is_some s.ask || is_some s.answer then record { ask = None; answer = None; quiet = now + 3 * delay } else s
+got now delay s = if is_standing s then record { ask = None; answer = None; quiet = now + 3 * delay } else s
 
 -- Time goes on: what is due fires. The word is that of this name's request.
 abbrev pub ticked : Tuning → ℕ → ℕ → Timers → Timers
@@ -84,6 +87,15 @@ ticked t now word s = record {
   answer = fired_answer now s.answer;
   quiet = quiet_after now s.quiet s.answer;
 }
+
+-- the timers with another request timer, or with another answer timer, where there is one
+abbrev pub with_ask : Timers → Option AskTimer → Timers
+with_ask s None = s
+with_ask s (Some ask) = record s { ask = Some ask }
+
+abbrev pub with_answer : Timers → Option AnswerTimer → Timers
+with_answer s None = s
+with_answer s (Some answer) = record s { answer = Some answer }
 
 -- the timers' delays are below 2^24 microseconds
 abbrev pub AreDelays : Timers → Type 0

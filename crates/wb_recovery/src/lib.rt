@@ -19,6 +19,8 @@ mod alarms;
 
 mod draw;
 mod fault;
+mod records;
+mod recovery;
 mod round_trip;
 mod timers;
 mod tuning;
@@ -26,6 +28,7 @@ mod tuning;
 pub use action::Action;
 
 pub use fault::{RecoveryFault, TuningFault};
+pub use recovery::Recovery;
 pub use round_trip::distance;
 pub use timers::{AnswerTimer, AskTimer};
 pub use tuning::Tuning;

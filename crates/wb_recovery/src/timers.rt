@@ -1,5 +1,6 @@
-ghost use Rattle.std.specs.Prelude.{◌≡◌, ◌+◌, ◌^◌, ◌<◌, ◌≤◌, false, true, IsTrue};
-ghost use Rattle.wb_recovery.specs.Timing.{are_constants, backed_off, noticed, asked, got, fired_ask, fired_answer, quiet_after, AreDelays};
+ghost use Rattle.std.specs.Prelude.{◌≡◌, ◌^◌, ◌<◌, false, true, IsTrue, IfSome};
+ghost use Rattle.wb_recovery.specs.Timing.{are_constants, backed_off, noticed, asked, fired_ask, fired_answer, quiet_after, with_ask, with_answer, is_standing, AreDelays};
+ghost use Rattle.wb_recovery.specs.Sound.{ask_due, answer_due};
 
 use crate::draw::draw;
 use crate::tuning::Tuning;
@@ -65,117 +66,105 @@ impl Timers {
         quiet: 0,
     };
 
-    /// The name is missed: sets a request timer, where none stands.
-    pub(crate) fn noticed(self, tuning: Tuning, now: u64, delay: u64, word: u64) -> Timers
+    /// The name is missed: the request timer to set, where none stands.
+    pub(crate) fn noticed(&self, tuning: Tuning, now: u64, delay: u64, word: u64) -> Option<AskTimer>
         requires tuning { IsTrue (are_constants tuning) }
         requires moment { now < 2 ^ 48 }
         requires delay { delay < 2 ^ 24 }
-        requires delays { AreDelays self }
-        ensures timers { result ≡ noticed tuning now delay word self }
-        ensures delays { AreDelays result }
+        ensures timers { with_ask self.now result ≡ noticed tuning now delay word self.now }
+        ensures delay { IfSome result (λ ask. ask.delay < 2 ^ 24) }
     {
         if self.ask.is_some() {
-            return self;
+            return None;
         }
         let due = draw(now, 0, tuning.c1, tuning.c2, delay, word);
-        let ask = AskTimer {
+        Some(AskTimer {
             level: 0,
             due,
             deaf: 0,
             delay,
-        };
-        Timers {
-            ask: Some(ask),
-            ..self
-        }
+        })
     }
 
-    /// Another member asks for the name, which is not held: backs the request timer off, where one
+    /// Another member asks for the name, which is not held: the request timer backed off, where one
     /// stands that is not deaf.
-    pub(crate) fn overheard(self, tuning: Tuning, now: u64, delay: u64, word: u64) -> Timers
+    pub(crate) fn overheard(&self, tuning: Tuning, now: u64, delay: u64, word: u64) -> Option<AskTimer>
         requires tuning { IsTrue (are_constants tuning) }
         requires moment { now < 2 ^ 48 }
         requires delay { delay < 2 ^ 24 }
-        requires delays { AreDelays self }
-        ensures timers { result ≡ asked tuning false now delay word self }
-        ensures delays { AreDelays result }
+        ensures timers { with_ask self.now result ≡ asked tuning false now delay word self.now }
+        ensures delay { IfSome result (λ ask. ask.delay < 2 ^ 24) }
     {
         match self.ask {
-            Some(ask) if ask.deaf <= now => Timers {
-                ask: Some(ask.backed_off(tuning, now, delay, word)),
-                ..self
-            },
-            _ => self,
+            Some(ask) if ask.deaf <= now => Some(ask.backed_off(tuning, now, delay, word)),
+            _ => None,
         }
     }
 
-    /// Another member asks for the name, which is held: sets an answer timer, where none stands and
-    /// the name is not quiet.
-    pub(crate) fn asked_for(self, tuning: Tuning, now: u64, delay: u64, word: u64) -> Timers
+    /// Another member asks for the name, which is held: the answer timer to set, where none stands
+    /// and the name is not quiet.
+    pub(crate) fn asked_for(&self, tuning: Tuning, now: u64, delay: u64, word: u64) -> Option<AnswerTimer>
         requires tuning { IsTrue (are_constants tuning) }
         requires moment { now < 2 ^ 48 }
         requires delay { delay < 2 ^ 24 }
-        requires delays { AreDelays self }
-        ensures timers { result ≡ asked tuning true now delay word self }
-        ensures delays { AreDelays result }
+        ensures timers { with_answer self.now result ≡ asked tuning true now delay word self.now }
+        ensures delay { IfSome result (λ answer. answer.delay < 2 ^ 24) }
     {
         if self.answer.is_some() || now < self.quiet {
-            return self;
+            return None;
         }
         let due = draw(now, 0, tuning.d1, tuning.d2, delay, word);
-        Timers {
-            answer: Some(AnswerTimer { due, delay }),
-            ..self
-        }
+        Some(AnswerTimer { due, delay })
     }
 
-    /// The name has come: ends its timers, and where one stood, leaves it quiet.
-    pub(crate) fn ended(self, now: u64, delay: u64) -> Timers
-        requires moment { now < 2 ^ 48 }
-        requires delay { delay < 2 ^ 24 }
-        ensures timers { result ≡ got now delay self }
+    /// The moment at which the request timer is due.
+    #[inline(always)]
+    pub(crate) fn ask_due(&self) -> Option<u64>
+        ensures { result ≡ ask_due self.now }
     {
-        if self.ask.is_none() && self.answer.is_none() {
-            return self;
-        }
-        Timers {
-            ask: None,
-            answer: None,
-            quiet: now + 3 * delay,
-        }
+        self.ask.map(|ask| ask.due)
     }
 
-    /// Its request timer fires, where one is due, and backs off with its own delay.
-    pub(crate) fn fired_ask(self, tuning: Tuning, now: u64, word: u64) -> Timers
+    /// The moment at which the answer timer is due.
+    #[inline(always)]
+    pub(crate) fn answer_due(&self) -> Option<u64>
+        ensures { result ≡ answer_due self.now }
+    {
+        self.answer.map(|answer| answer.due)
+    }
+
+    /// Whether a timer stands.
+    pub(crate) fn is_standing(&self) -> bool
+        ensures { result ≡ is_standing self.now }
+    {
+        self.ask.is_some() || self.answer.is_some()
+    }
+
+    /// The request timer fires, where it is due: it as it backs off with its own delay.
+    pub(crate) fn fired_ask(&self, tuning: Tuning, now: u64, word: u64) -> Option<AskTimer>
         requires tuning { IsTrue (are_constants tuning) }
         requires moment { now < 2 ^ 48 }
-        requires delays { AreDelays self }
-        ensures timers { result ≡ record self { ask = fired_ask tuning now word self.ask } }
-        ensures delays { AreDelays result }
+        requires delays { AreDelays self.now }
+        ensures timers { (with_ask self.now result).ask ≡ fired_ask tuning now word self.now.ask }
+        ensures delay { IfSome result (λ ask. ask.delay < 2 ^ 24) }
     {
         match self.ask {
-            Some(ask) if ask.due <= now => Timers {
-                ask: Some(ask.backed_off(tuning, now, ask.delay, word)),
-                ..self
-            },
-            _ => self,
+            Some(ask) if ask.due <= now => Some(ask.backed_off(tuning, now, ask.delay, word)),
+            _ => None,
         }
     }
 
-    /// Its answer timer fires, where one is due: it ends, and leaves the name quiet.
-    pub(crate) fn fired_answer(self, now: u64) -> Timers
+    /// The answer timer fires, where it is due: it ends, and leaves the name quiet.
+    pub(crate) fn fire_answer(&mut self, now: u64)
         requires moment { now < 2 ^ 48 }
-        requires delays { AreDelays self }
-        ensures timers { result ≡ record self { answer = fired_answer now self.answer; quiet = quiet_after now self.quiet self.answer } }
-        ensures delays { AreDelays result }
+        requires delays { AreDelays self.old }
+        ensures { self.new ≡ record self.old { answer = fired_answer now self.old.answer; quiet = quiet_after now self.old.quiet self.old.answer } }
     {
-        match self.answer {
-            Some(answer) if answer.due <= now => Timers {
-                answer: None,
-                quiet: now + 3 * answer.delay,
-                ..self
-            },
-            _ => self,
+        if let Some(answer) = self.answer {
+            if answer.due <= now {
+                self.answer = None;
+                self.quiet = now + 3 * answer.delay;
+            }
         }
     }
 }

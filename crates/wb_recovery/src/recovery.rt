@@ -1,0 +1,147 @@
+ghost use Rattle.std.specs.Prelude.{◌≡◌, ◌+◌, ◌*◌, ◌<◌, ◌^◌, ◌∷◌, [], ℕ, List, Option, false, true, if◌then◌else◌, IsTrue, IsOk, IfOk, OnOk, OnErr, MatchOption, MatchResult};
+ghost use Rattle.wb_names.specs.Values.{NameValue};
+ghost use Rattle.wb_names.specs.Orders.{same_name};
+ghost use Rattle.wb_recovery.specs.Faults.{call_fault, IsCheckedBy};
+ghost use Rattle.wb_recovery.specs.Timing.{are_constants, is_standing, AreDelays, with_ask, with_answer};
+ghost use Rattle.wb_recovery.specs.Values.{timers_in, Replaces};
+ghost use Rattle.std.specs.Prelude.{Some as some, None as none};
+ghost use Rattle.wb_recovery.specs.Events.{Event, Notice, Asked, Got, Tick};
+ghost use Rattle.wb_recovery.specs.Standing.{StandsFor};
+ghost use Rattle.wb_recovery.specs.declared.tuning.Tuning.{Tuning as Constants};
+
+use crate::alarms::Alarms;
+use crate::fault::{RecoveryFault, TuningFault};
+use crate::records::rewrite;
+use crate::timers::{AnswerTimer, AskTimer, Timers};
+use crate::tuning::Tuning;
+use std::alloc::{AllocError, Global};
+use std::collections::BTreeMap;
+use std::marker::Model;
+use wb_names::Name;
+
+/// The request and answer timers of one host.
+///
+/// What it holds is a function of the calls that it accepted: the contracts say of each call that a
+/// recovery which stands for a list of calls stands, once it has accepted this one, for the list
+/// with this one too. `timers_of` says what the timers of a name are after such a list.
+#[derive(Debug, Drop)]
+pub struct Recovery {
+    tuning: Tuning,
+    /// The moment of the last accepted call.
+    moment: u64,
+    /// What is kept of each name that ever had a timer.
+    records: BTreeMap<Name, Timers>,
+    /// The alarms of the request timers, which say what is due without a walk over all names.
+    asks: Alarms,
+    /// The alarms of the answer timers.
+    answers: Alarms,
+}
+
+impl Model for Recovery {
+    ghost use Rattle.wb_recovery.specs.Values.{RecoveryValue};
+    ghost use Rattle.wb_recovery.specs.Sound.{IsSound};
+
+    ghost Value = { RecoveryValue };
+
+    ghost view = { λ r. record { tuning = r.tuning; moment = r.moment; records = r.records.entries } };
+
+    ghost invariant = { λ r. IsSound r.tuning r.moment r.records r.asks r.answers };
+}
+
+impl Recovery {
+    /// A recovery without timers. A constant that is not 1 to 16 is refused with `Constant`.
+    pub fn new(alloc: Global, tuning: Tuning) -> Result<Recovery, TuningFault>
+        ensures constants { MatchResult result (λ r. IsTrue (are_constants tuning)) (λ e. are_constants tuning ≡ false) }
+        ensures empty { IfOk result (StandsFor tuning []) }
+    {
+        if !tuning.is_in_range() {
+            return Err(TuningFault::Constant);
+        }
+        Ok(Recovery {
+            tuning,
+            moment: 0,
+            records: BTreeMap::new(alloc),
+            asks: Alarms::new(alloc),
+            answers: Alarms::new(alloc),
+        })
+    }
+
+    /// What is kept of a name.
+    fn timers(&self, name: &Name) -> Timers
+        ensures timers { result ≡ timers_in self.now name.now }
+        ensures delays { AreDelays result }
+    {
+        self.records.get(name).copied().unwrap_or(Timers::NONE)
+    }
+
+    /// Refuses a moment below the last one, and then a moment or delay out of its range.
+    fn check(&self, now: u64, delay: u64) -> Result<(), RecoveryFault>
+        ensures fault { MatchOption (call_fault self.now.moment now delay) (IsOk result) (λ fault. result ≡ Err fault) }
+        ensures moment { OnOk result (now < 2 ^ 48) }
+        ensures delay { OnOk result (delay < 2 ^ 24) }
+        ensures tuning { IsTrue (are_constants self.now.tuning) }
+    {
+        if now < self.moment {
+            return Err(RecoveryFault::BackInTime);
+        }
+        if now >= 1 << 48 || delay >= 1 << 24 {
+            return Err(RecoveryFault::Range);
+        }
+        Ok(())
+    }
+
+    /// Sets or moves the request timer of a name.
+    fn set_ask(&mut self, name: Name, before: Timers, ask: AskTimer) -> Result<(), AllocError>
+        requires before { before ≡ timers_in self.old name }
+        requires delay { ask.delay < 2 ^ 24 }
+        ensures ok { OnOk result (Replaces self.old self.new name (with_ask before (some ask))) }
+        ensures err { OnErr result (self.new ≡ self.old) }
+    {
+        self.asks.set(name, before.ask_due(), ask.due)?;
+        let after = Timers {
+            ask: Some(ask),
+            ..before
+        };
+        if self.records.insert(name, after).is_err() {
+            self.asks.clear(name, Some(ask.due));
+            return Err(AllocError);
+        }
+        Ok(())
+    }
+
+    /// Sets the answer timer of a name.
+    fn set_answer(&mut self, name: Name, before: Timers, answer: AnswerTimer) -> Result<(), AllocError>
+        requires before { before ≡ timers_in self.old name }
+        requires delay { answer.delay < 2 ^ 24 }
+        ensures ok { OnOk result (Replaces self.old self.new name (with_answer before (some answer))) }
+        ensures err { OnErr result (self.new ≡ self.old) }
+    {
+        self.answers.set(name, before.answer_due(), answer.due)?;
+        let after = Timers {
+            answer: Some(answer),
+            ..before
+        };
+        if self.records.insert(name, after).is_err() {
+            self.answers.clear(name, Some(answer.due));
+            return Err(AllocError);
+        }
+        Ok(())
+    }
+
+    /// Ends the timers of a name, of which one stands, and leaves it quiet up to a moment. It takes
+    /// no memory, since the name has its record.
+    fn end(&mut self, name: Name, before: Timers, quiet: u64)
+        requires before { before ≡ timers_in self.old name }
+        requires standing { is_standing before ≡ true }
+        ensures { Replaces self.old self.new name (record { ask = none; answer = none; quiet = quiet }) }
+    {
+        self.asks.clear(name, before.ask_due());
+        self.answers.clear(name, before.answer_due());
+        let after = Timers {
+            ask: None,
+            answer: None,
+            quiet,
+        };
+        rewrite(&mut self.records, name, after);
+    }
+}
