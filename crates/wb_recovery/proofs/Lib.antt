@@ -4,3 +4,4 @@ pub mod AlarmMoves
 pub mod AlarmReads
 pub mod AlarmNames
 pub mod Soundness
+pub mod Accepting

@@ -1,5 +1,5 @@
 -- What a recovery stands for: the list of the calls that it accepted.
-use Rattle.std.specs.Prelude.{◌≡◌, List}
+use Rattle.std.specs.Prelude.{◌≡◌, List, ◌∷◌}
 use Rattle.wb_names.specs.Values.{NameValue}
 use Rattle.wb_recovery.specs.Values.{RecoveryValue, timers_in}
 use Rattle.wb_recovery.specs.Events.{Event, moment_of, timers_of}
@@ -10,3 +10,7 @@ pub record StandsFor (constants : Tuning) (events : List Event) (value : Recover
   pub tuning : value.tuning ≡ constants
   pub moment : value.moment ≡ moment_of events
   pub timers : (n : NameValue) → timers_in value n ≡ timers_of constants events n
+
+-- the call is accepted: what stood for some calls stands for these and this one
+abbrev pub Accepts : Event → RecoveryValue → RecoveryValue → Type 0
+Accepts event old new = (constants : Tuning) (events : List Event) → StandsFor constants events old → StandsFor constants (event ∷ events) new

@@ -1,4 +1,4 @@
-ghost use Rattle.std.specs.Prelude.{◌≡◌, ◌+◌, ◌*◌, ◌<◌, ◌^◌, ◌∷◌, [], ℕ, List, Option, false, true, if◌then◌else◌, IsTrue, IsOk, IfOk, OnOk, OnErr, MatchOption, MatchResult};
+ghost use Rattle.std.specs.Prelude.{◌≡◌, ◌+◌, ◌*◌, ◌<◌, ◌^◌, ◌∷◌, [], ℕ, List, Option, false, true, if◌then◌else◌, IsTrue, IsOk, IfOk, OnOk, OnErr, IfSome, MatchOption, MatchResult};
 ghost use Rattle.wb_names.specs.Values.{NameValue};
 ghost use Rattle.wb_names.specs.Orders.{same_name};
 ghost use Rattle.wb_recovery.specs.Faults.{call_fault, IsCheckedBy};
@@ -6,7 +6,7 @@ ghost use Rattle.wb_recovery.specs.Timing.{are_constants, is_standing, AreDelays
 ghost use Rattle.wb_recovery.specs.Values.{timers_in, Replaces};
 ghost use Rattle.std.specs.Prelude.{Some as some, None as none};
 ghost use Rattle.wb_recovery.specs.Events.{Event, Notice, Asked, Got, Tick};
-ghost use Rattle.wb_recovery.specs.Standing.{StandsFor};
+ghost use Rattle.wb_recovery.specs.Standing.{StandsFor, Accepts};
 ghost use Rattle.wb_recovery.specs.declared.tuning.Tuning.{Tuning as Constants};
 
 use crate::alarms::Alarms;
@@ -66,6 +66,63 @@ impl Recovery {
         })
     }
 
+    /// A name is missed: sets its request timer, unless one stands.
+    ///
+    /// Refused with `BackInTime`, `Range` or `Memory`, in this order.
+    pub fn notice(&mut self, name: Name, now: u64, delay: u64, word: u64) -> Result<(), RecoveryFault>
+        ensures fault { IsCheckedBy (call_fault self.old.moment now delay) result }
+        ensures ok { OnOk result (Accepts (Notice name now delay word) self.old self.new) }
+        ensures err { OnErr result (self.new ≡ self.old) }
+    {
+        self.check(now, delay)?;
+        let before = self.timers(&name);
+        let ask = before.noticed(self.tuning, now, delay, word);
+        self.set_ask(name, before, ask)?;
+        self.moment = now;
+        Ok(())
+    }
+
+    /// Another member asks for a name. Where it is not held, a request timer of it that is not deaf
+    /// backs off; `delay` is that to the name's source. Where it is held, an answer timer is set,
+    /// unless one stands or the name is quiet; `delay` is that to the member who asks.
+    ///
+    /// Refused with `BackInTime`, `Range` or `Memory`, in this order.
+    pub fn asked(&mut self, name: Name, held: bool, now: u64, delay: u64, word: u64) -> Result<(), RecoveryFault>
+        ensures fault { IsCheckedBy (call_fault self.old.moment now delay) result }
+        ensures ok { OnOk result (Accepts (Asked name held now delay word) self.old self.new) }
+        ensures err { OnErr result (self.new ≡ self.old) }
+    {
+        self.check(now, delay)?;
+        let before = self.timers(&name);
+        if held {
+            let answer = before.asked_for(self.tuning, now, delay, word);
+            self.set_answer(name, before, answer)?;
+        } else {
+            let ask = before.overheard(self.tuning, now, delay, word);
+            self.set_ask(name, before, ask)?;
+        }
+        self.moment = now;
+        Ok(())
+    }
+
+    /// A name has come: its timers end, and where one stood the name is quiet for three delays to
+    /// its source.
+    ///
+    /// Refused with `BackInTime` or `Range`, in this order. It takes no memory.
+    pub fn got(&mut self, name: Name, now: u64, delay: u64) -> Result<(), RecoveryFault>
+        ensures fault { MatchOption (call_fault self.old.moment now delay) (IsOk result) (λ fault. result ≡ Err fault) }
+        ensures ok { OnOk result (Accepts (Got name now delay) self.old self.new) }
+        ensures err { OnErr result (self.new ≡ self.old) }
+    {
+        self.check(now, delay)?;
+        let before = self.timers(&name);
+        if before.is_standing() {
+            self.end(name, before, now + 3 * delay);
+        }
+        self.moment = now;
+        Ok(())
+    }
+
     /// What is kept of a name.
     fn timers(&self, name: &Name) -> Timers
         ensures timers { result ≡ timers_in self.now name.now }
@@ -90,13 +147,16 @@ impl Recovery {
         Ok(())
     }
 
-    /// Sets or moves the request timer of a name.
-    fn set_ask(&mut self, name: Name, before: Timers, ask: AskTimer) -> Result<(), AllocError>
+    /// Sets or moves the request timer of a name, where it is to be.
+    fn set_ask(&mut self, name: Name, before: Timers, ask: Option<AskTimer>) -> Result<(), AllocError>
         requires before { before ≡ timers_in self.old name }
-        requires delay { ask.delay < 2 ^ 24 }
-        ensures ok { OnOk result (Replaces self.old self.new name (with_ask before (some ask))) }
+        requires delay { IfSome ask (λ timer. timer.delay < 2 ^ 24) }
+        ensures ok { OnOk result (Replaces self.old self.new name (with_ask before ask)) }
         ensures err { OnErr result (self.new ≡ self.old) }
     {
+        let Some(ask) = ask else {
+            return Ok(());
+        };
         self.asks.set(name, before.ask_due(), ask.due)?;
         let after = Timers {
             ask: Some(ask),
@@ -109,13 +169,16 @@ impl Recovery {
         Ok(())
     }
 
-    /// Sets the answer timer of a name.
-    fn set_answer(&mut self, name: Name, before: Timers, answer: AnswerTimer) -> Result<(), AllocError>
+    /// Sets the answer timer of a name, where it is to be.
+    fn set_answer(&mut self, name: Name, before: Timers, answer: Option<AnswerTimer>) -> Result<(), AllocError>
         requires before { before ≡ timers_in self.old name }
-        requires delay { answer.delay < 2 ^ 24 }
-        ensures ok { OnOk result (Replaces self.old self.new name (with_answer before (some answer))) }
+        requires delay { IfSome answer (λ timer. timer.delay < 2 ^ 24) }
+        ensures ok { OnOk result (Replaces self.old self.new name (with_answer before answer)) }
         ensures err { OnErr result (self.new ≡ self.old) }
     {
+        let Some(answer) = answer else {
+            return Ok(());
+        };
         self.answers.set(name, before.answer_due(), answer.due)?;
         let after = Timers {
             answer: Some(answer),
