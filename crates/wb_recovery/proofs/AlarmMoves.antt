@@ -6,7 +6,8 @@ use Rattle.std.proofs.lemmas.Bool.Decides.{nat_tests}
 use Rattle.wb_names.specs.Values.{NameValue}
 use Rattle.wb_names.specs.Orders.{same_name}
 use Rattle.wb_names.proofs.Orders.{same_name-is}
-use Rattle.wb_recovery.specs.Alarms.{alarm_cmp, alarm, is_set_to, with_due}
+use Rattle.wb_recovery.specs.Alarms.{alarm_cmp, alarm, with_due}
+use Rattle.wb_recovery.specs.Timing.{is_set_to}
 use Rattle.wb_recovery.specs.declared.alarms.Alarm.{Alarm}
 use Rattle.wb_recovery.proofs.AlarmOrder.{alarm_ties}
 

@@ -22,7 +22,8 @@ use Rattle.wb_names.specs.Orders.{name_cmp, same_name}
 use Rattle.wb_names.specs.Listing.{Lists}
 use Rattle.wb_names.proofs.Orders.{name_total, same_name-is, and_both}
 use Rattle.wb_names.proofs.Listings.{Contains-here, Contains-there, Contains-cases, Contains-none, Contains-filter, Contains-from_filter, Contains-map, Any-from_map, below_all, strictly_sorted}
-use Rattle.wb_recovery.specs.Alarms.{alarm_cmp, alarm, is_set_to, is_due_where, is_until, CountsAll, CountsUntil}
+use Rattle.wb_recovery.specs.Alarms.{alarm_cmp, alarm, is_due_where, is_until, CountsAll, CountsUntil}
+use Rattle.wb_recovery.specs.Timing.{is_set_to}
 use Rattle.wb_recovery.specs.declared.alarms.Alarm.{Alarm}
 use Rattle.wb_recovery.proofs.AlarmOrder.{alarm_total, alarm_ties, name_ties}
 use Rattle.wb_recovery.proofs.AlarmReads.{is_set_to-here, is_set_to-is}

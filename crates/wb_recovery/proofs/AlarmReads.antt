@@ -8,7 +8,8 @@ use Rattle.std.specs.declared.cmp.Ordering.TheVariants.{Less, Equal, Greater}
 use Rattle.std.proofs.lemmas.Bool.Decides.{nat_tests}
 use Rattle.std.proofs.lemmas.Map.Keys.{le_from_not_gt}
 use Rattle.wb_names.specs.Values.{NameValue}
-use Rattle.wb_recovery.specs.Alarms.{alarm_cmp, alarm, is_set_to, Keep, IsFirst}
+use Rattle.wb_recovery.specs.Alarms.{alarm_cmp, alarm, Keep, IsFirst}
+use Rattle.wb_recovery.specs.Timing.{is_set_to}
 use Rattle.wb_recovery.specs.declared.alarms.Alarm.{Alarm}
 use Rattle.wb_recovery.specs.declared.alarms.Alarms.{Alarms}
 

@@ -5,3 +5,5 @@ pub mod AlarmReads
 pub mod AlarmNames
 pub mod Soundness
 pub mod Accepting
+pub mod NameLists
+pub mod Counting

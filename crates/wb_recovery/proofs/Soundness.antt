@@ -7,10 +7,11 @@ use Rattle.std.specs.Map.{lookup}
 use Rattle.wb_names.specs.Values.{NameValue}
 use Rattle.wb_names.specs.Orders.{same_name, name_cmp}
 use Rattle.wb_names.proofs.Orders.{same_name-is}
-use Rattle.wb_recovery.specs.Timing.{no_timers, is_standing, AreDelays, with_ask, with_answer}
-use Rattle.wb_recovery.specs.Alarms.{Keep, with_due, is_set_to, alarm_cmp}
+use Rattle.wb_recovery.specs.Timing.{no_timers, ask_due, answer_due, is_standing, AreDelays, with_ask, with_answer}
+use Rattle.wb_recovery.specs.Alarms.{Keep, with_due, alarm_cmp}
+use Rattle.wb_recovery.specs.Timing.{is_set_to}
 use Rattle.wb_recovery.specs.Values.{RecoveryValue, timers_at, timers_in, Replaces}
-use Rattle.wb_recovery.specs.Sound.{IsSound, ask_due, answer_due}
+use Rattle.wb_recovery.specs.Sound.{IsSound}
 use Rattle.wb_recovery.specs.declared.tuning.Tuning.{Tuning}
 use Rattle.wb_recovery.specs.declared.timers.Timers.{Timers}
 use Rattle.wb_recovery.specs.declared.timers.AskTimer.{AskTimer}

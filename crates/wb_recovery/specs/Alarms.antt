@@ -6,6 +6,7 @@ use Rattle.std.specs.declared.cmp.Ordering.{Ordering}
 use Rattle.wb_names.specs.Values.{NameValue}
 use Rattle.wb_names.specs.Orders.{same_name, name_cmp}
 use Rattle.wb_names.specs.Listing.{Lists}
+use Rattle.wb_recovery.specs.Timing.{is_set_to}
 use Rattle.wb_recovery.specs.declared.alarms.Alarm.{Alarm}
 use Rattle.wb_recovery.specs.declared.alarms.Alarms.{Alarms}
 
@@ -18,11 +19,6 @@ alarm d n = record { due = d; name = n }
 
 abbrev pub has_alarm : Alarms → ℕ → NameValue → Bool
 has_alarm alarms d n = contains alarm_cmp alarms.set (alarm d n)
-
--- a timer that is due at this very moment
-abbrev pub is_set_to : ℕ → Option ℕ → Bool
-is_set_to d None = false
-is_set_to d (Some e) = nat_eq e d
 
 -- a timer whose moment passes a test
 abbrev pub is_due_where : (ℕ → Bool) → Option ℕ → Bool

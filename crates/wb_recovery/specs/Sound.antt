@@ -3,29 +3,12 @@ use Rattle.std.specs.Prelude.{◌≡◌, ℕ, ◌<◌, ◌^◌, Option, Some, No
 use Rattle.std.specs.BTreeMap.{BTreeMap, IsOrdered}
 use Rattle.wb_names.specs.Values.{NameValue}
 use Rattle.wb_names.specs.Orders.{name_cmp}
-use Rattle.wb_recovery.specs.Timing.{are_constants, AreDelays}
+use Rattle.wb_recovery.specs.Timing.{are_constants, ask_due, answer_due, AreDelays}
 use Rattle.wb_recovery.specs.Alarms.{Keep}
 use Rattle.wb_recovery.specs.Values.{timers_at}
 use Rattle.wb_recovery.specs.declared.tuning.Tuning.{Tuning}
-use Rattle.wb_recovery.specs.declared.timers.AskTimer.{AskTimer}
-use Rattle.wb_recovery.specs.declared.timers.AnswerTimer.{AnswerTimer}
 use Rattle.wb_recovery.specs.declared.timers.Timers.{Timers}
 use Rattle.wb_recovery.specs.declared.alarms.Alarms.{Alarms}
-
--- the moment at which a name's request timer is due, and its answer timer
-abbrev pub ask_moment : Option AskTimer → Option ℕ
-ask_moment None = None
-ask_moment (Some ask) = Some ask.due
-
-abbrev pub answer_moment : Option AnswerTimer → Option ℕ
-answer_moment None = None
-answer_moment (Some answer) = Some answer.due
-
-abbrev pub ask_due : Timers → Option ℕ
-ask_due s = ask_moment s.ask
-
-abbrev pub answer_due : Timers → Option ℕ
-answer_due s = answer_moment s.answer
 
 pub record IsSound (constants : Tuning) (last : ℕ) (kept : BTreeMap NameValue Timers) (ask_alarms answer_alarms : Alarms) : Type 0 where
   pub tuning : IsTrue (are_constants constants)

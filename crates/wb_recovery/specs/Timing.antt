@@ -35,6 +35,27 @@ new_answer t now delay word = record { due = draw now 0 t.d1 t.d2 delay word; de
 abbrev pub no_timers : Timers
 no_timers = record { ask = None; answer = None; quiet = 0 }
 
+-- the moment at which a name's request timer is due, and its answer timer
+abbrev pub ask_moment : Option AskTimer → Option ℕ
+ask_moment None = None
+ask_moment (Some ask) = Some ask.due
+
+abbrev pub answer_moment : Option AnswerTimer → Option ℕ
+answer_moment None = None
+answer_moment (Some answer) = Some answer.due
+
+abbrev pub ask_due : Timers → Option ℕ
+ask_due s = ask_moment s.ask
+
+abbrev pub answer_due : Timers → Option ℕ
+answer_due s = answer_moment s.answer
+
+-- a timer that is due at this very moment
+abbrev pub is_set_to : ℕ → Option ℕ → Bool
+is_set_to d None = false
+is_set_to d (Some e) = nat_eq e d
+
+-- a timer stands
 abbrev pub is_standing : Timers → Bool
 is_standing s = is_some s.ask || is_some s.answer
 

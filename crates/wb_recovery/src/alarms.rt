@@ -33,6 +33,15 @@ impl Alarms {
         }
     }
 
+    /// The same alarms.
+    pub(crate) fn copy(&self) -> Result<Alarms, AllocError>
+        ensures { IfOk result (λ alarms. alarms.set.keys ≡ self.now.set.keys) }
+    {
+        Ok(Alarms {
+            set: self.set.clone()?,
+        })
+    }
+
     /// The least moment at which a timer is due.
     pub(crate) fn first(&self) -> Option<u64>
         ensures { (dues : NameValue → Option ℕ) → Keep dues self.now → IsFirst dues result }

@@ -1,11 +1,11 @@
-ghost use Rattle.std.specs.Prelude.{◌≡◌, ◌+◌, ◌*◌, ◌<◌, ◌^◌, ◌∷◌, [], ℕ, List, Option, false, true, if◌then◌else◌, IsTrue, IsOk, IfOk, OnOk, OnErr, IfSome, MatchOption, MatchResult};
+ghost use Rattle.std.specs.Prelude.{◌≡◌, ◌+◌, ◌*◌, ◌<◌, ◌^◌, ◌∷◌, [], ℕ, List, Option, false, true, if◌then◌else◌, IsTrue, IsOk, IfOk, OnOk, OnErr, IfSome, MatchOption, MatchResult, length};
 ghost use Rattle.wb_names.specs.Values.{NameValue};
 ghost use Rattle.wb_names.specs.Orders.{same_name};
 ghost use Rattle.wb_recovery.specs.Faults.{call_fault, IsCheckedBy};
 ghost use Rattle.wb_recovery.specs.Timing.{are_constants, is_standing, AreDelays, with_ask, with_answer};
-ghost use Rattle.wb_recovery.specs.Values.{timers_in, Replaces};
+ghost use Rattle.wb_recovery.specs.Values.{timers_in, names_in, Replaces};
 ghost use Rattle.std.specs.Prelude.{Some as some, None as none};
-ghost use Rattle.wb_recovery.specs.Events.{Event, Notice, Asked, Got, Tick};
+ghost use Rattle.wb_recovery.specs.Events.{Event, Notice, Asked, Got, Tick, names_of, timers_of, asking, due_asks, IsNextDue};
 ghost use Rattle.wb_recovery.specs.Standing.{StandsFor, Accepts};
 ghost use Rattle.wb_recovery.specs.declared.tuning.Tuning.{Tuning as Constants};
 
@@ -121,6 +121,69 @@ impl Recovery {
         }
         self.moment = now;
         Ok(())
+    }
+
+    /// How many request timers are due at a moment, and so how many words `tick` then wants. It looks
+    /// at these timers alone, and at the next one.
+    pub fn due_count(&self, now: u64) -> usize
+        ensures count { result ≡ length (due_asks (names_in self.now) (timers_in self.now) now) }
+        ensures events { (constants : Constants) (events : List Event) → StandsFor constants events self.now → result ≡ length (due_asks (names_of events) (timers_of constants events) now) }
+    {
+        self.asks.count_until(now)
+    }
+
+    /// How many request timers stand: a number that is kept.
+    pub fn asks(&self) -> usize
+        ensures count { result ≡ length (asking (names_in self.now) (timers_in self.now)) }
+        ensures events { (constants : Constants) (events : List Event) → StandsFor constants events self.now → result ≡ length (asking (names_of events) (timers_of constants events)) }
+    {
+        self.asks.len()
+    }
+
+    /// The least moment at which a timer is due, and so when the next `tick` has something to do.
+    /// None where no timer stands.
+    pub fn next_due(&self) -> Option<u64>
+        ensures { IsNextDue (timers_in self.now) result }
+    {
+        match (self.asks.first(), self.answers.first()) {
+            (Some(ask), Some(answer)) => Some(ask.min(answer)),
+            (Some(due), None) | (None, Some(due)) => Some(due),
+            (None, None) => None,
+        }
+    }
+
+    /// The request timer of a name.
+    pub fn ask_of(&self, name: &Name) -> Option<AskTimer>
+        ensures { result ≡ (timers_in self.now name.now).ask }
+    {
+        self.timers(name).ask
+    }
+
+    /// The answer timer of a name.
+    pub fn answer_of(&self, name: &Name) -> Option<AnswerTimer>
+        ensures { result ≡ (timers_in self.now name.now).answer }
+    {
+        self.timers(name).answer
+    }
+
+    /// The moment before which the name is not answered, or 0.
+    pub fn quiet_of(&self, name: &Name) -> u64
+        ensures { result ≡ (timers_in self.now name.now).quiet }
+    {
+        self.timers(name).quiet
+    }
+
+    /// An equal recovery. A change of one leaves the other as it is.
+    pub fn copy(&self, alloc: Global) -> Result<Recovery, AllocError>
+        ensures { IfOk result (λ r. r ≡ self.now) }
+    {
+        Ok(Recovery {
+            tuning: self.tuning,
+            moment: self.moment,
+            records: self.records.clone()?,
+            asks: self.asks.copy()?,
+            answers: self.answers.copy()?,
+        })
     }
 
     /// What is kept of a name.

@@ -1,6 +1,5 @@
 ghost use Rattle.std.specs.Prelude.{◌≡◌, ◌^◌, ◌<◌, false, true, IsTrue, IfSome};
-ghost use Rattle.wb_recovery.specs.Timing.{are_constants, backed_off, noticed, asked, fired_ask, fired_answer, quiet_after, with_ask, with_answer, is_standing, AreDelays};
-ghost use Rattle.wb_recovery.specs.Sound.{ask_due, answer_due};
+ghost use Rattle.wb_recovery.specs.Timing.{are_constants, backed_off, noticed, asked, fired_ask, fired_answer, quiet_after, with_ask, with_answer, ask_due, answer_due, is_standing, AreDelays};
 
 use crate::draw::draw;
 use crate::tuning::Tuning;
