@@ -1,3 +1,4 @@
+pub mod Outcomes
 pub mod Bounds
 pub mod AlarmOrder
 pub mod AlarmMoves
@@ -7,3 +8,4 @@ pub mod Soundness
 pub mod Accepting
 pub mod NameLists
 pub mod Counting
+pub mod AlarmLists

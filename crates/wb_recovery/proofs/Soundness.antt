@@ -1,6 +1,6 @@
 -- How a recovery stays sound as the timers of a name are replaced.
-use Rattle.std.proofs.Common.{◌≡◌, ℕ, Bool, true, false, cond, List, refl, ap, ◌∙◌, sym, subst, Option, Some, None, Result, Ok, Err, ◌^◌, ◌<◌, true≢false, rules}
-use Rattle.std.specs.Prelude.{unwrap_or, OnOk, is_err, IsSome}
+use Rattle.std.proofs.Common.{◌≡◌, ℕ, Bool, true, false, cond, List, refl, ap, ◌∙◌, sym, subst, Option, Some, None, ◌^◌, ◌<◌, true≢false, rules}
+use Rattle.std.specs.Prelude.{unwrap_or, IsSome}
 use Rattle.std.specs.BTreeMap.{BTreeMap, IsOrdered, get, is_at}
 use Rattle.std.specs.BTreeSet.{contains}
 use Rattle.std.specs.Map.{lookup}
@@ -50,10 +50,6 @@ module _ (name : NameValue) (after : Timers) (f g : NameValue → Timers) (repla
 
   pub keep_moved_to : (due : Timers → Option ℕ) (o : Option ℕ) (alarms : Alarms) → o ≡ due after → Keep (with_due (λ n. due (f n)) name o) alarms → Keep (λ n. due (g n)) alarms
   keep_moved_to due o alarms same keep = keep_alike _ _ alarms (λ n. ap (λ (p : Option ℕ). with_due (λ n. due (f n)) name p n) same ∙ dues_replaced due n) keep
-
-pub on_no_err : {T E P : Type 0} (r : Result T E) → is_err r ≡ false → OnOk r P → P
-on_no_err (Ok x) e p = p
-on_no_err (Err x) e p = absurd (true≢false e)
 
 -- what a write at one name leaves
 module _ (t : Tuning) (m : ℕ) (old new : BTreeMap NameValue Timers) (asks answers : Alarms) (s : IsSound t m old asks answers) (name : NameValue) (before : Timers) (is : before ≡ timers_at old.entries name) (ordered : IsOrdered name_cmp new) where

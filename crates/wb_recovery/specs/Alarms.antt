@@ -1,6 +1,8 @@
 -- Alarms: for each name with a timer, the moment at which it is due, in order of the moments.
 use Rattle.std.specs.Prelude.{◌≡◌, ℕ, ◌≤◌, Bool, true, false, not, ◌&&◌, List, Option, Some, None, nat_eq, nat_le, is_some, length, if◌then◌else◌}
 use Rattle.std.specs.BTreeSet.{contains}
+use Rattle.std.specs.BTreeMap.{is_at}
+use Rattle.std.specs.List.{list_any}
 use Rattle.std.specs.Ordering.{nat_cmp, ordering_then}
 use Rattle.std.specs.declared.cmp.Ordering.{Ordering}
 use Rattle.wb_names.specs.Values.{NameValue}
@@ -19,6 +21,14 @@ alarm d n = record { due = d; name = n }
 
 abbrev pub has_alarm : Alarms → ℕ → NameValue → Bool
 has_alarm alarms d n = contains alarm_cmp alarms.set (alarm d n)
+
+-- one of some alarms
+abbrev pub has : List Alarm → Alarm → Bool
+has alarms a = list_any (is_at (alarm_cmp a)) alarms
+
+-- just the alarms of some moments that other moments do not have
+abbrev pub AreLeft : (NameValue → Option ℕ) → (NameValue → Option ℕ) → List Alarm → Type 0
+AreLeft dues others alarms = (d : ℕ) (n : NameValue) → has alarms (alarm d n) ≡ (is_set_to d (dues n) && not (is_set_to d (others n)))
 
 -- a timer whose moment passes a test
 abbrev pub is_due_where : (ℕ → Bool) → Option ℕ → Bool

@@ -1,10 +1,12 @@
 ghost use Rattle.std.specs.Prelude.{◌≡◌, ℕ, Option, true, map, take_while, nat_le, length, IfOk, OnOk, OnErr};
 ghost use Rattle.std.specs.Prelude.{Some as some, None as none};
-ghost use Rattle.std.specs.BTreeSet.{IsOrdered};
+ghost use Rattle.std.specs.Prelude.{◌||◌, ◌&&◌, not, false};
+ghost use Rattle.std.specs.BTreeSet.{contains, IsOrdered};
 ghost use Rattle.wb_names.specs.Values.{NameValue};
 ghost use Rattle.wb_names.specs.Orders.{name_cmp};
 ghost use Rattle.wb_names.specs.Listing.{Lists};
-ghost use Rattle.wb_recovery.specs.Alarms.{alarm_cmp, Keep, is_until, with_due, later, CountsAll, CountsUntil, IsFirst};
+ghost use Rattle.wb_recovery.specs.declared.alarms.Alarm.{Alarm as AnAlarm};
+ghost use Rattle.wb_recovery.specs.Alarms.{alarm_cmp, has, Keep, AreLeft, is_until, with_due, later, CountsAll, CountsUntil, IsFirst};
 
 use std::alloc::{AllocError, Global};
 use std::collections::BTreeSet;
@@ -112,6 +114,39 @@ impl Alarms {
     {
         if let Some(due) = from {
             self.set.remove(&Alarm { due, name });
+        }
+    }
+
+    /// Takes some alarms away and sets others, all or none.
+    pub(crate) fn exchange(&mut self, left: &[Alarm], taken: &[Alarm]) -> Result<(), AllocError>
+        ensures ok { OnOk result ((before after : NameValue → Option ℕ) → Keep before self.old → AreLeft before after left.now → AreLeft after before taken.now → Keep after self.new) }
+        ensures err { OnErr result ((before after : NameValue → Option ℕ) → Keep before self.old → AreLeft after before taken.now → Keep before self.new) }
+    {
+        self.add_all(taken)?;
+        self.remove_all(left);
+        Ok(())
+    }
+
+    /// Sets alarms, all or none: where memory runs out, those that were set are taken away again.
+    fn add_all(&mut self, alarms: &[Alarm]) -> Result<(), AllocError>
+        ensures ok { OnOk result ((x : AnAlarm) → contains alarm_cmp self.new.set x ≡ (contains alarm_cmp self.old.set x || has alarms.now x)) }
+        ensures err { OnErr result (((x : AnAlarm) → has alarms.now x ≡ true → contains alarm_cmp self.old.set x ≡ false) → (x : AnAlarm) → contains alarm_cmp self.new.set x ≡ contains alarm_cmp self.old.set x) }
+    {
+        for (count, alarm) in alarms.iter().enumerate() {
+            if self.set.insert(*alarm).is_err() {
+                self.remove_all(&alarms[..count]);
+                return Err(AllocError);
+            }
+        }
+        Ok(())
+    }
+
+    /// Takes alarms away.
+    fn remove_all(&mut self, alarms: &[Alarm])
+        ensures { (x : AnAlarm) → contains alarm_cmp self.new.set x ≡ (contains alarm_cmp self.old.set x && not (has alarms.now x)) }
+    {
+        for alarm in alarms {
+            self.set.remove(alarm);
         }
     }
 }

@@ -3,7 +3,8 @@ use Rattle.std.specs.Prelude.{IfSome}
 use Rattle.wb_recovery.specs.Values.{RecoveryValue, timers_in, Replaces}
 use Rattle.wb_recovery.specs.Timing.{with_answer}
 use Rattle.wb_recovery.specs.declared.timers.AnswerTimer.{AnswerTimer}
-use Rattle.wb_recovery.proofs.Soundness.{on_no_err, written, sound_answer, replaced_value}
+use Rattle.wb_recovery.proofs.Outcomes.{on_no_err}
+use Rattle.wb_recovery.proofs.Soundness.{written, sound_answer, replaced_value}
 use Rattle.wb_recovery.proofs.recovery.Recovery.set_answer.Goals as goal
 
 pub invariant_of-self-else-is_err : goal.invariant_of-self-else-is_err

@@ -2,7 +2,8 @@ use Rattle.std.proofs.Common.{◌<◌, ◌^◌, ◌∙◌, sym, ap, subst, Optio
 use Rattle.std.specs.Prelude.{IfSome}
 use Rattle.wb_recovery.specs.Values.{RecoveryValue, timers_in}
 use Rattle.wb_recovery.specs.declared.timers.AskTimer.{AskTimer}
-use Rattle.wb_recovery.proofs.Soundness.{on_no_err, sound_ask}
+use Rattle.wb_recovery.proofs.Outcomes.{on_no_err}
+use Rattle.wb_recovery.proofs.Soundness.{sound_ask}
 use Rattle.wb_recovery.proofs.recovery.Recovery.set_ask.Goals as goal
 
 pub invariant_of-self-else-is_err : goal.invariant_of-self-else-is_err
