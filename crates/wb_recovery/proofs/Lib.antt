@@ -9,3 +9,4 @@ pub mod Accepting
 pub mod NameLists
 pub mod Counting
 pub mod AlarmLists
+pub mod NameRows
