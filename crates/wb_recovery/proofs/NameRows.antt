@@ -15,12 +15,9 @@ use Rattle.wb_names.specs.Orders.{name_cmp, same_name}
 use Rattle.wb_names.proofs.Orders.{name_total, same_name-is}
 use Rattle.wb_names.proofs.Listings.{below_all}
 use Rattle.wb_recovery.specs.Events.{smaller}
+use Rattle.wb_recovery.specs.Firing.{among}
 use Rattle.wb_recovery.specs.declared.timers.Timers.{Timers}
 use Rattle.wb_recovery.proofs.AlarmOrder.{name_ties}
-
--- whether the name is one of these
-abbrev pub among : List NameValue → NameValue → Bool
-among names n = list_any (eq_by_cmp name_cmp n) names
 
 contains_at : (xs : List NameValue) (i : ℕ) (d : NameValue) → i < length xs → Contains xs (get_or xs i d)
 contains_at [] i d h = absurd (omega arith)

@@ -6,3 +6,4 @@ pub mod Events
 pub mod Values
 pub mod Sound
 pub mod Standing
+pub mod Firing

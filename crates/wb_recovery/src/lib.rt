@@ -19,6 +19,7 @@ mod alarms;
 
 mod draw;
 mod fault;
+mod firing;
 mod records;
 mod recovery;
 mod round_trip;

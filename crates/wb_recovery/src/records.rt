@@ -9,6 +9,13 @@ use crate::timers::Timers;
 use std::collections::BTreeMap;
 use wb_names::Name;
 
+/// What is kept of a name.
+pub(crate) fn timers_of(records: &BTreeMap<Name, Timers>, name: &Name) -> Timers
+    ensures { result ≡ timers_at records.now.entries name.now }
+{
+    records.get(name).copied().unwrap_or(Timers::NONE)
+}
+
 /// Writes over the record of a name with a timer.
 pub(crate) fn rewrite(records: &mut BTreeMap<Name, Timers>, name: Name, after: Timers)
     requires { is_standing (timers_at records.old.entries name) ≡ true }

@@ -11,7 +11,7 @@ ghost use Rattle.wb_recovery.specs.declared.tuning.Tuning.{Tuning as Constants};
 
 use crate::alarms::Alarms;
 use crate::fault::{RecoveryFault, TuningFault};
-use crate::records::rewrite;
+use crate::records::{rewrite, timers_of};
 use crate::timers::{AnswerTimer, AskTimer, Timers};
 use crate::tuning::Tuning;
 use std::alloc::{AllocError, Global};
@@ -191,7 +191,7 @@ impl Recovery {
         ensures timers { result ≡ timers_in self.now name.now }
         ensures delays { AreDelays result }
     {
-        self.records.get(name).copied().unwrap_or(Timers::NONE)
+        timers_of(&self.records, name)
     }
 
     /// Refuses a moment below the last one, and then a moment or delay out of its range.

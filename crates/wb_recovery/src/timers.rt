@@ -139,31 +139,38 @@ impl Timers {
         self.ask.is_some() || self.answer.is_some()
     }
 
-    /// The request timer fires, where it is due: it as it backs off with its own delay.
-    pub(crate) fn fired_ask(&self, tuning: Tuning, now: u64, word: u64) -> Option<AskTimer>
+    /// The timers once the request timer has fired, where it is due: it backs off with its own delay.
+    pub(crate) fn ask_fired(self, tuning: Tuning, now: u64, word: u64) -> Timers
         requires tuning { IsTrue (are_constants tuning) }
         requires moment { now < 2 ^ 48 }
-        requires delays { AreDelays self.now }
-        ensures timers { (with_ask self.now result).ask ≡ fired_ask tuning now word self.now.ask }
-        ensures delay { IfSome result (λ ask. ask.delay < 2 ^ 24) }
+        requires delays { AreDelays self }
+        ensures timers { result ≡ record self { ask = fired_ask tuning now word self.ask } }
+        ensures delays { AreDelays result }
     {
         match self.ask {
-            Some(ask) if ask.due <= now => Some(ask.backed_off(tuning, now, ask.delay, word)),
-            _ => None,
+            Some(ask) if ask.due <= now => Timers {
+                ask: Some(ask.backed_off(tuning, now, ask.delay, word)),
+                ..self
+            },
+            _ => self,
         }
     }
 
-    /// The answer timer fires, where it is due: it ends, and leaves the name quiet.
-    pub(crate) fn fire_answer(&mut self, now: u64)
+    /// The timers once the answer timer has fired, where it is due: it ends, and leaves the name
+    /// quiet.
+    pub(crate) fn answer_fired(self, now: u64) -> Timers
         requires moment { now < 2 ^ 48 }
-        requires delays { AreDelays self.old }
-        ensures { self.new ≡ record self.old { answer = fired_answer now self.old.answer; quiet = quiet_after now self.old.quiet self.old.answer } }
+        requires delays { AreDelays self }
+        ensures timers { result ≡ record self { answer = fired_answer now self.answer; quiet = quiet_after now self.quiet self.answer } }
+        ensures delays { AreDelays result }
     {
-        if let Some(answer) = self.answer {
-            if answer.due <= now {
-                self.answer = None;
-                self.quiet = now + 3 * answer.delay;
-            }
+        match self.answer {
+            Some(answer) if answer.due <= now => Timers {
+                answer: None,
+                quiet: now + 3 * answer.delay,
+                ..self
+            },
+            _ => self,
         }
     }
 }
