@@ -10,3 +10,5 @@ pub mod NameLists
 pub mod Counting
 pub mod AlarmLists
 pub mod NameRows
+pub mod FiredTimers
+pub mod Ticking

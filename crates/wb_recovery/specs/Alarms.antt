@@ -3,7 +3,7 @@ use Rattle.std.specs.Prelude.{◌≡◌, ℕ, ◌≤◌, Bool, true, false, not,
 use Rattle.std.specs.BTreeSet.{contains}
 use Rattle.std.specs.BTreeMap.{is_at}
 use Rattle.std.specs.List.{list_any}
-use Rattle.std.specs.Ordering.{nat_cmp, ordering_then}
+use Rattle.std.specs.Ordering.{nat_cmp, ordering_then, eq_by_cmp}
 use Rattle.std.specs.declared.cmp.Ordering.{Ordering}
 use Rattle.wb_names.specs.Values.{NameValue}
 use Rattle.wb_names.specs.Orders.{same_name, name_cmp}
@@ -29,6 +29,14 @@ has alarms a = list_any (is_at (alarm_cmp a)) alarms
 -- just the alarms of some moments that other moments do not have
 abbrev pub AreLeft : (NameValue → Option ℕ) → (NameValue → Option ℕ) → List Alarm → Type 0
 AreLeft dues others alarms = (d : ℕ) (n : NameValue) → has alarms (alarm d n) ≡ (is_set_to d (dues n) && not (is_set_to d (others n)))
+
+-- whether the name is one of these
+abbrev pub among : List NameValue → NameValue → Bool
+among names n = list_any (eq_by_cmp name_cmp n) names
+
+-- the same, of these names alone
+abbrev pub AreMoved : List NameValue → (NameValue → Option ℕ) → (NameValue → Option ℕ) → List Alarm → Type 0
+AreMoved names dues others alarms = (d : ℕ) (n : NameValue) → has alarms (alarm d n) ≡ (among names n && (is_set_to d (dues n) && not (is_set_to d (others n))))
 
 -- a timer whose moment passes a test
 abbrev pub is_due_where : (ℕ → Bool) → Option ℕ → Bool

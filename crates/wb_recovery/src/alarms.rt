@@ -6,7 +6,7 @@ ghost use Rattle.wb_names.specs.Values.{NameValue};
 ghost use Rattle.wb_names.specs.Orders.{name_cmp};
 ghost use Rattle.wb_names.specs.Listing.{Lists};
 ghost use Rattle.wb_recovery.specs.declared.alarms.Alarm.{Alarm as AnAlarm};
-ghost use Rattle.wb_recovery.specs.Alarms.{alarm_cmp, has, Keep, AreLeft, is_until, with_due, later, CountsAll, CountsUntil, IsFirst};
+ghost use Rattle.wb_recovery.specs.Alarms.{alarm, alarm_cmp, has, Keep, AreLeft, is_until, with_due, later, CountsAll, CountsUntil, IsFirst};
 
 use std::alloc::{AllocError, Global};
 use std::collections::BTreeSet;
@@ -17,6 +17,16 @@ use wb_names::Name;
 pub(crate) struct Alarm {
     due: u64,
     name: Name,
+}
+
+impl Alarm {
+    /// The alarm of a name.
+    #[inline(always)]
+    pub(crate) fn new(due: u64, name: Name) -> Alarm
+        ensures { result ≡ alarm due name }
+    {
+        Alarm { due, name }
+    }
 }
 
 /// The alarms of all timers of one kind, so that the next ones are found without a walk over all.

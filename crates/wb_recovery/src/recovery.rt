@@ -1,15 +1,18 @@
-ghost use Rattle.std.specs.Prelude.{◌≡◌, ◌+◌, ◌*◌, ◌<◌, ◌^◌, ◌∷◌, [], ℕ, List, Option, false, true, if◌then◌else◌, IsTrue, IsOk, IfOk, OnOk, OnErr, IfSome, MatchOption, MatchResult, length};
+ghost use Rattle.std.specs.Prelude.{◌≡◌, ◌+◌, ◌*◌, ◌<◌, ◌≤◌, ◌^◌, ◌∷◌, [], ℕ, List, Option, false, true, if◌then◌else◌, IsTrue, IsOk, IfOk, OnOk, OnErr, IfSome, MatchOption, MatchResult, length};
 ghost use Rattle.wb_names.specs.Values.{NameValue};
-ghost use Rattle.wb_names.specs.Orders.{same_name};
+ghost use Rattle.wb_names.specs.Orders.{same_name, name_cmp};
+ghost use Rattle.wb_names.specs.Listing.{Lists};
 ghost use Rattle.wb_recovery.specs.Faults.{call_fault, IsCheckedBy};
-ghost use Rattle.wb_recovery.specs.Timing.{are_constants, is_standing, AreDelays, with_ask, with_answer};
+ghost use Rattle.wb_recovery.specs.Timing.{are_constants, is_ask_due, is_answer_due, is_standing, AreDelays, with_ask, with_answer};
 ghost use Rattle.wb_recovery.specs.Values.{timers_in, names_in, Replaces};
+ghost use Rattle.wb_recovery.specs.Firing.{Fires};
 ghost use Rattle.std.specs.Prelude.{Some as some, None as none};
 ghost use Rattle.wb_recovery.specs.Events.{Event, Notice, Asked, Got, Tick, names_of, timers_of, asking, due_asks, IsNextDue};
 ghost use Rattle.wb_recovery.specs.Standing.{StandsFor, Accepts};
 ghost use Rattle.wb_recovery.specs.declared.tuning.Tuning.{Tuning as Constants};
 
 use crate::alarms::Alarms;
+use crate::firing::{alarms_moved, answer_all, back_off_all};
 use crate::fault::{RecoveryFault, TuningFault};
 use crate::records::{rewrite, timers_of};
 use crate::timers::{AnswerTimer, AskTimer, Timers};
@@ -269,5 +272,21 @@ impl Recovery {
             quiet,
         };
         rewrite(&mut self.records, name, after);
+    }
+
+    /// Fires the timers of these names, which are due. All growth comes first.
+    fn fire(&mut self, alloc: Global, asking: &[Name], answering: &[Name], now: u64, words: &[u64]) -> Result<(), AllocError>
+        requires moment { now < 2 ^ 48 }
+        requires asking { Lists name_cmp (λ n. is_ask_due now (timers_in self.old n).ask ≡ true) asking.now }
+        requires answering { Lists name_cmp (λ n. is_answer_due now (timers_in self.old n).answer ≡ true) answering.now }
+        requires words { length asking.now ≤ length words.now }
+        ensures ok { OnOk result (Fires now words.now asking.now self.old self.new) }
+        ensures err { OnErr result (self.new ≡ self.old) }
+    {
+        let moves = alarms_moved(alloc, self.tuning, &self.records, asking, now, words)?;
+        self.asks.exchange(&moves.left, &moves.taken)?;
+        back_off_all(self.tuning, &mut self.records, asking, now, words);
+        answer_all(&mut self.records, &mut self.answers, answering, now);
+        Ok(())
     }
 }

@@ -5,7 +5,8 @@ use Rattle.wb_names.specs.Values.{NameValue}
 use Rattle.wb_names.specs.Orders.{name_cmp}
 use Rattle.wb_recovery.specs.Timing.{AreDelays}
 use Rattle.wb_recovery.specs.Values.{timers_at}
-use Rattle.wb_recovery.specs.Firing.{among, with_ask_fired}
+use Rattle.wb_recovery.specs.Alarms.{among}
+use Rattle.wb_recovery.specs.Firing.{with_ask_fired}
 use Rattle.wb_recovery.proofs.firing.back_off_all.Given as goal
 
 abbrev pub invariant-loop-count : goal.invariant-loop-count
