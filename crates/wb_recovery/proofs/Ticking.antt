@@ -8,16 +8,22 @@ use Rattle.wb_names.specs.Values.{NameValue}
 use Rattle.wb_names.specs.Orders.{name_cmp}
 use Rattle.wb_names.specs.Listing.{Lists}
 use Rattle.wb_recovery.specs.Timing.{ask_due, answer_due, is_ask_due, is_answer_due, is_set_to, fired_ask, fired_answer, quiet_after, ticked}
-use Rattle.wb_recovery.specs.Alarms.{alarm, has, among, Keep, AreLeft, AreMoved}
-use Rattle.wb_recovery.specs.Events.{word_for}
-use Rattle.wb_recovery.specs.Firing.{with_ask_fired, with_answer_fired}
+use Rattle.wb_recovery.specs.Alarms.{alarm, has, among, is_until, Keep, AreLeft, AreMoved}
+use Rattle.wb_recovery.specs.Values.{RecoveryValue, timers_at, timers_in}
+use Rattle.wb_recovery.specs.Events.{Event, Tick, names_of, timers_of, due_asks, due_answers, word_for}
+use Rattle.wb_recovery.specs.Standing.{StandsFor, Accepts}
+use Rattle.wb_recovery.specs.Firing.{with_ask_fired, with_answer_fired, Fires}
 use Rattle.wb_recovery.specs.declared.tuning.Tuning.{Tuning}
 use Rattle.wb_recovery.specs.declared.timers.Timers.{Timers}
 use Rattle.wb_recovery.specs.declared.timers.AskTimer.{AskTimer}
 use Rattle.wb_recovery.specs.declared.timers.AnswerTimer.{AnswerTimer}
 use Rattle.wb_recovery.specs.declared.alarms.Alarm.{Alarm}
 use Rattle.wb_recovery.specs.declared.alarms.Alarms.{Alarms}
+use Rattle.wb_names.proofs.Orders.{name_total}
+use Rattle.wb_names.proofs.Listings.{one_list, lists_same}
 use Rattle.wb_recovery.proofs.AlarmNames.{name_decides}
+use Rattle.wb_recovery.proofs.Counting.{until_ask, until_answer}
+use Rattle.wb_recovery.proofs.NameLists.{listed_of}
 use Rattle.wb_recovery.proofs.FiredTimers.{ask_stays, answer_stays, quiet_stays}
 use Rattle.wb_recovery.proofs.Soundness.{keep_alike}
 
@@ -83,3 +89,33 @@ module _ (t : Tuning) (now : ℕ) (words : List ℕ) (f : NameValue → Timers) 
 
     pub due_answers_stay : (n : NameValue) → Contains answering n → is_answer_due now (g n).answer ≡ true
     due_answers_stay n c = ap (is_answer_due now) (same_answer n) ∙ (answers.members n).0 c
+
+-- ---- what a recovery stands for after a tick
+pub due_asks_same : (t : Tuning) (events : List Event) (value : RecoveryValue) (now : ℕ) (asking : List NameValue) → StandsFor t events value → Lists name_cmp (λ n. is_ask_due now (timers_in value n).ask ≡ true) asking → asking ≡ due_asks (names_of events) (timers_of t events) now
+due_asks_same t events value now asking s l = one_list name_total (λ n. is_ask_due now (timers_of t events n).ask ≡ true) _ _
+    (lists_same name_total _ _ _ (λ n h. ap (λ (r : Timers). is_ask_due now r.ask) (sym (s.timers n)) ∙ h) (λ n h. ap (λ (r : Timers). is_ask_due now r.ask) (s.timers n) ∙ h) l)
+    (listed_of (λ (r : Timers). is_ask_due now r.ask) refl t events)
+
+pub due_answers_same : (t : Tuning) (events : List Event) (value : RecoveryValue) (now : ℕ) (answering : List NameValue) → StandsFor t events value → Lists name_cmp (λ n. is_answer_due now (timers_in value n).answer ≡ true) answering → answering ≡ due_answers (names_of events) (timers_of t events) now
+due_answers_same t events value now answering s l = one_list name_total (λ n. is_answer_due now (timers_of t events n).answer ≡ true) _ _
+    (lists_same name_total _ _ _ (λ n h. ap (λ (r : Timers). is_answer_due now r.answer) (sym (s.timers n)) ∙ h) (λ n h. ap (λ (r : Timers). is_answer_due now r.answer) (s.timers n) ∙ h) l)
+    (listed_of (λ (r : Timers). is_answer_due now r.answer) refl t events)
+
+pub ticks : (now : ℕ) (words : List ℕ) (asking : List NameValue) (old mid new : RecoveryValue) → Lists name_cmp (λ n. is_ask_due now (timers_in old n).ask ≡ true) asking → Fires now words asking old mid → new.tuning ≡ mid.tuning → new.records ≡ mid.records → new.moment ≡ now → Accepts (Tick now words) old new
+ticks now words asking old mid new l fires t u m constants events s = record {
+  tuning = t ∙ fires.tuning ∙ s.tuning;
+  moment = m;
+  timers = λ n.
+      ap (λ records. timers_at records n) u
+      ∙ fires.timers n
+      ∙ ap (λ (c : Tuning). ticked c now (word_for words asking n) (timers_in old n)) s.tuning
+      ∙ ap (λ (xs : List NameValue). ticked constants now (word_for words xs n) (timers_in old n)) (due_asks_same constants events old now asking s l)
+      ∙ ap (ticked constants now (word_for words (due_asks (names_of events) (timers_of constants events) now) n)) (s.timers n);
+}
+
+-- the names whose timers are due, told of a recovery's alarms
+pub asks_until : (now : ℕ) (value : RecoveryValue) (xs : List NameValue) → Lists name_cmp (λ n. is_until now (ask_due (timers_in value n)) ≡ true) xs → Lists name_cmp (λ n. is_ask_due now (timers_in value n).ask ≡ true) xs
+asks_until now value xs l = lists_same name_total _ _ xs (λ n h. sym (until_ask now (timers_in value n).ask) ∙ h) (λ n h. until_ask now (timers_in value n).ask ∙ h) l
+
+pub answers_until : (now : ℕ) (value : RecoveryValue) (xs : List NameValue) → Lists name_cmp (λ n. is_until now (answer_due (timers_in value n)) ≡ true) xs → Lists name_cmp (λ n. is_answer_due now (timers_in value n).answer ≡ true) xs
+answers_until now value xs l = lists_same name_total _ _ xs (λ n h. sym (until_answer now (timers_in value n).answer) ∙ h) (λ n h. until_answer now (timers_in value n).answer ∙ h) l

@@ -7,12 +7,13 @@ ghost use Rattle.wb_recovery.specs.Timing.{are_constants, is_ask_due, is_answer_
 ghost use Rattle.wb_recovery.specs.Values.{timers_in, names_in, Replaces};
 ghost use Rattle.wb_recovery.specs.Firing.{Fires};
 ghost use Rattle.std.specs.Prelude.{Some as some, None as none};
-ghost use Rattle.wb_recovery.specs.Events.{Event, Notice, Asked, Got, Tick, names_of, timers_of, asking, due_asks, IsNextDue};
+ghost use Rattle.wb_recovery.specs.Events.{Event, Notice, Asked, Got, Tick, names_of, timers_of, asking, due_asks, actions_of, IsNextDue};
 ghost use Rattle.wb_recovery.specs.Standing.{StandsFor, Accepts};
 ghost use Rattle.wb_recovery.specs.declared.tuning.Tuning.{Tuning as Constants};
 
 use crate::alarms::Alarms;
-use crate::firing::{alarms_moved, answer_all, back_off_all};
+use crate::action::Action;
+use crate::firing::{actions, alarms_moved, answer_all, back_off_all};
 use crate::fault::{RecoveryFault, TuningFault};
 use crate::records::{rewrite, timers_of};
 use crate::timers::{AnswerTimer, AskTimer, Timers};
@@ -124,6 +125,32 @@ impl Recovery {
         }
         self.moment = now;
         Ok(())
+    }
+
+    /// Time goes on to a moment: each timer that is due by then fires once. Answers what to send:
+    /// a request for each name whose request timer fires, ascending, and then the drawop of each name
+    /// whose answer timer fires, ascending.
+    ///
+    /// A request timer that fires backs off with its own delay, and takes a word: the first word goes
+    /// to the smallest name. An answer timer that fires takes none; it ends, and its name is quiet for
+    /// three of its delays. Where nothing is due, no timer is looked at but the next ones.
+    ///
+    /// Refused with `BackInTime`, `Range` or `Memory`, in this order.
+    pub fn tick(&mut self, alloc: Global, now: u64, words: &[u64]) -> Result<Vec<Action>, RecoveryFault>
+        // as many words as `due_count` says
+        requires { length (due_asks (names_in self.old) (timers_in self.old) now) ≤ length words.now }
+        ensures fault { IsCheckedBy (call_fault self.old.moment now 0) result }
+        ensures actions { IfOk result (λ actions. (constants : Constants) (events : List Event) → StandsFor constants events self.old → actions.items ≡ actions_of constants events now) }
+        ensures ok { OnOk result (Accepts (Tick now words.now) self.old self.new) }
+        ensures err { OnErr result (self.new ≡ self.old) }
+    {
+        self.check(now, 0)?;
+        let asking = self.asks.names_until(alloc, now)?;
+        let answering = self.answers.names_until(alloc, now)?;
+        let actions = actions(alloc, &asking, &answering)?;
+        self.fire(alloc, &asking, &answering, now, words)?;
+        self.moment = now;
+        Ok(actions)
     }
 
     /// How many request timers are due at a moment, and so how many words `tick` then wants. It looks
