@@ -1,0 +1,14 @@
+pub mod Outcomes
+pub mod Bounds
+pub mod AlarmOrder
+pub mod AlarmMoves
+pub mod AlarmReads
+pub mod AlarmNames
+pub mod Soundness
+pub mod Accepting
+pub mod NameLists
+pub mod Counting
+pub mod AlarmLists
+pub mod NameRows
+pub mod FiredTimers
+pub mod Ticking

@@ -1,0 +1,114 @@
+-- How a recovery stays sound as the timers of a name are replaced.
+use Rattle.std.proofs.Common.{◌≡◌, ℕ, Bool, true, false, cond, List, refl, ap, ◌∙◌, sym, subst, Option, Some, None, ◌^◌, ◌<◌, true≢false, rules}
+use Rattle.std.specs.Prelude.{unwrap_or, IsSome}
+use Rattle.std.specs.BTreeMap.{BTreeMap, IsOrdered, get, is_at}
+use Rattle.std.specs.BTreeSet.{contains}
+use Rattle.std.specs.Map.{lookup}
+use Rattle.wb_names.specs.Values.{NameValue}
+use Rattle.wb_names.specs.Orders.{same_name, name_cmp}
+use Rattle.wb_names.proofs.Orders.{same_name-is}
+use Rattle.wb_recovery.specs.Timing.{no_timers, ask_due, answer_due, is_standing, AreDelays, with_ask, with_answer}
+use Rattle.wb_recovery.specs.Alarms.{Keep, with_due, alarm_cmp}
+use Rattle.wb_recovery.specs.Timing.{is_set_to}
+use Rattle.wb_recovery.specs.Values.{RecoveryValue, timers_at, timers_in, Replaces}
+use Rattle.wb_recovery.specs.Sound.{IsSound}
+use Rattle.wb_recovery.specs.declared.tuning.Tuning.{Tuning}
+use Rattle.wb_recovery.specs.declared.timers.Timers.{Timers}
+use Rattle.wb_recovery.specs.declared.timers.AskTimer.{AskTimer}
+use Rattle.wb_recovery.specs.declared.timers.AnswerTimer.{AnswerTimer}
+use Rattle.wb_recovery.specs.declared.alarms.Alarms.{Alarms}
+use Rattle.wb_recovery.proofs.AlarmOrder.{name_ties}
+use Rattle.wb_recovery.proofs.AlarmMoves.{keep_same}
+
+-- alarms of moments that are the same
+pub keep_alike : (f g : NameValue → Option ℕ) (alarms : Alarms) → ((n : NameValue) → f n ≡ g n) → Keep f alarms → Keep g alarms
+keep_alike f g alarms same keep = record { each = λ d n. keep.each d n ∙ ap (is_set_to d) (same n) }
+
+-- a map whose value at a name was written
+pub written : (old new : BTreeMap NameValue Timers) (name : NameValue) (after : Timers) → ((q : NameValue) → get name_cmp new q ≡ cond (is_at (name_cmp name) q) (Some after) (get name_cmp old q)) → (n : NameValue) → timers_at new.entries n ≡ cond (same_name name n) after (timers_at old.entries n)
+written old new name after f n = ap (λ (o : Option Timers). unwrap_or o no_timers) (f n ∙ ap (λ (b : Bool). cond b (Some after) (get name_cmp old n)) (sym (name_ties name n))) ∙ out (same_name name n) where
+  out : (b : Bool) → unwrap_or (cond b (Some after) (get name_cmp old n)) no_timers ≡ cond b after (timers_at old.entries n)
+  out true = refl
+  out false = refl
+
+module _ (name : NameValue) (after : Timers) (f g : NameValue → Timers) (replaced : (n : NameValue) → g n ≡ cond (same_name name n) after (f n)) where
+  pub dues_replaced : (due : Timers → Option ℕ) (n : NameValue) → with_due (λ m. due (f m)) name (due after) n ≡ due (g n)
+  dues_replaced due n = out (same_name name n) ∙ sym (ap due (replaced n)) where
+    out : (b : Bool) → cond b (due after) (due (f n)) ≡ due (cond b after (f n))
+    out true = refl
+    out false = refl
+
+  pub all_replaced : (P : Timers → Type 0) → P after → ((n : NameValue) → P (f n)) → (n : NameValue) → P (g n)
+  all_replaced P p q n = subst P (sym (replaced n)) (out (same_name name n)) where
+    out : (b : Bool) → P (cond b after (f n))
+    out true = p
+    out false = q n
+
+  -- alarms of moments that stay
+  pub keep_unmoved : (due : Timers → Option ℕ) (alarms : Alarms) → due (f name) ≡ due after → Keep (λ n. due (f n)) alarms → Keep (λ n. due (g n)) alarms
+  keep_unmoved due alarms same keep = keep_alike _ _ alarms (dues_replaced due) (record { each = keep_same (λ n. due (f n)) name (due after) (contains alarm_cmp alarms.set) same keep.each })
+
+  pub keep_moved_to : (due : Timers → Option ℕ) (o : Option ℕ) (alarms : Alarms) → o ≡ due after → Keep (with_due (λ n. due (f n)) name o) alarms → Keep (λ n. due (g n)) alarms
+  keep_moved_to due o alarms same keep = keep_alike _ _ alarms (λ n. ap (λ (p : Option ℕ). with_due (λ n. due (f n)) name p n) same ∙ dues_replaced due n) keep
+
+-- what a write at one name leaves
+module _ (t : Tuning) (m : ℕ) (old new : BTreeMap NameValue Timers) (asks answers : Alarms) (s : IsSound t m old asks answers) (name : NameValue) (before : Timers) (is : before ≡ timers_at old.entries name) (ordered : IsOrdered name_cmp new) where
+  abbrev pub Writes : Timers → Type 0
+  Writes after = (q : NameValue) → get name_cmp new q ≡ cond (is_at (name_cmp name) q) (Some after) (get name_cmp old q)
+
+  pub sound_ask : (ask : AskTimer) (moved : Alarms) (from : Option ℕ) → Writes (with_ask before (Some ask)) → ask.delay < 2 ^ 24 → from ≡ ask_due before → ((dues : NameValue → Option ℕ) → dues name ≡ from → Keep dues asks → Keep (with_due dues name (Some ask.due)) moved) → IsSound t m new moved answers
+  sound_ask ask moved from w d f k =
+      let r = written old new name (with_ask before (Some ask)) w in
+      let had : ask_due (timers_at old.entries name) ≡ from = ap ask_due (sym is) ∙ sym f in
+      let same : answer_due (timers_at old.entries name) ≡ answer_due (with_ask before (Some ask)) = ap answer_due (sym is) in
+      let delays = subst AreDelays (sym is) (s.delays name) in
+      record {
+        tuning = s.tuning;
+        moment = s.moment;
+        ordered = ordered;
+        delays = all_replaced name (with_ask before (Some ask)) _ _ r AreDelays (d, delays.1) s.delays;
+        asks = keep_moved_to name (with_ask before (Some ask)) _ _ r ask_due (Some ask.due) moved refl (k _ had s.asks);
+        answers = keep_unmoved name (with_ask before (Some ask)) _ _ r answer_due answers same s.answers;
+      }
+
+  pub sound_answer : (answer : AnswerTimer) (moved : Alarms) (from : Option ℕ) → Writes (with_answer before (Some answer)) → answer.delay < 2 ^ 24 → from ≡ answer_due before → ((dues : NameValue → Option ℕ) → dues name ≡ from → Keep dues answers → Keep (with_due dues name (Some answer.due)) moved) → IsSound t m new asks moved
+  sound_answer answer moved from w d f k =
+      let r = written old new name (with_answer before (Some answer)) w in
+      let had : answer_due (timers_at old.entries name) ≡ from = ap answer_due (sym is) ∙ sym f in
+      let same : ask_due (timers_at old.entries name) ≡ ask_due (with_answer before (Some answer)) = ap ask_due (sym is) in
+      let delays = subst AreDelays (sym is) (s.delays name) in
+      record {
+        tuning = s.tuning;
+        moment = s.moment;
+        ordered = ordered;
+        delays = all_replaced name (with_answer before (Some answer)) _ _ r AreDelays (delays.0, d) s.delays;
+        asks = keep_unmoved name (with_answer before (Some answer)) _ _ r ask_due asks same s.asks;
+        answers = keep_moved_to name (with_answer before (Some answer)) _ _ r answer_due (Some answer.due) moved refl (k _ had s.answers);
+      }
+
+  pub sound_end : (quiet : ℕ) (a b : Alarms) (from to : Option ℕ) → ((n : NameValue) → timers_at new.entries n ≡ cond (same_name name n) (record { ask = None; answer = None; quiet = quiet }) (timers_at old.entries n)) → from ≡ ask_due before → to ≡ answer_due before → ((dues : NameValue → Option ℕ) → dues name ≡ from → Keep dues asks → Keep (with_due dues name None) a) → ((dues : NameValue → Option ℕ) → dues name ≡ to → Keep dues answers → Keep (with_due dues name None) b) → IsSound t m new a b
+  sound_end quiet a b from to r f g h k = record {
+    tuning = s.tuning;
+    moment = s.moment;
+    ordered = ordered;
+    delays = all_replaced name _ _ _ r AreDelays (ends quiet) s.delays;
+    asks = keep_moved_to name _ _ _ r ask_due None a refl (h _ (ap ask_due (sym is) ∙ sym f) s.asks);
+    answers = keep_moved_to name _ _ _ r answer_due None b refl (k _ (ap answer_due (sym is) ∙ sym g) s.answers);
+  } where
+    ends : (q : ℕ) → AreDelays (record { ask = None; answer = None; quiet = q })
+    ends q = search rules
+
+-- a name with a timer has a record
+pub has_record : (kept : BTreeMap NameValue Timers) (name : NameValue) → is_standing (timers_at kept.entries name) ≡ true → IsSome (get name_cmp kept name)
+has_record kept name = from (get name_cmp kept name) where
+  from : (o : Option Timers) → is_standing (unwrap_or o no_timers) ≡ true → IsSome o
+  from None h = absurd (true≢false (sym h))
+  from (Some t) h = refl
+
+-- the same, told of the values
+pub replaced_value : (old new : BTreeMap NameValue Timers) (name : NameValue) (after : Timers) (t : Tuning) (m : ℕ) (value : RecoveryValue) → record { tuning = t; moment = m; records = old.entries } ≡ value → ((n : NameValue) → timers_at new.entries n ≡ cond (same_name name n) after (timers_at old.entries n)) → Replaces value (record { tuning = t; moment = m; records = new.entries }) name after
+replaced_value old new name after t m value is w = record {
+  tuning = ap (λ (v : RecoveryValue). v.tuning) is;
+  moment = ap (λ (v : RecoveryValue). v.moment) is;
+  timers = λ n. w n ∙ ap (λ (v : RecoveryValue). cond (same_name name n) after (timers_in v n)) is;
+}

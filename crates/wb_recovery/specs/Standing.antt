@@ -1,0 +1,16 @@
+-- What a recovery stands for: the list of the calls that it accepted.
+use Rattle.std.specs.Prelude.{◌≡◌, List, ◌∷◌}
+use Rattle.wb_names.specs.Values.{NameValue}
+use Rattle.wb_recovery.specs.Values.{RecoveryValue, timers_in}
+use Rattle.wb_recovery.specs.Events.{Event, moment_of, timers_of}
+use Rattle.wb_recovery.specs.declared.tuning.Tuning.{Tuning}
+
+-- with these constants, after these calls
+pub record StandsFor (constants : Tuning) (events : List Event) (value : RecoveryValue) : Type 0 where
+  pub tuning : value.tuning ≡ constants
+  pub moment : value.moment ≡ moment_of events
+  pub timers : (n : NameValue) → timers_in value n ≡ timers_of constants events n
+
+-- the call is accepted: what stood for some calls stands for these and this one
+abbrev pub Accepts : Event → RecoveryValue → RecoveryValue → Type 0
+Accepts event old new = (constants : Tuning) (events : List Event) → StandsFor constants events old → StandsFor constants (event ∷ events) new

@@ -1,0 +1,121 @@
+ghost use Rattle.std.specs.Prelude.{◌≡◌, ◌<◌, ◌≤◌, ◌^◌, ◌&&◌, ◌||◌, ◌++◌, ℕ, length, map, not, true, IsTrue, IfOk, OnOk, Contains, is_some, if◌then◌else◌};
+ghost use Rattle.std.specs.BTreeMap.{IsOrdered};
+ghost use Rattle.std.specs.List.Sorted.{IsStrictlySortedBy};
+ghost use Rattle.wb_names.specs.Values.{NameValue};
+ghost use Rattle.wb_names.specs.Orders.{name_cmp, same_name};
+ghost use Rattle.wb_recovery.specs.declared.action.Action.TheVariants.{Ask, Answer};
+ghost use Rattle.wb_recovery.specs.Timing.{are_constants, is_answer_due, is_set_to, ask_due, answer_due, AreDelays};
+ghost use Rattle.wb_recovery.specs.Alarms.{alarm, has, among, Keep, AreMoved};
+ghost use Rattle.wb_recovery.specs.Values.{timers_at};
+ghost use Rattle.wb_recovery.specs.Firing.{with_ask_fired, with_answer_fired};
+
+use crate::action::Action;
+use crate::alarms::{Alarm, Alarms};
+use crate::records::{rewrite, timers_of};
+use crate::timers::Timers;
+use crate::tuning::Tuning;
+use std::alloc::{AllocError, Global};
+use std::collections::BTreeMap;
+use wb_names::Name;
+
+/// The actions of a tick: requests, and then answers.
+pub(crate) fn actions(alloc: Global, asking: &[Name], answering: &[Name]) -> Result<Vec<Action>, AllocError>
+    ensures { IfOk result (λ actions. actions.items ≡ map Ask asking.now ++ map Answer answering.now) }
+{
+    let requests = asking.iter().map(|name| Action::Ask(*name));
+    let answers = answering.iter().map(|name| Action::Answer(*name));
+    requests.chain(answers).collect(alloc)
+}
+
+/// Backs the request timers of these names off, which are due, each with its own word.
+pub(crate) fn back_off_all(
+    tuning: Tuning,
+    records: &mut BTreeMap<Name, Timers>,
+    asking: &[Name],
+    now: u64,
+    words: &[u64],
+)
+    requires tuning { IsTrue (are_constants tuning) }
+    requires moment { now < 2 ^ 48 }
+    requires ordered { IsOrdered name_cmp records.old }
+    requires delays { (n : NameValue) → AreDelays (timers_at records.old.entries n) }
+    requires rising { IsStrictlySortedBy name_cmp asking.now }
+    requires standing { (n : NameValue) → Contains asking.now n → is_some (timers_at records.old.entries n).ask ≡ true }
+    requires words { length asking.now ≤ length words.now }
+    ensures written { (n : NameValue) → timers_at records.new.entries n ≡ (if among asking.now n then with_ask_fired tuning now words.now asking.now (timers_at records.old.entries) n else timers_at records.old.entries n) }
+    ensures delays { (n : NameValue) → AreDelays (timers_at records.new.entries n) }
+    ensures ordered { IsOrdered name_cmp records.new }
+{
+    for (count, name) in asking.iter().enumerate() {
+        let timers = timers_of(records, name);
+        rewrite(records, *name, timers.ask_fired(tuning, now, words[count]));
+    }
+}
+
+/// Ends the answer timers of these names, which are due, and their alarms.
+pub(crate) fn answer_all(records: &mut BTreeMap<Name, Timers>, alarms: &mut Alarms, answering: &[Name], now: u64)
+    requires moment { now < 2 ^ 48 }
+    requires ordered { IsOrdered name_cmp records.old }
+    requires delays { (n : NameValue) → AreDelays (timers_at records.old.entries n) }
+    requires kept { Keep (λ n. answer_due (timers_at records.old.entries n)) alarms.old }
+    requires rising { IsStrictlySortedBy name_cmp answering.now }
+    requires due { (n : NameValue) → Contains answering.now n → is_answer_due now (timers_at records.old.entries n).answer ≡ true }
+    ensures written { (n : NameValue) → timers_at records.new.entries n ≡ (if among answering.now n then with_answer_fired now (timers_at records.old.entries) n else timers_at records.old.entries n) }
+    ensures delays { (n : NameValue) → AreDelays (timers_at records.new.entries n) }
+    ensures kept { Keep (λ n. answer_due (timers_at records.new.entries n)) alarms.new }
+    ensures ordered { IsOrdered name_cmp records.new }
+{
+    for name in answering {
+        let timers = timers_of(records, name);
+        alarms.clear(*name, timers.answer_due());
+        rewrite(records, *name, timers.answer_fired(now));
+    }
+}
+
+/// The alarms that request timers leave when they fire, and those that they take.
+#[derive(Debug, Drop)]
+pub(crate) struct Moves {
+    pub(crate) left: Vec<Alarm>,
+    pub(crate) taken: Vec<Alarm>,
+}
+
+/// What becomes of the alarms when the request timers of these names fire.
+pub(crate) fn alarms_moved(
+    alloc: Global,
+    tuning: Tuning,
+    records: &BTreeMap<Name, Timers>,
+    asking: &[Name],
+    now: u64,
+    words: &[u64],
+) -> Result<Moves, AllocError>
+    requires tuning { IsTrue (are_constants tuning) }
+    requires moment { now < 2 ^ 48 }
+    requires delays { (n : NameValue) → AreDelays (timers_at records.now.entries n) }
+    requires rising { IsStrictlySortedBy name_cmp asking.now }
+    requires words { length asking.now ≤ length words.now }
+    ensures left { IfOk result (λ moves. AreMoved asking.now (λ n. ask_due (timers_at records.now.entries n)) (λ n. ask_due (with_ask_fired tuning now words.now asking.now (timers_at records.now.entries) n)) moves.left.items) }
+    ensures taken { IfOk result (λ moves. AreMoved asking.now (λ n. ask_due (with_ask_fired tuning now words.now asking.now (timers_at records.now.entries) n)) (λ n. ask_due (timers_at records.now.entries n)) moves.taken.items) }
+{
+    let mut left = Vec::new(alloc);
+    let mut taken = Vec::new(alloc);
+    for (count, name) in asking.iter().enumerate() {
+        let before = timers_of(records, name);
+        let after = before.ask_fired(tuning, now, words[count]);
+        push_unless(&mut left, *name, before.ask_due(), after.ask_due())?;
+        push_unless(&mut taken, *name, after.ask_due(), before.ask_due())?;
+    }
+    Ok(Moves { left, taken })
+}
+
+/// Adds the alarm of a name at a moment, unless the other moment is the same.
+fn push_unless(alarms: &mut Vec<Alarm>, name: Name, due: Option<u64>, other: Option<u64>) -> Result<(), AllocError>
+    ensures { OnOk result ((d : ℕ) (n : NameValue) → has alarms.new.items (alarm d n) ≡ (has alarms.old.items (alarm d n) || (same_name name n && (is_set_to d due && not (is_set_to d other))))) }
+{
+    if due == other {
+        return Ok(());
+    }
+    if let Some(due) = due {
+        alarms.push(Alarm::new(due, name))?;
+    }
+    Ok(())
+}

@@ -1,0 +1,319 @@
+ghost use Rattle.std.specs.Prelude.{◌≡◌, ◌+◌, ◌*◌, ◌<◌, ◌≤◌, ◌^◌, ◌∷◌, [], ℕ, List, Option, false, true, if◌then◌else◌, IsTrue, IsOk, IfOk, OnOk, OnErr, IfSome, MatchOption, MatchResult, length};
+ghost use Rattle.wb_names.specs.Values.{NameValue};
+ghost use Rattle.wb_names.specs.Orders.{same_name, name_cmp};
+ghost use Rattle.wb_names.specs.Listing.{Lists};
+ghost use Rattle.wb_recovery.specs.Faults.{call_fault, IsCheckedBy};
+ghost use Rattle.wb_recovery.specs.Timing.{are_constants, is_ask_due, is_answer_due, is_standing, AreDelays, with_ask, with_answer};
+ghost use Rattle.wb_recovery.specs.Values.{timers_in, names_in, Replaces};
+ghost use Rattle.wb_recovery.specs.Firing.{Fires};
+ghost use Rattle.std.specs.Prelude.{Some as some, None as none};
+ghost use Rattle.wb_recovery.specs.Events.{Event, Notice, Asked, Got, Tick, names_of, timers_of, asking, due_asks, actions_of, IsNextDue};
+ghost use Rattle.wb_recovery.specs.Standing.{StandsFor, Accepts};
+ghost use Rattle.wb_recovery.specs.declared.tuning.Tuning.{Tuning as Constants};
+
+use crate::alarms::Alarms;
+use crate::action::Action;
+use crate::firing::{actions, alarms_moved, answer_all, back_off_all};
+use crate::fault::{RecoveryFault, TuningFault};
+use crate::records::{rewrite, timers_of};
+use crate::timers::{AnswerTimer, AskTimer, Timers};
+use crate::tuning::Tuning;
+use std::alloc::{AllocError, Global};
+use std::collections::BTreeMap;
+use std::marker::Model;
+use wb_names::Name;
+
+/// The request and answer timers of one host.
+///
+/// What it holds is a function of the calls that it accepted: the contracts say of each call that a
+/// recovery which stands for a list of calls stands, once it has accepted this one, for the list
+/// with this one too. `timers_of` says what the timers of a name are after such a list.
+#[derive(Debug, Drop)]
+pub struct Recovery {
+    tuning: Tuning,
+    /// The moment of the last accepted call.
+    moment: u64,
+    /// What is kept of each name that ever had a timer.
+    records: BTreeMap<Name, Timers>,
+    /// The alarms of the request timers, which say what is due without a walk over all names.
+    asks: Alarms,
+    /// The alarms of the answer timers.
+    answers: Alarms,
+}
+
+impl Model for Recovery {
+    ghost use Rattle.wb_recovery.specs.Values.{RecoveryValue};
+    ghost use Rattle.wb_recovery.specs.Sound.{IsSound};
+
+    ghost Value = { RecoveryValue };
+
+    ghost view = { λ r. record { tuning = r.tuning; moment = r.moment; records = r.records.entries } };
+
+    ghost invariant = { λ r. IsSound r.tuning r.moment r.records r.asks r.answers };
+}
+
+impl Recovery {
+    /// A recovery without timers. A constant that is not 1 to 16 is refused with `Constant`.
+    pub fn new(alloc: Global, tuning: Tuning) -> Result<Recovery, TuningFault>
+        ensures constants { MatchResult result (λ r. IsTrue (are_constants tuning)) (λ e. are_constants tuning ≡ false) }
+        ensures empty { IfOk result (StandsFor tuning []) }
+    {
+        if !tuning.is_in_range() {
+            return Err(TuningFault::Constant);
+        }
+        Ok(Recovery {
+            tuning,
+            moment: 0,
+            records: BTreeMap::new(alloc),
+            asks: Alarms::new(alloc),
+            answers: Alarms::new(alloc),
+        })
+    }
+
+    /// A name is missed: sets its request timer, unless one stands.
+    ///
+    /// Refused with `BackInTime`, `Range` or `Memory`, in this order.
+    pub fn notice(&mut self, name: Name, now: u64, delay: u64, word: u64) -> Result<(), RecoveryFault>
+        ensures fault { IsCheckedBy (call_fault self.old.moment now delay) result }
+        ensures ok { OnOk result (Accepts (Notice name now delay word) self.old self.new) }
+        ensures err { OnErr result (self.new ≡ self.old) }
+    {
+        self.check(now, delay)?;
+        let before = self.timers(&name);
+        let ask = before.noticed(self.tuning, now, delay, word);
+        self.set_ask(name, before, ask)?;
+        self.moment = now;
+        Ok(())
+    }
+
+    /// Another member asks for a name. Where it is not held, a request timer of it that is not deaf
+    /// backs off; `delay` is that to the name's source. Where it is held, an answer timer is set,
+    /// unless one stands or the name is quiet; `delay` is that to the member who asks.
+    ///
+    /// Refused with `BackInTime`, `Range` or `Memory`, in this order.
+    pub fn asked(&mut self, name: Name, held: bool, now: u64, delay: u64, word: u64) -> Result<(), RecoveryFault>
+        ensures fault { IsCheckedBy (call_fault self.old.moment now delay) result }
+        ensures ok { OnOk result (Accepts (Asked name held now delay word) self.old self.new) }
+        ensures err { OnErr result (self.new ≡ self.old) }
+    {
+        self.check(now, delay)?;
+        let before = self.timers(&name);
+        if held {
+            let answer = before.asked_for(self.tuning, now, delay, word);
+            self.set_answer(name, before, answer)?;
+        } else {
+            let ask = before.overheard(self.tuning, now, delay, word);
+            self.set_ask(name, before, ask)?;
+        }
+        self.moment = now;
+        Ok(())
+    }
+
+    /// A name has come: its timers end, and where one stood the name is quiet for three delays to
+    /// its source.
+    ///
+    /// Refused with `BackInTime` or `Range`, in this order. It takes no memory.
+    pub fn got(&mut self, name: Name, now: u64, delay: u64) -> Result<(), RecoveryFault>
+        ensures fault { MatchOption (call_fault self.old.moment now delay) (IsOk result) (λ fault. result ≡ Err fault) }
+        ensures ok { OnOk result (Accepts (Got name now delay) self.old self.new) }
+        ensures err { OnErr result (self.new ≡ self.old) }
+    {
+        self.check(now, delay)?;
+        let before = self.timers(&name);
+        if before.is_standing() {
+            self.end(name, before, now + 3 * delay);
+        }
+        self.moment = now;
+        Ok(())
+    }
+
+    /// Time goes on to a moment: each timer that is due by then fires once. Answers what to send:
+    /// a request for each name whose request timer fires, ascending, and then the drawop of each name
+    /// whose answer timer fires, ascending.
+    ///
+    /// A request timer that fires backs off with its own delay, and takes a word: the first word goes
+    /// to the smallest name. An answer timer that fires takes none; it ends, and its name is quiet for
+    /// three of its delays. Where nothing is due, no timer is looked at but the next ones.
+    ///
+    /// Refused with `BackInTime`, `Range` or `Memory`, in this order.
+    pub fn tick(&mut self, alloc: Global, now: u64, words: &[u64]) -> Result<Vec<Action>, RecoveryFault>
+        // as many words as `due_count` says
+        requires { length (due_asks (names_in self.old) (timers_in self.old) now) ≤ length words.now }
+        ensures fault { IsCheckedBy (call_fault self.old.moment now 0) result }
+        ensures actions { IfOk result (λ actions. (constants : Constants) (events : List Event) → StandsFor constants events self.old → actions.items ≡ actions_of constants events now) }
+        ensures ok { OnOk result (Accepts (Tick now words.now) self.old self.new) }
+        ensures err { OnErr result (self.new ≡ self.old) }
+    {
+        self.check(now, 0)?;
+        let asking = self.asks.names_until(alloc, now)?;
+        let answering = self.answers.names_until(alloc, now)?;
+        let actions = actions(alloc, &asking, &answering)?;
+        self.fire(alloc, &asking, &answering, now, words)?;
+        self.moment = now;
+        Ok(actions)
+    }
+
+    /// How many request timers are due at a moment, and so how many words `tick` then wants. It looks
+    /// at these timers alone, and at the next one.
+    pub fn due_count(&self, now: u64) -> usize
+        ensures count { result ≡ length (due_asks (names_in self.now) (timers_in self.now) now) }
+        ensures events { (constants : Constants) (events : List Event) → StandsFor constants events self.now → result ≡ length (due_asks (names_of events) (timers_of constants events) now) }
+    {
+        self.asks.count_until(now)
+    }
+
+    /// How many request timers stand: a number that is kept.
+    pub fn asks(&self) -> usize
+        ensures count { result ≡ length (asking (names_in self.now) (timers_in self.now)) }
+        ensures events { (constants : Constants) (events : List Event) → StandsFor constants events self.now → result ≡ length (asking (names_of events) (timers_of constants events)) }
+    {
+        self.asks.len()
+    }
+
+    /// The least moment at which a timer is due, and so when the next `tick` has something to do.
+    /// None where no timer stands.
+    pub fn next_due(&self) -> Option<u64>
+        ensures { IsNextDue (timers_in self.now) result }
+    {
+        match (self.asks.first(), self.answers.first()) {
+            (Some(ask), Some(answer)) => Some(ask.min(answer)),
+            (Some(due), None) | (None, Some(due)) => Some(due),
+            (None, None) => None,
+        }
+    }
+
+    /// The request timer of a name.
+    pub fn ask_of(&self, name: &Name) -> Option<AskTimer>
+        ensures { result ≡ (timers_in self.now name.now).ask }
+    {
+        self.timers(name).ask
+    }
+
+    /// The answer timer of a name.
+    pub fn answer_of(&self, name: &Name) -> Option<AnswerTimer>
+        ensures { result ≡ (timers_in self.now name.now).answer }
+    {
+        self.timers(name).answer
+    }
+
+    /// The moment before which the name is not answered, or 0.
+    pub fn quiet_of(&self, name: &Name) -> u64
+        ensures { result ≡ (timers_in self.now name.now).quiet }
+    {
+        self.timers(name).quiet
+    }
+
+    /// An equal recovery. A change of one leaves the other as it is.
+    pub fn copy(&self, alloc: Global) -> Result<Recovery, AllocError>
+        ensures { IfOk result (λ r. r ≡ self.now) }
+    {
+        Ok(Recovery {
+            tuning: self.tuning,
+            moment: self.moment,
+            records: self.records.clone()?,
+            asks: self.asks.copy()?,
+            answers: self.answers.copy()?,
+        })
+    }
+
+    /// What is kept of a name.
+    fn timers(&self, name: &Name) -> Timers
+        ensures timers { result ≡ timers_in self.now name.now }
+        ensures delays { AreDelays result }
+    {
+        timers_of(&self.records, name)
+    }
+
+    /// Refuses a moment below the last one, and then a moment or delay out of its range.
+    fn check(&self, now: u64, delay: u64) -> Result<(), RecoveryFault>
+        ensures fault { MatchOption (call_fault self.now.moment now delay) (IsOk result) (λ fault. result ≡ Err fault) }
+        ensures moment { OnOk result (now < 2 ^ 48) }
+        ensures delay { OnOk result (delay < 2 ^ 24) }
+        ensures tuning { IsTrue (are_constants self.now.tuning) }
+    {
+        if now < self.moment {
+            return Err(RecoveryFault::BackInTime);
+        }
+        if now >= 1 << 48 || delay >= 1 << 24 {
+            return Err(RecoveryFault::Range);
+        }
+        Ok(())
+    }
+
+    /// Sets or moves the request timer of a name, where it is to be.
+    fn set_ask(&mut self, name: Name, before: Timers, ask: Option<AskTimer>) -> Result<(), AllocError>
+        requires before { before ≡ timers_in self.old name }
+        requires delay { IfSome ask (λ timer. timer.delay < 2 ^ 24) }
+        ensures ok { OnOk result (Replaces self.old self.new name (with_ask before ask)) }
+        ensures err { OnErr result (self.new ≡ self.old) }
+    {
+        let Some(ask) = ask else {
+            return Ok(());
+        };
+        self.asks.set(name, before.ask_due(), ask.due)?;
+        let after = Timers {
+            ask: Some(ask),
+            ..before
+        };
+        if self.records.insert(name, after).is_err() {
+            self.asks.clear(name, Some(ask.due));
+            return Err(AllocError);
+        }
+        Ok(())
+    }
+
+    /// Sets the answer timer of a name, where it is to be.
+    fn set_answer(&mut self, name: Name, before: Timers, answer: Option<AnswerTimer>) -> Result<(), AllocError>
+        requires before { before ≡ timers_in self.old name }
+        requires delay { IfSome answer (λ timer. timer.delay < 2 ^ 24) }
+        ensures ok { OnOk result (Replaces self.old self.new name (with_answer before answer)) }
+        ensures err { OnErr result (self.new ≡ self.old) }
+    {
+        let Some(answer) = answer else {
+            return Ok(());
+        };
+        self.answers.set(name, before.answer_due(), answer.due)?;
+        let after = Timers {
+            answer: Some(answer),
+            ..before
+        };
+        if self.records.insert(name, after).is_err() {
+            self.answers.clear(name, Some(answer.due));
+            return Err(AllocError);
+        }
+        Ok(())
+    }
+
+    /// Ends the timers of a name, of which one stands, and leaves it quiet up to a moment. It takes
+    /// no memory, since the name has its record.
+    fn end(&mut self, name: Name, before: Timers, quiet: u64)
+        requires before { before ≡ timers_in self.old name }
+        requires standing { is_standing before ≡ true }
+        ensures { Replaces self.old self.new name (record { ask = none; answer = none; quiet = quiet }) }
+    {
+        self.asks.clear(name, before.ask_due());
+        self.answers.clear(name, before.answer_due());
+        let after = Timers {
+            ask: None,
+            answer: None,
+            quiet,
+        };
+        rewrite(&mut self.records, name, after);
+    }
+
+    /// Fires the timers of these names, which are due. All growth comes first.
+    fn fire(&mut self, alloc: Global, asking: &[Name], answering: &[Name], now: u64, words: &[u64]) -> Result<(), AllocError>
+        requires moment { now < 2 ^ 48 }
+        requires asking { Lists name_cmp (λ n. is_ask_due now (timers_in self.old n).ask ≡ true) asking.now }
+        requires answering { Lists name_cmp (λ n. is_answer_due now (timers_in self.old n).answer ≡ true) answering.now }
+        requires words { length asking.now ≤ length words.now }
+        ensures ok { OnOk result (Fires now words.now asking.now self.old self.new) }
+        ensures err { OnErr result (self.new ≡ self.old) }
+    {
+        let moves = alarms_moved(alloc, self.tuning, &self.records, asking, now, words)?;
+        self.asks.exchange(&moves.left, &moves.taken)?;
+        back_off_all(self.tuning, &mut self.records, asking, now, words);
+        answer_all(&mut self.records, &mut self.answers, answering, now);
+        Ok(())
+    }
+}
