@@ -1,0 +1,11 @@
+pub mod PageOrder
+pub mod HeldNumbers
+pub mod GreatestNumbers
+pub mod Reports
+pub mod Lists
+pub mod JoinedMarks
+pub mod OneGaps
+pub mod RangeSteps
+pub mod Filling
+pub mod Rearranged
+pub mod MergeLength

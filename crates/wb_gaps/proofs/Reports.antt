@@ -1,0 +1,82 @@
+-- The marks of the numbers that a page holds are its report.
+use Rattle.std.proofs.Common.{◌≡◌, ℕ, zero, suc, ◌<◌, ◌≤◌, Bool, true, false, cond, max, List, [], ◌∷◌, length, refl, ap, ◌∙◌, sym, subst, arith, ◌⊎◌, inl, inr, ⊎_elim, eqb-true, true≢false}
+use Rattle.std.specs.Prelude.{nat_eq, ◌&&◌}
+use Rattle.std.proofs.lemmas.Bool.{cases_lt}
+use Rattle.std.proofs.lemmas.Bool.Decides.{nat_tests}
+use Rattle.wb_names.specs.Values.{NameValue, DrawopValue, MarkValue}
+use Rattle.wb_names.specs.History.{IsHeld, name_of, is_of, highest}
+use Rattle.wb_names.specs.Marks.{mark_of, IsReport}
+use Rattle.wb_names.specs.declared.name.PageId.{PageId}
+use Rattle.wb_names.proofs.Orders.{and_both, same_page-is, name_parts}
+use Rattle.wb_gaps.specs.Numbers.{AreNumbers}
+use Rattle.wb_gaps.specs.Greatest.{IsGreatest, HasNumber, AreGreatest}
+use Rattle.wb_gaps.proofs.HeldNumbers.{same_page-here}
+use Rattle.wb_gaps.proofs.GreatestNumbers.{one_greatest}
+use Rattle.wb_gaps.specs.declared.held.Number.{Number}
+
+held_here : (d : DrawopValue) (history : List DrawopValue) (page : PageId) (source : ℕ) → is_of page source d ≡ true → IsHeld (d ∷ history) page source d.name.seq
+held_here d history page source e = let h = and_both _ _ e in (0, d, omega arith, refl, name_parts _ _ _ _ _ _ (eqb-true d.name.source source h.1) (same_page-is d.name.page page h.0) refl)
+
+held_there : (d : DrawopValue) (history : List DrawopValue) (page : PageId) (source n : ℕ) → IsHeld history page source n → IsHeld (d ∷ history) page source n
+held_there d history page source n h = (suc h.0, h.1, omega arith, h.3, h.4)
+
+is_of-here : (d : DrawopValue) (page : PageId) (source n : ℕ) → d.name ≡ name_of page source n → is_of page source d ≡ true
+is_of-here d page source n e =
+    let p = same_page-here d.name.page page (ap (λ (v : NameValue). v.page) e) in
+    let s : d.name.source ≡ source = ap (λ (v : NameValue). v.source) e in
+    let t : nat_eq d.name.source source ≡ true = grind (arith, nat_tests) in
+    ap (λ (b : Bool). b && nat_eq d.name.source source) p ∙ t
+
+-- of a first member: it has this number, or a later one has it
+held_cases : (d : DrawopValue) (history : List DrawopValue) (page : PageId) (source n : ℕ) → IsHeld (d ∷ history) page source n → (d.name ≡ name_of page source n) ⊎ IsHeld history page source n
+held_cases d history page source n (zero, x, lt, is, e) = inl (ap (λ (v : DrawopValue). v.name) is ∙ e)
+held_cases d history page source n (suc k, x, lt, is, e) = inr (k, x, omega arith, is, e)
+
+greatest_own : (d : DrawopValue) (history : List DrawopValue) (page : PageId) (source high : ℕ) → is_of page source d ≡ true → IsGreatest (IsHeld history page source) high → IsGreatest (IsHeld (d ∷ history) page source) (max d.name.seq high)
+greatest_own d history page source high own g = record {
+  bound = λ n h. ⊎_elim
+      (λ (e : d.name ≡ name_of page source n). let seq : d.name.seq ≡ n = ap (λ (v : NameValue). v.seq) e in omega arith)
+      (λ (c : IsHeld history page source n). let le : n ≤ high = g.bound n c in omega arith)
+      (held_cases d history page source n h);
+  reached = ⊎_elim
+      (λ (lt : d.name.seq < high).
+      let top : max d.name.seq high ≡ high = omega arith in
+      ⊎_elim (λ (e : high ≡ 0). absurd (omega arith)) (λ (c : IsHeld history page source high). inr (subst (IsHeld (d ∷ history) page source) (sym top) (held_there d history page source high c))) g.reached)
+      (λ (le : high ≤ d.name.seq).
+      let top : max d.name.seq high ≡ d.name.seq = omega arith in
+      inr (subst (IsHeld (d ∷ history) page source) (sym top) (held_here d history page source own)))
+      (cases_lt d.name.seq high);
+}
+
+greatest_other : (d : DrawopValue) (history : List DrawopValue) (page : PageId) (source high : ℕ) → is_of page source d ≡ false → IsGreatest (IsHeld history page source) high → IsGreatest (IsHeld (d ∷ history) page source) (max 0 high)
+greatest_other d history page source high other g =
+    let top : max 0 high ≡ high = omega arith in
+    subst (IsGreatest (IsHeld (d ∷ history) page source)) (sym top) (record {
+      bound = λ n h. ⊎_elim
+          (λ (e : d.name ≡ name_of page source n). absurd (true≢false (sym (is_of-here d page source n e) ∙ other)))
+          (λ (c : IsHeld history page source n). g.bound n c)
+          (held_cases d history page source n h);
+      reached = ⊎_elim (λ (e : high ≡ 0). inl e) (λ (c : IsHeld history page source high). inr (held_there d history page source high c)) g.reached;
+    })
+
+pub greatest_held : (history : List DrawopValue) (page : PageId) (source : ℕ) → IsGreatest (IsHeld history page source) (highest page source history)
+greatest_held [] page source = record { bound = λ n h. let lt : h.0 < 0 = h.2 in absurd (omega arith); reached = inl refl }
+greatest_held (d ∷ history) page source =
+    let rest = greatest_held history page source in
+    elim (is_of page source d) as (λ b. is_of page source d ≡ b → IsGreatest (IsHeld (d ∷ history) page source) (max (cond b d.name.seq 0) (highest page source history))) [
+      | true ↦ λ e. greatest_own d history page source _ e rest
+      | false ↦ λ e. greatest_other d history page source _ e rest
+    ] refl
+
+-- the marks have the greatest number that is held
+pub highest_from_marks : (history : List DrawopValue) (page : PageId) (numbers : List Number) (marks : List MarkValue) → AreNumbers history page numbers → AreGreatest numbers marks → (source : ℕ) → mark_of marks source ≡ highest page source history
+highest_from_marks history page numbers marks held tops source =
+    one_greatest (HasNumber numbers source) (IsHeld history page source) _ _ (tops.greatest source) (greatest_held history page source)
+    (λ n h. (held.members (record { source = source; seq = n })).0 h)
+    (λ n h. (held.members (record { source = source; seq = n })).1 h)
+
+-- and so they are the report, since there are no more of them than members
+pub is_report : (history : List DrawopValue) (page : PageId) (numbers : List Number) (marks : List MarkValue) → AreNumbers history page numbers → AreGreatest numbers marks → length numbers ≤ length history → length history ≤ 65535 → IsReport history page marks
+is_report history page numbers marks held tops short few =
+    let fewer = tops.few in
+    (record { ascending = tops.ascending; positive = tops.positive; few = omega arith }, highest_from_marks history page numbers marks held tops)

@@ -1,0 +1,6 @@
+use Rattle.std.proofs.Common.{◌≡◌, ◌++◌, drop}
+use Rattle.wb_gaps.proofs.GreatestNumbers.{last_marks}
+use Rattle.wb_gaps.proofs.highest.highs.Given as goal
+
+abbrev pub invariant-loop-place : goal.invariant-loop-place
+invariant-loop-place l = l.marks.items ++ last_marks (drop l.place l.numbers) ≡ last_marks l.numbers

@@ -1,0 +1,52 @@
+-- Laws of gaps, reports, page lists and merges.
+use Rattle.std.specs.Prelude.{◌≡◌, ℕ, List, IsPermutation, length, max}
+use Rattle.wb_names.specs.Values.{DrawopValue, MarkValue}
+use Rattle.wb_names.specs.History.{IsHeld}
+use Rattle.wb_names.specs.Marks.{mark_of, IsReport, IsMerge}
+use Rattle.wb_names.specs.Ascending.{AreMarks}
+use Rattle.wb_names.specs.declared.gap.Gap.{Gap}
+use Rattle.wb_names.specs.declared.name.PageId.{PageId}
+use Rattle.wb_gaps.specs.Gaps.{AreGaps}
+use Rattle.wb_gaps.specs.Greatest.{IsGreatest}
+use Rattle.wb_gaps.specs.Merging.{source_count}
+use Rattle.wb_gaps.specs.Pages.{ArePages}
+
+-- there is one list of gaps
+abbrev pub OneGaps : Type 0
+OneGaps = (history : List DrawopValue) (page : PageId) (marks : List MarkValue) (gaps others : List Gap) → AreGaps history page marks gaps → AreGaps history page marks others → gaps ≡ others
+
+-- there is one report
+abbrev pub OneReport : Type 0
+OneReport = (history : List DrawopValue) (page : PageId) (marks others : List MarkValue) → IsReport history page marks → IsReport history page others → marks ≡ others
+
+-- there is one list of pages
+abbrev pub OnePages : Type 0
+OnePages = (history : List DrawopValue) (pages others : List PageId) → ArePages history pages → ArePages history others → pages ≡ others
+
+-- there is one merge, whichever of the two comes first
+abbrev pub OneMerge : Type 0
+OneMerge = (a b marks others : List MarkValue) → IsMerge a b marks → IsMerge b a others → marks ≡ others
+
+-- a rearranged history has the same gaps
+abbrev pub GapsOfRearranged : Type 0
+GapsOfRearranged = (history other : List DrawopValue) → IsPermutation history other → (page : PageId) (marks : List MarkValue) (gaps : List Gap) → AreGaps history page marks gaps → AreGaps other page marks gaps
+
+-- and the same report
+abbrev pub ReportOfRearranged : Type 0
+ReportOfRearranged = (history other : List DrawopValue) → IsPermutation history other → (page : PageId) (marks : List MarkValue) → IsReport history page marks → IsReport other page marks
+
+-- and the same pages
+abbrev pub PagesOfRearranged : Type 0
+PagesOfRearranged = (history other : List DrawopValue) → IsPermutation history other → (pages : List PageId) → ArePages history pages → ArePages other pages
+
+-- the number that a report has for a source is the greatest that is held
+abbrev pub ReportsGreatest : Type 0
+ReportsGreatest = (history : List DrawopValue) (page : PageId) (marks : List MarkValue) → IsReport history page marks → (source : ℕ) → IsGreatest (IsHeld history page source) (mark_of marks source)
+
+-- the number that a merge has for a source is the greater of the two
+abbrev pub MergesGreater : Type 0
+MergesGreater = (a b marks : List MarkValue) → IsMerge a b marks → (source : ℕ) → mark_of marks source ≡ max (mark_of a source) (mark_of b source)
+
+-- a merge has as many marks as the two have sources together; so two that have over 65,535 have no merge
+abbrev pub MergesAllSources : Type 0
+MergesAllSources = (a b marks : List MarkValue) → AreMarks a → AreMarks b → IsMerge a b marks → length marks ≡ source_count a b

@@ -1,0 +1,29 @@
+//! Laws of gaps, reports, page lists and merges, proved for all lists. The functions do nothing: each
+//! stands here for its clause.
+
+ghost use Rattle.wb_gaps.specs.Laws.{OneGaps, OneReport, OnePages, OneMerge, GapsOfRearranged, ReportOfRearranged, PagesOfRearranged, ReportsGreatest, MergesGreater, MergesAllSources};
+
+/// There is one list of gaps, one report and one list of pages of a list of drawops, and one merge of
+/// two lists of marks, whichever of the two comes first.
+pub fn answers_are_one()
+    ensures gaps { OneGaps }
+    ensures report { OneReport }
+    ensures pages { OnePages }
+    ensures merge { OneMerge }
+{}
+
+/// A rearranged list of drawops has the same gaps, report and pages.
+pub fn order_is_free()
+    ensures gaps { GapsOfRearranged }
+    ensures report { ReportOfRearranged }
+    ensures pages { PagesOfRearranged }
+{}
+
+/// The number that a report has for a source is the greatest that the page holds of it. The number that
+/// a merge has for a source is the greater of the two, and it has as many marks as the two have sources
+/// together.
+pub fn marks_are_greatest()
+    ensures report { ReportsGreatest }
+    ensures merge { MergesGreater }
+    ensures count { MergesAllSources }
+{}
