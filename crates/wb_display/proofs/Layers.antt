@@ -1,0 +1,136 @@
+-- What a layer keeps, from its making on.
+use Rattle.std.proofs.Common.{◌≡◌, ℕ, List, [], ◌∷◌, ◌++◌, length, map, refl, ap, ◌∙◌, sym, subst, arith}
+use Rattle.std.specs.Prelude.{Bool, true, false, not, ◌&&◌, cond, All, Contains, Option, Some, None, is_some, Result, Ok, OnOk}
+use Rattle.std.specs.List.Sorted.{IsStrictlySortedBy}
+use Rattle.std.specs.Map.{lookup}
+use Rattle.std.proofs.lemmas.List.{map-append}
+use Rattle.std.proofs.lemmas.List.Elements.{All-push}
+use Rattle.indexmap.specs.IndexMap.{insert_entry}
+use Rattle.wb_names.specs.Values.{DrawopValue}
+use Rattle.wb_names.specs.History.{IsHistory}
+use Rattle.wb_names.specs.Orders.{same_page, display_cmp}
+use Rattle.wb_names.specs.declared.name.PageId.{PageId}
+use Rattle.wb_names.proofs.Listings.{Contains-none}
+use Rattle.wb_display.specs.Display.{is_shown, IsView}
+use Rattle.wb_display.specs.DisplayList.{Settles, TiesAlone}
+use Rattle.wb_display.specs.LastWord.{same_label, label_of, stake_label, is_shown_by, IsLastWord}
+use Rattle.wb_display.specs.LastWords.{AreLastWords, word_on}
+use Rattle.wb_display.specs.Layer.{LayerValue, holds_name, is_news, held_with}
+use Rattle.wb_display.specs.LayerFields.{held_of}
+use Rattle.wb_display.specs.TakingIn.{AreKept, TakesIn}
+use Rattle.wb_display.specs.declared.last_words.Label.{Label}
+use Rattle.wb_display.specs.declared.last_words.LastWords.{LastWords}
+use Rattle.wb_display.proofs.Holding.{IsLabelled, known_name, found_held, not_found, names_more, held_here}
+use Rattle.wb_display.proofs.Putting.{view_settled, view_stays, ties_alone}
+use Rattle.wb_display.proofs.Views.{shown_here}
+use Rattle.wb_display.proofs.Deciding.{false_from_not}
+use Rattle.wb_names.proofs.Orders.{and_both}
+
+nothing_rises : IsStrictlySortedBy display_cmp []
+unfolding IsStrictlySortedBy
+nothing_rises = tt
+
+pub nothing_shown : (page : PageId) → IsView [] page []
+nothing_shown page = record {
+  rising = nothing_rises;
+  members = λ d. ((λ h. absurd (Contains-none d h)), (λ h. absurd (Contains-none d h.0)));
+}
+
+-- a label that the table has not goes last
+insert_new : (l : Label) (d : DrawopValue) (entries : List (Label × DrawopValue)) → is_some (lookup (same_label l) entries) ≡ false → insert_entry same_label entries l d ≡ entries ++ (l, d) ∷ []
+insert_new l d [] none = refl
+insert_new l d (e ∷ es) none = at (same_label l e.0) (insert_new l d es) none where
+  at : (b : Bool) → (is_some (lookup (same_label l) es) ≡ false → insert_entry same_label es l d ≡ es ++ (l, d) ∷ []) → is_some (cond b (Some e.1) (lookup (same_label l) es)) ≡ false → cond b ((e.0, d) ∷ es) (e ∷ insert_entry same_label es l d) ≡ e ∷ (es ++ (l, d) ∷ [])
+  at true rest f = cc
+  at false rest f = ap (λ (t : List (Label × DrawopValue)). e ∷ t) (rest f)
+
+module _ (words words' : LastWords) (entries : List (Label × DrawopValue)) (shown shown' : List DrawopValue) (d : DrawopValue) (here : same_page d.name.page words.page ≡ true) (new : holds_name (held_of entries) d.name ≡ false) (kept : AreKept words entries shown) (page : words'.page ≡ words.page) (heard : (history : List DrawopValue) → AreLastWords history words → AreLastWords (history ++ d ∷ []) words') where
+  entries_after : List (Label × DrawopValue)
+  entries_after = entries ++ (label_of d, d) ∷ []
+
+  same : held_of (entries ++ (label_of d, d) ∷ []) ≡ held_of entries ++ d ∷ []
+  same = map-append (λ (e : Label × DrawopValue). e.1) entries ((label_of d, d) ∷ [])
+
+  names' : IsHistory (held_of entries ++ d ∷ [])
+  names' = names_more (held_of entries) d kept.names new
+
+  labels' : All (IsLabelled words.page) (entries ++ (label_of d, d) ∷ [])
+  labels' = All-push (IsLabelled words.page) entries (label_of d, d) kept.labels (refl, here)
+
+  all_here : (x : DrawopValue) → Contains (held_of entries ++ d ∷ []) x → same_page x.name.page words.page ≡ true
+  all_here x c = held_here words.page (entries ++ (label_of d, d) ∷ []) labels' x (subst (λ (h : List DrawopValue). Contains h x) (sym same) c)
+
+  -- the table after it was inserted
+  pub entries_with : insert_entry same_label entries (label_of d) d ≡ entries ++ (label_of d, d) ∷ []
+  entries_with = insert_new (label_of d) d entries (known_name words.page d entries here kept.labels ∙ new)
+
+  keeps : (after : List DrawopValue) → IsView (held_of entries ++ d ∷ []) words.page after → AreKept words' (entries ++ (label_of d, d) ∷ []) after
+  keeps after view = record {
+    names = subst IsHistory (sym same) names';
+    labels = subst (λ (p : PageId). All (IsLabelled p) (entries ++ (label_of d, d) ∷ [])) (sym page) labels';
+    heard = subst (λ (h : List DrawopValue). AreLastWords h words') (sym same) (heard (held_of entries) kept.heard);
+    view = subst (λ (h : List DrawopValue). IsView h words'.page after) (sym same) (subst (λ (p : PageId). IsView (held_of entries ++ d ∷ []) p after) (sym page) view);
+  }
+
+  -- the drawop at stake was found, and settled in what is shown
+  pub took_in : (a : DrawopValue) (show : Bool) → lookup (same_label (stake_label d)) (entries ++ (label_of d, d) ∷ []) ≡ Some a → show ≡ is_shown_by words'.page a (word_on words' (label_of a)) → (IsStrictlySortedBy display_cmp shown → TiesAlone shown a → Settles a show shown shown') → AreKept words' (entries ++ (label_of d, d) ∷ []) shown'
+  took_in a show found says settle =
+      let f = found_held words.page (stake_label d) a (entries ++ (label_of d, d) ∷ []) labels' found in
+      let ca : Contains (held_of entries ++ d ∷ []) a = subst (λ (h : List DrawopValue). Contains h a) same f.0 in
+      let shows : show ≡ is_shown (held_of entries ++ d ∷ []) words.page a = says ∙ sym (shown_here (held_of entries ++ d ∷ []) words.page words' a names' page (heard (held_of entries) kept.heard)) in
+      let settled = settle kept.view.rising (ties_alone (held_of entries) d words.page kept.names names' all_here a shown ca kept.view) in
+      keeps shown' (view_settled (held_of entries) d words.page kept.names names' all_here a shown shown' ca f.1 kept.view (subst (λ (s : Bool). Settles a s shown shown') shows settled))
+
+  -- none was found: its target is not held yet
+  pub took_in_alone : lookup (same_label (stake_label d)) (entries ++ (label_of d, d) ∷ []) ≡ None → AreKept words' (entries ++ (label_of d, d) ∷ []) shown
+  took_in_alone none = keeps shown (view_stays (held_of entries) d words.page kept.names names' all_here shown (λ x c. not_found words.page (stake_label d) (entries ++ (label_of d, d) ∷ []) labels' none x (subst (λ (h : List DrawopValue). Contains h x) (sym same) c)) kept.view)
+
+-- what holds at Ok
+pub on_ok : (X F : Type 0) (P : Type 0) (r : Result X F) (v : X) → r ≡ Ok v → OnOk r P → P
+on_ok X F P r v e h = subst (λ (s : Result X F). OnOk s P) e h
+
+-- room made changes nothing that is kept
+pub kept_with_room : (words words' : LastWords) (entries entries' : List (Label × DrawopValue)) (shown shown' : List DrawopValue) → words'.page ≡ words.page → ((l : Label) → word_on words' l ≡ word_on words l) → entries' ≡ entries → shown' ≡ shown → AreKept words entries shown → AreKept words' entries' shown'
+kept_with_room words words' entries entries' shown shown' page same e s kept =
+    let moved : AreKept words' entries shown = record {
+      names = kept.names;
+      labels = subst (λ (p : PageId). All (IsLabelled p) entries) (sym page) kept.labels;
+      heard = λ l. subst (λ (p : PageId). IsLastWord (held_of entries) p l (word_on words' l)) (sym page) (subst (IsLastWord (held_of entries) words.page l) (sym (same l)) (kept.heard l));
+      view = subst (λ (p : PageId). IsView (held_of entries) p shown) (sym page) kept.view;
+    } in
+    subst (λ (xs : List DrawopValue). AreKept words' entries' xs) (sym s) (subst (λ (es : List (Label × DrawopValue)). AreKept words' es shown) (sym e) moved)
+
+-- a new drawop is held last
+pub held_more : (page : PageId) (held : List DrawopValue) (d : DrawopValue) → is_news page held d ≡ true → held_with page held d ≡ held ++ d ∷ []
+held_more page held d e = ap (λ (b : Bool). cond b (held ++ d ∷ []) held) e
+
+pub news_parts : (page : PageId) (held : List DrawopValue) (d : DrawopValue) → is_news page held d ≡ true → (same_page d.name.page page ≡ true) × (holds_name held d.name ≡ false)
+news_parts page held d e = let p = and_both (same_page d.name.page page) _ e in (p.0, false_from_not _ p.1)
+
+pub news_from : (page : PageId) (d : DrawopValue) (entries : List (Label × DrawopValue)) (l : Label) (b : Bool) → true ≡ same_page d.name.page page → All (IsLabelled page) entries → l ≡ label_of d → b ≡ is_some (lookup (same_label l) entries) → not b ≡ is_news page (held_of entries) d
+news_from page d entries l b here labels el e =
+    ap not (e ∙ ap (λ (k : Label). is_some (lookup (same_label k) entries)) el ∙ known_name page d entries (sym here) labels)
+    ∙ ap (λ (t : Bool). t && not (holds_name (held_of entries) d.name)) here
+
+layer_parts : (p q : PageId) (xs ys : List DrawopValue) → p ≡ q → xs ≡ ys → let v : LayerValue = record { page = p; held = xs } in let w : LayerValue = record { page = q; held = ys } in v ≡ w
+layer_parts p q xs ys e f = cc
+
+abbrev pub layer_value : PageId → List DrawopValue → LayerValue
+layer_value page held = record { page = page; held = held }
+
+-- a put of news: room is made, and the drawop is taken in
+pub put_news : (words roomy words' : LastWords) (entries wider entries' : List (Label × DrawopValue)) (shown longer shown' : List DrawopValue) (d : DrawopValue) (v : LayerValue)
+    → layer_value words.page (held_of entries) ≡ v → is_news v.page v.held d ≡ true
+    → roomy.page ≡ words.page → ((l : Label) → word_on roomy l ≡ word_on words l) → wider ≡ entries → longer ≡ shown
+    → words'.page ≡ roomy.page → TakesIn roomy wider longer d words' entries' shown' → AreKept words entries shown
+    → AreKept words' entries' shown' × (layer_value words'.page (held_of entries') ≡ layer_value v.page (held_with v.page v.held d))
+put_news words roomy words' entries wider entries' shown longer shown' d v is news page alike e s page' takes kept =
+    let room = kept_with_room words roomy entries wider shown longer page alike e s kept in
+    let vp : words.page ≡ v.page = ap (λ (w : LayerValue). w.page) is in
+    let vh : held_of entries ≡ v.held = ap (λ (w : LayerValue). w.held) is in
+    let wh : held_of wider ≡ v.held = ap held_of e ∙ vh in
+    let parts = news_parts v.page v.held d news in
+    let here : same_page d.name.page roomy.page ≡ true = ap (same_page d.name.page) (page ∙ vp) ∙ parts.0 in
+    let new : holds_name (held_of wider) d.name ≡ false = ap (λ (h : List DrawopValue). holds_name h d.name) wh ∙ parts.1 in
+    let t = takes here new room in
+    (t.0, layer_parts _ _ _ _ (page' ∙ page ∙ vp) (ap held_of t.1 ∙ map-append (λ (e : Label × DrawopValue). e.1) wider ((label_of d, d) ∷ []) ∙ ap (λ (h : List DrawopValue). h ++ d ∷ []) wh ∙ sym (held_more v.page v.held d news)))

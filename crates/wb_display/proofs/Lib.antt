@@ -1,0 +1,13 @@
+pub mod RunningError
+pub mod Overlaying
+pub mod Spans
+pub mod LineSteps
+pub mod CanvasRows
+pub mod Sent
+pub mod Hearing
+pub mod Deciding
+pub mod Views
+pub mod Settling
+pub mod Putting
+pub mod Holding
+pub mod Layers

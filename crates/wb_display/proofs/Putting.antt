@@ -1,0 +1,121 @@
+-- What one more drawop changes of a view.
+use Rattle.std.proofs.Common.{◌≡◌, ℕ, ◌<◌, List, [], ◌∷◌, ◌++◌, length, get_or, refl, ap, ◌∙◌, sym, subst, ◌⊎◌, inl, inr, ⊎_elim, append-nil, append_assoc, arith}
+use Rattle.std.proofs.lemmas.Bool.Decides.{nat_tests}
+use Rattle.std.specs.Prelude.{◌≢◌, Bool, true, false, not, ◌&&◌, Contains, Option, Some, None, unwrap_or}
+use Rattle.std.specs.declared.cmp.Ordering.TheVariants.{Equal}
+use Rattle.std.specs.Ordering.{is_eq}
+use Rattle.std.proofs.lemmas.Cmp.{tied_itself}
+use Rattle.std.proofs.lemmas.List.Elements.{Contains-append_left, Contains-push, Contains-push_cases}
+use Rattle.wb_names.specs.Values.{DrawopValue}
+use Rattle.wb_names.specs.History.{IsHistory}
+use Rattle.wb_names.specs.Orders.{same_page, display_cmp}
+use Rattle.wb_names.specs.Same.{same_drawop, same_drawop-Decides}
+use Rattle.wb_names.specs.declared.name.PageId.{PageId}
+use Rattle.wb_names.specs.declared.drawop.Op.{Op}
+use Rattle.wb_names.specs.declared.drawop.Op.TheVariants.{Line, Frame, Text, Delete, Restore}
+use Rattle.wb_names.proofs.Listings.{Contains-none}
+use Rattle.wb_names.proofs.Orders.{and_both, name_parts, same_page-is}
+use Rattle.wb_display.specs.Display.{is_drawing, is_hidden_in, is_shown, IsView}
+use Rattle.wb_display.specs.DisplayList.{Settles, TiesAlone}
+use Rattle.wb_display.specs.LastWord.{same_label, label_of, target_label, stake_label, word_of, later_word, speaks_of, IsLastWord}
+use Rattle.wb_display.specs.declared.last_words.Label.{Label}
+use Rattle.wb_display.specs.declared.last_words.LastWord.{LastWord}
+use Rattle.wb_display.proofs.Hearing.{false_unless, heard, unheard, aims_where, aims_nowhere, same_label-is}
+use Rattle.wb_display.proofs.Deciding.{display_total, one_drawop, tie_names, shown_by, and_false}
+
+-- there is a last word on each label
+more_words : (page : PageId) (label : Label) (xs ys : List DrawopValue) → (r : Option LastWord) × IsLastWord xs page label r → (r : Option LastWord) × IsLastWord (xs ++ ys) page label r
+more_words page label xs [] known = (known.0, subst (λ (zs : List DrawopValue). IsLastWord zs page label known.0) (sym (append-nil xs)) known.1)
+more_words page label xs (y ∷ ys) known =
+    let next : (r : Option LastWord) × IsLastWord (xs ++ y ∷ []) page label r =
+      (let at : (b : Bool) → speaks_of page label y ≡ b → (r : Option LastWord) × IsLastWord (xs ++ y ∷ []) page label r =
+        λ b. elim b as (λ b. speaks_of page label y ≡ b → (r : Option LastWord) × IsLastWord (xs ++ y ∷ []) page label r) [
+          | true ↦ λ e. (Some (later_word known.0 (word_of y)), heard xs page label y known.0 e known.1)
+          | false ↦ λ e. (known.0, unheard xs page label y known.0 e known.1)
+        ] in at (speaks_of page label y) refl) in
+    let all = more_words page label (xs ++ y ∷ []) ys next in
+    (all.0, subst (λ (zs : List DrawopValue). IsLastWord zs page label all.0) (append_assoc xs (y ∷ []) ys) all.1)
+
+pub last_word_of : (history : List DrawopValue) (page : PageId) (label : Label) → (r : Option LastWord) × IsLastWord history page label r
+last_word_of history page label = more_words page label [] history (None, λ e c. absurd (Contains-none e c))
+
+drawing_names_nothing : (op : Op) → is_drawing op ≡ true → target_label op ≡ None
+drawing_names_nothing (Line x0 y0 x1 y1 glyph) e = refl
+drawing_names_nothing (Frame x0 y0 x1 y1 glyph) e = refl
+drawing_names_nothing (Text x y text) e = refl
+drawing_names_nothing (Delete source seq) e = cc
+drawing_names_nothing (Restore source seq) e = cc
+
+-- a drawop says nothing of a label other than the one at its stake
+silent : (page : PageId) (d : DrawopValue) (l : Label) → same_label (stake_label d) l ≡ false → speaks_of page l d ≡ false
+silent page d l differs = at (target_label d.op) refl differs where
+  at : (o : Option Label) → target_label d.op ≡ o → same_label (unwrap_or o (label_of d)) l ≡ false → speaks_of page l d ≡ false
+  at None e f = and_false (same_page d.name.page page) _ (aims_nowhere d.op l e)
+  at (Some k) e f = and_false (same_page d.name.page page) _ (aims_where d.op k l e ∙ f)
+
+module _ (held : List DrawopValue) (d : DrawopValue) (page : PageId) (names : IsHistory held) (more : IsHistory (held ++ d ∷ [])) (here : (x : DrawopValue) → Contains (held ++ d ∷ []) x → same_page x.name.page page ≡ true) where
+  -- whether any other drawop is shown stays
+  pub unaffected : (x : DrawopValue) → same_label (stake_label d) (label_of x) ≡ false → is_shown (held ++ d ∷ []) page x ≡ is_shown held page x
+  unaffected x differs =
+      let r = last_word_of held page (label_of x) in
+      shown_by (held ++ d ∷ []) page x r.0 more (unheard held page (label_of x) d r.0 (silent page d (label_of x) differs) r.1) ∙ sym (shown_by held page x r.0 names r.1)
+
+  -- a shown drawop of another label was there before
+  before : (x : DrawopValue) → Contains (held ++ d ∷ []) x → is_shown (held ++ d ∷ []) page x ≡ true → same_label (stake_label d) (label_of x) ≡ false → Contains held x
+  before x c s differs = ⊎_elim (λ (h : Contains held x). h) (λ (e : d ≡ x). absurd (
+      let draws : is_drawing x.op ≡ true = (and_both (same_page x.name.page page) _ (and_both (same_page x.name.page page && is_drawing x.op) _ s).0).1 in
+      let none : target_label d.op ≡ None = drawing_names_nothing d.op (ap (λ (y : DrawopValue). is_drawing y.op) e ∙ draws) in
+      let own : stake_label d ≡ label_of x = ap (λ (o : Option Label). unwrap_or o (label_of d)) none ∙ ap label_of e in
+      let t : true ≡ false = sym (same_label-here (label_of x)) ∙ ap (λ (l : Label). same_label l (label_of x)) (sym own) ∙ differs in
+      cc)) (Contains-push_cases held d x c) where
+    same_label-here : (l : Label) → same_label l l ≡ true
+    same_label-here l = grind (arith, nat_tests)
+
+  -- two held drawops of one label are one
+  one_label : (l : Label) (x y : DrawopValue) → Contains (held ++ d ∷ []) x → Contains (held ++ d ∷ []) y → same_label l (label_of x) ≡ true → same_label l (label_of y) ≡ true → x ≡ y
+  one_label l x y cx cy ex ey =
+      let same : label_of x ≡ label_of y = sym (same_label-is l (label_of x) ex) ∙ same_label-is l (label_of y) ey in
+      one_drawop (held ++ d ∷ []) more x y cx cy (name_parts _ _ _ _ _ _ (ap (λ (m : Label). m.source) same) (same_page-is x.name.page page (here x cx) ∙ sym (same_page-is y.name.page page (here y cy))) (ap (λ (m : Label). m.seq) same))
+
+  -- the drawop at stake is held: the view after is the view before, with it shown or not
+  pub view_settled : (a : DrawopValue) (shown after : List DrawopValue) → Contains (held ++ d ∷ []) a → same_label (stake_label d) (label_of a) ≡ true → IsView held page shown → Settles a (is_shown (held ++ d ∷ []) page a) shown after → IsView (held ++ d ∷ []) page after
+  view_settled a shown after ca la view settled = record {
+    rising = settled.rising;
+    members = λ x. (to x (same_drawop x a) refl, from x (same_drawop x a) refl);
+  } where
+    is : (x : DrawopValue) → same_drawop x a ≡ true → x ≡ a
+    is x e = (same_drawop-Decides x a).0 e
+    is_not : (x : DrawopValue) → same_drawop x a ≡ false → x ≢ a
+    is_not x e s = let t : true ≡ false = sym ((same_drawop-Decides x a).1 s) ∙ e in cc
+    differs : (x : DrawopValue) → Contains (held ++ d ∷ []) x → x ≢ a → same_label (stake_label d) (label_of x) ≡ false
+    differs x c ne = false_unless _ (λ (e : same_label (stake_label d) (label_of x) ≡ true). ne (one_label (stake_label d) x a c ca e la))
+    to : (x : DrawopValue) (b : Bool) → same_drawop x a ≡ b → Contains after x → Contains (held ++ d ∷ []) x × (is_shown (held ++ d ∷ []) page x ≡ true)
+    to x true e h =
+        let s = is x e in
+        let P : DrawopValue → Type 0 = λ y. Contains (held ++ d ∷ []) y × (is_shown (held ++ d ∷ []) page y ≡ true) in
+        subst P (sym s) (ca, settled.itself.0 (subst (Contains after) s h))
+    to x false e h =
+        let ne = is_not x e in
+        let m = (view.members x).0 ((settled.others x ne).0 h) in
+        let c = Contains-append_left held (d ∷ []) x m.0 in
+        (c, unaffected x (differs x c ne) ∙ m.1)
+    from : (x : DrawopValue) (b : Bool) → same_drawop x a ≡ b → Contains (held ++ d ∷ []) x × (is_shown (held ++ d ∷ []) page x ≡ true) → Contains after x
+    from x true e (c, s) = let same = is x e in subst (Contains after) (sym same) (settled.itself.1 (subst (λ (y : DrawopValue). is_shown (held ++ d ∷ []) page y ≡ true) same s))
+    from x false e (c, s) =
+        let ne = is_not x e in
+        let other = differs x c ne in
+        (settled.others x ne).1 ((view.members x).1 (before x c s other, sym (unaffected x other) ∙ s))
+
+  -- no drawop at stake is held: the view stays
+  pub view_stays : (shown : List DrawopValue) → ((x : DrawopValue) → Contains (held ++ d ∷ []) x → same_label (stake_label d) (label_of x) ≡ false) → IsView held page shown → IsView (held ++ d ∷ []) page shown
+  view_stays shown differs view = record {
+    rising = view.rising;
+    members = λ x. ((λ h. let m = (view.members x).0 h in let c = Contains-append_left held (d ∷ []) x m.0 in (c, unaffected x (differs x c) ∙ m.1)),
+      (λ m. (view.members x).1 (before x m.0 m.1 (differs x m.0), sym (unaffected x (differs x m.0)) ∙ m.1)));
+  }
+
+  -- what ties with a held drawop in the view is that drawop
+  pub ties_alone : (a : DrawopValue) (shown : List DrawopValue) → Contains (held ++ d ∷ []) a → IsView held page shown → TiesAlone shown a
+  ties_alone a shown ca view x h tie =
+      let c = Contains-append_left held (d ∷ []) x ((view.members x).0 h).0 in
+      one_drawop (held ++ d ∷ []) more x a c ca (tie_names page x a (here x c) (here a ca) (ap is_eq tie))

@@ -1,0 +1,6 @@
+use Rattle.std.proofs.Common.{◌≡◌, rules, ap}
+use Rattle.wb_display.proofs.RunningError.{start}
+use Rattle.wb_display.proofs.line_points.Walk.new.Goals as goal
+
+pub invariant_of-result : goal.invariant_of-result
+invariant_of-result c = rw c.from.ensures (start _ _ _ c.requires)

@@ -1,0 +1,64 @@
+-- The latest of the deletes and restores that name a drawop.
+use Rattle.std.specs.Prelude.{◌≡◌, Bool, true, false, ◌&&◌, not, List, Contains, Option, Some, None, nat_eq, unwrap_or, if◌then◌else◌}
+use Rattle.std.specs.declared.cmp.Ordering.{Ordering}
+use Rattle.std.specs.Ordering.{nat_cmp, ordering_then, is_lt}
+use Rattle.wb_names.specs.Values.{DrawopValue}
+use Rattle.wb_names.specs.Orders.{same_page}
+use Rattle.wb_names.specs.declared.name.PageId.{PageId}
+use Rattle.wb_names.specs.declared.drawop.Op.{Op}
+use Rattle.wb_names.specs.declared.drawop.Op.TheVariants.{Line, Frame, Text, Delete, Restore}
+use Rattle.wb_display.specs.Display.{is_delete, is_drawing, has_target}
+use Rattle.wb_display.specs.declared.last_words.Label.{Label}
+use Rattle.wb_display.specs.declared.last_words.LastWord.{LastWord}
+
+abbrev pub same_label : Label → Label → Bool
+same_label a b = nat_eq a.source b.source && nat_eq a.seq b.seq
+
+-- what tells a drawop from the others of its page
+abbrev pub label_of : DrawopValue → Label
+label_of d = record { source = d.name.source; seq = d.name.seq }
+
+-- by time, then by source, then by number
+abbrev pub word_cmp : LastWord → LastWord → Ordering
+word_cmp a b = ordering_then (nat_cmp a.time b.time) (ordering_then (nat_cmp a.source b.source) (nat_cmp a.seq b.seq))
+
+-- the later of what was said so far and one word more
+abbrev pub later_word : Option LastWord → LastWord → LastWord
+later_word None word = word
+later_word (Some before) word = if is_lt (word_cmp before word) then word else before
+
+-- what a delete or a restore says
+abbrev pub word_of : DrawopValue → LastWord
+word_of e = record { time = e.time; source = e.name.source; seq = e.name.seq; hides = is_delete e.op }
+
+-- the label that a delete or a restore names
+abbrev pub target_label : Op → Option Label
+target_label (Line x0 y0 x1 y1 glyph) = None
+target_label (Frame x0 y0 x1 y1 glyph) = None
+target_label (Text x y text) = None
+target_label (Delete source seq) = Some (record { source = source; seq = seq })
+target_label (Restore source seq) = Some (record { source = source; seq = seq })
+
+-- the label of the one drawop whose showing d may change: its target, or itself where it names none
+abbrev pub stake_label : DrawopValue → Label
+stake_label d = unwrap_or (target_label d.op) (label_of d)
+
+-- e is a delete or a restore on the page, of the drawop of this label
+abbrev pub speaks_of : PageId → Label → DrawopValue → Bool
+speaks_of page label e = same_page e.name.page page && has_target e.op label.source label.seq
+
+-- of the deletes and restores of a label in the history there is none, or w is what the latest says
+abbrev pub IsLastWord : List DrawopValue → PageId → Label → Option LastWord → Type 0
+IsLastWord history page label None = (e : DrawopValue) → Contains history e → speaks_of page label e ≡ false
+IsLastWord history page label (Some w) =
+    ((e : DrawopValue) × Contains history e × (speaks_of page label e ≡ true) × (word_of e ≡ w))
+    × ((f : DrawopValue) → Contains history f → speaks_of page label f ≡ true → is_lt (word_cmp w (word_of f)) ≡ false)
+
+-- whether the last word hides; a drawop of which nothing is said is not hidden
+abbrev pub hides : Option LastWord → Bool
+hides None = false
+hides (Some w) = w.hides
+
+-- whether a drawop is shown on a page where w is the last word on it
+abbrev pub is_shown_by : PageId → DrawopValue → Option LastWord → Bool
+is_shown_by page d w = (same_page d.name.page page && is_drawing d.op) && not (hides w)

@@ -1,0 +1,16 @@
+-- What a page knows of its deletes and restores.
+use Rattle.std.specs.Prelude.{List, Option}
+use Rattle.std.specs.HashMap.{get}
+use Rattle.wb_names.specs.Values.{DrawopValue}
+use Rattle.wb_display.specs.LastWord.{same_label, IsLastWord}
+use Rattle.wb_display.specs.declared.last_words.Label.{Label}
+use Rattle.wb_display.specs.declared.last_words.LastWord.{LastWord}
+use Rattle.wb_display.specs.declared.last_words.LastWords.{LastWords}
+
+-- the last word that is known on a label
+abbrev pub word_on : LastWords → Label → Option LastWord
+word_on words label = get same_label words.latest label
+
+-- they are the last words of a history on a page
+abbrev pub AreLastWords : List DrawopValue → LastWords → Type 0
+AreLastWords history words = (label : Label) → IsLastWord history words.page label (word_on words label)

@@ -1,0 +1,12 @@
+pub mod Display
+pub mod LastWord
+pub mod LastWords
+pub mod Canvas
+pub mod Cells
+pub mod Walking
+pub mod Walks
+pub mod Faults
+pub mod DisplayList
+pub mod Layer
+pub mod LayerFields
+pub mod TakingIn

@@ -1,0 +1,16 @@
+-- The running error of a coordinate on its way along a line, against the division.
+use Rattle.std.specs.Prelude.{◌≡◌, ℕ, Bool, ◌+◌, ◌*◌, ◌%◌, ◌≤◌, nat_le}
+use Rattle.wb_display.specs.Canvas.{distance, line_at}
+use Rattle.wb_display.specs.Walking.{Progress}
+use Rattle.wb_display.specs.declared.line_points.Walk.TheInside.{Inside}
+
+-- the remainder of the division whose quotient is the share after k of m steps from a to b
+abbrev pub error_at : ℕ → ℕ → ℕ → ℕ → ℕ
+error_at a b m k = (2 * k * distance a b + m) % (2 * m)
+
+-- it stands where the division says, and its error is what the division leaves
+pub record IsWalk (w : Inside) : Type 0 where
+  pub position : w.at ≡ line_at w.from w.to w.steps w.gone
+  pub remainder : w.error ≡ error_at w.from w.to w.steps w.gone
+  pub reach : distance w.from w.to ≤ w.steps
+  pub within : w.gone ≤ w.steps

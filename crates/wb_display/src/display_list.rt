@@ -1,0 +1,40 @@
+//! A list in the order of display, which drawops enter and leave.
+
+ghost use Rattle.std.specs.Prelude.{◌≡◌, ◌<◌, ◌≤◌, vec_len, vec_capacity};
+ghost use Rattle.std.specs.List.Sorted.{IsStrictlySortedBy};
+ghost use Rattle.wb_names.specs.Orders.{display_cmp};
+ghost use Rattle.wb_display.specs.DisplayList.{IsPlaceOf, Settles, TiesAlone};
+
+use wb_names::{Drawop, before, display_order};
+
+/// Where a drawop stands in the list, or where it would: at the end in constant time, else by
+/// search.
+fn place_in(list: &[Drawop], drawop: &Drawop) -> Result<usize, usize>
+    ensures { IsPlaceOf list.now drawop.now result }
+{
+    match list.last() {
+        None => Err(0),
+        Some(last) if before(last, drawop) => Err(list.len()),
+        Some(_) => list.binary_search_by(|other| display_order(other, drawop)),
+    }
+}
+
+/// Puts a drawop into the list where it is to be shown, and takes it out where it is not. The list
+/// has room for one more.
+pub(crate) fn settle(list: &mut Vec<Drawop>, drawop: &Drawop, shows: bool)
+    requires { vec_len list.old < vec_capacity list.old }
+    ensures { IsStrictlySortedBy display_cmp list.old.items → TiesAlone list.old.items drawop.now → Settles drawop.now shows list.old.items list.new.items }
+{
+    match place_in(list, drawop) {
+        Ok(place) => {
+            if !shows {
+                list.remove(place);
+            }
+        }
+        Err(place) => {
+            if shows {
+                list.insert(place, *drawop).unwrap();
+            }
+        }
+    }
+}

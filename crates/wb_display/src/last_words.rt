@@ -1,0 +1,196 @@
+//! The last word on each drawop of a page: the latest of the deletes and restores that name it,
+//! whether it is held or not.
+
+ghost use Rattle.std.specs.Prelude.{◌≡◌, ◌<◌, ◌≤◌, ◌++◌, ◌∷◌, [], List, Option, Some, None, OnOk, OnErr, IsOk, if◌then◌else◌};
+ghost use Rattle.std.specs.HashMap.{spare};
+ghost use Rattle.std.specs.Ordering.{is_lt};
+ghost use Rattle.wb_names.specs.Values.{DrawopValue};
+ghost use Rattle.wb_names.specs.Orders.{same_page};
+ghost use Rattle.wb_display.specs.Display.{is_drawing as is_drawing_op, is_delete as is_delete_op};
+ghost use Rattle.wb_display.specs.LastWord.{label_of, target_label, stake_label, word_of, word_cmp, later_word as later_word_of, hides, is_shown_by};
+ghost use Rattle.wb_display.specs.declared.last_words.Label.{Label};
+ghost use Rattle.wb_display.specs.LastWords.{AreLastWords, word_on};
+
+use std::alloc::{AllocError, Global};
+use std::collections::HashMap;
+use wb_names::{Drawop, Op, PageId};
+
+/// What tells a drawop from the others of its page: its source and its number.
+#[derive(Clone, Copy, PartialEq, Eq, Hash)]
+pub(crate) struct Label {
+    pub source: u32,
+    pub seq: u32,
+}
+
+impl Label {
+    /// The label of a drawop.
+    #[inline(always)]
+    pub fn of(drawop: &Drawop) -> Label
+        ensures { result ≡ label_of drawop.now }
+    {
+        Label {
+            source: drawop.name().source(),
+            seq: drawop.name().seq(),
+        }
+    }
+}
+
+/// What a delete or a restore says, and when it was said.
+#[derive(Clone, Copy)]
+pub(crate) struct LastWord {
+    time: u64,
+    source: u32,
+    seq: u32,
+    hides: bool,
+}
+
+impl LastWord {
+    /// What a drawop says of its target.
+    #[inline(always)]
+    fn of(drawop: &Drawop) -> LastWord
+        ensures { result ≡ word_of drawop.now }
+    {
+        LastWord {
+            time: drawop.time(),
+            source: drawop.name().source(),
+            seq: drawop.name().seq(),
+            hides: is_delete(drawop.op()),
+        }
+    }
+
+    /// Whether it was said before the other.
+    #[inline(always)]
+    fn is_before(&self, other: &LastWord) -> bool
+        ensures { result ≡ is_lt (word_cmp self.now other.now) }
+    {
+        self.time
+            .cmp(&other.time)
+            .then(self.source.cmp(&other.source))
+            .then(self.seq.cmp(&other.seq))
+            .is_lt()
+    }
+}
+
+#[inline(always)]
+fn is_delete(op: &Op) -> bool
+    ensures { result ≡ is_delete_op op.now }
+{
+    matches!(op, Op::Delete { .. })
+}
+
+/// Whether an operation puts glyphs on its page.
+#[inline(always)]
+pub(crate) fn is_drawing(op: &Op) -> bool
+    ensures { result ≡ is_drawing_op op.now }
+{
+    matches!(op, Op::Line { .. } | Op::Frame { .. } | Op::Text { .. })
+}
+
+/// The label that a delete or a restore names.
+#[inline(always)]
+fn target_of(op: &Op) -> Option<Label>
+    ensures { result ≡ target_label op.now }
+{
+    match *op {
+        Op::Delete { source, seq } => Some(Label { source, seq }),
+        Op::Restore { source, seq } => Some(Label { source, seq }),
+        _ => None,
+    }
+}
+
+/// The label of the one drawop whose showing may change where this one is put on its page: its
+/// target, or itself where it names none.
+#[inline(always)]
+pub(crate) fn stake_of(drawop: &Drawop) -> Label
+    ensures { result ≡ stake_label drawop.now }
+{
+    match target_of(drawop.op()) {
+        Some(label) => label,
+        None => Label::of(drawop),
+    }
+}
+
+/// The last words of a page.
+#[derive(Drop)]
+pub(crate) struct LastWords {
+    pub page: PageId,
+    latest: HashMap<Label, LastWord>,
+}
+
+impl LastWords {
+    /// Nothing is said of any drawop of the page.
+    pub fn new(alloc: Global, page: PageId) -> LastWords
+        ensures page { result.page ≡ page }
+        ensures none { AreLastWords [] result }
+    {
+        LastWords {
+            page,
+            latest: HashMap::new(alloc),
+        }
+    }
+
+    /// Makes room for one word more.
+    pub fn reserve(&mut self) -> Result<(), AllocError>
+        ensures page { self.new.page ≡ self.old.page }
+        ensures words { (label : Label) → word_on self.new label ≡ word_on self.old label }
+        ensures room { OnOk result (1 ≤ spare self.new.latest) }
+    {
+        self.latest.reserve(1)
+    }
+
+    /// Takes in a drawop: where it is a delete or a restore on the page, and later than what was
+    /// said of its target so far, it is the last word on that.
+    pub fn hear(&mut self, drawop: &Drawop) -> Result<(), AllocError>
+        ensures page { self.new.page ≡ self.old.page }
+        ensures ok { OnOk result ((history : List DrawopValue) → AreLastWords history self.old → AreLastWords (history ++ drawop.now ∷ []) self.new) }
+        ensures err { OnErr result ((label : Label) → word_on self.new label ≡ word_on self.old label) }
+        ensures succeeds { 1 ≤ spare self.old.latest → IsOk result }
+    {
+        if !self.is_on_page(drawop) {
+            return Ok(());
+        }
+        let Some(label) = target_of(drawop.op()) else {
+            return Ok(());
+        };
+        let word = self.later_word(label, LastWord::of(drawop));
+        self.latest.insert(label, word)?;
+        Ok(())
+    }
+
+    /// The later of what was said of a drawop so far and one word more.
+    #[inline(always)]
+    fn later_word(&self, label: Label, word: LastWord) -> LastWord
+        ensures { result ≡ later_word_of (word_on self.now label) word }
+    {
+        match self.latest.get(&label) {
+            Some(before) if !before.is_before(&word) => *before,
+            _ => word,
+        }
+    }
+
+    /// Whether a drawop is of the page.
+    #[inline(always)]
+    pub fn is_on_page(&self, drawop: &Drawop) -> bool
+        ensures { result ≡ same_page drawop.now.name.page self.now.page }
+    {
+        drawop.name().page() == self.page
+    }
+
+    /// Whether a drawop is shown on the page, by the last word on it.
+    #[inline(always)]
+    pub fn show(&self, drawop: &Drawop) -> bool
+        ensures { result ≡ is_shown_by self.now.page drawop.now (word_on self.now (label_of drawop.now)) }
+    {
+        self.is_on_page(drawop) && is_drawing(drawop.op()) && !self.hide(Label::of(drawop))
+    }
+
+    #[inline(always)]
+    fn hide(&self, label: Label) -> bool
+        ensures { result ≡ hides (word_on self.now label) }
+    {
+        match self.latest.get(&label) {
+            Some(word) => word.hides,
+            None => false,
+        }
+    }
+}

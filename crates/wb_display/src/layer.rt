@@ -1,0 +1,102 @@
+//! A layer: what a page shows, kept while drawops are put on it one by one, in any order.
+//!
+//! A delete waits for its target, and a target finds what was said of it before it came. A drawop
+//! that is hidden is kept, since a restore may show it again.
+
+ghost use Rattle.std.specs.Prelude.{◌≡◌, ◌≤◌, ◌<◌, [], OnOk, OnErr, IsOk, false, vec_len, vec_capacity};
+ghost use Rattle.indexmap.specs.IndexMap.{spare};
+ghost use Rattle.wb_display.specs.TakingIn.{TakesIn};
+ghost use Rattle.wb_display.specs.Display.{IsView};
+ghost use Rattle.wb_display.specs.Layer.{held_with, is_news as is_news_of};
+
+use crate::display_list::settle;
+use crate::last_words::{Label, LastWords, stake_of};
+use indexmap::IndexMap;
+use std::alloc::{AllocError, Global};
+use std::marker::Model;
+use wb_names::{Drawop, PageId};
+
+/// A page, with the drawops that were put on it.
+#[derive(Drop)]
+pub struct Layer {
+    words: LastWords,
+    drawops: IndexMap<Label, Drawop>,
+    shown: Vec<Drawop>,
+}
+
+impl Model for Layer {
+    ghost use Rattle.wb_display.specs.Layer.{LayerValue};
+
+    ghost Value = { LayerValue };
+
+    ghost use Rattle.wb_display.specs.LayerFields.{held_of};
+    ghost use Rattle.wb_display.specs.TakingIn.{AreKept};
+
+    ghost view = { λ l. record { page = l.words.page; held = held_of l.drawops.entries } };
+
+    ghost invariant = { λ l. AreKept l.words l.drawops.entries l.shown.items };
+}
+
+impl Layer {
+    /// A layer of the page, on which nothing was put.
+    pub fn new(alloc: Global, page: PageId) -> Layer
+        ensures { result ≡ record { page = page; held = [] } }
+    {
+        Layer {
+            words: LastWords::new(alloc, page),
+            drawops: IndexMap::new(alloc),
+            shown: Vec::new(alloc),
+        }
+    }
+
+    /// Puts a drawop. One of another page, or whose name was put before, changes nothing, whatever it
+    /// holds. All memory is asked for before anything is changed.
+    pub fn put(&mut self, drawop: &Drawop) -> Result<(), AllocError>
+        ensures ok { OnOk result (self.new ≡ record self.old { held = held_with self.old.page self.old.held drawop.now }) }
+        ensures err { OnErr result (self.new ≡ self.old) }
+        ensures known { is_news_of self.old.page self.old.held drawop.now ≡ false → IsOk result }
+    {
+        if !self.is_news(drawop) {
+            return Ok(());
+        }
+        self.words.reserve()?;
+        self.drawops.reserve(1)?;
+        self.shown.reserve(1)?;
+        take_in(&mut self.words, &mut self.drawops, &mut self.shown, drawop);
+        Ok(())
+    }
+
+    fn is_news(&self, drawop: &Drawop) -> bool
+        ensures { result ≡ is_news_of self.now.page self.now.held drawop.now }
+    {
+        self.words.is_on_page(drawop) && !self.drawops.contains_key(&Label::of(drawop))
+    }
+
+    /// What the page shows of the drawops put so far, in the order of display.
+    pub fn shown(&self) -> &[Drawop]
+        ensures { IsView self.now.held self.now.page result.now }
+    {
+        &self.shown
+    }
+}
+
+/// Takes in a new drawop of the page: what it says, the drawop itself, and whether the one at its
+/// stake is shown from now on. There is room for all three.
+fn take_in(
+    words: &mut LastWords,
+    drawops: &mut IndexMap<Label, Drawop>,
+    shown: &mut Vec<Drawop>,
+    drawop: &Drawop,
+)
+    requires words { 1 ≤ spare words.old.latest }
+    requires drawops { 1 ≤ spare drawops.old }
+    requires shown { vec_len shown.old < vec_capacity shown.old }
+    ensures page { words.new.page ≡ words.old.page }
+    ensures kept { TakesIn words.old drawops.old.entries shown.old.items drawop.now words.new drawops.new.entries shown.new.items }
+{
+    words.hear(drawop).unwrap();
+    drawops.insert(Label::of(drawop), *drawop).unwrap();
+    if let Some(at_stake) = drawops.get(&stake_of(drawop)) {
+        settle(shown, at_stake, words.show(at_stake));
+    }
+}

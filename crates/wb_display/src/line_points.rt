@@ -1,0 +1,77 @@
+//! The points of a line, one after another, by a running error: an addition and a test for each
+//! point, and no division. Each is proved to be the point that the division gives.
+
+ghost use Rattle.std.specs.Prelude.{◌≡◌, ◌<◌, ◌≤◌, ◌+◌, ◌^◌};
+ghost use Rattle.wb_display.specs.Canvas.{distance as distance_of, line_at};
+
+use std::marker::Model;
+
+/// One coordinate of a point that goes from one number to another in equal steps, each position to
+/// the nearest.
+#[derive(Drop)]
+pub(crate) struct Walk {
+    from: u16,
+    to: u16,
+    steps: u16,
+    gone: u16,
+    at: u16,
+    /// What the division by twice the steps leaves, from 0.
+    error: u32,
+}
+
+impl Model for Walk {
+    ghost use Rattle.wb_display.specs.Walking.{Progress};
+
+    ghost Value = { Progress };
+
+    ghost use Rattle.wb_display.specs.Walks.{IsWalk};
+
+    ghost view = { λ w. record { from = w.from; to = w.to; steps = w.steps; gone = w.gone } };
+
+    ghost invariant = { IsWalk };
+}
+
+impl Walk {
+    /// A coordinate at `from`, on its way to `to` in so many steps.
+    #[inline(always)]
+    pub fn new(from: u16, to: u16, steps: u16) -> Walk
+        requires { distance_of from to ≤ steps }
+        ensures { result ≡ record { from = from; to = to; steps = steps; gone = 0 } }
+    {
+        Walk {
+            from,
+            to,
+            steps,
+            gone: 0,
+            at: from,
+            error: u32::from(steps),
+        }
+    }
+
+    /// Where it is.
+    #[inline(always)]
+    pub fn at(&self) -> u16
+        ensures { result ≡ line_at self.now.from self.now.to self.now.steps self.now.gone }
+    {
+        self.at
+    }
+
+    /// Goes one step. The position moves where the error has grown to a whole.
+    #[inline(always)]
+    pub fn step(&mut self)
+        requires { self.old.gone < self.old.steps }
+        ensures { self.new ≡ record self.old { gone = self.old.gone + 1 } }
+    {
+        self.error += 2 * u32::from(self.from.abs_diff(self.to));
+        self.gone += 1;
+        let whole = 2 * u32::from(self.steps);
+        if self.error >= whole {
+            self.error -= whole;
+            if self.from <= self.to {
+                self.at += 1;
+            } else {
+                self.at -= 1;
+            }
+        }
+    }
+}

@@ -1,0 +1,39 @@
+//! What a page shows, from a whole list of drawops.
+
+ghost use Rattle.std.specs.Prelude.{◌≡◌, IfOk, take};
+ghost use Rattle.wb_names.specs.History.{IsHistory};
+ghost use Rattle.wb_display.specs.Display.{IsView};
+ghost use Rattle.wb_display.specs.LastWords.{AreLastWords};
+
+use crate::last_words::LastWords;
+use std::alloc::{AllocError, Global};
+use wb_names::{Drawop, PageId, display_order};
+
+/// The last words of a list on a page.
+fn hear_all(alloc: Global, list: &[Drawop], page: PageId) -> Result<LastWords, AllocError>
+    ensures words { IfOk result (AreLastWords list.now) }
+    ensures page { IfOk result (λ words. words.page ≡ page) }
+{
+    let mut words = LastWords::new(alloc, page);
+    for drawop in list {
+        words.hear(drawop)?;
+    }
+    Ok(words)
+}
+
+/// The drawops that a page shows, in the order of display: by time, then by source, then by number.
+/// The list holds no name twice, and may stand in any order and hold drawops of other pages.
+pub fn order(alloc: Global, list: &[Drawop], page: PageId) -> Result<Vec<Drawop>, AllocError>
+    requires { IsHistory list.now }
+    ensures { IfOk result (λ shown. IsView list.now page shown.items) }
+{
+    let words = hear_all(alloc, list, page)?;
+    let mut shown = Vec::new(alloc);
+    for drawop in list {
+        if words.show(drawop) {
+            shown.push(*drawop)?;
+        }
+    }
+    shown.sort_unstable_by(|a, b| display_order(a, b));
+    Ok(shown)
+}
