@@ -9,35 +9,28 @@ use Rattle.wb_script.specs.declared.fault.RunFault.{RunFault}
 use Rattle.wb_script.specs.declared.fault.RunFault.TheVariants as run_faults
 use Rattle.wb_script.specs.declared.summary.Summary.{Summary}
 use Rattle.wb_script.specs.Ahead.{Ahead, NoLineFeed, IsLine}
-use Rattle.wb_script.specs.Script.{InputLine, onto_first, input_lines, content, State, Step, goes, refused, unsaid, step_of, Outcome, prints, unknown, before, finish, summary, proceed, most_lines, most_bytes, outcome_from, BeginsWith, IsStop, IsMemoryOr, DoesStep}
+use Rattle.wb_script.specs.Script.{InputLine, onto_first, input_lines, content, State, Step, goes, refused, step_of, Outcome, prints, before, finish, summary, proceed, most_lines, most_bytes, outcome_from, BeginsWith, IsStop, IsMemoryOr, DoesStep}
 use Rattle.wb_script.specs.Running.{MayFollow, Leads, Begins, ahead_of, Passes, Stops, Ends}
 
 -- ---- what was written before
 
 before-nil : (o : Outcome) → before [] o ≡ o
 before-nil (prints text end) = refl
-before-nil unknown = refl
 
 before-before : (x y : List ℕ) (o : Outcome) → before x (before y o) ≡ before (x ++ y) o
 before-before x y (prints text end) = ap (λ (t : List ℕ). prints t end) (sym (append_assoc x y text))
-before-before x y unknown = refl
 
 pub Leads-refl : (o : Outcome) → Leads o [] o
 Leads-refl (prints text end) = refl
-Leads-refl unknown = tt
 
 pub Leads-is : (o next : Outcome) (written : List ℕ) → o ≡ next → written ≡ [] → Leads o written next
 Leads-is (prints text end) next written e none = rw none (e ∙ sym (before-nil next))
-Leads-is unknown next written e none = tt
 
 pub Leads-then : (a b c : Outcome) (x y : List ℕ) → Leads a x b → Leads b y c → Leads a (x ++ y) c
-Leads-then unknown b c x y p q = tt
-Leads-then (prints t e) unknown c x y p q = absurd cc
 Leads-then (prints t e) (prints u f) c x y p q = p ∙ ap (before x) q ∙ before-before x y c
 
 pub Begins-nil : (o : Outcome) (written : List ℕ) → written ≡ [] → Begins o written
 Begins-nil (prints text end) written none = (text, rw none refl)
-Begins-nil unknown written none = tt
 
 pub text_of : (t u : List ℕ) (e f : Result Summary RunFault) → prints t e ≡ prints u f → t ≡ u
 text_of t u e f h = cc
@@ -46,8 +39,6 @@ pub end_of : (t u : List ℕ) (e f : Result Summary RunFault) → prints t e ≡
 end_of t u e f h = cc
 
 pub Begins-then : (a b : Outcome) (x y : List ℕ) → Leads a x b → Begins b y → Begins a (x ++ y)
-Begins-then unknown b x y p q = tt
-Begins-then (prints t e) unknown x y p q = absurd cc
 Begins-then (prints t e) (prints u f) x y p q =
     let text : t ≡ x ++ u = text_of t (x ++ u) e f p in
     (q.0, text ∙ ap (λ (s : List ℕ). x ++ s) q.1 ∙ sym (append_assoc x y q.0))
@@ -119,16 +110,13 @@ last_ahead n s reader reader' given line few is some e none =
 
 Leads-before : (o next : Outcome) (text written : List ℕ) → o ≡ next → written ≡ text → Leads (before text o) written next
 Leads-before (prints rest end) next text written e is = rw is (ap (before text) e)
-Leads-before unknown next text written e is = tt
 
 Begins-before : (o : Outcome) (text written : List ℕ) → BeginsWith text written → Begins (before text o) written
 Begins-before (prints rest end) text written b = (b.0 ++ rest, ap (λ (t : List ℕ). t ++ rest) b.1 ∙ append_assoc written b.0 rest)
-Begins-before unknown text written b = tt
 
 proceed_ok : (number : ℕ) (s t : State) (written : List ℕ) (u : Unit {0}) (step : Step) (rest : State → Outcome) → DoesStep number s t written (Ok u) step → Leads (proceed s number step rest) written (rest t)
 proceed_ok number s t written u (goes r text) rest d = Leads-before (rest r) (rest t) text written (ap rest (sym d.0)) d.1
 proceed_ok number s t written u (refused e) rest d = absurd d
-proceed_ok number s t written u unsaid rest d = tt
 
 -- what is known after a line that stopped a run
 abbrev AfterFault : Outcome → List ℕ → State → RunFault → Type 0
@@ -155,18 +143,9 @@ after_refusal number e s t written run_faults.Write m same none = absurd m
 after_refusal number e s t written run_faults.Endless m same none = absurd m
 after_refusal number e s t written run_faults.Start m same none = absurd m
 
-after_unsaid : (written : List ℕ) (t : State) (f : RunFault) → IsStop f → AfterFault unknown written t f
-after_unsaid written t run_faults.Memory stop = tt
-after_unsaid written t run_faults.Write stop = tt
-after_unsaid written t (run_faults.Line n e) stop = absurd stop
-after_unsaid written t run_faults.Read stop = absurd stop
-after_unsaid written t run_faults.Endless stop = absurd stop
-after_unsaid written t run_faults.Start stop = absurd stop
-
 proceed_err : (number : ℕ) (s t : State) (written : List ℕ) (f : RunFault) (step : Step) (rest : State → Outcome) → DoesStep {U = Unit {0}} number s t written (Err f) step → AfterFault (proceed s number step rest) written t f
 proceed_err number s t written f (goes r text) rest d = after_stop (before text (rest r)) written t f d.0 (Begins-before (rest r) text written d.1)
 proceed_err number s t written f (refused e) rest d = after_refusal number e s t written f d.0 d.1 d.2
-proceed_err number s t written f unsaid rest d = after_unsaid written t f d
 
 pub whole_passes : (n : ℕ) (s t : State) (reader reader' : Ahead) (given written line : List ℕ) (u : Unit {0}) → n < most_lines → IsLine line → reader.bytes ++ given ≡ line ++ 10 ∷ reader'.bytes
     → DoesStep (n + 1) s t written (Ok u) (step_of s (content (whole_line line))) → Passes n s reader given written (n + 1) t reader'

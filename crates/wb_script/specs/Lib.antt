@@ -3,6 +3,9 @@ pub mod Parsing
 pub mod Faults
 pub mod Board
 pub mod Reply
+pub mod Indexed
+pub mod Queries
+pub mod Answers
 pub mod Script
 pub mod Output
 pub mod Ahead

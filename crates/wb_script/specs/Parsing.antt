@@ -1,5 +1,5 @@
 -- What a line of a script says, or its first fault.
-use Rattle.std.specs.Prelude.{◌≡◌, ◌≤◌, IfErr, ℕ, ◌-◌, ◌^◌, List, [], ◌∷◌, Bool, false, nat_eq, Option, Some, None, Result, Ok, Err, if◌then◌else◌, codes}
+use Rattle.std.specs.Prelude.{◌≡◌, ◌≤◌, IfErr, ℕ, ◌-◌, ◌^◌, List, [], ◌∷◌, Bool, true, false, nat_eq, Option, Some, None, Result, Ok, Err, if◌then◌else◌, codes}
 use Rattle.std.specs.Str.{bytes_eq}
 use Rattle.wb_names.specs.declared.name.PageId.{PageId}
 use Rattle.wb_codec.specs.Reading.{reading}
@@ -10,6 +10,7 @@ use Rattle.wb_script.specs.declared.fault.LineFault.{LineFault}
 use Rattle.wb_script.specs.declared.fault.LineFault.TheVariants as faults
 use Rattle.wb_script.specs.declared.fault.ParseFault.{ParseFault}
 use Rattle.wb_script.specs.declared.fault.ParseFault.TheVariants as parse_faults
+use Rattle.wb_display.specs.Canvas.{is_canvas_size}
 use Rattle.wb_script.specs.Faults.{line_code}
 use Rattle.wb_script.specs.declared.line.Line.{Line}
 use Rattle.wb_script.specs.declared.line.Line.TheVariants.{Skip, Board, Arrive, Distance, Tick, Look, Session, Show, Gaps, Report, Pages}
@@ -141,6 +142,20 @@ line_of_words (word ∷ arguments) = if begins_comment word then Ok Skip else co
 -- the line, which stands without its end
 abbrev pub line_of : List ℕ → Result Line LineFault
 line_of bytes = line_of_words (words bytes)
+
+-- What a line carries is in its range: a board has at most 65,535 cells, and a canvas is not too large.
+abbrev pub IsWithin : Line → Type 0
+IsWithin (Board member cells workers seed) = cells ≤ 65535
+IsWithin (Show page width height) = is_canvas_size width height ≡ true
+IsWithin Skip = Unit {0}
+IsWithin (Arrive d) = Unit {0}
+IsWithin (Distance source micros) = Unit {0}
+IsWithin (Tick moment) = Unit {0}
+IsWithin (Look page) = Unit {0}
+IsWithin (Session page) = Unit {0}
+IsWithin (Gaps page) = Unit {0}
+IsWithin (Report page) = Unit {0}
+IsWithin Pages = Unit {0}
 
 -- What parsing answers to a line: the line that it says, its first fault, or want of memory, once the digits have been looked at.
 abbrev pub Parses : Result Line ParseFault → Result Line LineFault → Type 0

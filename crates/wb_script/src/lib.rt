@@ -7,6 +7,8 @@
 #![tactic(auto)]
 
 mod batch;
+mod query;
+mod answers;
 mod checking;
 mod fault;
 mod hexadecimal;
@@ -16,7 +18,7 @@ mod line;
 mod line_reader;
 mod number;
 mod output;
-mod painting;
+
 mod parsing;
 mod running;
 mod summary;

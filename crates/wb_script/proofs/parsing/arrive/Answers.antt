@@ -8,13 +8,13 @@ use Rattle.wb_script.specs.Parsing.{one_of}
 use Rattle.wb_script.proofs.Arrivals.{arrive-not_hex, arrive-late}
 use Rattle.wb_script.proofs.parsing.arrive.Goals as goal
 
-pub returns-then-not-is_hex : goal.returns-then-not-is_hex
-returns-then-not-is_hex c =
+pub returns-then-not-is_hex-clause-line : goal.returns-then-not-is_hex-clause-line
+returns-then-not-is_hex-clause-line c =
     let one : one_of (words c.args.rest.now) ≡ Some c.in_ok-digits.digits.now = sym c.one_word.ensures ∙ ap (option_map (λ (x : Bor (List ℕ)). x.now)) c.in_ok-digits.ensures.ok_part in
     arrive-not_hex (words c.args.rest.now) c.in_ok-digits.digits.now one (sym c.is_hex.ensures ∙ c.if-not-is_hex.true)
 
-pub returns-in_err-bytes : goal.returns-in_err-bytes
-returns-in_err-bytes c =
+pub returns-in_err-bytes-clause-line : goal.returns-in_err-bytes-clause-line
+returns-in_err-bytes-clause-line c =
     let one : one_of (words c.args.rest.now) ≡ Some c.in_ok-digits.digits.now = sym c.one_word.ensures ∙ ap (option_map (λ (x : Bor (List ℕ)). x.now)) c.in_ok-digits.ensures.ok_part in
     let p = err_from_is_err_and c.from_residual-in_err-bytes.result c.from_residual-in_err-bytes.ensures.1 in
     rw (p.1, p.2) (arrive-late (words c.args.rest.now) c.in_ok-digits.digits.now one (sym c.is_hex.ensures ∙ c.if-not-is_hex.false))
