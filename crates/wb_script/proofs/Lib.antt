@@ -5,3 +5,5 @@ pub mod LineBytes
 pub mod Histories
 pub mod Outcomes
 pub mod Endings
+pub mod Sorting
+pub mod Queries

@@ -10,6 +10,7 @@ pub mod Script
 pub mod Output
 pub mod Ahead
 pub mod Running
+pub mod Laws
 pub use Rattle.wb_names.specs.Values
 pub use Rattle.wb_names.specs.History
 pub use Rattle.wb_names.specs.Arrivals

@@ -14,6 +14,7 @@ mod fault;
 mod hexadecimal;
 mod history;
 mod host;
+pub mod laws;
 mod line;
 mod line_reader;
 mod number;
