@@ -1,0 +1,11 @@
+//! Datagrams of a shared whiteboard as bytes, and its drawops as rows of words.
+//!
+//! Each drawop has one row of twelve words, by which threads share it word by word. This crate
+//! knows the layouts and nothing of what they mean: it keeps no board and opens no socket.
+#![tactic(auto)]
+
+mod row;
+#[cfg(test)]
+mod row_tests;
+
+pub use row::{ROW_WORDS, from_row, to_row};
