@@ -1,3 +1,4 @@
 pub mod Bytes
+pub mod EntryLists
 pub mod Lawful
 pub mod RowLaws

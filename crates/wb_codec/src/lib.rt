@@ -4,8 +4,18 @@
 //! knows the layouts and nothing of what they mean: it keeps no board and opens no socket.
 #![tactic(auto)]
 
+mod body;
+mod datagram;
+mod drawing;
+mod entries;
+mod fault;
+mod fields;
+mod header;
 mod row;
 #[cfg(test)]
 mod row_tests;
+mod version;
 
+pub use datagram::Datagram;
+pub use fault::ReadFault;
 pub use row::{ROW_WORDS, from_row, to_row};
