@@ -5,6 +5,7 @@
 #![tactic(auto)]
 
 mod body;
+mod checking;
 mod datagram;
 mod drawing;
 mod entries;
