@@ -1,4 +1,6 @@
 pub mod Bytes
+pub mod DrawopLaws
+pub mod EntryLaws
 pub mod EntryLists
 pub mod FieldLaws
 pub mod Lawful
