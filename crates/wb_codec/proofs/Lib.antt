@@ -1,3 +1,4 @@
+pub mod BodyLaws
 pub mod Bytes
 pub mod DrawopLaws
 pub mod EntryLaws
