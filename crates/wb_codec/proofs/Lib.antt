@@ -5,5 +5,8 @@ pub mod EntryLaws
 pub mod EntryLists
 pub mod FieldLaws
 pub mod Lawful
+pub mod GrammarLaws
+pub mod LengthLaws
+pub mod NoMemory
 pub mod OpLaws
 pub mod RowLaws
