@@ -1,6 +1,10 @@
 -- Lists of entries, read one after another.
-use Rattle.std.proofs.Common.{◌≡◌, ℕ, zero, suc, ◌+◌, ◌-◌, ◌<◌, ◌≤◌, List, [], ◌∷◌, ◌++◌, Option, Some, None, Result, Ok, Err, refl, sym, ap, subst, ◌∙◌, append_assoc, arith}
+use Rattle.std.proofs.Common.{◌≡◌, ℕ, zero, suc, ◌+◌, ◌-◌, ◌<◌, ◌≤◌, Bool, true, List, [], ◌∷◌, ◌++◌, Option, Some, None, Result, Ok, Err, refl, sym, ap, subst, ◌∙◌, append_assoc, arith}
+use Rattle.std.specs.Result.{is_ok}
 use Rattle.std.proofs.lemmas.List.{append-nil}
+use Rattle.wb_names.specs.Values.{MarkValue}
+use Rattle.wb_names.specs.Faults.{value_unless}
+use Rattle.wb_names.specs.declared.fault.FieldFault.{FieldFault}
 use Rattle.wb_codec.specs.declared.fault.ReadFault.{ReadFault}
 use Rattle.wb_codec.specs.Reading.{◌>>=◌, list_at}
 use Rattle.wb_codec.specs.Checked.{listed}
@@ -43,6 +47,10 @@ module _ {X : Type 0} (entry_at : Option ℕ → List ℕ → Result (X × List 
       let left : n - k ≡ suc (n - (k + 1)) = omega arith in
       record { so_far = h.so_far ∙ ap (λ (m : ℕ). onto xs (list_at entry_at source m before rest)) left ∙ ap (onto xs) (step (n - (k + 1)) before rest after x e) ∙ onto_onto xs (x ∷ []) (list_at entry_at source (n - (k + 1)) (Some (source x)) after) }
 
+  -- the same, of a list that was extended
+  pub read_pushed : (n : ℕ) (bytes : List ℕ) (k : ℕ) (before : Option ℕ) (rest after : List ℕ) (xs : List X) (x : X) (ys : List X) → HasRead n bytes k before rest xs → k < n → entry_at before rest ≡ Ok (x, after) → ys ≡ xs ++ x ∷ [] → HasRead n bytes (k + 1) (Some (source x)) after ys
+  read_pushed n bytes k before rest after xs x ys h lt e is = subst (λ (zs : List X). HasRead n bytes (k + 1) (Some (source x)) after zs) (sym is) (read_more n bytes k before rest after xs x h lt e)
+
   pub read_stops : (n : ℕ) (bytes : List ℕ) (k : ℕ) (before : Option ℕ) (rest : List ℕ) (xs : List X) (fault : ReadFault) → HasRead n bytes k before rest xs → k < n → entry_at before rest ≡ Err fault → list_at entry_at source n None bytes ≡ Err fault
   read_stops n bytes k before rest xs fault h lt e =
       let left : n - k ≡ suc (n - (k + 1)) = omega arith in
@@ -60,3 +68,13 @@ module _ {X : Type 0} (entry_at : Option ℕ → List ℕ → Result (X × List 
   -- what is read is what is listed
   pub read_listed : (n : ℕ) (bytes rest : List ℕ) (xs : List X) → list_at entry_at source n None bytes ≡ Ok (xs, rest) → list_at entry_at source n None bytes ≡ Ok (listed (list_at entry_at source n None bytes), rest)
   read_listed n bytes rest xs e = e ∙ ap (λ (l : List X). Ok (l, rest)) (sym (ap listed e))
+
+-- entries that passed every check pass them again
+pub never_stops : {X : Type 0} (r : Result (List X × List ℕ) ReadFault) (fault : ReadFault) → is_ok r ≡ true → r ≡ Err fault → ⊥
+never_stops (Ok p) fault ok e = cc
+never_stops (Err f) fault ok e = cc
+
+-- what is made of fields without a fault has these fields
+pub made_of : (m n : MarkValue) (f : Option FieldFault) → (let r : Result MarkValue FieldFault = Ok m in r ≡ value_unless f n) → m ≡ n
+made_of m n None e = cc
+made_of m n (Some fault) e = absurd cc

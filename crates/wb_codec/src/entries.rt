@@ -1,4 +1,4 @@
-ghost use Rattle.std.specs.Prelude.{◌≡◌};
+ghost use Rattle.std.specs.Prelude.{◌≡◌, ◌≤◌, IfOk};
 ghost use Rattle.wb_codec.specs.Reading.{Gives, is_above as above, mark_at, echo_at, marks_at, echoes_at};
 ghost use Rattle.wb_codec.specs.Checked.{marks_in, echoes_in};
 
@@ -8,9 +8,9 @@ use wb_names::{Echo, FieldFault};
 
 /// The fields of a mark, its number at least 1.
 #[derive(Clone, Copy)]
-struct MarkFields {
-    source: u32,
-    high: u32,
+pub(crate) struct MarkFields {
+    pub(crate) source: u32,
+    pub(crate) high: u32,
 }
 
 /// Whether a source is above the one before it, if there is one.
@@ -27,8 +27,9 @@ fn is_above(before: Option<u32>, source: u32) -> bool
 /// The fields of a mark, and the bytes after it.
 #[inline(always)]
 #[tactic(auto, unfolding(crate::specs::Reading::mark_at))]
-fn mark_of(before: Option<u32>, bytes: &[u8]) -> Result<(MarkFields, &[u8]), ReadFault>
-    ensures { Gives (λ x. (record { source = x.0.source; high = x.0.high }, x.1.now)) result (mark_at before bytes.now) }
+pub(crate) fn mark_of(before: Option<u32>, bytes: &[u8]) -> Result<(MarkFields, &[u8]), ReadFault>
+    ensures mark { Gives (λ x. (record { source = x.0.source; high = x.0.high }, x.1.now)) result (mark_at before bytes.now) }
+    ensures positive { IfOk result (λ x. 1 ≤ x.0.high) }
 {
     let (source, rest) = u32_of(bytes)?;
     let (high, rest) = u32_of(rest)?;
@@ -44,7 +45,7 @@ fn mark_of(before: Option<u32>, bytes: &[u8]) -> Result<(MarkFields, &[u8]), Rea
 /// An echo, and the bytes after it.
 #[inline(always)]
 #[tactic(auto, unfolding(crate::specs::Reading::echo_at))]
-fn echo_of(before: Option<u32>, bytes: &[u8]) -> Result<(Echo, &[u8]), ReadFault>
+pub(crate) fn echo_of(before: Option<u32>, bytes: &[u8]) -> Result<(Echo, &[u8]), ReadFault>
     ensures { Gives (λ x. (x.0, x.1.now)) result (echo_at before bytes.now) }
 {
     let (source, rest) = u32_of(bytes)?;

@@ -12,6 +12,7 @@ mod entries;
 mod fault;
 mod fields;
 mod header;
+mod lists;
 mod row;
 #[cfg(test)]
 mod row_tests;
