@@ -181,7 +181,8 @@ session_again sender sent page marks echoes fits =
       again16 (length marks) (ms ++ (n ++ (es ++ []))) (omega arith),
       marks_again marks (n ++ (es ++ [])) fits.marks-fit,
       again16 (length echoes) (es ++ []) (omega arith),
-      echoes_again echoes [] fits.echoes-fit) refl
+      echoes_again echoes [] fits.echoes-fit,
+    ) refl
 
 page_state_again : (sender : ℕ) (page : PageId) (marks : List MarkValue) → IsPageState sender page marks → page_state_at (body (datagrams.PageState sender page marks)) ≡ Ok (datagrams.PageState sender page marks)
 unfolding page_state_at
@@ -196,7 +197,8 @@ page_state_again sender page marks fits =
       again32 sender (p ++ (m ++ (ms ++ []))) fits.sender-fits,
       page_again page (m ++ (ms ++ [])) fits.page-fits,
       again16 (length marks) (ms ++ []) (omega arith),
-      marks_again marks [] fits.marks-fit) refl
+      marks_again marks [] fits.marks-fit,
+    ) refl
 
 request_again : (asker : ℕ) (name : NameValue) → asker < 2 ^ 32 → IsName name → request_at (body (datagrams.Request asker name)) ≡ Ok (datagrams.Request asker name)
 unfolding request_at

@@ -114,7 +114,7 @@ module _ {X : Type 0} (entry_at : Option ℕ → List ℕ → Result (X × List 
   }
 
   pub list_takes : ((before : Option ℕ) (bytes : List ℕ) (x : X × List ℕ) → IsBytes bytes → entry_at before bytes ≡ Ok x → EntryTaken source spell Fits before bytes x.0 x.1)
-    → (n : ℕ) (before : Option ℕ) (bytes : List ℕ) (y : List X × List ℕ) → IsBytes bytes → list_at entry_at source n before bytes ≡ Ok y → ListTaken n before bytes y.0 y.1
+      → (n : ℕ) (before : Option ℕ) (bytes : List ℕ) (y : List X × List ℕ) → IsBytes bytes → list_at entry_at source n before bytes ≡ Ok y → ListTaken n before bytes y.0 y.1
   unfolding list_at
   list_takes takes zero before bytes y fits e =
       let none : ListTaken 0 before bytes [] bytes = record {
@@ -133,7 +133,7 @@ module _ {X : Type 0} (entry_at : Option ℕ → List ℕ → Result (X × List 
       subst (λ (z : List X × List ℕ). ListTaken (suc n) before bytes z.0 z.1) (ok_is (a.0.0 ∷ b.0.0, b.0.1) y b.2) (one_more n before bytes a.0.0 a.0.1 b.0.0 b.0.1 ta tb)
 
   pub list_again : ((before : Option ℕ) (x : X) (rest : List ℕ) → Fits x → is_above before (source x) ≡ true → entry_at before (spell x ++ rest) ≡ Ok (x, rest))
-    → (xs : List X) (before : Option ℕ) (rest : List ℕ) → All Fits xs → AllPairs (λ a b. source a < source b) xs → All (λ a. is_above before (source a) ≡ true) xs → list_at entry_at source (length xs) before (flat_map spell xs ++ rest) ≡ Ok (xs, rest)
+      → (xs : List X) (before : Option ℕ) (rest : List ℕ) → All Fits xs → AllPairs (λ a b. source a < source b) xs → All (λ a. is_above before (source a) ≡ true) xs → list_at entry_at source (length xs) before (flat_map spell xs ++ rest) ≡ Ok (xs, rest)
   unfolding list_at
   list_again again [] before rest fits up above = refl
   list_again again (x ∷ xs) before rest fits up above =

@@ -20,6 +20,8 @@ use Rattle.wb_codec.proofs.Bytes.{IsBytes, IsBytes-drop, IsBytes-take}
 use Rattle.wb_codec.proofs.FieldLaws.{bind_ok, ok_is, require_ok}
 use Rattle.wb_codec.proofs.BodyLaws.{kind_of, HasKind, BodyTaken, body_takes, body_again}
 use Rattle.wb_codec.proofs.LengthLaws.{body_short}
+use Rattle.wb_codec.specs.Grammar.{Spells, IsFaultOf}
+use Rattle.wb_codec.proofs.NoMemory.{never_memory}
 
 -- ---- the header
 
@@ -172,3 +174,29 @@ reading_again v fits =
 -- there is one datagram of a spelling
 pub one_datagram : (v w : Datagram) → IsDatagram v → IsDatagram w → spelling v ≡ spelling w → v ≡ w
 one_datagram v w hv hw e = ok_is v w (sym (reading_again v hv) ∙ ap reading e ∙ reading_again w hw)
+
+-- ---- what the checks answer
+
+pub is_fault : (bytes : List ℕ) (fault : ReadFault) → reading bytes ≡ Err fault → IsFaultOf bytes fault
+is_fault bytes faults.Memory e = absurd (never_memory bytes e)
+is_fault bytes faults.Short e = e
+is_fault bytes faults.Magic e = e
+is_fault bytes faults.Version e = e
+is_fault bytes faults.Kind e = e
+is_fault bytes faults.Trailing e = e
+is_fault bytes faults.Length e = e
+is_fault bytes faults.OpKind e = e
+is_fault bytes (faults.Field f) e = e
+is_fault bytes faults.Order e = e
+
+pub spells : (bytes : List ℕ) (v : Datagram) → IsBytes bytes → reading bytes ≡ Ok v → Spells bytes v
+spells bytes v fits e = let t = reading_takes bytes v fits e in (t.1, t.0)
+
+-- what is refused is no datagram's spelling
+pub no_spelling : (bytes : List ℕ) (v : Datagram) (fault : ReadFault) → reading bytes ≡ Err fault → Spells bytes v → ⊥
+no_spelling bytes v fault e s = apart v fault (sym (reading_again v s.0) ∙ ap reading (sym s.1) ∙ e) where
+  apart : (v : Datagram) (fault : ReadFault) → (let r : Result Datagram ReadFault = Ok v in let q : Result Datagram ReadFault = Err fault in r ≡ q) → ⊥
+  apart v fault e = cc
+
+pub same_datagram : (bytes : List ℕ) (v w : Datagram) → reading bytes ≡ Ok w → Spells bytes v → w ≡ v
+same_datagram bytes v w e s = ok_is w v (sym e ∙ ap reading s.1 ∙ reading_again v s.0)

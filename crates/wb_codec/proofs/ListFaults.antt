@@ -66,7 +66,7 @@ module _ {X : Type 0} (entry_at : Option ℕ → List ℕ → Result (X × List 
   above_later (Some b) s t e f = lt-ltb b t (omega (arith, ltb-true b s e, ltb-true s t f))
 
   ascends : ((before : Option ℕ) (bytes : List ℕ) (x : X × List ℕ) → entry_at before bytes ≡ Ok x → is_above before (source x.0) ≡ true)
-    → (n : ℕ) (before : Option ℕ) (bytes : List ℕ) (y : List X × List ℕ) → list_at entry_at source n before bytes ≡ Ok y → Ascends n before y.0
+      → (n : ℕ) (before : Option ℕ) (bytes : List ℕ) (y : List X × List ℕ) → list_at entry_at source n before bytes ≡ Ok y → Ascends n before y.0
   unfolding list_at
   ascends above zero before bytes y e = subst (λ (z : List X × List ℕ). Ascends 0 before z.0) (ok_is ([], bytes) y e) (record { ascending = λ i j d ij h. absurd (omega arith); above = λ k d h. absurd (omega arith); count = refl })
   ascends above (suc n) before bytes y e =
@@ -82,7 +82,7 @@ module _ {X : Type 0} (entry_at : Option ℕ → List ℕ → Result (X × List 
 
   -- the list of what was read is not refused
   pub not_refused : ((before : Option ℕ) (bytes : List ℕ) (x : X × List ℕ) → entry_at before bytes ≡ Ok x → is_above before (source x.0) ≡ true)
-    → (n : ℕ) (bytes : List ℕ) (xs : List X) (rest : List ℕ) (fault : ListFault) → n ≤ 65535 → list_at entry_at source n None bytes ≡ Ok (xs, rest) → IsListFault (map source xs) fault → ⊥
+      → (n : ℕ) (bytes : List ℕ) (xs : List X) (rest : List ℕ) (fault : ListFault) → n ≤ 65535 → list_at entry_at source n None bytes ≡ Ok (xs, rest) → IsListFault (map source xs) fault → ⊥
   not_refused above n bytes xs rest fault few e h =
       let a = ascends above n None bytes (xs, rest) e in
       let count = a.count in

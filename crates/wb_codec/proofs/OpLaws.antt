@@ -47,7 +47,11 @@ stroke_takes make bytes x fits e =
     let is = ok_is (make a.0.0 b.0.0 c.0.0 d.0.0 g.0.0, g.0.1) x g.2 in
     let all = Takes-then _ _ _ _ _ (Takes-then _ _ _ _ _ (Takes-then _ _ _ _ _ (Takes-then _ _ _ _ _ ta.0 tb.0) tc.0) td.0) tg.0 in
     record {
-      x0 = a.0.0; y0 = b.0.0; x1 = c.0.0; y1 = d.0.0; glyph = g.0.0;
+      x0 = a.0.0;
+      y0 = b.0.0;
+      x1 = c.0.0;
+      y1 = d.0.0;
+      glyph = g.0.0;
       made = ap (λ (p : Op × List ℕ). p.0) is;
       taken = subst (λ (r : List ℕ). Takes bytes (stroke_bytes a.0.0 b.0.0 c.0.0 d.0.0 g.0.0) r) (ap (λ (p : Op × List ℕ). p.1) is) all;
     }
@@ -86,7 +90,9 @@ text_takes bytes x fits e =
     let counted : Takes b.0.1 (length text ∷ []) n.0.1 = subst (λ (m : ℕ). Takes b.0.1 (m ∷ []) n.0.1) (sym len) tn.0 in
     let all = Takes-then _ _ _ _ _ (Takes-then _ _ _ _ _ (Takes-then _ _ _ _ _ ta.0 tb.0) counted) front in
     record {
-      x-at = a.0.0; y-at = b.0.0; text = text;
+      x-at = a.0.0;
+      y-at = b.0.0;
+      text = text;
       made = ap (λ (p : Op × List ℕ). p.0) g.1;
       taken = subst (λ (r : List ℕ). Takes bytes (text_bytes a.0.0 b.0.0 text) r) (ap (λ (p : Op × List ℕ). p.1) g.1) all;
     }
@@ -117,10 +123,12 @@ target_takes make bytes x fits e =
     let tb = takes32 a.0.1 b.0 ta.0.rest_fits b.1 in
     let is = ok_is (make a.0.0 b.0.0, b.0.1) x b.2 in
     record {
-      source = a.0.0; seq = b.0.0;
+      source = a.0.0;
+      seq = b.0.0;
       made = ap (λ (p : Op × List ℕ). p.0) is;
       taken = subst (λ (r : List ℕ). Takes bytes (target_bytes a.0.0 b.0.0) r) (ap (λ (p : Op × List ℕ). p.1) is) (Takes-then _ _ _ _ _ ta.0 tb.0);
-      source-fits = ta.1; seq-fits = tb.1;
+      source-fits = ta.1;
+      seq-fits = tb.1;
     }
 
 target_again : (make : ℕ → ℕ → Op) (source seq : ℕ) (rest : List ℕ) → source < 2 ^ 32 → seq < 2 ^ 32 → target_at make (target_bytes source seq ++ rest) ≡ Ok (make source seq, rest)

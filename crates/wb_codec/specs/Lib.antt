@@ -4,5 +4,6 @@ pub mod RowReading
 pub mod Fault
 pub mod Spelling
 pub mod Reading
+pub mod Grammar
 pub mod Checked
 pub mod TextLengths

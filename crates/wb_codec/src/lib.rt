@@ -13,6 +13,7 @@ mod fault;
 mod fields;
 mod header;
 mod lists;
+mod reading;
 mod row;
 #[cfg(test)]
 mod row_tests;
@@ -20,4 +21,5 @@ mod version;
 
 pub use datagram::Datagram;
 pub use fault::ReadFault;
+pub use reading::read;
 pub use row::{ROW_WORDS, from_row, to_row};
