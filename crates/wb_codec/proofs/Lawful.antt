@@ -2,7 +2,10 @@
 use Rattle.std.proofs.Common.{◌≡◌, ℕ, ◌<◌, ◌≤◌, ◌^◌, true, None, List, length, arith}
 use Rattle.std.specs.List.{list_all}
 use Rattle.std.proofs.lemmas.Bool.Decides.{nat_tests}
-use Rattle.wb_names.specs.Drawing.{stroke_fault, text_fault, is_printable}
+use Rattle.wb_names.specs.Values.{NameValue}
+use Rattle.wb_names.specs.declared.drawop.Op.{Op}
+use Rattle.wb_names.specs.declared.drawop.Op.TheVariants.{Line, Frame, Text, Delete, Restore}
+use Rattle.wb_names.specs.Drawing.{text_of, IsLawful, stroke_fault, text_fault, is_printable}
 use Rattle.wb_codec.proofs.Bytes.{IsBytes, IsBytes-printable}
 
 pub record IsStroke (x0 y0 x1 y1 glyph : ℕ) : Type 0 where
@@ -38,3 +41,11 @@ lawful_text x y text e =
       few_bytes = grind (arith, nat_tests);
       bytes = IsBytes-printable text printable;
     }
+
+-- the bytes of a lawful operation's text are few
+pub text_fits : (name : NameValue) (op : Op) → IsLawful name op → length (text_of op) ≤ 64
+text_fits name (Line x0 y0 x1 y1 glyph) e = omega arith
+text_fits name (Frame x0 y0 x1 y1 glyph) e = omega arith
+text_fits name (Text x y text) e = (lawful_text x y text e).few_bytes
+text_fits name (Delete source seq) e = omega arith
+text_fits name (Restore source seq) e = omega arith

@@ -1,5 +1,5 @@
 -- How long bodies are.
-use Rattle.std.proofs.Common.{◌≡◌, ℕ, suc, ◌+◌, ◌*◌, ◌^◌, ◌<◌, ◌≤◌, List, [], ◌∷◌, ◌++◌, length, refl, subst, arith}
+use Rattle.std.proofs.Common.{◌≡◌, ℕ, suc, ◌+◌, ◌*◌, ◌^◌, ◌<◌, ◌≤◌, List, [], ◌∷◌, ◌++◌, length, refl, subst, arith, ap, sym}
 use Rattle.std.specs.List.{flat_map}
 use Rattle.std.proofs.lemmas.List.{length-append}
 use Rattle.wb_names.specs.Values.{NameValue, DrawopValue, MarkValue}
@@ -42,3 +42,17 @@ body_short (Session sender sent page marks echoes) fits = omega (arith, session_
 body_short (Request asker name) fits = omega arith
 body_short (AskPages asker) fits = omega arith
 body_short (PageState sender page marks) fits = omega (arith, page_state_length sender page marks, fits.marks-fit.lawful.few)
+
+-- the same, of a datagram that was found to be a session message, and of its lists
+pub session_length_of : (v : Datagram) (sender sent : ℕ) (page : PageId) (marks : List MarkValue) (echoes : List Echo) (ms : List MarkValue) (es : List Echo) → v ≡ Session sender sent page marks echoes → ms ≡ marks → es ≡ echoes → 24 + 8 * length ms + 20 * length es ≡ length (body v)
+session_length_of v sender sent page marks echoes ms es is em ee =
+    let a : length ms ≡ length marks = ap length em in
+    let b : length es ≡ length echoes = ap length ee in
+    let whole : 24 + 8 * length ms + 20 * length es ≡ length (body (Session sender sent page marks echoes)) = omega (arith, session_length sender sent page marks echoes) in
+    subst (λ (u : Datagram). 24 + 8 * length ms + 20 * length es ≡ length (body u)) (sym is) whole
+
+pub page_state_length_of : (v : Datagram) (sender : ℕ) (page : PageId) (marks ms : List MarkValue) → v ≡ PageState sender page marks → ms ≡ marks → 14 + 8 * length ms ≡ length (body v)
+page_state_length_of v sender page marks ms is em =
+    let a : length ms ≡ length marks = ap length em in
+    let whole : 14 + 8 * length ms ≡ length (body (PageState sender page marks)) = omega (arith, page_state_length sender page marks) in
+    subst (λ (u : Datagram). 14 + 8 * length ms ≡ length (body u)) (sym is) whole

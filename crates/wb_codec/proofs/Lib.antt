@@ -1,3 +1,4 @@
+pub mod Appending
 pub mod BodyLaws
 pub mod Bytes
 pub mod DrawopLaws

@@ -18,8 +18,10 @@ mod row;
 #[cfg(test)]
 mod row_tests;
 mod version;
+mod writing;
 
 pub use datagram::Datagram;
 pub use fault::ReadFault;
 pub use reading::read;
 pub use row::{ROW_WORDS, from_row, to_row};
+pub use writing::write;
