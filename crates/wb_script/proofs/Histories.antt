@@ -57,8 +57,8 @@ module _ (n : NameValue) (held : List DrawopValue) where
   pub place_tells : MatchOption (place_of held n) (Lacks held n) (Found held n)
   place_tells =
       ⊎_elim
-      (λ lt. subst (λ (o : Option ℕ). MatchOption o (Lacks held n) (Found held n)) (sym (cond_below first (length (names_of held)) (Some first) None lt)) (found lt))
-      (λ ge. subst (λ (o : Option ℕ). MatchOption o (Lacks held n) (Found held n)) (sym (cond_above first (length (names_of held)) (Some first) None None ge refl)) (lacks ge))
+      (λ lt. subst (λ (o : Option ℕ). MatchOption o (Lacks held n) (Found held n)) (cond_below first (length (names_of held)) (Some first) None lt) (found lt))
+      (λ ge. subst (λ (o : Option ℕ). MatchOption o (Lacks held n) (Found held n)) (cond_above first (length (names_of held)) (Some first) None None ge refl) (lacks ge))
       (cases_lt first (length (names_of held)))
 
   pub found_at : (place : ℕ) → place_of held n ≡ Some place → Found held n place

@@ -7,3 +7,4 @@ pub mod Outcomes
 pub mod Endings
 pub mod Sorting
 pub mod Queries
+pub mod Steps

@@ -10,7 +10,7 @@ use Rattle.wb_script.specs.declared.fault.RunFault.TheVariants as run_faults
 use Rattle.wb_script.specs.declared.batch.Batch.{Batch}
 use Rattle.wb_script.specs.declared.summary.Summary.{Summary}
 use Rattle.wb_script.specs.declared.line.Line.{Line}
-use Rattle.wb_script.specs.declared.line.Line.TheVariants.{Skip, Board, Arrive, Distance, Tick, Look, Session, Show, Gaps, Report, Pages}
+use Rattle.wb_script.specs.declared.line.Line.TheVariants.{Skip, Board, Arrive, Hear, Distance, Tick, Look, Session, Show, Gaps, Report, Pages}
 use Rattle.wb_script.specs.Board.{Held, arrival_of}
 use Rattle.wb_script.specs.Parsing.{line_of}
 use Rattle.wb_script.specs.Answers.{batch_line, answer_text}
@@ -110,6 +110,7 @@ line_step s (Arrive d) = on_board s.board (goes (record { board = s.board; waiti
 line_step s (Show page width height) = asked s (queries.Canvas page width height)
 line_step s (Report page) = asked s (queries.Report page)
 line_step s Pages = asked s queries.Pages
+line_step s (Hear v) = refused faults.Unknown
 line_step s (Distance source micros) = refused faults.Unknown
 line_step s (Tick moment) = refused faults.Unknown
 line_step s (Look page) = refused faults.Unknown

@@ -132,32 +132,32 @@ impl Host {
         &mut self,
         alloc: Global,
         number: u32,
-        line: Line,
+        line: &Line,
         output: &mut Output,
     ) -> Result<(), RunFault>
         requires waiting { length self.old.waiting < 2 ^ 32 }
-        requires line { IsWithin line }
-        ensures text { (written : List ℕ) × (output.new ≡ output.old ++ written) × DoesStep number self.old self.new written result (line_step self.old line) }
+        requires line { IsWithin line.now }
+        ensures text { (written : List ℕ) × (output.new ≡ output.old ++ written) × DoesStep number self.old self.new written result (line_step self.old line.now) }
         ensures unwritten { result ≢ Err RunFault.Write }
         ensures waiting { length self.new.waiting ≤ length self.old.waiting + 1 }
     {
         match line {
             Line::Skip => Ok(()),
-            Line::Board { cells, .. } => self.open_board(alloc, number, cells),
-            Line::Arrive(drawop) => self.arrive(number, drawop),
+            Line::Board { cells, .. } => self.open_board(alloc, number, *cells),
+            Line::Arrive(drawop) => self.arrive(number, *drawop),
             Line::Show {
                 page,
                 width,
                 height,
             } => {
                 let canvas = Query::Canvas {
-                    page,
-                    width,
-                    height,
+                    page: *page,
+                    width: *width,
+                    height: *height,
                 };
                 self.ask(alloc, number, canvas, output)
             }
-            Line::Report(page) => self.ask(alloc, number, Query::Report(page), output),
+            Line::Report(page) => self.ask(alloc, number, Query::Report(*page), output),
             Line::Pages => self.ask(alloc, number, Query::Pages, output),
             _ => Err(RunFault::Line(number, LineFault::Unknown)),
         }
@@ -177,7 +177,7 @@ impl Host {
         ensures waiting { length self.new.waiting ≤ length self.old.waiting + 1 }
     {
         match parse_line(alloc, bytes) {
-            Ok(line) => self.take(alloc, number, line, output),
+            Ok(line) => self.take(alloc, number, &line, output),
             Err(ParseFault::Line(fault)) => Err(RunFault::Line(number, fault)),
             Err(ParseFault::Memory) => Err(RunFault::Memory),
         }

@@ -1,7 +1,7 @@
 ghost use Rattle.std.specs.Prelude.{◌≡◌, ◌≤◌, IfOk, Result, Ok, Err};
 ghost use Rattle.std.specs.Option.{option_map};
 ghost use Rattle.wb_script.specs.Words.{words};
-ghost use Rattle.wb_script.specs.Parsing.{Parses, IsWithin, number, none_of, one_of, two_of, four_of, board, show, distance, tick, page, pages, page_line, arrived, arrive, command, begins_comment, line_of};
+ghost use Rattle.wb_script.specs.Parsing.{Parses, IsWithin, number, none_of, one_of, two_of, four_of, board, show, distance, tick, page, pages, page_line, datagram, arrive, hear, command, begins_comment, line_of};
 
 use crate::fault::{LineFault, ParseFault};
 use crate::hexadecimal::{is_hex, unhex};
@@ -163,27 +163,41 @@ fn pages(rest: &[u8]) -> Result<Line, LineFault>
     Ok(Line::Pages)
 }
 
-fn arrived(reading: Result<Datagram, ReadFault>) -> Result<Line, LineFault>
-    ensures line { result ≡ arrived reading }
-    ensures within { IfOk result IsWithin }
-{
-    let datagram = reading.map_err(LineFault::Datagram)?;
-    let Datagram::Draw(drawop) = datagram;
-    Ok(Line::Arrive(drawop))
-}
-
-#[tactic(auto, unfolding(crate::specs::Parsing::arrive))]
-fn arrive(alloc: Global, rest: &[u8]) -> Result<Line, ParseFault>
-    ensures line { Parses result (arrive (words rest.now)) }
-    ensures within { IfOk result IsWithin }
+/// The datagram of the only word.
+#[tactic(auto, unfolding(crate::specs::Parsing::datagram))]
+fn datagram(alloc: Global, rest: &[u8]) -> Result<Datagram, ParseFault>
+    ensures { Parses result (datagram (words rest.now)) }
 {
     let digits = one_word(rest).ok_or(LineFault::Words)?;
     if !is_hex(digits) {
         return Err(ParseFault::Line(LineFault::Hex));
     }
     let bytes = unhex(alloc, digits)?;
-    let line = arrived(read(alloc, &bytes))?;
-    Ok(line)
+    match read(alloc, &bytes) {
+        Ok(datagram) => Ok(datagram),
+        Err(ReadFault::Memory) => Err(ParseFault::Memory),
+        Err(fault) => Err(ParseFault::Line(LineFault::Datagram(fault))),
+    }
+}
+
+fn arrive(alloc: Global, rest: &[u8]) -> Result<Line, ParseFault>
+    ensures line { Parses result (arrive (words rest.now)) }
+    ensures within { IfOk result IsWithin }
+{
+    match datagram(alloc, rest)? {
+        Datagram::Draw(drawop) => Ok(Line::Arrive(drawop)),
+        _ => Err(ParseFault::Line(LineFault::Kind)),
+    }
+}
+
+fn hear(alloc: Global, rest: &[u8]) -> Result<Line, ParseFault>
+    ensures line { Parses result (hear (words rest.now)) }
+    ensures within { IfOk result IsWithin }
+{
+    match datagram(alloc, rest)? {
+        Datagram::Draw(_) => Err(ParseFault::Line(LineFault::Kind)),
+        heard => Ok(Line::Hear(heard)),
+    }
 }
 
 #[tactic(auto, unfolding(crate::specs::Parsing::page_line))]
@@ -213,6 +227,8 @@ fn command(alloc: Global, word: &[u8], rest: &[u8]) -> Result<Line, ParseFault>
         Ok(board(rest)?)
     } else if word == b"arrive".as_slice() {
         arrive(alloc, rest)
+    } else if word == b"hear".as_slice() {
+        hear(alloc, rest)
     } else if word == b"show".as_slice() {
         Ok(show(rest)?)
     } else if word == b"distance".as_slice() {
