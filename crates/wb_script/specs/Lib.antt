@@ -7,6 +7,7 @@ pub mod Script
 pub mod Output
 pub mod Ahead
 pub mod Running
+pub mod Checking
 pub use Rattle.wb_names.specs.Values
 pub use Rattle.wb_names.specs.History
 pub use Rattle.wb_names.specs.Arrivals
