@@ -6,9 +6,8 @@
 //! hexadecimal) stands in modules of its own, apart from what runs.
 #![tactic(auto)]
 
-mod batch;
-mod query;
 mod answers;
+mod batch;
 mod checking;
 mod fault;
 mod hexadecimal;
@@ -19,8 +18,8 @@ mod line;
 mod line_reader;
 mod number;
 mod output;
-
 mod parsing;
+mod query;
 mod running;
 mod summary;
 #[cfg(test)]
