@@ -1,4 +1,9 @@
-pub mod Faults
+pub mod Ranges
+pub mod Rows
+pub mod RowReading
+pub mod Fault
+pub mod Spelling
 pub mod Reading
-pub use Rattle.wb_names.specs.Values
-pub use Rattle.wb_names.specs.Drawing
+pub mod Grammar
+pub mod Checked
+pub mod TextLengths

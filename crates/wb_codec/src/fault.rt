@@ -4,43 +4,44 @@ ghost use Rattle.wb_codec.specs.declared.fault.ReadFault.TheVariants.{Field};
 use thiserror::Error;
 use wb_names::FieldFault;
 
-/// Why bytes are no datagram: the first check that fails, from the left; or want of memory.
+/// Why bytes are no datagram: the first check from the left that fails. `Memory` alone says nothing
+/// of the bytes: they are a datagram, for whose lists there was no memory.
 #[derive(Clone, Copy, Debug, PartialEq, Eq, Error)]
 pub enum ReadFault {
-    /// There are fewer bytes than the header and its length say.
-    #[error("short")]
+    /// Fewer bytes than the header has, or fewer than it tells.
+    #[error("fewer bytes than the header tells")]
     Short,
-    /// The first two bytes are not "WB".
-    #[error("magic")]
+    /// The first two bytes are not `WB`.
+    #[error("not a datagram of a whiteboard")]
     Magic,
-    /// The version is unknown.
-    #[error("version")]
+    /// The version is neither 1 nor 2.
+    #[error("unknown version")]
     Version,
-    /// The kind is unknown.
-    #[error("kind")]
+    /// The version has no datagram of this kind.
+    #[error("unknown kind")]
     Kind,
-    /// There are more bytes than the header's length says.
-    #[error("trailing")]
+    /// More bytes than the header tells.
+    #[error("more bytes than the header tells")]
     Trailing,
-    /// A field does not fit in the body, or the body goes on after the last one.
-    #[error("length")]
+    /// A field does not fit into the body, or bytes are left after the last.
+    #[error("wrong length of the body")]
     Length,
-    /// The operation is unknown.
-    #[error("operation")]
+    /// The version has no operation of this number.
+    #[error("unknown operation")]
     OpKind,
     /// A field is out of its range.
-    #[error("field: {0}")]
+    #[error("{0}")]
     Field(FieldFault),
-    /// The sources of a list do not ascend.
-    #[error("order")]
+    /// A source of a list is not above the one before it.
+    #[error("sources out of order")]
     Order,
-    /// There was no memory for a list.
-    #[error("memory")]
+    /// No memory for the lists.
+    #[error("out of memory")]
     Memory,
 }
 
 impl ReadFault {
-    ghost use Rattle.wb_codec.specs.Faults.{read_code};
+    ghost use Rattle.wb_codec.specs.Fault.{read_code};
 
     /// The number of the fault, from 1.
     pub fn code(&self) -> u32
@@ -64,6 +65,7 @@ impl ReadFault {
 impl From<FieldFault> for ReadFault {
     ghost from_gives = { λ e f. f ≡ Field e };
 
+    #[inline(always)]
     fn from(fault: FieldFault) -> ReadFault {
         ReadFault::Field(fault)
     }

@@ -9,13 +9,14 @@ use Rattle.std.proofs.lemmas.List.Sums.{AllPass-from_list_all, list_all-from_All
 use Rattle.hex.specs.Hex.{decode_of, is_hex_digit}
 use Rattle.hex.proofs.HexLemmas.{decode_of-ok, decode_of-digits}
 use Rattle.wb_codec.specs.Reading.{reading}
+use Rattle.wb_codec.specs.Grammar.{Spells}
+use Rattle.wb_codec.proofs.GrammarLaws.{reading_again}
 use Rattle.wb_codec.specs.declared.datagram.Datagram.{Datagram}
-use Rattle.wb_codec.specs.declared.datagram.Datagram.TheVariants.{Draw}
 use Rattle.wb_codec.specs.declared.fault.ReadFault.{ReadFault}
 use Rattle.wb_script.specs.declared.fault.LineFault.TheVariants as faults
 use Rattle.wb_script.specs.Faults.{line_code}
 use Rattle.wb_script.specs.Words.{is_hex, unhex}
-use Rattle.wb_script.specs.Parsing.{one_of, arrive, arrived}
+use Rattle.wb_script.specs.Parsing.{one_of, datagram, spelled}
 
 both : (a b : Bool) → (a && b) ≡ true → (a ≡ true) × (b ≡ true)
 both true b e = (refl, e)
@@ -39,14 +40,22 @@ unhex-hex word hex =
     let d = decode_of-digits word even (AllPass-from_list_all is_hex_digit word h.1) in
     (d.0, ap result_ok d.1)
 
-pub arrive-not_hex : (ws : List (List ℕ)) (digits : List ℕ) → one_of ws ≡ Some digits → is_hex digits ≡ false → arrive ws ≡ Err faults.Hex
-unfolding arrive
-arrive-not_hex ws digits e no_hex = rw (e, unhex-not_hex digits no_hex) refl
+pub datagram-not_hex : (ws : List (List ℕ)) (digits : List ℕ) → one_of ws ≡ Some digits → is_hex digits ≡ false → datagram ws ≡ Err faults.Hex
+unfolding datagram
+datagram-not_hex ws digits e no_hex = rw (e, unhex-not_hex digits no_hex) refl
 
-late : (r : Result Datagram ReadFault) → IfErr (arrived r) (λ e. 5 ≤ line_code e)
-late (Ok (Draw d)) = tt
+late : (r : Result Datagram ReadFault) → IfErr (spelled r) (λ e. 5 ≤ line_code e)
+late (Ok v) = tt
 late (Err e) = omega arith
 
-pub arrive-late : (ws : List (List ℕ)) (digits : List ℕ) → one_of ws ≡ Some digits → is_hex digits ≡ true → IfErr (arrive ws) (λ e. 5 ≤ line_code e)
-unfolding arrive
-arrive-late ws digits e hex = let d = unhex-hex digits hex in rw (e, d.1) (late (reading d.0))
+pub datagram-late : (ws : List (List ℕ)) (digits : List ℕ) → one_of ws ≡ Some digits → is_hex digits ≡ true → IfErr (datagram ws) (λ e. 5 ≤ line_code e)
+unfolding datagram
+datagram-late ws digits e hex = let d = unhex-hex digits hex in rw (e, d.1) (late (reading d.0))
+
+-- what a reading of the bytes tells of the line
+pub datagram-read : (ws : List (List ℕ)) (digits bytes : List ℕ) → one_of ws ≡ Some digits → decode_of digits ≡ Ok bytes → datagram ws ≡ spelled (reading bytes)
+unfolding datagram
+datagram-read ws digits bytes e d = rw (e, ap result_ok d) refl
+
+pub datagram-spelled : (ws : List (List ℕ)) (digits bytes : List ℕ) (v : Datagram) → one_of ws ≡ Some digits → decode_of digits ≡ Ok bytes → Spells bytes v → datagram ws ≡ Ok v
+datagram-spelled ws digits bytes v e d s = datagram-read ws digits bytes e d ∙ ap spelled (ap reading s.1 ∙ reading_again v s.0)

@@ -8,7 +8,7 @@ use Rattle.wb_script.specs.declared.fault.RunFault.{RunFault}
 use Rattle.wb_script.specs.declared.fault.RunFault.TheVariants as run_faults
 use Rattle.wb_script.specs.declared.summary.Summary.{Summary}
 use Rattle.wb_script.specs.Ahead.{Ahead, Pulls}
-use Rattle.wb_script.specs.Script.{State, start, Outcome, prints, unknown, finish, summary, outcome, IsStop}
+use Rattle.wb_script.specs.Script.{State, start, Outcome, prints, finish, summary, outcome, IsStop}
 use Rattle.wb_script.specs.Output.{Sends}
 use Rattle.wb_script.specs.Running.{Leads, Begins, MayFollow, MayRemain, RunsLines, RunsAll, Meets, Settles, Closes, outcome_of, Runs}
 use Rattle.wb_script.proofs.KnownBytes.{Sends-then}
@@ -18,13 +18,10 @@ abbrev fresh : Ahead
 fresh = record { bytes = []; ended = false }
 
 meets_then : (o next : Outcome) (x y left : List ℕ) (result : Result Summary RunFault) → Leads o x next → Settles next y left result → Settles o (x ++ y) left result
-meets_then unknown next x y left result p q = tt
-meets_then (prints t e) unknown x y left result p q = absurd cc
 meets_then (prints t e) (prints u f) x y left result p (inl m) = inl (ap (λ (s : List ℕ). x ++ s) m.0 ∙ sym (text_of t (x ++ u) e f p), m.1, m.2 ∙ sym (end_of t (x ++ u) e f p))
 meets_then (prints t e) (prints u f) x y left result p (inr m) = inr (m.0, (m.1.0, text_of t (x ++ u) e f p ∙ ap (λ (s : List ℕ). x ++ s) m.1.1 ∙ sym (append_assoc x y m.1.0)))
 
 meets_stop : (o : Outcome) (x y left : List ℕ) (e : RunFault) (result : Result Summary RunFault) → Begins o x → IsStop e → y ≡ [] → result ≡ Err e → Settles o (x ++ y) left result
-meets_stop unknown x y left e result b stop none is = tt
 meets_stop (prints t f) x y left e result b stop none is =
     let all : x ++ y ≡ x = ap (λ (s : List ℕ). x ++ s) none ∙ append-nil x in
     inr (rw is stop, rw all b)
@@ -56,7 +53,6 @@ runs_all s r failed given w w1 left (Err e) result working p q = runs_err s r fa
 
 -- what was sent of a text is all of it, or a front where the run stopped
 sent_of : (o : Outcome) (text sent left : List ℕ) (result : Result Summary RunFault) → text ≡ sent ++ left → Settles o text left result → Meets o sent result
-sent_of unknown text sent left result e m = tt
 sent_of (prints t end) text sent left result e (inl m) = inl (sym (append-nil sent) ∙ ap (λ (x : List ℕ). sent ++ x) (sym m.1) ∙ sym e ∙ m.0, m.2)
 sent_of (prints t end) text sent left result e (inr m) = inr (m.0, (left ++ m.1.0, m.1.1 ∙ ap (λ (x : List ℕ). x ++ m.1.0) e ∙ append_assoc sent left m.1.0))
 

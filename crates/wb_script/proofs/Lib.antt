@@ -3,5 +3,11 @@ pub mod Arrivals
 pub mod KnownBytes
 pub mod LineBytes
 pub mod Histories
+pub mod InputLines
 pub mod Outcomes
 pub mod Endings
+pub mod Sorting
+pub mod Queries
+pub mod Steps
+pub mod LineCounts
+pub mod CountLaws

@@ -1,43 +1,36 @@
 -- What a script does, one line after the other.
-use Rattle.std.proofs.Common.{◌≡◌, ◌≢◌, ℕ, ◌+◌, ◌<◌, ◌≤◌, Bool, true, false, cond, List, [], ◌∷◌, ◌++◌, length, Result, Ok, Err, refl, sym, ap, subst, ◌∙◌, append_assoc, arith}
+use Rattle.std.proofs.Common.{◌≡◌, ◌≢◌, ℕ, ◌+◌, ◌<◌, ◌≤◌, Bool, true, false, List, [], ◌∷◌, ◌++◌, length, Result, Ok, Err, refl, sym, ap, subst, ◌∙◌, append_assoc, arith}
 use Rattle.std.specs.Prelude.{nat_eq, nat_le, nat_lt, ◌&&◌}
 use Rattle.std.proofs.lemmas.Bool.{false≢true}
-use Rattle.std.proofs.lemmas.Bool.Decides.{nat_tests}
 use Rattle.std.proofs.lemmas.List.{append-nil}
 use Rattle.wb_script.specs.declared.fault.LineFault.{LineFault}
 use Rattle.wb_script.specs.declared.fault.RunFault.{RunFault}
 use Rattle.wb_script.specs.declared.fault.RunFault.TheVariants as run_faults
 use Rattle.wb_script.specs.declared.summary.Summary.{Summary}
 use Rattle.wb_script.specs.Ahead.{Ahead, NoLineFeed, IsLine}
-use Rattle.wb_script.specs.Script.{InputLine, onto_first, input_lines, content, State, Step, goes, refused, unsaid, step_of, Outcome, prints, unknown, before, finish, summary, proceed, most_lines, most_bytes, outcome_from, BeginsWith, IsStop, IsMemoryOr, DoesStep}
+use Rattle.wb_script.specs.Script.{InputLine, input_lines, content, State, Step, goes, refused, step_of, Outcome, prints, before, finish, summary, proceed, most_lines, most_bytes, outcome_from, BeginsWith, IsStop, IsMemoryOr, DoesStep}
 use Rattle.wb_script.specs.Running.{MayFollow, Leads, Begins, ahead_of, Passes, Stops, Ends}
+use Rattle.wb_script.proofs.InputLines.{input_lines-whole, input_lines-last, starts_line, whole_line, last_line, regrouped, fits, past_length, has_line, past_count}
 
 -- ---- what was written before
 
 before-nil : (o : Outcome) → before [] o ≡ o
 before-nil (prints text end) = refl
-before-nil unknown = refl
 
 before-before : (x y : List ℕ) (o : Outcome) → before x (before y o) ≡ before (x ++ y) o
 before-before x y (prints text end) = ap (λ (t : List ℕ). prints t end) (sym (append_assoc x y text))
-before-before x y unknown = refl
 
 pub Leads-refl : (o : Outcome) → Leads o [] o
 Leads-refl (prints text end) = refl
-Leads-refl unknown = tt
 
 pub Leads-is : (o next : Outcome) (written : List ℕ) → o ≡ next → written ≡ [] → Leads o written next
 Leads-is (prints text end) next written e none = rw none (e ∙ sym (before-nil next))
-Leads-is unknown next written e none = tt
 
 pub Leads-then : (a b c : Outcome) (x y : List ℕ) → Leads a x b → Leads b y c → Leads a (x ++ y) c
-Leads-then unknown b c x y p q = tt
-Leads-then (prints t e) unknown c x y p q = absurd cc
 Leads-then (prints t e) (prints u f) c x y p q = p ∙ ap (before x) q ∙ before-before x y c
 
 pub Begins-nil : (o : Outcome) (written : List ℕ) → written ≡ [] → Begins o written
 Begins-nil (prints text end) written none = (text, rw none refl)
-Begins-nil unknown written none = tt
 
 pub text_of : (t u : List ℕ) (e f : Result Summary RunFault) → prints t e ≡ prints u f → t ≡ u
 text_of t u e f h = cc
@@ -46,63 +39,11 @@ pub end_of : (t u : List ℕ) (e f : Result Summary RunFault) → prints t e ≡
 end_of t u e f h = cc
 
 pub Begins-then : (a b : Outcome) (x y : List ℕ) → Leads a x b → Begins b y → Begins a (x ++ y)
-Begins-then unknown b x y p q = tt
-Begins-then (prints t e) unknown x y p q = absurd cc
 Begins-then (prints t e) (prints u f) x y p q =
     let text : t ≡ x ++ u = text_of t (x ++ u) e f p in
     (q.0, text ∙ ap (λ (s : List ℕ). x ++ s) q.1 ∙ sym (append_assoc x y q.0))
 
--- ---- the lines of an input
-
-not_ten : (b : ℕ) → b ≢ 10 → nat_eq b 10 ≡ false
-not_ten b ne = grind (arith, nat_tests, ne)
-
-pub input_lines-whole : (line more : List ℕ) → NoLineFeed line → input_lines (line ++ 10 ∷ more) ≡ record { bytes = line; ended = true } ∷ input_lines more
-input_lines-whole [] more none = refl
-input_lines-whole (b ∷ line) more none =
-    let other : nat_eq b 10 ≡ false = not_ten b none.0 in
-    rw (other, input_lines-whole line more none.1) refl
-
-pub input_lines-last : (line : List ℕ) → NoLineFeed line → line ≢ [] → input_lines line ≡ record { bytes = line; ended = false } ∷ []
-input_lines-last [] none some = absurd (some refl)
-input_lines-last (b ∷ []) none some = rw (not_ten b none.0) refl
-input_lines-last (b ∷ c ∷ line) none some = rw (not_ten b none.0, input_lines-last (c ∷ line) none.1 (λ e. cc)) refl
-
--- the first line is no shorter than what is known of it
-pub record StartsLine (front : List ℕ) (lines : List InputLine) : Type 0 where
-  first : InputLine
-  others : List InputLine
-  is : lines ≡ first ∷ others
-  long : length front ≤ length first.bytes
-
-onto : (b : ℕ) (lines : List InputLine) (test : Bool) (x : List InputLine) → test ≡ false → StartsLine (b ∷ []) (cond test x (onto_first b lines))
-onto b [] test x e = record { first = record { bytes = b ∷ []; ended = false }; others = []; is = rw e refl; long = omega arith }
-onto b (l ∷ lines) test x e = record { first = record { bytes = b ∷ l.bytes; ended = l.ended }; others = lines; is = rw e refl; long = omega arith }
-
-pub starts_line : (b : ℕ) (front more : List ℕ) → NoLineFeed (b ∷ front) → StartsLine (b ∷ front) (input_lines ((b ∷ front) ++ more))
-starts_line b [] more none = onto b (input_lines more) (nat_eq b 10) (record { bytes = []; ended = true } ∷ input_lines more) (not_ten b none.0)
-starts_line b (c ∷ front) more none =
-    let rest = starts_line c front more none.1 in
-    record {
-      first = record { bytes = b ∷ rest.first.bytes; ended = rest.first.ended };
-      others = rest.others;
-      is = rw (not_ten b none.0, rest.is) refl;
-      long = omega (arith, rest.long);
-    }
-
 -- ---- one line
-
-abbrev whole_line : List ℕ → InputLine
-whole_line line = record { bytes = line; ended = true }
-
-abbrev last_line : List ℕ → InputLine
-last_line line = record { bytes = line; ended = false }
-
-regrouped : (bytes given more line rest : List ℕ) → bytes ++ given ≡ line ++ rest → bytes ++ (given ++ more) ≡ line ++ (rest ++ more)
-regrouped bytes given more line rest e = sym (append_assoc bytes given more) ∙ ap (λ (t : List ℕ). t ++ more) e ∙ append_assoc line rest more
-
-fits : (n : ℕ) (line : List ℕ) → n < most_lines → length line ≤ most_bytes → nat_lt n most_lines && nat_le (length line) most_bytes ≡ true
-fits n line few short = grind (arith, nat_tests)
 
 whole_ahead : (cut : Bool) (n : ℕ) (s : State) (reader reader' : Ahead) (given line more : List ℕ) → n < most_lines → IsLine line → reader.bytes ++ given ≡ line ++ 10 ∷ reader'.bytes
     → ahead_of cut n s reader (given ++ more) ≡ proceed s (n + 1) (step_of s (content (whole_line line))) (λ t. ahead_of cut (n + 1) t reader' more)
@@ -119,16 +60,13 @@ last_ahead n s reader reader' given line few is some e none =
 
 Leads-before : (o next : Outcome) (text written : List ℕ) → o ≡ next → written ≡ text → Leads (before text o) written next
 Leads-before (prints rest end) next text written e is = rw is (ap (before text) e)
-Leads-before unknown next text written e is = tt
 
 Begins-before : (o : Outcome) (text written : List ℕ) → BeginsWith text written → Begins (before text o) written
 Begins-before (prints rest end) text written b = (b.0 ++ rest, ap (λ (t : List ℕ). t ++ rest) b.1 ∙ append_assoc written b.0 rest)
-Begins-before unknown text written b = tt
 
 proceed_ok : (number : ℕ) (s t : State) (written : List ℕ) (u : Unit {0}) (step : Step) (rest : State → Outcome) → DoesStep number s t written (Ok u) step → Leads (proceed s number step rest) written (rest t)
 proceed_ok number s t written u (goes r text) rest d = Leads-before (rest r) (rest t) text written (ap rest (sym d.0)) d.1
 proceed_ok number s t written u (refused e) rest d = absurd d
-proceed_ok number s t written u unsaid rest d = tt
 
 -- what is known after a line that stopped a run
 abbrev AfterFault : Outcome → List ℕ → State → RunFault → Type 0
@@ -155,18 +93,9 @@ after_refusal number e s t written run_faults.Write m same none = absurd m
 after_refusal number e s t written run_faults.Endless m same none = absurd m
 after_refusal number e s t written run_faults.Start m same none = absurd m
 
-after_unsaid : (written : List ℕ) (t : State) (f : RunFault) → IsStop f → AfterFault unknown written t f
-after_unsaid written t run_faults.Memory stop = tt
-after_unsaid written t run_faults.Write stop = tt
-after_unsaid written t (run_faults.Line n e) stop = absurd stop
-after_unsaid written t run_faults.Read stop = absurd stop
-after_unsaid written t run_faults.Endless stop = absurd stop
-after_unsaid written t run_faults.Start stop = absurd stop
-
 proceed_err : (number : ℕ) (s t : State) (written : List ℕ) (f : RunFault) (step : Step) (rest : State → Outcome) → DoesStep {U = Unit {0}} number s t written (Err f) step → AfterFault (proceed s number step rest) written t f
 proceed_err number s t written f (goes r text) rest d = after_stop (before text (rest r)) written t f d.0 (Begins-before (rest r) text written d.1)
 proceed_err number s t written f (refused e) rest d = after_refusal number e s t written f d.0 d.1 d.2
-proceed_err number s t written f unsaid rest d = after_unsaid written t f d
 
 pub whole_passes : (n : ℕ) (s t : State) (reader reader' : Ahead) (given written line : List ℕ) (u : Unit {0}) → n < most_lines → IsLine line → reader.bytes ++ given ≡ line ++ 10 ∷ reader'.bytes
     → DoesStep (n + 1) s t written (Ok u) (step_of s (content (whole_line line))) → Passes n s reader given written (n + 1) t reader'
@@ -225,10 +154,6 @@ failure_stops n s reader reader' given line failed few is e going has = (has, go
 too_many : (cut : Bool) (n : ℕ) (s : State) (line : InputLine) (lines : List InputLine) → nat_lt n most_lines && nat_le (length line.bytes) most_bytes ≡ false → outcome_from cut n s (line ∷ lines) ≡ finish s (Err run_faults.Endless)
 too_many cut n s line lines e = rw e refl
 
-past_length : (b : Bool) (n : ℕ) → most_bytes < n → b && nat_le n most_bytes ≡ false
-past_length true n lt = grind (arith, nat_tests)
-past_length false n lt = refl
-
 pub length_stops : (n : ℕ) (s : State) (reader reader' : Ahead) (given line : List ℕ) (failed : Bool) → NoLineFeed line → length line ≡ most_bytes + 1 → reader.bytes ++ given ≡ line ++ reader'.bytes → Stops n s reader given [] s reader' failed run_faults.Endless
 length_stops n s reader reader' given [] failed none long e = absurd (omega arith)
 length_stops n s reader reader' given (b ∷ line) failed none long e = λ more cut may.
@@ -244,19 +169,6 @@ ends_here n s reader reader' given e ended = (ended, Leads-is (ahead_of false n 
 
 pub failure_at_end : (n : ℕ) (s : State) (reader reader' : Ahead) (given : List ℕ) (failed : Bool) → reader.bytes ++ given ≡ [] → reader'.ended ≡ false → failed ≡ true → Stops n s reader given [] s reader' failed run_faults.Read
 failure_at_end n s reader reader' given failed e going has = (has, going, Leads-is (ahead_of true n s reader given) (finish s (Err run_faults.Read)) [] (ap (λ (t : List ℕ). outcome_from true n s (input_lines t)) e) refl)
-
-record HasLine (lines : List InputLine) : Type 0 where
-  first : InputLine
-  others : List InputLine
-  is : lines ≡ first ∷ others
-
-has_line : (b : Bool) (x : InputLine) (c : ℕ) (xs lines : List InputLine) → HasLine (cond b (x ∷ xs) (onto_first c lines))
-has_line true x c xs lines = record { first = x; others = xs; is = refl }
-has_line false x c xs [] = record { first = record { bytes = c ∷ []; ended = false }; others = []; is = refl }
-has_line false x c xs (l ∷ lines) = record { first = record { bytes = c ∷ l.bytes; ended = l.ended }; others = lines; is = refl }
-
-past_count : (n : ℕ) (b : Bool) → most_lines ≤ n → nat_lt n most_lines && b ≡ false
-past_count n b many = let no_more : nat_lt n most_lines ≡ false = grind (arith, nat_tests) in rw no_more refl
 
 pub count_stops : (n : ℕ) (s : State) (reader reader' : Ahead) (given : List ℕ) (b : ℕ) (failed : Bool) → most_lines ≤ n → reader.bytes ++ given ≡ b ∷ reader'.bytes → Stops n s reader given [] s reader' failed run_faults.Endless
 count_stops n s reader reader' given b failed many e = λ more cut may.

@@ -3,10 +3,15 @@ pub mod Parsing
 pub mod Faults
 pub mod Board
 pub mod Reply
+pub mod Indexed
+pub mod Queries
+pub mod Answers
 pub mod Script
 pub mod Output
 pub mod Ahead
 pub mod Running
+pub mod Laws
+pub mod Checking
 pub use Rattle.wb_names.specs.Values
 pub use Rattle.wb_names.specs.History
 pub use Rattle.wb_names.specs.Arrivals

@@ -1,18 +1,19 @@
 -- What a line of a script says, or its first fault.
-use Rattle.std.specs.Prelude.{◌≡◌, ◌≤◌, IfErr, ℕ, ◌-◌, ◌^◌, List, [], ◌∷◌, Bool, false, nat_eq, Option, Some, None, Result, Ok, Err, if◌then◌else◌, codes}
+use Rattle.std.specs.Prelude.{◌≡◌, ◌≤◌, IfErr, ℕ, ◌-◌, ◌^◌, List, [], ◌∷◌, Bool, true, false, nat_eq, Option, Some, None, Result, Ok, Err, if◌then◌else◌, codes}
 use Rattle.std.specs.Str.{bytes_eq}
 use Rattle.wb_names.specs.declared.name.PageId.{PageId}
 use Rattle.wb_codec.specs.Reading.{reading}
 use Rattle.wb_codec.specs.declared.datagram.Datagram.{Datagram}
-use Rattle.wb_codec.specs.declared.datagram.Datagram.TheVariants.{Draw}
+use Rattle.wb_codec.specs.declared.datagram.Datagram.TheVariants as datagrams
 use Rattle.wb_codec.specs.declared.fault.ReadFault.{ReadFault}
 use Rattle.wb_script.specs.declared.fault.LineFault.{LineFault}
 use Rattle.wb_script.specs.declared.fault.LineFault.TheVariants as faults
 use Rattle.wb_script.specs.declared.fault.ParseFault.{ParseFault}
 use Rattle.wb_script.specs.declared.fault.ParseFault.TheVariants as parse_faults
+use Rattle.wb_display.specs.Canvas.{is_canvas_size}
 use Rattle.wb_script.specs.Faults.{line_code}
 use Rattle.wb_script.specs.declared.line.Line.{Line}
-use Rattle.wb_script.specs.declared.line.Line.TheVariants.{Skip, Board, Arrive, Distance, Tick, Look, Session, Show, Gaps, Report, Pages}
+use Rattle.wb_script.specs.declared.line.Line.TheVariants.{Skip, Board, Arrive, Hear, Distance, Tick, Look, Session, Show, Gaps, Report, Pages}
 use Rattle.wb_script.specs.Words.{words, number_of, unhex}
 
 infixl 10 ◌>>=◌
@@ -98,16 +99,38 @@ page arguments = do
 abbrev pub pages : List (List ℕ) → Result Line LineFault
 pages arguments = or_fault faults.Words (none_of arguments) >>= λ nothing. Ok Pages
 
--- the datagram that digits spell, as a line that it arrived
-abbrev pub arrived : Result Datagram ReadFault → Result Line LineFault
-arrived (Ok (Draw d)) = Ok (Arrive d)
-arrived (Err e) = Err (faults.Datagram e)
+-- the datagram that bytes spell
+abbrev pub spelled : Result Datagram ReadFault → Result Datagram LineFault
+spelled (Ok v) = Ok v
+spelled (Err e) = Err (faults.Datagram e)
 
-unfoldable pub arrive : List (List ℕ) → Result Line LineFault
-arrive arguments = do
+-- the datagram that digits spell
+unfoldable pub datagram : List (List ℕ) → Result Datagram LineFault
+datagram arguments = do
   digits ← or_fault faults.Words (one_of arguments)
   bytes ← or_fault faults.Hex (unhex digits)
-  arrived (reading bytes)
+  spelled (reading bytes)
+
+-- drawops arrive, and every other datagram is heard
+abbrev pub arrived : Datagram → Result Line LineFault
+arrived (datagrams.Draw d) = Ok (Arrive d)
+arrived (datagrams.Session sender sent page marks echoes) = Err faults.Kind
+arrived (datagrams.Request asker name) = Err faults.Kind
+arrived (datagrams.AskPages asker) = Err faults.Kind
+arrived (datagrams.PageState sender page marks) = Err faults.Kind
+
+abbrev pub heard : Datagram → Result Line LineFault
+heard (datagrams.Draw d) = Err faults.Kind
+heard (datagrams.Session sender sent page marks echoes) = Ok (Hear (datagrams.Session sender sent page marks echoes))
+heard (datagrams.Request asker name) = Ok (Hear (datagrams.Request asker name))
+heard (datagrams.AskPages asker) = Ok (Hear (datagrams.AskPages asker))
+heard (datagrams.PageState sender page marks) = Ok (Hear (datagrams.PageState sender page marks))
+
+abbrev pub arrive : List (List ℕ) → Result Line LineFault
+arrive arguments = datagram arguments >>= arrived
+
+abbrev pub hear : List (List ℕ) → Result Line LineFault
+hear arguments = datagram arguments >>= heard
 
 -- the line of a page with this first word
 unfoldable pub page_line : List ℕ → List (List ℕ) → Result Line LineFault
@@ -123,11 +146,12 @@ unfoldable pub command : List ℕ → List (List ℕ) → Result Line LineFault
 command word arguments =
     if bytes_eq word (codes "board") then board arguments
     else (if bytes_eq word (codes "arrive") then arrive arguments
+    else (if bytes_eq word (codes "hear") then hear arguments
     else (if bytes_eq word (codes "show") then show arguments
     else (if bytes_eq word (codes "distance") then distance arguments
     else (if bytes_eq word (codes "tick") then tick arguments
     else (if bytes_eq word (codes "pages") then pages arguments
-    else page_line word arguments)))))
+    else page_line word arguments))))))
 
 -- a comment begins with `#`
 abbrev pub begins_comment : List ℕ → Bool
@@ -142,8 +166,23 @@ line_of_words (word ∷ arguments) = if begins_comment word then Ok Skip else co
 abbrev pub line_of : List ℕ → Result Line LineFault
 line_of bytes = line_of_words (words bytes)
 
+-- What a line carries is in its range: a board has at most 65,535 cells, and a canvas is not too large.
+abbrev pub IsWithin : Line → Type 0
+IsWithin (Board member cells workers seed) = cells ≤ 65535
+IsWithin (Show page width height) = is_canvas_size width height ≡ true
+IsWithin Skip = Unit {0}
+IsWithin (Arrive d) = Unit {0}
+IsWithin (Hear v) = Unit {0}
+IsWithin (Distance source micros) = Unit {0}
+IsWithin (Tick moment) = Unit {0}
+IsWithin (Look page) = Unit {0}
+IsWithin (Session page) = Unit {0}
+IsWithin (Gaps page) = Unit {0}
+IsWithin (Report page) = Unit {0}
+IsWithin Pages = Unit {0}
+
 -- What parsing answers to a line: the line that it says, its first fault, or want of memory, once the digits have been looked at.
-abbrev pub Parses : Result Line ParseFault → Result Line LineFault → Type 0
+abbrev pub Parses : {X : Type 0} → Result X ParseFault → Result X LineFault → Type 0
 Parses (Ok line) said = said ≡ Ok line
 Parses (Err (parse_faults.Line e)) said = said ≡ Err e
 Parses (Err parse_faults.Memory) said = IfErr said (λ e. 5 ≤ line_code e)

@@ -4,20 +4,18 @@ use Rattle.wb_script.specs.declared.fault.RunFault.{RunFault}
 use Rattle.wb_script.specs.declared.fault.RunFault.TheVariants as run_faults
 use Rattle.wb_script.specs.declared.summary.Summary.{Summary}
 use Rattle.wb_script.specs.Ahead.{Ahead}
-use Rattle.wb_script.specs.Script.{State, Outcome, prints, unknown, before, finish, summary, input_lines, outcome_from, outcome, BeginsWith, IsStop}
+use Rattle.wb_script.specs.Script.{State, Outcome, prints, before, finish, summary, input_lines, outcome_from, outcome, BeginsWith, IsStop}
 
 -- What may still be pulled, and whether reading fails after it: nothing and no failure after the end.
 abbrev pub MayFollow : Bool → List ℕ → Bool → Type 0
 MayFollow ended more cut = ended ≡ true → (more ≡ []) × (cut ≡ false)
 
--- The text of an outcome, where one is known, begins with what was written, and the rest is another outcome.
+-- The text of an outcome begins with what was written, and the rest is another outcome.
 abbrev pub Leads : Outcome → List ℕ → Outcome → Type 0
-Leads unknown written next = Unit {0}
 Leads (prints text end) written next = prints text end ≡ before written next
 
--- The text of an outcome, where one is known, begins with what was written.
+-- The text of an outcome begins with what was written.
 abbrev pub Begins : Outcome → List ℕ → Type 0
-Begins unknown written = Unit {0}
 Begins (prints text end) written = BeginsWith text written
 
 -- From a state after n lines, with bytes at hand and others pulled: what the script does from here on.
@@ -74,7 +72,6 @@ is_stop (run_faults.Line n e) = false
 
 -- A run meets an outcome: it wrote its text and answers its end; or it stops for want of memory or at a failing sink, and wrote a front of its text.
 abbrev pub Meets : Outcome → List ℕ → Result Summary RunFault → Type 0
-Meets unknown written result = Unit {0}
 Meets (prints text end) written result = ((written ≡ text) × (result ≡ end)) ⊎ (IsStopped result × BeginsWith text written)
 
 -- What may still come of an input at the end of a run: nothing after the end or a failure.
@@ -84,7 +81,6 @@ pub record MayRemain (ended failed : Bool) (more : List ℕ) : Type 0 where
 
 -- The same, while some text may wait to be written: none does where the run wrote its text and answers its end.
 abbrev pub Settles : Outcome → List ℕ → List ℕ → Result Summary RunFault → Type 0
-Settles unknown written waiting result = Unit {0}
 Settles (prints text end) written waiting result = ((written ≡ text) × (waiting ≡ []) × (result ≡ end)) ⊎ (IsStopped result × BeginsWith text written)
 
 -- A run of all that was given, whatever remains.

@@ -1,6 +1,5 @@
 -- What a script prints, and how it ends.
 use Rattle.std.specs.Prelude.{◌≡◌, ℕ, ◌+◌, ◌^◌, List, [], ◌∷◌, ◌++◌, length, Bool, true, false, nat_eq, nat_le, nat_lt, ◌&&◌, ◌||◌, not, Option, Some, None, Result, Ok, Err, if◌then◌else◌, codes}
-use Rattle.std.specs.Fmt.{decimal}
 use Rattle.std.specs.Str.Lines.{strip_carriage_return}
 use Rattle.wb_names.specs.Values.{DrawopValue}
 use Rattle.wb_names.specs.Arrivals.{Outcome as Arrival, Fresh, Known, Clashed, Left, history_with}
@@ -11,9 +10,12 @@ use Rattle.wb_script.specs.declared.fault.RunFault.TheVariants as run_faults
 use Rattle.wb_script.specs.declared.batch.Batch.{Batch}
 use Rattle.wb_script.specs.declared.summary.Summary.{Summary}
 use Rattle.wb_script.specs.declared.line.Line.{Line}
-use Rattle.wb_script.specs.declared.line.Line.TheVariants.{Skip, Board, Arrive, Distance, Tick, Look, Session, Show, Gaps, Report, Pages}
+use Rattle.wb_script.specs.declared.line.Line.TheVariants.{Skip, Board, Arrive, Hear, Distance, Tick, Look, Session, Show, Gaps, Report, Pages}
 use Rattle.wb_script.specs.Board.{Held, arrival_of}
 use Rattle.wb_script.specs.Parsing.{line_of}
+use Rattle.wb_script.specs.Answers.{batch_line, answer_text}
+use Rattle.wb_script.specs.declared.query.Query.{Query}
+use Rattle.wb_script.specs.declared.query.Query.TheVariants as queries
 
 -- a line as it stands in the input: the bytes before its end, and whether a line feed ends it
 pub record InputLine : Type 0 where
@@ -53,10 +55,6 @@ abbrev pub drawops_after : ℕ → List DrawopValue → List DrawopValue → Lis
 drawops_after cells held [] = held
 drawops_after cells held (d ∷ ds) = drawops_after cells (history_with held d (arrival_of cells held d)) ds
 
--- the line that ends a batch
-abbrev pub batch_line : Batch → List ℕ
-batch_line n = codes "batch " ++ (decimal n.fresh ++ (codes " " ++ (decimal n.again ++ (codes " " ++ (decimal n.clash ++ (codes " " ++ (decimal n.left ++ codes "\n")))))))
-
 -- the board, once it is open, and the arrivals of the present batch
 pub record State : Type 0 where
   pub board : Option Held
@@ -82,11 +80,10 @@ after_batch s = record { board = board_after s.board s.waiting; waiting = [] }
 abbrev pub closing_text : State → List ℕ
 closing_text s = batch_text s.board s.waiting
 
--- What a line does: it prints a text and leads to a state, or it is refused. Nothing is said of a canvas yet.
+-- What a line does: it prints a text and leads to a state, or it is refused.
 pub data Step : Type 0 where
   goes : State → List ℕ → Step
   refused : LineFault → Step
-  unsaid : Step
 
 abbrev pub on_board : Option Held → Step → Step
 on_board None step = refused faults.NoBoard
@@ -96,19 +93,29 @@ abbrev pub opened : Option Held → ℕ → Step
 opened None cells = goes (record { board = Some (record { cells = cells; drawops = [] }); waiting = [] }) []
 opened (Some board) cells = refused faults.SecondBoard
 
+-- the drawops that a board holds
+abbrev pub drawops_of : Option Held → List DrawopValue
+drawops_of None = []
+drawops_of (Some board) = board.drawops
+
+-- A question ends the present batch, and is answered after it.
+abbrev pub asked : State → Query → Step
+asked s query = on_board s.board (goes (after_batch s) (closing_text s ++ answer_text (drawops_of (after_batch s).board) query))
+
 -- The lines that a script may have and that are not run yet are refused as unknown words are.
 abbrev pub line_step : State → Line → Step
 line_step s Skip = goes s []
 line_step s (Board member cells workers seed) = opened s.board cells
 line_step s (Arrive d) = on_board s.board (goes (record { board = s.board; waiting = s.waiting ++ d ∷ [] }) [])
-line_step s (Show page width height) = on_board s.board unsaid
+line_step s (Show page width height) = asked s (queries.Canvas page width height)
+line_step s (Report page) = asked s (queries.Report page)
+line_step s Pages = asked s queries.Pages
+line_step s (Hear v) = refused faults.Unknown
 line_step s (Distance source micros) = refused faults.Unknown
 line_step s (Tick moment) = refused faults.Unknown
 line_step s (Look page) = refused faults.Unknown
 line_step s (Session page) = refused faults.Unknown
 line_step s (Gaps page) = refused faults.Unknown
-line_step s (Report page) = refused faults.Unknown
-line_step s Pages = refused faults.Unknown
 
 abbrev pub said_step : State → Result Line LineFault → Step
 said_step s (Ok line) = line_step s line
@@ -117,15 +124,13 @@ said_step s (Err e) = refused e
 abbrev pub step_of : State → List ℕ → Step
 step_of s bytes = said_step s (line_of bytes)
 
--- what a script prints in all, and its end; or nothing is said
+-- what a script prints in all, and its end
 pub data Outcome : Type 0 where
   prints : List ℕ → Result Summary RunFault → Outcome
-  unknown : Outcome
 
 -- an outcome, behind a text that was printed before
 abbrev pub before : List ℕ → Outcome → Outcome
 before text (prints rest end) = prints (text ++ rest) end
-before text unknown = unknown
 
 -- at the end the present batch ends
 abbrev pub finish : State → Result Summary RunFault → Outcome
@@ -141,7 +146,6 @@ summary lines s = Ok (record { lines = lines; held = held_count (after_batch s).
 abbrev pub proceed : State → ℕ → Step → (State → Outcome) → Outcome
 proceed s number (goes t text) rest = before text (rest t)
 proceed s number (refused e) rest = finish s (Err (run_faults.Line number e))
-proceed s number unsaid rest = unknown
 
 -- at most so many lines, and so many bytes in each
 abbrev pub most_lines : ℕ
@@ -182,6 +186,11 @@ abbrev pub EndsBatch : {U : Type 0} → State → State → List ℕ → Result 
 EndsBatch old new written (Ok u) = (new ≡ after_batch old) × (written ≡ closing_text old)
 EndsBatch old new written (Err e) = IsStop e × BeginsWith (closing_text old) written
 
+-- what an answer to a question prints: all of it, or a front where memory runs out
+abbrev pub PrintsAnswer : {U : Type 0} → List DrawopValue → Query → List ℕ → Result U RunFault → Type 0
+PrintsAnswer history query written (Ok u) = written ≡ answer_text history query
+PrintsAnswer history query written (Err e) = IsStop e × BeginsWith (answer_text history query) written
+
 -- a fault is want of memory, or this one
 abbrev pub IsMemoryOr : RunFault → RunFault → Type 0
 IsMemoryOr e run_faults.Memory = Unit {0}
@@ -191,10 +200,8 @@ IsMemoryOr e run_faults.Write = ⊥
 IsMemoryOr e run_faults.Start = ⊥
 IsMemoryOr e run_faults.Endless = ⊥
 
--- What a line does. Where nothing is said, anything may be written.
+-- What a line does.
 abbrev pub DoesStep : {U : Type 0} → ℕ → State → State → List ℕ → Result U RunFault → Step → Type 0
-DoesStep number old new written (Ok u) unsaid = Unit {0}
-DoesStep number old new written (Err f) unsaid = IsStop f
 DoesStep number old new written (Ok u) (goes t text) = (new ≡ t) × (written ≡ text)
 DoesStep number old new written (Ok u) (refused e) = ⊥
 DoesStep number old new written (Err f) (goes t text) = IsStop f × BeginsWith text written

@@ -1,9 +1,8 @@
 ghost use Rattle.std.specs.Prelude.{◌≡◌, ◌<◌, ◌^◌, length, IfOk, OnOk};
-ghost use Rattle.std.specs.String.{string_bytes};
-ghost use Rattle.wb_script.specs.Script.{none_counted, counts_after, drawops_after, batch_line};
+ghost use Rattle.wb_script.specs.Script.{none_counted, counts_after, drawops_after};
 
 use crate::history::{History, Reply};
-use std::alloc::{AllocError, Global};
+use std::alloc::AllocError;
 use wb_names::Drawop;
 
 /// How many arrivals were new, were held already, met another of their name, or found no cell.
@@ -38,17 +37,4 @@ pub fn accept_all(history: &mut History, drawops: &[Drawop]) -> Result<Batch, Al
         }
     }
     Ok(batch)
-}
-
-/// The line that ends a batch.
-pub fn line_of(alloc: Global, batch: Batch) -> Result<String, AllocError>
-    ensures { IfOk result (λ text. string_bytes text ≡ batch_line batch) }
-{
-    let Batch {
-        fresh,
-        again,
-        clash,
-        left,
-    } = batch;
-    format!(in alloc; "batch {fresh} {again} {clash} {left}\n")
 }

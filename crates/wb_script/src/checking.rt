@@ -1,4 +1,8 @@
-ghost use Rattle.std.specs.Prelude.{◌≡◌, ◌≢◌, ◌≤◌, [], true, IfOk, None};
+ghost use Rattle.std.specs.Prelude.{◌≡◌, ◌≢◌, ◌≤◌, ◌<◌, [], List, ℕ, true, IfOk, None, Err};
+ghost use Rattle.wb_script.specs.Ahead.{Pulls};
+ghost use Rattle.wb_script.specs.Parsing.{line_of};
+ghost use Rattle.wb_script.specs.Script.{most_lines};
+ghost use Rattle.wb_script.specs.Checking.{ParsesAs, ChecksLine, Checks, CountsLines};
 
 use crate::fault::{ParseFault, RunFault};
 use crate::line_reader::{Found, LineReader, Pulled};
@@ -23,7 +27,7 @@ impl Sink for Nowhere {
 }
 
 fn check_content(alloc: Global, number: u32, content: &[u8]) -> Result<(), RunFault>
-    ensures parses { (result ≢ Err RunFault.Read) × (result ≢ Err RunFault.Write) }
+    ensures { ParsesAs number result (line_of content.now) }
 {
     match parse_line(alloc, content) {
         Ok(_) => Ok(()),
@@ -35,12 +39,16 @@ fn check_content(alloc: Global, number: u32, content: &[u8]) -> Result<(), RunFa
 /// Parses the next line. Answers whether there was one.
 fn check_line<R: Source>(
     alloc: Global,
-    number: u32,
+    done: u32,
     reader: &mut LineReader,
     source: &mut R,
     output: &mut Output,
 ) -> Result<bool, RunFault>
-    requires { output.old ≡ [] }
+    requires few { done < most_lines }
+    requires output { output.old ≡ [] }
+    ensures line { (given : List ℕ)
+        × Pulls reader.old reader.new (R.left source.old) (R.left source.new) (R.has_failed source.old) (R.has_failed source.new) given
+        × ChecksLine done reader.old given reader.new (R.has_failed source.new) result }
     ensures output { output.new ≡ [] }
     ensures read { result ≡ Err RunFault.Read → R.has_failed source.new ≡ true }
     ensures write { result ≢ Err RunFault.Write }
@@ -52,19 +60,22 @@ fn check_line<R: Source>(
         Found::Failed => Err(RunFault::Read),
         Found::TooLong => Err(RunFault::Endless),
         Found::Last => {
-            check_content(alloc, number, &line)?;
+            check_content(alloc, done + 1, &line)?;
             Ok(true)
         }
         Found::Whole => {
-            check_content(alloc, number, without_carriage_return(&line))?;
+            check_content(alloc, done + 1, without_carriage_return(&line))?;
             Ok(true)
         }
     }
 }
 
-/// How many lines the script has that a source has left, where each of them parses; else the first
-/// fault. Nothing is run.
+/// How many lines the script has that a source has left, skipped ones too, where each of them parses
+/// and the limits hold; else the first fault in the order of the lines, or want of memory. Nothing is
+/// run.
 pub fn check<R: Source>(alloc: Global, source: &mut R) -> Result<u32, RunFault>
+    ensures script { Checks (R.left source.old) (R.left source.new) (R.has_failed source.new) result }
+    ensures counts { CountsLines }
     ensures few { IfOk result (λ lines. lines ≤ 1048576) }
     ensures read { result ≡ Err RunFault.Read → R.has_failed source.new ≡ true }
     ensures write { result ≢ Err RunFault.Write }
@@ -72,7 +83,8 @@ pub fn check<R: Source>(alloc: Global, source: &mut R) -> Result<u32, RunFault>
     let mut reader = LineReader::new(alloc)?;
     let mut output = Output::new(alloc);
     for done in 0..MAX_LINES {
-        if !check_line(alloc, done + 1, &mut reader, source, &mut output)? {
+        let goes_on = check_line(alloc, done, &mut reader, source, &mut output)?;
+        if !goes_on {
             return Ok(done);
         }
     }

@@ -1,10 +1,13 @@
-ghost use Rattle.std.specs.Prelude.{◌≡◌, ◌<◌, ◌^◌, [], length, IfOk, OnOk, OnErr};
-ghost use Rattle.wb_names.specs.Arrivals.{history_with};
+ghost use Rattle.std.specs.Prelude.{◌≡◌, ◌≤◌, ◌∷◌, ◌++◌, [], length, IfOk, OnOk, OnErr};
+ghost use Rattle.wb_names.specs.Arrivals.{history_with, Fresh};
+ghost use Rattle.wb_names.specs.History.{IsHistory};
 ghost use Rattle.wb_script.specs.Board.{arrival_of};
+ghost use Rattle.wb_script.specs.Reply.{outcome_of};
 
+use indexmap::IndexSet;
 use std::alloc::{AllocError, Global};
 use std::marker::Model;
-use wb_names::Drawop;
+use wb_names::{Drawop, Name};
 
 /// What a board answers to a drawop.
 #[derive(Clone, Copy, Debug, PartialEq, Eq)]
@@ -19,53 +22,36 @@ pub enum Reply {
     Left,
 }
 
-/// The drawops of a board, in order of arrival.
+/// The drawops of a board, in order of arrival. Their names stand in an index in the same order, so
+/// that one look-up tells a place.
 #[derive(Drop)]
 pub struct History {
     cells: u32,
     held: Vec<Drawop>,
+    names: IndexSet<Name>,
 }
 
 impl Model for History {
-    ghost use Rattle.wb_script.specs.Board.{Held, IsSound};
+    ghost use Rattle.wb_script.specs.Board.{Held};
+    ghost use Rattle.wb_script.specs.Indexed.{held_of, IsIndexed};
 
     ghost Value = { Held };
 
-    ghost view = { λ h. record { cells = h.cells; drawops = h.held.items } };
+    ghost view = { λ h. held_of h };
 
-    ghost invariant = { λ h. IsSound (record { cells = h.cells; drawops = h.held.items }) };
-}
-
-ghost use Rattle.wb_script.specs.Reply.{outcome_of};
-
-fn reply_to(cells: u32, held: &[Drawop], drawop: &Drawop) -> Reply
-    requires { length held.now < 2 ^ 32 }
-    ensures { outcome_of result ≡ arrival_of cells held.now drawop.now }
-{
-    for (place, member) in held.iter().enumerate() {
-        if member.name() == drawop.name() {
-            return if member == drawop {
-                Reply::Again(place as u32)
-            } else {
-                Reply::Clash(place as u32)
-            };
-        }
-    }
-    if held.len() < cells as usize {
-        Reply::New(held.len() as u32)
-    } else {
-        Reply::Left
-    }
+    ghost invariant = { λ h. IsIndexed h };
 }
 
 impl History {
     /// The empty history of a board with so many cells.
     pub fn new(alloc: Global, cells: u32) -> Self
+        requires { cells ≤ 65535 }
         ensures { result ≡ record { cells = cells; drawops = [] } }
     {
         History {
             cells,
             held: Vec::new(alloc),
+            names: IndexSet::new(alloc),
         }
     }
 
@@ -79,9 +65,47 @@ impl History {
 
     /// The drawops that are held.
     pub fn drawops(&self) -> &[Drawop]
-        ensures { result.now ≡ self.now.drawops }
+        ensures value { result.now ≡ self.now.drawops }
+        ensures history { IsHistory result.now }
+        ensures few { length result.now ≤ 65535 }
     {
         &self.held
+    }
+
+    /// What becomes of a drawop, before it is taken.
+    fn reply_to(&self, drawop: &Drawop) -> Reply
+        ensures { outcome_of result ≡ arrival_of self.now.cells self.now.drawops drawop.now }
+    {
+        let _cells = self.cells;
+        match self.names.get_index_of(&drawop.name()) {
+            Some(place) => {
+                if self.held[place] == *drawop {
+                    Reply::Again(place as u32)
+                } else {
+                    Reply::Clash(place as u32)
+                }
+            }
+            None => {
+                if self.held.len() < self.cells as usize {
+                    Reply::New(self.held.len() as u32)
+                } else {
+                    Reply::Left
+                }
+            }
+        }
+    }
+
+    /// Puts a drawop at the end, with its name.
+    fn add(&mut self, drawop: &Drawop) -> Result<(), AllocError>
+        requires { arrival_of self.old.cells self.old.drawops drawop.now ≡ Fresh (length self.old.drawops) }
+        ensures ok { OnOk result (self.new.drawops ≡ self.old.drawops ++ drawop.now ∷ []) }
+        ensures cells { self.new.cells ≡ self.old.cells }
+        ensures err { OnErr result (self.new ≡ self.old) }
+    {
+        self.held.reserve(1)?;
+        self.names.insert(drawop.name())?;
+        self.held.push_reserved(*drawop);
+        Ok(())
     }
 
     /// Takes a drawop, and answers as one thread does. Without memory nothing changes.
@@ -91,9 +115,9 @@ impl History {
         ensures cells { self.new.cells ≡ self.old.cells }
         ensures err { OnErr result (self.new ≡ self.old) }
     {
-        let reply = reply_to(self.cells, &self.held, drawop);
+        let reply = self.reply_to(drawop);
         if let Reply::New(_) = reply {
-            self.held.push(*drawop)?;
+            self.add(drawop)?;
         }
         Ok(reply)
     }

@@ -1,16 +1,19 @@
-ghost use Rattle.std.specs.Prelude.{◌≡◌, ◌≢◌, ◌<◌, ◌^◌, List, [], ℕ, length, ◌≤◌, ◌+◌, ◌++◌, IfErr, Err, Result};
-ghost use Rattle.wb_script.specs.Script.{start, EndsBatch, IsStop, DoesStep, opened, on_board, unsaid, line_step, step_of, held_count};
+ghost use Rattle.std.specs.Prelude.{◌≡◌, ◌≢◌, ◌<◌, ◌^◌, List, [], ℕ, length, ◌≤◌, ◌+◌, ◌++◌, Err, Result};
+ghost use Rattle.wb_script.specs.Answers.{IsAnswerable};
+ghost use Rattle.wb_script.specs.Parsing.{IsWithin};
+ghost use Rattle.wb_script.specs.Script.{start, EndsBatch, PrintsAnswer, DoesStep, opened, asked, drawops_of, line_step, step_of, held_count};
 
-use crate::batch::{accept_all, line_of};
+use crate::answers::{batch_line, print};
+use crate::batch::accept_all;
 use crate::fault::{LineFault, ParseFault, RunFault};
 use crate::history::History;
 use crate::line::Line;
 use crate::output::Output;
-use crate::painting::paint;
 use crate::parsing::parse_line;
+use crate::query::Query;
 use std::alloc::Global;
 use std::marker::Model;
-use wb_names::{Drawop, PageId};
+use wb_names::Drawop;
 
 /// The board of a script, and the arrivals of the present batch.
 #[derive(Drop)]
@@ -59,14 +62,27 @@ impl Host {
         }
         if let Some(history) = &mut self.board {
             let batch = accept_all(history, &self.waiting)?;
-            let text = line_of(alloc, batch)?;
+            let text = batch_line(alloc, batch)?;
             output.add(text.as_bytes())?;
         }
         self.waiting.clear();
         Ok(())
     }
 
+    /// Prints the answer to a question.
+    fn print_answer(&self, alloc: Global, query: Query, output: &mut Output) -> Result<(), RunFault>
+        requires { IsAnswerable query }
+        ensures text { (written : List ℕ) × (output.new ≡ output.old ++ written) × PrintsAnswer (drawops_of self.now.board) query written result }
+        ensures unwritten { result ≢ Err RunFault.Write }
+    {
+        match &self.board {
+            None => print(alloc, &[], query, output),
+            Some(history) => print(alloc, history.drawops(), query, output),
+        }
+    }
+
     fn open_board(&mut self, alloc: Global, number: u32, cells: u32) -> Result<(), RunFault>
+        requires { cells ≤ 65535 }
         ensures step { DoesStep number self.old self.new [] result (opened self.old.board cells) }
         ensures unwritten { result ≢ Err RunFault.Write }
         ensures waiting { length self.new.waiting ≤ length self.old.waiting }
@@ -91,39 +107,17 @@ impl Host {
         Ok(())
     }
 
-    fn print_canvas(
-        &self,
-        alloc: Global,
-        page: PageId,
-        width: u32,
-        height: u32,
-        output: &mut Output,
-    ) -> Result<(), RunFault>
-        ensures text { (written : List ℕ) × (output.new ≡ output.old ++ written) }
-        ensures stops { IfErr result IsStop }
-        ensures unwritten { result ≢ Err RunFault.Write }
-    {
-        match &self.board {
-            None => Ok(()),
-            Some(history) => {
-                let canvas = paint(alloc, history.drawops(), page, width, height)?;
-                output.add(&canvas)?;
-                Ok(())
-            }
-        }
-    }
-
-    fn show(
+    /// Answers a question after the end of the present batch.
+    fn ask(
         &mut self,
         alloc: Global,
         number: u32,
-        page: PageId,
-        width: u32,
-        height: u32,
+        query: Query,
         output: &mut Output,
     ) -> Result<(), RunFault>
-        requires { length self.old.waiting < 2 ^ 32 }
-        ensures text { (written : List ℕ) × (output.new ≡ output.old ++ written) × DoesStep number self.old self.new written result (on_board self.old.board unsaid) }
+        requires waiting { length self.old.waiting < 2 ^ 32 }
+        requires query { IsAnswerable query }
+        ensures text { (written : List ℕ) × (output.new ≡ output.old ++ written) × DoesStep number self.old self.new written result (asked self.old query) }
         ensures unwritten { result ≢ Err RunFault.Write }
         ensures waiting { length self.new.waiting ≤ length self.old.waiting + 1 }
     {
@@ -131,30 +125,40 @@ impl Host {
             return Err(RunFault::Line(number, LineFault::NoBoard));
         }
         self.end_batch(alloc, output)?;
-        self.print_canvas(alloc, page, width, height, output)
+        self.print_answer(alloc, query, output)
     }
 
     fn take(
         &mut self,
         alloc: Global,
         number: u32,
-        line: Line,
+        line: &Line,
         output: &mut Output,
     ) -> Result<(), RunFault>
-        requires { length self.old.waiting < 2 ^ 32 }
-        ensures text { (written : List ℕ) × (output.new ≡ output.old ++ written) × DoesStep number self.old self.new written result (line_step self.old line) }
+        requires waiting { length self.old.waiting < 2 ^ 32 }
+        requires line { IsWithin line.now }
+        ensures text { (written : List ℕ) × (output.new ≡ output.old ++ written) × DoesStep number self.old self.new written result (line_step self.old line.now) }
         ensures unwritten { result ≢ Err RunFault.Write }
         ensures waiting { length self.new.waiting ≤ length self.old.waiting + 1 }
     {
         match line {
             Line::Skip => Ok(()),
-            Line::Board { cells, .. } => self.open_board(alloc, number, cells),
-            Line::Arrive(drawop) => self.arrive(number, drawop),
+            Line::Board { cells, .. } => self.open_board(alloc, number, *cells),
+            Line::Arrive(drawop) => self.arrive(number, *drawop),
             Line::Show {
                 page,
                 width,
                 height,
-            } => self.show(alloc, number, page, width, height, output),
+            } => {
+                let canvas = Query::Canvas {
+                    page: *page,
+                    width: *width,
+                    height: *height,
+                };
+                self.ask(alloc, number, canvas, output)
+            }
+            Line::Report(page) => self.ask(alloc, number, Query::Report(*page), output),
+            Line::Pages => self.ask(alloc, number, Query::Pages, output),
             _ => Err(RunFault::Line(number, LineFault::Unknown)),
         }
     }
@@ -173,7 +177,7 @@ impl Host {
         ensures waiting { length self.new.waiting ≤ length self.old.waiting + 1 }
     {
         match parse_line(alloc, bytes) {
-            Ok(line) => self.take(alloc, number, line, output),
+            Ok(line) => self.take(alloc, number, &line, output),
             Err(ParseFault::Line(fault)) => Err(RunFault::Line(number, fault)),
             Err(ParseFault::Memory) => Err(RunFault::Memory),
         }

@@ -6,18 +6,20 @@
 //! hexadecimal) stands in modules of its own, apart from what runs.
 #![tactic(auto)]
 
+mod answers;
 mod batch;
 mod checking;
 mod fault;
 mod hexadecimal;
 mod history;
 mod host;
+pub mod laws;
 mod line;
 mod line_reader;
 mod number;
 mod output;
-mod painting;
 mod parsing;
+mod query;
 mod running;
 mod summary;
 #[cfg(test)]

@@ -1,7 +1,8 @@
+use wb_codec::Datagram;
 use wb_names::{Drawop, PageId};
 
 /// A line of a script, with its words as fields.
-#[derive(Clone, Copy, Debug)]
+#[derive(Debug, Drop)]
 pub enum Line {
     /// No words, or a comment.
     Skip,
@@ -14,6 +15,8 @@ pub enum Line {
     },
     /// `arrive HEX` hands a drawop to the present batch.
     Arrive(Drawop),
+    /// `hear HEX` hands in any other datagram, at the present moment.
+    Hear(Datagram),
     /// `distance S MICROS` sets the delay to a source, in microseconds.
     Distance {
         source: u32,

@@ -1,7 +1,7 @@
 ghost use Rattle.std.specs.Prelude.{◌≡◌, ◌≤◌, IfOk, Result, Ok, Err};
 ghost use Rattle.std.specs.Option.{option_map};
 ghost use Rattle.wb_script.specs.Words.{words};
-ghost use Rattle.wb_script.specs.Parsing.{Parses, number, none_of, one_of, two_of, four_of, board, show, distance, tick, page, pages, page_line, arrived, arrive, command, begins_comment, line_of};
+ghost use Rattle.wb_script.specs.Parsing.{Parses, IsWithin, number, none_of, one_of, two_of, four_of, board, show, distance, tick, page, pages, page_line, datagram, arrive, hear, command, begins_comment, line_of};
 
 use crate::fault::{LineFault, ParseFault};
 use crate::hexadecimal::{is_hex, unhex};
@@ -75,13 +75,14 @@ fn four_words(rest: &[u8]) -> Option<(&[u8], &[u8], &[u8], &[u8])>
 
 fn number_word(word: &[u8], low: u64, high: u64) -> Result<u64, LineFault>
     ensures value { result ≡ number low high word.now }
-    ensures bound { IfOk result (λ n. n ≤ high) }
+    ensures bound { IfOk result (λ n. (low ≤ n) × (n ≤ high)) }
 {
     number(word, low, high).ok_or(LineFault::Number)
 }
 
 fn u32_word(word: &[u8], low: u32, high: u32) -> Result<u32, LineFault>
-    ensures { result ≡ number low high word.now }
+    ensures value { result ≡ number low high word.now }
+    ensures bound { IfOk result (λ n. (low ≤ n) × (n ≤ high)) }
 {
     let value = number_word(word, u64::from(low), u64::from(high))?;
     Ok(value as u32)
@@ -89,7 +90,8 @@ fn u32_word(word: &[u8], low: u32, high: u32) -> Result<u32, LineFault>
 
 #[tactic(auto, unfolding(crate::specs::Parsing::board))]
 fn board(rest: &[u8]) -> Result<Line, LineFault>
-    ensures { result ≡ board (words rest.now) }
+    ensures line { result ≡ board (words rest.now) }
+    ensures within { IfOk result IsWithin }
 {
     let (member, cells, workers, seed) = four_words(rest).ok_or(LineFault::Words)?;
     let member = u32_word(member, 0, u32::MAX)?;
@@ -106,7 +108,8 @@ fn board(rest: &[u8]) -> Result<Line, LineFault>
 
 #[tactic(auto, unfolding(crate::specs::Parsing::show))]
 fn show(rest: &[u8]) -> Result<Line, LineFault>
-    ensures { result ≡ show (words rest.now) }
+    ensures line { result ≡ show (words rest.now) }
+    ensures within { IfOk result IsWithin }
 {
     let (creator, number, width, height) = four_words(rest).ok_or(LineFault::Words)?;
     let creator = u32_word(creator, 0, u32::MAX)?;
@@ -123,7 +126,8 @@ fn show(rest: &[u8]) -> Result<Line, LineFault>
 
 #[tactic(auto, unfolding(crate::specs::Parsing::distance))]
 fn distance(rest: &[u8]) -> Result<Line, LineFault>
-    ensures { result ≡ distance (words rest.now) }
+    ensures line { result ≡ distance (words rest.now) }
+    ensures within { IfOk result IsWithin }
 {
     let (source, micros) = two_words(rest).ok_or(LineFault::Words)?;
     let source = u32_word(source, 0, u32::MAX)?;
@@ -133,7 +137,8 @@ fn distance(rest: &[u8]) -> Result<Line, LineFault>
 
 #[tactic(auto, unfolding(crate::specs::Parsing::tick))]
 fn tick(rest: &[u8]) -> Result<Line, LineFault>
-    ensures { result ≡ tick (words rest.now) }
+    ensures line { result ≡ tick (words rest.now) }
+    ensures within { IfOk result IsWithin }
 {
     let word = one_word(rest).ok_or(LineFault::Words)?;
     let moment = number_word(word, 0, MAX_MOMENT)?;
@@ -151,36 +156,54 @@ fn page(rest: &[u8]) -> Result<PageId, LineFault>
 }
 
 fn pages(rest: &[u8]) -> Result<Line, LineFault>
-    ensures { result ≡ pages (words rest.now) }
+    ensures line { result ≡ pages (words rest.now) }
+    ensures within { IfOk result IsWithin }
 {
     no_words(rest).ok_or(LineFault::Words)?;
     Ok(Line::Pages)
 }
 
-fn arrived(reading: Result<Datagram, ReadFault>) -> Result<Line, LineFault>
-    ensures { result ≡ arrived reading }
-{
-    let datagram = reading.map_err(LineFault::Datagram)?;
-    let Datagram::Draw(drawop) = datagram;
-    Ok(Line::Arrive(drawop))
-}
-
-#[tactic(auto, unfolding(crate::specs::Parsing::arrive))]
-fn arrive(alloc: Global, rest: &[u8]) -> Result<Line, ParseFault>
-    ensures { Parses result (arrive (words rest.now)) }
+/// The datagram of the only word.
+#[tactic(auto, unfolding(crate::specs::Parsing::datagram))]
+fn datagram(alloc: Global, rest: &[u8]) -> Result<Datagram, ParseFault>
+    ensures { Parses result (datagram (words rest.now)) }
 {
     let digits = one_word(rest).ok_or(LineFault::Words)?;
     if !is_hex(digits) {
         return Err(ParseFault::Line(LineFault::Hex));
     }
     let bytes = unhex(alloc, digits)?;
-    let line = arrived(read(alloc, &bytes))?;
-    Ok(line)
+    match read(alloc, &bytes) {
+        Ok(datagram) => Ok(datagram),
+        Err(ReadFault::Memory) => Err(ParseFault::Memory),
+        Err(fault) => Err(ParseFault::Line(LineFault::Datagram(fault))),
+    }
+}
+
+fn arrive(alloc: Global, rest: &[u8]) -> Result<Line, ParseFault>
+    ensures line { Parses result (arrive (words rest.now)) }
+    ensures within { IfOk result IsWithin }
+{
+    match datagram(alloc, rest)? {
+        Datagram::Draw(drawop) => Ok(Line::Arrive(drawop)),
+        _ => Err(ParseFault::Line(LineFault::Kind)),
+    }
+}
+
+fn hear(alloc: Global, rest: &[u8]) -> Result<Line, ParseFault>
+    ensures line { Parses result (hear (words rest.now)) }
+    ensures within { IfOk result IsWithin }
+{
+    match datagram(alloc, rest)? {
+        Datagram::Draw(_) => Err(ParseFault::Line(LineFault::Kind)),
+        heard => Ok(Line::Hear(heard)),
+    }
 }
 
 #[tactic(auto, unfolding(crate::specs::Parsing::page_line))]
 fn page_line(word: &[u8], rest: &[u8]) -> Result<Line, LineFault>
-    ensures { result ≡ page_line word.now (words rest.now) }
+    ensures line { result ≡ page_line word.now (words rest.now) }
+    ensures within { IfOk result IsWithin }
 {
     if word == b"look".as_slice() {
         Ok(Line::Look(page(rest)?))
@@ -197,12 +220,15 @@ fn page_line(word: &[u8], rest: &[u8]) -> Result<Line, LineFault>
 
 #[tactic(auto, unfolding(crate::specs::Parsing::command))]
 fn command(alloc: Global, word: &[u8], rest: &[u8]) -> Result<Line, ParseFault>
-    ensures { Parses result (command word.now (words rest.now)) }
+    ensures line { Parses result (command word.now (words rest.now)) }
+    ensures within { IfOk result IsWithin }
 {
     if word == b"board".as_slice() {
         Ok(board(rest)?)
     } else if word == b"arrive".as_slice() {
         arrive(alloc, rest)
+    } else if word == b"hear".as_slice() {
+        hear(alloc, rest)
     } else if word == b"show".as_slice() {
         Ok(show(rest)?)
     } else if word == b"distance".as_slice() {
@@ -229,7 +255,8 @@ fn begins_comment(word: &[u8]) -> bool
 /// `Words`, `Number`, `Hex`, `Datagram` or `Kind`, in this order. Memory can run out only once the
 /// hexadecimal digits are checked.
 pub fn parse_line(alloc: Global, bytes: &[u8]) -> Result<Line, ParseFault>
-    ensures { Parses result (line_of bytes.now) }
+    ensures line { Parses result (line_of bytes.now) }
+    ensures within { IfOk result IsWithin }
 {
     match next_word(bytes) {
         None => Ok(Line::Skip),

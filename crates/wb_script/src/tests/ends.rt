@@ -2,7 +2,7 @@
 
 ghost use Rattle.std.specs.Prelude.{Some, None, false};
 
-use crate::{RunFault, Summary, check, run};
+use crate::{LineFault, ParseFault, RunFault, Summary, check, parse_line, run};
 use std::cell::Cell;
 use std::test::Fail;
 use wb_names::{FromRead, Sink, Source, ToWrite};
@@ -178,5 +178,92 @@ fn a_pause_between_arrivals_ends_no_batch(rt: HostRuntime) -> Result<(), Fail> {
     );
     assert_eq!(rt; source.seen.as_slice(), [0, 0, 0, 0].as_slice());
     assert_eq!(rt; written.get(), "batch 2 0 0 0\n".len());
+    Ok(())
+}
+
+/// Takes bytes, and notes whether they are the next ones of what is wanted.
+#[derive(Drop)]
+struct Watched<'a> {
+    wanted: &'a [u8],
+    strayed: bool,
+}
+
+impl Sink for Watched<'_> {
+    ghost taken = { λ s. None };
+
+    ghost has_failed = { λ s. false };
+
+    fn push(&mut self, bytes: &[u8]) -> Option<usize> {
+        match self.wanted.strip_prefix(bytes) {
+            Some(rest) => self.wanted = rest,
+            None => self.strayed = true,
+        }
+        Some(bytes.len())
+    }
+}
+
+#[test]
+fn without_memory_a_front_of_the_text_is_written(rt: HostRuntime) {
+    let mut sink = Watched {
+        wanted: TEXT.as_bytes(),
+        strayed: false,
+    };
+    match run(rt.alloc(), &mut FromRead::new(SCRIPT.as_bytes()), &mut sink) {
+        Ok(summary) => {
+            assert_eq!(rt; summary, Summary { lines: 3, held: 1 });
+            assert!(rt; sink.wanted.is_empty());
+        }
+        Err(fault) => assert_eq!(rt; fault, RunFault::Memory),
+    }
+    assert!(rt; !sink.strayed);
+    match check(rt.alloc(), &mut FromRead::new(SCRIPT.as_bytes())) {
+        Ok(lines) => assert_eq!(rt; lines, 3),
+        Err(fault) => assert_eq!(rt; fault, RunFault::Memory),
+    }
+}
+
+#[test]
+fn lines_need_memory_once_their_digits_are_right(rt: HostRuntime) {
+    for (line, want) in [
+        ("arrive 5", ParseFault::Line(LineFault::Hex)),
+        ("arrive", ParseFault::Line(LineFault::Words)),
+        ("tick x", ParseFault::Line(LineFault::Number)),
+    ] {
+        assert_eq!(rt; parse_line(rt.alloc(), line.as_bytes()).err(), Some(want));
+    }
+    if let Err(fault) = parse_line(rt.alloc(), b"hear 574201040000000400000009") {
+        assert_eq!(rt; fault, ParseFault::Memory);
+    }
+}
+
+#[test]
+fn lines_are_limited(rt: HostRuntime) -> Result<(), Fail> {
+    let mut script = vec![in rt.alloc(); b'#'; 65_536]?;
+    script.push(b'\n')?;
+    assert_eq!(rt;
+        check(rt.alloc(), &mut FromRead::new(script.as_slice())),
+        Ok(1)
+    );
+    let script = vec![in rt.alloc(); b'#'; 65_537]?;
+    assert_eq!(rt;
+        check(rt.alloc(), &mut FromRead::new(script.as_slice())),
+        Err(RunFault::Endless)
+    );
+    let mut script = vec![in rt.alloc(); b'\n'; 1_048_576]?;
+    let mut sink = Watched {
+        wanted: b"",
+        strayed: false,
+    };
+    let end = run(rt.alloc(), &mut FromRead::new(script.as_slice()), &mut sink);
+    assert_eq!(rt;
+        end,
+        Ok(Summary {
+            lines: 1_048_576,
+            held: 0
+        })
+    );
+    script.push(b'#')?;
+    let end = run(rt.alloc(), &mut FromRead::new(script.as_slice()), &mut sink);
+    assert_eq!(rt; end, Err(RunFault::Endless));
     Ok(())
 }

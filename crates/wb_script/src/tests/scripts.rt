@@ -21,6 +21,9 @@ const B: &str =
 const M: &str =
     "arrive 57420101000000220000000700000007000000040000000100000000000000010100000000000000002e\n";
 
+/// Host 9 asks for the pages.
+const ASKED: &str = "hear 574201040000000400000009";
+
 /// What a script over memory prints, and its end.
 fn outcome(alloc: Global, script: &[u8]) -> (Vec<u8>, Result<Summary, RunFault>) {
     let mut source = FromRead::new(script);
@@ -49,6 +52,18 @@ fn scripts_print_batches_and_canvases(rt: HostRuntime) -> Result<(), Fail> {
             "batch 1 0 0 0\n",
         ),
         (["", "", "", ""], ""),
+        (
+            [BOARD, A, M, "report 7 1\npages\nreport 9 9\n"],
+            "batch 2 0 0 0\nreport 1\n7 1\npages 2\n7 1\n7 4\nreport 0\n",
+        ),
+        (
+            [BOARD, "pages", "\n", "report 7 1\n"],
+            "pages 0\nreport 0\n",
+        ),
+        (
+            [BOARD, A, "report 7 1\r\n", M],
+            "batch 1 0 0 0\nreport 1\n7 1\nbatch 1 0 0 0\n",
+        ),
     ] {
         let mut script = String::new(rt.alloc());
         for part in parts {
@@ -128,6 +143,9 @@ fn each_line_parses_with_its_words(rt: HostRuntime) -> Result<(), Fail> {
             Ok(Line::Arrive(_))
         )
     );
+    let heard = parse_line(rt.alloc(), ASKED.as_bytes())?;
+    let shown = format!(in rt.alloc(); "{heard:?}")?;
+    assert_eq!(rt; shown.as_str(), "Hear(AskPages { asker: 9 })");
     Ok(())
 }
 
@@ -153,6 +171,13 @@ fn lines_are_refused_with_their_first_fault(rt: HostRuntime) {
         ("arrive zz", LineFault::Hex),
         ("arrive", LineFault::Words),
         ("arrive 5742", LineFault::Datagram(ReadFault::Short)),
+        ("arrive 574201040000000400000009", LineFault::Kind),
+        (
+            "hear 574201010000002200000007000000070000000100000001000000000000000a0100000001000400012a",
+            LineFault::Kind,
+        ),
+        ("hear 57420104000000040000000", LineFault::Hex),
+        ("hear 574201040000000400000009 1", LineFault::Words),
     ] {
         let fault = parse_line(rt.alloc(), line.as_bytes()).err();
         assert_eq!(rt; fault, Some(ParseFault::Line(want)), "of {line}");

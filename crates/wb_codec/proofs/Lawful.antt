@@ -1,0 +1,51 @@
+-- What a lawful operation is, field by field.
+use Rattle.std.proofs.Common.{◌≡◌, ℕ, ◌<◌, ◌≤◌, ◌^◌, true, None, List, length, arith}
+use Rattle.std.specs.List.{list_all}
+use Rattle.std.proofs.lemmas.Bool.Decides.{nat_tests}
+use Rattle.wb_names.specs.Values.{NameValue}
+use Rattle.wb_names.specs.declared.drawop.Op.{Op}
+use Rattle.wb_names.specs.declared.drawop.Op.TheVariants.{Line, Frame, Text, Delete, Restore}
+use Rattle.wb_names.specs.Drawing.{text_of, IsLawful, stroke_fault, text_fault, is_printable}
+use Rattle.wb_codec.proofs.Bytes.{IsBytes, IsBytes-printable}
+
+pub record IsStroke (x0 y0 x1 y1 glyph : ℕ) : Type 0 where
+  pub x0-fits : x0 < 2 ^ 12
+  pub y0-fits : y0 < 2 ^ 12
+  pub x1-fits : x1 < 2 ^ 12
+  pub y1-fits : y1 < 2 ^ 12
+  pub glyph-fits : glyph < 2 ^ 8
+
+pub lawful_stroke : (x0 y0 x1 y1 glyph : ℕ) → stroke_fault x0 y0 x1 y1 glyph ≡ None → IsStroke x0 y0 x1 y1 glyph
+lawful_stroke x0 y0 x1 y1 glyph e = record {
+  x0-fits = grind (arith, nat_tests);
+  y0-fits = grind (arith, nat_tests);
+  x1-fits = grind (arith, nat_tests);
+  y1-fits = grind (arith, nat_tests);
+  glyph-fits = grind (arith, nat_tests);
+}
+
+pub record IsText (x y : ℕ) (text : List ℕ) : Type 0 where
+  pub x-fits : x < 2 ^ 12
+  pub y-fits : y < 2 ^ 12
+  pub some_bytes : 1 ≤ length text
+  pub few_bytes : length text ≤ 64
+  pub bytes : IsBytes text
+
+pub lawful_text : (x y : ℕ) (text : List ℕ) → text_fault x y text ≡ None → IsText x y text
+lawful_text x y text e =
+    let printable : list_all is_printable text ≡ true = grind (arith, nat_tests) in
+    record {
+      x-fits = grind (arith, nat_tests);
+      y-fits = grind (arith, nat_tests);
+      some_bytes = grind (arith, nat_tests);
+      few_bytes = grind (arith, nat_tests);
+      bytes = IsBytes-printable text printable;
+    }
+
+-- the bytes of a lawful operation's text are few
+pub text_fits : (name : NameValue) (op : Op) → IsLawful name op → length (text_of op) ≤ 64
+text_fits name (Line x0 y0 x1 y1 glyph) e = omega arith
+text_fits name (Frame x0 y0 x1 y1 glyph) e = omega arith
+text_fits name (Text x y text) e = (lawful_text x y text e).few_bytes
+text_fits name (Delete source seq) e = omega arith
+text_fits name (Restore source seq) e = omega arith

@@ -1,0 +1,14 @@
+pub mod Appending
+pub mod BodyLaws
+pub mod Bytes
+pub mod DrawopLaws
+pub mod EntryLaws
+pub mod EntryLists
+pub mod FieldLaws
+pub mod Lawful
+pub mod GrammarLaws
+pub mod LengthLaws
+pub mod ListFaults
+pub mod NoMemory
+pub mod OpLaws
+pub mod RowLaws

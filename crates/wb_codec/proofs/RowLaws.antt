@@ -1,0 +1,200 @@
+-- A record read back is the drawop that it was made from.
+use Rattle.std.proofs.Common.{◌≡◌, ℕ, zero, suc, ◌+◌, ◌-◌, ◌*◌, ◌^◌, ◌<◌, ◌≤◌, Bool, true, List, ◌++◌, length, get_or, take, drop, replicate, map, Option, Some, None, Result, Ok, refl, sym, ap, subst, ◌∙◌, arith}
+use Rattle.std.specs.List.{flat_map, range_with_len}
+use Rattle.std.specs.Int.{w64, to_be_bytes}
+use Rattle.std.proofs.lemmas.List.{take_all, drop_all, length-take, length-drop, take_at, length-append, length-replicate, drop-drop, take-append-drop}
+use Rattle.std.proofs.lemmas.Nat.{be_bytes_8}
+use Rattle.wb_names.specs.TextFields.{padded}
+use Rattle.std.specs.Prelude.{nat_le}
+use Rattle.std.proofs.lemmas.Bool.{le-leb}
+use Rattle.std.specs.Result.{result_ok}
+use Rattle.wb_names.specs.Values.{NameValue, DrawopValue}
+use Rattle.wb_names.specs.Faults.{value_unless, fault_unless}
+use Rattle.wb_names.specs.declared.name.PageId.{PageId}
+use Rattle.wb_names.specs.declared.fault.FieldFault.{FieldFault}
+use Rattle.wb_names.specs.declared.fault.FieldFault.TheVariants.{SeqZero}
+use Rattle.wb_names.proofs.Orders.{name_parts}
+use Rattle.wb_names.specs.Drawing.{IsLawful, op_fault, seq_fault}
+use Rattle.wb_names.specs.declared.drawop.Op.{Op}
+use Rattle.wb_names.specs.declared.drawop.Op.TheVariants.{Line, Frame, Text, Delete, Restore}
+use Rattle.wb_codec.specs.Ranges.{IsName, IsDrawop, HasTarget}
+use Rattle.wb_codec.specs.Rows.{row_words, row, op_words, text_word, text_words, op_word, pair_word}
+use Rattle.wb_codec.specs.RowReading.{high_half, low_half, kind_in, byte_in, p_in, q_in, r_in, s_in, op_in}
+use Rattle.wb_codec.proofs.Bytes.{IsBytes, IsBytes-take, IsBytes-drop, IsBytes-append, IsBytes-zeros}
+use Rattle.wb_codec.proofs.Lawful.{IsText, lawful_stroke, lawful_text}
+
+-- all words are written
+pub all_written : (f : ℕ → List ℕ) (bytes words : List ℕ) (k : ℕ) → k ≤ 8 → length words ≤ k → length bytes ≡ 64 → length words ≡ 8 → take (8 * k) bytes ≡ flat_map f (take k words) → bytes ≡ flat_map f words
+all_written f bytes words k le ge len eight e =
+    let k-is : k ≡ 8 = omega arith in
+    let e8 : take 64 bytes ≡ flat_map f (take 8 words) = subst (λ (n : ℕ). take (8 * n) bytes ≡ flat_map f (take n words)) k-is e in
+    sym (take_all 64 bytes (omega arith)) ∙ e8 ∙ ap (flat_map f) (take_all 8 words (omega arith))
+
+-- eight bytes at a time, what is read of a word is what it was made of
+pub words_back : (bytes : List ℕ) (k n : ℕ) → length bytes ≡ 8 * (k + n) → IsBytes bytes → flat_map (to_be_bytes w64) (map (text_word bytes) (range_with_len k n)) ≡ drop (8 * k) bytes
+words_back bytes k zero len fits = sym (drop_all (8 * k) bytes (omega arith))
+words_back bytes k (suc n) len fits =
+    let rest = drop (8 * k) bytes in
+    let long : length rest ≡ 8 * suc n = omega (arith, length-drop (8 * k) bytes) in
+    let front : to_be_bytes w64 (text_word bytes k) ≡ take 8 rest = be_bytes_8 (take 8 rest) (text_word bytes k) (omega (arith, length-take 8 rest)) (IsBytes-take 8 rest (IsBytes-drop (8 * k) bytes fits)) refl in
+    let next : 8 * (k + 1) ≡ 8 * k + 8 = omega arith in
+    let back : drop (8 * (k + 1)) bytes ≡ drop 8 rest = ap (λ (m : ℕ). drop m bytes) next ∙ sym (drop-drop 8 (8 * k) bytes) in
+    let tail = words_back bytes (k + 1) n (omega arith) fits ∙ back in
+    ap (λ (t : List ℕ). t ++ flat_map (to_be_bytes w64) (map (text_word bytes) (range_with_len (k + 1) n))) front ∙ ap (λ (t : List ℕ). take 8 rest ++ t) tail ∙ take-append-drop 8 rest
+
+-- the bytes of a text's words are the text and zeros
+pub text_back : (x y : ℕ) (text : List ℕ) → IsText x y text → flat_map (to_be_bytes w64) (text_words text) ≡ padded text
+text_back x y text h = words_back (padded text) 0 8 (omega (arith, h.few_bytes, length-append text (replicate (64 - length text) 0), length-replicate {A = ℕ} (64 - length text) 0)) (IsBytes-append text (replicate (64 - length text) 0) h.bytes (IsBytes-zeros (64 - length text)))
+
+pub record HasParts (word kind byte p q r s : ℕ) : Type 0 where
+  pub kind-is : kind_in word ≡ kind
+  pub byte-is : byte_in word ≡ byte
+  pub p-is : p_in word ≡ p
+  pub q-is : q_in word ≡ q
+  pub r-is : r_in word ≡ r
+  pub s-is : s_in word ≡ s
+
+pub parts_back : (kind byte p q r s : ℕ) → byte < 2 ^ 8 → p < 2 ^ 12 → q < 2 ^ 12 → r < 2 ^ 12 → s < 2 ^ 12 → HasParts (op_word kind byte p q r s) kind byte p q r s
+parts_back kind byte p q r s hb hp hq hr hs = record {
+  kind-is = omega arith;
+  byte-is = omega arith;
+  p-is = omega arith;
+  q-is = omega arith;
+  r-is = omega arith;
+  s-is = omega arith;
+}
+
+stroke_back : (make : ℕ → ℕ → ℕ → ℕ → ℕ → Op) (word x0 y0 x1 y1 glyph kind : ℕ) → HasParts word kind glyph x0 y0 x1 y1 → make (p_in word) (q_in word) (r_in word) (s_in word) (byte_in word) ≡ make x0 y0 x1 y1 glyph
+stroke_back make word x0 y0 x1 y1 glyph kind h = rw (h.p-is, h.q-is, h.r-is, h.s-is, h.byte-is) refl
+
+-- the text's words read back: its front is the text
+text_front : (x y n : ℕ) (text bytes : List ℕ) (word : ℕ) → HasParts word 3 (length text) x y 0 0 → bytes ≡ padded text → Text (p_in word) (q_in word) (take (byte_in word) bytes) ≡ Text x y text
+text_front x y n text bytes word h e =
+    let front : take (length text) bytes ≡ text = ap (take (length text)) e ∙ take_at text (replicate (64 - length text) 0) (length text) refl in
+    rw (h.p-is, h.q-is, h.byte-is, front) refl
+
+target_back : (make : ℕ → ℕ → Op) (source seq : ℕ) → source < 2 ^ 32 → seq < 2 ^ 32 → make (high_half (pair_word source seq)) (low_half (pair_word source seq)) ≡ make source seq
+target_back make source seq hs hn =
+    let high : high_half (pair_word source seq) ≡ source = omega arith in
+    let low : low_half (pair_word source seq) ≡ seq = omega arith in
+    rw (high, low) refl
+
+line_in : (word target : ℕ) (bytes : List ℕ) → kind_in word ≡ 1 → op_in word target bytes ≡ Some (Line (p_in word) (q_in word) (r_in word) (s_in word) (byte_in word))
+unfolding op_in
+line_in word target bytes e = rw e refl
+
+frame_in : (word target : ℕ) (bytes : List ℕ) → kind_in word ≡ 2 → op_in word target bytes ≡ Some (Frame (p_in word) (q_in word) (r_in word) (s_in word) (byte_in word))
+unfolding op_in
+frame_in word target bytes e = rw e refl
+
+text_in : (word target : ℕ) (bytes : List ℕ) → kind_in word ≡ 3 → nat_le (byte_in word) 64 ≡ true → op_in word target bytes ≡ Some (Text (p_in word) (q_in word) (take (byte_in word) bytes))
+unfolding op_in
+text_in word target bytes e le = rw (e, le) refl
+
+delete_in : (word target : ℕ) (bytes : List ℕ) → kind_in word ≡ 4 → op_in word target bytes ≡ Some (Delete (high_half target) (low_half target))
+unfolding op_in
+delete_in word target bytes e = rw e refl
+
+restore_in : (word target : ℕ) (bytes : List ℕ) → kind_in word ≡ 5 → op_in word target bytes ≡ Some (Restore (high_half target) (low_half target))
+unfolding op_in
+restore_in word target bytes e = rw e refl
+
+-- the operation's words read back
+abbrev pub op_in_words : List ℕ → Option Op
+op_in_words words = op_in (get_or words 0 0) (get_or words 1 0) (flat_map (to_be_bytes w64) (take 8 (drop 1 words)))
+
+pub op_back : (name : NameValue) (op : Op) → IsLawful name op → HasTarget op → op_in_words (op_words op) ≡ Some op
+op_back name (Line x0 y0 x1 y1 glyph) lawful fits =
+    let s = lawful_stroke x0 y0 x1 y1 glyph lawful in
+    let h = parts_back 1 glyph x0 y0 x1 y1 s.glyph-fits s.x0-fits s.y0-fits s.x1-fits s.y1-fits in
+    line_in (op_word 1 glyph x0 y0 x1 y1) _ _ h.kind-is ∙ ap Some (stroke_back Line (op_word 1 glyph x0 y0 x1 y1) x0 y0 x1 y1 glyph 1 h)
+op_back name (Frame x0 y0 x1 y1 glyph) lawful fits =
+    let s = lawful_stroke x0 y0 x1 y1 glyph lawful in
+    let h = parts_back 2 glyph x0 y0 x1 y1 s.glyph-fits s.x0-fits s.y0-fits s.x1-fits s.y1-fits in
+    frame_in (op_word 2 glyph x0 y0 x1 y1) _ _ h.kind-is ∙ ap Some (stroke_back Frame (op_word 2 glyph x0 y0 x1 y1) x0 y0 x1 y1 glyph 2 h)
+op_back name (Text x y text) lawful fits =
+    let t = lawful_text x y text lawful in
+    let word = op_word 3 (length text) x y 0 0 in
+    let h = parts_back 3 (length text) x y 0 0 (omega (arith, t.few_bytes)) t.x-fits t.y-fits (omega arith) (omega arith) in
+    let few : nat_le (byte_in word) 64 ≡ true = le-leb _ _ (omega (arith, h.byte-is, t.few_bytes)) in
+    text_in word (get_or (text_words text) 0 0) (flat_map (to_be_bytes w64) (text_words text)) h.kind-is few ∙ ap Some (text_front x y 0 text (flat_map (to_be_bytes w64) (text_words text)) word h (text_back x y text t))
+op_back name (Delete source seq) lawful fits =
+    let h = parts_back 4 0 0 0 0 0 (omega arith) (omega arith) (omega arith) (omega arith) (omega arith) in
+    delete_in (op_word 4 0 0 0 0 0) (pair_word source seq) _ h.kind-is ∙ ap Some (target_back Delete source seq fits.0 fits.1)
+op_back name (Restore source seq) lawful fits =
+    let h = parts_back 5 0 0 0 0 0 (omega arith) (omega arith) (omega arith) (omega arith) (omega arith) in
+    restore_in (op_word 5 0 0 0 0 0) (pair_word source seq) _ h.kind-is ∙ ap Some (target_back Restore source seq fits.0 fits.1)
+
+-- the operation read from the words of a record
+pub row_op_back : (d : DrawopValue) (words bytes : List ℕ) (o : Option Op) → IsDrawop d → row d ≡ words → bytes ≡ flat_map (to_be_bytes w64) (take 8 (drop 4 words)) → o ≡ op_in (get_or words 3 0) (get_or words 4 0) bytes → o ≡ Some d.op
+row_op_back d words bytes o h e b s = s ∙ ap (op_in (get_or words 3 0) (get_or words 4 0)) b ∙ subst (λ (ws : List ℕ). op_in (get_or ws 3 0) (get_or ws 4 0) (flat_map (to_be_bytes w64) (take 8 (drop 4 ws))) ≡ Some d.op) e (op_back d.name d.op h.lawful h.target)
+
+one_page : (a b m n : ℕ) → a ≡ b → m ≡ n → let p : PageId = record { creator = a; number = m } in let q : PageId = record { creator = b; number = n } in p ≡ q
+one_page a b m n e f = cc
+
+one_drawop : (m n : NameValue) (t u : ℕ) (o p : Op) → m ≡ n → t ≡ u → o ≡ p → let a : DrawopValue = record { name = m; time = t; op = o } in let b : DrawopValue = record { name = n; time = u; op = p } in a ≡ b
+one_drawop m n t u o p e f g = cc
+
+-- the name made from the first two words
+pub row_name_back : (d : DrawopValue) (words : List ℕ) (source seq creator number : ℕ) (name : NameValue) (r : Result NameValue FieldFault) → IsDrawop d → row d ≡ words
+    → source ≡ high_half (get_or words 0 0) → seq ≡ low_half (get_or words 0 0) → creator ≡ high_half (get_or words 1 0) → number ≡ low_half (get_or words 1 0)
+    → r ≡ value_unless (seq_fault seq) (record { source = source; page = record { creator = creator; number = number }; seq = seq }) → Some name ≡ result_ok r → name ≡ d.name
+row_name_back d words source seq creator number name r h e es eq ec en made given =
+    let w0 : pair_word d.name.source d.name.seq ≡ get_or words 0 0 = ap (λ (ws : List ℕ). get_or ws 0 0) e in
+    let w1 : pair_word d.name.page.creator d.name.page.number ≡ get_or words 1 0 = ap (λ (ws : List ℕ). get_or ws 1 0) e in
+    let s0 = h.name.source in
+    let s1 = h.name.seq in
+    let p0 = h.name.page.creator in
+    let p1 = h.name.page.number in
+    let source-is : source ≡ d.name.source = omega arith in
+    let seq-is : seq ≡ d.name.seq = omega arith in
+    let creator-is : creator ≡ d.name.page.creator = omega arith in
+    let number-is : number ≡ d.name.page.number = omega arith in
+    let positive : nat_le 1 seq ≡ true = le-leb _ _ (omega (arith, h.name.positive)) in
+    let page : PageId = record { creator = creator; number = number } in
+    let whole : NameValue = record { source = source; page = page; seq = seq } in
+    let named : r ≡ Ok whole = made ∙ ap (λ (b : Bool). value_unless (fault_unless b SeqZero) whole) positive in
+    let same : name ≡ whole = some_is name whole (given ∙ ap result_ok named) in
+    same ∙ name_parts source d.name.source page d.name.page seq d.name.seq source-is (one_page creator d.name.page.creator number d.name.page.number creator-is number-is) seq-is
+  where
+    some_is : (v w : NameValue) → (let x : Option NameValue = Some v in let y : Option NameValue = Some w in x ≡ y) → v ≡ w
+    some_is v w e = cc
+
+-- the drawop made from what the words say
+pub row_back : (d : DrawopValue) (words : List ℕ) (name : NameValue) (op : Op) (r : Result DrawopValue FieldFault) → IsDrawop d → row d ≡ words → name ≡ d.name → op ≡ d.op
+    → r ≡ value_unless (op_fault name op) (record { name = name; time = get_or words 2 0; op = op }) → result_ok r ≡ Some d
+row_back d words name op r h e name-is op-is made =
+    let time : d.time ≡ get_or words 2 0 = ap (λ (ws : List ℕ). get_or ws 2 0) e in
+    let lawful : op_fault name op ≡ None = ap (λ (n : NameValue). op_fault n op) name-is ∙ ap (op_fault d.name) op-is ∙ h.lawful in
+    let whole : DrawopValue = record { name = name; time = get_or words 2 0; op = op } in
+    let found : r ≡ Ok whole = made ∙ ap (λ (f : Option FieldFault). value_unless f whole) lawful in
+    ap result_ok found ∙ ap Some (one_drawop name d.name (get_or words 2 0) d.time op d.op name-is (sym time) op-is)
+
+pub some_op : (o p : Op) → (let x : Option Op = Some o in let y : Option Op = Some p in x ≡ y) → o ≡ p
+some_op o p e = cc
+
+pub row_length : (d : DrawopValue) → length (row d) ≡ row_words
+row_length d = ap (λ (n : ℕ). suc (suc (suc n))) (op_length d.op) where
+  op_length : (op : Op) → length (op_words op) ≡ 9
+  op_length (Line x0 y0 x1 y1 glyph) = refl
+  op_length (Frame x0 y0 x1 y1 glyph) = refl
+  op_length (Text x y text) = refl
+  op_length (Delete source seq) = refl
+  op_length (Restore source seq) = refl
+
+pair_back : (a b c d : ℕ) → b < 2 ^ 32 → d < 2 ^ 32 → pair_word a b ≡ pair_word c d → (a ≡ c) × (b ≡ d)
+pair_back a b c d hb hd e = (omega arith, omega arith)
+
+one_name : (m n : NameValue) → IsName m → IsName n → pair_word m.source m.seq ≡ pair_word n.source n.seq → pair_word m.page.creator m.page.number ≡ pair_word n.page.creator n.page.number → m ≡ n
+one_name m n hm hn e f =
+    let a = pair_back m.source m.seq n.source n.seq hm.seq hn.seq e in
+    let b = pair_back m.page.creator m.page.number n.page.creator n.page.number hm.page.number hn.page.number f in
+    name_parts m.source n.source m.page n.page m.seq n.seq a.0 (one_page m.page.creator n.page.creator m.page.number n.page.number b.0 b.1) a.1
+
+-- rows are one to one
+pub one_row : (d e : DrawopValue) → IsDrawop d → IsDrawop e → row d ≡ row e → d ≡ e
+one_row d e hd he h =
+    let name : d.name ≡ e.name = one_name d.name e.name hd.name he.name (ap (λ (ws : List ℕ). get_or ws 0 0) h) (ap (λ (ws : List ℕ). get_or ws 1 0) h) in
+    let time : d.time ≡ e.time = ap (λ (ws : List ℕ). get_or ws 2 0) h in
+    let op : d.op ≡ e.op = some_op d.op e.op (sym (op_back d.name d.op hd.lawful hd.target) ∙ ap (λ (ws : List ℕ). op_in_words (drop 3 ws)) h ∙ op_back e.name e.op he.lawful he.target) in
+    one_drawop d.name e.name d.time e.time d.op e.op name time op

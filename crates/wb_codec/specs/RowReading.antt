@@ -1,0 +1,38 @@
+-- What the words of a record say, read back from left to right. That it undoes the record is a law.
+use Rattle.std.specs.Prelude.{ℕ, ◌/◌, ◌%◌, ◌^◌, List, take, Option, Some, None, nat_eq, nat_le, if◌then◌else◌}
+use Rattle.wb_names.specs.declared.drawop.Op.{Op}
+use Rattle.wb_names.specs.declared.drawop.Op.TheVariants.{Line, Frame, Text, Delete, Restore}
+
+abbrev pub high_half : ℕ → ℕ
+high_half word = word / 2 ^ 32
+
+abbrev pub low_half : ℕ → ℕ
+low_half word = word % 2 ^ 32
+
+-- the parts of an operation's word
+abbrev pub kind_in : ℕ → ℕ
+kind_in word = word / 2 ^ 56
+
+abbrev pub byte_in : ℕ → ℕ
+byte_in word = word / 2 ^ 48 % 2 ^ 8
+
+abbrev pub p_in : ℕ → ℕ
+p_in word = word / 2 ^ 36 % 2 ^ 12
+
+abbrev pub q_in : ℕ → ℕ
+q_in word = word / 2 ^ 24 % 2 ^ 12
+
+abbrev pub r_in : ℕ → ℕ
+r_in word = word / 2 ^ 12 % 2 ^ 12
+
+abbrev pub s_in : ℕ → ℕ
+s_in word = word % 2 ^ 12
+
+-- the operation with this word, this target's word and these bytes of text
+unfoldable pub op_in : ℕ → ℕ → List ℕ → Option Op
+op_in word target bytes =
+    if nat_eq (kind_in word) 1 then Some (Line (p_in word) (q_in word) (r_in word) (s_in word) (byte_in word))
+    else (if nat_eq (kind_in word) 2 then Some (Frame (p_in word) (q_in word) (r_in word) (s_in word) (byte_in word))
+    else (if nat_eq (kind_in word) 3 then (if nat_le (byte_in word) 64 then Some (Text (p_in word) (q_in word) (take (byte_in word) bytes)) else None)
+    else (if nat_eq (kind_in word) 4 then Some (Delete (high_half target) (low_half target))
+    else (if nat_eq (kind_in word) 5 then Some (Restore (high_half target) (low_half target)) else None))))

@@ -1,0 +1,92 @@
+-- The bytes of a datagram: each value has one spelling. Numbers are big-endian.
+use Rattle.std.specs.Prelude.{ℕ, List, [], ◌∷◌, ◌++◌, length, nat_le, if◌then◌else◌}
+use Rattle.std.specs.List.{flat_map}
+use Rattle.std.specs.Int.{w16, w32, w64, to_be_bytes}
+use Rattle.wb_names.specs.Values.{NameValue, DrawopValue, MarkValue}
+use Rattle.wb_names.specs.declared.name.PageId.{PageId}
+use Rattle.wb_names.specs.declared.echo.Echo.{Echo}
+use Rattle.wb_names.specs.declared.drawop.Op.{Op}
+use Rattle.wb_names.specs.declared.drawop.Op.TheVariants.{Line, Frame, Text, Delete, Restore}
+use Rattle.wb_codec.specs.declared.datagram.Datagram.{Datagram}
+use Rattle.wb_codec.specs.declared.datagram.Datagram.TheVariants.{Draw, Session, Request, AskPages, PageState}
+use Rattle.wb_codec.specs.declared.version.Version.{Version}
+use Rattle.wb_codec.specs.declared.version.Version.TheVariants.{One, Two}
+
+abbrev pub page_bytes : PageId → List ℕ
+page_bytes p = to_be_bytes w32 p.creator ++ to_be_bytes w32 p.number
+
+abbrev pub name_bytes : NameValue → List ℕ
+name_bytes n = to_be_bytes w32 n.source ++ page_bytes n.page ++ to_be_bytes w32 n.seq
+
+abbrev pub stroke_bytes : ℕ → ℕ → ℕ → ℕ → ℕ → List ℕ
+stroke_bytes x0 y0 x1 y1 glyph = to_be_bytes w16 x0 ++ to_be_bytes w16 y0 ++ to_be_bytes w16 x1 ++ to_be_bytes w16 y1 ++ glyph ∷ []
+
+abbrev pub text_bytes : ℕ → ℕ → List ℕ → List ℕ
+text_bytes x y text = to_be_bytes w16 x ++ to_be_bytes w16 y ++ length text ∷ [] ++ text
+
+abbrev pub target_bytes : ℕ → ℕ → List ℕ
+target_bytes source seq = to_be_bytes w32 source ++ to_be_bytes w32 seq
+
+-- an operation's number, and its fields
+abbrev pub op_bytes : Op → List ℕ
+op_bytes (Line x0 y0 x1 y1 glyph) = 1 ∷ stroke_bytes x0 y0 x1 y1 glyph
+op_bytes (Frame x0 y0 x1 y1 glyph) = 2 ∷ stroke_bytes x0 y0 x1 y1 glyph
+op_bytes (Text x y text) = 3 ∷ text_bytes x y text
+op_bytes (Delete source seq) = 4 ∷ target_bytes source seq
+op_bytes (Restore source seq) = 5 ∷ target_bytes source seq
+
+abbrev pub drawop_bytes : DrawopValue → List ℕ
+drawop_bytes d = name_bytes d.name ++ to_be_bytes w64 d.time ++ op_bytes d.op
+
+abbrev pub mark_bytes : MarkValue → List ℕ
+mark_bytes m = to_be_bytes w32 m.source ++ to_be_bytes w32 m.high
+
+abbrev pub echo_bytes : Echo → List ℕ
+echo_bytes e = to_be_bytes w32 e.source ++ to_be_bytes w64 e.sent ++ to_be_bytes w64 e.held
+
+-- how many, and each
+abbrev pub marks_bytes : List MarkValue → List ℕ
+marks_bytes marks = to_be_bytes w16 (length marks) ++ flat_map mark_bytes marks
+
+abbrev pub echoes_bytes : List Echo → List ℕ
+echoes_bytes echoes = to_be_bytes w16 (length echoes) ++ flat_map echo_bytes echoes
+
+abbrev pub body : Datagram → List ℕ
+body (Draw d) = drawop_bytes d
+body (Session sender sent page marks echoes) = to_be_bytes w32 sender ++ to_be_bytes w64 sent ++ page_bytes page ++ marks_bytes marks ++ echoes_bytes echoes
+body (Request asker name) = to_be_bytes w32 asker ++ name_bytes name
+body (AskPages asker) = to_be_bytes w32 asker
+body (PageState sender page marks) = to_be_bytes w32 sender ++ page_bytes page ++ marks_bytes marks
+
+abbrev pub kind_code : Datagram → ℕ
+kind_code (Draw d) = 1
+kind_code (Session sender sent page marks echoes) = 2
+kind_code (Request asker name) = 3
+kind_code (AskPages asker) = 4
+kind_code (PageState sender page marks) = 5
+
+-- Version 2 is used for what version 1 cannot say: a restore, and a text of over 40 bytes.
+abbrev pub op_version : Op → Version
+op_version (Line x0 y0 x1 y1 glyph) = One
+op_version (Frame x0 y0 x1 y1 glyph) = One
+op_version (Text x y text) = if nat_le (length text) 40 then One else Two
+op_version (Delete source seq) = One
+op_version (Restore source seq) = Two
+
+abbrev pub version_of : Datagram → Version
+version_of (Draw d) = op_version d.op
+version_of (Session sender sent page marks echoes) = One
+version_of (Request asker name) = One
+version_of (AskPages asker) = One
+version_of (PageState sender page marks) = One
+
+abbrev pub version_code : Version → ℕ
+version_code One = 1
+version_code Two = 2
+
+-- "WB", the version, the kind, how many bytes the body has, and the body
+abbrev pub framed : ℕ → ℕ → List ℕ → List ℕ
+framed version kind bytes = 0x57 ∷ 0x42 ∷ version ∷ kind ∷ (to_be_bytes w32 (length bytes) ++ bytes)
+
+abbrev pub spelling : Datagram → List ℕ
+spelling v = framed (version_code (version_of v)) (kind_code v) (body v)

@@ -1,0 +1,155 @@
+ghost use Rattle.std.specs.Prelude.{◌≡◌, Option, None, ◌&&◌};
+ghost use Rattle.wb_names.specs.Shapes.{op_of};
+ghost use Rattle.wb_names.specs.declared.drawop.Op.TheVariants.{Line as LineOp, Frame as FrameOp, Delete as DeleteOp, Restore as RestoreOp};
+ghost use Rattle.wb_codec.specs.Reading.{Gives, stroke_at, text_at, target_at, fields_at, op_at, drawop_at};
+ghost use Rattle.wb_codec.specs.TextLengths.{length_fault_of};
+
+use crate::fault::ReadFault;
+use crate::fields::{name_of, u8_of, u16_of, u32_of, u64_of};
+use crate::version::Version;
+use wb_names::{Drawop, FieldFault, Name, Shape};
+
+// Each reader of a shape takes its fields from the front, not yet checked, and gives the bytes
+// after them.
+
+#[inline(always)]
+#[tactic(auto, unfolding(crate::specs::Reading::stroke_at))]
+fn line_of(bytes: &[u8]) -> Result<(Shape<'_>, &[u8]), ReadFault>
+    ensures { Gives (λ x. (op_of x.0, x.1.now)) result (stroke_at LineOp bytes.now) }
+{
+    let (x0, rest) = u16_of(bytes)?;
+    let (y0, rest) = u16_of(rest)?;
+    let (x1, rest) = u16_of(rest)?;
+    let (y1, rest) = u16_of(rest)?;
+    let (glyph, rest) = u8_of(rest)?;
+    let line = Shape::Line {
+        x0,
+        y0,
+        x1,
+        y1,
+        glyph,
+    };
+    Ok((line, rest))
+}
+
+#[inline(always)]
+#[tactic(auto, unfolding(crate::specs::Reading::stroke_at))]
+fn frame_of(bytes: &[u8]) -> Result<(Shape<'_>, &[u8]), ReadFault>
+    ensures { Gives (λ x. (op_of x.0, x.1.now)) result (stroke_at FrameOp bytes.now) }
+{
+    let (x0, rest) = u16_of(bytes)?;
+    let (y0, rest) = u16_of(rest)?;
+    let (x1, rest) = u16_of(rest)?;
+    let (y1, rest) = u16_of(rest)?;
+    let (glyph, rest) = u8_of(rest)?;
+    let frame = Shape::Frame {
+        x0,
+        y0,
+        x1,
+        y1,
+        glyph,
+    };
+    Ok((frame, rest))
+}
+
+#[inline(always)]
+#[tactic(auto, unfolding(crate::specs::Reading::text_at))]
+fn text_of(bytes: &[u8]) -> Result<(Shape<'_>, &[u8]), ReadFault>
+    ensures { Gives (λ x. (op_of x.0, x.1.now)) result (text_at bytes.now) }
+{
+    let (x, rest) = u16_of(bytes)?;
+    let (y, rest) = u16_of(rest)?;
+    let (n, rest) = u8_of(rest)?;
+    if rest.len() < n as usize {
+        return Err(ReadFault::Length);
+    }
+    let (bytes, rest) = rest.split_at(n as usize);
+    Ok((Shape::Text { x, y, bytes }, rest))
+}
+
+#[inline(always)]
+#[tactic(auto, unfolding(crate::specs::Reading::target_at))]
+fn delete_of(bytes: &[u8]) -> Result<(Shape<'_>, &[u8]), ReadFault>
+    ensures { Gives (λ x. (op_of x.0, x.1.now)) result (target_at DeleteOp bytes.now) }
+{
+    let (source, rest) = u32_of(bytes)?;
+    let (seq, rest) = u32_of(rest)?;
+    Ok((Shape::Delete { source, seq }, rest))
+}
+
+#[inline(always)]
+#[tactic(auto, unfolding(crate::specs::Reading::target_at))]
+fn restore_of(bytes: &[u8]) -> Result<(Shape<'_>, &[u8]), ReadFault>
+    ensures { Gives (λ x. (op_of x.0, x.1.now)) result (target_at RestoreOp bytes.now) }
+{
+    let (source, rest) = u32_of(bytes)?;
+    let (seq, rest) = u32_of(rest)?;
+    Ok((Shape::Restore { source, seq }, rest))
+}
+
+/// The fields of the operation of this number, if the version has it.
+#[inline(always)]
+#[tactic(auto, unfolding(crate::specs::Reading::fields_at))]
+fn fields_of(version: Version, number: u8, bytes: &[u8]) -> Result<(Shape<'_>, &[u8]), ReadFault>
+    ensures { Gives (λ x. (op_of x.0, x.1.now)) result (fields_at version number bytes.now) }
+{
+    match (version, number) {
+        (Version::One, 1) => line_of(bytes),
+        (Version::One, 2) => frame_of(bytes),
+        (_, 3) => text_of(bytes),
+        (Version::One, 4) => delete_of(bytes),
+        (Version::Two, 5) => restore_of(bytes),
+        _ => Err(ReadFault::OpKind),
+    }
+}
+
+#[inline(always)]
+#[tactic(auto, unfolding(crate::specs::Reading::op_at))]
+fn shape_of(version: Version, bytes: &[u8]) -> Result<(Shape<'_>, &[u8]), ReadFault>
+    ensures { Gives (λ x. (op_of x.0, x.1.now)) result (op_at version bytes.now) }
+{
+    let (number, rest) = u8_of(bytes)?;
+    fields_of(version, number, rest)
+}
+
+/// The fault of a text of a length that another version says, or none does. It comes where lengths
+/// are checked: after the coordinates, before the bytes.
+#[inline(always)]
+fn length_fault(version: Version, shape: &Shape<'_>) -> Option<FieldFault>
+    ensures { result ≡ length_fault_of version (op_of shape.now) }
+{
+    let Shape::Text { x, y, bytes } = *shape else {
+        return None;
+    };
+    let is_said = match version {
+        Version::One => 1 <= bytes.len() && bytes.len() <= 40,
+        Version::Two => 41 <= bytes.len() && bytes.len() <= 64,
+    };
+    if is_said {
+        None
+    } else if x > 4095 || y > 4095 {
+        Some(FieldFault::Coordinate)
+    } else {
+        Some(FieldFault::TextLength)
+    }
+}
+
+/// A drawop that takes all of the bytes.
+#[inline(always)]
+#[tactic(auto, unfolding(crate::specs::Reading::drawop_at))]
+pub(crate) fn drawop_of(version: Version, bytes: &[u8]) -> Result<Drawop, ReadFault>
+    ensures { result ≡ drawop_at version bytes.now }
+{
+    let (fields, rest) = name_of(bytes)?;
+    let (time, rest) = u64_of(rest)?;
+    let (shape, rest) = shape_of(version, rest)?;
+    if !rest.is_empty() {
+        return Err(ReadFault::Length);
+    }
+    let name = Name::new(fields.source, fields.page, fields.seq)?;
+    if let Some(fault) = length_fault(version, &shape) {
+        return Err(ReadFault::Field(fault));
+    }
+    let drawop = Drawop::new(name, time, shape)?;
+    Ok(drawop)
+}

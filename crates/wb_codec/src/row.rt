@@ -1,0 +1,237 @@
+ghost use Rattle.std.specs.Prelude.{◌≡◌, ◌<◌, ◌≤◌, ◌*◌, ◌^◌, ◌/◌, ◌%◌, length, option_map, IfSome, drop};
+ghost use Rattle.std.specs.List.{flat_map};
+ghost use Rattle.std.specs.Int.{w64, to_be_bytes};
+ghost use Rattle.wb_names.specs.Values.{DrawopValue};
+ghost use Rattle.wb_names.specs.Shapes.{op_of, TextFits};
+ghost use Rattle.wb_names.specs.TextFields.{padded as padded_text};
+ghost use Rattle.wb_codec.specs.Ranges.{IsDrawop};
+ghost use Rattle.wb_codec.specs.Rows.{row, row_words, pair_word, op_word as op_word_of, text_word as text_word_of};
+ghost use Rattle.wb_codec.specs.RowReading.{high_half, low_half, op_in};
+
+use wb_names::{Drawop, Name, Op, PageId, Shape};
+
+/// How many words the record of a drawop has.
+pub const ROW_WORDS: usize = 12;
+
+/// Two numbers of four bytes in a word, the first in its high half.
+#[inline(always)]
+fn pair(high: u32, low: u32) -> u64
+    ensures { result ≡ pair_word high low }
+{
+    ((high as u64) << 32) + low as u64
+}
+
+/// An operation's number, a byte, and four numbers of twelve bits, from the top of a word down.
+#[inline(always)]
+fn op_word(kind: u8, byte: u8, p: u16, q: u16, r: u16, s: u16) -> u64
+    requires p { p < 2 ^ 12 }
+    requires q { q < 2 ^ 12 }
+    requires r { r < 2 ^ 12 }
+    requires s { s < 2 ^ 12 }
+    ensures { result ≡ op_word_of kind byte p q r s }
+{
+    ((kind as u64) << 56)
+        + ((byte as u64) << 48)
+        + ((p as u64) << 36)
+        + ((q as u64) << 24)
+        + ((r as u64) << 12)
+        + s as u64
+}
+
+/// The text, and zeros after it.
+#[inline(always)]
+fn padded(text: &[u8]) -> [u8; 64]
+    requires { length text.now ≤ 64 }
+    ensures { result ≡ padded_text text.now }
+{
+    let mut bytes = [0; 64];
+    bytes[..text.len()].copy_from_slice(text);
+    bytes
+}
+
+/// The bytes from `8 * k` on as a word.
+#[inline(always)]
+fn text_word(bytes: &[u8; 64], k: usize) -> u64
+    requires { k < 8 }
+    ensures { result ≡ text_word_of bytes.now k }
+{
+    let word = &bytes[8 * k..8 * k + 8];
+    u64::from_be_bytes([
+        word[0], word[1], word[2], word[3], word[4], word[5], word[6], word[7],
+    ])
+}
+
+/// The record of a drawop.
+pub fn to_row(drawop: &Drawop) -> [u64; 12]
+    ensures record { result ≡ row drawop.now }
+    ensures len { length result ≡ row_words }
+    ensures drawop { IsDrawop drawop.now }
+{
+    let name = drawop.name();
+    let page = name.page();
+    let named = pair(name.source(), name.seq());
+    let placed = pair(page.creator, page.number);
+    let time = drawop.time();
+    match drawop.op() {
+        Op::Line {
+            x0,
+            y0,
+            x1,
+            y1,
+            glyph,
+        } => {
+            let word = op_word(1, *glyph, *x0, *y0, *x1, *y1);
+            [named, placed, time, word, 0, 0, 0, 0, 0, 0, 0, 0]
+        }
+        Op::Frame {
+            x0,
+            y0,
+            x1,
+            y1,
+            glyph,
+        } => {
+            let word = op_word(2, *glyph, *x0, *y0, *x1, *y1);
+            [named, placed, time, word, 0, 0, 0, 0, 0, 0, 0, 0]
+        }
+        Op::Text { x, y, text } => {
+            let text = text.as_slice();
+            let word = op_word(3, text.len() as u8, *x, *y, 0, 0);
+            let bytes = padded(text);
+            [
+                named,
+                placed,
+                time,
+                word,
+                text_word(&bytes, 0),
+                text_word(&bytes, 1),
+                text_word(&bytes, 2),
+                text_word(&bytes, 3),
+                text_word(&bytes, 4),
+                text_word(&bytes, 5),
+                text_word(&bytes, 6),
+                text_word(&bytes, 7),
+            ]
+        }
+        Op::Delete { source, seq } => {
+            let word = op_word(4, 0, 0, 0, 0, 0);
+            [
+                named,
+                placed,
+                time,
+                word,
+                pair(*source, *seq),
+                0,
+                0,
+                0,
+                0,
+                0,
+                0,
+                0,
+            ]
+        }
+        Op::Restore { source, seq } => {
+            let word = op_word(5, 0, 0, 0, 0, 0);
+            [
+                named,
+                placed,
+                time,
+                word,
+                pair(*source, *seq),
+                0,
+                0,
+                0,
+                0,
+                0,
+                0,
+                0,
+            ]
+        }
+    }
+}
+
+/// The two numbers in a word, its high half first.
+#[inline(always)]
+fn halves(word: u64) -> (u32, u32)
+    ensures high { result.0 ≡ high_half word }
+    ensures low { result.1 ≡ low_half word }
+{
+    ((word >> 32) as u32, (word % (1 << 32)) as u32)
+}
+
+/// The bytes of these words, each from its most significant byte on.
+#[inline(always)]
+fn text_bytes(words: &[u64]) -> [u8; 64]
+    requires { length words.now ≡ 8 }
+    ensures { result ≡ flat_map (to_be_bytes w64) words.now }
+{
+    let mut bytes = [0; 64];
+    for (k, word) in words.iter().enumerate() {
+        bytes[8 * k..8 * k + 8].copy_from_slice(&word.to_be_bytes());
+    }
+    bytes
+}
+
+/// The shape that these words tell, its fields not yet checked.
+#[inline(always)]
+#[tactic(auto, unfolding(crate::specs::RowReading::op_in))]
+fn shape_in<'a>(word: u64, target: u64, bytes: &'a [u8; 64]) -> Option<Shape<'a>>
+    ensures { option_map op_of result ≡ op_in word target bytes.now }
+{
+    let kind = word >> 56;
+    let byte = ((word >> 48) % (1 << 8)) as u8;
+    let x0 = ((word >> 36) % (1 << 12)) as u16;
+    let y0 = ((word >> 24) % (1 << 12)) as u16;
+    let x1 = ((word >> 12) % (1 << 12)) as u16;
+    let y1 = (word % (1 << 12)) as u16;
+    let (source, seq) = halves(target);
+    match kind {
+        1 => Some(Shape::Line {
+            x0,
+            y0,
+            x1,
+            y1,
+            glyph: byte,
+        }),
+        2 => Some(Shape::Frame {
+            x0,
+            y0,
+            x1,
+            y1,
+            glyph: byte,
+        }),
+        3 if byte <= 64 => Some(Shape::Text {
+            x: x0,
+            y: y0,
+            bytes: &bytes[..byte as usize],
+        }),
+        4 => Some(Shape::Delete { source, seq }),
+        5 => Some(Shape::Restore { source, seq }),
+        _ => None,
+    }
+}
+
+/// The drawop whose record these words may be: unused words and parts of words are not looked at.
+#[inline(always)]
+fn drawop_in(words: &[u64; 12]) -> Option<Drawop>
+    ensures { (d : DrawopValue) → IsDrawop d → row d ≡ words.now → result ≡ Some d }
+{
+    let (source, seq) = halves(words[0]);
+    let (creator, number) = halves(words[1]);
+    let name = Name::new(source, PageId { creator, number }, seq).ok()?;
+    let bytes = text_bytes(&words[4..]);
+    let shape = shape_in(words[3], words[4], &bytes)?;
+    Drawop::new(name, words[2], shape).ok()
+}
+
+/// The drawop whose record these words are, and none where they are no drawop's record.
+pub fn from_row(words: &[u64; 12]) -> Option<Drawop>
+    ensures found { IfSome result (λ d. (row d ≡ words.now) × IsDrawop d) }
+    ensures only { (d : DrawopValue) → IsDrawop d → row d ≡ words.now → result ≡ Some d }
+{
+    let drawop = drawop_in(words)?;
+    if to_row(&drawop) == *words {
+        Some(drawop)
+    } else {
+        None
+    }
+}

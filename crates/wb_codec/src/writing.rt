@@ -1,0 +1,312 @@
+ghost use Rattle.std.specs.Prelude.{◌≡◌, ◌<◌, ◌≤◌, ◌^◌, ◌++◌, length, IfOk, OnOk};
+ghost use Rattle.wb_names.specs.Drawing.{text_of};
+ghost use Rattle.wb_codec.specs.declared.datagram.Datagram.{Datagram as DatagramValue};
+ghost use Rattle.wb_codec.specs.Spelling.{page_bytes, name_bytes, stroke_bytes, text_bytes, target_bytes, op_bytes, drawop_bytes, mark_bytes, echo_bytes, marks_bytes, echoes_bytes, body, kind_code, op_version, version_code, version_of as version_of_datagram, spelling};
+
+use crate::datagram::Datagram;
+use crate::version::Version;
+use std::alloc::{AllocError, Global};
+use wb_names::{Drawop, Echo, Echoes, Mark, Marks, Name, Op, PageId};
+
+// Each of these adds the bytes of a value at the end.
+
+#[inline(always)]
+fn put_page(out: &mut Vec<u8>, page: PageId) -> Result<(), AllocError>
+    ensures { OnOk result (out.new.items ≡ out.old.items ++ page_bytes page) }
+{
+    out.extend_from_slice(&page.creator.to_be_bytes())?;
+    out.extend_from_slice(&page.number.to_be_bytes())?;
+    Ok(())
+}
+
+#[inline(always)]
+fn put_name(out: &mut Vec<u8>, name: Name) -> Result<(), AllocError>
+    ensures { OnOk result (out.new.items ≡ out.old.items ++ name_bytes name) }
+{
+    out.extend_from_slice(&name.source().to_be_bytes())?;
+    put_page(out, name.page())?;
+    out.extend_from_slice(&name.seq().to_be_bytes())?;
+    Ok(())
+}
+
+#[inline(always)]
+fn put_stroke(
+    out: &mut Vec<u8>,
+    x0: u16,
+    y0: u16,
+    x1: u16,
+    y1: u16,
+    glyph: u8,
+) -> Result<(), AllocError>
+    ensures { OnOk result (out.new.items ≡ out.old.items ++ stroke_bytes x0 y0 x1 y1 glyph) }
+{
+    out.extend_from_slice(&x0.to_be_bytes())?;
+    out.extend_from_slice(&y0.to_be_bytes())?;
+    out.extend_from_slice(&x1.to_be_bytes())?;
+    out.extend_from_slice(&y1.to_be_bytes())?;
+    out.push(glyph)?;
+    Ok(())
+}
+
+#[inline(always)]
+fn put_target(out: &mut Vec<u8>, source: u32, seq: u32) -> Result<(), AllocError>
+    ensures { OnOk result (out.new.items ≡ out.old.items ++ target_bytes source seq) }
+{
+    out.extend_from_slice(&source.to_be_bytes())?;
+    out.extend_from_slice(&seq.to_be_bytes())?;
+    Ok(())
+}
+
+#[inline(always)]
+fn put_text(out: &mut Vec<u8>, x: u16, y: u16, text: &[u8]) -> Result<(), AllocError>
+    requires { length text.now ≤ 64 }
+    ensures { OnOk result (out.new.items ≡ out.old.items ++ text_bytes x y text.now) }
+{
+    out.extend_from_slice(&x.to_be_bytes())?;
+    out.extend_from_slice(&y.to_be_bytes())?;
+    out.push(text.len() as u8)?;
+    out.extend_from_slice(text)?;
+    Ok(())
+}
+
+#[inline(always)]
+fn put_op(out: &mut Vec<u8>, op: &Op) -> Result<(), AllocError>
+    requires { length (text_of op.now) ≤ 64 }
+    ensures { OnOk result (out.new.items ≡ out.old.items ++ op_bytes op.now) }
+{
+    match op {
+        Op::Line {
+            x0,
+            y0,
+            x1,
+            y1,
+            glyph,
+        } => {
+            out.push(1)?;
+            put_stroke(out, *x0, *y0, *x1, *y1, *glyph)?;
+            Ok(())
+        }
+        Op::Frame {
+            x0,
+            y0,
+            x1,
+            y1,
+            glyph,
+        } => {
+            out.push(2)?;
+            put_stroke(out, *x0, *y0, *x1, *y1, *glyph)?;
+            Ok(())
+        }
+        Op::Text { x, y, text } => {
+            out.push(3)?;
+            put_text(out, *x, *y, text.as_slice())?;
+            Ok(())
+        }
+        Op::Delete { source, seq } => {
+            out.push(4)?;
+            put_target(out, *source, *seq)?;
+            Ok(())
+        }
+        Op::Restore { source, seq } => {
+            out.push(5)?;
+            put_target(out, *source, *seq)?;
+            Ok(())
+        }
+    }
+}
+
+#[inline(always)]
+#[tactic(auto, using(crate::proofs::Lawful::text_fits))]
+fn put_drawop(out: &mut Vec<u8>, drawop: &Drawop) -> Result<(), AllocError>
+    ensures { OnOk result (out.new.items ≡ out.old.items ++ drawop_bytes drawop.now) }
+{
+    put_name(out, drawop.name())?;
+    out.extend_from_slice(&drawop.time().to_be_bytes())?;
+    put_op(out, drawop.op())?;
+    Ok(())
+}
+
+#[inline(always)]
+fn put_mark(out: &mut Vec<u8>, mark: &Mark) -> Result<(), AllocError>
+    ensures { OnOk result (out.new.items ≡ out.old.items ++ mark_bytes mark.now) }
+{
+    out.extend_from_slice(&mark.source().to_be_bytes())?;
+    out.extend_from_slice(&mark.high().to_be_bytes())?;
+    Ok(())
+}
+
+#[inline(always)]
+fn put_echo(out: &mut Vec<u8>, echo: &Echo) -> Result<(), AllocError>
+    ensures { OnOk result (out.new.items ≡ out.old.items ++ echo_bytes echo.now) }
+{
+    out.extend_from_slice(&echo.source.to_be_bytes())?;
+    out.extend_from_slice(&echo.sent.to_be_bytes())?;
+    out.extend_from_slice(&echo.held.to_be_bytes())?;
+    Ok(())
+}
+
+fn put_marks(out: &mut Vec<u8>, marks: &Marks) -> Result<(), AllocError>
+    ensures { OnOk result (out.new.items ≡ out.old.items ++ marks_bytes marks.now) }
+{
+    let marks = marks.as_slice();
+    out.extend_from_slice(&(marks.len() as u16).to_be_bytes())?;
+    for mark in marks {
+        put_mark(out, mark)?;
+    }
+    Ok(())
+}
+
+fn put_echoes(out: &mut Vec<u8>, echoes: &Echoes) -> Result<(), AllocError>
+    ensures { OnOk result (out.new.items ≡ out.old.items ++ echoes_bytes echoes.now) }
+{
+    let echoes = echoes.as_slice();
+    out.extend_from_slice(&(echoes.len() as u16).to_be_bytes())?;
+    for echo in echoes {
+        put_echo(out, echo)?;
+    }
+    Ok(())
+}
+
+fn put_session(
+    out: &mut Vec<u8>,
+    sender: u32,
+    sent: u64,
+    page: PageId,
+    marks: &Marks,
+    echoes: &Echoes,
+) -> Result<(), AllocError>
+    ensures { OnOk result (out.new.items ≡ out.old.items ++ body (DatagramValue.Session sender sent page marks.now echoes.now)) }
+{
+    out.extend_from_slice(&sender.to_be_bytes())?;
+    out.extend_from_slice(&sent.to_be_bytes())?;
+    put_page(out, page)?;
+    put_marks(out, marks)?;
+    put_echoes(out, echoes)?;
+    Ok(())
+}
+
+fn put_request(out: &mut Vec<u8>, asker: u32, name: Name) -> Result<(), AllocError>
+    ensures { OnOk result (out.new.items ≡ out.old.items ++ body (DatagramValue.Request asker name)) }
+{
+    out.extend_from_slice(&asker.to_be_bytes())?;
+    put_name(out, name)?;
+    Ok(())
+}
+
+fn put_page_state(
+    out: &mut Vec<u8>,
+    sender: u32,
+    page: PageId,
+    marks: &Marks,
+) -> Result<(), AllocError>
+    ensures { OnOk result (out.new.items ≡ out.old.items ++ body (DatagramValue.PageState sender page marks.now)) }
+{
+    out.extend_from_slice(&sender.to_be_bytes())?;
+    put_page(out, page)?;
+    put_marks(out, marks)?;
+    Ok(())
+}
+
+#[inline(always)]
+fn put_body(out: &mut Vec<u8>, datagram: &Datagram) -> Result<(), AllocError>
+    ensures { OnOk result (out.new.items ≡ out.old.items ++ body datagram.now) }
+{
+    match datagram {
+        Datagram::Draw(drawop) => put_drawop(out, drawop),
+        Datagram::Session {
+            sender,
+            sent,
+            page,
+            marks,
+            echoes,
+        } => put_session(out, *sender, *sent, *page, marks, echoes),
+        Datagram::Request { asker, name } => put_request(out, *asker, *name),
+        Datagram::AskPages { asker } => out.extend_from_slice(&asker.to_be_bytes()),
+        Datagram::PageState {
+            sender,
+            page,
+            marks,
+        } => put_page_state(out, *sender, *page, marks),
+    }
+}
+
+/// How many bytes an operation has.
+#[inline(always)]
+fn op_len(op: &Op) -> usize
+    requires { length (text_of op.now) ≤ 64 }
+    ensures len { result ≡ length (op_bytes op.now) }
+    ensures short { result < 256 }
+{
+    match op {
+        Op::Line { .. } | Op::Frame { .. } => 10,
+        Op::Text { text, .. } => 6 + text.as_slice().len(),
+        Op::Delete { .. } | Op::Restore { .. } => 9,
+    }
+}
+
+/// How many bytes the body of a datagram has.
+#[inline(always)]
+#[tactic(auto, using(crate::proofs::Lawful::text_fits))]
+fn body_len(datagram: &Datagram) -> usize
+    ensures len { result ≡ length (body datagram.now) }
+    ensures short { result < 2 ^ 32 }
+{
+    match datagram {
+        Datagram::Draw(drawop) => 24 + op_len(drawop.op()),
+        Datagram::Session { marks, echoes, .. } => {
+            24 + 8 * marks.as_slice().len() + 20 * echoes.as_slice().len()
+        }
+        Datagram::Request { .. } => 20,
+        Datagram::AskPages { .. } => 4,
+        Datagram::PageState { marks, .. } => 14 + 8 * marks.as_slice().len(),
+    }
+}
+
+/// The version that says an operation.
+#[inline(always)]
+fn version_of(op: &Op) -> Version
+    ensures { result ≡ op_version op.now }
+{
+    match op {
+        Op::Line { .. } | Op::Frame { .. } | Op::Delete { .. } => Version::One,
+        Op::Text { text, .. } => {
+            if text.as_slice().len() <= 40 {
+                Version::One
+            } else {
+                Version::Two
+            }
+        }
+        Op::Restore { .. } => Version::Two,
+    }
+}
+
+/// The number of the version that says a datagram, and that of its kind.
+#[inline(always)]
+fn numbers_of(datagram: &Datagram) -> (u8, u8)
+    ensures version { result.0 ≡ version_code (version_of_datagram datagram.now) }
+    ensures kind { result.1 ≡ kind_code datagram.now }
+{
+    match datagram {
+        Datagram::Draw(drawop) => match version_of(drawop.op()) {
+            Version::One => (1, 1),
+            Version::Two => (2, 1),
+        },
+        Datagram::Session { .. } => (1, 2),
+        Datagram::Request { .. } => (1, 3),
+        Datagram::AskPages { .. } => (1, 4),
+        Datagram::PageState { .. } => (1, 5),
+    }
+}
+
+/// The bytes of a datagram, in one allocation.
+pub fn write(alloc: Global, datagram: &Datagram) -> Result<Vec<u8>, AllocError>
+    ensures { IfOk result (λ bytes. bytes.items ≡ spelling datagram.now) }
+{
+    let len = body_len(datagram);
+    let (version, kind) = numbers_of(datagram);
+    let mut bytes = Vec::with_capacity(alloc, 8 + len)?;
+    bytes.extend_from_slice(&[b'W', b'B', version, kind])?;
+    bytes.extend_from_slice(&(len as u32).to_be_bytes())?;
+    put_body(&mut bytes, datagram)?;
+    Ok(bytes)
+}

@@ -1,0 +1,25 @@
+use Rattle.std.proofs.Common.{◌≡◌, sym, ap, ◌∙◌, List, ℕ}
+use Rattle.std.specs.Prelude.{Some, Ok}
+use Rattle.std.specs.Option.{option_map}
+use Rattle.std.specs.Borrow.{Bor}
+use Rattle.std.proofs.lemmas.Result.{err_from_is_err_and}
+use Rattle.wb_script.specs.Words.{words}
+use Rattle.wb_script.specs.Parsing.{one_of}
+use Rattle.wb_script.proofs.Arrivals.{datagram-not_hex, datagram-late, datagram-read, datagram-spelled}
+use Rattle.wb_script.proofs.parsing.datagram.Goals as goal
+
+pub returns-then-not-is_hex : goal.returns-then-not-is_hex
+returns-then-not-is_hex c =
+    let one : one_of (words c.args.rest.now) ≡ Some c.in_ok-digits.digits.now = sym c.one_word.ensures ∙ ap (option_map (λ (x : Bor (List ℕ)). x.now)) c.in_ok-digits.ensures.ok_part in
+    datagram-not_hex (words c.args.rest.now) c.in_ok-digits.digits.now one (sym c.is_hex.ensures ∙ c.if-not-is_hex.true)
+
+pub returns-in_err-bytes : goal.returns-in_err-bytes
+returns-in_err-bytes c =
+    let one : one_of (words c.args.rest.now) ≡ Some c.in_ok-digits.digits.now = sym c.one_word.ensures ∙ ap (option_map (λ (x : Bor (List ℕ)). x.now)) c.in_ok-digits.ensures.ok_part in
+    let p = err_from_is_err_and c.from_residual-in_err-bytes.result c.from_residual-in_err-bytes.ensures.1 in
+    rw (p.1, p.2) (datagram-late (words c.args.rest.now) c.in_ok-digits.digits.now one (sym c.is_hex.ensures ∙ c.if-not-is_hex.false))
+
+pub returns-in-Ok : goal.returns-in-Ok
+returns-in-Ok c =
+    let one : one_of (words c.args.rest.now) ≡ Some c.in_ok-digits.digits.now = sym c.one_word.ensures ∙ ap (option_map (λ (x : Bor (List ℕ)). x.now)) c.in_ok-digits.ensures.ok_part in
+    datagram-spelled (words c.args.rest.now) c.in_ok-digits.digits.now c.deref.result.now c.in-Ok.datagram one (c.in_ok-bytes.ensures ∙ ap (λ (bytes : List ℕ). Ok bytes) (sym c.deref.ensures.value)) c.in-Ok.ensures.found

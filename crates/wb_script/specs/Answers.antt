@@ -1,0 +1,38 @@
+-- What a script prints for its batches and its questions.
+use Rattle.std.specs.Prelude.{◌≡◌, ℕ, ◌≤◌, true, List, ◌++◌, length, codes}
+use Rattle.std.specs.List.{flat_map}
+use Rattle.std.specs.Fmt.{decimal}
+use Rattle.wb_names.specs.Values.{DrawopValue, MarkValue}
+use Rattle.wb_names.specs.declared.name.PageId.{PageId}
+use Rattle.wb_display.specs.Canvas.{canvas_text, is_canvas_size}
+use Rattle.wb_script.specs.declared.batch.Batch.{Batch}
+use Rattle.wb_script.specs.declared.query.Query.{Query}
+use Rattle.wb_script.specs.declared.query.Query.TheVariants.{Canvas, Report, Pages}
+use Rattle.wb_script.specs.Queries.{view_of, report_of, pages_of}
+
+-- the line that ends a batch
+abbrev pub batch_line : Batch → List ℕ
+batch_line n = codes "batch " ++ (decimal n.fresh ++ (codes " " ++ (decimal n.again ++ (codes " " ++ (decimal n.clash ++ (codes " " ++ (decimal n.left ++ codes "\n")))))))
+
+-- two numbers on a line
+abbrev pub pair_line : ℕ → ℕ → List ℕ
+pair_line a b = decimal a ++ (codes " " ++ (decimal b ++ codes "\n"))
+
+-- how many there are, and a line for each
+abbrev pub report_text : List MarkValue → List ℕ
+report_text marks = codes "report " ++ (decimal (length marks) ++ codes "\n") ++ flat_map (λ m. pair_line m.source m.high) marks
+
+abbrev pub pages_text : List PageId → List ℕ
+pages_text pages = codes "pages " ++ (decimal (length pages) ++ codes "\n") ++ flat_map (λ p. pair_line p.creator p.number) pages
+
+-- what is printed for a question, at a history
+abbrev pub answer_text : List DrawopValue → Query → List ℕ
+answer_text history (Canvas page width height) = canvas_text (view_of history page) width height
+answer_text history (Report page) = report_text (report_of history page)
+answer_text history Pages = pages_text (pages_of history)
+
+-- a canvas that is asked for is not too large
+abbrev pub IsAnswerable : Query → Type 0
+IsAnswerable (Canvas page width height) = is_canvas_size width height ≡ true
+IsAnswerable (Report page) = Unit {0}
+IsAnswerable Pages = Unit {0}
