@@ -1,11 +1,14 @@
 -- A line, drawn a point at a time.
-use Rattle.std.proofs.Common.{◌≡◌, ℕ, ◌+◌, List, [], ◌∷◌, ◌++◌, refl, ap, ◌∙◌, sym, arith}
-use Rattle.std.specs.Prelude.{Bool, true, false, ◌||◌}
+use Rattle.std.proofs.Common.{◌≡◌, ℕ, ◌+◌, ◌*◌, ◌/◌, ◌<◌, List, [], ◌∷◌, ◌++◌, refl, ap, ◌∙◌, sym, arith}
+use Rattle.std.specs.Prelude.{Bool, true, false, ◌&&◌, ◌||◌, nat_eq}
 use Rattle.std.specs.List.{list_any, range_with_len}
 use Rattle.std.proofs.lemmas.List.{map-id}
 use Rattle.std.proofs.lemmas.List.FromFn.{map-range_with_len_more}
 use Rattle.std.proofs.lemmas.List.Folds.{list_any-append}
-use Rattle.wb_display.specs.Canvas.{line_at, is_line_point}
+use Rattle.wb_display.specs.Canvas.{distance, toward, share, line_len, line_at, is_line_point, is_on_line}
+use Rattle.wb_display.specs.Laws.{LinesStepByOne}
+use Rattle.std.proofs.lemmas.Nat.{div-mul-add}
+use Rattle.std.proofs.lemmas.Bool.Decides.{nat_tests}
 use Rattle.wb_display.specs.Cells.{is_at, Overlays}
 use Rattle.wb_display.proofs.Overlaying.{drawn_over, agreeing}
 
@@ -32,3 +35,24 @@ line_more w h x0 y0 x1 y1 m n px py g old mid new ex ey a b =
 
 pub line_first : (w h x0 y0 x1 y1 m px py g : ℕ) (old new : List ℕ) → px ≡ line_at x0 x1 m 0 → py ≡ line_at y0 y1 m 0 → Overlays w h (is_at px py) (λ _. g) old new → Overlays w h (line_upto x0 y0 x1 y1 m 1) (λ _. g) old new
 line_first w h x0 y0 x1 y1 m px py g old new ex ey a = agreeing w h _ _ _ old new a (λ x y hx hy. ap (λ (t : ℕ). is_at t py x y) ex ∙ ap (λ (t : ℕ). is_at (line_at x0 x1 m 0) t x y) ey ∙ sym (or_false (is_line_point x0 y0 x1 y1 m x y 0)))
+
+own_share : (d k : ℕ) → 0 < d → share d k d ≡ k
+own_share d k pos = ap (λ (n : ℕ). n / (2 * d)) (let e : 2 * k * d + d ≡ k * (2 * d) + d = omega arith in e) ∙ div-mul-add k (2 * d) d (omega arith)
+
+no_distance : (a : ℕ) → distance a a ≡ 0
+no_distance a = omega arith
+
+stands : (a : ℕ) → line_at a a 0 0 ≡ a
+stands a = ap (λ (d : ℕ). toward a a ((2 * 0 * d + 0) / (2 * 0))) (no_distance a) ∙ toward_here a where
+  toward_here : (a : ℕ) → toward a a 0 ≡ a
+  toward_here a = grind (arith, nat_tests)
+
+one_point : (x0 y0 x y : ℕ) → is_on_line x0 y0 x0 y0 x y ≡ (nat_eq x x0 && nat_eq y y0)
+one_point x0 y0 x y =
+    ap (λ (m : ℕ). list_any (λ k. is_line_point x0 y0 x0 y0 m x y k) (range_with_len 0 (m + 1))) (let e : line_len x0 y0 x0 y0 ≡ 0 = omega arith in e)
+    ∙ or_false (is_line_point x0 y0 x0 y0 0 x y 0)
+    ∙ ap (λ (a : ℕ). nat_eq x a && nat_eq y (line_at y0 y0 0 0)) (stands x0)
+    ∙ ap (λ (b : ℕ). nat_eq x x0 && nat_eq y b) (stands y0)
+
+pub steps_by_one : LinesStepByOne
+steps_by_one = (own_share, one_point)

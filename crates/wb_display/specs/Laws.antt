@@ -1,12 +1,12 @@
 -- Laws of what a page shows.
-use Rattle.std.specs.Prelude.{◌≡◌, ◌≢◌, ℕ, ◌↔◌, Bool, true, false, not, ◌&&◌, IsTrue, List, [], ◌∷◌, ◌++◌, All, Contains, IsPermutation, filter}
+use Rattle.std.specs.Prelude.{◌≡◌, ◌≢◌, ℕ, ◌<◌, ◌↔◌, Bool, true, false, not, ◌&&◌, IsTrue, List, [], ◌∷◌, ◌++◌, All, Contains, IsPermutation, filter, nat_eq}
 use Rattle.std.specs.List.{list_any}
 use Rattle.wb_names.specs.Values.{DrawopValue}
 use Rattle.wb_names.specs.History.{IsHistory}
 use Rattle.wb_names.specs.Listing.{Lists}
 use Rattle.wb_names.specs.Orders.{same_page, display_cmp}
 use Rattle.wb_names.specs.declared.name.PageId.{PageId}
-use Rattle.wb_display.specs.Canvas.{canvas_text}
+use Rattle.wb_display.specs.Canvas.{canvas_text, share, is_on_line}
 use Rattle.wb_display.specs.Display.{is_drawing, is_delete, is_restore, is_aimed_at, is_last_word, is_hidden_in, IsView}
 use Rattle.wb_display.specs.Layer.{held_after}
 
@@ -64,3 +64,8 @@ HoldsItsPage = (history : List DrawopValue) (page : PageId) → IsHistory histor
 -- Whatever is put, no name is held twice.
 abbrev pub HoldsAHistory : Type 0
 HoldsAHistory = (puts : List DrawopValue) (page : PageId) → IsHistory (held_after page puts)
+
+-- A line as it is walked: along the longer distance each point is one step on, and along the other it lies at the share
+-- of that many steps; equal ends give one point.
+abbrev pub LinesStepByOne : Type 0
+LinesStepByOne = ((d k : ℕ) → 0 < d → share d k d ≡ k) × ((x0 y0 x y : ℕ) → is_on_line x0 y0 x0 y0 x y ≡ (nat_eq x x0 && nat_eq y y0))

@@ -1,6 +1,6 @@
 //! Laws of what a page shows. Each function does nothing: its contract is a law, for proofs to cite.
 
-ghost use Rattle.wb_display.specs.Laws.{Converges, PaintsAlike, AgreesWithOlderRule, PutsShow, StandsAlone, HoldsItsPage, HoldsAHistory};
+ghost use Rattle.wb_display.specs.Laws.{Converges, PaintsAlike, AgreesWithOlderRule, PutsShow, StandsAlone, HoldsItsPage, HoldsAHistory, LinesStepByOne};
 
 /// Histories that hold the same drawops, in any order, show the same list on every page.
 pub fn order_is_free()
@@ -37,4 +37,10 @@ pub fn layer_holds_its_page()
 /// Whatever is put on a layer, it holds no name twice.
 pub fn layer_holds_a_history()
     ensures { HoldsAHistory }
+{}
+
+/// Each point of a line is one step on along the longer distance, and a line with equal ends is one
+/// point.
+pub fn line_steps()
+    ensures { LinesStepByOne }
 {}

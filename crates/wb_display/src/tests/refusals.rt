@@ -1,6 +1,6 @@
 //! Want of memory. Each call is made again where it was refused: one refusal changes nothing.
 
-use super::{make_samples, page};
+use super::{is_history, make_samples, page};
 use crate::{Canvas, CanvasFault, Layer, order};
 use std::test::Fail;
 
@@ -28,9 +28,11 @@ fn refused_views_and_canvases(rt: HostRuntime) -> Result<(), Fail> {
         Canvas::paint(rt.alloc(), &[s.a], 0, 3).err(),
         Some(CanvasFault::Size)
     );
-    let shown = match order(rt.alloc(), &[s.a], page(1)) {
+    let list = [s.a, s.c, s.x];
+    assert!(rt; is_history(&list));
+    let shown = match order(rt.alloc(), &list, page(1)) {
         Ok(shown) => shown,
-        Err(_) => order(rt.alloc(), &[s.a], page(1))?,
+        Err(_) => order(rt.alloc(), &list, page(1))?,
     };
     assert!(rt; shown.as_slice() == [s.a].as_slice());
     let canvas = match Canvas::paint(rt.alloc(), &shown, 5, 3) {

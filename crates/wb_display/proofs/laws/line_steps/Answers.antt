@@ -1,0 +1,5 @@
+use Rattle.wb_display.proofs.LineSteps.{steps_by_one}
+use Rattle.wb_display.proofs.laws.line_steps.Goals as goal
+
+pub returns : goal.returns
+returns c = steps_by_one
