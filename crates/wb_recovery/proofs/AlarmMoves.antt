@@ -87,6 +87,6 @@ module _ (dues : NameValue → Option ℕ) (name : NameValue) where
       keep e n
       ∙ same_bits (same_name name n) refl
       ∙ sym (is_set_to-cond (same_name name n) e o (dues n)) where
-    same_bits : (s : Bool) → same_name name n ≡ s → is_set_to e (dues n) ≡ cond s (is_set_to e o) (is_set_to e (dues n))
-    same_bits true h = ap (is_set_to e) (at_name o is n h)
-    same_bits false h = refl
+        same_bits : (s : Bool) → same_name name n ≡ s → is_set_to e (dues n) ≡ cond s (is_set_to e o) (is_set_to e (dues n))
+        same_bits true h = ap (is_set_to e) (at_name o is n h)
+        same_bits false h = refl

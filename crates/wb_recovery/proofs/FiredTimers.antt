@@ -12,6 +12,7 @@ due_answer_stands now s h = or_right (is_some s.ask) (is_some s.answer) (from s.
   or_right : (a b : Bool) → b ≡ true → (a || b) ≡ true
   or_right true b e = refl
   or_right false b e = e
+
   from : (o : Option AnswerTimer) → is_answer_due now o ≡ true → is_some o ≡ true
   from None e = absurd (true≢false (sym e))
   from (Some a) e = refl

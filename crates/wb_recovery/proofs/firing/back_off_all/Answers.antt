@@ -21,8 +21,8 @@ loop-count-preserved c =
     let had = c.timers_of-timers.ensures ∙ before_now xs i a c.requires.rising (omega arith) c.index-asking-count.is f g now new c.loop-count.invariant.written in
     let here = smaller_here xs i a c.requires.rising (omega arith) c.index-asking-count.is in
     let after = c.ask_fired.ensures.timers
-        ∙ ap (λ (s : Timers). record s { ask = fired_ask c.args.tuning c.args.now (slice_index c.args.words.now i) s.ask }) had
-        ∙ ap (λ (k : ℕ). record (f a) { ask = fired_ask c.args.tuning c.args.now (slice_index c.args.words.now k) (f a).ask }) (sym here) in
+    ∙ ap (λ (s : Timers). record s { ask = fired_ask c.args.tuning c.args.now (slice_index c.args.words.now i) s.ask }) had
+    ∙ ap (λ (k : ℕ). record (f a) { ask = fired_ask c.args.tuning c.args.now (slice_index c.args.words.now k) (f a).ask }) (sym here) in
     record {
       written = replaced_more xs i a c.requires.rising (omega arith) c.index-asking-count.is f g now new c.loop-count.invariant.written c.ask_fired.result c.rewrite.ensures.written after;
       delays = all_replaced a c.ask_fired.result now new c.rewrite.ensures.written AreDelays c.ask_fired.ensures.delays c.loop-count.invariant.delays;

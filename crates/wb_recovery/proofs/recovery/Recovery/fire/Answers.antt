@@ -70,7 +70,7 @@ invariant_of-self-2 c =
       ordered = c.answer_all.ensures.ordered;
       delays = c.answer_all.ensures.delays;
       asks = asks_kept c.self.inside.tuning a.now a.words.now f a.asking.now asking a.answering.now answering (timers_at c.back_off_all.new.records.entries) (timers_at c.answer_all.new.records.entries) c.back_off_all.ensures.written c.exchange.new.self c.answer_all.ensures.written
-        (c.in_ok-exchange.ensures.ok before after s.asks left taken);
+          (c.in_ok-exchange.ensures.ok before after s.asks left taken);
       answers = c.answer_all.ensures.kept;
     }
 
@@ -83,6 +83,6 @@ returns-clause-ok c =
     record {
       tuning = ap (λ (v : RecoveryValue). v.tuning) c.self.view_is;
       timers = λ n.
-        all_ticked c.self.inside.tuning a.now a.words.now f a.asking.now asking a.answering.now answering (timers_at c.back_off_all.new.records.entries) (timers_at c.answer_all.new.records.entries) c.back_off_all.ensures.written c.answer_all.ensures.written n
-        ∙ ap (λ (v : RecoveryValue). ticked v.tuning a.now (word_for a.words.now a.asking.now n) (timers_in v n)) c.self.view_is;
+          all_ticked c.self.inside.tuning a.now a.words.now f a.asking.now asking a.answering.now answering (timers_at c.back_off_all.new.records.entries) (timers_at c.answer_all.new.records.entries) c.back_off_all.ensures.written c.answer_all.ensures.written n
+          ∙ ap (λ (v : RecoveryValue). ticked v.tuning a.now (word_for a.words.now a.asking.now n) (timers_in v n)) c.self.view_is;
     }
