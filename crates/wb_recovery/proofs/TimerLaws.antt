@@ -144,3 +144,131 @@ answer_stands t (Tick now words ∷ events) n = fired_or now (timers_of t events
 -- ---- a name that no call names
 pub unnamed : UnnamedHasNone
 unnamed t events n not = ⊎_elim (λ (e : timers_of t events n ≡ no_timers). e) (λ (c : Contains (names_of events) n). absurd (not c)) (known t events n)
+
+-- ---- the level
+abbrev Counts : ℕ → Option AskTimer → Type 0
+Counts k o = IfSome o (λ ask. ask.level ≡ min k 16)
+
+set_counts : (a : AskTimer) → a.level ≡ 0 → (k : ℕ) (o : Option AskTimer) → Counts k o → Counts (cond (is_none o) 0 k) (cond (is_none o) (Some a) o)
+set_counts a z k None h = z
+set_counts a z k (Some b) h = h
+
+next_level : (k l : ℕ) → l ≡ min k 16 → min (l + 1) 16 ≡ min (k + 1) 16
+next_level k l h = omega arith
+
+up_counts : (t : Tuning) (now delay word k : ℕ) (a : AskTimer) (b : Bool) → a.level ≡ min k 16 → Counts (cond b (k + 1) k) (Some (cond b (backed_off t a now delay word) a))
+up_counts t now delay word k a true h = next_level k a.level h
+up_counts t now delay word k a false h = h
+
+heard_counts : (t : Tuning) (now delay word k : ℕ) (o : Option AskTimer) → Counts k o → Counts (cond (hears now o) (k + 1) k) (heard_ask t now delay word o)
+heard_counts t now delay word k None h = h
+heard_counts t now delay word k (Some a) h = up_counts t now delay word k a (nat_le a.deaf now) h
+
+fired_counts : (t : Tuning) (now word k : ℕ) (o : Option AskTimer) → Counts k o → Counts (cond (is_ask_due now o) (k + 1) k) (fired_ask t now word o)
+fired_counts t now word k None h = h
+fired_counts t now word k (Some a) h = up_counts t now a.delay word k a (nat_le a.due now) h
+
+none_counts : (k : ℕ) (o : Option AskTimer) → o ≡ None → Counts k o
+none_counts k o e = subst (Counts k) (sym e) tt
+
+pub level_counts : LevelCounts
+level_counts t [] n = tt
+level_counts t (Notice name now delay word ∷ events) n = from (same_name name n) (level_counts t events n) where
+  from : (b : Bool) → Counts (back_offs t n events) (timers_of t events n).ask → Counts (cond (b && is_none (timers_of t events n).ask) 0 (back_offs t n events)) (cond b (noticed t now delay word (timers_of t events n)) (timers_of t events n)).ask
+  from true h = subst (Counts (cond (is_none (timers_of t events n).ask) 0 (back_offs t n events))) (sym (noticed_ask t now delay word (timers_of t events n))) (set_counts (new_ask t now delay word) refl (back_offs t n events) (timers_of t events n).ask h)
+  from false h = h
+level_counts t (Asked name false now delay word ∷ events) n = from (same_name name n) (level_counts t events n) where
+  from : (b : Bool) → Counts (back_offs t n events) (timers_of t events n).ask → Counts (cond (b && hears now (timers_of t events n).ask) (back_offs t n events + 1) (back_offs t n events)) (cond b (asked t false now delay word (timers_of t events n)) (timers_of t events n)).ask
+  from true h = heard_counts t now delay word (back_offs t n events) (timers_of t events n).ask h
+  from false h = h
+level_counts t (Asked name true now delay word ∷ events) n = from (same_name name n) (level_counts t events n) where
+  from : (b : Bool) → Counts (back_offs t n events) (timers_of t events n).ask → Counts (back_offs t n events) (cond b (asked t true now delay word (timers_of t events n)) (timers_of t events n)).ask
+  from true h = subst (Counts (back_offs t n events)) (sym (asked_ask t now delay word (timers_of t events n))) h
+  from false h = h
+level_counts t (Got name now delay ∷ events) n = from (same_name name n) (level_counts t events n) where
+  from : (b : Bool) → Counts (back_offs t n events) (timers_of t events n).ask → Counts (back_offs t n events) (cond b (got now delay (timers_of t events n)) (timers_of t events n)).ask
+  from true h = none_counts (back_offs t n events) (got now delay (timers_of t events n)).ask (got_ask now delay (timers_of t events n))
+  from false h = h
+level_counts t (Tick now words ∷ events) n = fired_counts t now (word_for words (due_asks (names_of events) (λ m. timers_of t events m) now) n) (back_offs t n events) (timers_of t events n).ask (level_counts t events n)
+
+-- ---- what other calls leave
+not_heard : (t : Tuning) (now delay word : ℕ) (o : Option AskTimer) → hears now o ≡ false → heard_ask t now delay word o ≡ o
+not_heard t now delay word None e = refl
+not_heard t now delay word (Some a) e = ap (λ (b : Bool). Some (cond b (backed_off t a now delay word) a)) e
+
+pub request_stays : RequestStays
+request_stays t (Notice name now delay word) events n p q r = from (same_name name n) p where
+  from : (b : Bool) → (b && is_none (timers_of t events n).ask) ≡ false → (cond b (noticed t now delay word (timers_of t events n)) (timers_of t events n)).ask ≡ (timers_of t events n).ask
+  from true h = noticed_ask t now delay word (timers_of t events n) ∙ ap (λ (b : Bool). cond b (Some (new_ask t now delay word)) (timers_of t events n).ask) h
+  from false h = refl
+request_stays t (Asked name false now delay word) events n p q r = from (same_name name n) q where
+  from : (b : Bool) → (b && hears now (timers_of t events n).ask) ≡ false → (cond b (asked t false now delay word (timers_of t events n)) (timers_of t events n)).ask ≡ (timers_of t events n).ask
+  from true h = not_heard t now delay word (timers_of t events n).ask h
+  from false h = refl
+request_stays t (Asked name true now delay word) events n p q r = from (same_name name n) where
+  from : (b : Bool) → (cond b (asked t true now delay word (timers_of t events n)) (timers_of t events n)).ask ≡ (timers_of t events n).ask
+  from true = asked_ask t now delay word (timers_of t events n)
+  from false = refl
+request_stays t (Got name now delay) events n p q r = ap (λ (b : Bool). (cond b (got now delay (timers_of t events n)) (timers_of t events n)).ask) r
+request_stays t (Tick now words) events n p q r = ask_stays t now (word_for words (due_asks (names_of events) (λ m. timers_of t events m) now) n) (timers_of t events n).ask q
+
+pub answer_stays_set : AnswerStays
+answer_stays_set t (Notice name now delay word) events n p q = from (same_name name n) where
+  from : (b : Bool) → (cond b (noticed t now delay word (timers_of t events n)) (timers_of t events n)).answer ≡ (timers_of t events n).answer
+  from true = noticed_answer t now delay word (timers_of t events n)
+  from false = refl
+answer_stays_set t (Asked name false now delay word) events n p q = from (same_name name n) where
+  from : (b : Bool) → (cond b (asked t false now delay word (timers_of t events n)) (timers_of t events n)).answer ≡ (timers_of t events n).answer
+  from true = refl
+  from false = refl
+answer_stays_set t (Asked name true now delay word) events n p q = from (same_name name n) p where
+  from : (b : Bool) → (b && (is_none (timers_of t events n).answer && nat_le (timers_of t events n).quiet now)) ≡ false → (cond b (asked t true now delay word (timers_of t events n)) (timers_of t events n)).answer ≡ (timers_of t events n).answer
+  from true h = asked_answer t now delay word (timers_of t events n) ∙ ap (λ (b : Bool). cond b (Some (new_answer t now delay word)) (timers_of t events n).answer) h
+  from false h = refl
+answer_stays_set t (Got name now delay) events n p q = ap (λ (b : Bool). (cond b (got now delay (timers_of t events n)) (timers_of t events n)).answer) q
+answer_stays_set t (Tick now words) events n p q = answer_stays now (timers_of t events n).answer q
+
+pub quiet_stays_left : QuietStays
+quiet_stays_left t (Notice name now delay word) events n p = from (same_name name n) where
+  from : (b : Bool) → (cond b (noticed t now delay word (timers_of t events n)) (timers_of t events n)).quiet ≡ (timers_of t events n).quiet
+  from true = noticed_quiet t now delay word (timers_of t events n)
+  from false = refl
+quiet_stays_left t (Asked name false now delay word) events n p = from (same_name name n) where
+  from : (b : Bool) → (cond b (asked t false now delay word (timers_of t events n)) (timers_of t events n)).quiet ≡ (timers_of t events n).quiet
+  from true = refl
+  from false = refl
+quiet_stays_left t (Asked name true now delay word) events n p = from (same_name name n) where
+  from : (b : Bool) → (cond b (asked t true now delay word (timers_of t events n)) (timers_of t events n)).quiet ≡ (timers_of t events n).quiet
+  from true = asked_quiet t now delay word (timers_of t events n)
+  from false = refl
+quiet_stays_left t (Got name now delay) events n p = from (same_name name n) p where
+  from : (b : Bool) → (b && is_standing (timers_of t events n)) ≡ false → (cond b (got now delay (timers_of t events n)) (timers_of t events n)).quiet ≡ (timers_of t events n).quiet
+  from true h = ap (λ (b : Bool). (cond b (record { ask = None; answer = None; quiet = now + 3 * delay }) (timers_of t events n)).quiet) h
+  from false h = refl
+quiet_stays_left t (Tick now words) events n p = quiet_stays now (timers_of t events n).quiet (timers_of t events n).answer p
+
+deaf_hears_none : (now : ℕ) (o : Option AskTimer) → IfSome o (λ ask. now < ask.deaf) → hears now o ≡ false
+deaf_hears_none now None h = refl
+deaf_hears_none now (Some a) h = past now a.deaf h where
+  past : (m d : ℕ) → m < d → nat_le d m ≡ false
+  past m d l = grind (arith, nat_tests)
+
+pub deaf_stays : DeafStays
+deaf_stays t events name n now delay word h = from (same_name name n) refl where
+  from : (b : Bool) → same_name name n ≡ b → cond b (asked t false now delay word (timers_of t events n)) (timers_of t events n) ≡ timers_of t events n
+  from true e = ap (λ (o : Option AskTimer). record (timers_of t events n) { ask = o }) (not_heard t now delay word (timers_of t events n).ask (deaf_hears_none now (timers_of t events n).ask (subst (λ (m : NameValue). IfSome (timers_of t events m).ask (λ ask. now < ask.deaf)) (same_name-is name n e) h)))
+  from false e = refl
+
+pub quiet_is_not_answered : QuietIsNotAnswered
+quiet_is_not_answered t events name n now delay word h = from (same_name name n) refl where
+  past : (m d : ℕ) → m < d → nat_le d m ≡ false
+  past m d l = grind (arith, nat_tests)
+  none : (b : Bool) → (b && false) ≡ false
+  none true = refl
+  none false = refl
+  from : (b : Bool) → same_name name n ≡ b → cond b (asked t true now delay word (timers_of t events n)) (timers_of t events n) ≡ timers_of t events n
+  from true e =
+      let quiet = subst (λ (m : NameValue). now < (timers_of t events m).quiet) (same_name-is name n e) h in
+      ap (λ (c : Bool). cond (is_none (timers_of t events n).answer && c) (record (timers_of t events n) { answer = Some (new_answer t now delay word) }) (timers_of t events n)) (past now (timers_of t events n).quiet quiet)
+      ∙ ap (λ (c : Bool). cond c (record (timers_of t events n) { answer = Some (new_answer t now delay word) }) (timers_of t events n)) (none (is_none (timers_of t events n).answer))
+  from false e = refl
