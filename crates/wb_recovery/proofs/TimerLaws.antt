@@ -263,9 +263,11 @@ pub quiet_is_not_answered : QuietIsNotAnswered
 quiet_is_not_answered t events name n now delay word h = from (same_name name n) refl where
   past : (m d : ℕ) → m < d → nat_le d m ≡ false
   past m d l = grind (arith, nat_tests)
+
   none : (b : Bool) → (b && false) ≡ false
   none true = refl
   none false = refl
+
   from : (b : Bool) → same_name name n ≡ b → cond b (asked t true now delay word (timers_of t events n)) (timers_of t events n) ≡ timers_of t events n
   from true e =
       let quiet = subst (λ (m : NameValue). now < (timers_of t events m).quiet) (same_name-is name n e) h in

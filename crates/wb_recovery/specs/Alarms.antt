@@ -55,10 +55,6 @@ pub record Keep (dues : NameValue → Option ℕ) (alarms : Alarms) : Type 0 whe
 abbrev pub with_due : (NameValue → Option ℕ) → NameValue → Option ℕ → NameValue → Option ℕ
 with_due dues name due n = if same_name name n then due else dues n
 
--- the moments without those that have come
-abbrev pub later : (NameValue → Option ℕ) → ℕ → NameValue → Option ℕ
-later dues now n = if is_until now (dues n) then None else dues n
-
 -- how many timers there are, and how many are due by this moment
 abbrev pub CountsAll : (NameValue → Option ℕ) → ℕ → Type 0
 CountsAll dues k = (names : List NameValue) → Lists name_cmp (λ n. is_some (dues n) ≡ true) names → k ≡ length names
