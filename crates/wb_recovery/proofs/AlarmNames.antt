@@ -1,6 +1,6 @@
 -- The names of the alarms: each once, and just those with a timer.
-use Rattle.std.proofs.Common.{◌≡◌, ◌≢◌, ℕ, ◌<◌, ◌≤◌, Bool, true, false, cond, List, [], ◌∷◌, length, refl, ap, ◌∙◌, sym, subst, Option, Some, None, arith, eqb-true, true≢false, ⊎_elim}
-use Rattle.std.specs.Prelude.{nat_eq, nat_le, Contains, Any, filter, map, take_while, ◌&&◌, is_some, IsPermutation}
+use Rattle.std.proofs.Common.{◌≡◌, ℕ, ◌≤◌, Bool, true, false, cond, List, [], ◌∷◌, length, refl, ap, ◌∙◌, sym, subst, Option, Some, None, arith, eqb-true, true≢false}
+use Rattle.std.specs.Prelude.{nat_eq, nat_le, Contains, filter, map, take_while, is_some, IsPermutation}
 use Rattle.std.specs.Bool.{Decides, one_answer}
 use Rattle.std.specs.Cmp.{eq_by_cmp_equiv}
 use Rattle.std.specs.List.{list_any, AllByRecursion, IsDistinct}
@@ -8,21 +8,21 @@ use Rattle.std.specs.List.Sorted.{IsStrictlySortedBy, IsSorted}
 use Rattle.std.specs.Set.{is_member}
 use Rattle.std.specs.Ordering.{is_eq, eq_by_cmp, nat_cmp, ordering_then}
 use Rattle.std.specs.declared.cmp.Ordering.{Ordering}
-use Rattle.std.specs.declared.cmp.Ordering.TheVariants.{Less, Equal, Greater}
+use Rattle.std.specs.declared.cmp.Ordering.TheVariants.{Less}
 use Rattle.std.proofs.lemmas.Bool.Decides.{nat_tests}
 use Rattle.std.proofs.lemmas.List.{length-map}
 use Rattle.std.proofs.lemmas.List.Kept.{IsStrictlySortedBy-filter}
 use Rattle.std.proofs.lemmas.List.Sorted.{Contains-permutation, IsPermutation-sym}
 use Rattle.std.proofs.lemmas.List.Sums.{take_while-cons}
-use Rattle.std.proofs.lemmas.Map.Keys.{sorted_head, sorted_tail, IsDistinct-cons, IsDistinct-from_sorted, IsDistinct-IsPermutation}
+use Rattle.std.proofs.lemmas.Map.Keys.{sorted_tail, IsDistinct-cons, IsDistinct-from_sorted, IsDistinct-IsPermutation}
 use Rattle.std.proofs.lemmas.Map.Made.{length-from_same_keys, is_member-Decides}
 use Rattle.std.proofs.lemmas.Map.Views.{Contains-from_any, list_any-from_Contains}
 use Rattle.wb_names.specs.Values.{NameValue}
 use Rattle.wb_names.specs.Orders.{name_cmp, same_name}
 use Rattle.wb_names.specs.Listing.{Lists}
 use Rattle.wb_names.proofs.Orders.{name_total, same_name-is, and_both}
-use Rattle.wb_names.proofs.Listings.{Contains-here, Contains-there, Contains-cases, Contains-none, Contains-filter, Contains-from_filter, Contains-map, Any-from_map, below_all, strictly_sorted}
-use Rattle.wb_recovery.specs.Alarms.{alarm_cmp, alarm, is_due_where, is_until, CountsAll, CountsUntil}
+use Rattle.wb_names.proofs.Listings.{Contains-here, Contains-there, Contains-filter, Contains-from_filter, Contains-map, Any-from_map, below_all, strictly_sorted}
+use Rattle.wb_recovery.specs.Alarms.{alarm_cmp, alarm, is_due_where}
 use Rattle.wb_recovery.specs.Timing.{is_set_to}
 use Rattle.wb_recovery.specs.declared.alarms.Alarm.{Alarm}
 use Rattle.wb_recovery.proofs.AlarmOrder.{alarm_total, alarm_ties, name_ties}

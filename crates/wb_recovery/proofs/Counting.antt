@@ -1,5 +1,5 @@
 -- How many names have a timer, and which timer is due next.
-use Rattle.std.proofs.Common.{◌≡◌, ℕ, ◌≤◌, Bool, true, false, List, refl, ap, ◌∙◌, sym, subst, Option, Some, None, ◌⊎◌, inl, inr, ⊎_elim, true≢false, arith, length}
+use Rattle.std.proofs.Common.{◌≡◌, ℕ, ◌≤◌, Bool, true, false, refl, ap, ◌∙◌, sym, Option, Some, None, ◌⊎◌, inl, inr, ⊎_elim, arith, length}
 use Rattle.std.specs.Prelude.{is_some, ◌||◌}
 use Rattle.std.specs.List.Sorted.{IsStrictlySortedBy}
 use Rattle.wb_names.specs.Values.{NameValue}

@@ -1,13 +1,13 @@
 -- Proofs of the laws of timers.
-use Rattle.std.proofs.Common.{◌≡◌, ℕ, ◌+◌, ◌*◌, ◌<◌, Bool, true, false, cond, List, [], ◌∷◌, refl, ap, ◌∙◌, sym, subst, Option, Some, None, ◌⊎◌, ⊎_elim, true≢false, arith, min}
+use Rattle.std.proofs.Common.{◌≡◌, ℕ, ◌+◌, ◌*◌, ◌<◌, Bool, true, false, cond, [], ◌∷◌, refl, ap, ◌∙◌, sym, subst, Option, Some, None, ⊎_elim, arith, min}
 use Rattle.std.specs.Prelude.{◌&&◌, ◌||◌, IfSome, is_some, is_none, nat_le, Contains}
 use Rattle.std.proofs.lemmas.Bool.Decides.{nat_tests}
 use Rattle.wb_names.specs.Values.{NameValue}
 use Rattle.wb_names.specs.Orders.{same_name}
 use Rattle.wb_names.proofs.Orders.{same_name-is}
-use Rattle.wb_recovery.specs.Timing.{no_timers, new_ask, new_answer, backed_off, heard_ask, fired_ask, fired_answer, quiet_after, noticed, asked, got, ticked, is_ask_due, is_answer_due, is_standing}
-use Rattle.wb_recovery.specs.Events.{Event, Notice, Asked, Got, Tick, names_of, timers_of, due_asks, word_for}
-use Rattle.wb_recovery.specs.Laws.{since, notices, arrives, sets_ask, hears, backs_off, back_offs, sets_answer, ends_answer, quiets, RequestStands, AnswerStands, LevelCounts, RequestStays, AnswerStays, QuietStays, DeafStays, QuietIsNotAnswered, UnnamedHasNone}
+use Rattle.wb_recovery.specs.Timing.{no_timers, new_ask, new_answer, backed_off, heard_ask, fired_ask, fired_answer, noticed, asked, got, is_ask_due, is_answer_due, is_standing}
+use Rattle.wb_recovery.specs.Events.{Notice, Asked, Got, Tick, names_of, timers_of, due_asks, word_for}
+use Rattle.wb_recovery.specs.Laws.{since, notices, arrives, hears, back_offs, sets_answer, ends_answer, RequestStands, AnswerStands, LevelCounts, RequestStays, AnswerStays, QuietStays, DeafStays, QuietIsNotAnswered, UnnamedHasNone}
 use Rattle.wb_recovery.specs.declared.tuning.Tuning.{Tuning}
 use Rattle.wb_recovery.specs.declared.timers.AskTimer.{AskTimer}
 use Rattle.wb_recovery.specs.declared.timers.AnswerTimer.{AnswerTimer}

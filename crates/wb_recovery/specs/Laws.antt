@@ -1,12 +1,11 @@
 -- Laws of the timers, over any list of calls: each tells the timers by the calls themselves, and not step by step.
-use Rattle.std.specs.Prelude.{◌≡◌, ◌≢◌, ℕ, ◌+◌, ◌*◌, ◌<◌, Bool, true, false, not, ◌&&◌, ◌||◌, List, [], ◌∷◌, Option, Some, None, IfSome, is_some, is_none, min, nat_le, Contains, if◌then◌else◌}
+use Rattle.std.specs.Prelude.{◌≡◌, ℕ, ◌+◌, ◌<◌, Bool, true, false, ◌&&◌, ◌||◌, List, [], ◌∷◌, Option, Some, None, IfSome, is_some, is_none, min, nat_le, Contains, if◌then◌else◌}
 use Rattle.wb_names.specs.Values.{NameValue}
 use Rattle.wb_names.specs.Orders.{same_name}
-use Rattle.wb_recovery.specs.Timing.{no_timers, new_ask, new_answer, backed_off, is_ask_due, is_answer_due, is_standing}
+use Rattle.wb_recovery.specs.Timing.{no_timers, is_ask_due, is_answer_due, is_standing}
 use Rattle.wb_recovery.specs.Events.{Event, Notice, Asked, Got, Tick, names_of, timers_of}
 use Rattle.wb_recovery.specs.declared.tuning.Tuning.{Tuning}
 use Rattle.wb_recovery.specs.declared.timers.AskTimer.{AskTimer}
-use Rattle.wb_recovery.specs.declared.timers.AnswerTimer.{AnswerTimer}
 
 -- Some call starts a thing, and no call since then ends it. Each is told by the call and those before it.
 abbrev pub since : (Event → List Event → Bool) → (Event → List Event → Bool) → List Event → Bool

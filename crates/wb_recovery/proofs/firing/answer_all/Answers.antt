@@ -1,9 +1,8 @@
-use Rattle.std.proofs.Common.{◌≡◌, ◌∙◌, sym, ap, ℕ, Option, None, arith}
+use Rattle.std.proofs.Common.{◌∙◌, sym, ap, None, arith}
 use Rattle.wb_names.specs.Values.{NameValue}
 use Rattle.wb_recovery.specs.Timing.{is_standing, is_answer_due, answer_due, answer_moment, AreDelays}
 use Rattle.wb_recovery.specs.Values.{timers_at}
 use Rattle.wb_recovery.specs.Firing.{with_answer_fired}
-use Rattle.wb_recovery.specs.declared.timers.AnswerTimer.{AnswerTimer}
 use Rattle.wb_recovery.specs.declared.timers.Timers.{Timers}
 use Rattle.wb_recovery.proofs.NameRows.{before_now, replaced_more, contains_here}
 use Rattle.wb_recovery.proofs.FiredTimers.{due_answer_stands, due_answer_ends}

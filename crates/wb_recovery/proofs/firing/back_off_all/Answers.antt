@@ -1,6 +1,5 @@
 use Rattle.std.proofs.Common.{◌∙◌, sym, ap, ℕ, arith}
 use Rattle.std.specs.Prelude.{slice_index}
-use Rattle.wb_names.specs.Values.{NameValue}
 use Rattle.wb_recovery.specs.Timing.{fired_ask, AreDelays}
 use Rattle.wb_recovery.specs.Values.{timers_at}
 use Rattle.wb_recovery.specs.Firing.{with_ask_fired}

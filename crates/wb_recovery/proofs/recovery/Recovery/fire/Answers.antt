@@ -1,4 +1,4 @@
-use Rattle.std.proofs.Common.{◌≡◌, ◌∙◌, sym, ap, subst, true, List}
+use Rattle.std.proofs.Common.{◌≡◌, ◌∙◌, sym, ap, subst, true}
 use Rattle.wb_names.specs.Values.{NameValue}
 use Rattle.wb_names.specs.Orders.{name_cmp}
 use Rattle.wb_names.specs.Listing.{Lists}
@@ -7,8 +7,6 @@ use Rattle.wb_recovery.specs.Values.{RecoveryValue, timers_at, timers_in}
 use Rattle.wb_recovery.specs.Alarms.{AreLeft}
 use Rattle.wb_recovery.specs.Events.{word_for}
 use Rattle.wb_recovery.specs.Firing.{with_ask_fired}
-use Rattle.wb_recovery.specs.declared.alarms.Alarm.{Alarm}
-use Rattle.wb_recovery.specs.declared.timers.Timers.{Timers}
 use Rattle.wb_recovery.proofs.FiredTimers.{due_ask_stands}
 use Rattle.wb_recovery.proofs.Ticking.{asks_left, asks_taken, due_answers_stay, all_ticked, asks_kept, answers_kept}
 use Rattle.wb_recovery.proofs.recovery.Recovery.fire.Goals as goal
