@@ -1,13 +1,12 @@
 -- What a recovery stands for once it has accepted a call about one name.
-use Rattle.std.proofs.Common.{◌≡◌, ℕ, ◌+◌, ◌*◌, Bool, true, false, cond, Option, None, List, ◌∷◌, refl, ap, ◌∙◌, sym, subst}
-use Rattle.std.specs.Prelude.{map}
+use Rattle.std.proofs.Common.{◌≡◌, ℕ, ◌+◌, ◌*◌, Bool, true, false, cond, None, List, ◌∷◌, refl, ap, ◌∙◌, sym}
 use Rattle.wb_names.specs.Values.{NameValue}
 use Rattle.wb_names.specs.Orders.{same_name}
 use Rattle.wb_names.proofs.Orders.{same_name-is}
 use Rattle.wb_recovery.specs.Values.{RecoveryValue, timers_at, timers_in, Replaces}
 use Rattle.wb_recovery.specs.Events.{Event, moment_of, timers_of}
 use Rattle.wb_recovery.specs.Timing.{is_standing, got}
-use Rattle.wb_recovery.specs.Standing.{StandsFor, Accepts}
+use Rattle.wb_recovery.specs.Standing.{Accepts}
 use Rattle.wb_recovery.specs.declared.tuning.Tuning.{Tuning}
 use Rattle.wb_recovery.specs.declared.timers.Timers.{Timers}
 

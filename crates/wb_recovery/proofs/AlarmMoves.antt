@@ -1,7 +1,7 @@
 -- What becomes of the alarms when one is set, moved or taken away.
-use Rattle.std.proofs.Common.{◌≡◌, ℕ, Bool, true, false, cond, refl, ap, ◌∙◌, sym, subst, Option, Some, None, arith, eqb-true, true≢false}
-use Rattle.std.specs.Prelude.{nat_eq, ◌&&◌, ◌||◌, not}
-use Rattle.std.specs.Ordering.{is_eq, eq_by_cmp}
+use Rattle.std.proofs.Common.{◌≡◌, ℕ, Bool, true, false, cond, refl, ap, ◌∙◌, sym, subst, Option, Some, None, arith}
+use Rattle.std.specs.Prelude.{nat_eq, ◌&&◌}
+use Rattle.std.specs.Ordering.{is_eq}
 use Rattle.std.proofs.lemmas.Bool.Decides.{nat_tests}
 use Rattle.wb_names.specs.Values.{NameValue}
 use Rattle.wb_names.specs.Orders.{same_name}
@@ -87,6 +87,6 @@ module _ (dues : NameValue → Option ℕ) (name : NameValue) where
       keep e n
       ∙ same_bits (same_name name n) refl
       ∙ sym (is_set_to-cond (same_name name n) e o (dues n)) where
-    same_bits : (s : Bool) → same_name name n ≡ s → is_set_to e (dues n) ≡ cond s (is_set_to e o) (is_set_to e (dues n))
-    same_bits true h = ap (is_set_to e) (at_name o is n h)
-    same_bits false h = refl
+        same_bits : (s : Bool) → same_name name n ≡ s → is_set_to e (dues n) ≡ cond s (is_set_to e o) (is_set_to e (dues n))
+        same_bits true h = ap (is_set_to e) (at_name o is n h)
+        same_bits false h = refl

@@ -1,6 +1,6 @@
 -- The names of the alarms: each once, and just those with a timer.
-use Rattle.std.proofs.Common.{◌≡◌, ◌≢◌, ℕ, ◌<◌, ◌≤◌, Bool, true, false, cond, List, [], ◌∷◌, length, refl, ap, ◌∙◌, sym, subst, Option, Some, None, arith, eqb-true, true≢false, ⊎_elim}
-use Rattle.std.specs.Prelude.{nat_eq, nat_le, Contains, Any, filter, map, take_while, ◌&&◌, is_some, IsPermutation}
+use Rattle.std.proofs.Common.{◌≡◌, ℕ, ◌≤◌, Bool, true, false, cond, List, [], ◌∷◌, length, refl, ap, ◌∙◌, sym, subst, Option, Some, None, arith, eqb-true, true≢false}
+use Rattle.std.specs.Prelude.{nat_eq, nat_le, Contains, filter, map, take_while, is_some, IsPermutation}
 use Rattle.std.specs.Bool.{Decides, one_answer}
 use Rattle.std.specs.Cmp.{eq_by_cmp_equiv}
 use Rattle.std.specs.List.{list_any, AllByRecursion, IsDistinct}
@@ -8,21 +8,21 @@ use Rattle.std.specs.List.Sorted.{IsStrictlySortedBy, IsSorted}
 use Rattle.std.specs.Set.{is_member}
 use Rattle.std.specs.Ordering.{is_eq, eq_by_cmp, nat_cmp, ordering_then}
 use Rattle.std.specs.declared.cmp.Ordering.{Ordering}
-use Rattle.std.specs.declared.cmp.Ordering.TheVariants.{Less, Equal, Greater}
+use Rattle.std.specs.declared.cmp.Ordering.TheVariants.{Less}
 use Rattle.std.proofs.lemmas.Bool.Decides.{nat_tests}
 use Rattle.std.proofs.lemmas.List.{length-map}
 use Rattle.std.proofs.lemmas.List.Kept.{IsStrictlySortedBy-filter}
 use Rattle.std.proofs.lemmas.List.Sorted.{Contains-permutation, IsPermutation-sym}
 use Rattle.std.proofs.lemmas.List.Sums.{take_while-cons}
-use Rattle.std.proofs.lemmas.Map.Keys.{sorted_head, sorted_tail, IsDistinct-cons, IsDistinct-from_sorted, IsDistinct-IsPermutation}
+use Rattle.std.proofs.lemmas.Map.Keys.{sorted_tail, IsDistinct-cons, IsDistinct-from_sorted, IsDistinct-IsPermutation}
 use Rattle.std.proofs.lemmas.Map.Made.{length-from_same_keys, is_member-Decides}
 use Rattle.std.proofs.lemmas.Map.Views.{Contains-from_any, list_any-from_Contains}
 use Rattle.wb_names.specs.Values.{NameValue}
 use Rattle.wb_names.specs.Orders.{name_cmp, same_name}
 use Rattle.wb_names.specs.Listing.{Lists}
 use Rattle.wb_names.proofs.Orders.{name_total, same_name-is, and_both}
-use Rattle.wb_names.proofs.Listings.{Contains-here, Contains-there, Contains-cases, Contains-none, Contains-filter, Contains-from_filter, Contains-map, Any-from_map, below_all, strictly_sorted}
-use Rattle.wb_recovery.specs.Alarms.{alarm_cmp, alarm, is_due_where, is_until, CountsAll, CountsUntil}
+use Rattle.wb_names.proofs.Listings.{Contains-here, Contains-there, Contains-filter, Contains-from_filter, Contains-map, Any-from_map, below_all, strictly_sorted}
+use Rattle.wb_recovery.specs.Alarms.{alarm_cmp, alarm, is_due_where}
 use Rattle.wb_recovery.specs.Timing.{is_set_to}
 use Rattle.wb_recovery.specs.declared.alarms.Alarm.{Alarm}
 use Rattle.wb_recovery.proofs.AlarmOrder.{alarm_total, alarm_ties, name_ties}
@@ -36,8 +36,8 @@ same_alarm-is : (a b : Alarm) → eq_by_cmp alarm_cmp a b ≡ true → a ≡ b
 same_alarm-is a b e =
     let h = and_both (nat_eq a.due b.due) (same_name a.name b.name) (sym (alarm_ties a.due b.due a.name b.name) ∙ e) in
     parts a.due b.due a.name b.name (eqb-true a.due b.due h.0) (same_name-is a.name b.name h.1) where
-  parts : (d e : ℕ) (m n : NameValue) → d ≡ e → m ≡ n → alarm d m ≡ alarm e n
-  parts d e m n p q = cc
+      parts : (d e : ℕ) (m n : NameValue) → d ≡ e → m ≡ n → alarm d m ≡ alarm e n
+      parts d e m n p q = cc
 
 not_below_itself : (a : Alarm) → alarm_cmp a a ≡ Less → ⊥
 not_below_itself a less = true≢false (sym ((eq_by_cmp_equiv alarm_total).refl a) ∙ ap is_eq less)
@@ -53,20 +53,21 @@ module _ (dues : NameValue → Option ℕ) where
       IsDistinct-cons (eq_by_cmp name_cmp) x.name (map (λ a. a.name) xs)
       (apart xs (λ a h. h))
       (distinct_names xs (sorted_tail alarm_cmp x xs s) (λ a h. f a (Contains-there x a xs h))) where
-    differ : (a : Alarm) → Contains xs a → (b : Bool) → eq_by_cmp name_cmp x.name a.name ≡ b → b ≡ false
-    differ a h false e = refl
-    differ a h true e =
-        let same : x.name ≡ a.name = (name_decides x.name a.name).0 e in
-        let now : Some x.due ≡ Some a.due = sym (f x (Contains-here x xs)) ∙ ap dues same ∙ f a (Contains-there x a xs h) in
-        let due : x.due ≡ a.due = cc in
-        let one : x ≡ a = parts x.due a.due x.name a.name due same in
-        let less : alarm_cmp x a ≡ Less = below_all alarm_total x a xs s h in
-        absurd (not_below_itself x (subst (λ (b : Alarm). alarm_cmp x b ≡ Less) (sym one) less)) where
-      parts : (d e : ℕ) (m n : NameValue) → d ≡ e → m ≡ n → alarm d m ≡ alarm e n
-      parts d e m n p q = cc
-    apart : (ys : List Alarm) → ((a : Alarm) → Contains ys a → Contains xs a) → AllByRecursion (λ n. eq_by_cmp name_cmp x.name n ≡ false) (map (λ a. a.name) ys)
-    apart [] g = tt
-    apart (y ∷ ys) g = (differ y (g y (Contains-here y ys)) _ refl, apart ys (λ a h. g a (Contains-there y a ys h)))
+        differ : (a : Alarm) → Contains xs a → (b : Bool) → eq_by_cmp name_cmp x.name a.name ≡ b → b ≡ false
+        differ a h false e = refl
+        differ a h true e =
+            let same : x.name ≡ a.name = (name_decides x.name a.name).0 e in
+            let now : Some x.due ≡ Some a.due = sym (f x (Contains-here x xs)) ∙ ap dues same ∙ f a (Contains-there x a xs h) in
+            let due : x.due ≡ a.due = cc in
+            let one : x ≡ a = parts x.due a.due x.name a.name due same in
+            let less : alarm_cmp x a ≡ Less = below_all alarm_total x a xs s h in
+            absurd (not_below_itself x (subst (λ (b : Alarm). alarm_cmp x b ≡ Less) (sym one) less)) where
+              parts : (d e : ℕ) (m n : NameValue) → d ≡ e → m ≡ n → alarm d m ≡ alarm e n
+              parts d e m n p q = cc
+
+        apart : (ys : List Alarm) → ((a : Alarm) → Contains ys a → Contains xs a) → AllByRecursion (λ n. eq_by_cmp name_cmp x.name n ≡ false) (map (λ a. a.name) ys)
+        apart [] g = tt
+        apart (y ∷ ys) g = (differ y (g y (Contains-here y ys)) _ refl, apart ys (λ a h. g a (Contains-there y a ys h)))
 
   module _ (ks : List Alarm) (s : IsStrictlySortedBy alarm_cmp ks) (keep : (d : ℕ) (n : NameValue) → list_any (eq_by_cmp alarm_cmp (alarm d n)) ks ≡ is_set_to d (dues n)) where
     due_of : (a : Alarm) → Contains ks a → dues a.name ≡ Some a.due
@@ -86,10 +87,10 @@ module _ (dues : NameValue → Option ℕ) where
       name_passes n h =
           let found = Any-from_map (λ (a : Alarm). a.name) (filter (λ (a : Alarm). p a.due) ks) n h in
           passed found.1 (found.0, found.2, found.3) found.4 where
-        passed : (a : Alarm) → Contains (filter (λ (b : Alarm). p b.due) ks) a → a.name ≡ n → is_due_where p (dues n) ≡ true
-        passed a g e =
-            let r = Contains-from_filter (λ (b : Alarm). p b.due) ks a g in
-            subst (λ (m : NameValue). is_due_where p (dues m) ≡ true) e (ap (is_due_where p) (due_of a r.0) ∙ r.1)
+            passed : (a : Alarm) → Contains (filter (λ (b : Alarm). p b.due) ks) a → a.name ≡ n → is_due_where p (dues n) ≡ true
+            passed a g e =
+                let r = Contains-from_filter (λ (b : Alarm). p b.due) ks a g in
+                subst (λ (m : NameValue). is_due_where p (dues m) ≡ true) e (ap (is_due_where p) (due_of a r.0) ∙ r.1)
 
       pub passes_name : (n : NameValue) → is_due_where p (dues n) ≡ true → Contains names n
       passes_name n = from (dues n) refl where

@@ -1,6 +1,6 @@
 -- What alarms tell of the moments that they keep.
-use Rattle.std.proofs.Common.{◌≡◌, ◌≢◌, ℕ, ◌<◌, ◌≤◌, Bool, true, false, List, [], ◌∷◌, length, refl, ap, ◌∙◌, sym, subst, Option, Some, None, arith, eqb-true, true≢false}
-use Rattle.std.specs.Prelude.{nat_eq, IsTrue}
+use Rattle.std.proofs.Common.{◌≡◌, ℕ, true, false, List, [], ◌∷◌, length, refl, ap, ◌∙◌, sym, Option, Some, None, arith, eqb-true, true≢false}
+use Rattle.std.specs.Prelude.{IsTrue}
 use Rattle.std.specs.BTreeSet.{BTreeSet, contains, IsLowerBound}
 use Rattle.std.specs.Ordering.{is_gt, ordering_then}
 use Rattle.std.specs.declared.cmp.Ordering.{Ordering}
@@ -8,10 +8,9 @@ use Rattle.std.specs.declared.cmp.Ordering.TheVariants.{Less, Equal, Greater}
 use Rattle.std.proofs.lemmas.Bool.Decides.{nat_tests}
 use Rattle.std.proofs.lemmas.Map.Keys.{le_from_not_gt}
 use Rattle.wb_names.specs.Values.{NameValue}
-use Rattle.wb_recovery.specs.Alarms.{alarm_cmp, alarm, Keep, IsFirst}
+use Rattle.wb_recovery.specs.Alarms.{alarm_cmp, alarm, IsFirst}
 use Rattle.wb_recovery.specs.Timing.{is_set_to}
 use Rattle.wb_recovery.specs.declared.alarms.Alarm.{Alarm}
-use Rattle.wb_recovery.specs.declared.alarms.Alarms.{Alarms}
 
 pub is_set_to-here : (d : ℕ) → is_set_to d (Some d) ≡ true
 is_set_to-here d = grind (arith, nat_tests)

@@ -1,5 +1,5 @@
 -- How many names have a timer, and which timer is due next.
-use Rattle.std.proofs.Common.{◌≡◌, ℕ, ◌≤◌, Bool, true, false, List, refl, ap, ◌∙◌, sym, subst, Option, Some, None, ◌⊎◌, inl, inr, ⊎_elim, true≢false, arith, length}
+use Rattle.std.proofs.Common.{◌≡◌, ℕ, ◌≤◌, Bool, true, false, refl, ap, ◌∙◌, sym, Option, Some, None, ◌⊎◌, inl, inr, ⊎_elim, arith, length}
 use Rattle.std.specs.Prelude.{is_some, ◌||◌}
 use Rattle.std.specs.List.Sorted.{IsStrictlySortedBy}
 use Rattle.wb_names.specs.Values.{NameValue}
@@ -56,10 +56,14 @@ or_cases false b e = inr e
 
 -- the lesser of the first request timer and the first answer timer
 pub next_both : (f : NameValue → Timers) (k a b : ℕ) → IsFirst (λ n. ask_due (f n)) (Some a) → IsFirst (λ n. answer_due (f n)) (Some b) → k ≤ a → k ≤ b → (k ≡ a) ⊎ (k ≡ b) → IsNextDue f (Some k)
-next_both f k a b p q le le' which = (found.0, found.1, λ m e h. ⊎_elim
-    (λ (g : is_set_to e (ask_due (f m)) ≡ true). let x : a ≤ e = p.2 m e (is_set_to-is e _ g) in omega arith)
-    (λ (g : is_set_to e (answer_due (f m)) ≡ true). let x : b ≤ e = q.2 m e (is_set_to-is e _ g) in omega arith)
-    (or_cases _ _ h)) where
+next_both f k a b p q le le' which = (
+  found.0,
+  found.1,
+  λ m e h. ⊎_elim
+      (λ (g : is_set_to e (ask_due (f m)) ≡ true). let x : a ≤ e = p.2 m e (is_set_to-is e _ g) in omega arith)
+      (λ (g : is_set_to e (answer_due (f m)) ≡ true). let x : b ≤ e = q.2 m e (is_set_to-is e _ g) in omega arith)
+      (or_cases _ _ h),
+) where
   found : (n : NameValue) × (is_due_at k (f n) ≡ true)
   found = ⊎_elim
       (λ (e : k ≡ a). let r : (n : NameValue) × (is_due_at k (f n) ≡ true) = (p.0, or_left _ _ (ap (is_set_to k) (p.1 ∙ ap Some (sym e)) ∙ is_set_to-here k)) in r)

@@ -1,6 +1,6 @@
 -- What firing does to the timers of one name.
-use Rattle.std.proofs.Common.{◌≡◌, ℕ, ◌+◌, ◌*◌, Bool, true, false, cond, refl, ap, ◌∙◌, sym, Option, Some, None, true≢false}
-use Rattle.std.specs.Prelude.{is_some, ◌||◌, nat_le}
+use Rattle.std.proofs.Common.{◌≡◌, ℕ, ◌+◌, ◌*◌, Bool, true, false, cond, refl, ap, sym, Option, Some, None, true≢false}
+use Rattle.std.specs.Prelude.{is_some, ◌||◌}
 use Rattle.wb_recovery.specs.Timing.{is_standing, is_ask_due, is_answer_due, fired_ask, fired_answer, quiet_after, backed_off}
 use Rattle.wb_recovery.specs.declared.tuning.Tuning.{Tuning}
 use Rattle.wb_recovery.specs.declared.timers.AskTimer.{AskTimer}
@@ -12,6 +12,7 @@ due_answer_stands now s h = or_right (is_some s.ask) (is_some s.answer) (from s.
   or_right : (a b : Bool) → b ≡ true → (a || b) ≡ true
   or_right true b e = refl
   or_right false b e = e
+
   from : (o : Option AnswerTimer) → is_answer_due now o ≡ true → is_some o ≡ true
   from None e = absurd (true≢false (sym e))
   from (Some a) e = refl

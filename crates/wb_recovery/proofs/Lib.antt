@@ -12,3 +12,4 @@ pub mod AlarmLists
 pub mod NameRows
 pub mod FiredTimers
 pub mod Ticking
+pub mod TimerLaws

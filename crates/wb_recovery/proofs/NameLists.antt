@@ -1,12 +1,12 @@
 -- The lists of the names whose timers pass a test: of a recovery's own names, and of those in a list of calls.
-use Rattle.std.proofs.Common.{◌≡◌, ℕ, Bool, true, false, cond, List, [], ◌∷◌, refl, ap, ◌∙◌, sym, subst, Option, Some, None, ◌⊎◌, inl, inr, ⊎_elim, true≢false}
-use Rattle.std.specs.Prelude.{Contains, filter, unwrap_or, is_some, IsSome}
+use Rattle.std.proofs.Common.{◌≡◌, Bool, true, false, cond, List, [], ◌∷◌, refl, ap, ◌∙◌, sym, subst, Option, Some, None, ◌⊎◌, inl, inr, ⊎_elim, true≢false}
+use Rattle.std.specs.Prelude.{Contains, filter, unwrap_or, is_some}
 use Rattle.std.specs.BTreeSet.{insert_key}
 use Rattle.std.specs.List.{AllByRecursion}
 use Rattle.std.specs.List.Sorted.{IsStrictlySortedBy}
 use Rattle.std.specs.BTreeMap.{is_at}
-use Rattle.std.specs.Map.{lookup, keys_of}
-use Rattle.std.specs.Ordering.{match_ordering, is_eq, eq_by_cmp, ordering_reverse}
+use Rattle.std.specs.Map.{lookup}
+use Rattle.std.specs.Ordering.{match_ordering, is_eq, ordering_reverse}
 use Rattle.std.specs.declared.cmp.Ordering.{Ordering}
 use Rattle.std.specs.declared.cmp.Ordering.TheVariants.{Less, Equal, Greater}
 use Rattle.std.proofs.lemmas.List.Kept.{IsStrictlySortedBy-filter}
@@ -16,14 +16,13 @@ use Rattle.wb_names.specs.Values.{NameValue}
 use Rattle.wb_names.specs.Orders.{name_cmp, same_name}
 use Rattle.wb_names.specs.Listing.{Lists}
 use Rattle.wb_names.proofs.Orders.{name_total, same_name-is}
-use Rattle.wb_names.proofs.Listings.{Contains-here, Contains-there, Contains-cases, Contains-filter, Contains-from_filter, below_all, one_list, lists_same}
+use Rattle.wb_names.proofs.Listings.{Contains-here, Contains-there, Contains-cases, Contains-filter, Contains-from_filter, one_list, lists_same}
 use Rattle.wb_recovery.specs.Timing.{no_timers, noticed, asked, got, ticked}
-use Rattle.wb_recovery.specs.Values.{RecoveryValue, timers_at, timers_in, names_in}
+use Rattle.wb_recovery.specs.Values.{RecoveryValue, timers_in, names_in}
 use Rattle.wb_recovery.specs.Events.{Event, Notice, Asked, Got, Tick, names_of, due_asks, word_for, timers_of}
 use Rattle.wb_recovery.specs.Standing.{StandsFor}
 use Rattle.wb_recovery.specs.declared.tuning.Tuning.{Tuning}
 use Rattle.wb_recovery.specs.declared.timers.Timers.{Timers}
-use Rattle.wb_recovery.proofs.AlarmOrder.{name_ties}
 use Rattle.wb_recovery.proofs.AlarmNames.{name_decides}
 
 equal_is : (m n : NameValue) → name_cmp m n ≡ Equal → m ≡ n

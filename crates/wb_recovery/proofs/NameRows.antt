@@ -1,8 +1,7 @@
 -- A rising list of names, taken one after another.
 use Rattle.std.proofs.Common.{◌≡◌, ℕ, zero, suc, ◌+◌, ◌<◌, Bool, true, false, cond, Option, List, [], ◌∷◌, length, get_or, take, refl, ap, ◌∙◌, sym, subst, true≢false, arith}
-use Rattle.std.specs.Prelude.{◌||◌, ◌&&◌, not, filter, count_by, Contains}
+use Rattle.std.specs.Prelude.{◌||◌, ◌&&◌, not, filter, Contains}
 use Rattle.std.specs.Cmp.{eq_by_cmp_equiv}
-use Rattle.std.specs.List.{list_any}
 use Rattle.std.specs.List.Sorted.{IsStrictlySortedBy}
 use Rattle.std.specs.Ordering.{eq_by_cmp, is_eq, is_lt, ordering_reverse}
 use Rattle.std.specs.declared.cmp.Ordering.{Ordering}
@@ -44,8 +43,8 @@ none_smaller x xs s [] f = refl
 none_smaller x xs s (y ∷ ys) f =
     ap (λ (r : Ordering). cond (is_lt r) (y ∷ filter (λ m. is_lt (name_cmp m x)) ys) (filter (λ m. is_lt (name_cmp m x)) ys)) (name_total.antisymm y x ∙ ap ordering_reverse (below_all name_total x y xs s (f y (0, omega arith, refl))))
     ∙ none_smaller x xs s ys (λ z g. f z (later z g)) where
-  later : (z : NameValue) → Contains ys z → Contains (y ∷ ys) z
-  later z (k, l, e) = (suc k, omega arith, e)
+      later : (z : NameValue) → Contains ys z → Contains (y ∷ ys) z
+      later z (k, l, e) = (suc k, omega arith, e)
 
 not_less_itself : (x : NameValue) (r : Ordering) → name_cmp x x ≡ r → is_lt r ≡ false
 not_less_itself x Less e = absurd (true≢false (sym ((eq_by_cmp_equiv name_total).refl x) ∙ ap is_eq e))
@@ -90,27 +89,28 @@ module _ (xs : List NameValue) (i : ℕ) (a : NameValue) (s : IsStrictlySortedBy
       ∙ ap (λ (b : Bool). b || (same_name a n && (is_set_to d due && not (is_set_to d other)))) (so_far d n)
       ∙ bits (among (take i xs) n) (same_name a n) _ _ same
       ∙ ap (λ (b : Bool). b && (is_set_to d (dues n) && not (is_set_to d (others n)))) (sym (among_more n)) where
-    same : same_name a n ≡ true → (is_set_to d due && not (is_set_to d other)) ≡ (is_set_to d (dues n) && not (is_set_to d (others n)))
-    same h =
-        let k = same_name-is a n h in
-        let x : due ≡ dues n = e ∙ ap dues k in
-        let y : other ≡ others n = f ∙ ap others k in
-        ap (λ (o : Option ℕ). is_set_to d o && not (is_set_to d other)) x ∙ ap (λ (o : Option ℕ). is_set_to d (dues n) && not (is_set_to d o)) y
-    bits : (m t p q : Bool) → (t ≡ true → p ≡ q) → ((m && q) || (t && p)) ≡ ((m || t) && q)
-    bits true true true q h = or_true q ∙ h refl where
-      or_true : (b : Bool) → (b || true) ≡ true
-      or_true true = refl
-      or_true false = refl
-    bits true true false q h = or_false q where
-      or_false : (b : Bool) → (b || false) ≡ b
-      or_false true = refl
-      or_false false = refl
-    bits true false p q h = or_false q where
-      or_false : (b : Bool) → (b || false) ≡ b
-      or_false true = refl
-      or_false false = refl
-    bits false true p q h = h refl
-    bits false false p q h = refl
+        same : same_name a n ≡ true → (is_set_to d due && not (is_set_to d other)) ≡ (is_set_to d (dues n) && not (is_set_to d (others n)))
+        same h =
+            let k = same_name-is a n h in
+            let x : due ≡ dues n = e ∙ ap dues k in
+            let y : other ≡ others n = f ∙ ap others k in
+            ap (λ (o : Option ℕ). is_set_to d o && not (is_set_to d other)) x ∙ ap (λ (o : Option ℕ). is_set_to d (dues n) && not (is_set_to d o)) y
+
+        bits : (m t p q : Bool) → (t ≡ true → p ≡ q) → ((m && q) || (t && p)) ≡ ((m || t) && q)
+        bits true true true q h = or_true q ∙ h refl where
+          or_true : (b : Bool) → (b || true) ≡ true
+          or_true true = refl
+          or_true false = refl
+        bits true true false q h = or_false q where
+          or_false : (b : Bool) → (b || false) ≡ b
+          or_false true = refl
+          or_false false = refl
+        bits true false p q h = or_false q where
+          or_false : (b : Bool) → (b || false) ≡ b
+          or_false true = refl
+          or_false false = refl
+        bits false true p q h = h refl
+        bits false false p q h = refl
 
   module _ (f g now new : NameValue → Timers) (so_far : (n : NameValue) → now n ≡ cond (among (take i xs) n) (g n) (f n)) where
     pub before_now : now a ≡ f a

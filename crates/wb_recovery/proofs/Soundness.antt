@@ -1,12 +1,10 @@
 -- How a recovery stays sound as the timers of a name are replaced.
-use Rattle.std.proofs.Common.{◌≡◌, ℕ, Bool, true, false, cond, List, refl, ap, ◌∙◌, sym, subst, Option, Some, None, ◌^◌, ◌<◌, true≢false, rules}
+use Rattle.std.proofs.Common.{◌≡◌, ℕ, Bool, true, false, cond, refl, ap, ◌∙◌, sym, subst, Option, Some, None, ◌^◌, ◌<◌, true≢false, rules}
 use Rattle.std.specs.Prelude.{unwrap_or, IsSome}
 use Rattle.std.specs.BTreeMap.{BTreeMap, IsOrdered, get, is_at}
 use Rattle.std.specs.BTreeSet.{contains}
-use Rattle.std.specs.Map.{lookup}
 use Rattle.wb_names.specs.Values.{NameValue}
 use Rattle.wb_names.specs.Orders.{same_name, name_cmp}
-use Rattle.wb_names.proofs.Orders.{same_name-is}
 use Rattle.wb_recovery.specs.Timing.{no_timers, ask_due, answer_due, is_standing, AreDelays, with_ask, with_answer}
 use Rattle.wb_recovery.specs.Alarms.{Keep, with_due, alarm_cmp}
 use Rattle.wb_recovery.specs.Timing.{is_set_to}

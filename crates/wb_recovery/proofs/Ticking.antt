@@ -1,14 +1,13 @@
 -- What a tick leaves, when all that is due has fired.
-use Rattle.std.proofs.Common.{◌≡◌, ℕ, Bool, true, false, cond, List, refl, ap, ◌∙◌, sym, Option, Some, None}
+use Rattle.std.proofs.Common.{◌≡◌, ℕ, Bool, true, false, cond, List, refl, ap, ◌∙◌, sym, Option}
 use Rattle.std.specs.Prelude.{◌&&◌, not, Contains}
 use Rattle.std.specs.Bool.{one_answer}
-use Rattle.std.specs.Ordering.{eq_by_cmp}
 use Rattle.std.proofs.lemmas.Map.Made.{is_member-Decides}
 use Rattle.wb_names.specs.Values.{NameValue}
 use Rattle.wb_names.specs.Orders.{name_cmp}
 use Rattle.wb_names.specs.Listing.{Lists}
-use Rattle.wb_recovery.specs.Timing.{ask_due, answer_due, is_ask_due, is_answer_due, is_set_to, fired_ask, fired_answer, quiet_after, ticked}
-use Rattle.wb_recovery.specs.Alarms.{alarm, has, among, is_until, Keep, AreLeft, AreMoved}
+use Rattle.wb_recovery.specs.Timing.{ask_due, answer_due, is_ask_due, is_answer_due, is_set_to, quiet_after, ticked}
+use Rattle.wb_recovery.specs.Alarms.{among, is_until, Keep, AreLeft, AreMoved}
 use Rattle.wb_recovery.specs.Values.{RecoveryValue, timers_at, timers_in}
 use Rattle.wb_recovery.specs.Events.{Event, Tick, names_of, timers_of, due_asks, due_answers, word_for}
 use Rattle.wb_recovery.specs.Standing.{StandsFor, Accepts}

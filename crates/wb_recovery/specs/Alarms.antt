@@ -1,5 +1,5 @@
 -- Alarms: for each name with a timer, the moment at which it is due, in order of the moments.
-use Rattle.std.specs.Prelude.{◌≡◌, ℕ, ◌≤◌, Bool, true, false, not, ◌&&◌, List, Option, Some, None, nat_eq, nat_le, is_some, length, if◌then◌else◌}
+use Rattle.std.specs.Prelude.{◌≡◌, ℕ, ◌≤◌, Bool, true, false, not, ◌&&◌, List, Option, Some, None, nat_le, is_some, length, if◌then◌else◌}
 use Rattle.std.specs.BTreeSet.{contains}
 use Rattle.std.specs.BTreeMap.{is_at}
 use Rattle.std.specs.List.{list_any}
@@ -54,10 +54,6 @@ pub record Keep (dues : NameValue → Option ℕ) (alarms : Alarms) : Type 0 whe
 -- the moments with that of one name changed
 abbrev pub with_due : (NameValue → Option ℕ) → NameValue → Option ℕ → NameValue → Option ℕ
 with_due dues name due n = if same_name name n then due else dues n
-
--- the moments without those that have come
-abbrev pub later : (NameValue → Option ℕ) → ℕ → NameValue → Option ℕ
-later dues now n = if is_until now (dues n) then None else dues n
 
 -- how many timers there are, and how many are due by this moment
 abbrev pub CountsAll : (NameValue → Option ℕ) → ℕ → Type 0

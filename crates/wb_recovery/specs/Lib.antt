@@ -7,3 +7,4 @@ pub mod Values
 pub mod Sound
 pub mod Standing
 pub mod Firing
+pub mod Laws

@@ -1,5 +1,5 @@
 -- How a recovery keeps its timers: by name, with their alarms in order of the moments.
-use Rattle.std.specs.Prelude.{◌≡◌, ℕ, ◌<◌, ◌^◌, Option, Some, None, IsTrue}
+use Rattle.std.specs.Prelude.{ℕ, ◌<◌, ◌^◌, IsTrue}
 use Rattle.std.specs.BTreeMap.{BTreeMap, IsOrdered}
 use Rattle.wb_names.specs.Values.{NameValue}
 use Rattle.wb_names.specs.Orders.{name_cmp}

@@ -6,7 +6,7 @@ ghost use Rattle.wb_names.specs.Values.{NameValue};
 ghost use Rattle.wb_names.specs.Orders.{name_cmp};
 ghost use Rattle.wb_names.specs.Listing.{Lists};
 ghost use Rattle.wb_recovery.specs.declared.alarms.Alarm.{Alarm as AnAlarm};
-ghost use Rattle.wb_recovery.specs.Alarms.{alarm, alarm_cmp, has, Keep, AreLeft, is_until, with_due, later, CountsAll, CountsUntil, IsFirst};
+ghost use Rattle.wb_recovery.specs.Alarms.{alarm, alarm_cmp, has, Keep, AreLeft, is_until, with_due, CountsAll, CountsUntil, IsFirst};
 
 use std::alloc::{AllocError, Global};
 use std::collections::BTreeSet;

@@ -19,7 +19,11 @@ use std::collections::BTreeMap;
 use wb_names::Name;
 
 /// The actions of a tick: requests, and then answers.
-pub(crate) fn actions(alloc: Global, asking: &[Name], answering: &[Name]) -> Result<Vec<Action>, AllocError>
+pub(crate) fn actions(
+    alloc: Global,
+    asking: &[Name],
+    answering: &[Name],
+) -> Result<Vec<Action>, AllocError>
     ensures { IfOk result (λ actions. actions.items ≡ map Ask asking.now ++ map Answer answering.now) }
 {
     let requests = asking.iter().map(|name| Action::Ask(*name));
@@ -53,7 +57,12 @@ pub(crate) fn back_off_all(
 }
 
 /// Ends the answer timers of these names, which are due, and their alarms.
-pub(crate) fn answer_all(records: &mut BTreeMap<Name, Timers>, alarms: &mut Alarms, answering: &[Name], now: u64)
+pub(crate) fn answer_all(
+    records: &mut BTreeMap<Name, Timers>,
+    alarms: &mut Alarms,
+    answering: &[Name],
+    now: u64,
+)
     requires moment { now < 2 ^ 48 }
     requires ordered { IsOrdered name_cmp records.old }
     requires delays { (n : NameValue) → AreDelays (timers_at records.old.entries n) }
@@ -108,7 +117,12 @@ pub(crate) fn alarms_moved(
 }
 
 /// Adds the alarm of a name at a moment, unless the other moment is the same.
-fn push_unless(alarms: &mut Vec<Alarm>, name: Name, due: Option<u64>, other: Option<u64>) -> Result<(), AllocError>
+fn push_unless(
+    alarms: &mut Vec<Alarm>,
+    name: Name,
+    due: Option<u64>,
+    other: Option<u64>,
+) -> Result<(), AllocError>
     ensures { OnOk result ((d : ℕ) (n : NameValue) → has alarms.new.items (alarm d n) ≡ (has alarms.old.items (alarm d n) || (same_name name n && (is_set_to d due && not (is_set_to d other))))) }
 {
     if due == other {

@@ -16,18 +16,19 @@
 
 mod action;
 mod alarms;
-
 mod draw;
 mod fault;
 mod firing;
+pub mod laws;
 mod records;
 mod recovery;
 mod round_trip;
+#[cfg(test)]
+mod tests;
 mod timers;
 mod tuning;
 
 pub use action::Action;
-
 pub use fault::{RecoveryFault, TuningFault};
 pub use recovery::Recovery;
 pub use round_trip::distance;

@@ -11,10 +11,10 @@ ghost use Rattle.wb_recovery.specs.Events.{Event, Notice, Asked, Got, Tick, name
 ghost use Rattle.wb_recovery.specs.Standing.{StandsFor, Accepts};
 ghost use Rattle.wb_recovery.specs.declared.tuning.Tuning.{Tuning as Constants};
 
-use crate::alarms::Alarms;
 use crate::action::Action;
-use crate::firing::{actions, alarms_moved, answer_all, back_off_all};
+use crate::alarms::Alarms;
 use crate::fault::{RecoveryFault, TuningFault};
+use crate::firing::{actions, alarms_moved, answer_all, back_off_all};
 use crate::records::{rewrite, timers_of};
 use crate::timers::{AnswerTimer, AskTimer, Timers};
 use crate::tuning::Tuning;
@@ -73,7 +73,13 @@ impl Recovery {
     /// A name is missed: sets its request timer, unless one stands.
     ///
     /// Refused with `BackInTime`, `Range` or `Memory`, in this order.
-    pub fn notice(&mut self, name: Name, now: u64, delay: u64, word: u64) -> Result<(), RecoveryFault>
+    pub fn notice(
+        &mut self,
+        name: Name,
+        now: u64,
+        delay: u64,
+        word: u64,
+    ) -> Result<(), RecoveryFault>
         ensures fault { IsCheckedBy (call_fault self.old.moment now delay) result }
         ensures ok { OnOk result (Accepts (Notice name now delay word) self.old self.new) }
         ensures err { OnErr result (self.new ≡ self.old) }
@@ -91,7 +97,14 @@ impl Recovery {
     /// unless one stands or the name is quiet; `delay` is that to the member who asks.
     ///
     /// Refused with `BackInTime`, `Range` or `Memory`, in this order.
-    pub fn asked(&mut self, name: Name, held: bool, now: u64, delay: u64, word: u64) -> Result<(), RecoveryFault>
+    pub fn asked(
+        &mut self,
+        name: Name,
+        held: bool,
+        now: u64,
+        delay: u64,
+        word: u64,
+    ) -> Result<(), RecoveryFault>
         ensures fault { IsCheckedBy (call_fault self.old.moment now delay) result }
         ensures ok { OnOk result (Accepts (Asked name held now delay word) self.old self.new) }
         ensures err { OnErr result (self.new ≡ self.old) }
@@ -136,7 +149,12 @@ impl Recovery {
     /// three of its delays. Where nothing is due, no timer is looked at but the next ones.
     ///
     /// Refused with `BackInTime`, `Range` or `Memory`, in this order.
-    pub fn tick(&mut self, alloc: Global, now: u64, words: &[u64]) -> Result<Vec<Action>, RecoveryFault>
+    pub fn tick(
+        &mut self,
+        alloc: Global,
+        now: u64,
+        words: &[u64],
+    ) -> Result<Vec<Action>, RecoveryFault>
         // as many words as `due_count` says
         requires { length (due_asks (names_in self.old) (timers_in self.old) now) ≤ length words.now }
         ensures fault { IsCheckedBy (call_fault self.old.moment now 0) result }
@@ -241,7 +259,12 @@ impl Recovery {
     }
 
     /// Sets or moves the request timer of a name, where it is to be.
-    fn set_ask(&mut self, name: Name, before: Timers, ask: Option<AskTimer>) -> Result<(), AllocError>
+    fn set_ask(
+        &mut self,
+        name: Name,
+        before: Timers,
+        ask: Option<AskTimer>,
+    ) -> Result<(), AllocError>
         requires before { before ≡ timers_in self.old name }
         requires delay { IfSome ask (λ timer. timer.delay < 2 ^ 24) }
         ensures ok { OnOk result (Replaces self.old self.new name (with_ask before ask)) }
@@ -263,7 +286,12 @@ impl Recovery {
     }
 
     /// Sets the answer timer of a name, where it is to be.
-    fn set_answer(&mut self, name: Name, before: Timers, answer: Option<AnswerTimer>) -> Result<(), AllocError>
+    fn set_answer(
+        &mut self,
+        name: Name,
+        before: Timers,
+        answer: Option<AnswerTimer>,
+    ) -> Result<(), AllocError>
         requires before { before ≡ timers_in self.old name }
         requires delay { IfSome answer (λ timer. timer.delay < 2 ^ 24) }
         ensures ok { OnOk result (Replaces self.old self.new name (with_answer before answer)) }
@@ -302,7 +330,14 @@ impl Recovery {
     }
 
     /// Fires the timers of these names, which are due. All growth comes first.
-    fn fire(&mut self, alloc: Global, asking: &[Name], answering: &[Name], now: u64, words: &[u64]) -> Result<(), AllocError>
+    fn fire(
+        &mut self,
+        alloc: Global,
+        asking: &[Name],
+        answering: &[Name],
+        now: u64,
+        words: &[u64],
+    ) -> Result<(), AllocError>
         requires moment { now < 2 ^ 48 }
         requires asking { Lists name_cmp (λ n. is_ask_due now (timers_in self.old n).ask ≡ true) asking.now }
         requires answering { Lists name_cmp (λ n. is_answer_due now (timers_in self.old n).answer ≡ true) answering.now }

@@ -66,7 +66,13 @@ impl Timers {
     };
 
     /// The name is missed: the request timer to set, where none stands.
-    pub(crate) fn noticed(&self, tuning: Tuning, now: u64, delay: u64, word: u64) -> Option<AskTimer>
+    pub(crate) fn noticed(
+        &self,
+        tuning: Tuning,
+        now: u64,
+        delay: u64,
+        word: u64,
+    ) -> Option<AskTimer>
         requires tuning { IsTrue (are_constants tuning) }
         requires moment { now < 2 ^ 48 }
         requires delay { delay < 2 ^ 24 }
@@ -87,7 +93,13 @@ impl Timers {
 
     /// Another member asks for the name, which is not held: the request timer backed off, where one
     /// stands that is not deaf.
-    pub(crate) fn overheard(&self, tuning: Tuning, now: u64, delay: u64, word: u64) -> Option<AskTimer>
+    pub(crate) fn overheard(
+        &self,
+        tuning: Tuning,
+        now: u64,
+        delay: u64,
+        word: u64,
+    ) -> Option<AskTimer>
         requires tuning { IsTrue (are_constants tuning) }
         requires moment { now < 2 ^ 48 }
         requires delay { delay < 2 ^ 24 }
@@ -102,7 +114,13 @@ impl Timers {
 
     /// Another member asks for the name, which is held: the answer timer to set, where none stands
     /// and the name is not quiet.
-    pub(crate) fn asked_for(&self, tuning: Tuning, now: u64, delay: u64, word: u64) -> Option<AnswerTimer>
+    pub(crate) fn asked_for(
+        &self,
+        tuning: Tuning,
+        now: u64,
+        delay: u64,
+        word: u64,
+    ) -> Option<AnswerTimer>
         requires tuning { IsTrue (are_constants tuning) }
         requires moment { now < 2 ^ 48 }
         requires delay { delay < 2 ^ 24 }

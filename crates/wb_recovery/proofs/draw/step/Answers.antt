@@ -1,4 +1,3 @@
-use Rattle.std.proofs.Common.{◌≡◌, ◌^◌, arith}
 use Rattle.wb_recovery.proofs.Bounds.{step_bound}
 use Rattle.wb_recovery.proofs.draw.step.Goals as goal
 

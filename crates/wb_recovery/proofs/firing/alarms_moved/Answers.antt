@@ -18,8 +18,8 @@ loop-count-preserved c =
     let after = λ (n : NameValue). ask_due (with_ask_fired c.args.tuning c.args.now c.args.words.now xs f n) in
     let here = smaller_here xs i a c.requires.rising (omega arith) c.index-asking-count.is in
     let fires = c.ask_fired-after.ensures.timers
-        ∙ ap (λ (s : Timers). record s { ask = fired_ask c.args.tuning c.args.now (slice_index c.args.words.now i) s.ask }) c.timers_of-before.ensures
-        ∙ ap (λ (k : ℕ). record (f a) { ask = fired_ask c.args.tuning c.args.now (slice_index c.args.words.now k) (f a).ask }) (sym here) in
+    ∙ ap (λ (s : Timers). record s { ask = fired_ask c.args.tuning c.args.now (slice_index c.args.words.now i) s.ask }) c.timers_of-before.ensures
+    ∙ ap (λ (k : ℕ). record (f a) { ask = fired_ask c.args.tuning c.args.now (slice_index c.args.words.now k) (f a).ask }) (sym here) in
     let from = ap ask_due c.timers_of-before.ensures in
     let to = ap ask_due fires in
     record {

@@ -1,5 +1,4 @@
 use Rattle.std.proofs.Common.{take}
-use Rattle.wb_names.specs.Values.{NameValue}
 use Rattle.wb_recovery.specs.Timing.{ask_due}
 use Rattle.wb_recovery.specs.Values.{timers_at}
 use Rattle.wb_recovery.specs.Alarms.{AreMoved}

@@ -1,6 +1,5 @@
 use Rattle.std.proofs.Common.{◌∙◌, sym, ap, ℕ, arith}
 use Rattle.std.specs.Prelude.{slice_index}
-use Rattle.wb_names.specs.Values.{NameValue}
 use Rattle.wb_recovery.specs.Timing.{fired_ask, AreDelays}
 use Rattle.wb_recovery.specs.Values.{timers_at}
 use Rattle.wb_recovery.specs.Firing.{with_ask_fired}
@@ -21,8 +20,8 @@ loop-count-preserved c =
     let had = c.timers_of-timers.ensures ∙ before_now xs i a c.requires.rising (omega arith) c.index-asking-count.is f g now new c.loop-count.invariant.written in
     let here = smaller_here xs i a c.requires.rising (omega arith) c.index-asking-count.is in
     let after = c.ask_fired.ensures.timers
-        ∙ ap (λ (s : Timers). record s { ask = fired_ask c.args.tuning c.args.now (slice_index c.args.words.now i) s.ask }) had
-        ∙ ap (λ (k : ℕ). record (f a) { ask = fired_ask c.args.tuning c.args.now (slice_index c.args.words.now k) (f a).ask }) (sym here) in
+    ∙ ap (λ (s : Timers). record s { ask = fired_ask c.args.tuning c.args.now (slice_index c.args.words.now i) s.ask }) had
+    ∙ ap (λ (k : ℕ). record (f a) { ask = fired_ask c.args.tuning c.args.now (slice_index c.args.words.now k) (f a).ask }) (sym here) in
     record {
       written = replaced_more xs i a c.requires.rising (omega arith) c.index-asking-count.is f g now new c.loop-count.invariant.written c.ask_fired.result c.rewrite.ensures.written after;
       delays = all_replaced a c.ask_fired.result now new c.rewrite.ensures.written AreDelays c.ask_fired.ensures.delays c.loop-count.invariant.delays;

@@ -1,4 +1,4 @@
-use Rattle.std.proofs.Common.{◌≡◌, ℕ, ◌<◌, length, arith, sym, true≢false}
+use Rattle.std.proofs.Common.{◌≡◌, ◌<◌, length, arith, sym, true≢false}
 use Rattle.wb_recovery.proofs.AlarmReads.{is_first_none, is_first_some}
 use Rattle.wb_recovery.proofs.alarms.Alarms.first.Goals as goal
 

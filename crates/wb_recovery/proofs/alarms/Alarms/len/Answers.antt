@@ -1,5 +1,4 @@
-use Rattle.std.proofs.Common.{◌≡◌, ◌∙◌, sym, ap, length, true}
-use Rattle.wb_names.specs.Values.{NameValue}
+use Rattle.std.proofs.Common.{◌∙◌, sym, ap, length, true}
 use Rattle.wb_names.proofs.Orders.{name_total}
 use Rattle.wb_names.proofs.Listings.{lists_same}
 use Rattle.wb_recovery.proofs.AlarmNames.{names_counted, all_pass, is_some_where}

@@ -1,5 +1,5 @@
-use Rattle.std.proofs.Common.{◌≡◌, ◌∙◌, ap, subst, List}
-use Rattle.std.specs.Prelude.{nat_le, map, filter, IsPermutation}
+use Rattle.std.proofs.Common.{◌∙◌, ap, subst, List}
+use Rattle.std.specs.Prelude.{nat_le, map, IsPermutation}
 use Rattle.wb_names.specs.Values.{NameValue}
 use Rattle.wb_recovery.specs.declared.alarms.Alarm.{Alarm}
 use Rattle.wb_recovery.proofs.AlarmNames.{names_listed, prefix_due}

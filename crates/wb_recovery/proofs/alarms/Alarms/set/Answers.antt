@@ -1,7 +1,6 @@
-use Rattle.std.proofs.Common.{◌≡◌, false, ◌∙◌, sym, ap, arith}
+use Rattle.std.proofs.Common.{◌≡◌, false, ◌∙◌, arith}
 use Rattle.std.specs.Prelude.{nat_eq}
 use Rattle.std.specs.BTreeSet.{contains}
-use Rattle.std.proofs.lemmas.Bool.Decides.{nat_tests}
 use Rattle.std.proofs.lemmas.Grind.{common_steps}
 use Rattle.wb_recovery.specs.Alarms.{alarm_cmp}
 use Rattle.wb_recovery.proofs.AlarmMoves.{keep_moved, keep_added}

@@ -14,23 +14,23 @@ returns-clause-ok c =
     let new : RecoveryValue = record { tuning = c.self-2.inside.tuning; moment = a.now; records = c.self-2.inside.records.entries } in
     elim c.if-held.branch [
       | then-held+in_ok-set_answer w ↦
-        let after = w.asked_for-answer.ensures.timers
-            ∙ ap (λ (v : RecoveryValue). asked v.tuning true a.now a.delay a.word c.timers-before.result) c.self.view_is
-            ∙ ap (asked a.self.now.tuning true a.now a.delay a.word) c.timers-before.ensures.timers in
-        let is = c.self-2.view_is ∙ w.self-is in
-        subst (λ (b : Bool). Accepts (Asked a.name b a.now a.delay a.word) a.self.now new) (sym w.if-held.true)
-        (accepted (Asked a.name true a.now a.delay a.word) a.name a.now (λ (t : Tuning). asked t true a.now a.delay a.word)
-        (record { timers = λ t events n. refl; moment = λ events. refl })
-        a.self.now w.set_answer.new.self _ w.in_ok-set_answer.ensures.ok after new
-        (ap (λ (v : RecoveryValue). v.tuning) is) (ap (λ (v : RecoveryValue). v.records) is) refl)
+          let after = w.asked_for-answer.ensures.timers
+          ∙ ap (λ (v : RecoveryValue). asked v.tuning true a.now a.delay a.word c.timers-before.result) c.self.view_is
+          ∙ ap (asked a.self.now.tuning true a.now a.delay a.word) c.timers-before.ensures.timers in
+          let is = c.self-2.view_is ∙ w.self-is in
+          subst (λ (b : Bool). Accepts (Asked a.name b a.now a.delay a.word) a.self.now new) (sym w.if-held.true)
+          (accepted (Asked a.name true a.now a.delay a.word) a.name a.now (λ (t : Tuning). asked t true a.now a.delay a.word)
+          (record { timers = λ t events n. refl; moment = λ events. refl })
+          a.self.now w.set_answer.new.self _ w.in_ok-set_answer.ensures.ok after new
+          (ap (λ (v : RecoveryValue). v.tuning) is) (ap (λ (v : RecoveryValue). v.records) is) refl)
       | else-held+in_ok-set_ask w ↦
-        let after = w.overheard-ask.ensures.timers
-            ∙ ap (λ (v : RecoveryValue). asked v.tuning false a.now a.delay a.word c.timers-before.result) c.self.view_is
-            ∙ ap (asked a.self.now.tuning false a.now a.delay a.word) c.timers-before.ensures.timers in
-        let is = c.self-2.view_is ∙ w.self-is in
-        subst (λ (b : Bool). Accepts (Asked a.name b a.now a.delay a.word) a.self.now new) (sym w.if-held.false)
-        (accepted (Asked a.name false a.now a.delay a.word) a.name a.now (λ (t : Tuning). asked t false a.now a.delay a.word)
-        (record { timers = λ t events n. refl; moment = λ events. refl })
-        a.self.now w.set_ask.new.self _ w.in_ok-set_ask.ensures.ok after new
-        (ap (λ (v : RecoveryValue). v.tuning) is) (ap (λ (v : RecoveryValue). v.records) is) refl)
+          let after = w.overheard-ask.ensures.timers
+          ∙ ap (λ (v : RecoveryValue). asked v.tuning false a.now a.delay a.word c.timers-before.result) c.self.view_is
+          ∙ ap (asked a.self.now.tuning false a.now a.delay a.word) c.timers-before.ensures.timers in
+          let is = c.self-2.view_is ∙ w.self-is in
+          subst (λ (b : Bool). Accepts (Asked a.name b a.now a.delay a.word) a.self.now new) (sym w.if-held.false)
+          (accepted (Asked a.name false a.now a.delay a.word) a.name a.now (λ (t : Tuning). asked t false a.now a.delay a.word)
+          (record { timers = λ t events n. refl; moment = λ events. refl })
+          a.self.now w.set_ask.new.self _ w.in_ok-set_ask.ensures.ok after new
+          (ap (λ (v : RecoveryValue). v.tuning) is) (ap (λ (v : RecoveryValue). v.records) is) refl)
     ]

@@ -1,7 +1,6 @@
-use Rattle.std.proofs.Common.{◌≡◌, ◌∙◌, sym, ap, true, None}
+use Rattle.std.proofs.Common.{◌∙◌, sym, ap, None}
 use Rattle.wb_recovery.specs.Timing.{is_standing}
 use Rattle.wb_recovery.specs.Values.{RecoveryValue, timers_in}
-use Rattle.wb_recovery.specs.declared.timers.Timers.{Timers}
 use Rattle.wb_recovery.proofs.Soundness.{sound_end, replaced_value}
 use Rattle.wb_recovery.proofs.recovery.Recovery.end.Goals as goal
 

@@ -1,4 +1,4 @@
-use Rattle.std.proofs.Common.{◌≡◌, ◌∙◌, sym, ap, subst, true, List}
+use Rattle.std.proofs.Common.{◌≡◌, ◌∙◌, sym, ap, subst, true}
 use Rattle.wb_names.specs.Values.{NameValue}
 use Rattle.wb_names.specs.Orders.{name_cmp}
 use Rattle.wb_names.specs.Listing.{Lists}
@@ -7,8 +7,6 @@ use Rattle.wb_recovery.specs.Values.{RecoveryValue, timers_at, timers_in}
 use Rattle.wb_recovery.specs.Alarms.{AreLeft}
 use Rattle.wb_recovery.specs.Events.{word_for}
 use Rattle.wb_recovery.specs.Firing.{with_ask_fired}
-use Rattle.wb_recovery.specs.declared.alarms.Alarm.{Alarm}
-use Rattle.wb_recovery.specs.declared.timers.Timers.{Timers}
 use Rattle.wb_recovery.proofs.FiredTimers.{due_ask_stands}
 use Rattle.wb_recovery.proofs.Ticking.{asks_left, asks_taken, due_answers_stay, all_ticked, asks_kept, answers_kept}
 use Rattle.wb_recovery.proofs.recovery.Recovery.fire.Goals as goal
@@ -70,7 +68,7 @@ invariant_of-self-2 c =
       ordered = c.answer_all.ensures.ordered;
       delays = c.answer_all.ensures.delays;
       asks = asks_kept c.self.inside.tuning a.now a.words.now f a.asking.now asking a.answering.now answering (timers_at c.back_off_all.new.records.entries) (timers_at c.answer_all.new.records.entries) c.back_off_all.ensures.written c.exchange.new.self c.answer_all.ensures.written
-        (c.in_ok-exchange.ensures.ok before after s.asks left taken);
+          (c.in_ok-exchange.ensures.ok before after s.asks left taken);
       answers = c.answer_all.ensures.kept;
     }
 
@@ -83,6 +81,6 @@ returns-clause-ok c =
     record {
       tuning = ap (λ (v : RecoveryValue). v.tuning) c.self.view_is;
       timers = λ n.
-        all_ticked c.self.inside.tuning a.now a.words.now f a.asking.now asking a.answering.now answering (timers_at c.back_off_all.new.records.entries) (timers_at c.answer_all.new.records.entries) c.back_off_all.ensures.written c.answer_all.ensures.written n
-        ∙ ap (λ (v : RecoveryValue). ticked v.tuning a.now (word_for a.words.now a.asking.now n) (timers_in v n)) c.self.view_is;
+          all_ticked c.self.inside.tuning a.now a.words.now f a.asking.now asking a.answering.now answering (timers_at c.back_off_all.new.records.entries) (timers_at c.answer_all.new.records.entries) c.back_off_all.ensures.written c.answer_all.ensures.written n
+          ∙ ap (λ (v : RecoveryValue). ticked v.tuning a.now (word_for a.words.now a.asking.now n) (timers_in v n)) c.self.view_is;
     }

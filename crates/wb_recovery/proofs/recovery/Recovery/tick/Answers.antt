@@ -1,4 +1,4 @@
-use Rattle.std.proofs.Common.{◌≡◌, ℕ, ◌≤◌, ◌∙◌, ◌++◌, sym, ap, subst, refl, true, List, length, arith}
+use Rattle.std.proofs.Common.{◌≡◌, ℕ, ◌≤◌, ◌∙◌, ◌++◌, sym, ap, subst, refl, true, List, length}
 use Rattle.std.specs.Prelude.{map}
 use Rattle.wb_names.specs.Values.{NameValue}
 use Rattle.wb_names.specs.Orders.{name_cmp}
@@ -7,7 +7,6 @@ use Rattle.wb_names.proofs.Orders.{name_total}
 use Rattle.wb_names.proofs.Listings.{one_list}
 use Rattle.wb_recovery.specs.Timing.{is_ask_due, is_answer_due}
 use Rattle.wb_recovery.specs.Values.{RecoveryValue, timers_in, names_in}
-use Rattle.wb_recovery.specs.Alarms.{CountsUntil}
 use Rattle.wb_recovery.specs.Events.{names_of, timers_of, due_asks}
 use Rattle.wb_recovery.specs.declared.action.Action.{Action}
 use Rattle.wb_recovery.specs.declared.action.Action.TheVariants.{Ask, Answer}
