@@ -22,6 +22,8 @@ mod knowledge;
 mod members;
 mod parts;
 mod pass;
+#[cfg(test)]
+mod refused_tests;
 mod rule;
 mod steps;
 #[cfg(test)]
