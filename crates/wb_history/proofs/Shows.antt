@@ -24,7 +24,7 @@ use Rattle.wb_history.specs.Lists.{StartsWith, Has, Once}
 use Rattle.wb_history.specs.Members.{AllValid, NamesOnce}
 use Rattle.wb_history.specs.Lawful.{Sane}
 use Rattle.wb_history.specs.Hands.{InOrder, Walked, Won, AtEnd, Settled, Refused}
-use Rattle.wb_history.specs.Passes.{PassValue, IsWhole, KeepsRows, IsSound, IsCaughtUp}
+use Rattle.wb_history.specs.Passes.{PassValue, IsWhole, KeepsRows, AddsNothing, IsSound, IsCaughtUp}
 use Rattle.wb_history.specs.Replies.{IsAdded, Claimed, NotClaimed, ClaimSteps, FaultSteps}
 use Rattle.wb_codec.specs.Ranges.{IsDrawop}
 use Rattle.wb_history.proofs.Words.{get_is, holds_not, none_before, history_is, pairs_are, all_are, contains_is}
@@ -58,6 +58,9 @@ starts h more k h' w = (more, w.seen)
 keeps_rows : (h : Hand) (more : List DrawopValue) (k : ℕ) (h' : Hand) → Walked h more k h' → KeepsRows (view_of h) (view_of h')
 keeps_rows h more k h' w = (w.mine, ap length w.free)
 
+adds_nothing : (h : Hand) (more : List DrawopValue) (k : ℕ) (h' : Hand) → InOrder h → Walked h more k h' → AddsNothing (view_of h) (view_of h')
+adds_nothing h more k h' o w = (keeps_rows h more k h' w, λ all. w.seen ∙ (ap (λ (l : List DrawopValue). h.seen.items ++ l) (w.whole (owns h o all)) ∙ append-nil h.seen.items))
+
 caught_up : (cells : ℕ) (h : Hand) (more : List DrawopValue) (h' : Hand) → h.seat.me.0.cells ≡ cells → AtEnd cells h more h' → IsCaughtUp (view_of h) (view_of h')
 caught_up cells h more h' same e = ⊎_elim (λ x. let m = x.0.made in inl ((omega arith), x.1.0, x.1.1)) (λ x. let c = x.0.cells in let f = x.1 in inr (omega arith)) e
 
@@ -82,26 +85,26 @@ added h more d i extra h' o w =
 
 shown_claim : (h : Hand) (d : DrawopValue) (extra : ℕ) (h' : Hand) (c : Claim) → InOrder h → Settled h d extra h' c → StartsWith h'.seen.items h.seen.items × Claimed (view_of h) d (view_of h') c
 shown_claim h d extra h' (Added i) o s = ((s.0 ++ d ∷ [], s.1.seen ∙ append_assoc h.seen.items s.0 (d ∷ [])), added h s.0 d i (extra + 1) h' o s.1)
-shown_claim h d extra h' (Present i) o s = (starts h s.0 extra h' s.1, (get_is h'.seen.items i d s.2, keeps_rows h s.0 extra h' s.1))
-shown_claim h d extra h' (Clash i) o s = (starts h s.0 extra h' s.1, ((s.2.0, get_is h'.seen.items i s.2.0 s.2.1, s.2.2, s.2.3), keeps_rows h s.0 extra h' s.1))
+shown_claim h d extra h' (Present i) o s = (starts h s.0 extra h' s.1, (get_is h'.seen.items i d s.2, adds_nothing h s.0 extra h' o s.1))
+shown_claim h d extra h' (Clash i) o s = (starts h s.0 extra h' s.1, ((s.2.0, get_is h'.seen.items i s.2.0 s.2.1, s.2.2, s.2.3), adds_nothing h s.0 extra h' o s.1))
 
 end_order : (cells : ℕ) (h : Hand) (more : List DrawopValue) (h' : Hand) → AtEnd cells h more h' → InOrder h'
 end_order cells h more h' e = ⊎_elim (λ x. x.0.order) (λ x. x.0.order) e
 
-end_starts : (cells : ℕ) (h : Hand) (more : List DrawopValue) (h' : Hand) → AtEnd cells h more h' → StartsWith h'.seen.items h.seen.items × KeepsRows (view_of h) (view_of h')
-end_starts cells h more h' e = ⊎_elim (λ x. (starts h more 1 h' x.0, keeps_rows h more 1 h' x.0)) (λ x. (starts h more 0 h' x.0, keeps_rows h more 0 h' x.0)) e
+end_starts : (cells : ℕ) (h : Hand) (more : List DrawopValue) (h' : Hand) → InOrder h → AtEnd cells h more h' → StartsWith h'.seen.items h.seen.items × AddsNothing (view_of h) (view_of h')
+end_starts cells h more h' o e = ⊎_elim (λ x. (starts h more 1 h' x.0, adds_nothing h more 1 h' o x.0)) (λ x. (starts h more 0 h' x.0, adds_nothing h more 0 h' o x.0)) e
 
-shown_fault : (cells : ℕ) (h : Hand) (d : DrawopValue) (h' : Hand) (f : ClaimFault) → h.seat.me.0.cells ≡ cells → Refused cells h d h' f → StartsWith h'.seen.items h.seen.items × NotClaimed (view_of h) d (view_of h') f
-shown_fault cells h d h' NoRow same r =
-    let e = end_starts cells h r.0 h' r.1 in
-    (e.0, record { none_left = e.1.1 ∙ ap length r.3; absent = holds_not h'.seen.items d.name r.2; end = caught_up cells h r.0 h' same r.1; sound = sound h' (end_order cells h r.0 h' r.1); kept = e.1 })
-shown_fault cells h d h' Memory same r = (starts h r.0 r.1 h' r.3, keeps_rows h r.0 r.1 h' r.3)
+shown_fault : (cells : ℕ) (h : Hand) (d : DrawopValue) (h' : Hand) (f : ClaimFault) → InOrder h → h.seat.me.0.cells ≡ cells → Refused cells h d h' f → StartsWith h'.seen.items h.seen.items × NotClaimed (view_of h) d (view_of h') f
+shown_fault cells h d h' NoRow o same r =
+    let e = end_starts cells h r.0 h' o r.1 in
+    (e.0, record { none_left = e.1.0.1 ∙ ap length r.3; absent = holds_not h'.seen.items d.name r.2; end = caught_up cells h r.0 h' same r.1; sound = sound h' (end_order cells h r.0 h' r.1); kept = e.1 })
+shown_fault cells h d h' Memory o same r = (starts h r.0 r.1 h' r.3, adds_nothing h r.0 r.1 h' o r.3)
 
 -- what a claim with a hand says of what is seen of the hand
 pub shown : (cells : ℕ) (h : Hand) (d : DrawopValue) (h' : Hand) (r : Result Claim ClaimFault) → InOrder h → h.seat.me.0.cells ≡ cells → MatchResult r (λ c. (extra : ℕ) × (extra ≤ member_steps) × Settled h d extra h' c) (Refused cells h d h')
     → StartsWith h'.seen.items h.seen.items × MatchResult r (Claimed (view_of h) d (view_of h')) (NotClaimed (view_of h) d (view_of h'))
 shown cells h d h' (Ok c) o same m = shown_claim h d m.0 h' c o m.2
-shown cells h d h' (Err f) o same m = shown_fault cells h d h' f same m
+shown cells h d h' (Err f) o same m = shown_fault cells h d h' f o same m
 
 -- the steps of the call before do not matter to an answer
 pub from_there : (p : PassValue) (n : ℕ) (d : DrawopValue) (q : PassValue) (r : Result Claim ClaimFault) → MatchResult r (Claimed (record p { steps = n }) d q) (NotClaimed (record p { steps = n }) d q) → MatchResult r (Claimed p d q) (NotClaimed p d q)

@@ -2,13 +2,16 @@
 use Rattle.std.proofs.Common.{◌≡◌, ℕ, ◌+◌, ◌<◌, ◌≤◌, List, [], ◌++◌, length, refl, sym, ap, ◌∙◌, subst, ⊎_elim, arith, length-append}
 use Rattle.std.proofs.lemmas.List.{append-nil}
 use Rattle.std.proofs.lemmas.Bool.{cases_lt, cond_below, cond_above}
-use mathlib.Core.Option.{none}
+use Rattle.std.specs.Prelude.{Contains}
+use Rattle.atomic_table.proofs.Lists.{at_longer}
+use Rattle.wb_history.proofs.Lists.{at_read, at_after}
+use mathlib.Core.Option.{some, none}
 use mathlib.Core.List.{IsPrefix}
 use Rattle.atomic_table.specs.Table.{Me, step}
 use Rattle.wb_names.specs.Values.{DrawopValue}
 use Rattle.wb_history.specs.declared.knowledge.Knowledge.{Knowledge}
 use Rattle.wb_history.specs.declared.hand.Hand.{Hand}
-use Rattle.wb_history.specs.Lists.{StartsWith, longer, shorter}
+use Rattle.wb_history.specs.Lists.{StartsWith, Once, longer, shorter}
 use Rattle.wb_history.specs.Hands.{InOrder, United}
 use Rattle.wb_history.specs.Plays.{confirmed}
 use Rattle.wb_history.specs.Sharing.{IsJoined}
@@ -69,6 +72,15 @@ took_in h g h' u word found o q slots is told table id seen mine free steps =
     both_lists : (f : Knowledge → List ℕ) (a b : List ℕ) → f h.seat.me.0 ≡ a → f g.seat.me.0 ≡ b → f h.seat.me.0 ++ f g.seat.me.0 ≡ a ++ b
     both_lists f a b x y = λ i. x i ++ y i
 
+-- where no element of two lists together stands twice, they share none
+shared_none : (xs ys : List ℕ) → Once (xs ++ ys) → (i : ℕ) → Contains xs i → Contains ys i → ⊥
+shared_none xs ys once i a b =
+    let here = at_read xs a.0 i a.1 ∙ ap some a.2 in
+    let there = at_read ys b.0 i b.1 ∙ ap some b.2 in
+    let is = once a.0 (length xs + b.0) i (at_longer xs ys a.0 i here) (at_after xs ys b.0 i there) in
+    let lt = a.1 in
+    absurd (omega arith)
+
 -- more capacity is not seen
 pub same_view : (h k : Hand) → h.seat ≡ k.seat → h.seen ≡ k.seen → h.mine.items ≡ k.mine.items → h.free.items ≡ k.free.items → h.steps ≡ k.steps → view_of h ≡ view_of k
 same_view h k seat seen mine free steps = λ i. record {
@@ -90,6 +102,7 @@ joined p q h g h' is_p is_q u = subst (λ (v : PassValue). IsJoined v q (view_of
   second = prefix_is h'.seen.items g.seen.items u.second;
   mine = u.mine;
   free = ap length u.free ∙ long;
+  apart = λ i a b. shared_none h.mine.items g.mine.items (subst Once (u.order.mine ∙ u.mine) u.order.sane.mine_once) i a b;
   sound = sound h' u.order;
 })
   where

@@ -40,6 +40,10 @@ KeepsRows p q = (q.mine ≡ p.mine) × (q.free ≡ p.free)
 abbrev pub IsWhole : PassValue → Type 0
 IsWhole p = p.free + length p.mine ≡ p.cells
 
+-- a call that added nothing: the rows stay, and a pass that has all of them learned of no member
+abbrev pub AddsNothing : PassValue → PassValue → Type 0
+AddsNothing p q = KeepsRows p q × (IsWhole p → q.seen ≡ p.seen)
+
 -- What is true of every pass
 pub record IsSound (p : PassValue) : Type 0 where
   pub history : IsHistory p.seen

@@ -3,7 +3,7 @@ use Rattle.std.specs.Prelude.{◌≡◌, ℕ, ◌+◌, ◌-◌, ◌*◌, ◌≤�
 use Rattle.wb_names.specs.Values.{DrawopValue}
 use Rattle.wb_names.specs.History.{HoldsName, IsNewAt, IsAgainAt, IsClashAt}
 use Rattle.wb_history.specs.Sizes.{row_words, member_steps}
-use Rattle.wb_history.specs.Passes.{PassValue, IsWhole, IsSound, KeepsRows, IsCaughtUp}
+use Rattle.wb_history.specs.Passes.{PassValue, IsWhole, IsSound, AddsNothing, IsCaughtUp}
 use Rattle.wb_history.specs.declared.hand.Claim.{Claim}
 use Rattle.wb_history.specs.declared.hand.Claim.TheVariants.{Added, Present, Clash}
 use Rattle.wb_history.specs.declared.hand.ClaimFault.{ClaimFault}
@@ -25,16 +25,16 @@ pub record HasNoRow (p : PassValue) (d : DrawopValue) (q : PassValue) : Type 0 w
   pub absent : ¬ HoldsName q.seen d.name
   pub end : IsCaughtUp p q
   pub sound : IsSound q
-  pub kept : KeepsRows p q
+  pub kept : AddsNothing p q
 
 abbrev pub Claimed : PassValue → DrawopValue → PassValue → Claim → Type 0
 Claimed p d q (Added i) = IsAdded p d i q
-Claimed p d q (Present i) = IsAgainAt q.seen d i × KeepsRows p q
-Claimed p d q (Clash i) = IsClashAt q.seen d i × KeepsRows p q
+Claimed p d q (Present i) = IsAgainAt q.seen d i × AddsNothing p q
+Claimed p d q (Clash i) = IsClashAt q.seen d i × AddsNothing p q
 
 abbrev pub NotClaimed : PassValue → DrawopValue → PassValue → ClaimFault → Type 0
 NotClaimed p d q NoRow = HasNoRow p d q
-NotClaimed p d q Memory = KeepsRows p q
+NotClaimed p d q Memory = AddsNothing p q
 
 -- how many members more the pass has seen
 abbrev pub brought : PassValue → PassValue → ℕ

@@ -1,5 +1,5 @@
 -- How a pass is split, and how two passes are joined.
-use Rattle.std.specs.Prelude.{◌≡◌, ℕ, ◌+◌, ◌<◌, ◌≤◌, [], ◌++◌}
+use Rattle.std.specs.Prelude.{◌≡◌, ℕ, ◌+◌, ◌<◌, ◌≤◌, [], ◌++◌, Contains}
 use mathlib.Core.List.{IsPrefix}
 use Rattle.wb_history.specs.Lists.{longer}
 use Rattle.wb_history.specs.Passes.{PassValue, IsSamePass, IsSound}
@@ -28,4 +28,5 @@ pub record IsJoined (p q r : PassValue) : Type 0 where
   pub second : IsPrefix q.seen r.seen
   pub mine : r.mine ≡ p.mine ++ q.mine
   pub free : r.free ≡ p.free + q.free
+  pub apart : (i : ℕ) → Contains p.mine i → Contains q.mine i → ⊥
   pub sound : IsSound r

@@ -1,4 +1,4 @@
-//! The table of a history.
+//! The table of a history: its cells, and then its rows.
 ghost use Rattle.wb_history.specs.Sizes.{row_words};
 ghost use Rattle.std.specs.Prelude.{◌≡◌, ◌+◌, ◌*◌, ◌<◌, ◌≤◌, IfOk};
 
@@ -26,6 +26,7 @@ impl CellTable {
     ghost use Rattle.wb_history.specs.Views.{whole_pass};
     ghost use Rattle.std.specs.Prelude.{[]};
 
+    /// A table of free cells and rows that no cell names, with the seat that owns all rows.
     pub(crate) fn make(alloc: Global, cells: u32) -> Result<(CellTable, Place), AllocError>
         requires { (0 < cells) × (cells ≤ 65535) }
         ensures { IfOk result (λ t. (t.0.cells ≡ cells) × (t.1.table_id ≡ t.0.table.shared.table_id) × (t.1.me ≡ (whole_pass cells, []))) }

@@ -1,4 +1,5 @@
-//! How a hand claims a place for a drawop.
+//! How a hand claims a place for a drawop: its record goes into a free row, and then the next cells
+//! are tried one after another with that row, until one is won or names a member of its name.
 ghost use Rattle.wb_history.specs.Sizes.{row_words, member_steps};
 ghost use Rattle.std.specs.Prelude.{◌≡◌, ℕ, ◌+◌, ◌-◌, ◌*◌, ◌<◌, ◌≤◌, List, [], ◌∷◌, length, IsOk, MatchOption, MatchResult};
 ghost use mathlib.Core.Option.{some};
@@ -19,7 +20,9 @@ use wb_codec::ROW_WORDS;
 use wb_names::Drawop;
 
 impl CellTable {
-    /// Exchanges the next cell for the row, in which the record of the drawop stands. Or else reads the member whose cell it is.
+    /// Exchanges the next cell for the row, in which the record of the drawop stands. Or else reads
+    /// the member whose cell it is. The drawop is put into the list and the index before, so that
+    /// nothing can be refused after the exchange is won; where it is lost it is taken out again.
     fn exchange(
         &self,
         hand: &mut Hand,
@@ -89,7 +92,9 @@ impl CellTable {
         self.contend(hand, row, drawop)
     }
 
-    /// Claims a place for the drawop.
+    /// Claims a place for the drawop: by the list, by the members that came since, and then with a
+    /// row. A row is looked for only once the end was found, so that a name that others added is
+    /// answered without one.
     pub(crate) fn claim_with(&self, hand: &mut Hand, drawop: &Drawop) -> Result<Claim, ClaimFault>
         requires hand { SitsAt self.now hand.old.seat × InOrder hand.old × (hand.old.steps ≡ 0) }
         ensures done { MatchResult result (λ c. (extra : ℕ) × (extra ≤ member_steps) × Settled hand.old drawop.now extra hand.new c) (Refused self.now.cells hand.old drawop.now hand.new) }
@@ -122,6 +127,7 @@ fn known(members: &Members, drawop: &Drawop) -> Option<Claim>
     Some(answer(drawop, &members.as_slice()[place], place))
 }
 
+/// The row that is used next.
 fn last(rows: &[u32]) -> Option<u32>
     ensures { MatchOption result (rows.now ≡ []) (λ r. get_elem? rows.now (length rows.now - 1) ≡ some r) }
 {

@@ -4,7 +4,7 @@ ghost use mathlib.Core.List.{IsPrefix};
 ghost use Rattle.wb_names.specs.History.{HoldsName};
 ghost use Rattle.wb_history.specs.Sizes.{member_steps};
 ghost use Rattle.wb_history.specs.Lists.{numbers};
-ghost use Rattle.wb_history.specs.Passes.{IsPassOf, IsSamePass, IsWhole, KeepsRows, IsCaughtUp};
+ghost use Rattle.wb_history.specs.Passes.{IsPassOf, IsSamePass, AddsNothing, IsCaughtUp};
 ghost use Rattle.wb_history.specs.Replies.{Claimed, NotClaimed, ClaimSteps, FaultSteps, brought};
 ghost use Rattle.wb_history.specs.declared.history.OpenFault.TheVariants as fault;
 
@@ -116,9 +116,9 @@ impl History {
     /// the pass may have seen more.
     pub fn refresh(&self, pass: &mut Pass) -> Result<u32, AllocError>
         requires pass { IsPassOf self.now pass.old }
-        ensures same { IsSamePass pass.old pass.new × KeepsRows pass.old pass.new }
+        ensures same { IsSamePass pass.old pass.new }
         ensures grows { IsPrefix pass.old.seen pass.new.seen }
-        ensures whole { IsWhole pass.old → pass.new.seen ≡ pass.old.seen }
+        ensures nothing { AddsNothing pass.old pass.new }
         ensures end { IfOk result (λ n. (n ≡ length pass.new.seen) × IsCaughtUp pass.old pass.new) }
         ensures steps { pass.new.made ≡ pass.old.made + pass.new.steps }
         ensures few_steps { pass.new.steps ≤ member_steps * brought pass.old pass.new + 1 }

@@ -96,6 +96,7 @@ impl History {
     }
 }
 
+/// Puts all numbers at the end, for which there is room.
 fn append(to: &mut Vec<u32>, from: &[u32])
     requires { vec_len to.old + length from.now ≤ vec_capacity to.old }
     ensures { to.new.items ≡ to.old.items ++ from.now }
@@ -106,7 +107,8 @@ fn append(to: &mut Vec<u32>, from: &[u32])
 }
 
 impl CellTable {
-    /// Makes two hands one. A load of the first cell confirms what it then knows.
+    /// Makes two hands one. The load of the first cell tells what the join of the seats does not: that
+    /// the longer list begins with the shorter, and that no place was of both.
     fn take_in(&self, hand: &mut Hand, other: Hand)
         requires hand { SitsAt self.now hand.old.seat × InOrder hand.old }
         requires other { SitsAt self.now other.seat × InOrder other }

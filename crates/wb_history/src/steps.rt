@@ -1,4 +1,5 @@
-//! Each kind of step on a word, and the steps on a whole row.
+//! Each kind of step on a word, who may take it and what it tells, and the steps on a whole row.
+//! Only a won exchange is an event of the history; every other step changes nothing that is seen.
 ghost use Rattle.wb_history.specs.Sizes.{row_words};
 ghost use Rattle.std.specs.Prelude.{◌≡◌, ◌≢◌, ℕ, ◌+◌, ◌-◌, ◌*◌, ◌<◌, ◌≤◌, [], ◌∷◌, ◌++◌, length};
 ghost use mathlib.Core.Option.{some, none};
@@ -18,7 +19,8 @@ use wb_codec::{ROW_WORDS, from_row, to_row};
 use wb_names::Drawop;
 
 impl CellTable {
-    /// Loads the first cell that the seat has not seen. It holds 0 or a row number plus one.
+    /// Loads the first cell that the seat has not seen. It holds 0 while it is free, and otherwise a
+    /// row number plus one.
     pub(crate) fn look(&self, seat: &mut Place, place: usize) -> u64
         requires seat { SitsAt self.now seat.old }
         requires place { (place ≡ length seat.old.me.0.seen) × (place < self.now.cells) }
@@ -28,6 +30,7 @@ impl CellTable {
         self.table.shared.load::<Look>(seat, place)
     }
 
+    /// The first word of a row: the rows stand after the cells.
     fn row_start(&self, row: usize) -> usize
         requires { row < self.now.cells }
         ensures { result ≡ self.now.cells + row * row_words }
@@ -35,7 +38,8 @@ impl CellTable {
         self.cells as usize + row * ROW_WORDS
     }
 
-    /// Reads the row that the cell names which the seat looked at.
+    /// Reads the row that the cell names which the seat looked at. Its owner stored it before that
+    /// cell was won, and stores nothing there again.
     pub(crate) fn read_row(&self, seat: &mut Place, row: usize) -> Drawop
         requires seat { SitsAt self.now seat.old }
         requires row { (row < self.now.cells) × (seat.old.me.0.looking ≡ row + 1) × (seat.old.me.0.read ≡ []) }
@@ -57,7 +61,8 @@ impl CellTable {
         }
     }
 
-    /// Stores a record into the last free row of the seat.
+    /// Stores a record into the last free row of the seat, which no cell names, so that no other
+    /// seat reads it.
     pub(crate) fn store_row(&self, seat: &mut Place, row: usize, drawop: &Drawop)
         requires seat { SitsAt self.now seat.old }
         requires row { (row < self.now.cells) × (get_elem? seat.old.me.0.free (length seat.old.me.0.free - 1) ≡ some row) × (seat.old.me.0.stored ≡ []) }
@@ -75,7 +80,8 @@ impl CellTable {
         }
     }
 
-    /// Exchanges the first cell that the seat has not seen, if it is free, for the row. It returns what the cell held.
+    /// Exchanges the first cell that the seat has not seen, if it is free, for the row in which the
+    /// whole record stands. It returns what the cell held: 0 where the exchange was won.
     pub(crate) fn publish(&self, seat: &mut Place, place: usize, row: u32, drawop: &Drawop) -> u64
         requires seat { SitsAt self.now seat.old }
         requires place { (place ≡ length seat.old.me.0.seen) × (place < self.now.cells) }
@@ -93,7 +99,8 @@ impl CellTable {
 }
 
 impl CellTable {
-    /// Loads the first cell, which only confirms what the seat knows.
+    /// Loads the first cell after a join, which tells nothing by itself: of the two lists the longer
+    /// begins with the shorter, and a step tells that.
     pub(crate) fn confirm(&self, seat: &mut Place)
         requires seat { SitsAt self.now seat.old }
         ensures seat { SameSeat seat.old seat.new }
@@ -102,7 +109,7 @@ impl CellTable {
         let _found = self.table.shared.load::<Confirm>(seat, 0);
     }
 
-    /// Gives the last rows to a new seat.
+    /// Gives the last rows to a new seat, which has seen the same.
     pub(crate) fn cut<B: Portion>(&self, seat: &mut Place, rows: usize) -> Place
         requires seat { SitsAt self.now seat.old }
         requires rows { B.rows ≡ rows }
@@ -112,7 +119,7 @@ impl CellTable {
         self.table.shared.split_seat::<Cut<B>>(seat)
     }
 
-    /// Takes in another seat.
+    /// Takes in another seat, with what it has seen and its rows and places.
     pub(crate) fn unite(&self, seat: &mut Place, other: Place)
         requires seat { SitsAt self.now seat.old }
         requires other { SitsAt self.now other × (other.me.1 ≡ []) }

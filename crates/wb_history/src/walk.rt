@@ -1,4 +1,5 @@
-//! How a hand goes on along the history.
+//! How a hand goes on along the history. A walk begins at the first cell that the hand has not seen,
+//! so that it reads no filled cell twice.
 ghost use Rattle.wb_history.specs.Sizes.{row_words, member_steps};
 ghost use Rattle.std.specs.Prelude.{◌≡◌, ℕ, ◌+◌, ◌*◌, ◌<◌, ◌≤◌, List, [], ◌∷◌, ◌++◌, length, MatchOption, MatchResult, IsTrue, ◌↔◌};
 ghost use mathlib.Core.Option.{some};
@@ -36,7 +37,8 @@ pub(crate) fn answer(drawop: &Drawop, member: &Drawop, place: usize) -> Claim
 }
 
 impl CellTable {
-    /// Reads the member after those that were seen, whose cell was found to hold `found`.
+    /// Reads the member after those that were seen, whose cell was found to hold `found`. All growth
+    /// for it comes before its row is read, since the last word read makes it seen.
     pub(crate) fn take_member(&self, hand: &mut Hand, found: u64) -> Result<Drawop, AllocError>
         requires hand { SitsAt self.now hand.old.seat × InOrder hand.old × (hand.old.steps ≤ member_steps * length hand.old.seen.items + 32) }
         requires found { (0 < found) × (found ≤ self.now.cells) × (hand.old.seat.me.0.looking ≡ found) × (hand.old.seat.me.0.read ≡ []) }
@@ -52,7 +54,7 @@ impl CellTable {
         Ok(drawop)
     }
 
-    /// Reads the next member, if there is one.
+    /// Reads the next member, if there is one: a load of its cell, and one of each word of its row.
     pub(crate) fn next_member(&self, hand: &mut Hand) -> Result<Option<Drawop>, AllocError>
         requires hand { SitsAt self.now hand.old.seat × InOrder hand.old × (hand.old.steps ≤ member_steps * length hand.old.seen.items) }
         ensures done { MatchResult result (λ o. MatchOption o (AtEnd self.now.cells hand.old [] hand.new) (λ d. Walked hand.old (d ∷ []) 0 hand.new)) (λ _. Walked hand.old [] 1 hand.new) }
