@@ -12,7 +12,7 @@ use wb_names::Drawop;
 /// A seat at the table of a history.
 pub(crate) type Place = Seat<Drawop, Knowledge>;
 
-/// CellTable and rows that passes share.
+/// Cells and rows that passes share. Word `p` is cell `p`: it holds 0, or a row number plus one.
 #[derive(Drop)]
 pub struct CellTable {
     pub(crate) table: Table<Drawop, Knowledge, u32, OneHistory, Global>,

@@ -12,6 +12,9 @@
 //! No call waits for another thread, and nothing is promised of which claim wins. A row is never
 //! used again, a drawop never leaves, and nothing is kept on disk. Callers see drawops by place; the
 //! words, the contents of cells and the numbers of rows stay inside.
+//!
+//! In reading order: `history`, `parts` and `pass` have the public calls; `hand`, `members`, `walk`
+//! and `claims` what a pass does in them; `cells`, `steps`, `rule` and `knowledge` the table.
 #![tactic(auto)]
 
 mod cells;
