@@ -1,0 +1,11 @@
+pub mod Keeps
+pub mod Lists
+pub mod Names
+pub mod Words
+pub mod Opens
+pub mod Rows
+pub mod Walks
+pub mod Ownership
+pub mod Shows
+pub mod Unions
+pub mod Portions

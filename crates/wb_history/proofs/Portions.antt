@@ -1,0 +1,62 @@
+-- The hands after a split, and after a join.
+use Rattle.std.proofs.Common.{◌≡◌, ℕ, ◌+◌, ◌-◌, ◌≤◌, List, [], length, take, drop, sym, ap, ◌∙◌, subst, arith, length-drop}
+use Rattle.std.proofs.lemmas.List.{length-take}
+use Rattle.atomic_table.specs.Table.{Me}
+use Rattle.wb_names.specs.Values.{DrawopValue}
+use Rattle.wb_history.specs.declared.knowledge.Knowledge.{Knowledge}
+use Rattle.wb_history.specs.declared.hand.Hand.{Hand}
+use Rattle.wb_history.specs.Lawful.{Sane}
+use Rattle.wb_history.specs.Hands.{InOrder}
+use Rattle.wb_history.specs.Views.{left_part, right_part}
+use Rattle.wb_history.proofs.Lists.{at_take, at_drop, at_nothing, once_nothing}
+
+take_few : (n : ℕ) (l : List ℕ) → length (take n l) ≤ length l
+take_few n l = omega (arith, length-take n l)
+
+sane_left : (n : ℕ) (v : Knowledge) → Sane v → Sane (left_part n v)
+sane_left n v s =
+    let few = take_few (length v.free - n) v.free in
+    let room = s.room in
+    let own = s.own in record {
+      valid = s.valid;
+      names_once = s.names_once;
+      room = omega arith;
+      own = omega arith;
+      rows = λ i q e. s.rows i q (at_take (length v.free - n) v.free i q e).1;
+      mine_is = s.mine_is;
+      mine_once = s.mine_once;
+      whole = λ all p below. s.whole (omega arith) p below;
+    }
+
+sane_right : (n : ℕ) (v : Knowledge) → Sane v → Sane (right_part n v)
+sane_right n v s =
+    let few = length-drop (length v.free - n) v.free in
+    let room = s.room in
+    let own = s.own in record {
+      valid = s.valid;
+      names_once = s.names_once;
+      room = omega arith;
+      own = omega arith;
+      rows = λ i q e. s.rows (length v.free - n + i) q (at_drop (length v.free - n) v.free i q e);
+      mine_is = λ i p e. absurd (at_nothing i p e);
+      mine_once = once_nothing;
+      whole = λ all p below. absurd (omega arith);
+    }
+
+pub left_order : (h h' : Hand) (n : ℕ) → InOrder h → h'.seat.me.1 ≡ h.seat.me.1 → h'.seat.me.0 ≡ left_part n h.seat.me.0 → h'.seen.items ≡ h.seen.items → h'.mine.items ≡ h.mine.items → h'.free.items ≡ take (length h.free.items - n) h.free.items → InOrder h'
+left_order h h' n o slots is seen mine free = record {
+  slots = slots ∙ o.slots;
+  seen = ap (λ (v : Knowledge). v.seen) is ∙ (o.seen ∙ sym seen);
+  mine = ap (λ (v : Knowledge). v.mine) is ∙ (o.mine ∙ sym mine);
+  free = ap (λ (v : Knowledge). v.free) is ∙ (ap (λ (l : List ℕ). take (length l - n) l) o.free ∙ sym free);
+  sane = subst Sane (sym is) (sane_left n h.seat.me.0 o.sane);
+}
+
+pub right_order : (h h' : Hand) (n : ℕ) → InOrder h → h'.seat.me ≡ (right_part n h.seat.me.0, []) → h'.seen.items ≡ h.seen.items → h'.mine.items ≡ [] → h'.free.items ≡ drop (length h.free.items - n) h.free.items → InOrder h'
+right_order h h' n o is seen mine free = record {
+  slots = ap (λ (m : Me DrawopValue Knowledge). m.1) is;
+  seen = ap (λ (m : Me DrawopValue Knowledge). m.0.seen) is ∙ (o.seen ∙ sym seen);
+  mine = ap (λ (m : Me DrawopValue Knowledge). m.0.mine) is ∙ sym mine;
+  free = ap (λ (m : Me DrawopValue Knowledge). m.0.free) is ∙ (ap (λ (l : List ℕ). drop (length l - n) l) o.free ∙ sym free);
+  sane = subst (λ (m : Me DrawopValue Knowledge). Sane m.0) (sym is) (sane_right n h.seat.me.0 o.sane);
+}

@@ -1,0 +1,150 @@
+-- What the parts of a pass show of it.
+use Rattle.wb_history.specs.Sizes.{member_steps}
+use Rattle.std.proofs.Common.{◌≡◌, ℕ, ◌+◌, ◌-◌, ◌*◌, ◌<◌, ◌≤◌, List, [], ◌∷◌, ◌++◌, length, refl, sym, ap, ◌∙◌, subst, inl, inr, ⊎_elim, arith, length-append, length-take-le, append_assoc}
+use Rattle.std.proofs.lemmas.List.{append-nil}
+use Rattle.std.proofs.Common.{Result, Ok, Err, MatchResult}
+use Rattle.std.specs.Prelude.{replicate}
+use Rattle.std.proofs.lemmas.List.{length-replicate}
+use Rattle.atomic_table.specs.Table.{Me, opening}
+use Rattle.wb_history.specs.Lists.{numbers}
+use Rattle.wb_history.specs.Views.{whole_pass}
+use Rattle.wb_history.proofs.Opens.{opens}
+use Rattle.wb_history.proofs.Keeps.{sane}
+use mathlib.Core.Option.{some}
+use lib.ListN.{get_elem?}
+use Rattle.atomic_table.proofs.Lists.{at_last}
+use Rattle.wb_names.specs.Values.{DrawopValue}
+use Rattle.wb_history.specs.declared.knowledge.Knowledge.{Knowledge}
+use Rattle.wb_history.specs.declared.hand.Hand.{Hand}
+use Rattle.wb_history.specs.declared.hand.Claim.{Claim}
+use Rattle.wb_history.specs.declared.hand.Claim.TheVariants.{Added, Present, Clash}
+use Rattle.wb_history.specs.declared.hand.ClaimFault.{ClaimFault}
+use Rattle.wb_history.specs.declared.hand.ClaimFault.TheVariants.{NoRow, Memory}
+use Rattle.wb_history.specs.Lists.{StartsWith, Has, Once}
+use Rattle.wb_history.specs.Members.{AllValid, NamesOnce}
+use Rattle.wb_history.specs.Lawful.{Sane}
+use Rattle.wb_history.specs.Hands.{InOrder, Walked, Won, AtEnd, Settled, Refused}
+use Rattle.wb_history.specs.Passes.{PassValue, IsWhole, KeepsRows, AddsNothing, IsSound, IsCaughtUp}
+use Rattle.wb_history.specs.Replies.{IsAdded, Claimed, NotClaimed, ClaimSteps, FaultSteps}
+use Rattle.wb_codec.specs.Ranges.{IsDrawop}
+use Rattle.wb_history.proofs.Words.{get_is, holds_not, none_before, history_is, pairs_are, all_are, contains_is}
+use Rattle.wb_history.specs.Shown.{view_of}
+use Rattle.wb_history.specs.Views.{OwnsAll}
+
+-- what is seen of a hand in order is sound
+pub sound : (h : Hand) → InOrder h → IsSound (view_of h)
+sound h o =
+    let s = o.sane in
+    let seen = ap length o.seen in
+    let free = ap length o.free in
+    let mine = ap length o.mine in
+    let room = s.room in
+    let own = s.own in record {
+      history = history_is h.seen.items (subst NamesOnce o.seen s.names_once);
+      lawful = all_are IsDrawop h.seen.items (λ i d e. subst AllValid o.seen s.valid i d e);
+      room = omega arith;
+      rows = omega arith;
+      own = all_are (λ i. i < length h.seen.items) h.mine.items (λ i k e. let l = s.mine_is i k (subst (λ (m : List ℕ). get_elem? m i ≡ some k) (sym o.mine) e) in omega arith);
+      once = pairs_are h.mine.items (subst Once o.mine s.mine_once);
+      all = λ whole k below. contains_is h.mine.items k (subst (λ (m : List ℕ). Has m k) o.mine (s.whole (omega arith) k (omega arith)));
+    }
+
+owns : (h : Hand) → InOrder h → IsWhole (view_of h) → OwnsAll h.seat.me.0
+owns h o all = let b = ap length o.free in let d = ap length o.mine in omega arith
+
+pub starts : (h : Hand) (more : List DrawopValue) (k : ℕ) (h' : Hand) → Walked h more k h' → StartsWith h'.seen.items h.seen.items
+starts h more k h' w = (more, w.seen)
+
+keeps_rows : (h : Hand) (more : List DrawopValue) (k : ℕ) (h' : Hand) → Walked h more k h' → KeepsRows (view_of h) (view_of h')
+keeps_rows h more k h' w = (w.mine, ap length w.free)
+
+adds_nothing : (h : Hand) (more : List DrawopValue) (k : ℕ) (h' : Hand) → InOrder h → Walked h more k h' → AddsNothing (view_of h) (view_of h')
+adds_nothing h more k h' o w = (keeps_rows h more k h' w, λ all. w.seen ∙ (ap (λ (l : List DrawopValue). h.seen.items ++ l) (w.whole (owns h o all)) ∙ append-nil h.seen.items))
+
+caught_up : (cells : ℕ) (h : Hand) (more : List DrawopValue) (h' : Hand) → h.seat.me.0.cells ≡ cells → AtEnd cells h more h' → IsCaughtUp (view_of h) (view_of h')
+caught_up cells h more h' same e = ⊎_elim (λ x. let m = x.0.made in inl ((omega arith), x.1.0, x.1.1)) (λ x. let c = x.0.cells in let f = x.1 in inr (omega arith)) e
+
+-- the list after a claim that was won ends with the drawop, whose name stands nowhere before
+added : (h : Hand) (more : List DrawopValue) (d : DrawopValue) (i extra : ℕ) (h' : Hand) → InOrder h → Won h more d i extra h' → IsAdded (view_of h) d i (view_of h')
+added h more d i extra h' o w =
+    let place = w.at in
+    let long = ap length w.seen in
+    let l1 = length-append (h.seen.items ++ more) (d ∷ []) in
+    let l2 = length-append h.seen.items more in
+    let row = w.free in
+    let last : length h'.seen.items ≡ i + 1 = omega arith in
+    let at : get_elem? h'.seen.items i ≡ some d = subst (λ (l : List DrawopValue). get_elem? l i ≡ some d) (sym w.seen) (at_last (h.seen.items ++ more) d i (omega arith)) in record {
+      new = (sym (length-take-le i h'.seen.items (omega arith)), none_before h'.seen.items i d (subst NamesOnce w.order.seen w.order.sane.names_once) at);
+      member = get_is h'.seen.items i d at;
+      last = last;
+      later = omega arith;
+      gains = w.mine;
+      row = omega arith;
+      alone = λ all. w.seen ∙ ap (λ (l : List DrawopValue). l ++ d ∷ []) (ap (λ (l : List DrawopValue). h.seen.items ++ l) (w.whole (owns h o all)) ∙ append-nil h.seen.items);
+    }
+
+shown_claim : (h : Hand) (d : DrawopValue) (extra : ℕ) (h' : Hand) (c : Claim) → InOrder h → Settled h d extra h' c → StartsWith h'.seen.items h.seen.items × Claimed (view_of h) d (view_of h') c
+shown_claim h d extra h' (Added i) o s = ((s.0 ++ d ∷ [], s.1.seen ∙ append_assoc h.seen.items s.0 (d ∷ [])), added h s.0 d i (extra + 1) h' o s.1)
+shown_claim h d extra h' (Present i) o s = (starts h s.0 extra h' s.1, (get_is h'.seen.items i d s.2, adds_nothing h s.0 extra h' o s.1))
+shown_claim h d extra h' (Clash i) o s = (starts h s.0 extra h' s.1, ((s.2.0, get_is h'.seen.items i s.2.0 s.2.1, s.2.2, s.2.3), adds_nothing h s.0 extra h' o s.1))
+
+end_order : (cells : ℕ) (h : Hand) (more : List DrawopValue) (h' : Hand) → AtEnd cells h more h' → InOrder h'
+end_order cells h more h' e = ⊎_elim (λ x. x.0.order) (λ x. x.0.order) e
+
+end_starts : (cells : ℕ) (h : Hand) (more : List DrawopValue) (h' : Hand) → InOrder h → AtEnd cells h more h' → StartsWith h'.seen.items h.seen.items × AddsNothing (view_of h) (view_of h')
+end_starts cells h more h' o e = ⊎_elim (λ x. (starts h more 1 h' x.0, adds_nothing h more 1 h' o x.0)) (λ x. (starts h more 0 h' x.0, adds_nothing h more 0 h' o x.0)) e
+
+shown_fault : (cells : ℕ) (h : Hand) (d : DrawopValue) (h' : Hand) (f : ClaimFault) → InOrder h → h.seat.me.0.cells ≡ cells → Refused cells h d h' f → StartsWith h'.seen.items h.seen.items × NotClaimed (view_of h) d (view_of h') f
+shown_fault cells h d h' NoRow o same r =
+    let e = end_starts cells h r.0 h' o r.1 in
+    (e.0, record { none_left = e.1.0.1 ∙ ap length r.3; absent = holds_not h'.seen.items d.name r.2; end = caught_up cells h r.0 h' same r.1; sound = sound h' (end_order cells h r.0 h' r.1); kept = e.1 })
+shown_fault cells h d h' Memory o same r = (starts h r.0 r.1 h' r.3, adds_nothing h r.0 r.1 h' o r.3)
+
+-- what a claim with a hand says of what is seen of the hand
+pub shown : (cells : ℕ) (h : Hand) (d : DrawopValue) (h' : Hand) (r : Result Claim ClaimFault) → InOrder h → h.seat.me.0.cells ≡ cells → MatchResult r (λ c. (extra : ℕ) × (extra ≤ member_steps) × Settled h d extra h' c) (Refused cells h d h')
+    → StartsWith h'.seen.items h.seen.items × MatchResult r (Claimed (view_of h) d (view_of h')) (NotClaimed (view_of h) d (view_of h'))
+shown cells h d h' (Ok c) o same m = shown_claim h d m.0 h' c o m.2
+shown cells h d h' (Err f) o same m = shown_fault cells h d h' f o same m
+
+-- the steps of the call before do not matter to an answer
+pub from_there : (p : PassValue) (n : ℕ) (d : DrawopValue) (q : PassValue) (r : Result Claim ClaimFault) → MatchResult r (Claimed (record p { steps = n }) d q) (NotClaimed (record p { steps = n }) d q) → MatchResult r (Claimed p d q) (NotClaimed p d q)
+from_there p n d q (Ok (Added i)) m = record { new = m.new; member = m.member; last = m.last; later = m.later; gains = m.gains; row = m.row; alone = m.alone }
+from_there p n d q (Ok (Present i)) m = m
+from_there p n d q (Ok (Clash i)) m = m
+from_there p n d q (Err NoRow) m = record { none_left = m.none_left; absent = m.absent; end = m.end; sound = m.sound; kept = m.kept }
+from_there p n d q (Err Memory) m = m
+
+pub first_sane : (cells : ℕ) → 0 < cells → Sane (whole_pass cells)
+first_sane cells h =
+    let n = cells * member_steps in
+    let r = opens cells (replicate n 0) n refl (length-replicate n 0) refl in
+    sane cells (opening (replicate n 0) [] (whole_pass cells)) r 0 (whole_pass cells) (r.each_pass 0 (whole_pass cells) refl) h
+
+pub first_order : (h : Hand) (cells : ℕ) → 0 < cells → h.seat.me ≡ (whole_pass cells, []) → h.seen.items ≡ [] → h.mine.items ≡ [] → h.free.items ≡ numbers cells → InOrder h
+first_order h cells some_cells me seen mine free = record {
+  slots = ap (λ (m : Me DrawopValue Knowledge). m.1) me;
+  seen = ap (λ (m : Me DrawopValue Knowledge). m.0.seen) me ∙ sym seen;
+  mine = ap (λ (m : Me DrawopValue Knowledge). m.0.mine) me ∙ sym mine;
+  free = ap (λ (m : Me DrawopValue Knowledge). m.0.free) me ∙ sym free;
+  sane = subst (λ (m : Me DrawopValue Knowledge). Sane m.0) (sym me) (first_sane cells some_cells);
+}
+
+pub fresh : (h : Hand) → InOrder h → InOrder (record h { steps = 0 })
+fresh h o = record { slots = o.slots; seen = o.seen; mine = o.mine; free = o.free; sane = o.sane }
+
+brought_is : (h : Hand) (more : List DrawopValue) (k : ℕ) (h' : Hand) → Walked h more k h' → length h'.seen.items - length h.seen.items ≡ length more
+brought_is h more k h' w = let l = ap length w.seen in omega (arith, length-append h.seen.items more)
+
+claim_steps : (h : Hand) (d : DrawopValue) (extra : ℕ) (h' : Hand) (c : Claim) → h.steps ≡ 0 → extra ≤ member_steps → Settled h d extra h' c → ClaimSteps (view_of h) (view_of h') c
+claim_steps h d extra h' (Added i) none few s = let w = s.1 in let t = w.steps in let at = w.at in let back : i - length h.seen.items ≡ length s.0 = omega arith in omega arith
+claim_steps h d extra h' (Present i) none few s = let t = s.1.steps in let b = brought_is h s.0 extra h' s.1 in omega arith
+claim_steps h d extra h' (Clash i) none few s = let t = s.1.steps in let b = brought_is h s.0 extra h' s.1 in omega arith
+
+fault_steps : (cells : ℕ) (h : Hand) (d : DrawopValue) (h' : Hand) (f : ClaimFault) → h.steps ≡ 0 → Refused cells h d h' f → FaultSteps (view_of h) (view_of h') f
+fault_steps cells h d h' NoRow none r = ⊎_elim (λ x. let t = x.0.steps in let b = brought_is h r.0 1 h' x.0 in omega arith) (λ x. let t = x.0.steps in let b = brought_is h r.0 0 h' x.0 in omega arith) r.1
+fault_steps cells h d h' Memory none r = let t = r.3.steps in let few = r.2 in let b = brought_is h r.0 r.1 h' r.3 in omega arith
+
+pub shown_steps : (cells : ℕ) (h : Hand) (d : DrawopValue) (h' : Hand) (r : Result Claim ClaimFault) → h.steps ≡ 0 → MatchResult r (λ c. (extra : ℕ) × (extra ≤ member_steps) × Settled h d extra h' c) (Refused cells h d h')
+    → MatchResult r (ClaimSteps (view_of h) (view_of h')) (FaultSteps (view_of h) (view_of h'))
+shown_steps cells h d h' (Ok c) none m = claim_steps h d m.0 h' c none m.1 m.2
+shown_steps cells h d h' (Err f) none m = fault_steps cells h d h' f none m

@@ -1,0 +1,118 @@
+-- Two hands, and two passes, that become one.
+use Rattle.std.proofs.Common.{◌≡◌, ℕ, ◌+◌, ◌<◌, ◌≤◌, List, [], ◌++◌, length, refl, sym, ap, ◌∙◌, subst, ⊎_elim, arith, length-append}
+use Rattle.std.proofs.lemmas.List.{append-nil}
+use Rattle.std.proofs.lemmas.Bool.{cases_lt, cond_below, cond_above}
+use Rattle.std.specs.Prelude.{Contains}
+use Rattle.atomic_table.proofs.Lists.{at_longer}
+use Rattle.wb_history.proofs.Lists.{at_read, at_after}
+use mathlib.Core.Option.{some, none}
+use mathlib.Core.List.{IsPrefix}
+use Rattle.atomic_table.specs.Table.{Me, step}
+use Rattle.wb_names.specs.Values.{DrawopValue}
+use Rattle.wb_history.specs.declared.knowledge.Knowledge.{Knowledge}
+use Rattle.wb_history.specs.declared.hand.Hand.{Hand}
+use Rattle.wb_history.specs.Lists.{StartsWith, Once, longer, shorter}
+use Rattle.wb_history.specs.Hands.{InOrder, United}
+use Rattle.wb_history.specs.Plays.{confirmed}
+use Rattle.wb_history.specs.Sharing.{IsJoined}
+use Rattle.wb_history.specs.Passes.{PassValue, IsSamePass, KeepsRows}
+use Rattle.wb_history.specs.Shown.{view_of}
+use Rattle.wb_history.specs.Views.{united, after_confirm}
+use Rattle.wb_history.proofs.Words.{prefix_is}
+use Rattle.wb_history.proofs.Shows.{sound}
+
+pub second_longer : {A : Type 0} (xs ys : List A) → length xs < length ys → longer xs ys ≡ ys
+second_longer xs ys lt = sym (cond_below (length xs) (length ys) ys xs lt)
+
+pub first_longer : {A : Type 0} (xs ys : List A) → length ys ≤ length xs → longer xs ys ≡ xs
+first_longer xs ys ge = sym (cond_above (length xs) (length ys) ys xs xs ge refl)
+
+-- the longer of two lists begins with each, where it begins with the shorter
+both_begin : (xs ys : List DrawopValue) → (length (shorter xs ys) ≤ length (longer xs ys) → StartsWith (longer xs ys) (shorter xs ys)) → StartsWith (longer xs ys) xs × StartsWith (longer xs ys) ys
+both_begin xs ys h = ⊎_elim
+    (λ lt. let l = second_longer xs ys lt in let s = sym (cond_below (length xs) (length ys) xs ys lt) in
+    let b = subst (StartsWith ys) s (subst (λ (z : List DrawopValue). StartsWith z (shorter xs ys)) l (h (let a = ap length l in let c = ap length s in omega arith))) in
+    (subst (λ (z : List DrawopValue). StartsWith z xs) (sym l) b, subst (λ (z : List DrawopValue). StartsWith z ys) (sym l) ([], sym (append-nil ys))))
+    (λ ge. let l = first_longer xs ys ge in let s = sym (cond_above (length xs) (length ys) xs ys ys ge refl) in
+    let b = subst (StartsWith xs) s (subst (λ (z : List DrawopValue). StartsWith z (shorter xs ys)) l (h (let a = ap length l in let c = ap length s in omega arith))) in
+    (subst (λ (z : List DrawopValue). StartsWith z xs) (sym l) ([], sym (append-nil xs)), subst (λ (z : List DrawopValue). StartsWith z ys) (sym l) b))
+    (cases_lt (length xs) (length ys))
+
+-- the hand after its seat took in the other's, and a load told what the join did not
+pub took_in : (h g h' : Hand) (u : Me DrawopValue Knowledge) (word found : ℕ) → InOrder h → InOrder g → u.1 ≡ h.seat.me.1 → u.0 ≡ united h.seat.me.0 g.seat.me.0 → confirmed (step 0 word 0 0 none) u found h'.seat.me
+    → h'.seat.table_id ≡ h.seat.table_id → h'.seat.id ≡ h.seat.id → h'.seen.items ≡ longer h.seen.items g.seen.items → h'.mine.items ≡ h.mine.items ++ g.mine.items → h'.free.items ≡ h.free.items ++ g.free.items → h'.steps ≡ h.steps → United h g h'
+took_in h g h' u word found o q slots is told table id seen mine free steps =
+    let after : h'.seat.me.0 ≡ after_confirm (united h.seat.me.0 g.seat.me.0) word found = told.1 ∙ ap (λ (v : Knowledge). after_confirm v word found) is in
+    let long = seat_longer in
+    let starts = subst (λ (v : Knowledge). length v.told ≤ length v.seen → StartsWith v.seen v.told) is told.2 in
+    record {
+      order = record {
+        slots = told.0 ∙ (slots ∙ o.slots);
+        seen = ap (λ (v : Knowledge). v.seen) after ∙ (seat_longer ∙ sym seen);
+        mine = ap (λ (v : Knowledge). v.mine) after ∙ (both_lists (λ (k : Knowledge). k.mine) h.mine.items g.mine.items o.mine q.mine ∙ sym mine);
+        free = ap (λ (v : Knowledge). v.free) after ∙ (both_lists (λ (k : Knowledge). k.free) h.free.items g.free.items o.free q.free ∙ sym free);
+        sane = told.3;
+      };
+      seat = (table, id, told.0 ∙ slots);
+      cells = ap (λ (v : Knowledge). v.cells) after;
+      seen = seen;
+      first = subst (λ (l : List DrawopValue). StartsWith l h.seen.items) (sym seen) (both_begin h.seen.items g.seen.items (subst2 (λ (a b : List DrawopValue). length (shorter a b) ≤ length (longer a b) → StartsWith (longer a b) (shorter a b)) o.seen q.seen starts)).0;
+      second = subst (λ (l : List DrawopValue). StartsWith l g.seen.items) (sym seen) (both_begin h.seen.items g.seen.items (subst2 (λ (a b : List DrawopValue). length (shorter a b) ≤ length (longer a b) → StartsWith (longer a b) (shorter a b)) o.seen q.seen starts)).1;
+      mine = mine;
+      free = free;
+      steps = steps;
+    }
+  where
+    subst2 : (P : List DrawopValue → List DrawopValue → Type 0) {a a' b b' : List DrawopValue} → a ≡ a' → b ≡ b' → P a b → P a' b'
+    subst2 P e f p = subst (λ (x : List DrawopValue × List DrawopValue). P x.0 x.1) (λ i. (e i, f i)) p
+
+    seat_longer : longer h.seat.me.0.seen g.seat.me.0.seen ≡ longer h.seen.items g.seen.items
+    seat_longer = λ i. longer (o.seen i) (q.seen i)
+
+    both_lists : (f : Knowledge → List ℕ) (a b : List ℕ) → f h.seat.me.0 ≡ a → f g.seat.me.0 ≡ b → f h.seat.me.0 ++ f g.seat.me.0 ≡ a ++ b
+    both_lists f a b x y = λ i. x i ++ y i
+
+-- where no element of two lists together stands twice, they share none
+shared_none : (xs ys : List ℕ) → Once (xs ++ ys) → (i : ℕ) → Contains xs i → Contains ys i → ⊥
+shared_none xs ys once i a b =
+    let here = at_read xs a.0 i a.1 ∙ ap some a.2 in
+    let there = at_read ys b.0 i b.1 ∙ ap some b.2 in
+    let is = once a.0 (length xs + b.0) i (at_longer xs ys a.0 i here) (at_after xs ys b.0 i there) in
+    let lt = a.1 in
+    absurd (omega arith)
+
+-- more capacity is not seen
+pub same_view : (h k : Hand) → h.seat ≡ k.seat → h.seen ≡ k.seen → h.mine.items ≡ k.mine.items → h.free.items ≡ k.free.items → h.steps ≡ k.steps → view_of h ≡ view_of k
+same_view h k seat seen mine free steps = λ i. record {
+  table = (seat i).table_id;
+  cells = (seat i).me.0.cells;
+  seen = (seen i).items;
+  mine = mine i;
+  free = length (free i);
+  made = (seat i).me.0.made;
+  last_word = (seat i).me.0.last_word;
+  last_found = (seat i).me.0.last_found;
+  steps = steps i;
+}
+
+pub joined : (p q : PassValue) (h g h' : Hand) → view_of h ≡ p → view_of g ≡ q → United h g h' → IsJoined p q (view_of h')
+joined p q h g h' is_p is_q u = subst (λ (v : PassValue). IsJoined v q (view_of h')) is_p (subst (λ (v : PassValue). IsJoined (view_of h) v (view_of h')) is_q record {
+  seen = u.seen;
+  first = prefix_is h'.seen.items h.seen.items u.first;
+  second = prefix_is h'.seen.items g.seen.items u.second;
+  mine = u.mine;
+  free = ap length u.free ∙ long;
+  apart = λ i a b. shared_none h.mine.items g.mine.items (subst Once (u.order.mine ∙ u.mine) u.order.sane.mine_once) i a b;
+  sound = sound h' u.order;
+})
+  where
+    long : length (h.free.items ++ g.free.items) ≡ length h.free.items + length g.free.items
+    long = omega (arith, length-append h.free.items g.free.items)
+
+-- a pass that took in one with no rows and no places keeps its own
+pub keeps_own : (p q r : PassValue) → q.mine ≡ [] → q.free ≡ 0 → IsJoined p q r → KeepsRows p r
+keeps_own p q r no_place no_row j = (j.mine ∙ (ap (λ (l : List ℕ). p.mine ++ l) no_place ∙ append-nil p.mine), let f = j.free in omega arith)
+
+-- a pass that stays as it was
+pub unchanged : (p q : PassValue) → q ≡ p → IsSamePass p q × KeepsRows p q × IsPrefix p.seen q.seen × (q.steps ≡ p.steps)
+unchanged p q e = ((ap (λ (v : PassValue). v.table) e, ap (λ (v : PassValue). v.cells) e), (ap (λ (v : PassValue). v.mine) e, ap (λ (v : PassValue). v.free) e), ([], append-nil p.seen ∙ sym (ap (λ (v : PassValue). v.seen) e)), ap (λ (v : PassValue). v.steps) e)

@@ -1,0 +1,112 @@
+-- Walks of a hand along the history.
+use Rattle.wb_history.specs.Sizes.{member_steps}
+use Rattle.std.proofs.Common.{◌≡◌, ◌≢◌, ℕ, ◌+◌, ◌-◌, ◌*◌, ◌<◌, ◌≤◌, List, [], ◌∷◌, ◌++◌, length, refl, sym, ap, ◌∙◌, subst, inl, inr, ⊎_elim, arith, length-append, append_assoc}
+use Rattle.std.proofs.lemmas.List.{append-nil}
+use Rattle.wb_names.specs.Values.{NameValue, DrawopValue}
+use Rattle.wb_history.specs.declared.hand.Hand.{Hand}
+use Rattle.wb_history.specs.declared.cells.CellTable.{CellTable}
+use Rattle.wb_history.specs.Members.{Lacks, NamesOnce}
+use Rattle.wb_history.specs.Hands.{InOrder, Walked, AtEnd, FoundFree, Won, IsAnswer, Settled}
+use Rattle.wb_history.specs.declared.hand.Claim.{Claim}
+use Rattle.wb_history.specs.declared.hand.Claim.TheVariants.{Added, Present, Clash}
+use Rattle.wb_history.specs.Seats.{SitsAt}
+use Rattle.wb_history.specs.Views.{OwnsAll}
+use Rattle.wb_history.proofs.Lists.{at_end, at-lt}
+use Rattle.atomic_table.proofs.Lists.{at_longer, at_last}
+
+pub stay : (h : Hand) → InOrder h → Walked h [] 0 h
+stay h o = record {
+  order = o;
+  seat = (refl, refl, refl);
+  cells = refl;
+  mine = refl;
+  free = refl;
+  seen = sym (append-nil h.seen.items);
+  whole = λ _. refl;
+  made = omega arith;
+  steps = omega arith;
+}
+
+owns_still : (h : Hand) (a : List DrawopValue) (k : ℕ) (h' : Hand) → InOrder h → Walked h a k h' → OwnsAll h.seat.me.0 → OwnsAll h'.seat.me.0
+owns_still h a k h' o w all =
+    let free = ap length (w.order.free ∙ (w.free ∙ sym o.free)) in let mine = ap length (w.order.mine ∙ (w.mine ∙ sym o.mine)) in let cells = w.cells in omega arith
+
+pub walk_on : (h : Hand) (a b : List DrawopValue) (j k : ℕ) (h' h'' : Hand) → InOrder h → Walked h a j h' → Walked h' b k h'' → Walked h (a ++ b) (j + k) h''
+walk_on h a b j k h' h'' o v w =
+    let long = length-append a b in
+    let m = v.made in
+    let n = w.made in
+    let s = v.steps in
+    let t = w.steps in record {
+      order = w.order;
+      seat = (w.seat.0 ∙ v.seat.0, w.seat.1 ∙ v.seat.1, w.seat.2 ∙ v.seat.2);
+      cells = w.cells ∙ v.cells;
+      mine = w.mine ∙ v.mine;
+      free = w.free ∙ v.free;
+      seen = w.seen ∙ (ap (λ (l : List DrawopValue). l ++ b) v.seen ∙ append_assoc h.seen.items a b);
+      whole = λ all. ap (λ (l : List DrawopValue). l ++ b) (v.whole all) ∙ w.whole (owns_still h a j h' o v all);
+      made = omega arith;
+      steps = omega arith;
+    }
+
+pub win_on : (h : Hand) (a b : List DrawopValue) (d : DrawopValue) (place j k : ℕ) (h' h'' : Hand) → InOrder h → Walked h a j h' → Won h' b d place k h'' → Won h (a ++ b) d place (j + k) h''
+win_on h a b d place j k h' h'' o v w =
+    let long = length-append a b in
+    let m = v.made in
+    let n = w.made in
+    let s = v.steps in
+    let t = w.steps in
+    let i = w.at in
+    let l = ap length v.seen in
+    let f = ap length v.free in
+    let g = w.free in record {
+      order = w.order;
+      seat = (w.seat.0 ∙ v.seat.0, w.seat.1 ∙ v.seat.1, w.seat.2 ∙ v.seat.2);
+      cells = w.cells ∙ v.cells;
+      at = omega (arith, length-append h.seen.items a);
+      mine = w.mine ∙ ap (λ (l : List ℕ). l ++ place ∷ []) v.mine;
+      free = omega arith;
+      seen = w.seen ∙ ap (λ (l : List DrawopValue). l ++ d ∷ []) (ap (λ (l : List DrawopValue). l ++ b) v.seen ∙ append_assoc h.seen.items a b);
+      whole = λ all. ap (λ (l : List DrawopValue). l ++ b) (v.whole all) ∙ w.whole (owns_still h a j h' o v all);
+      made = omega arith;
+      steps = omega arith;
+    }
+
+pub end_on : (cells : ℕ) (h : Hand) (a b : List DrawopValue) (h' h'' : Hand) → InOrder h → Walked h a 0 h' → AtEnd cells h' b h'' → AtEnd cells h (a ++ b) h''
+end_on cells h a b h' h'' o v e = ⊎_elim (λ x. inl (walk_on h a b 0 1 h' h'' o v x.0, x.1)) (λ x. inr (walk_on h a b 0 0 h' h'' o v x.0, x.1)) e
+
+pub sits_still : (t : CellTable) (h : Hand) (a : List DrawopValue) (k : ℕ) (h' : Hand) → SitsAt t h.seat → Walked h a k h' → SitsAt t h'.seat
+sits_still t h a k h' s w = (w.seat.0 ∙ s.0, w.cells ∙ s.1)
+
+-- a hand has not seen more than all cells
+pub seen_within : (t : CellTable) (h : Hand) → InOrder h → SitsAt t h.seat → length h.seen.items + length h.free.items ≤ t.cells
+seen_within t h o s = let room = o.sane.room in let c = s.1 in let a = ap length o.seen in let b = ap length o.free in omega arith
+
+pub few_steps : (h : Hand) (a : List DrawopValue) (h' : Hand) → h.steps ≡ 0 → Walked h a 0 h' → h'.steps ≤ member_steps * length h'.seen.items
+few_steps h a h' none w = let s = w.steps in let l = ap length w.seen in omega (arith, length-append h.seen.items a)
+
+pub lacks_more : (l : List DrawopValue) (d : DrawopValue) (name : NameValue) → Lacks l name → d.name ≢ name → Lacks (l ++ d ∷ []) name
+lacks_more l d name lacks other p e at same = ⊎_elim (λ old. lacks p e old same) (λ c. other (ap (λ (o : DrawopValue). o.name) c.1 ∙ same)) (at_end l d p e at)
+
+pub nearer : (t : CellTable) (h : Hand) (d : DrawopValue) (h' : Hand) → InOrder h → SitsAt t h.seat → Walked h (d ∷ []) 0 h' → t.cells - length h'.seen.items < t.cells - length h.seen.items
+nearer t h d h' o s w =
+    let a = ap length w.seen in let b = seen_within t h' w.order (sits_still t h (d ∷ []) 0 h' s w) in omega (arith, length-append h.seen.items (d ∷ []))
+
+pub settled : (h : Hand) (d : DrawopValue) (extra : ℕ) (h' : Hand) (c : Claim) (more : List DrawopValue) → Walked h more extra h' → IsAnswer h'.seen.items d c → Settled h d extra h' c
+settled h d extra h' (Added i) more w a = absurd a
+settled h d extra h' (Present i) more w a = (more, w, a)
+settled h d extra h' (Clash i) more w a = (more, w, a)
+
+pub settle_on : (h : Hand) (a : List DrawopValue) (d : DrawopValue) (j k : ℕ) (h' h'' : Hand) (c : Claim) → InOrder h → Walked h a j h' → Settled h' d k h'' c → Settled h d (j + k) h'' c
+settle_on h a d j k h' h'' (Added i) o v s = (a ++ s.0, subst (λ n. Won h (a ++ s.0) d i n h'') (omega arith) (win_on h a s.0 d i j (k + 1) h' h'' o v s.1))
+settle_on h a d j k h' h'' (Present i) o v s = (a ++ s.0, walk_on h a s.0 j k h' h'' o v s.1, s.2)
+settle_on h a d j k h' h'' (Clash i) o v s = (a ++ s.0, walk_on h a s.0 j k h' h'' o v s.1, s.2)
+
+-- after the end was found free
+pub free_end : (t : CellTable) (h : Hand) (more : List DrawopValue) (h' : Hand) → SitsAt t h.seat → AtEnd t.cells h more h' → 0 < length h'.free.items → Walked h more 1 h' × FoundFree h'
+free_end t h more h' s e some_free = ⊎_elim (λ x. x) (λ x. let b = seen_within t h' x.0.order (sits_still t h more 0 h' s x.0) in let full = x.1 in absurd (omega arith)) e
+
+-- of a list with no name twice, the members before the last lack its name
+pub new_name : (l : List DrawopValue) (d : DrawopValue) → NamesOnce (l ++ d ∷ []) → Lacks l d.name
+new_name l d once p e there same =
+    let is = once p (length l) e d (at_longer l (d ∷ []) p e there) (at_last l d (length l) refl) same in let lt = at-lt l p e there in absurd (omega arith)

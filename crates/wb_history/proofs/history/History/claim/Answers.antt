@@ -1,0 +1,31 @@
+use Rattle.std.proofs.Common.{refl, sym, ap, ◌∙◌, subst, MatchResult}
+use Rattle.wb_history.specs.Lists.{StartsWith}
+use Rattle.wb_history.specs.Passes.{PassValue, HistoryValue}
+use Rattle.wb_history.specs.Replies.{Claimed, NotClaimed, ClaimSteps, FaultSteps}
+use Rattle.wb_names.specs.History.{HoldsName}
+use Rattle.wb_history.proofs.Words.{prefix_is, holds}
+use Rattle.wb_history.specs.Shown.{view_of}
+use Rattle.wb_history.proofs.Shows.{from_there, shown, shown_steps, fresh}
+use Rattle.wb_history.proofs.history.History.claim.Goals as goal
+
+pub returns-clause-grows : goal.returns-clause-grows
+returns-clause-grows c =
+    let cells = ap (λ (p : PassValue). p.cells) c.pass.view_is ∙ (c.requires.pass.1 ∙ sym (ap (λ (h : HistoryValue). h.cells) c.self.view_is)) in
+    let s = shown c.self.inside.cells.cells (record c.pass.inside.hand { steps = 0 }) c.args.drawop.now c.claim_with.new.hand c.claim_with.result (fresh c.pass.inside.hand c.pass.invariant.0.0) cells c.claim_with.ensures.done in
+    prefix_is c.claim_with.new.hand.seen.items c.args.pass.now.seen (subst (λ (p : PassValue). StartsWith c.claim_with.new.hand.seen.items p.seen) c.pass.view_is s.0)
+
+pub returns-clause-answer : goal.returns-clause-answer
+returns-clause-answer c =
+    let cells = ap (λ (p : PassValue). p.cells) c.pass.view_is ∙ (c.requires.pass.1 ∙ sym (ap (λ (h : HistoryValue). h.cells) c.self.view_is)) in
+    let s = shown c.self.inside.cells.cells (record c.pass.inside.hand { steps = 0 }) c.args.drawop.now c.claim_with.new.hand c.claim_with.result (fresh c.pass.inside.hand c.pass.invariant.0.0) cells c.claim_with.ensures.done in
+    subst (λ (p : PassValue). MatchResult c.claim_with.result (Claimed p c.args.drawop.now (view_of c.claim_with.new.hand)) (NotClaimed p c.args.drawop.now (view_of c.claim_with.new.hand))) c.pass.view_is (from_there (view_of c.pass.inside.hand) 0 c.args.drawop.now (view_of c.claim_with.new.hand) c.claim_with.result s.1)
+
+pub returns-clause-few_steps : goal.returns-clause-few_steps
+returns-clause-few_steps c =
+    let s = shown_steps c.self.inside.cells.cells (record c.pass.inside.hand { steps = 0 }) c.args.drawop.now c.claim_with.new.hand c.claim_with.result refl c.claim_with.ensures.done in
+    subst (λ (p : PassValue). MatchResult c.claim_with.result (ClaimSteps p (view_of c.claim_with.new.hand)) (FaultSteps p (view_of c.claim_with.new.hand))) c.pass.view_is s
+
+pub returns-clause-known : goal.returns-clause-known
+returns-clause-known c held =
+    let known = c.claim_with.ensures.known (holds c.pass.inside.hand.seen.items c.args.drawop.now.name (subst (λ (p : PassValue). HoldsName p.seen c.args.drawop.now.name) (sym c.pass.view_is) held)) in
+    (known.0, ap view_of known.1 ∙ ap (λ (p : PassValue). record p { steps = 0 }) c.pass.view_is)

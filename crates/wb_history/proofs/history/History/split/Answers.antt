@@ -1,0 +1,48 @@
+use Rattle.std.proofs.Common.{◌≡◌, ℕ, ◌-◌, length, take, drop, refl, ap, ◌∙◌, arith}
+use Rattle.atomic_table.specs.Table.{Me}
+use Rattle.wb_names.specs.Values.{DrawopValue}
+use Rattle.wb_history.specs.declared.knowledge.Knowledge.{Knowledge}
+use Rattle.wb_history.proofs.Portions.{left_order, right_order}
+use Rattle.wb_history.proofs.history.History.split.Goals as goal
+
+pub invariant_of-result : goal.invariant_of-result
+invariant_of-result c =
+    let i = c.pass.invariant in
+    let n = c.cut-seat.ensures.new in
+    let have : c.len-have.result ≡ length c.pass.inside.hand.free.items = omega arith in
+    let cells = ap (λ (m : Me DrawopValue Knowledge). m.0.cells) n.1 in
+    let words = ap (λ z. z.words) n.0 in
+    let size = i.0.1 in
+    let some_cells = i.0.2 in
+    let few_cells = i.0.3 in
+    let same = i.1 in (
+      (
+        right_order c.pass.inside.hand (record { seat = c.cut-seat.result; seen = c.in-Ok.seen; mine = c.new.result; free = c.in-Ok-split_off.free; steps = 0 }) c.args.rows i.0.0 n.1 c.in-Ok.ensures c.new.ensures.items
+            (c.in-Ok-split_off.ensures.tail ∙ ap (λ (k : ℕ). drop (k - c.args.rows) c.pass.inside.hand.free.items) have),
+        (omega arith),
+        (omega arith),
+        (omega arith),
+      ),
+      (omega arith),
+    )
+
+pub invariant_of-pass-2 : goal.invariant_of-pass-2
+invariant_of-pass-2 c =
+    let i = c.pass.invariant in
+    let n = c.cut-seat.ensures.seat in
+    let have : c.len-have.result ≡ length c.pass.inside.hand.free.items = omega arith in
+    let cells = ap (λ (v : Knowledge). v.cells) n.1 in
+    let words = ap (λ z. z.words) n.0.0 in
+    let size = i.0.1 in
+    let some_cells = i.0.2 in
+    let few_cells = i.0.3 in
+    let same = i.1 in (
+      (
+        left_order c.pass.inside.hand (record { seat = c.cut-seat.new.seat; seen = c.pass.inside.hand.seen; mine = c.pass.inside.hand.mine; free = c.split_off.new.self; steps = c.pass.inside.hand.steps }) c.args.rows i.0.0 n.0.2 n.1 refl refl
+            (c.in-Ok-split_off.ensures.items ∙ ap (λ (k : ℕ). take (k - c.args.rows) c.pass.inside.hand.free.items) have),
+        (omega arith),
+        (omega arith),
+        (omega arith),
+      ),
+      (omega arith),
+    )

@@ -1,0 +1,14 @@
+pub mod Lawful
+pub mod Lists
+pub mod Plays
+pub mod Members
+pub mod Indexed
+pub mod Sizes
+pub mod Views
+pub mod Seats
+pub mod Hands
+pub mod Passes
+pub mod Replies
+pub mod Sharing
+pub mod Shown
+pub mod Faults

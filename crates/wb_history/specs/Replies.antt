@@ -1,0 +1,52 @@
+-- What the answer to a claim says: d is the drawop, p the pass before the call, and q the pass after it.
+use Rattle.std.specs.Prelude.{◌≡◌, ℕ, ◌+◌, ◌-◌, ◌*◌, ◌≤◌, [], ◌∷◌, ◌++◌, length, take, slice_get, Some}
+use Rattle.wb_names.specs.Values.{DrawopValue}
+use Rattle.wb_names.specs.History.{HoldsName, IsNewAt, IsAgainAt, IsClashAt}
+use Rattle.wb_history.specs.Sizes.{row_words, member_steps}
+use Rattle.wb_history.specs.Passes.{PassValue, IsWhole, IsSound, AddsNothing, IsCaughtUp}
+use Rattle.wb_history.specs.declared.hand.Claim.{Claim}
+use Rattle.wb_history.specs.declared.hand.Claim.TheVariants.{Added, Present, Clash}
+use Rattle.wb_history.specs.declared.hand.ClaimFault.{ClaimFault}
+use Rattle.wb_history.specs.declared.hand.ClaimFault.TheVariants.{NoRow, Memory}
+
+-- d was new to the history before place i, and is its member i. The pass gained that place for one of its rows
+pub record IsAdded (p : PassValue) (d : DrawopValue) (i : ℕ) (q : PassValue) : Type 0 where
+  pub new : IsNewAt (take i q.seen) d i
+  pub member : slice_get q.seen i ≡ Some d
+  pub last : length q.seen ≡ i + 1
+  pub later : length p.seen ≤ i
+  pub gains : q.mine ≡ p.mine ++ i ∷ []
+  pub row : q.free + 1 ≡ p.free
+  pub alone : IsWhole p → q.seen ≡ p.seen ++ d ∷ []
+
+-- no row was left for d, whose name stands nowhere up to the end of the history
+pub record HasNoRow (p : PassValue) (d : DrawopValue) (q : PassValue) : Type 0 where
+  pub none_left : q.free ≡ 0
+  pub absent : ¬ HoldsName q.seen d.name
+  pub end : IsCaughtUp p q
+  pub sound : IsSound q
+  pub kept : AddsNothing p q
+
+abbrev pub Claimed : PassValue → DrawopValue → PassValue → Claim → Type 0
+Claimed p d q (Added i) = IsAdded p d i q
+Claimed p d q (Present i) = IsAgainAt q.seen d i × AddsNothing p q
+Claimed p d q (Clash i) = IsClashAt q.seen d i × AddsNothing p q
+
+abbrev pub NotClaimed : PassValue → DrawopValue → PassValue → ClaimFault → Type 0
+NotClaimed p d q NoRow = HasNoRow p d q
+NotClaimed p d q Memory = AddsNothing p q
+
+-- how many members more the pass has seen
+abbrev pub brought : PassValue → PassValue → ℕ
+brought p q = length q.seen - length p.seen
+
+-- A member of others is read by one load of its cell, or a lost exchange, and a load of each word of its row. A drawop is added by a
+-- load that finds the end, a store of each word, and an exchange.
+abbrev pub ClaimSteps : PassValue → PassValue → Claim → Type 0
+ClaimSteps p q (Added i) = q.steps ≤ member_steps * (i - length p.seen) + row_words + 2
+ClaimSteps p q (Present i) = q.steps ≤ member_steps * brought p q + row_words + 2
+ClaimSteps p q (Clash i) = q.steps ≤ member_steps * brought p q + row_words + 2
+
+abbrev pub FaultSteps : PassValue → PassValue → ClaimFault → Type 0
+FaultSteps p q NoRow = q.steps ≤ member_steps * brought p q + 1
+FaultSteps p q Memory = q.steps ≤ member_steps * brought p q + row_words + 2

@@ -1,0 +1,38 @@
+//! The table of a history: its cells, and then its rows.
+ghost use Rattle.wb_history.specs.Sizes.{row_words};
+ghost use Rattle.std.specs.Prelude.{◌≡◌, ◌+◌, ◌*◌, ◌<◌, ◌≤◌, IfOk};
+
+use crate::knowledge::Knowledge;
+use crate::rule::OneHistory;
+use atomic_table::{Seat, Table};
+use std::alloc::{AllocError, Global};
+use wb_codec::ROW_WORDS;
+use wb_names::Drawop;
+
+/// A seat at the table of a history.
+pub(crate) type Place = Seat<Drawop, Knowledge>;
+
+/// Cells and rows that passes share. Word `p` is cell `p`: it holds 0, or a row number plus one.
+#[derive(Drop)]
+pub struct CellTable {
+    pub(crate) table: Table<Drawop, Knowledge, u32, OneHistory, Global>,
+    pub(crate) cells: u32,
+    ghost keyed: { table.shared.key ≡ cells },
+    ghost sized: { table.shared.table_id.words ≡ cells + cells * row_words },
+    ghost bounded: { (0 < cells) × (cells ≤ 65535) },
+}
+
+impl CellTable {
+    ghost use Rattle.wb_history.specs.Views.{whole_pass};
+    ghost use Rattle.std.specs.Prelude.{[]};
+
+    /// A table of free cells and rows that no cell names, with the seat that owns all rows.
+    pub(crate) fn make(alloc: Global, cells: u32) -> Result<(CellTable, Place), AllocError>
+        requires { (0 < cells) × (cells ≤ 65535) }
+        ensures { IfOk result (λ t. (t.0.cells ≡ cells) × (t.1.table_id ≡ t.0.table.shared.table_id) × (t.1.me ≡ (whole_pass cells, []))) }
+    {
+        let words = Vec::from_elem(alloc, 0u64, cells as usize * (ROW_WORDS + 1))?;
+        let (table, seat) = Table::of_words(alloc, words.as_slice(), &cells)?;
+        Ok((CellTable { table, cells }, seat))
+    }
+}

@@ -1,0 +1,58 @@
+//! The parts of a pass, and the answers to a claim.
+ghost use Rattle.std.specs.Prelude.{◌≡◌};
+
+use crate::cells::Place;
+use crate::members::Members;
+use thiserror::Error;
+
+/// A seat at the table of a history, and lists of what it knows. The proofs see that the lists are
+/// what the seat knows; no clause outside this crate speaks of a hand.
+#[derive(Drop)]
+pub(crate) struct Hand {
+    /// The token that steps on words.
+    pub(crate) seat: Place,
+    /// The members that it has seen.
+    pub(crate) seen: Members,
+    /// The places that it added, as they were gained.
+    pub(crate) mine: Vec<u32>,
+    /// The rows that it owns and has not published. The last one is used next.
+    pub(crate) free: Vec<u32>,
+    /// The steps on words of the last claim or refresh.
+    pub(crate) steps: u32,
+}
+
+/// The answer to a claim, with the place of the member that has the name.
+#[derive(Clone, Copy, Debug, PartialEq, Eq)]
+pub enum Claim {
+    /// The drawop was new, and stands at this place now.
+    Added(u32),
+    /// The same drawop stands at this place already.
+    Present(u32),
+    /// Another drawop of that name stands at this place, and stays.
+    Clash(u32),
+}
+
+/// Why a drawop was not claimed.
+#[derive(Clone, Copy, Debug, PartialEq, Eq, Error)]
+pub enum ClaimFault {
+    /// The pass has no free row, and the name stands nowhere in the history.
+    #[error("no free row")]
+    NoRow,
+    /// A growth was refused.
+    #[error("out of memory")]
+    Memory,
+}
+
+impl ClaimFault {
+    ghost use Rattle.wb_history.specs.Faults.{claim_code};
+
+    /// The number of the fault, from 1.
+    pub fn code(&self) -> u32
+        ensures { result ≡ claim_code self.now }
+    {
+        match self {
+            ClaimFault::NoRow => 1,
+            ClaimFault::Memory => 2,
+        }
+    }
+}

@@ -1,0 +1,130 @@
+//! A history that passes share: opening one, claiming a place in it, and reading on.
+ghost use Rattle.std.specs.Prelude.{◌≡◌, ◌≢◌, ◌+◌, ◌*◌, ◌<◌, ◌≤◌, ◌⊎◌, [], Err, IfOk, IsOk, MatchResult, length};
+ghost use mathlib.Core.List.{IsPrefix};
+ghost use Rattle.wb_names.specs.History.{HoldsName};
+ghost use Rattle.wb_history.specs.Sizes.{member_steps};
+ghost use Rattle.wb_history.specs.Lists.{numbers};
+ghost use Rattle.wb_history.specs.Passes.{IsPassOf, IsSamePass, AddsNothing, IsCaughtUp};
+ghost use Rattle.wb_history.specs.Replies.{Claimed, NotClaimed, ClaimSteps, FaultSteps, brought};
+ghost use Rattle.wb_history.specs.declared.history.OpenFault.TheVariants as fault;
+
+use crate::cells::CellTable;
+use crate::hand::{Claim, ClaimFault, Hand};
+use crate::members::Members;
+use crate::pass::Pass;
+use std::alloc::{AllocError, Global};
+use std::marker::Model;
+use thiserror::Error;
+use wb_names::Drawop;
+
+/// One growing history of drawops, in which no name stands twice. Threads share it by reference.
+#[derive(Drop)]
+pub struct History {
+    pub(crate) cells: CellTable,
+}
+
+impl Model for History {
+    ghost use Rattle.wb_history.specs.Passes.{HistoryValue};
+    ghost use Rattle.wb_history.specs.Shown.{history_of};
+
+    ghost Value = { HistoryValue };
+
+    ghost view = { λ h. history_of h.cells };
+}
+
+/// Why a history was not opened, in the order of the checks.
+#[derive(Clone, Copy, Debug, PartialEq, Eq, Error)]
+pub enum OpenFault {
+    /// The number of cells is not from 1 to 65,535.
+    #[error("cells not from 1 to 65535")]
+    Cells,
+    /// A growth was refused.
+    #[error("out of memory")]
+    Memory,
+}
+
+impl OpenFault {
+    ghost use Rattle.wb_history.specs.Faults.{open_code};
+
+    /// The number of the fault, from 1.
+    pub fn code(&self) -> u32
+        ensures { result ≡ open_code self.now }
+    {
+        match self {
+            OpenFault::Cells => 1,
+            OpenFault::Memory => 2,
+        }
+    }
+}
+
+/// The rows of a history, all of them free.
+fn all_rows(alloc: Global, cells: u32) -> Result<Vec<u32>, AllocError>
+    ensures { IfOk result (λ v. v.items ≡ numbers cells) }
+{
+    let mut rows = Vec::with_capacity(alloc, cells as usize)?;
+    for row in 0..cells {
+        rows.push(row)?;
+    }
+    Ok(rows)
+}
+
+impl History {
+    /// An empty history of so many cells, from 1 to 65,535, and as many rows; and the pass that
+    /// owns all rows. There is room for as many drawops as there are cells.
+    pub fn open(alloc: Global, cells: u32) -> Result<(History, Pass), OpenFault>
+        ensures opened { IfOk result (λ t. IsPassOf t.0 t.1 × (t.1.cells ≡ cells) × (t.1.seen ≡ []) × (t.1.mine ≡ []) × (t.1.free ≡ cells) × (t.1.steps ≡ 0)) }
+        ensures refused { (cells ≡ 0) ⊎ (65535 < cells) → result ≡ Err fault.Cells }
+        ensures admitted { 0 < cells → cells ≤ 65535 → result ≢ Err fault.Cells }
+    {
+        if cells == 0 || cells > 65535 {
+            return Err(OpenFault::Cells);
+        }
+        let Ok(free) = all_rows(alloc, cells) else {
+            return Err(OpenFault::Memory);
+        };
+        let Ok((table, seat)) = CellTable::make(alloc, cells) else {
+            return Err(OpenFault::Memory);
+        };
+        let hand = Hand {
+            seat,
+            seen: Members::new(alloc),
+            mine: Vec::new(alloc),
+            free,
+            steps: 0,
+        };
+        Ok((History { cells: table }, Pass { hand, cells }))
+    }
+
+    /// Adds a drawop at the next place, unless a member has its name: then it tells where, and
+    /// whether that member is the same drawop. A name that the pass has seen is answered without a
+    /// step and without memory. Otherwise the pass reads what came since; after a fault it may have
+    /// seen more, and nothing of this call stands in the history.
+    pub fn claim(&self, pass: &mut Pass, drawop: &Drawop) -> Result<Claim, ClaimFault>
+        requires pass { IsPassOf self.now pass.old }
+        ensures same { IsSamePass pass.old pass.new }
+        ensures grows { IsPrefix pass.old.seen pass.new.seen }
+        ensures answer { MatchResult result (Claimed pass.old drawop.now pass.new) (NotClaimed pass.old drawop.now pass.new) }
+        ensures known { HoldsName pass.old.seen drawop.now.name → IsOk result × (pass.new ≡ record pass.old { steps = 0 }) }
+        ensures steps { pass.new.made ≡ pass.old.made + pass.new.steps }
+        ensures few_steps { MatchResult result (ClaimSteps pass.old pass.new) (FaultSteps pass.old pass.new) }
+    {
+        pass.hand.steps = 0;
+        self.cells.claim_with(&mut pass.hand, drawop)
+    }
+
+    /// Reads the history to its end, and returns the length of the list then seen. After a fault
+    /// the pass may have seen more.
+    pub fn refresh(&self, pass: &mut Pass) -> Result<u32, AllocError>
+        requires pass { IsPassOf self.now pass.old }
+        ensures same { IsSamePass pass.old pass.new }
+        ensures grows { IsPrefix pass.old.seen pass.new.seen }
+        ensures nothing { AddsNothing pass.old pass.new }
+        ensures end { IfOk result (λ n. (n ≡ length pass.new.seen) × IsCaughtUp pass.old pass.new) }
+        ensures steps { pass.new.made ≡ pass.old.made + pass.new.steps }
+        ensures few_steps { pass.new.steps ≤ member_steps * brought pass.old pass.new + 1 }
+    {
+        pass.hand.steps = 0;
+        self.cells.catch_up(&mut pass.hand)?;
+        Ok(pass.hand.seen.len() as u32)
+    }
+}

@@ -1,0 +1,109 @@
+//! The members of a history that a pass has seen, with an index of their names.
+ghost use Rattle.std.specs.Prelude.{◌≡◌, ◌+◌, ◌<◌, ◌≤◌, ◌-◌, take, [], ◌∷◌, ◌++◌, length, IfOk, OnOk, MatchOption};
+ghost use mathlib.Core.Option.{some};
+ghost use lib.ListN.{get_elem?};
+ghost use Rattle.wb_names.specs.Values.{DrawopValue};
+ghost use Rattle.wb_history.specs.Members.{Lacks, NamesOnce};
+
+use indexmap::IndexSet;
+use std::alloc::{AllocError, Global};
+use std::marker::Model;
+use wb_names::{Drawop, Name};
+
+/// Members of a history in order of place. Their names stand in an index in the same order, so that
+/// one look-up tells a place.
+#[derive(Drop)]
+pub(crate) struct Members {
+    list: Vec<Drawop>,
+    names: IndexSet<Name>,
+}
+
+impl Model for Members {
+    ghost use Rattle.wb_history.specs.Indexed.{MembersValue, IsIndexed, members_of};
+
+    ghost Value = { MembersValue };
+
+    ghost view = { λ m. members_of m };
+
+    ghost invariant = { λ m. IsIndexed m };
+}
+
+impl Members {
+    /// No members.
+    pub(crate) fn new(alloc: Global) -> Members
+        ensures { result.items ≡ [] }
+    {
+        Members {
+            list: Vec::new(alloc),
+            names: IndexSet::new(alloc),
+        }
+    }
+
+    /// How many there are.
+    #[inline(always)]
+    pub(crate) fn len(&self) -> usize
+        ensures { result ≡ length self.now.items }
+    {
+        self.list.len()
+    }
+
+    /// All of them in order of place.
+    #[inline(always)]
+    pub(crate) fn as_slice(&self) -> &[Drawop]
+        ensures { result.now ≡ self.now.items }
+    {
+        self.list.as_slice()
+    }
+
+    /// The place of the member with this name.
+    pub(crate) fn place_of(&self, name: &Name) -> Option<usize>
+        ensures { MatchOption result (Lacks self.now.items name.now) (λ i. (i < length self.now.items) × (d : DrawopValue) × (get_elem? self.now.items i ≡ some d) × (d.name ≡ name.now)) }
+    {
+        self.names.get_index_of(name)
+    }
+
+    /// Makes room for so many more, in the list and in the index.
+    pub(crate) fn reserve(&mut self, more: usize) -> Result<(), AllocError>
+        ensures items { self.new.items ≡ self.old.items }
+        ensures room { OnOk result (more ≤ self.new.room) }
+    {
+        self.list.reserve(more)?;
+        self.names.reserve(more)
+    }
+
+    /// Puts a member at the end.
+    pub(crate) fn put(&mut self, drawop: &Drawop)
+        requires room { 0 < self.old.room }
+        requires new { Lacks self.old.items drawop.now.name }
+        ensures items { self.new.items ≡ self.old.items ++ drawop.now ∷ [] }
+        ensures room { self.old.room ≤ self.new.room + 1 }
+    {
+        self.list.push_reserved(*drawop);
+        let Ok(_) = self.names.insert(drawop.name()) else {
+            unreachable!()
+        };
+    }
+
+    /// Takes the last member out again, in the list and in the index.
+    pub(crate) fn take_back(&mut self)
+        requires { 0 < length self.old.items }
+        ensures { self.new.items ≡ take (length self.old.items - 1) self.old.items }
+    {
+        let kept = self.list.len() - 1;
+        self.list.truncate(kept);
+        self.names.truncate(kept);
+    }
+
+    /// The same members again.
+    pub(crate) fn copied(&self, alloc: Global) -> Result<Members, AllocError>
+        requires { NamesOnce self.now.items }
+        ensures { IfOk result (λ copy. copy.items ≡ self.now.items) }
+    {
+        let mut copy = Members::new(alloc);
+        copy.reserve(self.len())?;
+        for member in self.as_slice() {
+            copy.put(member);
+        }
+        Ok(copy)
+    }
+}

@@ -1,0 +1,183 @@
+//! How a pass is split, how two are joined, and how two tell each other what they have seen.
+ghost use Rattle.std.specs.Prelude.{◌≡◌, ◌+◌, ◌<◌, ◌≤◌, ◌++◌, Err, OnOk, MatchResult, length, vec_len, vec_capacity};
+ghost use mathlib.Core.List.{IsPrefix};
+ghost use Rattle.wb_history.specs.Hands.{InOrder, United};
+ghost use Rattle.wb_history.specs.Lists.{longer};
+ghost use Rattle.wb_history.specs.Seats.{SitsAt};
+ghost use Rattle.wb_history.specs.Sharing.{IsSplit, IsSplitFault, IsJoined};
+ghost use Rattle.wb_history.specs.Passes.{IsPassOf, IsSamePass, KeepsRows};
+ghost use Rattle.wb_history.specs.declared.parts.SplitFault.TheVariants as fault;
+
+use crate::cells::CellTable;
+use crate::hand::Hand;
+use crate::history::History;
+use crate::pass::Pass;
+use std::alloc::{AllocError, Global};
+use std::marker::Brand;
+use thiserror::Error;
+
+/// Why a pass was not split, in the order of the checks.
+#[derive(Clone, Copy, Debug, PartialEq, Eq, Error)]
+pub enum SplitFault {
+    /// More rows were asked for than it has free: it has so many.
+    #[error("only {0} free rows")]
+    TooMany(u32),
+    /// A growth was refused.
+    #[error("out of memory")]
+    Memory,
+}
+
+impl SplitFault {
+    ghost use Rattle.wb_history.specs.Faults.{split_code};
+
+    /// The number of the fault, from 1.
+    pub fn code(&self) -> u32
+        ensures { result ≡ split_code self.now }
+    {
+        match self {
+            SplitFault::TooMany(_) => 1,
+            SplitFault::Memory => 2,
+        }
+    }
+}
+
+/// Why two passes were not joined.
+#[derive(Clone, Copy, Debug, PartialEq, Eq, Error)]
+pub enum JoinFault {
+    /// A growth was refused.
+    #[error("out of memory")]
+    Memory,
+}
+
+impl JoinFault {
+    ghost use Rattle.wb_history.specs.Faults.{join_code};
+
+    /// The number of the fault, from 1.
+    pub fn code(&self) -> u32
+        ensures { result ≡ join_code self.now }
+    {
+        match self {
+            JoinFault::Memory => 1,
+        }
+    }
+}
+
+impl History {
+    /// A new pass, which has seen the same and gets so many of the free rows. With no rows it can
+    /// tell another thread what was seen. A refused call changes nothing.
+    pub fn split(&self, alloc: Global, pass: &mut Pass, rows: u32) -> Result<Pass, SplitFault>
+        requires pass { IsPassOf self.now pass.old }
+        ensures same { IsSamePass pass.old pass.new }
+        ensures parts { MatchResult result (IsSplit pass.old rows pass.new) (λ e. (pass.new ≡ pass.old) × IsSplitFault pass.old rows e) }
+        ensures too_many { pass.old.free < rows → result ≡ Err (fault.TooMany pass.old.free) }
+    {
+        let have = pass.hand.free.len();
+        if have < rows as usize {
+            return Err(SplitFault::TooMany(have as u32));
+        }
+        let Ok(seen) = pass.hand.seen.copied(alloc) else {
+            return Err(SplitFault::Memory);
+        };
+        let Ok(free) = pass.hand.free.split_off(have - rows as usize) else {
+            return Err(SplitFault::Memory);
+        };
+        let seat = self.cells.cut::<Brand>(&mut pass.hand.seat, rows as usize);
+        let hand = Hand {
+            seat,
+            seen,
+            mine: Vec::new(alloc),
+            free,
+            steps: 0,
+        };
+        Ok(Pass {
+            hand,
+            cells: pass.cells,
+        })
+    }
+}
+
+/// Puts all numbers at the end, for which there is room.
+fn append(to: &mut Vec<u32>, from: &[u32])
+    requires { vec_len to.old + length from.now ≤ vec_capacity to.old }
+    ensures { to.new.items ≡ to.old.items ++ from.now }
+{
+    for number in from {
+        to.push_reserved(*number);
+    }
+}
+
+impl CellTable {
+    /// Makes two hands one. The load of the first cell tells what the join of the seats does not: that
+    /// the longer list begins with the shorter, and that no place was of both.
+    fn take_in(&self, hand: &mut Hand, other: Hand)
+        requires hand { SitsAt self.now hand.old.seat × InOrder hand.old }
+        requires other { SitsAt self.now other.seat × InOrder other }
+        requires room { (vec_len hand.old.mine + vec_len other.mine ≤ vec_capacity hand.old.mine) × (vec_len hand.old.free + vec_len other.free ≤ vec_capacity hand.old.free) }
+        ensures { United hand.old other hand.new }
+    {
+        let Hand {
+            seat,
+            seen,
+            mine,
+            free,
+            steps: _,
+        } = other;
+        self.unite(&mut hand.seat, seat);
+        self.confirm(&mut hand.seat);
+        append(&mut hand.mine, mine.as_slice());
+        append(&mut hand.free, free.as_slice());
+        if hand.seen.len() < seen.len() {
+            hand.seen = seen;
+        }
+    }
+}
+
+impl History {
+    /// Takes in another pass of the history: the pass has then seen the longer list, and owns the
+    /// rows and places of both. Where it is refused both are as before, and the other comes back.
+    pub fn join(&self, pass: &mut Pass, other: Pass) -> Result<(), (JoinFault, Pass)>
+        requires passes { IsPassOf self.now pass.old × IsPassOf self.now other }
+        ensures same { IsSamePass pass.old pass.new × (pass.new.steps ≡ pass.old.steps) }
+        ensures joined { MatchResult result (λ _. IsJoined pass.old other pass.new) (λ e. (pass.new ≡ pass.old) × (e.1 ≡ other)) }
+    {
+        if pass.hand.mine.reserve(other.hand.mine.len()).is_err() {
+            return Err((JoinFault::Memory, other));
+        }
+        if pass.hand.free.reserve(other.hand.free.len()).is_err() {
+            return Err((JoinFault::Memory, other));
+        }
+        let Pass { hand, cells: _ } = other;
+        self.cells.take_in(&mut pass.hand, hand);
+        Ok(())
+    }
+
+    /// Lets the hearer know what the teller has seen.
+    fn tell(&self, alloc: Global, teller: &mut Pass, hearer: &mut Pass) -> Result<(), AllocError>
+        requires passes { IsPassOf self.now teller.old × IsPassOf self.now hearer.old }
+        ensures teller { IsSamePass teller.old teller.new × KeepsRows teller.old teller.new × (teller.new.seen ≡ teller.old.seen) × (teller.new.steps ≡ teller.old.steps) }
+        ensures hearer { IsSamePass hearer.old hearer.new × KeepsRows hearer.old hearer.new × IsPrefix hearer.old.seen hearer.new.seen × (hearer.new.steps ≡ hearer.old.steps) }
+        ensures told { OnOk result ((hearer.new.seen ≡ longer hearer.old.seen teller.old.seen) × IsPrefix teller.old.seen hearer.new.seen) }
+    {
+        let Ok(message) = self.split(alloc, teller, 0) else {
+            return Err(AllocError);
+        };
+        match self.join(hearer, message) {
+            Ok(()) => {}
+            Err(_) => return Err(AllocError),
+        }
+        Ok(())
+    }
+
+    /// Both passes have then seen the same list, the longer of their two. After a fault each may
+    /// have seen more.
+    pub fn meet(&self, alloc: Global, first: &mut Pass, second: &mut Pass) -> Result<(), AllocError>
+        requires passes { IsPassOf self.now first.old × IsPassOf self.now second.old }
+        ensures first { IsSamePass first.old first.new × KeepsRows first.old first.new × IsPrefix first.old.seen first.new.seen × (first.new.steps ≡ first.old.steps) }
+        ensures second { IsSamePass second.old second.new × KeepsRows second.old second.new × IsPrefix second.old.seen second.new.seen × (second.new.steps ≡ second.old.steps) }
+        ensures met { OnOk result ((first.new.seen ≡ second.new.seen) × (second.new.seen ≡ longer second.old.seen first.old.seen)) }
+    {
+        self.tell(alloc, first, second)?;
+        self.tell(alloc, second, first)?;
+        Ok(())
+    }
+}

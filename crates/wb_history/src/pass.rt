@@ -1,0 +1,92 @@
+//! A pass: what one thread knows of a history and owns in it.
+ghost use Rattle.std.specs.Prelude.{◌≡◌, ◌↔◌, IsTrue, MatchOption, Contains, Some, slice_get, option_copied};
+ghost use Rattle.wb_names.specs.Values.{DrawopValue};
+ghost use Rattle.wb_names.specs.History.{HoldsName};
+ghost use Rattle.wb_history.specs.Passes.{IsSound, IsWhole};
+
+use crate::hand::Hand;
+use std::marker::Model;
+use wb_names::{Drawop, Name};
+
+/// What one thread knows of a history and owns in it: the drawops that it has seen, the places of
+/// those that it added, and rows for more. It takes steps only when it is lent to a call of the
+/// history that it came from, and it may go to another thread. A pass that is dropped keeps its
+/// rows, so they are lost.
+#[derive(Drop)]
+pub struct Pass {
+    pub(crate) hand: Hand,
+    pub(crate) cells: u32,
+}
+
+impl Model for Pass {
+    ghost use Rattle.std.specs.Prelude.{◌≡◌};
+    ghost use Rattle.wb_history.specs.Passes.{PassValue};
+    ghost use Rattle.wb_history.specs.Shown.{view_of, IsHeld};
+
+    ghost Value = { PassValue };
+
+    ghost view = { λ p. view_of p.hand };
+
+    ghost invariant = { λ p. IsHeld p.hand × (p.cells ≡ p.hand.seat.me.0.cells) };
+}
+
+impl Pass {
+    /// The drawops that it has seen, in order of place.
+    pub fn list(&self) -> &[Drawop]
+        ensures value { result.now ≡ self.now.seen }
+        ensures sound { IsSound self.now }
+    {
+        self.hand.seen.as_slice()
+    }
+
+    /// The place of the drawop with this name, by one look-up.
+    pub fn place_of(&self, name: &Name) -> Option<u32>
+        ensures { MatchOption result (¬ HoldsName self.now.seen name.now) (λ i. (d : DrawopValue) × (slice_get self.now.seen i ≡ Some d) × (d.name ≡ name.now)) }
+    {
+        match self.hand.seen.place_of(name) {
+            Some(place) => Some(place as u32),
+            None => None,
+        }
+    }
+
+    /// The drawop at a place, from 0.
+    pub fn at(&self, place: u32) -> Option<&Drawop>
+        ensures { option_copied result ≡ slice_get self.now.seen place }
+    {
+        let members = self.hand.seen.as_slice();
+        if (place as usize) < members.len() {
+            Some(&members[place as usize])
+        } else {
+            None
+        }
+    }
+
+    /// Whether this pass, or one that was joined to it, added the drawop at a place.
+    pub fn is_mine(&self, place: u32) -> bool
+        ensures { IsTrue result ↔ Contains self.now.mine place }
+    {
+        self.hand.mine.as_slice().contains(&place)
+    }
+
+    /// The number of rows that it owns and has not used.
+    pub fn rows_left(&self) -> u32
+        ensures value { result ≡ self.now.free }
+        ensures sound { IsSound self.now }
+    {
+        self.hand.free.len() as u32
+    }
+
+    /// Whether it owns all rows of the history.
+    pub fn is_whole(&self) -> bool
+        ensures { IsTrue result ↔ IsWhole self.now }
+    {
+        self.hand.free.len() + self.hand.mine.len() == self.cells as usize
+    }
+
+    /// The steps on words of its last claim or refresh, and 0 before the first.
+    pub fn steps(&self) -> u32
+        ensures { result ≡ self.now.steps }
+    {
+        self.hand.steps
+    }
+}
