@@ -1,9 +1,8 @@
 -- A body that is read is the one that was written, and what was written is read again.
-use Rattle.std.proofs.Common.{◌≡◌, ℕ, suc, ◌+◌, ◌*◌, ◌^◌, ◌<◌, ◌≤◌, List, [], ◌∷◌, ◌++◌, length, Result, Ok, Err, Option, Some, None, refl, sym, ap, subst, ◌∙◌, append_assoc, append-nil, arith}
+use Rattle.std.proofs.Common.{◌≡◌, ℕ, ◌^◌, ◌<◌, List, [], ◌++◌, length, Result, Ok, Option, None, refl, sym, ap, subst, ◌∙◌, append_assoc, append-nil, arith}
 use Rattle.std.specs.List.{flat_map}
 use Rattle.std.specs.Int.{w16, w32, w64, to_be_bytes}
-use Rattle.std.proofs.lemmas.List.{length-append}
-use Rattle.wb_names.specs.Values.{NameValue, DrawopValue, MarkValue}
+use Rattle.wb_names.specs.Values.{NameValue, MarkValue}
 use Rattle.wb_names.specs.Drawing.{seq_fault}
 use Rattle.wb_names.specs.declared.name.PageId.{PageId}
 use Rattle.wb_names.specs.declared.echo.Echo.{Echo}
@@ -15,8 +14,8 @@ use Rattle.wb_codec.specs.declared.header.Kind.{Kind}
 use Rattle.wb_codec.specs.declared.header.Kind.TheVariants.{Draw, Session, Request, AskPages, PageState}
 use Rattle.wb_codec.specs.declared.version.Version.{Version}
 use Rattle.wb_codec.specs.declared.version.Version.TheVariants.{One, Two}
-use Rattle.wb_codec.specs.Ranges.{IsName, IsMarkList, IsEchoList, IsSession, IsPageState, IsDatagram}
-use Rattle.wb_codec.specs.Spelling.{page_bytes, name_bytes, mark_bytes, echo_bytes, marks_bytes, echoes_bytes, body, version_of, kind_code}
+use Rattle.wb_codec.specs.Ranges.{IsName, IsSession, IsPageState, IsDatagram}
+use Rattle.wb_codec.specs.Spelling.{page_bytes, name_bytes, mark_bytes, echo_bytes, marks_bytes, echoes_bytes, body, version_of}
 use Rattle.wb_codec.specs.Reading.{◌>>=◌, number_at, page_at, name_at, end_of, in_range, marks_at, echoes_at, drawop_at, draw_at, session_at, request_at, ask_pages_at, page_state_at, body_at}
 use Rattle.wb_codec.proofs.Bytes.{IsBytes}
 use Rattle.wb_codec.proofs.FieldLaws.{bind_ok, ok_is, end_ok, in_range_ok, Takes, Takes-then, Takes-all, takes16, takes32, takes64, again16, again32, again64, page_takes, page_again, name_takes, name_again, has_width}

@@ -1,23 +1,20 @@
 -- A drawop that is read is the one that was written, and what was written is read again.
-use Rattle.std.proofs.Common.{◌≡◌, ℕ, suc, ◌^◌, ◌<◌, ◌≤◌, Bool, true, false, leb, Option, Some, None, List, [], ◌∷◌, ◌++◌, Result, Ok, Err, refl, sym, ap, subst, ◌∙◌, append_assoc, append-nil, arith}
-use Rattle.std.specs.Prelude.{nat_le}
+use Rattle.std.proofs.Common.{◌≡◌, ℕ, ◌^◌, ◌<◌, ◌≤◌, Bool, None, List, [], ◌++◌, Ok, refl, sym, ap, subst, ◌∙◌, append_assoc, append-nil, arith}
 use Rattle.std.specs.Int.{w64, to_be_bytes}
-use Rattle.std.proofs.lemmas.Bool.{leb-true, le-leb}
+use Rattle.std.proofs.lemmas.Bool.{le-leb}
 use Rattle.std.proofs.lemmas.Bool.Decides.{nat_tests}
 use Rattle.wb_names.specs.Values.{NameValue, DrawopValue}
 use Rattle.wb_names.specs.Faults.{fault_unless}
 use Rattle.wb_names.specs.Drawing.{seq_fault}
-use Rattle.wb_names.specs.declared.fault.FieldFault.{FieldFault}
 use Rattle.wb_names.specs.declared.fault.FieldFault.TheVariants.{SeqZero}
 use Rattle.wb_names.specs.declared.drawop.Op.{Op}
-use Rattle.wb_codec.specs.declared.fault.ReadFault.{ReadFault}
 use Rattle.wb_codec.specs.declared.version.Version.{Version}
 use Rattle.wb_codec.specs.Ranges.{IsName, IsDrawop, HasTarget}
 use Rattle.wb_codec.specs.Spelling.{name_bytes, op_bytes, op_version, drawop_bytes}
-use Rattle.wb_codec.specs.Reading.{◌>>=◌, number_at, name_at, op_at, end_of, in_range, told_fault, drawop_at}
+use Rattle.wb_codec.specs.Reading.{number_at, name_at, op_at, end_of, in_range, told_fault, drawop_at}
 use Rattle.wb_codec.proofs.Bytes.{IsBytes}
-use Rattle.wb_codec.proofs.FieldLaws.{bind_ok, end_ok, in_range_ok, Takes, Takes-then, Takes-all, takes64, again64, HasWidth, has_width, name_takes, name_again}
-use Rattle.wb_codec.proofs.OpLaws.{OpTaken, IsKindOf, op_takes, op_again, one_version, told_again}
+use Rattle.wb_codec.proofs.FieldLaws.{bind_ok, end_ok, in_range_ok, Takes-then, Takes-all, takes64, again64, HasWidth, has_width, name_takes, name_again}
+use Rattle.wb_codec.proofs.OpLaws.{IsKindOf, op_takes, op_again, one_version, told_again}
 
 pub seq_counted : (seq : ℕ) → seq_fault seq ≡ None → 1 ≤ seq
 seq_counted seq e = grind (arith, nat_tests)

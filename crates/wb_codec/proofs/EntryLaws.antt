@@ -1,6 +1,6 @@
 -- Lists of marks and of echoes: what is read is what was written, in order, and what was written is read again.
-use Rattle.std.proofs.Common.{◌≡◌, ℕ, zero, suc, ◌+◌, ◌^◌, ◌<◌, ◌≤◌, Bool, true, false, ltb, leb, Option, Some, None, List, [], ◌∷◌, ◌++◌, length, get_or, Result, Ok, Err, refl, sym, ap, subst, ◌∙◌, append_assoc, arith}
-use Rattle.std.specs.Prelude.{All, AllPairs, nat_lt}
+use Rattle.std.proofs.Common.{◌≡◌, ℕ, zero, suc, ◌^◌, ◌<◌, ◌≤◌, true, Option, Some, None, List, [], ◌∷◌, ◌++◌, length, get_or, Result, Ok, refl, ap, subst, ◌∙◌, append_assoc, arith}
+use Rattle.std.specs.Prelude.{All, AllPairs}
 use Rattle.std.specs.List.{flat_map}
 use Rattle.std.specs.Int.{w32, w64, to_be_bytes}
 use Rattle.std.proofs.lemmas.Bool.{ltb-true, lt-ltb}
@@ -13,7 +13,7 @@ use Rattle.wb_codec.specs.declared.fault.ReadFault.{ReadFault}
 use Rattle.wb_codec.specs.declared.fault.ReadFault.TheVariants.{Order}
 use Rattle.wb_codec.specs.Ranges.{IsMark, IsEcho, IsMarkList, IsEchoList}
 use Rattle.wb_codec.specs.Spelling.{mark_bytes, echo_bytes}
-use Rattle.wb_codec.specs.Reading.{◌>>=◌, require, number_at, in_range, is_above, mark_at, echo_at, list_at, marks_at, echoes_at}
+use Rattle.wb_codec.specs.Reading.{require, number_at, in_range, is_above, mark_at, echo_at, list_at, marks_at, echoes_at}
 use Rattle.wb_codec.proofs.Bytes.{IsBytes}
 use Rattle.wb_codec.proofs.FieldLaws.{bind_ok, ok_is, require_ok, in_range_ok, Takes, Takes-then, takes32, takes64, again32, again64}
 use Rattle.wb_codec.proofs.DrawopLaws.{seq_counted, seq_free}

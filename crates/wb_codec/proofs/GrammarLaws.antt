@@ -1,7 +1,7 @@
 -- The two laws of the grammar: what is read is spelled so, and what is spelled so is read.
-use Rattle.std.proofs.Common.{◌≡◌, ℕ, suc, ◌+◌, ◌^◌, ◌<◌, ◌≤◌, Bool, true, false, cond, eqb, leb, List, [], ◌∷◌, ◌++◌, length, Result, Ok, Err, Option, Some, None, refl, sym, ap, subst, ◌∙◌, arith, ◌⊎◌, inl, inr, ⊎_elim}
-use Rattle.std.specs.Prelude.{◌≢◌, nat_eq, nat_le, ◌&&◌}
-use Rattle.std.specs.Int.{Width, w32, to_be_bytes, from_be_bytes}
+use Rattle.std.proofs.Common.{◌≡◌, ℕ, ◌^◌, ◌<◌, ◌≤◌, Bool, true, false, cond, List, [], ◌∷◌, ◌++◌, length, Result, Ok, Err, refl, sym, ap, subst, ◌∙◌, arith, ◌⊎◌, inl, inr, ⊎_elim}
+use Rattle.std.specs.Prelude.{nat_eq, nat_le, ◌&&◌}
+use Rattle.std.specs.Int.{w32, to_be_bytes, from_be_bytes}
 use Rattle.std.proofs.lemmas.Bool.{eqb-true, leb-true, le-leb}
 use Rattle.std.proofs.lemmas.Bool.Decides.{nat_tests}
 use Rattle.std.proofs.lemmas.Nat.{be_bytes_4, from_be_bytes-to_be_bytes_4}
@@ -15,10 +15,10 @@ use Rattle.wb_codec.specs.declared.fault.ReadFault.{ReadFault}
 use Rattle.wb_codec.specs.declared.fault.ReadFault.TheVariants as faults
 use Rattle.wb_codec.specs.Ranges.{IsDatagram}
 use Rattle.wb_codec.specs.Spelling.{version_code, version_of, kind_code, framed, body, spelling}
-use Rattle.wb_codec.specs.Reading.{◌>>=◌, require, Framed, version_at, kind_at, frame_at, body_at, reading}
+use Rattle.wb_codec.specs.Reading.{require, Framed, version_at, kind_at, frame_at, reading}
 use Rattle.wb_codec.proofs.Bytes.{IsBytes, IsBytes-drop, IsBytes-take}
 use Rattle.wb_codec.proofs.FieldLaws.{bind_ok, ok_is, require_ok}
-use Rattle.wb_codec.proofs.BodyLaws.{kind_of, HasKind, BodyTaken, body_takes, body_again}
+use Rattle.wb_codec.proofs.BodyLaws.{kind_of, HasKind, body_takes, body_again}
 use Rattle.wb_codec.proofs.LengthLaws.{body_short}
 use Rattle.wb_codec.specs.Grammar.{Spells, IsFaultOf}
 use Rattle.wb_codec.proofs.NoMemory.{never_memory}

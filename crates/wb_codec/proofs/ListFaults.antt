@@ -1,5 +1,5 @@
 -- Entries that passed every check are in order, and so are refused as no list.
-use Rattle.std.proofs.Common.{◌≡◌, ℕ, zero, suc, ◌+◌, ◌<◌, ◌≤◌, ◌^◌, Bool, true, false, ltb, List, [], ◌∷◌, length, get_or, Option, Some, None, Result, Ok, Err, refl, sym, ap, subst, arith}
+use Rattle.std.proofs.Common.{◌≡◌, ℕ, zero, suc, ◌+◌, ◌<◌, ◌≤◌, true, List, [], ◌∷◌, length, get_or, Option, Some, None, Result, Ok, refl, ap, subst, arith}
 use Rattle.std.specs.Prelude.{All, AllPairs, map}
 use Rattle.std.specs.Int.{w32, w64}
 use Rattle.std.proofs.lemmas.Bool.{ltb-true, lt-ltb}
@@ -10,9 +10,8 @@ use Rattle.wb_names.specs.Drawing.{seq_fault}
 use Rattle.wb_names.specs.declared.echo.Echo.{Echo}
 use Rattle.wb_codec.specs.declared.fault.ReadFault.{ReadFault}
 use Rattle.wb_codec.specs.declared.fault.ReadFault.TheVariants as faults
-use Rattle.wb_codec.specs.Reading.{◌>>=◌, require, number_at, in_range, is_above, mark_at, echo_at, list_at}
+use Rattle.wb_codec.specs.Reading.{require, number_at, in_range, is_above, mark_at, echo_at, list_at}
 use Rattle.wb_codec.proofs.FieldLaws.{bind_ok, ok_is, require_ok}
-use Rattle.wb_codec.proofs.EntryLaws.{mark_source, echo_source}
 use Rattle.std.proofs.lemmas.List.{length-map, get_or-map}
 use Rattle.wb_names.specs.Ascending.{Descends}
 use Rattle.wb_names.specs.ListFaults.{IsListFault}

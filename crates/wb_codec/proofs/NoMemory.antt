@@ -1,5 +1,5 @@
 -- Want of memory is no fault of bytes: no check fails with it.
-use Rattle.std.proofs.Common.{◌≡◌, ℕ, zero, suc, Bool, true, false, cond, List, [], ◌∷◌, length, take, drop, Result, Ok, Err, Option, Some, None, subst}
+use Rattle.std.proofs.Common.{ℕ, zero, suc, Bool, true, false, cond, List, [], ◌∷◌, length, take, drop, Result, Ok, Err, Option, Some, None, subst}
 use Rattle.std.specs.Prelude.{◌≢◌, nat_eq, nat_le}
 use Rattle.std.specs.Int.{Width, byte_len, from_be_bytes, w16, w32, w64}
 use Rattle.wb_names.specs.Drawing.{seq_fault}

@@ -1,7 +1,7 @@
 -- An operation that is read is the one that was written, and what was written is read again.
-use Rattle.std.proofs.Common.{◌≡◌, ℕ, suc, ◌+◌, ◌^◌, ◌<◌, ◌≤◌, Bool, true, false, cond, leb, Option, Some, None, List, [], ◌∷◌, ◌++◌, length, take, drop, Result, Ok, Err, refl, sym, ap, subst, ◌∙◌, append_assoc, arith, ◌⊎◌, inl, inr, ⊎_elim}
+use Rattle.std.proofs.Common.{◌≡◌, ℕ, ◌^◌, ◌<◌, ◌≤◌, Bool, true, false, cond, None, List, [], ◌∷◌, ◌++◌, length, take, drop, Result, Ok, Err, refl, sym, ap, subst, ◌∙◌, append_assoc, arith, ◌⊎◌, inl, inr, ⊎_elim}
 use Rattle.std.specs.Prelude.{nat_eq, nat_le}
-use Rattle.std.specs.Int.{w16, w32, w64, to_be_bytes}
+use Rattle.std.specs.Int.{w16, w32, to_be_bytes}
 use Rattle.std.proofs.lemmas.Bool.{leb-true, le-leb, eqb-true}
 use Rattle.std.proofs.lemmas.Bool.Decides.{nat_tests}
 use Rattle.std.proofs.lemmas.List.{take_at, drop_at, take-append-drop, length-append, length-take}
@@ -15,7 +15,7 @@ use Rattle.wb_codec.specs.declared.version.Version.{Version}
 use Rattle.wb_codec.specs.declared.version.Version.TheVariants.{One, Two}
 use Rattle.wb_codec.specs.Ranges.{HasTarget}
 use Rattle.wb_codec.specs.Spelling.{stroke_bytes, text_bytes, target_bytes, op_bytes, op_version}
-use Rattle.wb_codec.specs.Reading.{◌>>=◌, require, number_at, byte_at, stroke_at, text_at, target_at, fields_at, op_at, told_fault}
+use Rattle.wb_codec.specs.Reading.{number_at, byte_at, stroke_at, text_at, target_at, fields_at, op_at, told_fault}
 use Rattle.wb_codec.proofs.Bytes.{IsBytes, IsBytes-drop, IsBytes-rest}
 use Rattle.wb_codec.proofs.Lawful.{lawful_stroke, lawful_text}
 use Rattle.wb_codec.proofs.FieldLaws.{bind_ok, ok_is, require_ok, Takes, Takes-then, takes8, takes16, takes32, again16, again32}

@@ -1,13 +1,13 @@
 -- What bytes say, or the first check from the left that fails.
 use Rattle.std.specs.Prelude.{◌≡◌, ℕ, zero, suc, Bool, true, false, ◌&&◌, List, [], ◌∷◌, length, take, drop, Option, Some, None, Result, Ok, Err, nat_eq, nat_lt, nat_le, if◌then◌else◌}
 use Rattle.std.specs.List.{list_all}
-use Rattle.std.specs.Int.{Width, w8, w16, w32, w64, byte_len, from_be_bytes}
+use Rattle.std.specs.Int.{Width, w16, w32, w64, byte_len, from_be_bytes}
 use Rattle.wb_names.specs.Values.{NameValue, DrawopValue, MarkValue}
 use Rattle.wb_names.specs.Faults.{first_of, fault_unless}
 use Rattle.wb_names.specs.Drawing.{seq_fault, op_fault, is_coordinate, is_printable}
 use Rattle.wb_names.specs.declared.name.PageId.{PageId}
 use Rattle.wb_names.specs.declared.fault.FieldFault.{FieldFault}
-use Rattle.wb_names.specs.declared.fault.FieldFault.TheVariants.{SeqZero, Coordinate, TextLength, TextByte}
+use Rattle.wb_names.specs.declared.fault.FieldFault.TheVariants.{Coordinate, TextLength, TextByte}
 use Rattle.wb_names.specs.declared.echo.Echo.{Echo}
 use Rattle.wb_names.specs.declared.drawop.Op.{Op}
 use Rattle.wb_names.specs.declared.drawop.Op.TheVariants.{Line, Frame, Text, Delete, Restore}

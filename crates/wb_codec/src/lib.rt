@@ -1,7 +1,12 @@
 //! Datagrams of a shared whiteboard as bytes, and its drawops as rows of words.
 //!
-//! Each drawop has one row of twelve words, by which threads share it word by word. This crate
-//! knows the layouts and nothing of what they mean: it keeps no board and opens no socket.
+//! Members tell one another drawops, what they hold of a page, and what they want. Each datagram
+//! has one spelling in bytes, and `read` and `write` are its two directions: what is read is spelled
+//! so, and other bytes are refused with the first check from the left that fails. Each drawop also
+//! has one row of twelve words, by which threads share it word by word.
+//!
+//! This crate knows the layouts and nothing of what they mean: it keeps no board, numbers no
+//! drawing and opens no socket. The layouts are this project's own.
 #![tactic(auto)]
 
 mod body;
@@ -13,10 +18,14 @@ mod fault;
 mod fields;
 mod header;
 mod lists;
+#[cfg(test)]
+mod memory_tests;
 mod reading;
 mod row;
 #[cfg(test)]
 mod row_tests;
+#[cfg(test)]
+mod tests;
 mod version;
 mod writing;
 

@@ -1,8 +1,7 @@
-use Rattle.std.proofs.Common.{List, [], ◌∷◌, ◌++◌, subst, sym, ap, ◌∙◌, arith}
-use Rattle.wb_names.specs.declared.echo.Echo.{Echo}
+use Rattle.std.proofs.Common.{sym, ap, ◌∙◌, arith}
 use Rattle.wb_codec.specs.Reading.{echo_at}
 use Rattle.wb_codec.specs.Checked.{listed}
-use Rattle.wb_codec.proofs.EntryLists.{HasRead, read_pushed, read_stops, read_all, never_stops, made_of}
+use Rattle.wb_codec.proofs.EntryLists.{read_pushed, read_stops, read_all, never_stops}
 use Rattle.wb_codec.proofs.EntryLaws.{echo_source}
 use Rattle.wb_codec.proofs.ListFaults.{not_refused, echo_above}
 use Rattle.wb_codec.proofs.lists.echoes_of.Goals as goal

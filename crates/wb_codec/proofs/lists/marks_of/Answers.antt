@@ -1,8 +1,8 @@
-use Rattle.std.proofs.Common.{List, [], ◌∷◌, ◌++◌, subst, sym, ap, ◌∙◌, arith}
+use Rattle.std.proofs.Common.{[], ◌∷◌, ◌++◌, sym, ap, ◌∙◌, arith}
 use Rattle.wb_names.specs.Values.{MarkValue}
 use Rattle.wb_codec.specs.Reading.{mark_at}
 use Rattle.wb_codec.specs.Checked.{listed}
-use Rattle.wb_codec.proofs.EntryLists.{HasRead, read_pushed, read_stops, read_all, never_stops, made_of}
+use Rattle.wb_codec.proofs.EntryLists.{read_pushed, read_stops, read_all, never_stops, made_of}
 use Rattle.wb_codec.proofs.EntryLaws.{mark_source}
 use Rattle.wb_codec.proofs.ListFaults.{not_refused, mark_above}
 use Rattle.wb_codec.proofs.lists.marks_of.Goals as goal

@@ -1,8 +1,3 @@
-use Rattle.std.proofs.Common.{◌≡◌, ◌+◌, ◌*◌, length, subst, sym, ap, arith}
-use Rattle.wb_names.specs.Values.{MarkValue}
-use Rattle.wb_names.specs.declared.echo.Echo.{Echo}
-use Rattle.wb_codec.specs.declared.datagram.Datagram.{Datagram}
-use Rattle.wb_codec.specs.Spelling.{body}
 use Rattle.wb_codec.proofs.LengthLaws.{session_length_of, page_state_length_of}
 use Rattle.wb_codec.proofs.writing.body_len.Goals as goal
 
