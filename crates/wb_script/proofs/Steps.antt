@@ -1,5 +1,5 @@
 -- What a line does, from what its parts do.
-use Rattle.std.proofs.Common.{◌≡◌, ℕ, Bool, true, false, List, [], ◌++◌, Result, Ok, Err, refl, sym, ap, ◌∙◌, subst, append_assoc}
+use Rattle.std.proofs.Common.{◌≡◌, ℕ, false, List, [], ◌++◌, Result, Ok, Err, refl, sym, ap, ◌∙◌, subst, append_assoc}
 use Rattle.std.specs.Prelude.{Option, Some, None, is_none}
 use Rattle.std.proofs.lemmas.Bool.{true≢false}
 use Rattle.wb_script.specs.declared.fault.RunFault.{RunFault}
@@ -7,7 +7,7 @@ use Rattle.wb_script.specs.declared.fault.RunFault.TheVariants as run_faults
 use Rattle.wb_script.specs.declared.query.Query.{Query}
 use Rattle.wb_script.specs.Board.{Held}
 use Rattle.wb_script.specs.Answers.{answer_text}
-use Rattle.wb_script.specs.Script.{State, Step, goes, refused, on_board, asked, after_batch, closing_text, drawops_of, BeginsWith, PrintsAnswer, DoesStep}
+use Rattle.wb_script.specs.Script.{State, Step, goes, refused, on_board, asked, after_batch, closing_text, drawops_of, PrintsAnswer, DoesStep}
 
 -- want of memory before a line has done anything
 pub out_of_memory : (number : ℕ) (s : State) (step : Step) → DoesStep {U = Unit {0}} number s s [] (Err run_faults.Memory) step

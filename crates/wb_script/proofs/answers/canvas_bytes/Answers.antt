@@ -1,4 +1,4 @@
-use Rattle.std.proofs.Common.{◌≡◌, ap, ◌∙◌, List}
+use Rattle.std.proofs.Common.{ap, ◌∙◌, List}
 use Rattle.wb_names.specs.Values.{DrawopValue}
 use Rattle.wb_display.specs.Canvas.{canvas_text}
 use Rattle.wb_script.proofs.Queries.{only_view}

@@ -1,4 +1,4 @@
-use Rattle.std.proofs.Common.{◌≡◌, ap, ◌∙◌, ◌++◌, List, ℕ}
+use Rattle.std.proofs.Common.{ap, ◌∙◌, ◌++◌, List, ℕ}
 use Rattle.wb_names.specs.Values.{MarkValue}
 use Rattle.wb_names.specs.declared.name.PageId.{PageId}
 use Rattle.wb_script.specs.Answers.{report_text, pages_text}

@@ -5,7 +5,7 @@ use Rattle.std.specs.Borrow.{Bor}
 use Rattle.std.proofs.lemmas.Result.{err_from_is_err_and}
 use Rattle.wb_script.specs.Words.{words}
 use Rattle.wb_script.specs.Parsing.{one_of}
-use Rattle.wb_script.proofs.Arrivals.{datagram-not_hex, datagram-late, datagram-read, datagram-spelled}
+use Rattle.wb_script.proofs.Arrivals.{datagram-not_hex, datagram-late, datagram-spelled}
 use Rattle.wb_script.proofs.parsing.datagram.Goals as goal
 
 pub returns-then-not-is_hex : goal.returns-then-not-is_hex
