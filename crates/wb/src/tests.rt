@@ -125,3 +125,45 @@ fn failing_ends_have_a_status(rt: HostRuntime) {
         1
     );
 }
+
+/// Counts the bytes that it takes.
+#[derive(Drop)]
+struct Counted {
+    len: usize,
+}
+
+impl Sink for Counted {
+    ghost taken = { λ _. None };
+
+    ghost has_failed = { λ _. false };
+
+    fn push(&mut self, bytes: &[u8]) -> Option<usize> {
+        self.len = self.len.saturating_add(bytes.len());
+        Some(bytes.len())
+    }
+}
+
+/// The status of a check of one line, which says `ok 1` where it is 0.
+fn check_one(rt: &(impl Abort + AllocGlobal)) -> u8 {
+    let mut source = FromRead::new(b"pages\n".as_slice());
+    let mut sink = Counted { len: 0 };
+    let mut errors = Counted { len: 0 };
+    let status = serve(
+        rt,
+        ["check"].as_slice(),
+        &mut source,
+        &mut sink,
+        &mut errors,
+    );
+    assert!(rt; status != 0 || (sink.len == "ok 1\n".len() && errors.len == 0));
+    status
+}
+
+#[test]
+fn want_of_memory_has_a_status(rt: HostRuntime) {
+    let status = check_one(&rt);
+    if status != 0 {
+        assert_eq!(rt; status, 4);
+        assert_eq!(rt; check_one(&rt), 0);
+    }
+}
