@@ -130,21 +130,47 @@ fn claim_some(
     Ok(true)
 }
 
+/// A history with two passes of 16 rows each.
+fn open_two_again(alloc: Global) -> Option<(History, Pass, Pass)>
+    ensures { IfSome result (λ t. IsPassOf t.0 t.1 × IsPassOf t.0 t.2) }
+{
+    let (history, mut root) = open_again(alloc, 32)?;
+    let q = split_again(&history, alloc, &mut root, 16)?;
+    Some((history, root, q))
+}
+
+/// Claims nine drawops by two passes, and reads them by one.
+fn claim_nine(history: &History, root: &mut Pass, q: &mut Pass) -> Result<bool, FieldFault>
+    requires { IsPassOf history.now root.old × IsPassOf history.now q.old }
+    ensures { IsSamePass root.old root.new × IsSamePass q.old q.new }
+{
+    let first = claim_some(history, q, root, 7, 0, 1)?;
+    let more = claim_some(history, root, q, 8, 1, 8)?;
+    Ok(first && more && refresh_again(history, q) == Some(9))
+}
+
+/// Whether two passes that meet both know 16 drawops.
+fn both_know_all(history: &History, alloc: Global, root: &mut Pass, q: &mut Pass) -> bool
+    requires { IsPassOf history.now root.old × IsPassOf history.now q.old }
+    ensures { IsSamePass root.old root.new × IsSamePass q.old q.new }
+{
+    let met = meet_again(history, alloc, root, q);
+    met && root.list() == q.list() && root.list().len() == 16
+}
+
+/// Whether 16 drawops are its own, and all rows.
+fn owns_all(pass: &Pass) -> bool {
+    pass.is_whole() && pass.rows_left() == 16 && pass.is_mine(0) && pass.is_mine(15)
+}
+
 #[test]
 fn each_growth_may_be_refused(rt: HostRuntime) -> Result<(), Fail> {
-    let Some((history, mut root)) = open_again(rt.alloc(), 32) else {
+    let Some((history, mut root, mut q)) = open_two_again(rt.alloc()) else {
         panic!(rt; "open")
     };
-    let Some(mut q) = split_again(&history, rt.alloc(), &mut root, 16) else {
-        panic!(rt; "split")
-    };
-    assert!(rt; claim_some(&history, &mut q, &mut root, 7, 0, 1)?);
-    assert!(rt; claim_some(&history, &mut root, &mut q, 8, 1, 8)?);
-    assert!(rt; refresh_again(&history, &mut q) == Some(9));
+    assert!(rt; claim_nine(&history, &mut root, &mut q)?);
     assert!(rt; claim_some(&history, &mut q, &mut root, 9, 9, 7)?);
-    assert!(rt; meet_again(&history, rt.alloc(), &mut root, &mut q));
-    assert!(rt; root.list() == q.list() && root.list().len() == 16);
-    assert!(rt; join_again(&history, &mut root, q));
-    assert!(rt; root.is_whole() && root.rows_left() == 16 && root.is_mine(0) && root.is_mine(15));
+    assert!(rt; both_know_all(&history, rt.alloc(), &mut root, &mut q));
+    assert!(rt; join_again(&history, &mut root, q) && owns_all(&root));
     Ok(())
 }

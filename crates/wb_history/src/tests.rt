@@ -1,11 +1,11 @@
 //! Values from outside: the worked claims of two members, races of two threads, a full history, and
 //! growths that are refused.
 
-ghost use Rattle.std.specs.Prelude.{◌≡◌};
+ghost use Rattle.std.specs.Prelude.{◌≡◌, IfOk};
 ghost use Rattle.wb_history.specs.Passes.{IsPassOf, IsSamePass};
 
 use super::*;
-use std::alloc::Global;
+use std::alloc::{AllocError, Global};
 use std::sync::atomic::{AtomicU32, Ordering};
 use std::test::Fail;
 use std::thread::{self, Threads};
@@ -44,6 +44,55 @@ fn samples() -> Result<[Drawop; 4], FieldFault> {
     Ok([a, b, d, e])
 }
 
+/// A history of so many cells, with the pass that owns its rows but some, and the pass that owns
+/// those.
+fn open_two(alloc: Global, cells: u32, rows: u32) -> Result<(History, Pass, Pass), Fail>
+    ensures { IfOk result (λ t. IsPassOf t.0 t.1 × IsPassOf t.0 t.2) }
+{
+    let (history, mut root) = History::open(alloc, cells)?;
+    let q = history.split(alloc, &mut root, rows)?;
+    Ok((history, root, q))
+}
+
+/// Whether the claims of these drawops, in turn, have these answers.
+fn answers(
+    history: &History,
+    pass: &mut Pass,
+    turns: &[(Drawop, Result<Claim, ClaimFault>)],
+) -> bool
+    requires { IsPassOf history.now pass.old }
+    ensures { IsSamePass pass.old pass.new }
+{
+    for turn in turns {
+        if history.claim(pass, &turn.0) != turn.1 {
+            return false;
+        }
+    }
+    true
+}
+
+/// Whether a claim has this answer, by so many steps.
+fn answers_by(
+    history: &History,
+    pass: &mut Pass,
+    drawop: &Drawop,
+    answer: Result<Claim, ClaimFault>,
+    steps: u32,
+) -> bool
+    requires { IsPassOf history.now pass.old }
+    ensures { IsSamePass pass.old pass.new }
+{
+    history.claim(pass, drawop) == answer && pass.steps() == steps
+}
+
+/// Whether a refresh comes to a list of this length, by so many steps.
+fn reads_by(history: &History, pass: &mut Pass, len: u32, steps: u32) -> bool
+    requires { IsPassOf history.now pass.old }
+    ensures { IsSamePass pass.old pass.new }
+{
+    history.refresh(pass) == Ok(len) && pass.steps() == steps
+}
+
 /// Why so many rows cannot be split off.
 fn split_fault(history: &History, alloc: Global, pass: &mut Pass, rows: u32) -> Option<SplitFault>
     requires { IsPassOf history.now pass.old }
@@ -55,38 +104,74 @@ fn split_fault(history: &History, alloc: Global, pass: &mut Pass, rows: u32) -> 
     }
 }
 
+/// Whether the passes are joined.
+fn joins(history: &History, pass: &mut Pass, other: Pass) -> bool
+    requires { IsPassOf history.now pass.old × IsPassOf history.now other }
+    ensures { IsSamePass pass.old pass.new }
+{
+    history.join(pass, other).is_ok()
+}
+
+/// Whether two members with a row each are answered in turn.
+fn two_are_answered(history: &History, root: &mut Pass, q: &mut Pass, drawops: &[Drawop; 4]) -> bool
+    requires { IsPassOf history.now root.old × IsPassOf history.now q.old }
+    ensures { IsSamePass root.old root.new × IsSamePass q.old q.new }
+{
+    let [a, b, d, e] = *drawops;
+    let first = answers(history, q, &[(a, Ok(Claim::Added(0)))]);
+    let then = answers(
+        history,
+        root,
+        &[
+            (a, Ok(Claim::Present(0))),
+            (b, Ok(Claim::Clash(0))),
+            (d, Ok(Claim::Added(1))),
+        ],
+    );
+    let last = answers(history, q, &[(e, Err(ClaimFault::NoRow))]);
+    first && then && last
+}
+
+/// Whether a pass knows two drawops, and not a third.
+fn knows_two(pass: &Pass, drawops: &[Drawop; 2], other: &Drawop) -> bool {
+    let second = &drawops[1];
+    pass.list() == drawops.as_slice()
+        && pass.at(1) == Some(second)
+        && pass.at(2).is_none()
+        && pass.place_of(&second.name()) == Some(1)
+        && pass.place_of(&other.name()).is_none()
+}
+
+/// Whether the first of two drawops alone is its own.
+fn owns_first(pass: &Pass) -> bool {
+    pass.is_mine(0) && !pass.is_mine(1) && !pass.is_whole()
+}
+
+/// Whether two drawops are its own, and all rows.
+fn owns_both(pass: &Pass) -> bool {
+    pass.is_whole() && pass.is_mine(0) && pass.is_mine(1)
+}
+
 #[test]
 fn two_members_claim_in_turn(rt: HostRuntime) -> Result<(), Fail> {
-    let [a, b, d, e] = samples()?;
-    let (history, mut root) = History::open(rt.alloc(), 2)?;
-    let mut q = history.split(rt.alloc(), &mut root, 1)?;
-    assert!(rt; history.claim(&mut q, &a) == Ok(Claim::Added(0)));
-    assert!(rt; history.claim(&mut root, &a) == Ok(Claim::Present(0)));
-    assert!(rt; history.claim(&mut root, &b) == Ok(Claim::Clash(0)));
-    assert!(rt; history.claim(&mut root, &d) == Ok(Claim::Added(1)));
-    assert!(rt; history.claim(&mut q, &e) == Err(ClaimFault::NoRow));
-    assert!(rt; q.list() == [a, d].as_slice());
-    assert!(rt; q.at(1) == Some(&d) && q.at(2).is_none());
-    assert!(rt; q.place_of(&d.name()) == Some(1) && q.place_of(&e.name()).is_none());
-    assert!(rt; q.is_mine(0) && !q.is_mine(1) && !q.is_whole());
+    let drawops = samples()?;
+    let [a, _b, d, e] = drawops;
+    let (history, mut root, mut q) = open_two(rt.alloc(), 2, 1)?;
+    assert!(rt; two_are_answered(&history, &mut root, &mut q, &drawops));
+    assert!(rt; knows_two(&q, &[a, d], &e) && owns_first(&q));
     assert!(rt; split_fault(&history, rt.alloc(), &mut root, 1) == Some(SplitFault::TooMany(0)));
-    assert!(rt; history.join(&mut root, q).is_ok());
-    assert!(rt; root.is_whole() && root.is_mine(0) && root.is_mine(1));
+    assert!(rt; joins(&history, &mut root, q) && owns_both(&root));
     Ok(())
 }
 
 #[test]
 fn a_claim_takes_fourteen_steps(rt: HostRuntime) -> Result<(), Fail> {
     let [a, _b, _d, _e] = samples()?;
-    let (history, mut root) = History::open(rt.alloc(), 4)?;
-    let mut q = history.split(rt.alloc(), &mut root, 1)?;
+    let (history, mut root, mut q) = open_two(rt.alloc(), 4, 1)?;
     assert!(rt; root.steps() == 0 && q.steps() == 0);
-    assert!(rt; history.claim(&mut root, &a) == Ok(Claim::Added(0)));
-    assert_eq!(rt; root.steps(), 14);
-    assert!(rt; history.claim(&mut root, &a) == Ok(Claim::Present(0)));
-    assert_eq!(rt; root.steps(), 0);
-    assert!(rt; history.refresh(&mut q) == Ok(1));
-    assert_eq!(rt; q.steps(), 14);
+    assert!(rt; answers_by(&history, &mut root, &a, Ok(Claim::Added(0)), 14));
+    assert!(rt; answers_by(&history, &mut root, &a, Ok(Claim::Present(0)), 0));
+    assert!(rt; reads_by(&history, &mut q, 1, 14));
     Ok(())
 }
 
@@ -94,56 +179,96 @@ fn a_claim_takes_fourteen_steps(rt: HostRuntime) -> Result<(), Fail> {
 fn one_cell_holds_one_drawop(rt: HostRuntime) -> Result<(), Fail> {
     let [a, b, d, _e] = samples()?;
     let (history, mut root) = History::open(rt.alloc(), 1)?;
-    assert!(rt; history.claim(&mut root, &a) == Ok(Claim::Added(0)));
-    assert!(rt; history.claim(&mut root, &d) == Err(ClaimFault::NoRow));
-    assert!(rt; history.claim(&mut root, &a) == Ok(Claim::Present(0)));
-    assert!(rt; history.claim(&mut root, &b) == Ok(Claim::Clash(0)));
+    let turns = [
+        (a, Ok(Claim::Added(0))),
+        (d, Err(ClaimFault::NoRow)),
+        (a, Ok(Claim::Present(0))),
+        (b, Ok(Claim::Clash(0))),
+    ];
+    assert!(rt; answers(&history, &mut root, &turns));
     Ok(())
+}
+
+/// Whether a pass that is joined to a part of another one knows this drawop.
+fn is_told(
+    history: &History,
+    alloc: Global,
+    teller: &mut Pass,
+    hearer: &mut Pass,
+    drawop: &Drawop,
+) -> Result<bool, SplitFault>
+    requires { IsPassOf history.now teller.old × IsPassOf history.now hearer.old }
+    ensures { IsSamePass teller.old teller.new × IsSamePass hearer.old hearer.new }
+{
+    let message = history.split(alloc, teller, 0)?;
+    let joined = joins(history, hearer, message);
+    Ok(joined && hearer.list() == [*drawop].as_slice())
+}
+
+/// Whether two passes that meet both have this list.
+fn meets(
+    history: &History,
+    alloc: Global,
+    first: &mut Pass,
+    second: &mut Pass,
+    list: &[Drawop],
+) -> Result<bool, AllocError>
+    requires { IsPassOf history.now first.old × IsPassOf history.now second.old }
+    ensures { IsSamePass first.old first.new × IsSamePass second.old second.new }
+{
+    history.meet(alloc, first, second)?;
+    Ok(first.list() == list && second.list() == list)
 }
 
 #[test]
 fn a_pass_is_told_without_a_refresh(rt: HostRuntime) -> Result<(), Fail> {
     let [a, _b, d, _e] = samples()?;
-    let (history, mut root) = History::open(rt.alloc(), 4)?;
-    let mut other = history.split(rt.alloc(), &mut root, 1)?;
-    assert!(rt; history.claim(&mut root, &a) == Ok(Claim::Added(0)));
-    let message = history.split(rt.alloc(), &mut root, 0)?;
-    assert!(rt; history.join(&mut other, message).is_ok());
-    assert!(rt; other.list() == [a].as_slice());
-    assert!(rt; history.claim(&mut root, &d) == Ok(Claim::Added(1)));
-    history.meet(rt.alloc(), &mut root, &mut other)?;
-    assert!(rt; root.list() == [a, d].as_slice() && other.list() == root.list());
+    let (history, mut root, mut other) = open_two(rt.alloc(), 4, 1)?;
+    assert!(rt; answers(&history, &mut root, &[(a, Ok(Claim::Added(0)))]));
+    assert!(rt; is_told(&history, rt.alloc(), &mut root, &mut other, &a)?);
+    assert!(rt; answers(&history, &mut root, &[(d, Ok(Claim::Added(1)))]));
+    assert!(rt; meets(&history, rt.alloc(), &mut root, &mut other, &[a, d])?);
     Ok(())
 }
 
 #[test]
 fn a_dropped_pass_takes_its_rows_with_it(rt: HostRuntime) -> Result<(), Fail> {
-    let [a, _b, d, e] = samples()?;
-    let (history, mut root) = History::open(rt.alloc(), 2)?;
-    drop(history.split(rt.alloc(), &mut root, 1)?);
-    assert!(rt; history.claim(&mut root, &a) == Ok(Claim::Added(0)));
-    assert!(rt; history.claim(&mut root, &d) == Err(ClaimFault::NoRow));
-
-    let (history, mut root) = History::open(rt.alloc(), 3)?;
-    let mut q = history.split(rt.alloc(), &mut root, 2)?;
-    assert!(rt; history.claim(&mut q, &a) == Ok(Claim::Added(0)));
+    let [a, _b, d, _e] = samples()?;
+    let (history, mut root, q) = open_two(rt.alloc(), 2, 1)?;
     drop(q);
-    assert!(rt; history.claim(&mut root, &d) == Ok(Claim::Added(1)));
-    assert!(rt; history.claim(&mut root, &e) == Err(ClaimFault::NoRow));
-    assert!(rt; history.refresh(&mut root) == Ok(2));
-    assert!(rt; !root.is_whole());
+    let turns = [(a, Ok(Claim::Added(0))), (d, Err(ClaimFault::NoRow))];
+    assert!(rt; answers(&history, &mut root, &turns));
     Ok(())
 }
 
 #[test]
-fn faults_have_numbers(rt: HostRuntime) {
-    for cells in [0, 65_536] {
-        let fault = match History::open(rt.alloc(), cells) {
-            Ok(_) => None,
-            Err(fault) => Some(fault),
-        };
-        assert!(rt; fault == Some(OpenFault::Cells));
+fn a_dropped_pass_leaves_what_it_added(rt: HostRuntime) -> Result<(), Fail> {
+    let [a, _b, d, e] = samples()?;
+    let (history, mut root, mut q) = open_two(rt.alloc(), 3, 2)?;
+    assert!(rt; answers(&history, &mut q, &[(a, Ok(Claim::Added(0)))]));
+    drop(q);
+    let turns = [(d, Ok(Claim::Added(1))), (e, Err(ClaimFault::NoRow))];
+    assert!(rt; answers(&history, &mut root, &turns));
+    assert!(rt; history.refresh(&mut root) == Ok(2) && !root.is_whole());
+    Ok(())
+}
+
+/// Why a history of so many cells is not opened.
+fn open_fault(alloc: Global, cells: u32) -> Option<OpenFault> {
+    match History::open(alloc, cells) {
+        Ok(_) => None,
+        Err(fault) => Some(fault),
     }
+}
+
+#[test]
+fn a_history_has_some_cells(rt: HostRuntime) {
+    assert!(rt; open_fault(rt.alloc(), 0) == Some(OpenFault::Cells));
+    assert!(rt; open_fault(rt.alloc(), 65_536) == Some(OpenFault::Cells));
+}
+
+#[test]
+fn faults_have_numbers(rt: HostRuntime) {
     assert!(rt; (OpenFault::Cells.code(), OpenFault::Memory.code()) == (1, 2));
     assert!(rt; (ClaimFault::NoRow.code(), ClaimFault::Memory.code()) == (1, 2));
     assert!(rt; (SplitFault::TooMany(3).code(), SplitFault::Memory.code()) == (1, 2));
@@ -170,17 +295,18 @@ fn claim_at_once(
     (claim, pass)
 }
 
-/// Two passes of one row each claim on threads of their own. It tells their answers, and the list
-/// that both have seen after they met.
-fn race<R: Threads>(
+/// Two passes claim on threads of their own. It tells their answers, and gives the passes back.
+fn claim_on_threads<R: Threads>(
     rt: &R,
-    alloc: Global,
+    shared: &History,
+    root: Pass,
+    q: Pass,
     first: &Drawop,
     second: &Drawop,
-) -> Result<(Option<Claim>, Option<Claim>, Vec<Drawop>), Fail> {
-    let (history, mut root) = History::open(alloc, 2)?;
-    let q = history.split(alloc, &mut root, 1)?;
-    let shared = &history;
+) -> (Option<Claim>, Option<Claim>, Pass, Pass)
+    requires { IsPassOf shared.now root × IsPassOf shared.now q }
+    ensures { IsPassOf shared.now result.2 × IsPassOf shared.now result.3 }
+{
     let ready = AtomicU32::new(0);
     let gate = &ready;
     let (one, two) = thread::join(
@@ -194,56 +320,95 @@ fn race<R: Threads>(
             ensures { IsPassOf shared.entry.now result.1 }
         { claim_at_once(shared, q, second, gate) },
     );
-    let (claim, mut root) = one;
-    let (other_claim, mut q) = two;
-    history.meet(alloc, &mut root, &mut q)?;
+    let (claim, root) = one;
+    let (other_claim, q) = two;
+    (claim, other_claim, root, q)
+}
+
+/// The list that two passes have seen after they met, and no drawop where their lists differ.
+fn common_list(
+    history: &History,
+    alloc: Global,
+    root: &mut Pass,
+    q: &mut Pass,
+) -> Result<Vec<Drawop>, AllocError>
+    requires { IsPassOf history.now root.old × IsPassOf history.now q.old }
+{
+    history.meet(alloc, root, q)?;
     let mut list = Vec::new(alloc);
     if root.list() == q.list() {
         list.extend_from_slice(root.list())?;
     }
-    Ok((claim, other_claim, list))
+    Ok(list)
+}
+
+/// Two passes of one row each claim on threads of their own. It tells their answers, and the list
+/// that both have seen after they met.
+fn race<R: Threads>(
+    rt: &R,
+    alloc: Global,
+    first: &Drawop,
+    second: &Drawop,
+) -> Result<(Option<Claim>, Option<Claim>, Vec<Drawop>), Fail> {
+    let (history, root, q) = open_two(alloc, 2, 1)?;
+    let (one, two, mut root, mut q) = claim_on_threads(rt, &history, root, q, first, second);
+    let list = common_list(&history, alloc, &mut root, &mut q)?;
+    Ok((one, two, list))
 }
 
 const RACES: u32 = 500;
 
+/// Whether the first of two claims was added at the first place, the other was answered so, and
+/// this is the list.
+fn is_won(
+    first: Option<Claim>,
+    other: Option<Claim>,
+    lost: Claim,
+    list: &[Drawop],
+    wanted: &[Drawop],
+) -> bool {
+    first == Some(Claim::Added(0)) && other == Some(lost) && list == wanted
+}
+
+/// Whether in each of many races one of two claims is added at the first place and the other is
+/// answered so, and the list is the one of these two that belongs to the winner.
+fn each_race_is_won<R: Threads>(
+    rt: &R,
+    alloc: Global,
+    drawops: &[Drawop; 2],
+    lost: Claim,
+    if_first: &[Drawop],
+    if_second: &[Drawop],
+) -> Result<bool, Fail> {
+    let [first, second] = drawops;
+    for _ in 0..RACES {
+        let (one, two, list) = race(rt, alloc, first, second)?;
+        let seen = list.as_slice();
+        if !is_won(one, two, lost, seen, if_first) && !is_won(two, one, lost, seen, if_second) {
+            return Ok(false);
+        }
+    }
+    Ok(true)
+}
+
 #[test]
 fn two_threads_claim_one_drawop(rt: HostRuntime) -> Result<(), Fail> {
     let [a, _b, _d, _e] = samples()?;
-    for _ in 0..RACES {
-        let (one, two, list) = race(&rt, rt.alloc(), &a, &a)?;
-        let added_first = one == Some(Claim::Added(0)) && two == Some(Claim::Present(0));
-        let added_second = one == Some(Claim::Present(0)) && two == Some(Claim::Added(0));
-        assert!(rt; added_first || added_second);
-        assert!(rt; list.as_slice() == [a].as_slice());
-    }
+    assert!(rt; each_race_is_won(&rt, rt.alloc(), &[a, a], Claim::Present(0), &[a], &[a])?);
     Ok(())
 }
 
 #[test]
 fn two_threads_claim_one_name(rt: HostRuntime) -> Result<(), Fail> {
     let [a, b, _d, _e] = samples()?;
-    for _ in 0..RACES {
-        let (one, two, list) = race(&rt, rt.alloc(), &a, &b)?;
-        let added_first = one == Some(Claim::Added(0)) && two == Some(Claim::Clash(0));
-        let added_second = one == Some(Claim::Clash(0)) && two == Some(Claim::Added(0));
-        assert!(rt; added_first || added_second);
-        let winner = if added_first { a } else { b };
-        assert!(rt; list.as_slice() == [winner].as_slice());
-    }
+    assert!(rt; each_race_is_won(&rt, rt.alloc(), &[a, b], Claim::Clash(0), &[a], &[b])?);
     Ok(())
 }
 
 #[test]
 fn two_threads_claim_two_drawops(rt: HostRuntime) -> Result<(), Fail> {
     let [a, _b, d, _e] = samples()?;
-    for _ in 0..RACES {
-        let (one, two, list) = race(&rt, rt.alloc(), &a, &d)?;
-        let added_first = one == Some(Claim::Added(0)) && two == Some(Claim::Added(1));
-        let added_second = one == Some(Claim::Added(1)) && two == Some(Claim::Added(0));
-        assert!(rt; added_first || added_second);
-        let order = if added_first { [a, d] } else { [d, a] };
-        assert!(rt; list.as_slice() == order.as_slice());
-    }
+    assert!(rt; each_race_is_won(&rt, rt.alloc(), &[a, d], Claim::Added(1), &[a, d], &[d, a])?);
     Ok(())
 }
 
@@ -261,18 +426,20 @@ fn fill(history: &History, pass: &mut Pass, count: u32) -> Result<bool, FieldFau
     Ok(true)
 }
 
+/// Whether a pass knows the last drawop that fills all cells.
+fn knows_last(pass: &Pass) -> Result<bool, FieldFault> {
+    let last = stroke(7, 65_535, b'.')?;
+    Ok(pass.place_of(&last.name()) == Some(65_534))
+}
+
 #[test]
 fn all_cells_are_filled_and_read(rt: HostRuntime) -> Result<(), Fail> {
     let [_a, _b, d, _e] = samples()?;
-    let (history, mut root) = History::open(rt.alloc(), 65_535)?;
-    let mut reader = history.split(rt.alloc(), &mut root, 0)?;
+    let (history, mut root, mut reader) = open_two(rt.alloc(), 65_535, 0)?;
     assert!(rt; fill(&history, &mut root, 65_535)?);
     assert!(rt; root.rows_left() == 0 && root.is_whole());
-    assert!(rt; history.refresh(&mut reader) == Ok(65_535));
-    assert_eq!(rt; reader.steps(), 65_535 * 13);
-    assert!(rt; reader.list() == root.list());
-    assert!(rt; reader.place_of(&stroke(7, 65_535, b'.')?.name()) == Some(65_534));
-    assert!(rt; history.claim(&mut root, &d) == Err(ClaimFault::NoRow));
-    assert!(rt; root.steps() == 0);
+    assert!(rt; reads_by(&history, &mut reader, 65_535, 65_535 * 13));
+    assert!(rt; reader.list() == root.list() && knows_last(&reader)?);
+    assert!(rt; answers_by(&history, &mut root, &d, Err(ClaimFault::NoRow), 0));
     Ok(())
 }
