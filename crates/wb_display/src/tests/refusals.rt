@@ -3,21 +3,27 @@
 use super::{is_history, make_samples, page};
 use crate::{Canvas, CanvasFault, Layer, order};
 use std::test::Fail;
+use wb_names::Drawop;
+
+/// Whether a put is taken, and shows `after`; where memory is refused it shows `before` still, and is
+/// taken when it is made again.
+fn is_put(layer: &mut Layer, drawop: &Drawop, before: &[Drawop], after: &[Drawop]) -> bool {
+    if layer.put(drawop).is_err() && (layer.shown() != before || layer.put(drawop).is_err()) {
+        return false;
+    }
+    layer.shown() == after
+}
 
 #[test]
 fn a_refused_put_leaves_the_layer(rt: HostRuntime) -> Result<(), Fail> {
     let s = make_samples()?;
     let mut layer = Layer::new(rt.alloc(), page(1));
-    let mut shown = 0;
-    for (drawop, want) in [(s.c, 0), (s.a, 0), (s.d, 1), (s.e, 2), (s.x, 3), (s.y, 2)] {
-        if layer.put(&drawop).is_err() {
-            assert_eq!(rt; layer.shown().len(), shown);
-            layer.put(&drawop)?;
-        }
-        shown = want;
-        assert_eq!(rt; layer.shown().len(), shown);
-    }
-    assert!(rt; layer.shown() == [s.d, s.e].as_slice());
+    let hidden = is_put(&mut layer, &s.c, &[], &[]) && is_put(&mut layer, &s.a, &[], &[]);
+    let drawn = is_put(&mut layer, &s.d, &[], &[s.d])
+        && is_put(&mut layer, &s.e, &[s.d], &[s.d, s.e]);
+    let restored = is_put(&mut layer, &s.x, &[s.d, s.e], &[s.a, s.d, s.e]);
+    let hidden_again = is_put(&mut layer, &s.y, &[s.a, s.d, s.e], &[s.d, s.e]);
+    assert_eq!(rt; [hidden, drawn, restored, hidden_again], [true; 4]);
     Ok(())
 }
 
