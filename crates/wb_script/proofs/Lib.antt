@@ -11,3 +11,5 @@ pub mod Queries
 pub mod Steps
 pub mod LineCounts
 pub mod CountLaws
+pub mod BatchLaws
+pub mod ScriptLaws

@@ -14,10 +14,10 @@ use Rattle.wb_script.proofs.InputLines.{input_lines-whole, input_lines-last, sta
 
 -- ---- what was written before
 
-before-nil : (o : Outcome) → before [] o ≡ o
+pub before-nil : (o : Outcome) → before [] o ≡ o
 before-nil (prints text end) = refl
 
-before-before : (x y : List ℕ) (o : Outcome) → before x (before y o) ≡ before (x ++ y) o
+pub before-before : (x y : List ℕ) (o : Outcome) → before x (before y o) ≡ before (x ++ y) o
 before-before x y (prints text end) = ap (λ (t : List ℕ). prints t end) (sym (append_assoc x y text))
 
 pub Leads-refl : (o : Outcome) → Leads o [] o
@@ -151,7 +151,7 @@ cut_off n s (b ∷ line) few is =
 pub failure_stops : (n : ℕ) (s : State) (reader reader' : Ahead) (given line : List ℕ) (failed : Bool) → n < most_lines → IsLine line → reader.bytes ++ given ≡ line → reader'.ended ≡ false → failed ≡ true → Stops n s reader given [] s reader' failed run_faults.Read
 failure_stops n s reader reader' given line failed few is e going has = (has, going, Leads-is (ahead_of true n s reader given) (finish s (Err run_faults.Read)) [] (ap (λ (t : List ℕ). outcome_from true n s (input_lines t)) e ∙ cut_off n s line few is) refl)
 
-too_many : (cut : Bool) (n : ℕ) (s : State) (line : InputLine) (lines : List InputLine) → nat_lt n most_lines && nat_le (length line.bytes) most_bytes ≡ false → outcome_from cut n s (line ∷ lines) ≡ finish s (Err run_faults.Endless)
+pub too_many : (cut : Bool) (n : ℕ) (s : State) (line : InputLine) (lines : List InputLine) → nat_lt n most_lines && nat_le (length line.bytes) most_bytes ≡ false → outcome_from cut n s (line ∷ lines) ≡ finish s (Err run_faults.Endless)
 too_many cut n s line lines e = rw e refl
 
 pub length_stops : (n : ℕ) (s : State) (reader reader' : Ahead) (given line : List ℕ) (failed : Bool) → NoLineFeed line → length line ≡ most_bytes + 1 → reader.bytes ++ given ≡ line ++ reader'.bytes → Stops n s reader given [] s reader' failed run_faults.Endless

@@ -11,6 +11,7 @@ pub mod Output
 pub mod Ahead
 pub mod Running
 pub mod Laws
+pub mod ScriptLaws
 pub mod Checking
 pub use Rattle.wb_names.specs.Values
 pub use Rattle.wb_names.specs.History

@@ -1,7 +1,8 @@
-//! Laws of what a script's queries print, proved for all histories. The functions do nothing: each
+//! Laws of what scripts print, proved for all scripts and histories. The functions do nothing: each
 //! stands here for its clauses.
 
 ghost use Rattle.wb_script.specs.Laws.{ViewOfPage, OnlyView, ReportOfPage, OnlyReport, PagesOfHistory, OnlyPages};
+ghost use Rattle.wb_script.specs.ScriptLaws.{RefusedStays, PrintedStays, SkippedPrintsNothing, CountsAddUp, HeldStays};
 
 /// What is printed is the view of a page, its report, and the list of pages.
 pub fn queries_are_answered()
@@ -15,4 +16,22 @@ pub fn answers_are_one()
     ensures view { OnlyView }
     ensures report { OnlyReport }
     ensures pages { OnlyPages }
+{}
+
+/// What whole lines printed stays, whatever follows them: nothing of a refused script changes, and
+/// where no arrival waits, each longer script's text begins with theirs.
+pub fn printed_text_stays()
+    ensures refused { RefusedStays }
+    ensures printed { PrintedStays }
+{}
+
+/// A blank line or a comment prints nothing and ends no batch, wherever it stands.
+pub fn skipped_lines_print_nothing()
+    ensures { SkippedPrintsNothing }
+{}
+
+/// The counts of a batch add up to its arrivals. What was held stays, and the new come after it.
+pub fn batches_add_up()
+    ensures counts { CountsAddUp }
+    ensures held { HeldStays }
 {}

@@ -1,0 +1,72 @@
+-- Laws of what scripts print: what was printed stays, skipped lines print nothing, and the counts of a batch add up.
+use Rattle.std.specs.Prelude.{◌≡◌, ℕ, ◌+◌, ◌<◌, List, [], ◌∷◌, ◌++◌, length, Bool, true, false, Result, Ok, Err}
+use Rattle.std.specs.Str.Lines.{strip_carriage_return}
+use Rattle.wb_names.specs.Values.{DrawopValue}
+use Rattle.wb_script.specs.declared.batch.Batch.{Batch}
+use Rattle.wb_script.specs.declared.fault.LineFault.{LineFault}
+use Rattle.wb_script.specs.declared.fault.RunFault.{RunFault}
+use Rattle.wb_script.specs.declared.line.Line.{Line}
+use Rattle.wb_script.specs.declared.line.Line.TheVariants.{Skip, Board, Arrive, Hear, Distance, Tick, Look, Session, Show, Gaps, Report, Pages}
+use Rattle.wb_script.specs.declared.summary.Summary.{Summary}
+use Rattle.wb_script.specs.Ahead.{IsLine}
+use Rattle.wb_script.specs.Parsing.{line_of}
+use Rattle.wb_script.specs.Running.{Begins}
+use Rattle.wb_script.specs.Script.{InputLine, input_lines, content, most_lines, none_counted, counts_after, drawops_after, Outcome, prints, outcome}
+
+-- a line feed ends each line
+abbrev pub EachEnds : List InputLine → Type 0
+EachEnds [] = Unit {0}
+EachEnds (line ∷ lines) = (line.ended ≡ true) × EachEnds lines
+
+-- whether arrivals wait for the end of their batch after a line, where it is known whether some waited before it
+abbrev pub waits_after : Bool → Result Line LineFault → Bool
+waits_after waits (Ok Skip) = waits
+waits_after waits (Ok (Arrive d)) = true
+waits_after waits (Ok (Board member cells workers seed)) = false
+waits_after waits (Ok (Hear v)) = false
+waits_after waits (Ok (Distance source micros)) = false
+waits_after waits (Ok (Tick moment)) = false
+waits_after waits (Ok (Look page)) = false
+waits_after waits (Ok (Session page)) = false
+waits_after waits (Ok (Show page width height)) = false
+waits_after waits (Ok (Gaps page)) = false
+waits_after waits (Ok (Report page)) = false
+waits_after waits (Ok Pages) = false
+waits_after waits (Err e) = false
+
+-- the same after some lines
+abbrev pub waits_at_end : Bool → List InputLine → Bool
+waits_at_end waits [] = waits
+waits_at_end waits (line ∷ lines) = waits_at_end (waits_after waits (line_of (content line))) lines
+
+-- the text of an outcome
+abbrev pub text_of : Outcome → List ℕ
+text_of (prints text end) = text
+
+-- Whole lines that end with a fault have this outcome whatever follows them.
+abbrev pub RefusedStays : Type 0
+RefusedStays = (front more text : List ℕ) (cut : Bool) (fault : RunFault) → EachEnds (input_lines front)
+    → outcome false front ≡ prints text (Err fault) → outcome cut (front ++ more) ≡ prints text (Err fault)
+
+-- Where no arrival waits after whole lines, the text of each longer script begins with their text.
+abbrev pub PrintedStays : Type 0
+PrintedStays = (front more text : List ℕ) (cut : Bool) (summary : Summary) → EachEnds (input_lines front) → waits_at_end false (input_lines front) ≡ false
+    → outcome false front ≡ prints text (Ok summary) → Begins (outcome cut (front ++ more)) text
+
+-- A skipped line that a line feed ends changes nothing of the text, wherever it stands, while the lines are not too many.
+abbrev pub SkippedPrintsNothing : Type 0
+SkippedPrintsNothing = (front line more : List ℕ) (cut : Bool) → EachEnds (input_lines front) → IsLine line → line_of (strip_carriage_return line) ≡ Ok Skip
+    → length (input_lines (front ++ more)) < most_lines → text_of (outcome cut (front ++ (line ++ 10 ∷ more))) ≡ text_of (outcome cut (front ++ more))
+
+-- all that a batch has counted
+abbrev pub total : Batch → ℕ
+total n = n.fresh + n.again + n.clash + n.left
+
+-- The counts of a batch add up to its arrivals.
+abbrev pub CountsAddUp : Type 0
+CountsAddUp = (cells : ℕ) (held arrivals : List DrawopValue) → total (counts_after cells held arrivals none_counted) ≡ length arrivals
+
+-- What is held stays, and what is new comes after it.
+abbrev pub HeldStays : Type 0
+HeldStays = (cells : ℕ) (held arrivals : List DrawopValue) → (added : List DrawopValue)
+    × (drawops_after cells held arrivals ≡ held ++ added) × (length added ≡ (counts_after cells held arrivals none_counted).fresh)
