@@ -6,7 +6,6 @@ ghost use Rattle.wb_history.specs.Passes.{IsPassOf, IsSamePass};
 
 use super::*;
 use std::alloc::Global;
-use std::test::Fail;
 use wb_names::{Drawop, FieldFault, Name, PageId, Shape};
 
 fn dot(source: u32, seq: u32) -> Result<Drawop, FieldFault> {
@@ -116,18 +115,20 @@ fn claim_some(
     source: u32,
     first: u32,
     count: u32,
-) -> Result<bool, FieldFault>
+) -> bool
     requires { IsPassOf history.now pass.old × IsPassOf history.now other.old }
     ensures { IsSamePass pass.old pass.new × IsSamePass other.old other.new }
 {
     for k in 0..count {
-        let drawop = dot(source, k.wrapping_add(1))?;
+        let Ok(drawop) = dot(source, k.wrapping_add(1)) else {
+            return false;
+        };
         let place = first.wrapping_add(k);
         if claim_again(history, pass, other, &drawop) != Some(Claim::Added(place)) {
-            return Ok(false);
+            return false;
         }
     }
-    Ok(true)
+    true
 }
 
 /// A history with two passes of 16 rows each.
@@ -140,13 +141,13 @@ fn open_two_again(alloc: Global) -> Option<(History, Pass, Pass)>
 }
 
 /// Claims nine drawops by two passes, and reads them by one.
-fn claim_nine(history: &History, root: &mut Pass, q: &mut Pass) -> Result<bool, FieldFault>
+fn claim_nine(history: &History, root: &mut Pass, q: &mut Pass) -> bool
     requires { IsPassOf history.now root.old × IsPassOf history.now q.old }
     ensures { IsSamePass root.old root.new × IsSamePass q.old q.new }
 {
-    let first = claim_some(history, q, root, 7, 0, 1)?;
-    let more = claim_some(history, root, q, 8, 1, 8)?;
-    Ok(first && more && refresh_again(history, q) == Some(9))
+    let first = claim_some(history, q, root, 7, 0, 1);
+    let more = claim_some(history, root, q, 8, 1, 8);
+    first && more && refresh_again(history, q) == Some(9)
 }
 
 /// Whether two passes that meet both know 16 drawops.
@@ -163,14 +164,32 @@ fn owns_all(pass: &Pass) -> bool {
     pass.is_whole() && pass.rows_left() == 16 && pass.is_mine(0) && pass.is_mine(15)
 }
 
-#[test]
-fn each_growth_may_be_refused(rt: HostRuntime) -> Result<(), Fail> {
-    let Some((history, mut root, mut q)) = open_two_again(rt.alloc()) else {
-        panic!(rt; "open")
+/// Whether a new part of a pass takes in another pass, and is then taken back with it. The part has
+/// no room for the other's places and rows, so that the join asks for each growth.
+fn joins_all(history: &History, alloc: Global, root: &mut Pass, q: Pass) -> bool
+    requires { IsPassOf history.now root.old × IsPassOf history.now q }
+    ensures { IsSamePass root.old root.new }
+{
+    let Some(mut part) = split_again(history, alloc, root, 1) else {
+        return false;
     };
-    assert!(rt; claim_nine(&history, &mut root, &mut q)?);
-    assert!(rt; claim_some(&history, &mut q, &mut root, 9, 9, 7)?);
-    assert!(rt; both_know_all(&history, rt.alloc(), &mut root, &mut q));
-    assert!(rt; join_again(&history, &mut root, q) && owns_all(&root));
-    Ok(())
+    let joined = join_again(history, &mut part, q);
+    join_again(history, root, part) && joined
+}
+
+/// Whether each call of two passes works, the first time or again.
+fn each_call_works(alloc: Global) -> [bool; 4] {
+    let Some((history, mut root, mut q)) = open_two_again(alloc) else {
+        return [false; 4];
+    };
+    let first = claim_nine(&history, &mut root, &mut q);
+    let more = claim_some(&history, &mut q, &mut root, 9, 9, 7);
+    let met = both_know_all(&history, alloc, &mut root, &mut q);
+    let joined = joins_all(&history, alloc, &mut root, q);
+    [first, more, met, joined && owns_all(&root)]
+}
+
+#[test]
+fn each_growth_may_be_refused(rt: HostRuntime) {
+    assert_eq!(rt; each_call_works(rt.alloc()), [true; 4]);
 }

@@ -1,5 +1,9 @@
 //! Values from outside: the worked claims of two members, races of two threads, a full history, and
 //! growths that are refused.
+//!
+//! A function that owns a history gathers what it saw into plain values, and its test asserts them
+//! once: each place where a proof may leave a function is one more path on which all that it owns is
+//! let go.
 
 ghost use Rattle.std.specs.Prelude.{◌≡◌, IfOk};
 ghost use Rattle.wb_history.specs.Passes.{IsPassOf, IsSamePass};
@@ -152,40 +156,66 @@ fn owns_both(pass: &Pass) -> bool {
     pass.is_whole() && pass.is_mine(0) && pass.is_mine(1)
 }
 
+/// Whether two members are answered in turn; what the second one then knows, and owns; whether the
+/// first one has no row to give; and whether they are joined, to a pass that owns all.
+fn two_members(alloc: Global, drawops: &[Drawop; 4]) -> Result<[bool; 6], Fail> {
+    let [a, _b, d, e] = *drawops;
+    let (history, mut root, mut q) = open_two(alloc, 2, 1)?;
+    let answered = two_are_answered(&history, &mut root, &mut q, drawops);
+    let knows = knows_two(&q, &[a, d], &e);
+    let owns = owns_first(&q);
+    let fault = split_fault(&history, alloc, &mut root, 1);
+    let joined = joins(&history, &mut root, q);
+    let owns_all = owns_both(&root);
+    let refused = fault == Some(SplitFault::TooMany(0));
+    Ok([answered, knows, owns, refused, joined, owns_all])
+}
+
 #[test]
 fn two_members_claim_in_turn(rt: HostRuntime) -> Result<(), Fail> {
     let drawops = samples()?;
-    let [a, _b, d, e] = drawops;
-    let (history, mut root, mut q) = open_two(rt.alloc(), 2, 1)?;
-    assert!(rt; two_are_answered(&history, &mut root, &mut q, &drawops));
-    assert!(rt; knows_two(&q, &[a, d], &e) && owns_first(&q));
-    assert!(rt; split_fault(&history, rt.alloc(), &mut root, 1) == Some(SplitFault::TooMany(0)));
-    assert!(rt; joins(&history, &mut root, q) && owns_both(&root));
+    assert_eq!(rt; two_members(rt.alloc(), &drawops)?, [true; 6]);
     Ok(())
+}
+
+/// Whether no step was taken before the first call; and whether a claim takes fourteen steps, a claim
+/// of a known name none, and a refresh fourteen for one member and the end.
+fn counts_steps(alloc: Global, drawop: &Drawop) -> Result<[bool; 4], Fail> {
+    let (history, mut root, mut q) = open_two(alloc, 4, 1)?;
+    let none = root.steps() == 0 && q.steps() == 0;
+    let new = answers_by(&history, &mut root, drawop, Ok(Claim::Added(0)), 14);
+    let known = answers_by(&history, &mut root, drawop, Ok(Claim::Present(0)), 0);
+    let read = reads_by(&history, &mut q, 1, 14);
+    Ok([none, new, known, read])
 }
 
 #[test]
 fn a_claim_takes_fourteen_steps(rt: HostRuntime) -> Result<(), Fail> {
     let [a, _b, _d, _e] = samples()?;
-    let (history, mut root, mut q) = open_two(rt.alloc(), 4, 1)?;
-    assert!(rt; root.steps() == 0 && q.steps() == 0);
-    assert!(rt; answers_by(&history, &mut root, &a, Ok(Claim::Added(0)), 14));
-    assert!(rt; answers_by(&history, &mut root, &a, Ok(Claim::Present(0)), 0));
-    assert!(rt; reads_by(&history, &mut q, 1, 14));
+    assert_eq!(rt; counts_steps(rt.alloc(), &a)?, [true; 4]);
     Ok(())
+}
+
+/// Whether a pass with all rows of a new history is answered so.
+fn alone_is_answered(
+    alloc: Global,
+    cells: u32,
+    turns: &[(Drawop, Result<Claim, ClaimFault>)],
+) -> Result<bool, OpenFault> {
+    let (history, mut root) = History::open(alloc, cells)?;
+    Ok(answers(&history, &mut root, turns))
 }
 
 #[test]
 fn one_cell_holds_one_drawop(rt: HostRuntime) -> Result<(), Fail> {
     let [a, b, d, _e] = samples()?;
-    let (history, mut root) = History::open(rt.alloc(), 1)?;
     let turns = [
         (a, Ok(Claim::Added(0))),
         (d, Err(ClaimFault::NoRow)),
         (a, Ok(Claim::Present(0))),
         (b, Ok(Claim::Clash(0))),
     ];
-    assert!(rt; answers(&history, &mut root, &turns));
+    assert!(rt; alone_is_answered(rt.alloc(), 1, &turns)?);
     Ok(())
 }
 
@@ -196,13 +226,14 @@ fn is_told(
     teller: &mut Pass,
     hearer: &mut Pass,
     drawop: &Drawop,
-) -> Result<bool, SplitFault>
+) -> bool
     requires { IsPassOf history.now teller.old × IsPassOf history.now hearer.old }
     ensures { IsSamePass teller.old teller.new × IsSamePass hearer.old hearer.new }
 {
-    let message = history.split(alloc, teller, 0)?;
-    let joined = joins(history, hearer, message);
-    Ok(joined && hearer.list() == [*drawop].as_slice())
+    let Ok(message) = history.split(alloc, teller, 0) else {
+        return false;
+    };
+    joins(history, hearer, message) && hearer.list() == [*drawop].as_slice()
 }
 
 /// Whether two passes that meet both have this list.
@@ -212,44 +243,65 @@ fn meets(
     first: &mut Pass,
     second: &mut Pass,
     list: &[Drawop],
-) -> Result<bool, AllocError>
+) -> bool
     requires { IsPassOf history.now first.old × IsPassOf history.now second.old }
     ensures { IsSamePass first.old first.new × IsSamePass second.old second.new }
 {
-    history.meet(alloc, first, second)?;
-    Ok(first.list() == list && second.list() == list)
+    let met = history.meet(alloc, first, second).is_ok();
+    met && first.list() == list && second.list() == list
+}
+
+/// Whether a pass adds a drawop and tells it to another; and whether it adds one more, and both know
+/// the two after they met.
+fn tells_and_meets(alloc: Global, first: &Drawop, then: &Drawop) -> Result<[bool; 4], Fail> {
+    let (history, mut root, mut other) = open_two(alloc, 4, 1)?;
+    let added = answers(&history, &mut root, &[(*first, Ok(Claim::Added(0)))]);
+    let told = is_told(&history, alloc, &mut root, &mut other, first);
+    let more = answers(&history, &mut root, &[(*then, Ok(Claim::Added(1)))]);
+    let met = meets(&history, alloc, &mut root, &mut other, &[*first, *then]);
+    Ok([added, told, more, met])
 }
 
 #[test]
 fn a_pass_is_told_without_a_refresh(rt: HostRuntime) -> Result<(), Fail> {
     let [a, _b, d, _e] = samples()?;
-    let (history, mut root, mut other) = open_two(rt.alloc(), 4, 1)?;
-    assert!(rt; answers(&history, &mut root, &[(a, Ok(Claim::Added(0)))]));
-    assert!(rt; is_told(&history, rt.alloc(), &mut root, &mut other, &a)?);
-    assert!(rt; answers(&history, &mut root, &[(d, Ok(Claim::Added(1)))]));
-    assert!(rt; meets(&history, rt.alloc(), &mut root, &mut other, &[a, d])?);
+    assert_eq!(rt; tells_and_meets(rt.alloc(), &a, &d)?, [true; 4]);
     Ok(())
+}
+
+/// Whether a pass of some rows is answered so before it is dropped, and the one with the others
+/// afterwards; and how many drawops that one then reads, if it does not own all rows.
+fn is_answered_alone(
+    alloc: Global,
+    cells: u32,
+    rows: u32,
+    before: &[(Drawop, Result<Claim, ClaimFault>)],
+    after: &[(Drawop, Result<Claim, ClaimFault>)],
+) -> Result<(bool, bool, Option<u32>), Fail> {
+    let (history, mut root, mut q) = open_two(alloc, cells, rows)?;
+    let first = answers(&history, &mut q, before);
+    drop(q);
+    let then = answers(&history, &mut root, after);
+    let read = history.refresh(&mut root).ok();
+    let known = if root.is_whole() { None } else { read };
+    Ok((first, then, known))
 }
 
 #[test]
 fn a_dropped_pass_takes_its_rows_with_it(rt: HostRuntime) -> Result<(), Fail> {
     let [a, _b, d, _e] = samples()?;
-    let (history, mut root, q) = open_two(rt.alloc(), 2, 1)?;
-    drop(q);
     let turns = [(a, Ok(Claim::Added(0))), (d, Err(ClaimFault::NoRow))];
-    assert!(rt; answers(&history, &mut root, &turns));
+    let seen = is_answered_alone(rt.alloc(), 2, 1, &[], &turns)?;
+    assert!(rt; seen == (true, true, Some(1)));
     Ok(())
 }
 
 #[test]
 fn a_dropped_pass_leaves_what_it_added(rt: HostRuntime) -> Result<(), Fail> {
     let [a, _b, d, e] = samples()?;
-    let (history, mut root, mut q) = open_two(rt.alloc(), 3, 2)?;
-    assert!(rt; answers(&history, &mut q, &[(a, Ok(Claim::Added(0)))]));
-    drop(q);
     let turns = [(d, Ok(Claim::Added(1))), (e, Err(ClaimFault::NoRow))];
-    assert!(rt; answers(&history, &mut root, &turns));
-    assert!(rt; history.refresh(&mut root) == Ok(2) && !root.is_whole());
+    let seen = is_answered_alone(rt.alloc(), 3, 2, &[(a, Ok(Claim::Added(0)))], &turns)?;
+    assert!(rt; seen == (true, true, Some(2)));
     Ok(())
 }
 
@@ -325,66 +377,60 @@ fn claim_on_threads<R: Threads>(
     (claim, other_claim, root, q)
 }
 
-/// The list that two passes have seen after they met, and no drawop where their lists differ.
-fn common_list(
+/// Whether two passes that meet both have the first of two lists, and whether both have the second.
+fn lists_met(
     history: &History,
     alloc: Global,
     root: &mut Pass,
     q: &mut Pass,
-) -> Result<Vec<Drawop>, AllocError>
+    lists: &[&[Drawop]; 2],
+) -> (bool, bool)
     requires { IsPassOf history.now root.old × IsPassOf history.now q.old }
 {
-    history.meet(alloc, root, q)?;
-    let mut list = Vec::new(alloc);
-    if root.list() == q.list() {
-        list.extend_from_slice(root.list())?;
-    }
-    Ok(list)
+    let met = history.meet(alloc, root, q).is_ok();
+    let same = met && root.list() == q.list();
+    (
+        same && root.list() == lists[0],
+        same && root.list() == lists[1],
+    )
 }
 
-/// Two passes of one row each claim on threads of their own. It tells their answers, and the list
-/// that both have seen after they met.
-fn race<R: Threads>(
+/// Whether the first of two claims was added at the first place, and the other was answered so.
+fn is_won(first: Option<Claim>, other: Option<Claim>, lost: Claim) -> bool {
+    first == Some(Claim::Added(0)) && other == Some(lost)
+}
+
+/// Two passes of one row each claim on threads of their own. Whether one of them is added at the
+/// first place and the other is answered so, and the list that both have seen after they met is the
+/// one of these two that belongs to the winner.
+fn race_is_won<R: Threads>(
     rt: &R,
     alloc: Global,
-    first: &Drawop,
-    second: &Drawop,
-) -> Result<(Option<Claim>, Option<Claim>, Vec<Drawop>), Fail> {
+    drawops: &[Drawop; 2],
+    lost: Claim,
+    lists: &[&[Drawop]; 2],
+) -> Result<bool, Fail> {
+    let [first, second] = drawops;
     let (history, root, q) = open_two(alloc, 2, 1)?;
     let (one, two, mut root, mut q) = claim_on_threads(rt, &history, root, q, first, second);
-    let list = common_list(&history, alloc, &mut root, &mut q)?;
-    Ok((one, two, list))
+    let (by_first, by_second) = lists_met(&history, alloc, &mut root, &mut q, lists);
+    let first_won = by_first && is_won(one, two, lost);
+    let second_won = by_second && is_won(two, one, lost);
+    Ok(first_won || second_won)
 }
 
 const RACES: u32 = 500;
 
-/// Whether the first of two claims was added at the first place, the other was answered so, and
-/// this is the list.
-fn is_won(
-    first: Option<Claim>,
-    other: Option<Claim>,
-    lost: Claim,
-    list: &[Drawop],
-    wanted: &[Drawop],
-) -> bool {
-    first == Some(Claim::Added(0)) && other == Some(lost) && list == wanted
-}
-
-/// Whether in each of many races one of two claims is added at the first place and the other is
-/// answered so, and the list is the one of these two that belongs to the winner.
+/// Whether each of many such races is won.
 fn each_race_is_won<R: Threads>(
     rt: &R,
     alloc: Global,
     drawops: &[Drawop; 2],
     lost: Claim,
-    if_first: &[Drawop],
-    if_second: &[Drawop],
+    lists: &[&[Drawop]; 2],
 ) -> Result<bool, Fail> {
-    let [first, second] = drawops;
     for _ in 0..RACES {
-        let (one, two, list) = race(rt, alloc, first, second)?;
-        let seen = list.as_slice();
-        if !is_won(one, two, lost, seen, if_first) && !is_won(two, one, lost, seen, if_second) {
+        if !race_is_won(rt, alloc, drawops, lost, lists)? {
             return Ok(false);
         }
     }
@@ -394,52 +440,71 @@ fn each_race_is_won<R: Threads>(
 #[test]
 fn two_threads_claim_one_drawop(rt: HostRuntime) -> Result<(), Fail> {
     let [a, _b, _d, _e] = samples()?;
-    assert!(rt; each_race_is_won(&rt, rt.alloc(), &[a, a], Claim::Present(0), &[a], &[a])?);
+    assert!(rt; each_race_is_won(&rt, rt.alloc(), &[a, a], Claim::Present(0), &[&[a], &[a]])?);
     Ok(())
 }
 
 #[test]
 fn two_threads_claim_one_name(rt: HostRuntime) -> Result<(), Fail> {
     let [a, b, _d, _e] = samples()?;
-    assert!(rt; each_race_is_won(&rt, rt.alloc(), &[a, b], Claim::Clash(0), &[a], &[b])?);
+    assert!(rt; each_race_is_won(&rt, rt.alloc(), &[a, b], Claim::Clash(0), &[&[a], &[b]])?);
     Ok(())
 }
 
 #[test]
 fn two_threads_claim_two_drawops(rt: HostRuntime) -> Result<(), Fail> {
     let [a, _b, d, _e] = samples()?;
-    assert!(rt; each_race_is_won(&rt, rt.alloc(), &[a, d], Claim::Added(1), &[a, d], &[d, a])?);
+    assert!(rt;
+        each_race_is_won(
+            &rt,
+            rt.alloc(),
+            &[a, d],
+            Claim::Added(1),
+            &[&[a, d], &[d, a]]
+        )?
+    );
     Ok(())
 }
 
 /// Adds so many drawops in turn, and tells whether each took the next place by fourteen steps.
-fn fill(history: &History, pass: &mut Pass, count: u32) -> Result<bool, FieldFault>
+fn fill(history: &History, pass: &mut Pass, count: u32) -> bool
     requires { IsPassOf history.now pass.old }
     ensures { IsSamePass pass.old pass.new }
 {
     for place in 0..count {
-        let dot = stroke(7, place.wrapping_add(1), b'.')?;
+        let Ok(dot) = stroke(7, place.wrapping_add(1), b'.') else {
+            return false;
+        };
         if history.claim(pass, &dot) != Ok(Claim::Added(place)) || pass.steps() != 14 {
-            return Ok(false);
+            return false;
         }
     }
-    Ok(true)
+    true
 }
 
 /// Whether a pass knows the last drawop that fills all cells.
-fn knows_last(pass: &Pass) -> Result<bool, FieldFault> {
-    let last = stroke(7, 65_535, b'.')?;
-    Ok(pass.place_of(&last.name()) == Some(65_534))
+fn knows_last(pass: &Pass) -> bool {
+    let Ok(last) = stroke(7, 65_535, b'.') else {
+        return false;
+    };
+    pass.place_of(&last.name()) == Some(65_534)
+}
+
+/// Whether one pass fills all cells and owns all rows, of which none is free; whether another one
+/// reads the same list, with its last drawop; and whether there is no row for one more drawop.
+fn fills_and_reads(alloc: Global, drawop: &Drawop) -> Result<[bool; 5], Fail> {
+    let (history, mut root, mut reader) = open_two(alloc, 65_535, 0)?;
+    let filled = fill(&history, &mut root, 65_535);
+    let used = root.rows_left() == 0 && root.is_whole();
+    let read = reads_by(&history, &mut reader, 65_535, 65_535 * 13);
+    let same = reader.list() == root.list() && knows_last(&reader);
+    let full = answers_by(&history, &mut root, drawop, Err(ClaimFault::NoRow), 0);
+    Ok([filled, used, read, same, full])
 }
 
 #[test]
 fn all_cells_are_filled_and_read(rt: HostRuntime) -> Result<(), Fail> {
     let [_a, _b, d, _e] = samples()?;
-    let (history, mut root, mut reader) = open_two(rt.alloc(), 65_535, 0)?;
-    assert!(rt; fill(&history, &mut root, 65_535)?);
-    assert!(rt; root.rows_left() == 0 && root.is_whole());
-    assert!(rt; reads_by(&history, &mut reader, 65_535, 65_535 * 13));
-    assert!(rt; reader.list() == root.list() && knows_last(&reader)?);
-    assert!(rt; answers_by(&history, &mut root, &d, Err(ClaimFault::NoRow), 0));
+    assert_eq!(rt; fills_and_reads(rt.alloc(), &d)?, [true; 5]);
     Ok(())
 }
