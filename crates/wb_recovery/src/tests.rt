@@ -401,10 +401,11 @@ fn have_fired(r: &Recovery, sent: &[Action]) -> Result<bool, Fail> {
 #[test]
 fn want_of_memory_leaves_all_as_it_was(rt: HostRuntime) -> Result<(), Fail> {
     let mut r = fresh(&rt)?;
-    for seq in 1..=NAMES {
+    // Downwards, so that the alarm set last is the first one due, and would show in `next_due`.
+    for seq in (1..=NAMES).rev() {
         let (n, word) = (name(seq)?, u64::from(seq));
-        // A name gets its record from either timer: here the even ones from that of the answer.
-        if seq % 2 == 0 {
+        // A name gets its record from either timer: here the odd ones from that of the answer.
+        if seq % 2 == 1 {
             asked_again(&rt, &mut r, n, true, word)?;
         }
         notice_again(&rt, &mut r, n, word)?;
