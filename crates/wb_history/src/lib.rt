@@ -26,6 +26,8 @@ mod members;
 mod parts;
 mod pass;
 #[cfg(test)]
+mod races;
+#[cfg(test)]
 mod refused_tests;
 mod rule;
 mod steps;

@@ -8,7 +8,7 @@ use super::*;
 use std::alloc::Global;
 use wb_names::{Drawop, FieldFault, Name, PageId, Shape};
 
-fn dot(source: u32, seq: u32) -> Result<Drawop, FieldFault> {
+pub(crate) fn dot(source: u32, seq: u32) -> Result<Drawop, FieldFault> {
     let page = PageId {
         creator: 7,
         number: 1,
@@ -63,18 +63,19 @@ fn join_again(history: &History, pass: &mut Pass, other: Pass) -> bool
 }
 
 /// The answer to a claim, by a second call where a growth of the first was refused. Then the
-/// drawop has to be in neither list.
-fn claim_again(
+/// drawop has to be in neither list, and the pass has to have as many rows left as before.
+pub(crate) fn answer_again(
     history: &History,
     pass: &mut Pass,
     other: &mut Pass,
     drawop: &Drawop,
+    first: Result<Claim, ClaimFault>,
+    left: u32,
 ) -> Option<Claim>
     requires { IsPassOf history.now pass.old × IsPassOf history.now other.old }
     ensures { IsSamePass pass.old pass.new × IsSamePass other.old other.new }
 {
-    let left = pass.rows_left();
-    match history.claim(pass, drawop) {
+    match first {
         Ok(claim) => return Some(claim),
         Err(ClaimFault::NoRow) => return None,
         Err(ClaimFault::Memory) => {}
@@ -90,7 +91,22 @@ fn claim_again(
     history.claim(pass, drawop).ok()
 }
 
-fn refresh_again(history: &History, pass: &mut Pass) -> Option<u32>
+/// Claims a drawop, and once more where a growth was refused.
+fn claim_again(
+    history: &History,
+    pass: &mut Pass,
+    other: &mut Pass,
+    drawop: &Drawop,
+) -> Option<Claim>
+    requires { IsPassOf history.now pass.old × IsPassOf history.now other.old }
+    ensures { IsSamePass pass.old pass.new × IsSamePass other.old other.new }
+{
+    let left = pass.rows_left();
+    let first = history.claim(pass, drawop);
+    answer_again(history, pass, other, drawop, first, left)
+}
+
+pub(crate) fn refresh_again(history: &History, pass: &mut Pass) -> Option<u32>
     requires { IsPassOf history.now pass.old }
     ensures { IsSamePass pass.old pass.new }
 {
@@ -108,7 +124,7 @@ fn meet_again(history: &History, alloc: Global, pass: &mut Pass, other: &mut Pas
 }
 
 /// Claims so many drawops of a source in turn, which have to take the places from `first` on.
-fn claim_some(
+pub(crate) fn claim_some(
     history: &History,
     pass: &mut Pass,
     other: &mut Pass,
@@ -132,7 +148,7 @@ fn claim_some(
 }
 
 /// A history with two passes of 16 rows each.
-fn open_two_again(alloc: Global) -> Option<(History, Pass, Pass)>
+pub(crate) fn open_two_again(alloc: Global) -> Option<(History, Pass, Pass)>
     ensures { IfSome result (λ t. IsPassOf t.0 t.1 × IsPassOf t.0 t.2) }
 {
     let (history, mut root) = open_again(alloc, 32)?;

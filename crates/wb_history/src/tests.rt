@@ -1,5 +1,4 @@
-//! Values from outside: the worked claims of two members, races of two threads, a full history, and
-//! growths that are refused.
+//! Values from outside: the worked claims of two members, and a full history.
 //!
 //! A function that owns a history gathers what it saw into plain values, and its test asserts them
 //! once: each place where a proof may leave a function is one more path on which all that it owns is
@@ -10,9 +9,7 @@ ghost use Rattle.wb_history.specs.Passes.{IsPassOf, IsSamePass};
 
 use super::*;
 use std::alloc::{AllocError, Global};
-use std::sync::atomic::{AtomicU32, Ordering};
 use std::test::Fail;
-use std::thread::{self, Threads};
 use wb_names::{Drawop, FieldFault, Name, PageId, Shape};
 
 const PAGE: PageId = PageId {
@@ -40,7 +37,7 @@ fn words(source: u32, x: u16, bytes: &[u8]) -> Result<Drawop, FieldFault> {
 }
 
 /// Four drawops, of which the first two have one name.
-fn samples() -> Result<[Drawop; 4], FieldFault> {
+pub(crate) fn samples() -> Result<[Drawop; 4], FieldFault> {
     let a = stroke(7, 1, b'*')?;
     let b = stroke(7, 1, b'#')?;
     let d = words(8, 1, b"ab")?;
@@ -50,7 +47,7 @@ fn samples() -> Result<[Drawop; 4], FieldFault> {
 
 /// A history of so many cells, with the pass that owns its rows but some, and the pass that owns
 /// those.
-fn open_two(alloc: Global, cells: u32, rows: u32) -> Result<(History, Pass, Pass), Fail>
+pub(crate) fn open_two(alloc: Global, cells: u32, rows: u32) -> Result<(History, Pass, Pass), Fail>
     ensures { IfOk result (λ t. IsPassOf t.0 t.1 × IsPassOf t.0 t.2) }
 {
     let (history, mut root) = History::open(alloc, cells)?;
@@ -325,145 +322,6 @@ fn faults_have_numbers(rt: HostRuntime) {
     assert!(rt; (ClaimFault::NoRow.code(), ClaimFault::Memory.code()) == (1, 2));
     assert!(rt; (SplitFault::TooMany(3).code(), SplitFault::Memory.code()) == (1, 2));
     assert_eq!(rt; JoinFault::Memory.code(), 1);
-}
-
-/// Claims as soon as the other thread is about to, or after some turns.
-fn claim_at_once(
-    history: &History,
-    mut pass: Pass,
-    drawop: &Drawop,
-    ready: &AtomicU32,
-) -> (Option<Claim>, Pass)
-    requires { IsPassOf history.now pass }
-    ensures { IsPassOf history.now result.1 }
-{
-    ready.fetch_add(1, Ordering::SeqCst);
-    for _ in 0..100_000 {
-        if ready.load(Ordering::SeqCst) == 2 {
-            break;
-        }
-    }
-    let claim = history.claim(&mut pass, drawop).ok();
-    (claim, pass)
-}
-
-/// Two passes claim on threads of their own. It tells their answers, and gives the passes back.
-fn claim_on_threads<R: Threads>(
-    rt: &R,
-    shared: &History,
-    root: Pass,
-    q: Pass,
-    first: &Drawop,
-    second: &Drawop,
-) -> (Option<Claim>, Option<Claim>, Pass, Pass)
-    requires { IsPassOf shared.now root × IsPassOf shared.now q }
-    ensures { IsPassOf shared.now result.2 × IsPassOf shared.now result.3 }
-{
-    let ready = AtomicU32::new(0);
-    let gate = &ready;
-    let (one, two) = thread::join(
-        rt,
-        move ||
-            requires { IsPassOf shared.now root }
-            ensures { IsPassOf shared.entry.now result.1 }
-        { claim_at_once(shared, root, first, gate) },
-        move ||
-            requires { IsPassOf shared.now q }
-            ensures { IsPassOf shared.entry.now result.1 }
-        { claim_at_once(shared, q, second, gate) },
-    );
-    let (claim, root) = one;
-    let (other_claim, q) = two;
-    (claim, other_claim, root, q)
-}
-
-/// Whether two passes that meet both have the first of two lists, and whether both have the second.
-fn lists_met(
-    history: &History,
-    alloc: Global,
-    root: &mut Pass,
-    q: &mut Pass,
-    lists: &[&[Drawop]; 2],
-) -> (bool, bool)
-    requires { IsPassOf history.now root.old × IsPassOf history.now q.old }
-{
-    let met = history.meet(alloc, root, q).is_ok();
-    let same = met && root.list() == q.list();
-    (
-        same && root.list() == lists[0],
-        same && root.list() == lists[1],
-    )
-}
-
-/// Whether the first of two claims was added at the first place, and the other was answered so.
-fn is_won(first: Option<Claim>, other: Option<Claim>, lost: Claim) -> bool {
-    first == Some(Claim::Added(0)) && other == Some(lost)
-}
-
-/// Two passes of one row each claim on threads of their own. Whether one of them is added at the
-/// first place and the other is answered so, and the list that both have seen after they met is the
-/// one of these two that belongs to the winner.
-fn race_is_won<R: Threads>(
-    rt: &R,
-    alloc: Global,
-    drawops: &[Drawop; 2],
-    lost: Claim,
-    lists: &[&[Drawop]; 2],
-) -> Result<bool, Fail> {
-    let [first, second] = drawops;
-    let (history, root, q) = open_two(alloc, 2, 1)?;
-    let (one, two, mut root, mut q) = claim_on_threads(rt, &history, root, q, first, second);
-    let (by_first, by_second) = lists_met(&history, alloc, &mut root, &mut q, lists);
-    let first_won = by_first && is_won(one, two, lost);
-    let second_won = by_second && is_won(two, one, lost);
-    Ok(first_won || second_won)
-}
-
-const RACES: u32 = 500;
-
-/// Whether each of many such races is won.
-fn each_race_is_won<R: Threads>(
-    rt: &R,
-    alloc: Global,
-    drawops: &[Drawop; 2],
-    lost: Claim,
-    lists: &[&[Drawop]; 2],
-) -> Result<bool, Fail> {
-    for _ in 0..RACES {
-        if !race_is_won(rt, alloc, drawops, lost, lists)? {
-            return Ok(false);
-        }
-    }
-    Ok(true)
-}
-
-#[test]
-fn two_threads_claim_one_drawop(rt: HostRuntime) -> Result<(), Fail> {
-    let [a, _b, _d, _e] = samples()?;
-    assert!(rt; each_race_is_won(&rt, rt.alloc(), &[a, a], Claim::Present(0), &[&[a], &[a]])?);
-    Ok(())
-}
-
-#[test]
-fn two_threads_claim_one_name(rt: HostRuntime) -> Result<(), Fail> {
-    let [a, b, _d, _e] = samples()?;
-    assert!(rt; each_race_is_won(&rt, rt.alloc(), &[a, b], Claim::Clash(0), &[&[a], &[b]])?);
-    Ok(())
-}
-
-#[test]
-fn two_threads_claim_two_drawops(rt: HostRuntime) -> Result<(), Fail> {
-    let [a, _b, d, _e] = samples()?;
-    assert!(rt;
-        each_race_is_won(
-            &rt,
-            rt.alloc(),
-            &[a, d],
-            Claim::Added(1),
-            &[&[a, d], &[d, a]]
-        )?
-    );
-    Ok(())
 }
 
 /// Adds so many drawops in turn, and tells whether each took the next place by fourteen steps.
