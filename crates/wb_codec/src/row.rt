@@ -1,11 +1,12 @@
-ghost use Rattle.std.specs.Prelude.{◌≡◌, ◌<◌, ◌≤◌, ◌*◌, ◌^◌, ◌/◌, ◌%◌, length, option_map, IfSome, drop};
+ghost use Rattle.std.specs.Prelude.{◌≡◌, ◌<◌, ◌≤◌, ◌*◌, ◌^◌, ◌/◌, ◌%◌, ◌∷◌, length, option_map, IfSome, drop, replicate};
 ghost use Rattle.std.specs.List.{flat_map};
 ghost use Rattle.std.specs.Int.{w64, to_be_bytes};
 ghost use Rattle.wb_names.specs.Values.{DrawopValue};
+ghost use Rattle.wb_names.specs.Drawing.{IsLawful};
 ghost use Rattle.wb_names.specs.Shapes.{op_of, TextFits};
 ghost use Rattle.wb_names.specs.TextFields.{padded as padded_text};
-ghost use Rattle.wb_codec.specs.Ranges.{IsDrawop};
-ghost use Rattle.wb_codec.specs.Rows.{row, row_words, pair_word, op_word as op_word_of, text_word as text_word_of};
+ghost use Rattle.wb_codec.specs.Ranges.{IsDrawop, HasTarget};
+ghost use Rattle.wb_codec.specs.Rows.{row, row_words, pair_word, op_word as op_word_of, op_words as op_words_of, text_word as text_word_of, text_words};
 ghost use Rattle.wb_codec.specs.RowReading.{high_half, low_half, op_in};
 
 use wb_names::{Drawop, Name, Op, PageId, Shape};
@@ -61,6 +62,69 @@ fn text_word(bytes: &[u8; 64], k: usize) -> u64
     ])
 }
 
+/// An operation's word and a target's, and zeros after them.
+#[inline(always)]
+fn short_words(word: u64, target: u64) -> [u64; 9]
+    ensures { result ≡ word ∷ target ∷ replicate 7 0 }
+{
+    [word, target, 0, 0, 0, 0, 0, 0, 0]
+}
+
+/// An operation's word, and a text of at most 64 bytes as eight words.
+#[inline(always)]
+fn long_words(word: u64, text: &[u8]) -> [u64; 9]
+    requires { length text.now ≤ 64 }
+    ensures { result ≡ word ∷ text_words text.now }
+{
+    let bytes = padded(text);
+    [
+        word,
+        text_word(&bytes, 0),
+        text_word(&bytes, 1),
+        text_word(&bytes, 2),
+        text_word(&bytes, 3),
+        text_word(&bytes, 4),
+        text_word(&bytes, 5),
+        text_word(&bytes, 6),
+        text_word(&bytes, 7),
+    ]
+}
+
+/// The words that the drawop's operation tells.
+#[inline(always)]
+fn op_words(drawop: &Drawop) -> [u64; 9]
+    ensures words { result ≡ op_words_of drawop.now.op }
+    ensures lawful { IsLawful drawop.now.name drawop.now.op }
+    ensures target { HasTarget drawop.now.op }
+{
+    match drawop.op() {
+        Op::Line {
+            x0,
+            y0,
+            x1,
+            y1,
+            glyph,
+        } => short_words(op_word(1, *glyph, *x0, *y0, *x1, *y1), 0),
+        Op::Frame {
+            x0,
+            y0,
+            x1,
+            y1,
+            glyph,
+        } => short_words(op_word(2, *glyph, *x0, *y0, *x1, *y1), 0),
+        Op::Text { x, y, text } => {
+            let text = text.as_slice();
+            long_words(op_word(3, text.len() as u8, *x, *y, 0, 0), text)
+        }
+        Op::Delete { source, seq } => {
+            short_words(op_word(4, 0, 0, 0, 0, 0), pair(*source, *seq))
+        }
+        Op::Restore { source, seq } => {
+            short_words(op_word(5, 0, 0, 0, 0, 0), pair(*source, *seq))
+        }
+    }
+}
+
 /// The record of a drawop.
 pub fn to_row(drawop: &Drawop) -> [u64; 12]
     ensures record { result ≡ row drawop.now }
@@ -71,82 +135,8 @@ pub fn to_row(drawop: &Drawop) -> [u64; 12]
     let page = name.page();
     let named = pair(name.source(), name.seq());
     let placed = pair(page.creator, page.number);
-    let time = drawop.time();
-    match drawop.op() {
-        Op::Line {
-            x0,
-            y0,
-            x1,
-            y1,
-            glyph,
-        } => {
-            let word = op_word(1, *glyph, *x0, *y0, *x1, *y1);
-            [named, placed, time, word, 0, 0, 0, 0, 0, 0, 0, 0]
-        }
-        Op::Frame {
-            x0,
-            y0,
-            x1,
-            y1,
-            glyph,
-        } => {
-            let word = op_word(2, *glyph, *x0, *y0, *x1, *y1);
-            [named, placed, time, word, 0, 0, 0, 0, 0, 0, 0, 0]
-        }
-        Op::Text { x, y, text } => {
-            let text = text.as_slice();
-            let word = op_word(3, text.len() as u8, *x, *y, 0, 0);
-            let bytes = padded(text);
-            [
-                named,
-                placed,
-                time,
-                word,
-                text_word(&bytes, 0),
-                text_word(&bytes, 1),
-                text_word(&bytes, 2),
-                text_word(&bytes, 3),
-                text_word(&bytes, 4),
-                text_word(&bytes, 5),
-                text_word(&bytes, 6),
-                text_word(&bytes, 7),
-            ]
-        }
-        Op::Delete { source, seq } => {
-            let word = op_word(4, 0, 0, 0, 0, 0);
-            [
-                named,
-                placed,
-                time,
-                word,
-                pair(*source, *seq),
-                0,
-                0,
-                0,
-                0,
-                0,
-                0,
-                0,
-            ]
-        }
-        Op::Restore { source, seq } => {
-            let word = op_word(5, 0, 0, 0, 0, 0);
-            [
-                named,
-                placed,
-                time,
-                word,
-                pair(*source, *seq),
-                0,
-                0,
-                0,
-                0,
-                0,
-                0,
-                0,
-            ]
-        }
-    }
+    let [op, a, b, c, d, e, f, g, h] = op_words(drawop);
+    [named, placed, drawop.time(), op, a, b, c, d, e, f, g, h]
 }
 
 /// The two numbers in a word, its high half first.

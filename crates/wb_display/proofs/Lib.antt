@@ -2,6 +2,7 @@ pub mod RunningError
 pub mod Overlaying
 pub mod Spans
 pub mod LineSteps
+pub mod LinePassing
 pub mod CanvasRows
 pub mod Sent
 pub mod Hearing

@@ -19,11 +19,11 @@ range_more n = sym (map-id _) ∙ map-range_with_len_more (λ (x : ℕ). x) 0 n 
 abbrev pub line_upto : ℕ → ℕ → ℕ → ℕ → ℕ → ℕ → ℕ → ℕ → Bool
 line_upto x0 y0 x1 y1 m n x y = list_any (λ k. is_line_point x0 y0 x1 y1 m x y k) (range_with_len 0 n)
 
-or_false : (a : Bool) → (a || false) ≡ a
+pub or_false : (a : Bool) → (a || false) ≡ a
 or_false true = refl
 or_false false = refl
 
-line_one_more : (x0 y0 x1 y1 m n x y : ℕ) → line_upto x0 y0 x1 y1 m (n + 1) x y ≡ (line_upto x0 y0 x1 y1 m n x y || is_at (line_at x0 x1 m n) (line_at y0 y1 m n) x y)
+pub line_one_more : (x0 y0 x1 y1 m n x y : ℕ) → line_upto x0 y0 x1 y1 m (n + 1) x y ≡ (line_upto x0 y0 x1 y1 m n x y || is_at (line_at x0 x1 m n) (line_at y0 y1 m n) x y)
 line_one_more x0 y0 x1 y1 m n x y =
     ap (list_any (λ k. is_line_point x0 y0 x1 y1 m x y k)) (range_more n)
     ∙ list_any-append (λ k. is_line_point x0 y0 x1 y1 m x y k) (range_with_len 0 n) (n ∷ [])

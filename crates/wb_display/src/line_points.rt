@@ -1,7 +1,7 @@
 //! The points of a line, one after another, by a running error: an addition and a test for each
 //! point, and no division. Each is proved to be the point that the division gives.
 
-ghost use Rattle.std.specs.Prelude.{◌≡◌, ◌<◌, ◌≤◌, ◌+◌, ◌^◌};
+ghost use Rattle.std.specs.Prelude.{◌≡◌, ◌<◌, ◌≤◌, ◌+◌, ◌&&◌, nat_le};
 ghost use Rattle.wb_display.specs.Canvas.{distance as distance_of, line_at};
 
 use std::marker::Model;
@@ -54,6 +54,14 @@ impl Walk {
         ensures { result ≡ line_at self.now.from self.now.to self.now.steps self.now.gone }
     {
         self.at
+    }
+
+    /// Whether it is on its way up and at `end` or beyond, in cells, where it then stays.
+    #[inline(always)]
+    pub fn has_passed(&self, end: usize) -> bool
+        ensures { result ≡ (nat_le self.now.from self.now.to && nat_le end (line_at self.now.from self.now.to self.now.steps self.now.gone)) }
+    {
+        self.from <= self.to && end <= usize::from(self.at)
     }
 
     /// Goes one step. The position moves where the error has grown to a whole.

@@ -84,7 +84,8 @@ fn draw_text(cells: &mut [u8], size: Size, from: Point, text: &[u8])
     }
 }
 
-/// Draws the points of a line, the next one each time by a running error.
+/// Draws the points of a line, the next one each time by a running error. A coordinate that grows
+/// does not come back from beyond the canvas, so drawing stops once one is there.
 fn draw_line(cells: &mut [u8], size: Size, from: Point, to: Point, glyph: u8)
     requires { length cells.old ≡ size.height * (size.width + 1) }
     ensures { Overlays size.width size.height (is_on_line from.x from.y to.x to.y) (λ _. glyph) cells.old cells.new }
@@ -94,6 +95,9 @@ fn draw_line(cells: &mut [u8], size: Size, from: Point, to: Point, glyph: u8)
     let mut y = Walk::new(from.y, to.y, steps);
     plot(cells, size, usize::from(x.at()), usize::from(y.at()), glyph);
     for _k in 0..steps {
+        if x.has_passed(size.width) || y.has_passed(size.height) {
+            return;
+        }
         x.step();
         y.step();
         plot(cells, size, usize::from(x.at()), usize::from(y.at()), glyph);
