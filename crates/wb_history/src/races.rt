@@ -1,6 +1,5 @@
 //! Races of two threads for one place, with and without enough memory.
 
-ghost use Rattle.std.specs.Prelude.{◌≡◌, IfOk};
 ghost use Rattle.wb_history.specs.Passes.{IsPassOf, IsSamePass};
 
 use super::refused_tests::{answer_again, claim_some, dot, open_two_again, refresh_again};

@@ -1,7 +1,7 @@
 //! Any one growth may be refused: the call then answers so and leaves what it has to leave, and the
 //! same call works afterwards.
 
-ghost use Rattle.std.specs.Prelude.{◌≡◌, IfSome, IfOk, IfErr};
+ghost use Rattle.std.specs.Prelude.{IfSome};
 ghost use Rattle.wb_history.specs.Passes.{IsPassOf, IsSamePass};
 
 use super::*;

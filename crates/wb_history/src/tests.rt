@@ -4,7 +4,7 @@
 //! once: each place where a proof may leave a function is one more path on which all that it owns is
 //! let go.
 
-ghost use Rattle.std.specs.Prelude.{◌≡◌, IfOk};
+ghost use Rattle.std.specs.Prelude.{IfOk};
 ghost use Rattle.wb_history.specs.Passes.{IsPassOf, IsSamePass};
 
 use super::*;
