@@ -3,6 +3,7 @@ pub mod Overlaying
 pub mod Spans
 pub mod LineSteps
 pub mod LinePassing
+pub mod LineEntering
 pub mod CanvasRows
 pub mod Sent
 pub mod Hearing

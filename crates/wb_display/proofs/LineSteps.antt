@@ -10,7 +10,7 @@ use Rattle.wb_display.specs.Laws.{LinesStepByOne}
 use Rattle.std.proofs.lemmas.Nat.{div-mul-add}
 use Rattle.std.proofs.lemmas.Bool.Decides.{nat_tests}
 use Rattle.wb_display.specs.Cells.{is_at, Overlays}
-use Rattle.wb_display.proofs.Overlaying.{drawn_over, agreeing}
+use Rattle.wb_display.proofs.Overlaying.{drawn_over}
 
 pub range_more : (n : ℕ) → range_with_len 0 (n + 1) ≡ range_with_len 0 n ++ n ∷ []
 range_more n = sym (map-id _) ∙ map-range_with_len_more (λ (x : ℕ). x) 0 n n (omega arith) ∙ ap (λ (t : List ℕ). t ++ n ∷ []) (map-id _)
@@ -32,9 +32,6 @@ line_one_more x0 y0 x1 y1 m n x y =
 pub line_more : (w h x0 y0 x1 y1 m n px py g : ℕ) (old mid new : List ℕ) → px ≡ line_at x0 x1 m n → py ≡ line_at y0 y1 m n → Overlays w h (line_upto x0 y0 x1 y1 m n) (λ _. g) old mid → Overlays w h (is_at px py) (λ _. g) mid new → Overlays w h (line_upto x0 y0 x1 y1 m (n + 1)) (λ _. g) old new
 line_more w h x0 y0 x1 y1 m n px py g old mid new ex ey a b =
     drawn_over w h _ _ _ _ _ _ old mid new a b (λ x y. line_one_more x0 y0 x1 y1 m n x y ∙ ap (λ (t : ℕ). line_upto x0 y0 x1 y1 m n x y || is_at t (line_at y0 y1 m n) x y) (sym ex) ∙ ap (λ (t : ℕ). line_upto x0 y0 x1 y1 m n x y || is_at px t x y) (sym ey)) (λ x y p q. refl) (λ x y p. refl)
-
-pub line_first : (w h x0 y0 x1 y1 m px py g : ℕ) (old new : List ℕ) → px ≡ line_at x0 x1 m 0 → py ≡ line_at y0 y1 m 0 → Overlays w h (is_at px py) (λ _. g) old new → Overlays w h (line_upto x0 y0 x1 y1 m 1) (λ _. g) old new
-line_first w h x0 y0 x1 y1 m px py g old new ex ey a = agreeing w h _ _ _ old new a (λ x y hx hy. ap (λ (t : ℕ). is_at t py x y) ex ∙ ap (λ (t : ℕ). is_at (line_at x0 x1 m 0) t x y) ey ∙ sym (or_false (is_line_point x0 y0 x1 y1 m x y 0)))
 
 own_share : (d k : ℕ) → 0 < d → share d k d ≡ k
 own_share d k pos = ap (λ (n : ℕ). n / (2 * d)) (let e : 2 * k * d + d ≡ k * (2 * d) + d = omega arith in e) ∙ div-mul-add k (2 * d) d (omega arith)

@@ -1,7 +1,8 @@
 //! The points of a line, one after another, by a running error: an addition and a test for each
-//! point, and no division. Each is proved to be the point that the division gives.
+//! point, and no division but those that find where a line from outside comes in. Each is proved to
+//! be the point that the division gives.
 
-ghost use Rattle.std.specs.Prelude.{◌≡◌, ◌<◌, ◌≤◌, ◌+◌, ◌&&◌, nat_le};
+ghost use Rattle.std.specs.Prelude.{◌≡◌, ℕ, ◌<◌, ◌≤◌, ◌+◌, ◌&&◌, nat_le};
 ghost use Rattle.wb_display.specs.Canvas.{distance as distance_of, line_at};
 
 use std::marker::Model;
@@ -34,7 +35,7 @@ impl Model for Walk {
 impl Walk {
     /// A coordinate at `from`, on its way to `to` in so many steps.
     #[inline(always)]
-    pub fn new(from: u16, to: u16, steps: u16) -> Walk
+    fn new(from: u16, to: u16, steps: u16) -> Walk
         requires { distance_of from to ≤ steps }
         ensures { result ≡ record { from = from; to = to; steps = steps; gone = 0 } }
     {
@@ -45,6 +46,34 @@ impl Walk {
             gone: 0,
             at: from,
             error: u32::from(steps),
+        }
+    }
+
+    /// A coordinate on its way from `from` to `to` in so many steps, of which it has gone some.
+    pub fn after(from: u16, to: u16, steps: u16, gone: u16) -> Walk
+        requires reach { distance_of from to ≤ steps }
+        requires within { gone ≤ steps }
+        ensures { result ≡ record { from = from; to = to; steps = steps; gone = gone } }
+    {
+        if gone == 0 {
+            return Walk::new(from, to, steps);
+        }
+        let way = 2 * usize::from(gone) * usize::from(from.abs_diff(to)) + usize::from(steps);
+        let whole = 2 * usize::from(steps);
+        let moved = (way / whole) as u16;
+        let error = (way % whole) as u32;
+        let at = if from <= to {
+            from + moved
+        } else {
+            from - moved
+        };
+        Walk {
+            from,
+            to,
+            steps,
+            gone,
+            at,
+            error,
         }
     }
 
@@ -82,4 +111,18 @@ impl Walk {
             }
         }
     }
+}
+
+/// So many steps from `from` to `to` that a coordinate which comes down from `end` or beyond, in
+/// cells, is still there before them; 0 where it does not come so.
+pub(crate) fn steps_outside(from: u16, to: u16, steps: u16, end: usize) -> u16
+    ensures outside { (k : ℕ) → k < result → end ≤ line_at from to steps k }
+    ensures within { result ≤ steps }
+{
+    if from <= to || usize::from(from) < end {
+        return 0;
+    }
+    let distance = usize::from(from - to);
+    let outside = (usize::from(from) - end + 1).min(distance);
+    ((2 * outside - 1) * usize::from(steps) / (2 * distance)) as u16
 }

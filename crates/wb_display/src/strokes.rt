@@ -5,7 +5,7 @@ ghost use Rattle.std.specs.Prelude.{◌≡◌, ◌+◌, ◌*◌, length};
 ghost use Rattle.wb_display.specs.Canvas.{covers, glyph_of, is_on_line, is_on_frame, is_on_text, text_glyph};
 ghost use Rattle.wb_display.specs.Cells.{Overlays, is_at, is_on_row, is_on_column};
 
-use crate::line_points::Walk;
+use crate::line_points::{Walk, steps_outside};
 use wb_names::Op;
 
 /// How many columns and rows a canvas has. In memory each row has one cell more, its line feed.
@@ -84,17 +84,20 @@ fn draw_text(cells: &mut [u8], size: Size, from: Point, text: &[u8])
     }
 }
 
-/// Draws the points of a line, the next one each time by a running error. A coordinate that grows
-/// does not come back from beyond the canvas, so drawing stops once one is there.
+/// Draws the points of a line, the next one each time by a running error. Those before a coordinate
+/// comes down to the canvas are passed over, and drawing stops once one has gone up beyond it.
 fn draw_line(cells: &mut [u8], size: Size, from: Point, to: Point, glyph: u8)
     requires { length cells.old ≡ size.height * (size.width + 1) }
     ensures { Overlays size.width size.height (is_on_line from.x from.y to.x to.y) (λ _. glyph) cells.old cells.new }
 {
     let steps = from.x.abs_diff(to.x).max(from.y.abs_diff(to.y));
-    let mut x = Walk::new(from.x, to.x, steps);
-    let mut y = Walk::new(from.y, to.y, steps);
+    let across = steps_outside(from.x, to.x, steps, size.width);
+    let down = steps_outside(from.y, to.y, steps, size.height);
+    let outside = across.max(down);
+    let mut x = Walk::after(from.x, to.x, steps, outside);
+    let mut y = Walk::after(from.y, to.y, steps, outside);
     plot(cells, size, usize::from(x.at()), usize::from(y.at()), glyph);
-    for _k in 0..steps {
+    for _k in outside..steps {
         if x.has_passed(size.width) || y.has_passed(size.height) {
             return;
         }

@@ -1,0 +1,9 @@
+use Rattle.std.proofs.Common.{ℕ, ◌-◌, ◌*◌, ◌/◌, ◌<◌, subst, arith}
+use Rattle.wb_display.proofs.LineEntering.{stays_outside}
+use Rattle.wb_display.proofs.line_points.steps_outside.Goals as goal
+
+pub returns-clause-outside : goal.returns-clause-outside
+returns-clause-outside c k le =
+    let way = subst (λ (d : ℕ). k < (2 * c.min-outside.result - 1) * c.from-3.result / (2 * d)) c.from-distance.ensures le in
+    let steps = subst (λ (m : ℕ). k < (2 * c.min-outside.result - 1) * m / (2 * (c.args.from - c.args.to))) c.from-3.ensures way in
+    stays_outside c.args.from c.args.to c.args.steps c.args.end c.min-outside.result k (omega arith) (omega arith) (omega arith) (omega arith) steps
