@@ -1,8 +1,8 @@
 -- A line that comes in from outside the canvas: the points before it can be there.
-use Rattle.std.proofs.Common.{◌≡◌, ℕ, zero, suc, ◌+◌, ◌-◌, ◌*◌, ◌/◌, ◌<◌, ◌≤◌, ◌⊎◌, inl, inr, List, refl, ap, sym, ◌∙◌, subst, arith}
+use Rattle.std.proofs.Common.{◌≡◌, ℕ, zero, suc, ◌+◌, ◌-◌, ◌*◌, ◌/◌, ◌%◌, ◌<◌, ◌≤◌, ◌⊎◌, inl, inr, List, refl, ap, sym, ◌∙◌, subst, arith}
 use Rattle.std.specs.Prelude.{Bool, false, ◌||◌, max}
-use Rattle.std.proofs.Math.Nat.{div-mul-le_self, mul-le-mul_right}
-use Rattle.std.proofs.lemmas.Nat.{div_below}
+use Rattle.std.proofs.Math.Nat.{div-mul-le_self, mul-le-mul_right, div-add-mod}
+use Rattle.std.proofs.lemmas.Nat.{div_below, le-div, mod_below}
 use Rattle.std.proofs.lemmas.Bool.{cases_lt}
 use Rattle.std.proofs.lemmas.Bool.Decides.{nat_tests}
 use Rattle.wb_display.specs.Canvas.{distance, toward, share, line_at}
@@ -29,6 +29,27 @@ share_below d k (suc m) (suc o) pd po le =
       doubled : (o m : ℕ) → (2 * o + 1) * suc m + suc m ≡ suc o * (2 * suc m)
       doubled o m = omega arith
 
+-- one step more moves so far
+share_reaches : (d m o : ℕ) → 0 < d → 0 < m → 0 < o → o ≤ share d (((2 * o - 1) * m) / (2 * d) + 1) m
+share_reaches d m zero pd pm po = elim po [ ]
+share_reaches d m (suc o) pd pm po = le-div (suc o) (2 * (r + 1) * d + m) (2 * m) (omega arith) (omega (arith, whole, rest, walked, odd)) where
+  r : ℕ
+  r = ((2 * suc o - 1) * m) / (2 * d)
+
+  whole : (2 * suc o - 1) * m ≡ r * (2 * d) + ((2 * suc o - 1) * m) % (2 * d)
+  whole = omega (arith, div-add-mod ((2 * suc o - 1) * m) (2 * d))
+
+  rest : ((2 * suc o - 1) * m) % (2 * d) < 2 * d
+  rest = mod_below ((2 * suc o - 1) * m) (2 * d) (omega arith)
+
+  walked : 2 * (r + 1) * d ≡ r * (2 * d) + 2 * d
+  walked = omega arith
+
+  odd : (2 * suc o - 1) * m + m ≡ suc o * (2 * m)
+  odd = let e : 2 * suc o - 1 ≡ 2 * o + 1 = omega arith in ap (λ (t : ℕ). t * m + m) e ∙ doubled o m where
+    doubled : (o m : ℕ) → (2 * o + 1) * m + m ≡ suc o * (2 * m)
+    doubled o m = omega arith
+
 -- a coordinate that comes down from an edge or beyond is there or beyond it before it has moved so far
 pub stays_outside : (from to m edge o k : ℕ) → to < from → edge ≤ from → 0 < o → o + edge ≤ from + 1 → k < ((2 * o - 1) * m) / (2 * (from - to)) → edge ≤ line_at from to m k
 stays_outside from to m edge o k down high pos room le =
@@ -37,6 +58,15 @@ stays_outside from to m edge o k down high pos room le =
     above (share (distance from to) k m) low where
       above : (n : ℕ) → n < o → edge ≤ toward from to n
       above n low = grind (arith, nat_tests)
+
+-- the step after those is below the edge
+pub comes_in : (from to m edge o : ℕ) → to < from → to < edge → o ≡ from - edge + 1 → edge ≤ from → 0 < m → line_at from to m (((2 * o - 1) * m) / (2 * (from - to)) + 1) < edge
+comes_in from to m edge o down low room high pos =
+    let far : from - to ≡ distance from to = omega arith in
+    let moved : o ≤ share (distance from to) (((2 * o - 1) * m) / (2 * (from - to)) + 1) m = subst (λ (d : ℕ). o ≤ share d (((2 * o - 1) * m) / (2 * (from - to)) + 1) m) far (share_reaches (from - to) m o (omega arith) pos (omega arith)) in
+    below (share (distance from to) (((2 * o - 1) * m) / (2 * (from - to)) + 1) m) moved where
+      below : (n : ℕ) → o ≤ n → toward from to n < edge
+      below n le = grind (arith, nat_tests)
 
 missed : (x y px py w h : ℕ) → x < w → y < h → (w ≤ px) ⊎ (h ≤ py) → is_at px py x y ≡ false
 missed x y px py w h hx hy (inl past) = grind (arith, nat_tests)

@@ -113,16 +113,24 @@ impl Walk {
     }
 }
 
-/// So many steps from `from` to `to` that a coordinate which comes down from `end` or beyond, in
-/// cells, is still there before them; 0 where it does not come so.
+/// How many steps from `from` to `to` a coordinate that comes down from `end` or beyond, in cells,
+/// is still there: all of them where it never comes below, and else that many or one less. 0 where it
+/// does not come so.
 pub(crate) fn steps_outside(from: u16, to: u16, steps: u16, end: usize) -> u16
+    requires { distance_of from to ≤ steps }
     ensures outside { (k : ℕ) → k < result → end ≤ line_at from to steps k }
     ensures within { result ≤ steps }
+    ensures up { from ≤ to → result ≡ 0 }
+    ensures never { to < from → end ≤ to → result ≡ steps }
+    ensures soon { to < from → to < end → line_at from to steps (result + 1) < end }
 {
     if from <= to || usize::from(from) < end {
         return 0;
     }
+    if end <= usize::from(to) {
+        return steps;
+    }
     let distance = usize::from(from - to);
-    let outside = (usize::from(from) - end + 1).min(distance);
+    let outside = usize::from(from) - end + 1;
     ((2 * outside - 1) * usize::from(steps) / (2 * distance)) as u16
 }
