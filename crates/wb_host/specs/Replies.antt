@@ -1,0 +1,42 @@
+-- The reply to an arrival, and what it says of the desk: d is the drawop, p the desk before the call, and q the desk after it.
+use Rattle.std.specs.Prelude.{ℕ, ◌+◌, ◌-◌, ◌*◌, ◌≤◌, List, length, take}
+use Rattle.wb_names.specs.Values.{DrawopValue}
+use Rattle.wb_names.specs.History.{IsNewAt, IsAgainAt, IsClashAt}
+use Rattle.wb_history.specs.Sizes.{row_words, member_steps}
+use Rattle.wb_history.specs.Passes.{PassValue, AddsNothing}
+use Rattle.wb_history.specs.Replies.{IsAdded, HasNoRow, brought}
+use Rattle.wb_host.specs.declared.reply.Reply.{Reply}
+use Rattle.wb_host.specs.declared.reply.Reply.TheVariants.{New, Again, Clash}
+use Rattle.wb_host.specs.declared.reply.BoardFault.{BoardFault}
+use Rattle.wb_host.specs.declared.reply.BoardFault.TheVariants.{NoRow, Memory}
+
+-- the reply of a whiteboard that holds this history
+abbrev pub IsReply : List DrawopValue → DrawopValue → Reply → Type 0
+IsReply history d (New i) = IsNewAt history d i
+IsReply history d (Again i) = IsAgainAt history d i
+IsReply history d (Clash i) = IsClashAt history d i
+
+-- the history at the point of a reply: for a new drawop what stands before it, else all that the desk has then seen
+abbrev pub point_of : PassValue → Reply → List DrawopValue
+point_of q (New i) = take i q.seen
+point_of q (Again i) = q.seen
+point_of q (Clash i) = q.seen
+
+abbrev pub Accepted : PassValue → DrawopValue → PassValue → Reply → Type 0
+Accepted p d q (New i) = IsAdded p d i q
+Accepted p d q (Again i) = IsAgainAt q.seen d i × AddsNothing p q
+Accepted p d q (Clash i) = IsClashAt q.seen d i × AddsNothing p q
+
+abbrev pub NotAccepted : PassValue → DrawopValue → PassValue → BoardFault → Type 0
+NotAccepted p d q NoRow = HasNoRow p d q
+NotAccepted p d q Memory = AddsNothing p q
+
+-- how many steps on words the call took: 13 for each member of others that it brought, and at most 14 more
+abbrev pub AcceptSteps : PassValue → PassValue → Reply → Type 0
+AcceptSteps p q (New i) = q.steps ≤ member_steps * (i - length p.seen) + row_words + 2
+AcceptSteps p q (Again i) = q.steps ≤ member_steps * brought p q + row_words + 2
+AcceptSteps p q (Clash i) = q.steps ≤ member_steps * brought p q + row_words + 2
+
+abbrev pub RefusalSteps : PassValue → PassValue → BoardFault → Type 0
+RefusalSteps p q NoRow = q.steps ≤ member_steps * brought p q + 1
+RefusalSteps p q Memory = q.steps ≤ member_steps * brought p q + row_words + 2

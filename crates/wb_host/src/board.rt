@@ -1,0 +1,124 @@
+//! A board that desks share: opening one, accepting a drawop, and reading on.
+ghost use Rattle.std.specs.Prelude.{◌≡◌, ◌≢◌, ◌+◌, ◌*◌, ◌<◌, ◌≤◌, ◌⊎◌, [], Err, IfOk, IsOk, OnOk, MatchResult, length};
+ghost use mathlib.Core.List.{IsPrefix};
+ghost use Rattle.wb_names.specs.History.{HoldsName};
+ghost use Rattle.wb_history.specs.Sizes.{member_steps};
+ghost use Rattle.wb_history.specs.Lists.{longer};
+ghost use Rattle.wb_history.specs.Passes.{IsPassOf, IsSamePass, KeepsRows, AddsNothing, IsCaughtUp};
+ghost use Rattle.wb_history.specs.Replies.{brought};
+ghost use Rattle.wb_history.specs.Sharing.{IsSplit, IsSplitFault, IsJoined};
+ghost use Rattle.wb_history.specs.declared.history.OpenFault.TheVariants as opening;
+ghost use Rattle.wb_history.specs.declared.parts.SplitFault.TheVariants as splitting;
+ghost use Rattle.wb_host.specs.Replies.{Accepted, NotAccepted, AcceptSteps, RefusalSteps, IsReply, point_of};
+
+use crate::desk::Desk;
+use crate::reply::{BoardFault, Reply};
+use std::alloc::{AllocError, Global};
+use std::marker::Model;
+use wb_history::{Claim, ClaimFault, History, JoinFault, OpenFault, SplitFault};
+use wb_names::Drawop;
+
+/// One growing history of drawops, in which no name stands twice. Threads share it by reference.
+#[derive(Drop)]
+pub struct Board {
+    history: History,
+}
+
+impl Model for Board {
+    ghost use Rattle.wb_history.specs.Passes.{HistoryValue};
+
+    ghost Value = { HistoryValue };
+
+    ghost view = { λ b. b.history };
+}
+
+impl Board {
+    /// An empty board of so many cells, from 1 to 65,535, and as many rows; and the desk that owns all
+    /// rows. There is room for as many drawops as there are cells.
+    pub fn open(alloc: Global, cells: u32) -> Result<(Board, Desk), OpenFault>
+        ensures opened { IfOk result (λ t. IsPassOf t.0 t.1 × (t.1.cells ≡ cells) × (t.1.seen ≡ []) × (t.1.mine ≡ []) × (t.1.free ≡ cells) × (t.1.steps ≡ 0)) }
+        ensures refused { (cells ≡ 0) ⊎ (65535 < cells) → result ≡ Err opening.Cells }
+        ensures admitted { 0 < cells → cells ≤ 65535 → result ≢ Err opening.Cells }
+    {
+        let (history, pass) = History::open(alloc, cells)?;
+        Ok((Board { history }, Desk { pass }))
+    }
+
+    /// A new desk, which has seen the same and gets so many of the free rows. With no rows it can tell
+    /// another thread what was seen. A refused call changes nothing.
+    pub fn split(&self, alloc: Global, desk: &mut Desk, rows: u32) -> Result<Desk, SplitFault>
+        requires desk { IsPassOf self.now desk.old }
+        ensures same { IsSamePass desk.old desk.new }
+        ensures parts { MatchResult result (IsSplit desk.old rows desk.new) (λ e. (desk.new ≡ desk.old) × IsSplitFault desk.old rows e) }
+        ensures too_many { desk.old.free < rows → result ≡ Err (splitting.TooMany desk.old.free) }
+    {
+        let pass = self.history.split(alloc, &mut desk.pass, rows)?;
+        Ok(Desk { pass })
+    }
+
+    /// Takes in another desk of the board: the desk has then seen the longer list, and owns the rows
+    /// and places of both. Where it is refused both are as before, and the other comes back.
+    pub fn join(&self, desk: &mut Desk, other: Desk) -> Result<(), (JoinFault, Desk)>
+        requires desks { IsPassOf self.now desk.old × IsPassOf self.now other }
+        ensures same { IsSamePass desk.old desk.new × (desk.new.steps ≡ desk.old.steps) }
+        ensures joined { MatchResult result (λ _. IsJoined desk.old other desk.new) (λ e. (desk.new ≡ desk.old) × (e.1 ≡ other)) }
+    {
+        let Desk { pass } = other;
+        match self.history.join(&mut desk.pass, pass) {
+            Ok(()) => Ok(()),
+            Err((fault, pass)) => Err((fault, Desk { pass })),
+        }
+    }
+
+    /// Both desks have then seen the same list, the longer of their two. After a fault each may have
+    /// seen more.
+    pub fn meet(&self, alloc: Global, first: &mut Desk, second: &mut Desk) -> Result<(), AllocError>
+        requires desks { IsPassOf self.now first.old × IsPassOf self.now second.old }
+        ensures first { IsSamePass first.old first.new × KeepsRows first.old first.new × IsPrefix first.old.seen first.new.seen × (first.new.steps ≡ first.old.steps) }
+        ensures second { IsSamePass second.old second.new × KeepsRows second.old second.new × IsPrefix second.old.seen second.new.seen × (second.new.steps ≡ second.old.steps) }
+        ensures met { OnOk result ((first.new.seen ≡ second.new.seen) × (second.new.seen ≡ longer second.old.seen first.old.seen)) }
+    {
+        self.history.meet(alloc, &mut first.pass, &mut second.pass)
+    }
+
+    /// Accepts a drawop: it becomes the next member, unless a member has its name. Then the reply
+    /// tells where, and whether that member is the same drawop. A name that the desk has seen is
+    /// answered without a step and without memory. After a fault the desk may have seen more, and
+    /// nothing of this call stands in the history.
+    pub fn accept(&self, desk: &mut Desk, drawop: &Drawop) -> Result<Reply, BoardFault>
+        requires desk { IsPassOf self.now desk.old }
+        ensures same { IsSamePass desk.old desk.new }
+        ensures grows { IsPrefix desk.old.seen desk.new.seen }
+        ensures reply { IfOk result (λ r. IsReply (point_of desk.new r) drawop.now r) }
+        ensures answer { MatchResult result (Accepted desk.old drawop.now desk.new) (NotAccepted desk.old drawop.now desk.new) }
+        ensures known { HoldsName desk.old.seen drawop.now.name → IsOk result × (desk.new ≡ record desk.old { steps = 0 }) }
+        ensures steps { desk.new.made ≡ desk.old.made + desk.new.steps }
+        ensures few_steps { MatchResult result (AcceptSteps desk.old desk.new) (RefusalSteps desk.old desk.new) }
+    {
+        match self.history.claim(&mut desk.pass, drawop) {
+            Ok(claim) => match claim {
+                Claim::Added(place) => Ok(Reply::New(place)),
+                Claim::Present(place) => Ok(Reply::Again(place)),
+                Claim::Clash(place) => Ok(Reply::Clash(place)),
+            },
+            Err(fault) => match fault {
+                ClaimFault::NoRow => Err(BoardFault::NoRow),
+                ClaimFault::Memory => Err(BoardFault::Memory),
+            },
+        }
+    }
+
+    /// Reads the history to its end. After a fault the desk may have seen more.
+    pub(crate) fn refresh(&self, desk: &mut Desk) -> Result<(), AllocError>
+        requires desk { IsPassOf self.now desk.old }
+        ensures same { IsSamePass desk.old desk.new }
+        ensures grows { IsPrefix desk.old.seen desk.new.seen }
+        ensures nothing { AddsNothing desk.old desk.new }
+        ensures end { OnOk result (IsCaughtUp desk.old desk.new) }
+        ensures steps { desk.new.made ≡ desk.old.made + desk.new.steps }
+        ensures few_steps { desk.new.steps ≤ member_steps * brought desk.old desk.new + 1 }
+    {
+        self.history.refresh(&mut desk.pass)?;
+        Ok(())
+    }
+}

@@ -1,0 +1,22 @@
+//! The whiteboard of one host, as its callers see it.
+//!
+//! A board is one growing history of drawops that threads share; a desk is what one caller knows of
+//! it and owns in it. Each reply is what a whiteboard of one thread answers at a point of that
+//! history, and never before anything that the caller's desk had seen.
+//!
+//! The crate opens no socket, has no clock and starts no thread. A desk is used with the board that
+//! it came from, which is its caller's duty. No call waits for another thread, and nothing is
+//! promised of which of two callers comes first.
+//!
+//! In reading order: `board` has the calls that take a board and a desk, `desk` what a desk tells by
+//! itself, and `reply` the answers to an arrival.
+#![tactic(auto)]
+
+mod board;
+mod desk;
+mod reply;
+
+pub use board::Board;
+pub use desk::Desk;
+pub use reply::{BoardFault, Reply};
+pub use wb_history::{JoinFault, OpenFault, SplitFault};
