@@ -3,7 +3,8 @@
 //! A script stands in for the network and the clock of a host: its lines hand in the datagrams that
 //! arrive, set the moment, and ask for what a page shows. This crate reads lines, runs them, and
 //! writes exactly what one thread prints for them. What reads text (lines, words, numbers,
-//! hexadecimal) stands in modules of its own, apart from what runs.
+//! hexadecimal) stands in modules of its own, apart from what runs, and serves other programs that
+//! read line by line.
 #![tactic(auto)]
 
 mod answers;
@@ -28,7 +29,11 @@ mod words;
 
 pub use checking::check;
 pub use fault::{LineFault, ParseFault, RunFault};
+pub use hexadecimal::{is_hex, unhex};
 pub use line::Line;
+pub use line_reader::{Found, LineReader, Pulled};
+pub use output::{Output, Unwritten};
 pub use parsing::parse_line;
-pub use running::run;
+pub use running::{run, without_carriage_return};
 pub use summary::Summary;
+pub use words::next_word;
