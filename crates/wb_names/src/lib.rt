@@ -14,14 +14,13 @@ mod drawop;
 mod echo;
 mod fault;
 mod gap;
+pub mod laws;
 mod mark;
 mod name;
 mod order;
 mod same;
 mod shape;
 mod stream;
-#[cfg(test)]
-mod tests;
 mod text;
 
 pub use drawop::{Drawop, Op};

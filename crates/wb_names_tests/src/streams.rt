@@ -1,6 +1,6 @@
 //! The ends of a stream, over readers and writers that fail in the middle.
 
-use crate::{FromRead, Sink, Source, ToWrite};
+use wb_names::{FromRead, Sink, Source, ToWrite};
 use std::io::{self, Read, Write};
 use std::test::Fail;
 

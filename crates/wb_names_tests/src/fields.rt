@@ -1,6 +1,6 @@
 //! What is in range, and which fault comes first.
 
-use crate::{
+use wb_names::{
     Drawop, Echo, Echoes, FieldFault, ListFault, Mark, Marks, Name, PageId, Shape, before,
 };
 use std::alloc::Global;

@@ -1,0 +1,27 @@
+//! Laws of the orders of pages and names. Each function does nothing: its contract is a law, for
+//! callers to cite.
+
+ghost use Rattle.std.specs.Prelude.{◌≡◌};
+ghost use Rattle.std.specs.Cmp.{IsTotalOrder};
+ghost use Rattle.std.specs.declared.cmp.Ordering.TheVariants.{Equal};
+ghost use Rattle.wb_names.specs.Values.{NameValue};
+ghost use Rattle.wb_names.specs.Orders.{page_cmp, name_cmp};
+ghost use Rattle.wb_names.specs.declared.name.PageId.{PageId as PageValue};
+
+use crate::name::{Name, PageId};
+
+/// Pages compare by creator, then by number. No two pages tie.
+#[tactic(auto, using(crate::proofs::Orders::page_total))]
+pub fn pages_are_ordered()
+    ensures by { (p q : PageValue) → ⟦<PageId as Ord>⟧.cmp p q ≡ page_cmp p q }
+    ensures total { IsTotalOrder page_cmp }
+    ensures ties { (p q : PageValue) → page_cmp p q ≡ Equal → p ≡ q }
+{}
+
+/// Names compare by source, then by page, then by sequence number. No two names tie.
+#[tactic(auto, using(crate::proofs::Orders::name_total))]
+pub fn names_are_ordered()
+    ensures by { (m n : NameValue) → ⟦<Name as Ord>⟧.cmp m n ≡ name_cmp m n }
+    ensures total { IsTotalOrder name_cmp }
+    ensures ties { (m n : NameValue) → name_cmp m n ≡ Equal → m ≡ n }
+{}
