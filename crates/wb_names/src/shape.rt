@@ -9,9 +9,12 @@ use crate::fault::FieldFault;
 use crate::name::Name;
 use crate::text::Text;
 
-/// An operation as a caller hands it in, its fields not yet checked.
+/// An operation as a caller hands it in, its fields not yet checked. Coordinates are cells, x to the
+/// right and y down; glyphs and bytes are of ASCII; a target is a source and a sequence number on
+/// the drawop's own page.
 #[derive(Clone, Copy, Debug)]
 pub enum Shape<'a> {
+    /// A line between two points, both of them drawn.
     Line {
         x0: u16,
         y0: u16,
@@ -19,6 +22,7 @@ pub enum Shape<'a> {
         y1: u16,
         glyph: u8,
     },
+    /// The four sides of the rectangle with two opposite corners.
     Frame {
         x0: u16,
         y0: u16,
@@ -26,15 +30,18 @@ pub enum Shape<'a> {
         y1: u16,
         glyph: u8,
     },
+    /// A row of characters that begins at a point.
     Text {
         x: u16,
         y: u16,
         bytes: &'a [u8],
     },
+    /// Hides its target.
     Delete {
         source: u32,
         seq: u32,
     },
+    /// Shows its target again.
     Restore {
         source: u32,
         seq: u32,

@@ -1,12 +1,12 @@
 //! What is in range, and which fault comes first.
 
-use wb_names::{
-    Drawop, Echo, Echoes, FieldFault, ListFault, Mark, Marks, Name, PageId, Shape, before,
-};
 use std::alloc::Global;
 use std::process::Abort;
 use std::test::Fail;
 use std::thread;
+use wb_names::{
+    Drawop, Echo, Echoes, FieldFault, ListFault, Mark, Marks, Name, PageId, Shape, before,
+};
 
 const PAGE: PageId = PageId {
     creator: 7,

@@ -1,8 +1,8 @@
 //! The ends of a stream, over readers and writers that fail in the middle.
 
-use wb_names::{FromRead, Sink, Source, ToWrite};
 use std::io::{self, Read, Write};
 use std::test::Fail;
+use wb_names::{FromRead, Sink, Source, ToWrite};
 
 /// Gives three bytes, fails once, and would give more after that.
 #[derive(Drop)]
