@@ -2,7 +2,7 @@
 use Rattle.wb_history.specs.Sizes.{member_steps}
 use Rattle.std.proofs.Common.{◌≡◌, ℕ, ◌+◌, ◌-◌, ◌*◌, ◌<◌, ◌≤◌, List, [], ◌∷◌, ◌++◌, length, refl, sym, ap, ◌∙◌, subst, inl, inr, ⊎_elim, arith, length-append, length-take-le, append_assoc}
 use Rattle.std.proofs.lemmas.List.{append-nil}
-use Rattle.std.proofs.Common.{Result, Ok, Err, MatchResult}
+use Rattle.std.proofs.Common.{Result, Ok, Err, OnOk, OnErr, MatchResult}
 use Rattle.std.specs.Prelude.{replicate}
 use Rattle.std.proofs.lemmas.List.{length-replicate}
 use Rattle.atomic_table.specs.Table.{Me, opening}
@@ -23,17 +23,21 @@ use Rattle.wb_history.specs.declared.hand.ClaimFault.TheVariants.{NoRow, Memory}
 use Rattle.wb_history.specs.Lists.{StartsWith, Has, Once}
 use Rattle.wb_history.specs.Members.{AllValid, NamesOnce}
 use Rattle.wb_history.specs.Lawful.{Sane}
+use Rattle.wb_history.specs.declared.cells.CellTable.{CellTable}
+use Rattle.wb_history.specs.Seats.{SitsAt, SameSeat}
+use Rattle.wb_history.proofs.Lists.{few}
 use Rattle.wb_history.specs.Hands.{InOrder, Walked, Won, AtEnd, Settled, Refused}
-use Rattle.wb_history.specs.Passes.{PassValue, IsWhole, KeepsRows, AddsNothing, IsSound, IsCaughtUp}
+use Rattle.wb_history.specs.Passes.{HistoryValue, PassValue, IsPassOf, IsWhole, KeepsRows, AddsNothing, IsSound, IsCaughtUp}
 use Rattle.wb_history.specs.Replies.{IsAdded, Claimed, NotClaimed, ClaimSteps, FaultSteps}
 use Rattle.wb_codec.specs.Ranges.{IsDrawop}
 use Rattle.wb_history.proofs.Words.{get_is, holds_not, none_before, history_is, pairs_are, all_are, contains_is}
-use Rattle.wb_history.specs.Shown.{view_of}
+use Rattle.wb_history.specs.Shown.{history_of, view_of, IsHeld}
 use Rattle.wb_history.specs.Views.{OwnsAll}
 
--- what is seen of a hand in order is sound
-pub sound : (h : Hand) → InOrder h → IsSound (view_of h)
-sound h o =
+-- what is seen of the parts of a pass is sound
+pub sound : (h : Hand) → IsHeld h → IsSound (view_of h)
+sound h i =
+    let o = i.0 in
     let s = o.sane in
     let seen = ap length o.seen in
     let free = ap length o.free in
@@ -42,12 +46,37 @@ sound h o =
     let own = s.own in record {
       history = history_is h.seen.items (subst NamesOnce o.seen s.names_once);
       lawful = all_are IsDrawop h.seen.items (λ i d e. subst AllValid o.seen s.valid i d e);
+      some_cells = i.2;
+      few_cells = i.3;
       room = omega arith;
       rows = omega arith;
       own = all_are (λ i. i < length h.seen.items) h.mine.items (λ i k e. let l = s.mine_is i k (subst (λ (m : List ℕ). get_elem? m i ≡ some k) (sym o.mine) e) in omega arith);
       once = pairs_are h.mine.items (subst Once o.mine s.mine_once);
       all = λ whole k below. contains_is h.mine.items k (subst (λ (m : List ℕ). Has m k) o.mine (s.whole (omega arith) k (omega arith)));
+      as_many = λ whole. let once = few h.seat.me.0.mine (length h.seat.me.0.seen) s.mine_once s.mine_is in omega arith;
     }
+
+pub sound_pass : {p : PassValue} (h : Hand) → view_of h ≡ p → IsHeld h → IsSound p
+sound_pass h is i = subst IsSound is (sound h i)
+
+-- a pass is told what another has seen, or both stay as they were
+pub sound_told : {A E : Type 0} (p q : PassValue) (Teller : Type 0) (r : Result A E) → OnOk r (IsSound q) → OnErr r (Teller × (q ≡ p)) → IsSound p → IsSound q
+sound_told p q Teller (Ok u) told kept s = told
+sound_told p q Teller (Err e) told kept s = subst IsSound (sym kept.1) s
+
+-- the parts of a pass after steps of its seat
+pub held_on : (h h' : Hand) → IsHeld h → InOrder h' → SameSeat h.seat h'.seat → h'.seat.me.0.cells ≡ h.seat.me.0.cells → IsHeld h'
+held_on h h' i o seat cells =
+    let words = ap (λ z. z.words) seat.0 in let sized = i.1 in let some_cells = i.2 in let few_cells = i.3 in (o, (omega arith), (omega arith), (omega arith))
+
+-- A pass sits at the table of its history. Of one table the number of cells is one, since the number of words is
+pub sits : {p : PassValue} {q : HistoryValue} (t : CellTable) (h : Hand) → history_of t ≡ q → view_of h ≡ p → IsHeld h → IsPassOf q p → SitsAt t h.seat
+sits t h is_q is_p i same =
+    let table : h.seat.table_id ≡ t.table.shared.table_id = ap (λ (v : PassValue). v.table) is_p ∙ (same ∙ sym (ap (λ (v : HistoryValue). v.table) is_q)) in
+    let words = ap (λ z. z.words) table in let sized = i.1 in let of_table = t.sized in (table, (omega arith))
+
+pub as_many_cells : {p : PassValue} {q : HistoryValue} (t : CellTable) (h : Hand) → history_of t ≡ q → view_of h ≡ p → IsHeld h → IsPassOf q p → p.cells ≡ q.cells
+as_many_cells t h is_q is_p i same = sym (ap (λ (v : PassValue). v.cells) is_p) ∙ ((sits t h is_q is_p i same).1 ∙ ap (λ (v : HistoryValue). v.cells) is_q)
 
 owns : (h : Hand) → InOrder h → IsWhole (view_of h) → OwnsAll h.seat.me.0
 owns h o all = let b = ap length o.free in let d = ap length o.mine in omega arith
@@ -88,8 +117,25 @@ shown_claim h d extra h' (Added i) o s = ((s.0 ++ d ∷ [], s.1.seen ∙ append_
 shown_claim h d extra h' (Present i) o s = (starts h s.0 extra h' s.1, (get_is h'.seen.items i d s.2, adds_nothing h s.0 extra h' o s.1))
 shown_claim h d extra h' (Clash i) o s = (starts h s.0 extra h' s.1, ((s.2.0, get_is h'.seen.items i s.2.0 s.2.1, s.2.2, s.2.3), adds_nothing h s.0 extra h' o s.1))
 
-end_order : (cells : ℕ) (h : Hand) (more : List DrawopValue) (h' : Hand) → AtEnd cells h more h' → InOrder h'
-end_order cells h more h' e = ⊎_elim (λ x. x.0.order) (λ x. x.0.order) e
+pub walked_held : (h : Hand) (more : List DrawopValue) (k : ℕ) (h' : Hand) → IsHeld h → Walked h more k h' → IsHeld h'
+walked_held h more k h' i w = held_on h h' i w.order w.seat w.cells
+
+pub end_held : (cells : ℕ) (h : Hand) (more : List DrawopValue) (h' : Hand) → IsHeld h → AtEnd cells h more h' → IsHeld h'
+end_held cells h more h' i e = ⊎_elim (λ x. walked_held h more 1 h' i x.0) (λ x. walked_held h more 0 h' i x.0) e
+
+claim_held : (h : Hand) (d : DrawopValue) (extra : ℕ) (h' : Hand) (c : Claim) → IsHeld h → Settled h d extra h' c → IsHeld h'
+claim_held h d extra h' (Added k) i s = held_on h h' i s.1.order s.1.seat s.1.cells
+claim_held h d extra h' (Present k) i s = walked_held h s.0 extra h' i s.1
+claim_held h d extra h' (Clash k) i s = walked_held h s.0 extra h' i s.1
+
+fault_held : (cells : ℕ) (h : Hand) (d : DrawopValue) (h' : Hand) (f : ClaimFault) → IsHeld h → Refused cells h d h' f → IsHeld h'
+fault_held cells h d h' NoRow i r = end_held cells h r.0 h' i r.1
+fault_held cells h d h' Memory i r = walked_held h r.0 r.1 h' i r.3
+
+-- the parts of a pass after a claim
+pub held_after : (cells : ℕ) (h : Hand) (d : DrawopValue) (h' : Hand) (r : Result Claim ClaimFault) → IsHeld h → MatchResult r (λ c. (extra : ℕ) × (extra ≤ member_steps) × Settled h d extra h' c) (Refused cells h d h') → IsHeld h'
+held_after cells h d h' (Ok c) i m = claim_held h d m.0 h' c i m.2
+held_after cells h d h' (Err f) i m = fault_held cells h d h' f i m
 
 end_starts : (cells : ℕ) (h : Hand) (more : List DrawopValue) (h' : Hand) → InOrder h → AtEnd cells h more h' → StartsWith h'.seen.items h.seen.items × AddsNothing (view_of h) (view_of h')
 end_starts cells h more h' o e = ⊎_elim (λ x. (starts h more 1 h' x.0, adds_nothing h more 1 h' o x.0)) (λ x. (starts h more 0 h' x.0, adds_nothing h more 0 h' o x.0)) e
@@ -97,7 +143,7 @@ end_starts cells h more h' o e = ⊎_elim (λ x. (starts h more 1 h' x.0, adds_n
 shown_fault : (cells : ℕ) (h : Hand) (d : DrawopValue) (h' : Hand) (f : ClaimFault) → InOrder h → h.seat.me.0.cells ≡ cells → Refused cells h d h' f → StartsWith h'.seen.items h.seen.items × NotClaimed (view_of h) d (view_of h') f
 shown_fault cells h d h' NoRow o same r =
     let e = end_starts cells h r.0 h' o r.1 in
-    (e.0, record { none_left = e.1.0.1 ∙ ap length r.3; absent = holds_not h'.seen.items d.name r.2; end = caught_up cells h r.0 h' same r.1; sound = sound h' (end_order cells h r.0 h' r.1); kept = e.1 })
+    (e.0, record { none_left = e.1.0.1 ∙ ap length r.3; absent = holds_not h'.seen.items d.name r.2; end = caught_up cells h r.0 h' same r.1; kept = e.1 })
 shown_fault cells h d h' Memory o same r = (starts h r.0 r.1 h' r.3, adds_nothing h r.0 r.1 h' o r.3)
 
 -- what a claim with a hand says of what is seen of the hand
@@ -111,7 +157,7 @@ pub from_there : (p : PassValue) (n : ℕ) (d : DrawopValue) (q : PassValue) (r 
 from_there p n d q (Ok (Added i)) m = record { new = m.new; member = m.member; last = m.last; later = m.later; gains = m.gains; row = m.row; alone = m.alone }
 from_there p n d q (Ok (Present i)) m = m
 from_there p n d q (Ok (Clash i)) m = m
-from_there p n d q (Err NoRow) m = record { none_left = m.none_left; absent = m.absent; end = m.end; sound = m.sound; kept = m.kept }
+from_there p n d q (Err NoRow) m = record { none_left = m.none_left; absent = m.absent; end = m.end; kept = m.kept }
 from_there p n d q (Err Memory) m = m
 
 pub first_sane : (cells : ℕ) → 0 < cells → Sane (whole_pass cells)
@@ -129,8 +175,9 @@ first_order h cells some_cells me seen mine free = record {
   sane = subst (λ (m : Me DrawopValue Knowledge). Sane m.0) (sym me) (first_sane cells some_cells);
 }
 
-pub fresh : (h : Hand) → InOrder h → InOrder (record h { steps = 0 })
-fresh h o = record { slots = o.slots; seen = o.seen; mine = o.mine; free = o.free; sane = o.sane }
+-- the parts of a pass as a call begins, which counts its own steps
+pub fresh : (h : Hand) → IsHeld h → IsHeld (record h { steps = 0 })
+fresh h i = let o = i.0 in (record { slots = o.slots; seen = o.seen; mine = o.mine; free = o.free; sane = o.sane }, i.1, i.2, i.3)
 
 brought_is : (h : Hand) (more : List DrawopValue) (k : ℕ) (h' : Hand) → Walked h more k h' → length h'.seen.items - length h.seen.items ≡ length more
 brought_is h more k h' w = let l = ap length w.seen in omega (arith, length-append h.seen.items more)

@@ -19,7 +19,6 @@ use Rattle.wb_history.specs.Passes.{PassValue, IsSamePass, KeepsRows}
 use Rattle.wb_history.specs.Shown.{view_of}
 use Rattle.wb_history.specs.Views.{united, after_confirm}
 use Rattle.wb_history.proofs.Words.{prefix_is}
-use Rattle.wb_history.proofs.Shows.{sound}
 
 pub second_longer : {A : Type 0} (xs ys : List A) → length xs < length ys → longer xs ys ≡ ys
 second_longer xs ys lt = sym (cond_below (length xs) (length ys) ys xs lt)
@@ -103,7 +102,6 @@ joined p q h g h' is_p is_q u = subst (λ (v : PassValue). IsJoined v q (view_of
   mine = u.mine;
   free = ap length u.free ∙ long;
   apart = λ i a b. shared_none h.mine.items g.mine.items (subst Once (u.order.mine ∙ u.mine) u.order.sane.mine_once) i a b;
-  sound = sound h' u.order;
 })
   where
     long : length (h.free.items ++ g.free.items) ≡ length h.free.items + length g.free.items

@@ -24,9 +24,9 @@ pub record PassValue : Type 0 where
   pub last_found : ℕ
   pub steps : ℕ
 
--- the pass came from this history
+-- The pass came from this history. Then it has as many cells, as a claim and a refresh tell.
 abbrev pub IsPassOf : HistoryValue → PassValue → Type 0
-IsPassOf h p = (p.table ≡ h.table) × (p.cells ≡ h.cells)
+IsPassOf h p = p.table ≡ h.table
 
 -- it is a pass of the history that it was a pass of
 abbrev pub IsSamePass : PassValue → PassValue → Type 0
@@ -48,11 +48,14 @@ AddsNothing p q = KeepsRows p q × (IsWhole p → q.seen ≡ p.seen)
 pub record IsSound (p : PassValue) : Type 0 where
   pub history : IsHistory p.seen
   pub lawful : All IsDrawop p.seen
+  pub some_cells : 0 < p.cells
+  pub few_cells : p.cells ≤ 65535
   pub room : length p.seen + p.free ≤ p.cells  -- a free row has a free cell before it
   pub rows : p.free + length p.mine ≤ p.cells
   pub own : All (λ i. i < length p.seen) p.mine
   pub once : AllPairs (λ i k. i ≢ k) p.mine
   pub all : IsWhole p → (i : ℕ) → i < length p.seen → Contains p.mine i  -- all that a whole pass has seen is its own
+  pub as_many : IsWhole p → length p.mine ≡ length p.seen
 
 -- the list was the whole history at a step of the call: the last one, a load that found the cell after the list free. Or the list
 -- fills all cells

@@ -3,7 +3,7 @@ use Rattle.std.specs.Prelude.{◌≡◌, ℕ, ◌+◌, ◌-◌, ◌*◌, ◌≤�
 use Rattle.wb_names.specs.Values.{DrawopValue}
 use Rattle.wb_names.specs.History.{HoldsName, IsNewAt, IsAgainAt, IsClashAt}
 use Rattle.wb_history.specs.Sizes.{row_words, member_steps}
-use Rattle.wb_history.specs.Passes.{PassValue, IsWhole, IsSound, AddsNothing, IsCaughtUp}
+use Rattle.wb_history.specs.Passes.{PassValue, IsWhole, AddsNothing, IsCaughtUp}
 use Rattle.wb_history.specs.declared.hand.Claim.{Claim}
 use Rattle.wb_history.specs.declared.hand.Claim.TheVariants.{Added, Present, Clash}
 use Rattle.wb_history.specs.declared.hand.ClaimFault.{ClaimFault}
@@ -24,7 +24,6 @@ pub record HasNoRow (p : PassValue) (d : DrawopValue) (q : PassValue) : Type 0 w
   pub none_left : q.free ≡ 0
   pub absent : ¬ HoldsName q.seen d.name
   pub end : IsCaughtUp p q
-  pub sound : IsSound q
   pub kept : AddsNothing p q
 
 abbrev pub Claimed : PassValue → DrawopValue → PassValue → Claim → Type 0

@@ -2,7 +2,7 @@
 use Rattle.std.specs.Prelude.{◌≡◌, ℕ, ◌+◌, ◌<◌, ◌≤◌, [], ◌++◌, Contains}
 use mathlib.Core.List.{IsPrefix}
 use Rattle.wb_history.specs.Lists.{longer}
-use Rattle.wb_history.specs.Passes.{PassValue, IsSamePass, IsSound}
+use Rattle.wb_history.specs.Passes.{PassValue, IsSamePass}
 use Rattle.wb_history.specs.declared.parts.SplitFault.{SplitFault}
 use Rattle.wb_history.specs.declared.parts.SplitFault.TheVariants.{TooMany, Memory}
 
@@ -29,4 +29,3 @@ pub record IsJoined (p q r : PassValue) : Type 0 where
   pub mine : r.mine ≡ p.mine ++ q.mine
   pub free : r.free ≡ p.free + q.free
   pub apart : (i : ℕ) → Contains p.mine i → Contains q.mine i → ⊥
-  pub sound : IsSound r

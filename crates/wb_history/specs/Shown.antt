@@ -22,5 +22,6 @@ view_of h = record {
   steps = h.steps;
 }
 
+-- the parts of a pass agree with one another, and its cells are those of its table
 abbrev pub IsHeld : Hand → Type 0
 IsHeld h = InOrder h × (h.seat.table_id.words ≡ h.seat.me.0.cells + h.seat.me.0.cells * row_words) × (0 < h.seat.me.0.cells) × (h.seat.me.0.cells ≤ 65535)

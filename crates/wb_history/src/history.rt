@@ -4,7 +4,7 @@ ghost use mathlib.Core.List.{IsPrefix};
 ghost use Rattle.wb_names.specs.History.{HoldsName};
 ghost use Rattle.wb_history.specs.Sizes.{member_steps};
 ghost use Rattle.wb_history.specs.Lists.{numbers};
-ghost use Rattle.wb_history.specs.Passes.{IsPassOf, IsSamePass, AddsNothing, IsCaughtUp};
+ghost use Rattle.wb_history.specs.Passes.{IsPassOf, IsSamePass, IsSound, AddsNothing, IsCaughtUp};
 ghost use Rattle.wb_history.specs.Replies.{Claimed, NotClaimed, ClaimSteps, FaultSteps, brought};
 ghost use Rattle.wb_history.specs.declared.history.OpenFault.TheVariants as fault;
 
@@ -72,7 +72,7 @@ impl History {
     /// An empty history of so many cells, from 1 to 65,535, and as many rows; and the pass that
     /// owns all rows. There is room for as many drawops as there are cells.
     pub fn open(alloc: Global, cells: u32) -> Result<(History, Pass), OpenFault>
-        ensures opened { IfOk result (λ t. IsPassOf t.0 t.1 × (t.1.cells ≡ cells) × (t.1.seen ≡ []) × (t.1.mine ≡ []) × (t.1.free ≡ cells) × (t.1.steps ≡ 0)) }
+        ensures opened { IfOk result (λ t. IsPassOf t.0 t.1 × (t.1.cells ≡ cells) × (t.1.seen ≡ []) × (t.1.mine ≡ []) × (t.1.free ≡ cells) × (t.1.steps ≡ 0) × (t.0.cells ≡ cells) × IsSound t.1) }
         ensures refused { (cells ≡ 0) ⊎ (65535 < cells) → result ≡ Err fault.Cells }
         ensures admitted { 0 < cells → cells ≤ 65535 → result ≢ Err fault.Cells }
     {
@@ -102,6 +102,8 @@ impl History {
     pub fn claim(&self, pass: &mut Pass, drawop: &Drawop) -> Result<Claim, ClaimFault>
         requires pass { IsPassOf self.now pass.old }
         ensures same { IsSamePass pass.old pass.new }
+        ensures cells { pass.new.cells ≡ self.now.cells }
+        ensures sound { IsSound pass.new }
         ensures grows { IsPrefix pass.old.seen pass.new.seen }
         ensures answer { MatchResult result (Claimed pass.old drawop.now pass.new) (NotClaimed pass.old drawop.now pass.new) }
         ensures known { HoldsName pass.old.seen drawop.now.name → IsOk result × (pass.new ≡ record pass.old { steps = 0 }) }
@@ -117,6 +119,8 @@ impl History {
     pub fn refresh(&self, pass: &mut Pass) -> Result<u32, AllocError>
         requires pass { IsPassOf self.now pass.old }
         ensures same { IsSamePass pass.old pass.new }
+        ensures cells { pass.new.cells ≡ self.now.cells }
+        ensures sound { IsSound pass.new }
         ensures grows { IsPrefix pass.old.seen pass.new.seen }
         ensures nothing { AddsNothing pass.old pass.new }
         ensures end { IfOk result (λ n. (n ≡ length pass.new.seen) × IsCaughtUp pass.old pass.new) }

@@ -1,11 +1,11 @@
 //! How a pass is split, how two are joined, and how two tell each other what they have seen.
-ghost use Rattle.std.specs.Prelude.{◌≡◌, ◌+◌, ◌<◌, ◌≤◌, ◌++◌, Err, OnOk, MatchResult, length, vec_len, vec_capacity};
+ghost use Rattle.std.specs.Prelude.{◌≡◌, ◌+◌, ◌<◌, ◌≤◌, ◌++◌, Err, IfOk, IfErr, OnOk, OnErr, MatchResult, length, vec_len, vec_capacity};
 ghost use mathlib.Core.List.{IsPrefix};
 ghost use Rattle.wb_history.specs.Hands.{InOrder, United};
 ghost use Rattle.wb_history.specs.Lists.{longer};
 ghost use Rattle.wb_history.specs.Seats.{SitsAt};
 ghost use Rattle.wb_history.specs.Sharing.{IsSplit, IsSplitFault, IsJoined};
-ghost use Rattle.wb_history.specs.Passes.{IsPassOf, IsSamePass, KeepsRows};
+ghost use Rattle.wb_history.specs.Passes.{IsPassOf, IsSamePass, IsSound, KeepsRows};
 ghost use Rattle.wb_history.specs.declared.parts.SplitFault.TheVariants as fault;
 
 use crate::cells::CellTable;
@@ -68,6 +68,7 @@ impl History {
     pub fn split(&self, alloc: Global, pass: &mut Pass, rows: u32) -> Result<Pass, SplitFault>
         requires pass { IsPassOf self.now pass.old }
         ensures same { IsSamePass pass.old pass.new }
+        ensures sound { IsSound pass.new × IfOk result IsSound }
         ensures parts { MatchResult result (IsSplit pass.old rows pass.new) (λ e. (pass.new ≡ pass.old) × IsSplitFault pass.old rows e) }
         ensures too_many { pass.old.free < rows → result ≡ Err (fault.TooMany pass.old.free) }
     {
@@ -138,6 +139,7 @@ impl History {
     pub fn join(&self, pass: &mut Pass, other: Pass) -> Result<(), (JoinFault, Pass)>
         requires passes { IsPassOf self.now pass.old × IsPassOf self.now other }
         ensures same { IsSamePass pass.old pass.new × (pass.new.steps ≡ pass.old.steps) }
+        ensures sound { IsSound pass.new × IfErr result (λ e. IsSound e.1) }
         ensures joined { MatchResult result (λ _. IsJoined pass.old other pass.new) (λ e. (pass.new ≡ pass.old) × (e.1 ≡ other)) }
     {
         if pass.hand.mine.reserve(other.hand.mine.len()).is_err() {
@@ -151,33 +153,38 @@ impl History {
         Ok(())
     }
 
-    /// Lets the hearer know what the teller has seen.
+    /// Lets the hearer know what the teller has seen. A refused call changes nothing.
     fn tell(&self, alloc: Global, teller: &mut Pass, hearer: &mut Pass) -> Result<(), AllocError>
         requires passes { IsPassOf self.now teller.old × IsPassOf self.now hearer.old }
-        ensures teller { IsSamePass teller.old teller.new × KeepsRows teller.old teller.new × (teller.new.seen ≡ teller.old.seen) × (teller.new.steps ≡ teller.old.steps) }
-        ensures hearer { IsSamePass hearer.old hearer.new × KeepsRows hearer.old hearer.new × IsPrefix hearer.old.seen hearer.new.seen × (hearer.new.steps ≡ hearer.old.steps) }
-        ensures told { OnOk result ((hearer.new.seen ≡ longer hearer.old.seen teller.old.seen) × IsPrefix teller.old.seen hearer.new.seen) }
+        ensures same { IsSamePass teller.old teller.new × IsSamePass hearer.old hearer.new }
+        ensures sound { IsSound teller.new × OnOk result (IsSound hearer.new) }
+        ensures teller { KeepsRows teller.old teller.new × (teller.new.seen ≡ teller.old.seen) × (teller.new.steps ≡ teller.old.steps) }
+        ensures told { OnOk result (KeepsRows hearer.old hearer.new × (hearer.new.seen ≡ longer hearer.old.seen teller.old.seen) × IsPrefix hearer.old.seen hearer.new.seen × IsPrefix teller.old.seen hearer.new.seen × (hearer.new.steps ≡ hearer.old.steps)) }
+        ensures refused { OnErr result ((teller.new ≡ teller.old) × (hearer.new ≡ hearer.old)) }
     {
         let Ok(message) = self.split(alloc, teller, 0) else {
             return Err(AllocError);
         };
         match self.join(hearer, message) {
-            Ok(()) => {}
-            Err(_) => return Err(AllocError),
+            Ok(()) => Ok(()),
+            Err(_) => Err(AllocError),
         }
-        Ok(())
     }
 
-    /// Both passes have then seen the same list, the longer of their two. After a fault each may
-    /// have seen more.
+    /// Both passes have then seen the same list, the longer of their two. A refused call changes
+    /// nothing.
     pub fn meet(&self, alloc: Global, first: &mut Pass, second: &mut Pass) -> Result<(), AllocError>
         requires passes { IsPassOf self.now first.old × IsPassOf self.now second.old }
+        ensures sound { IsSound first.new × IsSound second.new }
         ensures first { IsSamePass first.old first.new × KeepsRows first.old first.new × IsPrefix first.old.seen first.new.seen × (first.new.steps ≡ first.old.steps) }
         ensures second { IsSamePass second.old second.new × KeepsRows second.old second.new × IsPrefix second.old.seen second.new.seen × (second.new.steps ≡ second.old.steps) }
         ensures met { OnOk result ((first.new.seen ≡ second.new.seen) × (second.new.seen ≡ longer second.old.seen first.old.seen)) }
+        ensures refused { OnErr result ((first.new ≡ first.old) × (second.new ≡ second.old)) }
     {
-        self.tell(alloc, first, second)?;
-        self.tell(alloc, second, first)?;
-        Ok(())
+        if first.hand.seen.len() < second.hand.seen.len() {
+            self.tell(alloc, second, first)
+        } else {
+            self.tell(alloc, first, second)
+        }
     }
 }

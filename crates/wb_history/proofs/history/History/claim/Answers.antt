@@ -1,23 +1,27 @@
 use Rattle.std.proofs.Common.{refl, sym, ap, ◌∙◌, subst, MatchResult}
 use Rattle.wb_history.specs.Lists.{StartsWith}
-use Rattle.wb_history.specs.Passes.{PassValue, HistoryValue}
+use Rattle.wb_history.specs.Passes.{PassValue}
 use Rattle.wb_history.specs.Replies.{Claimed, NotClaimed, ClaimSteps, FaultSteps}
 use Rattle.wb_names.specs.History.{HoldsName}
 use Rattle.wb_history.proofs.Words.{prefix_is, holds}
 use Rattle.wb_history.specs.Shown.{view_of}
-use Rattle.wb_history.proofs.Shows.{from_there, shown, shown_steps, fresh}
+use Rattle.wb_history.proofs.Shows.{from_there, shown, shown_steps, fresh, sits, sound, held_after}
 use Rattle.wb_history.proofs.history.History.claim.Goals as goal
+
+pub returns-clause-sound : goal.returns-clause-sound
+returns-clause-sound c =
+    sound c.claim_with.new.hand (held_after c.self.inside.cells.cells (record c.pass.inside.hand { steps = 0 }) c.args.drawop.now c.claim_with.new.hand c.claim_with.result (fresh c.pass.inside.hand c.pass.invariant.0) c.claim_with.ensures.done)
 
 pub returns-clause-grows : goal.returns-clause-grows
 returns-clause-grows c =
-    let cells = ap (λ (p : PassValue). p.cells) c.pass.view_is ∙ (c.requires.pass.1 ∙ sym (ap (λ (h : HistoryValue). h.cells) c.self.view_is)) in
-    let s = shown c.self.inside.cells.cells (record c.pass.inside.hand { steps = 0 }) c.args.drawop.now c.claim_with.new.hand c.claim_with.result (fresh c.pass.inside.hand c.pass.invariant.0.0) cells c.claim_with.ensures.done in
+    let at = sits c.self.inside.cells c.pass.inside.hand c.self.view_is c.pass.view_is c.pass.invariant.0 c.requires.pass in
+    let s = shown c.self.inside.cells.cells (record c.pass.inside.hand { steps = 0 }) c.args.drawop.now c.claim_with.new.hand c.claim_with.result (fresh c.pass.inside.hand c.pass.invariant.0).0 at.1 c.claim_with.ensures.done in
     prefix_is c.claim_with.new.hand.seen.items c.args.pass.now.seen (subst (λ (p : PassValue). StartsWith c.claim_with.new.hand.seen.items p.seen) c.pass.view_is s.0)
 
 pub returns-clause-answer : goal.returns-clause-answer
 returns-clause-answer c =
-    let cells = ap (λ (p : PassValue). p.cells) c.pass.view_is ∙ (c.requires.pass.1 ∙ sym (ap (λ (h : HistoryValue). h.cells) c.self.view_is)) in
-    let s = shown c.self.inside.cells.cells (record c.pass.inside.hand { steps = 0 }) c.args.drawop.now c.claim_with.new.hand c.claim_with.result (fresh c.pass.inside.hand c.pass.invariant.0.0) cells c.claim_with.ensures.done in
+    let at = sits c.self.inside.cells c.pass.inside.hand c.self.view_is c.pass.view_is c.pass.invariant.0 c.requires.pass in
+    let s = shown c.self.inside.cells.cells (record c.pass.inside.hand { steps = 0 }) c.args.drawop.now c.claim_with.new.hand c.claim_with.result (fresh c.pass.inside.hand c.pass.invariant.0).0 at.1 c.claim_with.ensures.done in
     subst (λ (p : PassValue). MatchResult c.claim_with.result (Claimed p c.args.drawop.now (view_of c.claim_with.new.hand)) (NotClaimed p c.args.drawop.now (view_of c.claim_with.new.hand))) c.pass.view_is (from_there (view_of c.pass.inside.hand) 0 c.args.drawop.now (view_of c.claim_with.new.hand) c.claim_with.result s.1)
 
 pub returns-clause-few_steps : goal.returns-clause-few_steps

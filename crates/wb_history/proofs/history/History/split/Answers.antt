@@ -1,7 +1,10 @@
-use Rattle.std.proofs.Common.{◌≡◌, ℕ, ◌-◌, length, take, drop, refl, ap, ◌∙◌, arith}
+use Rattle.std.proofs.Common.{◌≡◌, ℕ, ◌-◌, length, take, drop, refl, sym, ap, subst, ◌∙◌, arith}
 use Rattle.atomic_table.specs.Table.{Me}
 use Rattle.wb_names.specs.Values.{DrawopValue}
 use Rattle.wb_history.specs.declared.knowledge.Knowledge.{Knowledge}
+use Rattle.wb_history.specs.Passes.{IsSound}
+use Rattle.wb_history.proofs.Shows.{sound, sound_pass}
+use Rattle.wb_history.proofs.Unions.{same_view}
 use Rattle.wb_history.proofs.Portions.{left_order, right_order}
 use Rattle.wb_history.proofs.history.History.split.Goals as goal
 
@@ -46,3 +49,20 @@ invariant_of-pass-2 c =
       ),
       (omega arith),
     )
+
+pub returns-then-have-rows-clause-sound : goal.returns-then-have-rows-clause-sound
+returns-then-have-rows-clause-sound c = (sound_pass c.pass.inside.hand c.pass.view_is c.pass.invariant.0, tt)
+
+pub returns-in_default-clause-sound : goal.returns-in_default-clause-sound
+returns-in_default-clause-sound c = (sound_pass c.pass.inside.hand c.pass.view_is c.pass.invariant.0, tt)
+
+pub returns-in_default-split_off-clause-sound : goal.returns-in_default-split_off-clause-sound
+returns-in_default-split_off-clause-sound c =
+    let same = same_view (record c.pass.inside.hand { free = c.split_off.new.self }) c.pass.inside.hand refl refl refl (λ i. (c.in_default-split_off.ensures.err i).items) refl in
+    (subst IsSound (sym same) (sound c.pass.inside.hand c.pass.invariant.0), tt)
+
+pub returns-clause-sound : goal.returns-clause-sound
+returns-clause-sound c = (
+  sound (record { seat = c.cut-seat.new.seat; seen = c.pass.inside.hand.seen; mine = c.pass.inside.hand.mine; free = c.split_off.new.self; steps = c.pass.inside.hand.steps }) (invariant_of-pass-2 c).0,
+  sound (record { seat = c.cut-seat.result; seen = c.in-Ok.seen; mine = c.new.result; free = c.in-Ok-split_off.free; steps = 0 }) (invariant_of-result c).0,
+)

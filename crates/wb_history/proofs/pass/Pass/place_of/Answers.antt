@@ -10,7 +10,7 @@ use Rattle.wb_history.proofs.pass.Pass.place_of.Goals as goal
 pub overflow_cast-result : goal.overflow_cast-result
 overflow_cast-result c =
     let i = c.self.invariant in
-    let s = (sound c.self.inside.hand i.0.0).room in
+    let s = (sound c.self.inside.hand i.0).room in
     let few = i.0.3 in
     let lt = c.in-Some.ensures.0 in
     omega arith
