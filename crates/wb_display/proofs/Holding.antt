@@ -13,12 +13,9 @@ use Rattle.wb_names.proofs.Listings.{Contains-here, Contains-there, Contains-cas
 use Rattle.wb_display.specs.LastWord.{same_label, label_of}
 use Rattle.wb_display.specs.Layer.{holds_name}
 use Rattle.wb_display.specs.LayerFields.{held_of}
+use Rattle.wb_display.specs.TakingIn.{IsLabelled}
 use Rattle.wb_display.specs.declared.last_words.Label.{Label}
 use Rattle.wb_display.proofs.Deciding.{nowhere_from}
-
--- an entry stands under the label of its drawop, which is of the page
-abbrev pub IsLabelled : PageId → Label × DrawopValue → Type 0
-IsLabelled page e = (e.0 ≡ label_of e.1) × (same_page e.1.name.page page ≡ true)
 
 label_is_name : (page : PageId) (d e : DrawopValue) → same_page d.name.page page ≡ true → same_page e.name.page page ≡ true → same_label (label_of d) (label_of e) ≡ same_name e.name d.name
 label_is_name page d e pd pe = grind (arith, nat_tests)

@@ -17,10 +17,10 @@ use Rattle.wb_display.specs.LastWord.{same_label, label_of, stake_label, is_show
 use Rattle.wb_display.specs.LastWords.{AreLastWords, word_on}
 use Rattle.wb_display.specs.Layer.{LayerValue, holds_name, is_news, held_with}
 use Rattle.wb_display.specs.LayerFields.{held_of}
-use Rattle.wb_display.specs.TakingIn.{AreKept, TakesIn}
+use Rattle.wb_display.specs.TakingIn.{AreKept, IsLabelled, TakesIn}
 use Rattle.wb_display.specs.declared.last_words.Label.{Label}
 use Rattle.wb_display.specs.declared.last_words.LastWords.{LastWords}
-use Rattle.wb_display.proofs.Holding.{IsLabelled, known_name, found_held, not_found, names_more, held_here}
+use Rattle.wb_display.proofs.Holding.{known_name, found_held, not_found, names_more, held_here}
 use Rattle.wb_display.proofs.Putting.{view_settled, view_stays, ties_alone}
 use Rattle.wb_display.proofs.Views.{shown_here}
 use Rattle.wb_display.proofs.Deciding.{false_from_not}

@@ -13,6 +13,7 @@ pub mod Settling
 pub mod Putting
 pub mod Holding
 pub mod Layers
+pub mod PuttingAll
 pub mod Convergence
 pub mod OlderRule
 pub mod PutLaws

@@ -1,5 +1,5 @@
 -- A layer: what was put on a page, one drawop after another.
-use Rattle.std.specs.Prelude.{Bool, not, ◌&&◌, List, [], ◌∷◌, ◌++◌, fold, if◌then◌else◌}
+use Rattle.std.specs.Prelude.{ℕ, Bool, not, ◌&&◌, List, [], ◌∷◌, ◌++◌, length, filter, fold, if◌then◌else◌}
 use Rattle.std.specs.List.{list_any}
 use Rattle.wb_names.specs.Values.{NameValue, DrawopValue}
 use Rattle.wb_names.specs.Orders.{same_page, same_name}
@@ -22,6 +22,14 @@ is_news page held d = same_page d.name.page page && not (holds_name held d.name)
 abbrev pub held_with : PageId → List DrawopValue → DrawopValue → List DrawopValue
 held_with page held d = if is_news page held d then held ++ d ∷ [] else held
 
--- what is held after a list of puts: each name of the page at its first put
+-- what is held after a list of puts, one after another
+abbrev pub held_with_all : PageId → List DrawopValue → List DrawopValue → List DrawopValue
+held_with_all page held puts = fold (held_with page) held puts
+
+-- and from the first put on: each name of the page at its first put
 abbrev pub held_after : PageId → List DrawopValue → List DrawopValue
-held_after page puts = fold (held_with page) [] puts
+held_after page puts = held_with_all page [] puts
+
+-- how many of a list are news
+abbrev pub news_count : PageId → List DrawopValue → List DrawopValue → ℕ
+news_count page held list = length (filter (is_news page held) list)

@@ -8,14 +8,19 @@ use Rattle.wb_display.specs.LastWord.{label_of}
 use Rattle.wb_display.specs.LastWords.{AreLastWords}
 use Rattle.wb_display.specs.Layer.{holds_name}
 use Rattle.wb_display.specs.LayerFields.{held_of}
+use Rattle.wb_names.specs.declared.name.PageId.{PageId}
 use Rattle.wb_display.specs.declared.last_words.Label.{Label}
 use Rattle.wb_display.specs.declared.last_words.LastWords.{LastWords}
+
+-- an entry stands under the label of its drawop, which is of the page
+abbrev pub IsLabelled : PageId → Label × DrawopValue → Type 0
+IsLabelled page e = (e.0 ≡ label_of e.1) × (same_page e.1.name.page page ≡ true)
 
 -- no name is held twice, each drawop stands under its label and is of the page, the last words are those of what is
 -- held, and so is what is shown
 pub record AreKept (words : LastWords) (entries : List (Label × DrawopValue)) (shown : List DrawopValue) : Type 0 where
   pub names : IsHistory (held_of entries)
-  pub labels : All (λ e. (e.0 ≡ label_of e.1) × (same_page e.1.name.page words.page ≡ true)) entries
+  pub labels : All (IsLabelled words.page) entries
   pub heard : AreLastWords (held_of entries) words
   pub view : IsView (held_of entries) words.page shown
 

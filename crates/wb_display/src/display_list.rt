@@ -1,6 +1,6 @@
 //! A list in the order of display, which drawops enter and leave.
 
-ghost use Rattle.std.specs.Prelude.{◌≡◌, ◌<◌, ◌≤◌, vec_len, vec_capacity};
+ghost use Rattle.std.specs.Prelude.{◌≡◌, ◌<◌, ◌≤◌, ◌+◌, vec_len, vec_capacity};
 ghost use Rattle.std.specs.List.Sorted.{IsStrictlySortedBy};
 ghost use Rattle.wb_names.specs.Orders.{display_cmp};
 ghost use Rattle.wb_display.specs.DisplayList.{IsPlaceOf, Settles, TiesAlone};
@@ -23,7 +23,9 @@ fn place_in(list: &[Drawop], drawop: &Drawop) -> Result<usize, usize>
 /// has room for one more.
 pub(crate) fn settle(list: &mut Vec<Drawop>, drawop: &Drawop, shows: bool)
     requires { vec_len list.old < vec_capacity list.old }
-    ensures { IsStrictlySortedBy display_cmp list.old.items → TiesAlone list.old.items drawop.now → Settles drawop.now shows list.old.items list.new.items }
+    ensures settled { IsStrictlySortedBy display_cmp list.old.items → TiesAlone list.old.items drawop.now → Settles drawop.now shows list.old.items list.new.items }
+    ensures len { vec_len list.new ≤ vec_len list.old + 1 }
+    ensures capacity { vec_capacity list.old ≤ vec_capacity list.new }
 {
     match place_in(list, drawop) {
         Ok(place) => {

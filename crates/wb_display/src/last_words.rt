@@ -1,7 +1,7 @@
 //! The last word on each drawop of a page: the latest of the deletes and restores that name it,
 //! whether it is held or not.
 
-ghost use Rattle.std.specs.Prelude.{◌≡◌, ◌<◌, ◌≤◌, ◌++◌, ◌∷◌, [], List, Option, Some, None, OnOk, OnErr, IsOk, if◌then◌else◌};
+ghost use Rattle.std.specs.Prelude.{◌≡◌, ◌<◌, ◌≤◌, ◌+◌, ◌++◌, ◌∷◌, [], List, Option, Some, None, OnOk, OnErr, IsOk, if◌then◌else◌};
 ghost use Rattle.std.specs.HashMap.{spare};
 ghost use Rattle.std.specs.Ordering.{is_lt};
 ghost use Rattle.wb_names.specs.Values.{DrawopValue};
@@ -129,13 +129,13 @@ impl LastWords {
         }
     }
 
-    /// Makes room for one word more.
-    pub fn reserve(&mut self) -> Result<(), AllocError>
+    /// Makes room for so many words more.
+    pub fn reserve(&mut self, count: usize) -> Result<(), AllocError>
         ensures page { self.new.page ≡ self.old.page }
         ensures words { (label : Label) → word_on self.new label ≡ word_on self.old label }
-        ensures room { OnOk result (1 ≤ spare self.new.latest) }
+        ensures room { OnOk result (count ≤ spare self.new.latest) }
     {
-        self.latest.reserve(1)
+        self.latest.reserve(count)
     }
 
     /// Takes in a drawop: where it is a delete or a restore on the page, and later than what was
@@ -145,6 +145,7 @@ impl LastWords {
         ensures ok { OnOk result ((history : List DrawopValue) → AreLastWords history self.old → AreLastWords (history ++ drawop.now ∷ []) self.new) }
         ensures err { OnErr result ((label : Label) → word_on self.new label ≡ word_on self.old label) }
         ensures succeeds { 1 ≤ spare self.old.latest → IsOk result }
+        ensures room { spare self.old.latest ≤ spare self.new.latest + 1 }
     {
         if !self.is_on_page(drawop) {
             return Ok(());

@@ -3,11 +3,12 @@
 //! A delete waits for its target, and a target finds what was said of it before it came. A drawop
 //! that is hidden is kept, since a restore may show it again.
 
-ghost use Rattle.std.specs.Prelude.{◌≡◌, ◌≤◌, ◌<◌, [], OnOk, OnErr, IsOk, false, vec_len, vec_capacity};
+ghost use Rattle.std.specs.Prelude.{◌≡◌, ◌≤◌, ◌<◌, ◌+◌, [], OnOk, OnErr, IsOk, All, false, vec_len, vec_capacity};
 ghost use Rattle.indexmap.specs.IndexMap.{spare};
-ghost use Rattle.wb_display.specs.TakingIn.{TakesIn};
+ghost use Rattle.wb_display.specs.TakingIn.{AreKept, IsLabelled, TakesIn};
 ghost use Rattle.wb_display.specs.Display.{IsView};
-ghost use Rattle.wb_display.specs.Layer.{held_with, is_news as is_news_of};
+ghost use Rattle.wb_display.specs.Layer.{held_with, held_with_all, is_news as is_news_of, news_count};
+ghost use Rattle.wb_display.specs.LayerFields.{held_of};
 
 use crate::display_list::settle;
 use crate::last_words::{Label, LastWords, stake_of};
@@ -59,17 +60,42 @@ impl Layer {
         if !self.is_news(drawop) {
             return Ok(());
         }
-        self.words.reserve()?;
+        self.words.reserve(1)?;
         self.drawops.reserve(1)?;
         self.shown.reserve(1)?;
         take_in(&mut self.words, &mut self.drawops, &mut self.shown, drawop);
         Ok(())
     }
 
+    /// Puts each drawop of a list, in its order, as that many calls of `put` would. All memory is
+    /// asked for before anything is changed: where it is refused, none was put.
+    pub fn put_all(&mut self, drawops: &[Drawop]) -> Result<(), AllocError>
+        ensures ok { OnOk result (self.new ≡ record self.old { held = held_with_all self.old.page self.old.held drawops.now }) }
+        ensures err { OnErr result (self.new ≡ self.old) }
+        ensures known { All (λ d. is_news_of self.old.page self.old.held d ≡ false) drawops.now → IsOk result }
+    {
+        let count = self.count_news(drawops);
+        if count == 0 {
+            return Ok(());
+        }
+        self.words.reserve(count)?;
+        self.drawops.reserve(count)?;
+        self.shown.reserve(count)?;
+        take_in_all(&mut self.words, &mut self.drawops, &mut self.shown, drawops);
+        Ok(())
+    }
+
+    /// How many of a list are news, a name that stands twice counted twice.
+    fn count_news(&self, drawops: &[Drawop]) -> usize
+        ensures { result ≡ news_count self.now.page self.now.held drawops.now }
+    {
+        drawops.iter().filter(|drawop| self.is_news(drawop)).count()
+    }
+
     fn is_news(&self, drawop: &Drawop) -> bool
         ensures { result ≡ is_news_of self.now.page self.now.held drawop.now }
     {
-        self.words.is_on_page(drawop) && !self.drawops.contains_key(&Label::of(drawop))
+        is_news(&self.words, &self.drawops, drawop)
     }
 
     /// What the page shows of the drawops put so far, in the order of display.
@@ -77,6 +103,36 @@ impl Layer {
         ensures { IsView self.now.held self.now.page result.now }
     {
         &self.shown
+    }
+}
+
+/// Whether a drawop is of the page and its name was not put before.
+#[inline(always)]
+fn is_news(words: &LastWords, drawops: &IndexMap<Label, Drawop>, drawop: &Drawop) -> bool
+    ensures { All (IsLabelled words.now.page) drawops.now.entries → result ≡ is_news_of words.now.page (held_of drawops.now.entries) drawop.now }
+{
+    words.is_on_page(drawop) && !drawops.contains_key(&Label::of(drawop))
+}
+
+/// Takes in what is news in a list, one drawop after another. There is room for all of it.
+fn take_in_all(
+    words: &mut LastWords,
+    drawops: &mut IndexMap<Label, Drawop>,
+    shown: &mut Vec<Drawop>,
+    list: &[Drawop],
+)
+    requires kept { AreKept words.old drawops.old.entries shown.old.items }
+    requires words { news_count words.old.page (held_of drawops.old.entries) list.now ≤ spare words.old.latest }
+    requires drawops { news_count words.old.page (held_of drawops.old.entries) list.now ≤ spare drawops.old }
+    requires shown { vec_len shown.old + news_count words.old.page (held_of drawops.old.entries) list.now ≤ vec_capacity shown.old }
+    ensures page { words.new.page ≡ words.old.page }
+    ensures kept { AreKept words.new drawops.new.entries shown.new.items }
+    ensures held { held_of drawops.new.entries ≡ held_with_all words.old.page (held_of drawops.old.entries) list.now }
+{
+    for drawop in list {
+        if is_news(words, drawops, drawop) {
+            take_in(words, drawops, shown, drawop);
+        }
     }
 }
 
@@ -93,6 +149,10 @@ fn take_in(
     requires shown { vec_len shown.old < vec_capacity shown.old }
     ensures page { words.new.page ≡ words.old.page }
     ensures kept { TakesIn words.old drawops.old.entries shown.old.items drawop.now words.new drawops.new.entries shown.new.items }
+    ensures words { spare words.old.latest ≤ spare words.new.latest + 1 }
+    ensures drawops { spare drawops.old ≤ spare drawops.new + 1 }
+    ensures len { vec_len shown.new ≤ vec_len shown.old + 1 }
+    ensures capacity { vec_capacity shown.old ≤ vec_capacity shown.new }
 {
     words.hear(drawop).unwrap();
     drawops.insert(Label::of(drawop), *drawop).unwrap();

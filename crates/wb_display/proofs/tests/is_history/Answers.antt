@@ -1,7 +1,6 @@
-use Rattle.std.proofs.Common.{◌≡◌, ◌∙◌, ◌++◌, ◌∷◌, ◌+◌, [], ap, sym, subst, take, List}
-use Rattle.std.specs.Prelude.{Bool}
+use Rattle.std.proofs.Common.{◌≡◌, ◌∙◌, ◌++◌, ◌∷◌, ◌+◌, [], ap, sym, subst, take}
 use Rattle.std.proofs.lemmas.List.{take_all, take_more}
-use Rattle.wb_names.specs.Values.{NameValue, DrawopValue}
+use Rattle.wb_names.specs.Values.{DrawopValue}
 use Rattle.wb_names.specs.History.{IsHistory}
 use Rattle.wb_display.specs.Layer.{holds_name}
 use Rattle.wb_display.proofs.Holding.{names_more}

@@ -1,0 +1,89 @@
+-- Many puts, one after another: there is room for what is still news, and what is held is as after that many puts.
+use Rattle.std.proofs.Common.{◌≡◌, ℕ, ◌+◌, ◌<◌, ◌≤◌, List, [], ◌∷◌, ◌++◌, length, get_or, take, drop, refl, ap, ◌∙◌, sym, arith, add-one, drop-cons}
+use Rattle.std.specs.Prelude.{Bool, true, false, cond, filter, All}
+use Rattle.std.proofs.lemmas.List.Elements.{Contains-append_left, All-head, All-tail}
+use Rattle.std.proofs.lemmas.List.Sums.{fold_more}
+use Rattle.wb_names.specs.Values.{DrawopValue}
+use Rattle.wb_names.specs.Orders.{same_page, same_name}
+use Rattle.wb_names.specs.declared.name.PageId.{PageId}
+use Rattle.wb_names.proofs.Orders.{and_both}
+use Rattle.wb_display.specs.Layer.{LayerValue, is_news, held_with, held_with_all, news_count}
+use Rattle.wb_display.specs.LayerFields.{held_of}
+use Rattle.wb_display.specs.TakingIn.{AreKept, TakesIn}
+use Rattle.wb_display.specs.declared.last_words.Label.{Label}
+use Rattle.wb_display.specs.declared.last_words.LastWords.{LastWords}
+use Rattle.wb_display.proofs.Deciding.{list_any_nowhere, nowhere_from, false_from_not, not_false, and_true}
+use Rattle.wb_display.proofs.Layers.{layer_value, put_news}
+
+-- what is news later was news before
+news_before : (page : PageId) (held : List DrawopValue) (d x : DrawopValue) → is_news page (held ++ d ∷ []) x ≡ true → is_news page held x ≡ true
+news_before page held d x e =
+    let p = and_both (same_page x.name.page page) _ e in
+    let none = false_from_not _ p.1 in
+    and_true _ _ p.0 (not_false _ (list_any_nowhere (λ y. same_name y.name x.name) held (λ y c. nowhere_from (λ y. same_name y.name x.name) (held ++ d ∷ []) none y (Contains-append_left held (d ∷ []) y c))))
+
+-- a narrower test keeps no more
+filter_narrows : (p q : DrawopValue → Bool) → ((x : DrawopValue) → q x ≡ true → p x ≡ true) → (xs : List DrawopValue) → length (filter q xs) ≤ length (filter p xs)
+filter_narrows p q h [] = omega arith
+filter_narrows p q h (x ∷ xs) = at (q x) (p x) (h x) (filter_narrows p q h xs) where
+  at : (b c : Bool) → (b ≡ true → c ≡ true) → length (filter q xs) ≤ length (filter p xs) → length (cond b (x ∷ filter q xs) (filter q xs)) ≤ length (cond c (x ∷ filter p xs) (filter p xs))
+  at true true t rest = omega arith
+  at true false t rest = let e : false ≡ true = t refl in cc
+  at false true t rest = omega arith
+  at false false t rest = rest
+
+module _ (page : PageId) (held list : List DrawopValue) (i : ℕ) (d : DrawopValue) (h : i < length list) (is : get_or list i d ≡ d) where
+  here : (b : Bool) → is_news page held d ≡ b → news_count page held (drop i list) ≡ length (cond b (d ∷ filter (is_news page held) (drop (i + 1) list)) (filter (is_news page held) (drop (i + 1) list)))
+  here b e =
+      let cut : drop i list ≡ d ∷ drop (i + 1) list = rw (add-one, drop-cons list i d, is) refl in
+      ap (news_count page held) cut ∙ ap (λ (c : Bool). length (cond c (d ∷ filter (is_news page held) (drop (i + 1) list)) (filter (is_news page held) (drop (i + 1) list)))) e
+
+  -- a step over what is news takes one place
+  pub room_taken : is_news page held d ≡ true → news_count page (held_with page held d) (drop (i + 1) list) + 1 ≤ news_count page held (drop i list)
+  room_taken e =
+      let less = filter_narrows (is_news page held) (is_news page (held ++ d ∷ [])) (news_before page held d) (drop (i + 1) list) in
+      rw (here true e, e) (omega arith)
+
+  -- and one over what is not takes none
+  pub room_left : is_news page held d ≡ false → news_count page held (drop (i + 1) list) ≤ news_count page held (drop i list)
+  room_left e = rw (here false e) (omega arith)
+
+-- one put more
+pub held_more_puts : (page here : PageId) (start held held' list : List DrawopValue) (i : ℕ) (d : DrawopValue) → i < length list → get_or list i d ≡ d → here ≡ page
+    → held ≡ held_with_all page start (take i list) → held' ≡ held_with here held d → held' ≡ held_with_all page start (take (i + 1) list)
+held_more_puts page here start held held' list i d h is at so then =
+    then ∙ ap (λ (p : PageId). held_with p held d) at ∙ ap (λ (hs : List DrawopValue). held_with page hs d) so
+    ∙ sym (fold_more (held_with page) start list i d h ∙ ap (held_with page (held_with_all page start (take i list))) is)
+
+-- what is no news changes nothing
+pub held_not_more : (page : PageId) (held : List DrawopValue) (d : DrawopValue) → is_news page held d ≡ false → held ≡ held_with page held d
+held_not_more page held d e = sym (ap (λ (b : Bool). cond b (held ++ d ∷ []) held) e)
+
+-- what is news was taken in
+pub step_taken : (words words' : LastWords) (entries entries' : List (Label × DrawopValue)) (shown shown' list : List DrawopValue) (i : ℕ) (d : DrawopValue)
+    → i < length list → get_or list i d ≡ d → is_news words.page (held_of entries) d ≡ true → words'.page ≡ words.page
+    → TakesIn words entries shown d words' entries' shown' → AreKept words entries shown
+    → AreKept words' entries' shown' × (held_of entries' ≡ held_with words.page (held_of entries) d) × (news_count words'.page (held_of entries') (drop (i + 1) list) + 1 ≤ news_count words.page (held_of entries) (drop i list))
+step_taken words words' entries entries' shown shown' list i d h is news page takes kept =
+    let p = put_news words words words' entries entries entries' shown shown shown' d (layer_value words.page (held_of entries)) refl news refl (λ l. refl) refl refl page takes kept in
+    let e : held_of entries' ≡ held_with words.page (held_of entries) d = ap (λ (v : LayerValue). v.held) p.1 in
+    let r = room_taken words.page (held_of entries) list i d h is news in
+    (p.0, e, rw (page, e) r)
+
+-- where nothing is news there is nothing to make room for
+pub news_none : (page : PageId) (held list : List DrawopValue) → All (λ d. is_news page held d ≡ false) list → news_count page held list ≡ 0
+news_none page held [] all = refl
+news_none page held (x ∷ xs) all =
+    let f : is_news page held x ≡ false = All-head (λ d. is_news page held d ≡ false) x xs all in
+    ap (λ (b : Bool). length (cond b (x ∷ filter (is_news page held) xs) (filter (is_news page held) xs))) f ∙ news_none page held xs (All-tail (λ d. is_news page held d ≡ false) x xs all)
+
+-- and what is held stays
+pub held_stays : (page : PageId) (held list : List DrawopValue) → news_count page held list ≡ 0 → held ≡ held_with_all page held list
+held_stays page held [] e = refl
+held_stays page held (x ∷ xs) e = at (is_news page held x) refl e (held_stays page held xs) where
+  at : (b : Bool) → is_news page held x ≡ b → length (cond b (x ∷ filter (is_news page held) xs) (filter (is_news page held) xs)) ≡ 0 → (news_count page held xs ≡ 0 → held ≡ held_with_all page held xs) → held ≡ held_with_all page (held_with page held x) xs
+  at true f none rest = absurd (omega arith)
+  at false f none rest = rest none ∙ ap (λ (h : List DrawopValue). held_with_all page h xs) (held_not_more page held x f)
+
+pub value_stays : (v : LayerValue) (list : List DrawopValue) → news_count v.page v.held list ≡ 0 → v ≡ layer_value v.page (held_with_all v.page v.held list)
+value_stays v list e = ap (layer_value v.page) (held_stays v.page v.held list e)
