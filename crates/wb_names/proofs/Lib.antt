@@ -3,3 +3,4 @@ pub mod Buffers
 pub mod Listings
 pub mod MarkLists
 pub mod Orders
+pub mod Arrivals

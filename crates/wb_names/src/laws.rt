@@ -1,10 +1,12 @@
-//! Laws of the orders of pages and names. Each function does nothing: its contract is a law, for
+//! Laws of the orders of pages and names, and of arrivals. Each function does nothing: its contract is a law, for
 //! callers to cite.
 
-ghost use Rattle.std.specs.Prelude.{◌≡◌};
+ghost use Rattle.std.specs.Prelude.{◌≡◌, ℕ, List};
 ghost use Rattle.std.specs.Cmp.{IsTotalOrder};
 ghost use Rattle.std.specs.declared.cmp.Ordering.TheVariants.{Equal};
-ghost use Rattle.wb_names.specs.Values.{NameValue};
+ghost use Rattle.wb_names.specs.Values.{NameValue, DrawopValue};
+ghost use Rattle.wb_names.specs.History.{IsHistory};
+ghost use Rattle.wb_names.specs.Arrivals.{Outcome, IsTaken, outcome_of, outcomes_of, history_after, Counts, counts_of, IsBatch};
 ghost use Rattle.wb_names.specs.Orders.{page_cmp, name_cmp};
 ghost use Rattle.wb_names.specs.declared.name.PageId.{PageId as PageValue};
 
@@ -24,4 +26,13 @@ pub fn names_are_ordered()
     ensures by { (m n : NameValue) → ⟦<Name as Ord>⟧.cmp m n ≡ name_cmp m n }
     ensures total { IsTotalOrder name_cmp }
     ensures ties { (m n : NameValue) → name_cmp m n ≡ Equal → m ≡ n }
+{}
+
+/// One thread has one answer to arrivals, whatever they are: the outcome of each, the history after
+/// them, and how many came to what.
+#[tactic(auto, using(crate::proofs::Arrivals::outcome_is))]
+pub fn arrivals_have_one_answer()
+    ensures outcome { (cells : ℕ) (history : List DrawopValue) (d : DrawopValue) (o : Outcome) → IsHistory history → IsTaken cells history d o → o ≡ outcome_of cells history d }
+    ensures batch { (cells : ℕ) (history arrivals after : List DrawopValue) (n : Counts) → IsHistory history → IsBatch cells history arrivals after n
+        → (after ≡ history_after cells history arrivals) × (n ≡ counts_of (outcomes_of cells history arrivals)) }
 {}
