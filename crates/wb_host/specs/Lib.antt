@@ -1,2 +1,5 @@
 pub mod Replies
 pub mod Faults
+pub mod Layers
+pub mod Board
+pub mod Desks

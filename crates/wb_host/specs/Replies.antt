@@ -1,5 +1,5 @@
 -- The reply to an arrival, and what it says of the desk: d is the drawop, p the desk before the call, and q the desk after it.
-use Rattle.std.specs.Prelude.{ℕ, ◌+◌, ◌-◌, ◌*◌, ◌≤◌, List, length, take}
+use Rattle.std.specs.Prelude.{◌+◌, ◌-◌, ◌*◌, ◌≤◌, List, length, take}
 use Rattle.wb_names.specs.Values.{DrawopValue}
 use Rattle.wb_names.specs.History.{IsNewAt, IsAgainAt, IsClashAt}
 use Rattle.wb_history.specs.Sizes.{row_words, member_steps}

@@ -1,15 +1,16 @@
 //! A board that desks share: opening one, accepting a drawop, and reading on.
-ghost use Rattle.std.specs.Prelude.{◌≡◌, ◌≢◌, ◌+◌, ◌*◌, ◌<◌, ◌≤◌, ◌⊎◌, [], Err, IfOk, IsOk, OnOk, MatchResult, length};
+ghost use Rattle.std.specs.Prelude.{◌≡◌, ◌≢◌, ◌+◌, ◌*◌, ◌<◌, ◌≤◌, ◌⊎◌, [], Err, IfOk, IfErr, IsOk, OnOk, OnErr, MatchResult, length};
 ghost use mathlib.Core.List.{IsPrefix};
 ghost use Rattle.wb_names.specs.History.{HoldsName};
 ghost use Rattle.wb_history.specs.Sizes.{member_steps};
 ghost use Rattle.wb_history.specs.Lists.{longer};
-ghost use Rattle.wb_history.specs.Passes.{IsPassOf, IsSamePass, KeepsRows, AddsNothing, IsCaughtUp};
+ghost use Rattle.wb_history.specs.Passes.{IsPassOf, IsSamePass, IsSound, KeepsRows, AddsNothing, IsCaughtUp};
 ghost use Rattle.wb_history.specs.Replies.{brought};
 ghost use Rattle.wb_history.specs.Sharing.{IsSplit, IsSplitFault, IsJoined};
 ghost use Rattle.wb_history.specs.declared.history.OpenFault.TheVariants as opening;
 ghost use Rattle.wb_history.specs.declared.parts.SplitFault.TheVariants as splitting;
-ghost use Rattle.wb_host.specs.Replies.{Accepted, NotAccepted, AcceptSteps, RefusalSteps, IsReply, point_of};
+ghost use Rattle.wb_host.specs.Replies.{Accepted, NotAccepted, AcceptSteps, RefusalSteps, point_of};
+ghost use Rattle.wb_host.specs.Board.{IsAnswer, Accept, Replied};
 
 use crate::desk::Desk;
 use crate::reply::{BoardFault, Reply};
@@ -36,12 +37,12 @@ impl Board {
     /// An empty board of so many cells, from 1 to 65,535, and as many rows; and the desk that owns all
     /// rows. There is room for as many drawops as there are cells.
     pub fn open(alloc: Global, cells: u32) -> Result<(Board, Desk), OpenFault>
-        ensures opened { IfOk result (λ t. IsPassOf t.0 t.1 × (t.1.cells ≡ cells) × (t.1.seen ≡ []) × (t.1.mine ≡ []) × (t.1.free ≡ cells) × (t.1.steps ≡ 0)) }
+        ensures opened { IfOk result (λ t. IsPassOf t.0 t.1 × (t.1.cells ≡ cells) × (t.1.seen ≡ []) × (t.1.mine ≡ []) × (t.1.free ≡ cells) × (t.1.steps ≡ 0) × (t.0.cells ≡ cells) × IsSound t.1) }
         ensures refused { (cells ≡ 0) ⊎ (65535 < cells) → result ≡ Err opening.Cells }
         ensures admitted { 0 < cells → cells ≤ 65535 → result ≢ Err opening.Cells }
     {
         let (history, pass) = History::open(alloc, cells)?;
-        Ok((Board { history }, Desk { pass }))
+        Ok((Board { history }, Desk::new(alloc, pass)))
     }
 
     /// A new desk, which has seen the same and gets so many of the free rows. With no rows it can tell
@@ -49,11 +50,12 @@ impl Board {
     pub fn split(&self, alloc: Global, desk: &mut Desk, rows: u32) -> Result<Desk, SplitFault>
         requires desk { IsPassOf self.now desk.old }
         ensures same { IsSamePass desk.old desk.new }
+        ensures sound { IsSound desk.new × IfOk result IsSound }
         ensures parts { MatchResult result (IsSplit desk.old rows desk.new) (λ e. (desk.new ≡ desk.old) × IsSplitFault desk.old rows e) }
         ensures too_many { desk.old.free < rows → result ≡ Err (splitting.TooMany desk.old.free) }
     {
         let pass = self.history.split(alloc, &mut desk.pass, rows)?;
-        Ok(Desk { pass })
+        Ok(Desk::new(alloc, pass))
     }
 
     /// Takes in another desk of the board: the desk has then seen the longer list, and owns the rows
@@ -61,22 +63,24 @@ impl Board {
     pub fn join(&self, desk: &mut Desk, other: Desk) -> Result<(), (JoinFault, Desk)>
         requires desks { IsPassOf self.now desk.old × IsPassOf self.now other }
         ensures same { IsSamePass desk.old desk.new × (desk.new.steps ≡ desk.old.steps) }
+        ensures sound { IsSound desk.new × IfErr result (λ e. IsSound e.1) }
         ensures joined { MatchResult result (λ _. IsJoined desk.old other desk.new) (λ e. (desk.new ≡ desk.old) × (e.1 ≡ other)) }
     {
-        let Desk { pass } = other;
-        match self.history.join(&mut desk.pass, pass) {
-            Ok(()) => Ok(()),
-            Err((fault, pass)) => Err((fault, Desk { pass })),
+        let Desk { pass, layers } = other;
+        if let Err((fault, pass)) = self.history.join(&mut desk.pass, pass) {
+            return Err((fault, Desk { pass, layers }));
         }
+        Ok(())
     }
 
-    /// Both desks have then seen the same list, the longer of their two. After a fault each may have
-    /// seen more.
+    /// Both desks have then seen the same list, the longer of their two. A refused call changes nothing.
     pub fn meet(&self, alloc: Global, first: &mut Desk, second: &mut Desk) -> Result<(), AllocError>
         requires desks { IsPassOf self.now first.old × IsPassOf self.now second.old }
+        ensures sound { IsSound first.new × IsSound second.new }
         ensures first { IsSamePass first.old first.new × KeepsRows first.old first.new × IsPrefix first.old.seen first.new.seen × (first.new.steps ≡ first.old.steps) }
         ensures second { IsSamePass second.old second.new × KeepsRows second.old second.new × IsPrefix second.old.seen second.new.seen × (second.new.steps ≡ second.old.steps) }
         ensures met { OnOk result ((first.new.seen ≡ second.new.seen) × (second.new.seen ≡ longer second.old.seen first.old.seen)) }
+        ensures refused { OnErr result ((first.new ≡ first.old) × (second.new ≡ second.old)) }
     {
         self.history.meet(alloc, &mut first.pass, &mut second.pass)
     }
@@ -88,8 +92,10 @@ impl Board {
     pub fn accept(&self, desk: &mut Desk, drawop: &Drawop) -> Result<Reply, BoardFault>
         requires desk { IsPassOf self.now desk.old }
         ensures same { IsSamePass desk.old desk.new }
+        ensures cells { desk.new.cells ≡ self.now.cells }
+        ensures sound { IsSound desk.new }
         ensures grows { IsPrefix desk.old.seen desk.new.seen }
-        ensures reply { IfOk result (λ r. IsReply (point_of desk.new r) drawop.now r) }
+        ensures reply { IfOk result (λ r. IsAnswer (point_of desk.new r) (Accept drawop.now) (Replied r)) }
         ensures answer { MatchResult result (Accepted desk.old drawop.now desk.new) (NotAccepted desk.old drawop.now desk.new) }
         ensures known { HoldsName desk.old.seen drawop.now.name → IsOk result × (desk.new ≡ record desk.old { steps = 0 }) }
         ensures steps { desk.new.made ≡ desk.old.made + desk.new.steps }
@@ -112,6 +118,8 @@ impl Board {
     pub(crate) fn refresh(&self, desk: &mut Desk) -> Result<(), AllocError>
         requires desk { IsPassOf self.now desk.old }
         ensures same { IsSamePass desk.old desk.new }
+        ensures cells { desk.new.cells ≡ self.now.cells }
+        ensures sound { IsSound desk.new }
         ensures grows { IsPrefix desk.old.seen desk.new.seen }
         ensures nothing { AddsNothing desk.old desk.new }
         ensures end { OnOk result (IsCaughtUp desk.old desk.new) }

@@ -1,11 +1,17 @@
 //! A desk: what one caller knows of a board and owns in it.
-ghost use Rattle.std.specs.Prelude.{◌≡◌, ◌↔◌, IsTrue, MatchOption, Contains};
+ghost use Rattle.std.specs.Prelude.{◌≡◌, ◌↔◌, ⊤, IsTrue, IfOk, MatchOption, Contains};
+ghost use Rattle.std.specs.Borrow.{sem, follows_so};
+ghost use mathlib.Core.Option.{none};
 ghost use Rattle.wb_names.specs.History.{HoldsName};
-ghost use Rattle.wb_history.specs.Passes.{IsSound, IsWhole};
+ghost use Rattle.wb_history.specs.Passes.{IsPassOf, IsSound, IsWhole, IsCaughtUp};
 
+use crate::board::Board;
+use crate::layers::{Layers, bring_up, lent};
+use indexmap::IndexMap;
+use std::alloc::{AllocError, Global};
 use std::marker::Model;
 use wb_history::Pass;
-use wb_names::{Drawop, Name};
+use wb_names::{Drawop, Name, PageId};
 
 /// What one caller knows of a board and owns in it: the drawops that it has seen, the places of those
 /// that it added, and rows for more. It changes only when it is lent to a call of the board that it
@@ -14,6 +20,8 @@ use wb_names::{Drawop, Name};
 #[derive(Drop)]
 pub struct Desk {
     pub(crate) pass: Pass,
+    /// For each page that was viewed, what it shows of a beginning of the list.
+    pub(crate) layers: Layers,
 }
 
 impl Model for Desk {
@@ -21,10 +29,46 @@ impl Model for Desk {
 
     ghost Value = { PassValue };
 
+    ghost use Rattle.wb_host.specs.Layers.{AllStand};
+
     ghost view = { λ d. d.pass };
+
+    ghost invariant = { λ d. AllStand d.pass.seen d.layers.entries };
 }
 
 impl Desk {
+    ghost use Rattle.wb_host.specs.Board.{IsAnswer, AskView, Shown};
+    ghost use Rattle.wb_host.specs.Desks.{ReadsOn};
+    ghost use Rattle.wb_host.specs.contracts.desk.Desk.{the_row};
+
+    /// The desk of a pass, on which no page was viewed.
+    pub(crate) fn new(alloc: Global, pass: Pass) -> Desk
+        ensures { result ≡ pass }
+    {
+        Desk {
+            pass,
+            layers: IndexMap::new(alloc),
+        }
+    }
+
+    /// What a page shows, in the order of display, lent from the desk: it reads the history to its end
+    /// first, takes in what came since the page was last viewed, and copies nothing. `Board::view` is
+    /// this and a copy. After a fault the desk may have seen more.
+    pub fn shown(
+        &mut self,
+        alloc: Global,
+        board: &Board,
+        page: PageId,
+    ) -> Result<&[Drawop], AllocError>
+        requires desk { IsPassOf board.now self.old }
+        ensures* desk { sem 𝓛 (follows_so the_row the_row self.entry.ghost_name none (λ _ _. ⊤) (λ d. ReadsOn self.old d
+            × IfOk result (λ shown. IsCaughtUp self.old d × IsAnswer d.seen (AskView page) (Shown shown.now)))) }
+    {
+        board.refresh(self)?;
+        bring_up(&mut self.layers, alloc, page, self.pass.list())?;
+        Ok(lent(&self.layers, page))
+    }
+
     /// The drawops that it has seen, in order of place.
     pub fn list(&self) -> &[Drawop]
         ensures value { result.now ≡ self.now.seen }

@@ -8,12 +8,15 @@
 //! it came from, which is its caller's duty. No call waits for another thread, and nothing is
 //! promised of which of two callers comes first.
 //!
-//! In reading order: `board` has the calls that take a board and a desk, `desk` what a desk tells by
-//! itself, and `reply` the answers to an arrival.
+//! In reading order: `board` has the calls that open, divide and extend a board, `queries` what it
+//! answers of pages, `desk` what a desk tells by itself, and `reply` the answers to an arrival;
+//! `layers` keeps what viewed pages show.
 #![tactic(auto)]
 
 mod board;
 mod desk;
+mod layers;
+mod queries;
 mod reply;
 
 pub use board::Board;

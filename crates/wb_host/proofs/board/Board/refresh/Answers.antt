@@ -1,0 +1,8 @@
+use Rattle.wb_host.proofs.StandingLayers.{still_stand}
+use Rattle.wb_host.proofs.board.Board.refresh.Goals as goal
+
+pub invariant_of-desk : goal.invariant_of-desk
+invariant_of-desk c = still_stand c.desk.inside.pass.seen c.refresh.new.pass.seen c.desk.inside.layers.entries c.refresh.ensures.grows c.desk.invariant
+
+pub invariant_of-desk-2 : goal.invariant_of-desk-2
+invariant_of-desk-2 c = still_stand c.desk.inside.pass.seen c.refresh.new.pass.seen c.desk.inside.layers.entries c.refresh.ensures.grows c.desk.invariant

@@ -1,0 +1,54 @@
+-- A whiteboard of one thread: its calls, their answers, and its runs.
+use Rattle.std.specs.Prelude.{ℕ, List, [], ◌∷◌, ◌++◌}
+use Rattle.wb_names.specs.Values.{DrawopValue, MarkValue}
+use Rattle.wb_names.specs.Marks.{IsReport}
+use Rattle.wb_names.specs.declared.name.PageId.{PageId}
+use Rattle.wb_names.specs.declared.gap.Gap.{Gap}
+use Rattle.wb_gaps.specs.Gaps.{AreGaps}
+use Rattle.wb_gaps.specs.Pages.{ArePages}
+use Rattle.wb_display.specs.Display.{IsView}
+use Rattle.wb_host.specs.Replies.{IsReply}
+use Rattle.wb_host.specs.declared.reply.Reply.{Reply}
+use Rattle.wb_host.specs.declared.reply.Reply.TheVariants.{New}
+
+pub data Call : Type 0 where
+  Accept : (d : DrawopValue) → Call
+  AskGaps : (page : PageId) (marks : List MarkValue) → Call
+  AskReport : (page : PageId) → Call
+  AskPages : Call
+  AskView : (page : PageId) → Call
+
+pub data Answer : Type 0 where
+  Replied : (reply : Reply) → Answer
+  Gaps : (gaps : List Gap) → Answer
+  Marks : (marks : List MarkValue) → Answer
+  Pages : (pages : List PageId) → Answer
+  Shown : (drawops : List DrawopValue) → Answer
+
+-- the answer of a whiteboard that holds this history
+abbrev pub IsAnswer : List DrawopValue → Call → Answer → Type 0
+IsAnswer history (Accept d) (Replied reply) = IsReply history d reply
+IsAnswer history (AskGaps page marks) (Gaps gaps) = AreGaps history page marks gaps
+IsAnswer history (AskReport page) (Marks marks) = IsReport history page marks
+IsAnswer history AskPages (Pages pages) = ArePages history pages
+IsAnswer history (AskView page) (Shown drawops) = IsView history page drawops
+IsAnswer history call answer = ⊥
+
+-- only a new drawop extends the history
+abbrev pub history_after : List DrawopValue → Call → Answer → List DrawopValue
+history_after history (Accept d) (Replied (New i)) = history ++ d ∷ []
+history_after history call answer = history
+
+-- one call of one caller, with its answer
+pub record Step : Type 0 where
+  pub caller : ℕ
+  pub call : Call
+  pub answer : Answer
+
+-- each answer is that of the whiteboard at the history so far
+abbrev pub IsLegalFrom : List DrawopValue → List Step → Type 0
+IsLegalFrom history [] = Unit {0}
+IsLegalFrom history (step ∷ steps) = IsAnswer history step.call step.answer × IsLegalFrom (history_after history step.call step.answer) steps
+
+abbrev pub IsLegalRun : List Step → Type 0
+IsLegalRun steps = IsLegalFrom [] steps
