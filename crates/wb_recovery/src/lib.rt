@@ -23,8 +23,6 @@ pub mod laws;
 mod records;
 mod recovery;
 mod round_trip;
-#[cfg(test)]
-mod tests;
 mod timers;
 mod tuning;
 

@@ -23,8 +23,6 @@ mod parsing;
 mod query;
 mod running;
 mod summary;
-#[cfg(test)]
-mod tests;
 mod words;
 
 pub use checking::check;

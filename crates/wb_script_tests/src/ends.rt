@@ -2,11 +2,11 @@
 
 ghost use Rattle.std.specs.Prelude.{Some, None, false};
 
-use crate::{LineFault, ParseFault, RunFault, Summary, check, parse_line, run};
 use std::cell::Cell;
 use std::process::Abort;
 use std::test::Fail;
 use wb_names::{FromRead, Sink, Source, ToWrite};
+use wb_script::{RunFault, Summary, check, run};
 
 const SCRIPT: &str =
     "board 1 16 1 42\narrive 574201010000002200000007000000070000000100000001000000000000000a0100000001000400012a\nshow 7 1 5 3\n";
@@ -179,116 +179,5 @@ fn a_pause_between_arrivals_ends_no_batch(rt: HostRuntime) -> Result<(), Fail> {
     );
     assert_eq!(rt; source.seen.as_slice(), [0, 0, 0, 0].as_slice());
     assert_eq!(rt; written.get(), "batch 2 0 0 0\n".len());
-    Ok(())
-}
-
-/// Takes bytes, and notes whether they are the next ones of what is wanted.
-#[derive(Drop)]
-struct Watched<'a> {
-    wanted: &'a [u8],
-    strayed: bool,
-}
-
-impl Sink for Watched<'_> {
-    ghost taken = { λ s. None };
-
-    ghost has_failed = { λ s. false };
-
-    fn push(&mut self, bytes: &[u8]) -> Option<usize> {
-        match self.wanted.strip_prefix(bytes) {
-            Some(rest) => self.wanted = rest,
-            None => self.strayed = true,
-        }
-        Some(bytes.len())
-    }
-}
-
-/// Three sources draw on one page at one time; the three drawops come eight times in all.
-const THREE: &str =
-    "board 1 16 1 42\narrive 574201010000002200000007000000070000000100000001000000000000000a0100000001000400012a\narrive 574201010000002000000008000000070000000100000001000000000000000a0300010001026162\narrive 574201010000002000000009000000070000000100000001000000000000000a0300020001026364\narrive 574201010000002200000007000000070000000100000001000000000000000a0100000001000400012a\narrive 574201010000002000000008000000070000000100000001000000000000000a0300010001026162\narrive 574201010000002000000009000000070000000100000001000000000000000a0300020001026364\narrive 574201010000002200000007000000070000000100000001000000000000000a0100000001000400012a\narrive 574201010000002000000008000000070000000100000001000000000000000a0300010001026162\nshow 7 1 5 3\n";
-
-const THREE_TEXT: &str = "batch 3 5 0 0\n     \n*acd*\n     \n";
-
-/// Runs that script. A front of its text is written, and all of it where the run ends well.
-fn run_three(rt: &(impl Abort + AllocGlobal)) -> Result<Summary, RunFault> {
-    let mut sink = Watched {
-        wanted: THREE_TEXT.as_bytes(),
-        strayed: false,
-    };
-    let end = run(rt.alloc(), &mut FromRead::new(THREE.as_bytes()), &mut sink);
-    assert!(rt; !sink.strayed);
-    assert!(rt; end.is_err() || sink.wanted.is_empty());
-    end
-}
-
-#[test]
-fn without_memory_a_front_of_the_text_is_written(rt: HostRuntime) {
-    let whole = Ok(Summary { lines: 10, held: 3 });
-    let end = run_three(&rt);
-    if end.is_err() {
-        assert_eq!(rt; end, Err(RunFault::Memory));
-        assert_eq!(rt; run_three(&rt), whole);
-    } else {
-        assert_eq!(rt; end, whole);
-    }
-}
-
-#[test]
-fn without_memory_nothing_is_checked(rt: HostRuntime) {
-    let count = check(rt.alloc(), &mut FromRead::new(THREE.as_bytes()));
-    if count.is_err() {
-        assert_eq!(rt; count, Err(RunFault::Memory));
-        assert_eq!(rt;
-            check(rt.alloc(), &mut FromRead::new(THREE.as_bytes())),
-            Ok(10)
-        );
-    } else {
-        assert_eq!(rt; count, Ok(10));
-    }
-}
-
-#[test]
-fn lines_need_memory_once_their_digits_are_right(rt: HostRuntime) {
-    for (line, want) in [
-        ("arrive 5", ParseFault::Line(LineFault::Hex)),
-        ("arrive", ParseFault::Line(LineFault::Words)),
-        ("tick x", ParseFault::Line(LineFault::Number)),
-    ] {
-        assert_eq!(rt; parse_line(rt.alloc(), line.as_bytes()).err(), Some(want));
-    }
-    if let Err(fault) = parse_line(rt.alloc(), b"hear 574201040000000400000009") {
-        assert_eq!(rt; fault, ParseFault::Memory);
-    }
-}
-
-#[test]
-fn lines_are_limited(rt: HostRuntime) -> Result<(), Fail> {
-    let mut script = vec![in rt.alloc(); b'#'; 65_536]?;
-    script.push(b'\n')?;
-    assert_eq!(rt;
-        check(rt.alloc(), &mut FromRead::new(script.as_slice())),
-        Ok(1)
-    );
-    let script = vec![in rt.alloc(); b'#'; 65_537]?;
-    assert_eq!(rt;
-        check(rt.alloc(), &mut FromRead::new(script.as_slice())),
-        Err(RunFault::Endless)
-    );
-    let mut script = vec![in rt.alloc(); b'\n'; 1_048_576]?;
-    let mut sink = Watched {
-        wanted: b"",
-        strayed: false,
-    };
-    let end = run(rt.alloc(), &mut FromRead::new(script.as_slice()), &mut sink);
-    assert_eq!(rt;
-        end,
-        Ok(Summary {
-            lines: 1_048_576,
-            held: 0
-        })
-    );
-    script.push(b'#')?;
-    let end = run(rt.alloc(), &mut FromRead::new(script.as_slice()), &mut sink);
-    assert_eq!(rt; end, Err(RunFault::Endless));
     Ok(())
 }

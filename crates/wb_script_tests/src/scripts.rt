@@ -1,11 +1,11 @@
 //! Scripts over memory: what they print, how they end, and which lines parse.
 
-use crate::{Line, LineFault, ParseFault, RunFault, Summary, check, parse_line, run};
 use std::alloc::Global;
 use std::process::Abort;
 use std::test::Fail;
 use wb_codec::ReadFault;
 use wb_names::{FromRead, ToWrite};
+use wb_script::{Line, LineFault, ParseFault, RunFault, Summary, check, parse_line, run};
 
 const BOARD: &str = "board 1 16 1 42\n";
 

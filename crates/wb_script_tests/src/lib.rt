@@ -1,0 +1,14 @@
+//! Tests of wb_script over its public calls: whole scripts with values from outside, ends that fail in
+//! mid-stream or are fed slowly, limits, and want of memory.
+#![tactic(auto)]
+
+#[cfg(test)]
+mod ends;
+#[cfg(test)]
+mod limits;
+#[cfg(test)]
+mod memory;
+#[cfg(test)]
+mod scripts;
+#[cfg(test)]
+mod watched;
