@@ -13,3 +13,4 @@ pub mod NameRows
 pub mod FiredTimers
 pub mod Ticking
 pub mod TimerLaws
+pub mod NoticedNames

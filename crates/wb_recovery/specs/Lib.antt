@@ -8,3 +8,4 @@ pub mod Sound
 pub mod Standing
 pub mod Firing
 pub mod Laws
+pub mod Noticing

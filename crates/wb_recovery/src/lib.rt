@@ -20,6 +20,7 @@ mod draw;
 mod fault;
 mod firing;
 pub mod laws;
+mod missed;
 mod records;
 mod recovery;
 mod round_trip;
@@ -28,6 +29,7 @@ mod tuning;
 
 pub use action::Action;
 pub use fault::{RecoveryFault, TuningFault};
+pub use missed::Missed;
 pub use recovery::Recovery;
 pub use round_trip::distance;
 pub use timers::{AnswerTimer, AskTimer};

@@ -11,6 +11,8 @@ ghost use Rattle.wb_recovery.specs.Events.{Event, Notice, Asked, Got, Tick, name
 ghost use Rattle.wb_recovery.specs.Standing.{StandsFor, Accepts};
 ghost use Rattle.wb_recovery.specs.declared.tuning.Tuning.{Tuning as Constants};
 
+mod notices;
+
 use crate::action::Action;
 use crate::alarms::Alarms;
 use crate::fault::{RecoveryFault, TuningFault};

@@ -1,0 +1,8 @@
+use Rattle.std.proofs.Common.{◌≡◌, take}
+use Rattle.std.specs.Prelude.{if◌then◌else◌}
+use Rattle.wb_names.specs.Values.{NameValue}
+use Rattle.wb_recovery.specs.Noticing.{TakesBack}
+use Rattle.wb_recovery.proofs.recovery.Recovery.take_back.Given as goal
+
+abbrev pub invariant-loop-name : goal.invariant-loop-name
+invariant-loop-name l = TakesBack (take l.name-index l.names) l.initial.self l.self
