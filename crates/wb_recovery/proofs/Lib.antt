@@ -14,3 +14,5 @@ pub mod FiredTimers
 pub mod Ticking
 pub mod TimerLaws
 pub mod NoticedNames
+pub mod StoppedNames
+pub mod FiredThese

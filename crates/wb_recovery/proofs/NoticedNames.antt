@@ -1,5 +1,5 @@
 -- Notices of many names: a step of them, and how they are taken back.
-use Rattle.std.proofs.Common.{◌≡◌, ℕ, ◌+◌, ◌<◌, ◌^◌, Bool, true, false, cond, Option, Some, None, List, [], ◌∷◌, length, get_or, take, refl, ap, ◌∙◌, sym, subst, arith, true≢false, ◌⊎◌, inl, inr, ⊎_elim}
+use Rattle.std.proofs.Common.{◌≡◌, ℕ, ◌+◌, ◌<◌, ◌^◌, Bool, true, false, cond, Option, Some, None, List, [], ◌∷◌, length, get_or, take, refl, ap, ◌∙◌, sym, subst, arith, true≢false}
 use Rattle.std.specs.Prelude.{◌||◌, map, filter, is_none, Contains, Any}
 use Rattle.std.specs.List.{list_all}
 use Rattle.std.specs.Cmp.{eq_by_cmp_equiv}
@@ -18,8 +18,7 @@ use Rattle.wb_recovery.specs.Alarms.{among, Keep, with_due}
 use Rattle.wb_recovery.specs.Faults.{is_delay}
 use Rattle.wb_recovery.specs.Values.{RecoveryValue, timers_at, timers_in, Replaces}
 use Rattle.wb_recovery.specs.Events.{Event, Notice, moment_of, timers_of}
-use Rattle.wb_recovery.specs.Standing.{StandsFor}
-use Rattle.wb_recovery.specs.Noticing.{notices, without_ask, TakesBack, IsAlike}
+use Rattle.wb_recovery.specs.Noticing.{notices, without_ask}
 use Rattle.wb_recovery.specs.Sound.{IsSound}
 use Rattle.wb_recovery.specs.declared.tuning.Tuning.{Tuning}
 use Rattle.wb_recovery.specs.declared.timers.Timers.{Timers}

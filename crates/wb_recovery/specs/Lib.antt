@@ -9,3 +9,4 @@ pub mod Standing
 pub mod Firing
 pub mod Laws
 pub mod Noticing
+pub mod Stopping

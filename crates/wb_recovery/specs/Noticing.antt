@@ -1,5 +1,5 @@
 -- Notices of many names at once.
-use Rattle.std.specs.Prelude.{◌≡◌, ℕ, Bool, ◌&&◌, nat_le, Option, None, List, [], ◌∷◌, if◌then◌else◌}
+use Rattle.std.specs.Prelude.{◌≡◌, ℕ, ◌&&◌, nat_le, Option, None, List, [], ◌∷◌, if◌then◌else◌}
 use Rattle.std.specs.List.{fold, list_all}
 use Rattle.wb_names.specs.Faults.{first_of, fault_unless}
 use Rattle.wb_names.specs.Values.{NameValue}

@@ -16,6 +16,7 @@
 
 mod action;
 mod alarms;
+mod come;
 mod draw;
 mod fault;
 mod firing;
@@ -28,6 +29,7 @@ mod timers;
 mod tuning;
 
 pub use action::Action;
+pub use come::Come;
 pub use fault::{RecoveryFault, TuningFault};
 pub use missed::Missed;
 pub use recovery::Recovery;

@@ -12,6 +12,7 @@ ghost use Rattle.wb_recovery.specs.Standing.{StandsFor, Accepts};
 ghost use Rattle.wb_recovery.specs.declared.tuning.Tuning.{Tuning as Constants};
 
 mod notices;
+mod stopping;
 
 use crate::action::Action;
 use crate::alarms::Alarms;

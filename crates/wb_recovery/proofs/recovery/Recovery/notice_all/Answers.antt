@@ -1,13 +1,11 @@
-use Rattle.std.proofs.Common.{◌≡◌, ℕ, ◌∙◌, sym, ap, subst, refl, arith, true, false, List, length, take, ◌≤◌, eqb-true, true≢false}
+use Rattle.std.proofs.Common.{◌≡◌, ℕ, ◌∙◌, sym, ap, subst, refl, arith, List, length, take, ◌≤◌, eqb-true, true≢false}
 use Rattle.std.specs.Prelude.{◌==◌}
 use Rattle.std.proofs.lemmas.List.{take_all}
 use Rattle.wb_names.specs.Values.{NameValue}
 use Rattle.wb_recovery.specs.Timing.{noticed}
 use Rattle.wb_recovery.specs.Values.{RecoveryValue, timers_in, Replaces}
 use Rattle.wb_recovery.specs.Events.{Event, timers_of, moment_of}
-use Rattle.wb_recovery.specs.Standing.{StandsFor}
 use Rattle.wb_recovery.specs.Noticing.{notices}
-use Rattle.wb_recovery.specs.declared.tuning.Tuning.{Tuning}
 use Rattle.wb_recovery.specs.declared.missed.Missed.{Missed}
 use Rattle.wb_recovery.proofs.Outcomes.{on_no_err}
 use Rattle.wb_recovery.proofs.NoticedNames.{notices_first, notices_none, undone, undone_first, undone_more, notices_more, stands_more}

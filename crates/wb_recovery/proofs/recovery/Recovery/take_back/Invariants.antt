@@ -1,6 +1,4 @@
-use Rattle.std.proofs.Common.{◌≡◌, take}
-use Rattle.std.specs.Prelude.{if◌then◌else◌}
-use Rattle.wb_names.specs.Values.{NameValue}
+use Rattle.std.proofs.Common.{take}
 use Rattle.wb_recovery.specs.Noticing.{TakesBack}
 use Rattle.wb_recovery.proofs.recovery.Recovery.take_back.Given as goal
 

@@ -1,0 +1,262 @@
+-- Names that have come: what becomes of their timers, and what then fires.
+use Rattle.std.proofs.Common.{◌≡◌, ℕ, ◌+◌, ◌*◌, ◌<◌, ◌≤◌, ◌^◌, Bool, true, false, cond, Option, Some, None, List, [], ◌∷◌, length, get_or, take, refl, ap, ◌∙◌, sym, subst, arith, true≢false}
+use Rattle.std.specs.Prelude.{◌||◌, ◌&&◌, not, filter, is_some}
+use Rattle.std.specs.List.{list_all}
+use Rattle.std.specs.List.Sorted.{IsStrictlySortedBy}
+use Rattle.std.specs.Ordering.{is_eq}
+use Rattle.std.proofs.lemmas.List.Folds.{list_any_more, list_all_at}
+use Rattle.std.proofs.lemmas.List.Sums.{fold_more}
+use Rattle.std.proofs.lemmas.List.Kept.{IsStrictlySortedBy-filter}
+use Rattle.std.proofs.lemmas.Bool.Decides.{nat_tests}
+use Rattle.wb_names.specs.Values.{NameValue}
+use Rattle.wb_names.specs.Orders.{same_name, name_cmp}
+use Rattle.wb_names.specs.Listing.{Lists}
+use Rattle.wb_names.proofs.Orders.{name_total, same_name-is, and_both}
+use Rattle.wb_names.proofs.Listings.{Contains-filter, Contains-from_filter, one_list, lists_same}
+use Rattle.wb_recovery.specs.Timing.{ask_due, answer_due, got, ticked, is_standing, is_ask_due, is_answer_due, quiet_after}
+use Rattle.wb_recovery.specs.Alarms.{among, is_until}
+use Rattle.wb_recovery.specs.Faults.{is_delay}
+use Rattle.wb_recovery.specs.Values.{RecoveryValue, timers_at, timers_in, names_in, Replaces}
+use Rattle.wb_recovery.specs.Events.{Event, Got, Tick, names_of, timers_of, due_asks, due_answers, word_for}
+use Rattle.wb_recovery.specs.Standing.{StandsFor}
+use Rattle.wb_recovery.specs.Firing.{with_ask_fired, with_answer_fired}
+use Rattle.wb_recovery.specs.Stopping.{gots, has_come, got_each, EndsAll, FiresThese, with_these_fired}
+use Rattle.wb_recovery.specs.declared.come.Come.{Come}
+use Rattle.wb_recovery.specs.declared.tuning.Tuning.{Tuning}
+use Rattle.wb_recovery.specs.declared.timers.Timers.{Timers}
+use Rattle.wb_recovery.specs.declared.timers.AskTimer.{AskTimer}
+use Rattle.wb_recovery.specs.declared.timers.AnswerTimer.{AnswerTimer}
+use Rattle.wb_recovery.proofs.AlarmOrder.{name_ties}
+use Rattle.wb_recovery.proofs.Counting.{list_due_asks}
+use Rattle.wb_recovery.proofs.NameLists.{listed_of}
+use Rattle.wb_recovery.proofs.Ticking.{among_listed, asks_until, answers_until}
+use Rattle.wb_recovery.proofs.FiredTimers.{ask_stays, answer_stays, quiet_stays}
+
+-- ---- one name after another
+pub come_more : (come : List Come) (i : ℕ) (c : Come) (n : NameValue) → i < length come → c ≡ get_or come i c → has_come (take (i + 1) come) n ≡ (has_come (take i come) n || same_name c.name n)
+come_more come i c n lt is = list_any_more (λ (c : Come). same_name c.name n) come i c lt ∙ ap (λ (k : Come). has_come (take i come) n || same_name k.name n) (sym is)
+
+-- a name is put into the set of those that have come
+pub set_more : (come : List Come) (i : ℕ) (c : Come) (n : NameValue) → i < length come → c ≡ get_or come i c → (old new : NameValue → Bool) → old n ≡ has_come (take i come) n → new n ≡ cond (is_eq (name_cmp c.name n)) true (old n) → new n ≡ has_come (take (i + 1) come) n
+set_more come i c n lt is old new had r = r ∙ ap (λ (b : Bool). cond b true (old n)) (sym (name_ties c.name n)) ∙ ap (λ (b : Bool). cond (same_name c.name n) true b) had ∙ bits (same_name c.name n) (has_come (take i come) n) ∙ sym (come_more come i c n lt is) where
+  bits : (a b : Bool) → cond a true b ≡ (b || a)
+  bits true true = refl
+  bits true false = refl
+  bits false true = refl
+  bits false false = refl
+
+pub come_delay : (come : List Come) (i : ℕ) (c : Come) → i < length come → c ≡ get_or come i c → list_all (λ (c : Come). is_delay c.delay) come ≡ true → c.delay < 2 ^ 24
+come_delay come i c lt is h = from (is_delay c.delay) refl where
+  from : (b : Bool) → is_delay c.delay ≡ b → c.delay < 2 ^ 24
+  from true e = grind (arith, nat_tests)
+  from false e = absurd (true≢false (sym h ∙ list_all_at (λ (c : Come). is_delay c.delay) come i c lt (ap (λ (k : Come). is_delay k.delay) (sym is) ∙ e)))
+
+pub got_more : (now : ℕ) (come : List Come) (i : ℕ) (c : Come) → i < length come → c ≡ get_or come i c → (f mid new : NameValue → Timers)
+    → ((n : NameValue) → mid n ≡ got_each now n (f n) (take i come))
+    → ((n : NameValue) → new n ≡ cond (same_name c.name n) (got now c.delay (mid c.name)) (mid n))
+    → (n : NameValue) → new n ≡ got_each now n (f n) (take (i + 1) come)
+got_more now come i c lt is f mid new so_far r n =
+    r n ∙ from (same_name c.name n) refl
+    ∙ ap (λ (k : Come). cond (same_name k.name n) (got now k.delay (got_each now n (f n) (take i come))) (got_each now n (f n) (take i come))) is
+    ∙ sym (fold_more (λ (before : Timers) (k : Come). cond (same_name k.name n) (got now k.delay before) before) (f n) come i c lt) where
+      from : (b : Bool) → same_name c.name n ≡ b → cond b (got now c.delay (mid c.name)) (mid n) ≡ cond b (got now c.delay (got_each now n (f n) (take i come))) (got_each now n (f n) (take i come))
+      from true h = ap (λ (k : NameValue). got now c.delay (mid k)) (same_name-is c.name n h) ∙ ap (got now c.delay) (so_far n)
+      from false h = so_far n
+
+-- ---- the timers of a name, by whether it has come
+not_standing : (s : Timers) → is_standing s ≡ false → (s.ask ≡ None) × (s.answer ≡ None)
+not_standing s h = from s.ask s.answer h where
+  from : (a : Option AskTimer) (b : Option AnswerTimer) → (is_some a || is_some b) ≡ false → (a ≡ None) × (b ≡ None)
+  from None None e = (refl, refl)
+  from None (Some b) e = absurd (true≢false e)
+  from (Some a) b e = absurd (true≢false e)
+
+got_stops : (now delay : ℕ) (s : Timers) → is_standing (got now delay s) ≡ false
+got_stops now delay s = from (is_standing s) refl where
+  from : (b : Bool) → is_standing s ≡ b → is_standing (cond b (record { ask = None; answer = None; quiet = now + 3 * delay }) s) ≡ false
+  from true e = refl
+  from false e = e
+
+stopped_stays : (now : ℕ) (n : NameValue) (s : Timers) (come : List Come) → is_standing s ≡ false → got_each now n s come ≡ s
+stopped_stays now n s [] h = refl
+stopped_stays now n s (c ∷ come) h = ap (λ (k : Timers). got_each now n k come) (from (same_name c.name n)) ∙ stopped_stays now n s come h where
+  from : (b : Bool) → cond b (got now c.delay s) s ≡ s
+  from true = ap (λ (b : Bool). cond b (record { ask = None; answer = None; quiet = now + 3 * c.delay }) s) h
+  from false = refl
+
+pub not_come : (now : ℕ) (n : NameValue) (s : Timers) (come : List Come) → has_come come n ≡ false → got_each now n s come ≡ s
+not_come now n s [] h = refl
+not_come now n s (c ∷ come) h = from (not_come now n s come) (same_name c.name n) h where
+  from : (has_come come n ≡ false → got_each now n s come ≡ s) → (b : Bool) → (b || has_come come n) ≡ false → got_each now n (cond b (got now c.delay s) s) come ≡ s
+  from rest true e = absurd (true≢false e)
+  from rest false e = rest e
+
+pub come_stops : (now : ℕ) (n : NameValue) (s : Timers) (come : List Come) → has_come come n ≡ true → is_standing (got_each now n s come) ≡ false
+come_stops now n s [] h = absurd (true≢false (sym h))
+come_stops now n s (c ∷ come) h = from (come_stops now n s come) (same_name c.name n) h where
+  from : (has_come come n ≡ true → is_standing (got_each now n s come) ≡ false) → (b : Bool) → (b || has_come come n) ≡ true → is_standing (got_each now n (cond b (got now c.delay s) s) come) ≡ false
+  from rest true e = ap is_standing (stopped_stays now n (got now c.delay s) come (got_stops now c.delay s)) ∙ got_stops now c.delay s
+  from rest false e = rest e
+
+-- a test of timers that fails where none stands, by whether the name has come
+module _ (p : Timers → Bool) (fails : (s : Timers) → is_standing s ≡ false → p s ≡ false) where
+  pub passes_after : (now : ℕ) (n : NameValue) (s : Timers) (come : List Come) → p (got_each now n s come) ≡ (not (has_come come n) && p s)
+  passes_after now n s come = from (has_come come n) refl where
+    from : (b : Bool) → has_come come n ≡ b → p (got_each now n s come) ≡ (not b && p s)
+    from true e = fails _ (come_stops now n s come e)
+    from false e = ap p (not_come now n s come e)
+
+pub no_ask_due : (now : ℕ) (s : Timers) → is_standing s ≡ false → is_ask_due now s.ask ≡ false
+no_ask_due now s h = ap (is_ask_due now) (not_standing s h).0
+
+pub no_answer_due : (now : ℕ) (s : Timers) → is_standing s ≡ false → is_answer_due now s.answer ≡ false
+no_answer_due now s h = ap (is_answer_due now) (not_standing s h).1
+
+-- what has no timers does not fire
+ticked_stays : (t : Tuning) (now word : ℕ) (s : Timers) → is_ask_due now s.ask ≡ false → is_answer_due now s.answer ≡ false → ticked t now word s ≡ s
+ticked_stays t now word s a b =
+    ap (λ (o : Option AskTimer). record (ticked t now word s) { ask = o }) (ask_stays t now word s.ask a)
+    ∙ ap (λ (o : Option AnswerTimer). record s { answer = o; quiet = quiet_after now s.quiet s.answer }) (answer_stays now s.answer b)
+    ∙ ap (λ (q : ℕ). record s { quiet = q }) (quiet_stays now s.quiet s.answer b)
+
+-- ---- the events
+pub timers_gots : (t : Tuning) (now : ℕ) (events : List Event) (come : List Come) (n : NameValue) → timers_of t (gots now events come) n ≡ got_each now n (timers_of t events n) come
+timers_gots t now events [] n = refl
+timers_gots t now events (c ∷ come) n = timers_gots t now (Got c.name now c.delay ∷ events) come n
+
+pub names_gots : (now : ℕ) (events : List Event) (come : List Come) → names_of (gots now events come) ≡ names_of events
+names_gots now events [] = refl
+names_gots now events (c ∷ come) = names_gots now (Got c.name now c.delay ∷ events) come
+
+-- ---- those of the due names that have not come
+abbrev pub others_of : List Come → List NameValue → List NameValue
+others_of come names = filter (λ n. not (has_come come n)) names
+
+pub listed_others : (come : List Come) (p : NameValue → Bool) (names : List NameValue) → Lists name_cmp (λ n. p n ≡ true) names → Lists name_cmp (λ n. (not (has_come come n) && p n) ≡ true) (others_of come names)
+listed_others come p names l = record {
+  rising = IsStrictlySortedBy-filter name_cmp _ names l.rising;
+  members = λ n. ((λ h. let g = Contains-from_filter (λ m. not (has_come come m)) names n h in both _ _ g.1 ((l.members n).0 g.0)), (λ h. let g = and_both _ _ h in Contains-filter (λ m. not (has_come come m)) names n ((l.members n).1 g.1) g.0));
+} where
+  both : (a b : Bool) → a ≡ true → b ≡ true → (a && b) ≡ true
+  both a b e f = ap (λ (c : Bool). c && b) e ∙ f
+
+module _ (t : Tuning) (now : ℕ) (come : List Come) (events : List Event) (value : RecoveryValue) (s : StandsFor t events value) where
+  pub timers_then : (n : NameValue) → timers_of t (gots now events come) n ≡ got_each now n (timers_in value n) come
+  timers_then n = timers_gots t now events come n ∙ ap (λ (k : Timers). got_each now n k come) (sym (s.timers n))
+
+  ask_then : (n : NameValue) → is_ask_due now (timers_of t (gots now events come) n).ask ≡ (not (has_come come n) && is_ask_due now (timers_in value n).ask)
+  ask_then n = ap (λ (k : Timers). is_ask_due now k.ask) (timers_then n) ∙ passes_after (λ k. is_ask_due now k.ask) (no_ask_due now) now n (timers_in value n) come
+
+  answer_then : (n : NameValue) → is_answer_due now (timers_of t (gots now events come) n).answer ≡ (not (has_come come n) && is_answer_due now (timers_in value n).answer)
+  answer_then n = ap (λ (k : Timers). is_answer_due now k.answer) (timers_then n) ∙ passes_after (λ k. is_answer_due now k.answer) (no_answer_due now) now n (timers_in value n) come
+
+  pub others_asking : (asking : List NameValue) → Lists name_cmp (λ n. (not (has_come come n) && is_ask_due now (timers_in value n).ask) ≡ true) asking → asking ≡ due_asks (names_of (gots now events come)) (timers_of t (gots now events come)) now
+  others_asking asking l = one_list name_total (λ n. is_ask_due now (timers_of t (gots now events come) n).ask ≡ true) _ _
+      (lists_same name_total _ _ _ (λ n h. ask_then n ∙ h) (λ n h. sym (ask_then n) ∙ h) l)
+      (listed_of (λ (r : Timers). is_ask_due now r.ask) refl t (gots now events come))
+
+  pub others_answering : (answering : List NameValue) → Lists name_cmp (λ n. (not (has_come come n) && is_answer_due now (timers_in value n).answer) ≡ true) answering → answering ≡ due_answers (names_of (gots now events come)) (timers_of t (gots now events come)) now
+  others_answering answering l = one_list name_total (λ n. is_answer_due now (timers_of t (gots now events come) n).answer ≡ true) _ _
+      (lists_same name_total _ _ _ (λ n h. answer_then n ∙ h) (λ n h. sym (answer_then n) ∙ h) l)
+      (listed_of (λ (r : Timers). is_answer_due now r.answer) refl t (gots now events come))
+
+-- Those that have not come fire, and those that have are stopped: the same as the one after the other.
+module _ (t : Tuning) (now : ℕ) (words : List ℕ) (come : List Come) (f : NameValue → Timers) (asking answering : List NameValue)
+    (asks : Lists name_cmp (λ n. (not (has_come come n) && is_ask_due now (f n).ask) ≡ true) asking)
+    (answers : Lists name_cmp (λ n. (not (has_come come n) && is_answer_due now (f n).answer) ≡ true) answering) where
+  among_asking : (n : NameValue) → among asking n ≡ (not (has_come come n) && is_ask_due now (f n).ask)
+  among_asking = among_listed (λ n. not (has_come come n) && is_ask_due now (f n).ask) asking asks
+
+  among_answering : (n : NameValue) → among answering n ≡ (not (has_come come n) && is_answer_due now (f n).answer)
+  among_answering = among_listed (λ n. not (has_come come n) && is_answer_due now (f n).answer) answering answers
+
+  fired_here : (n : NameValue) (a b : Bool) → is_ask_due now (f n).ask ≡ a → is_answer_due now (f n).answer ≡ b
+      → (let k = cond a (with_ask_fired t now words asking f n) (f n) in cond b (with_answer_fired now (λ m. k) n) k) ≡ ticked t now (word_for words asking n) (f n)
+  fired_here n true true e g = refl
+  fired_here n false true e g = ap (λ (o : Option AskTimer). record (ticked t now (word_for words asking n) (f n)) { ask = o }) (sym (ask_stays t now (word_for words asking n) (f n).ask e))
+  fired_here n a false e g =
+      one a e
+      ∙ ap (λ (o : Option AnswerTimer). record (with_ask_fired t now words asking f n) { answer = o }) (sym (answer_stays now (f n).answer g))
+      ∙ ap (λ (q : ℕ). record (ticked t now (word_for words asking n) (f n)) { quiet = q }) (sym (quiet_stays now (f n).quiet (f n).answer g)) where
+        one : (c : Bool) → is_ask_due now (f n).ask ≡ c → cond c (with_ask_fired t now words asking f n) (f n) ≡ with_ask_fired t now words asking f n
+        one true h = refl
+        one false h = ap (λ (o : Option AskTimer). record (f n) { ask = o }) (sym (ask_stays t now (word_for words asking n) (f n).ask h))
+
+  pub stopped_then_fired : (n : NameValue) → got_each now n (with_these_fired t now words asking answering f n) come ≡ ticked t now (word_for words asking n) (got_each now n (f n) come)
+  stopped_then_fired n = ap (λ (k : Timers). got_each now n k come) (unfolded n) ∙ from (has_come come n) refl where
+    fires : (n : NameValue) (a b : Bool) → Timers
+    fires n a b = let k = cond a (with_ask_fired t now words asking f n) (f n) in cond b (with_answer_fired now (λ m. k) n) k
+
+    unfolded : (n : NameValue) → with_these_fired t now words asking answering f n ≡ (let k = cond (not (has_come come n) && is_ask_due now (f n).ask) (with_ask_fired t now words asking f n) (f n) in cond (not (has_come come n) && is_answer_due now (f n).answer) (with_answer_fired now (λ m. k) n) k)
+    unfolded n =
+        ap (λ (b : Bool). let k = cond (among asking n) (with_ask_fired t now words asking f n) (f n) in cond b (with_answer_fired now (λ m. k) n) k) (among_answering n)
+        ∙ ap (λ (a : Bool). let k = cond a (with_ask_fired t now words asking f n) (f n) in cond (not (has_come come n) && is_answer_due now (f n).answer) (with_answer_fired now (λ m. k) n) k) (among_asking n)
+
+    from : (c : Bool) → has_come come n ≡ c → got_each now n (let k = cond (not c && is_ask_due now (f n).ask) (with_ask_fired t now words asking f n) (f n) in cond (not c && is_answer_due now (f n).answer) (with_answer_fired now (λ m. k) n) k) come ≡ ticked t now (word_for words asking n) (got_each now n (f n) come)
+    from true e = let stops = come_stops now n (f n) come e in sym (ticked_stays t now (word_for words asking n) (got_each now n (f n) come) (no_ask_due now (got_each now n (f n) come) stops) (no_answer_due now (got_each now n (f n) come) stops))
+    from false e =
+        ap (λ (k : Timers). got_each now n k come) (fired_here n (is_ask_due now (f n).ask) (is_answer_due now (f n).answer) refl refl)
+        ∙ not_come now n (ticked t now (word_for words asking n) (f n)) come e
+        ∙ ap (ticked t now (word_for words asking n)) (sym (not_come now n (f n) come e))
+
+-- the names that fire, told of a set that holds those that have come
+pub others_same : (come : List Come) (test : NameValue → Bool) (names : List NameValue) → ((n : NameValue) → test n ≡ has_come come n) → filter (λ n. not (test n)) names ≡ others_of come names
+others_same come test [] h = refl
+others_same come test (n ∷ names) h =
+    ap (λ (b : Bool). cond (not b) (n ∷ filter (λ m. not (test m)) names) (filter (λ m. not (test m)) names)) (h n)
+    ∙ ap (λ (ms : List NameValue). cond (not (has_come come n)) (n ∷ ms) ms) (others_same come test names h)
+
+pub fewer_others : (come : List Come) (names : List NameValue) → length (others_of come names) ≤ length names
+fewer_others come [] = omega arith
+fewer_others come (n ∷ names) = from (fewer_others come names) (not (has_come come n)) where
+  from : length (others_of come names) ≤ length names → (b : Bool) → length (cond b (n ∷ others_of come names) (others_of come names)) ≤ length (n ∷ names)
+  from rest true = omega arith
+  from rest false = omega arith
+
+-- what a recovery stands for once names have come and what is due has fired
+pub stops_and_ticks : (now : ℕ) (words : List ℕ) (come : List Come) (asking answering : List NameValue) (old mid end new : RecoveryValue)
+    → Lists name_cmp (λ n. (not (has_come come n) && is_ask_due now (timers_in old n).ask) ≡ true) asking
+    → Lists name_cmp (λ n. (not (has_come come n) && is_answer_due now (timers_in old n).answer) ≡ true) answering
+    → FiresThese now words asking answering old mid → EndsAll now come mid end
+    → new.tuning ≡ end.tuning → new.records ≡ end.records → new.moment ≡ now
+    → (t : Tuning) (events : List Event) → StandsFor t events old → StandsFor t (Tick now words ∷ gots now events come) new
+stops_and_ticks now words come asking answering old mid end new l k fires ends a b m t events s = record {
+  tuning = a ∙ ends.tuning ∙ fires.tuning ∙ s.tuning;
+  moment = m;
+  timers = λ n.
+      ap (λ records. timers_at records n) b
+      ∙ ends.timers n
+      ∙ ap (λ (r : Timers). got_each now n r come) (fires.timers n)
+      ∙ ap (λ (c : Tuning). got_each now n (with_these_fired c now words asking answering (timers_in old) n) come) s.tuning
+      ∙ stopped_then_fired t now words come (timers_in old) asking answering l k n
+      ∙ ap (λ (xs : List NameValue). ticked t now (word_for words xs n) (got_each now n (timers_in old n) come)) (others_asking t now come events old s asking l)
+      ∙ ap (ticked t now (word_for words (due_asks (names_of (gots now events come)) (timers_of t (gots now events come)) now) n)) (sym (timers_then t now come events old s n));
+}
+
+-- the timers of one name are replaced by what an arrival makes of them
+pub got_stands : (now : ℕ) (c : Come) (old new : RecoveryValue) (after : Timers) (mid : RecoveryValue) → new ≡ mid → Replaces old mid c.name after → after ≡ got now c.delay (timers_in old c.name) → (n : NameValue) → timers_in new n ≡ cond (same_name c.name n) (got now c.delay (timers_in old c.name)) (timers_in old n)
+got_stands now c old new after mid is r e n = ap (λ (v : RecoveryValue). timers_in v n) is ∙ r.timers n ∙ ap (λ (s : Timers). cond (same_name c.name n) s (timers_in old n)) e
+
+-- the requests, and the answers, that are due of names that have not come, told of a recovery's alarms
+module _ (now : ℕ) (inside value : RecoveryValue) (is : inside ≡ value) (come : List Come) (test : NameValue → Bool) (tests : (n : NameValue) → test n ≡ has_come come n) (due now_due xs : List NameValue) (same : now_due ≡ due) (left : xs ≡ filter (λ n. not (test n)) now_due) where
+  left_over : xs ≡ others_of come due
+  left_over = left ∙ ap (filter (λ n. not (test n))) same ∙ others_same come test due tests
+
+  pub asking_left : Lists name_cmp (λ n. is_until now (ask_due (timers_in inside n)) ≡ true) due → Lists name_cmp (λ n. (not (has_come come n) && is_ask_due now (timers_in value n).ask) ≡ true) xs
+  asking_left l = subst (λ (v : RecoveryValue). Lists name_cmp (λ n. (not (has_come come n) && is_ask_due now (timers_in v n).ask) ≡ true) xs) is
+      (subst (λ (ys : List NameValue). Lists name_cmp (λ n. (not (has_come come n) && is_ask_due now (timers_in inside n).ask) ≡ true) ys) (sym left_over)
+      (listed_others come (λ n. is_ask_due now (timers_in inside n).ask) due (asks_until now inside due l)))
+
+  pub answering_left : Lists name_cmp (λ n. is_until now (answer_due (timers_in inside n)) ≡ true) due → Lists name_cmp (λ n. (not (has_come come n) && is_answer_due now (timers_in value n).answer) ≡ true) xs
+  answering_left l = subst (λ (v : RecoveryValue). Lists name_cmp (λ n. (not (has_come come n) && is_answer_due now (timers_in v n).answer) ≡ true) xs) is
+      (subst (λ (ys : List NameValue). Lists name_cmp (λ n. (not (has_come come n) && is_answer_due now (timers_in inside n).answer) ≡ true) ys) (sym left_over)
+      (listed_others come (λ n. is_answer_due now (timers_in inside n).answer) due (answers_until now inside due l)))
+
+  -- there are words for all
+  pub words_left : IsStrictlySortedBy name_cmp (names_in inside) → (words : ℕ) → Lists name_cmp (λ n. is_until now (ask_due (timers_in inside n)) ≡ true) due → length (due_asks (names_in value) (timers_in value) now) ≤ words → length xs ≤ words
+  words_left rises words l h =
+      let all : due ≡ due_asks (names_in inside) (timers_in inside) now = one_list name_total _ _ _ l (list_due_asks inside rises now) in
+      let there : length due ≡ length (due_asks (names_in value) (timers_in value) now) = ap length all ∙ ap (λ (v : RecoveryValue). length (due_asks (names_in v) (timers_in v) now)) is in
+      let here : length xs ≡ length (others_of come due) = ap length left_over in
+      let fewer = fewer_others come due in
+      omega arith

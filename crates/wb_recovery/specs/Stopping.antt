@@ -1,0 +1,54 @@
+-- Names that have come, told of before a tick.
+use Rattle.std.specs.Prelude.{◌≡◌, ℕ, Bool, ◌&&◌, nat_le, Option, List, [], ◌∷◌, if◌then◌else◌}
+use Rattle.std.specs.List.{fold, list_all, list_any}
+use Rattle.wb_names.specs.Faults.{first_of, fault_unless}
+use Rattle.wb_names.specs.Values.{NameValue}
+use Rattle.wb_names.specs.Orders.{same_name}
+use Rattle.wb_recovery.specs.Alarms.{among}
+use Rattle.wb_recovery.specs.Events.{Event, Got}
+use Rattle.wb_recovery.specs.Faults.{is_moment, is_delay}
+use Rattle.wb_recovery.specs.Timing.{got}
+use Rattle.wb_recovery.specs.Firing.{with_ask_fired, with_answer_fired}
+use Rattle.wb_recovery.specs.Values.{RecoveryValue, timers_in}
+use Rattle.wb_recovery.specs.declared.fault.RecoveryFault.{RecoveryFault}
+use Rattle.wb_recovery.specs.declared.fault.RecoveryFault.TheVariants.{BackInTime, Range}
+use Rattle.wb_recovery.specs.declared.come.Come.{Come}
+use Rattle.wb_recovery.specs.declared.tuning.Tuning.{Tuning}
+use Rattle.wb_recovery.specs.declared.timers.Timers.{Timers}
+
+-- the calls, once each of these names has come, in their order
+abbrev pub gots : ℕ → List Event → List Come → List Event
+gots now events come = fold (λ before c. Got c.name now c.delay ∷ before) events come
+
+-- the name has come
+abbrev pub has_come : List Come → NameValue → Bool
+has_come come n = list_any (λ c. same_name c.name n) come
+
+-- the first fault of such a call
+abbrev pub gots_fault : ℕ → ℕ → List Come → Option RecoveryFault
+gots_fault last now come = first_of (
+    fault_unless (nat_le last now) BackInTime
+    ∷ fault_unless (list_all (λ c. is_delay c.delay) come && is_moment now) Range
+    ∷ [])
+
+-- the timers of a name, once these have come
+abbrev pub got_each : ℕ → NameValue → Timers → List Come → Timers
+got_each now n s come = fold (λ before c. if same_name c.name n then got now c.delay before else before) s come
+
+pub record EndsAll (now : ℕ) (come : List Come) (old new : RecoveryValue) : Type 0 where
+  pub tuning : new.tuning ≡ old.tuning
+  pub moment : new.moment ≡ old.moment
+  pub timers : (n : NameValue) → timers_in new n ≡ got_each now n (timers_in old n) come
+
+-- the timers of a name, once these requests and answers have fired
+abbrev pub with_asks_fired : Tuning → ℕ → List ℕ → List NameValue → (NameValue → Timers) → NameValue → Timers
+with_asks_fired t now words asking timers n = if among asking n then with_ask_fired t now words asking timers n else timers n
+
+abbrev pub with_these_fired : Tuning → ℕ → List ℕ → List NameValue → List NameValue → (NameValue → Timers) → NameValue → Timers
+with_these_fired t now words asking answering timers n =
+    if among answering n then with_answer_fired now (with_asks_fired t now words asking timers) n else with_asks_fired t now words asking timers n
+
+pub record FiresThese (now : ℕ) (words : List ℕ) (asking answering : List NameValue) (old new : RecoveryValue) : Type 0 where
+  pub tuning : new.tuning ≡ old.tuning
+  pub moment : new.moment ≡ old.moment
+  pub timers : (n : NameValue) → timers_in new n ≡ with_these_fired old.tuning now words asking answering (timers_in old) n
