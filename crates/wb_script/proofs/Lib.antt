@@ -2,7 +2,8 @@ pub mod Digits
 pub mod Arrivals
 pub mod KnownBytes
 pub mod LineBytes
-pub mod Histories
+pub mod Boards
+pub mod Batches
 pub mod InputLines
 pub mod Outcomes
 pub mod Endings

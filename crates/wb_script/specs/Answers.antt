@@ -5,13 +5,13 @@ use Rattle.std.specs.Fmt.{decimal}
 use Rattle.wb_names.specs.Values.{DrawopValue, MarkValue}
 use Rattle.wb_names.specs.declared.name.PageId.{PageId}
 use Rattle.wb_display.specs.Canvas.{canvas_text, is_canvas_size}
-use Rattle.wb_script.specs.declared.batch.Batch.{Batch}
+use Rattle.wb_names.specs.Arrivals.{Counts}
 use Rattle.wb_script.specs.declared.query.Query.{Query}
 use Rattle.wb_script.specs.declared.query.Query.TheVariants.{Canvas, Report, Pages}
 use Rattle.wb_script.specs.Queries.{view_of, report_of, pages_of}
 
 -- the line that ends a batch
-abbrev pub batch_line : Batch → List ℕ
+abbrev pub batch_line : Counts → List ℕ
 batch_line n = codes "batch " ++ (decimal n.fresh ++ (codes " " ++ (decimal n.again ++ (codes " " ++ (decimal n.clash ++ (codes " " ++ (decimal n.left ++ codes "\n")))))))
 
 -- two numbers on a line

@@ -3,7 +3,7 @@ pub mod Parsing
 pub mod Faults
 pub mod Board
 pub mod Reply
-pub mod Indexed
+pub mod Batches
 pub mod Queries
 pub mod Answers
 pub mod Script

@@ -1,5 +1,5 @@
 -- What a line of a script says, or its first fault.
-use Rattle.std.specs.Prelude.{◌≡◌, ◌≤◌, IfErr, ℕ, ◌-◌, ◌^◌, List, [], ◌∷◌, Bool, true, false, nat_eq, Option, Some, None, Result, Ok, Err, if◌then◌else◌, codes}
+use Rattle.std.specs.Prelude.{◌≡◌, ◌<◌, ◌≤◌, IfErr, ℕ, ◌-◌, ◌^◌, List, [], ◌∷◌, Bool, true, false, nat_eq, Option, Some, None, Result, Ok, Err, if◌then◌else◌, codes}
 use Rattle.std.specs.Str.{bytes_eq}
 use Rattle.wb_names.specs.declared.name.PageId.{PageId}
 use Rattle.wb_codec.specs.Reading.{reading}
@@ -166,9 +166,9 @@ line_of_words (word ∷ arguments) = if begins_comment word then Ok Skip else co
 abbrev pub line_of : List ℕ → Result Line LineFault
 line_of bytes = line_of_words (words bytes)
 
--- What a line carries is in its range: a board has at most 65,535 cells, and a canvas is not too large.
+-- What a line carries is in its range: a board has 1 to 65,535 cells, and a canvas is not too large.
 abbrev pub IsWithin : Line → Type 0
-IsWithin (Board member cells workers seed) = cells ≤ 65535
+IsWithin (Board member cells workers seed) = (0 < cells) × (cells ≤ 65535)
 IsWithin (Show page width height) = is_canvas_size width height ≡ true
 IsWithin Skip = Unit {0}
 IsWithin (Arrive d) = Unit {0}

@@ -1,10 +1,12 @@
--- What became of an arrival, as a reply tells it.
+-- What became of an arrival, as the reply of a board tells it.
+use Rattle.std.specs.Prelude.{Option, Some, None}
 use Rattle.wb_names.specs.Arrivals.{Outcome, Fresh, Known, Clashed, Left}
-use Rattle.wb_script.specs.declared.history.Reply.{Reply}
-use Rattle.wb_script.specs.declared.history.Reply.TheVariants as replies
+use Rattle.wb_host.specs.declared.reply.Reply.{Reply}
+use Rattle.wb_host.specs.declared.reply.Reply.TheVariants.{New, Again, Clash}
 
-abbrev pub outcome_of : Reply → Outcome
-outcome_of (replies.New place) = Fresh place
-outcome_of (replies.Again place) = Known place
-outcome_of (replies.Clash place) = Clashed place
-outcome_of replies.Left = Left
+-- no reply: it was left, for want of a row
+abbrev pub became : Option Reply → Outcome
+became (Some (New i)) = Fresh i
+became (Some (Again i)) = Known i
+became (Some (Clash i)) = Clashed i
+became None = Left

@@ -2,16 +2,15 @@
 use Rattle.std.specs.Prelude.{◌≡◌, ℕ, ◌+◌, ◌^◌, List, [], ◌∷◌, ◌++◌, length, Bool, true, false, nat_eq, nat_le, nat_lt, ◌&&◌, ◌||◌, not, Option, Some, None, Result, Ok, Err, if◌then◌else◌}
 use Rattle.std.specs.Str.Lines.{strip_carriage_return}
 use Rattle.wb_names.specs.Values.{DrawopValue}
-use Rattle.wb_names.specs.Arrivals.{Outcome as Arrival, Fresh, Known, Clashed, Left, history_with}
+use Rattle.wb_names.specs.Arrivals.{outcomes_of, counts_of, history_after}
 use Rattle.wb_script.specs.declared.fault.LineFault.{LineFault}
 use Rattle.wb_script.specs.declared.fault.LineFault.TheVariants as faults
 use Rattle.wb_script.specs.declared.fault.RunFault.{RunFault}
 use Rattle.wb_script.specs.declared.fault.RunFault.TheVariants as run_faults
-use Rattle.wb_script.specs.declared.batch.Batch.{Batch}
 use Rattle.wb_script.specs.declared.summary.Summary.{Summary}
 use Rattle.wb_script.specs.declared.line.Line.{Line}
 use Rattle.wb_script.specs.declared.line.Line.TheVariants.{Skip, Board, Arrive, Hear, Distance, Tick, Look, Session, Show, Gaps, Report, Pages}
-use Rattle.wb_script.specs.Board.{Held, arrival_of}
+use Rattle.wb_script.specs.Board.{Held}
 use Rattle.wb_script.specs.Parsing.{line_of}
 use Rattle.wb_script.specs.Answers.{batch_line, answer_text}
 use Rattle.wb_script.specs.declared.query.Query.{Query}
@@ -37,24 +36,6 @@ input_lines (b ∷ bytes) =
 abbrev pub content : InputLine → List ℕ
 content line = if line.ended then strip_carriage_return line.bytes else line.bytes
 
-abbrev pub none_counted : Batch
-none_counted = record { fresh = 0; again = 0; clash = 0; left = 0 }
-
-abbrev pub counted : Arrival → Batch → Batch
-counted (Fresh i) n = record n { fresh = n.fresh + 1 }
-counted (Known i) n = record n { again = n.again + 1 }
-counted (Clashed i) n = record n { clash = n.clash + 1 }
-counted Left n = record n { left = n.left + 1 }
-
--- the counts after some arrivals, and what is held then
-abbrev pub counts_after : ℕ → List DrawopValue → List DrawopValue → Batch → Batch
-counts_after cells held [] n = n
-counts_after cells held (d ∷ ds) n = let a = arrival_of cells held d in counts_after cells (history_with held d a) ds (counted a n)
-
-abbrev pub drawops_after : ℕ → List DrawopValue → List DrawopValue → List DrawopValue
-drawops_after cells held [] = held
-drawops_after cells held (d ∷ ds) = drawops_after cells (history_with held d (arrival_of cells held d)) ds
-
 -- the board, once it is open, and the arrivals of the present batch
 pub record State : Type 0 where
   pub board : Option Held
@@ -66,13 +47,13 @@ start = record { board = None; waiting = [] }
 -- the board after the present batch
 abbrev pub board_after : Option Held → List DrawopValue → Option Held
 board_after None waiting = None
-board_after (Some board) waiting = Some (record { cells = board.cells; drawops = drawops_after board.cells board.drawops waiting })
+board_after (Some board) waiting = Some (record { cells = board.cells; drawops = history_after board.cells board.drawops waiting })
 
 -- What the end of a batch prints. A batch with no arrivals prints nothing.
 abbrev pub batch_text : Option Held → List DrawopValue → List ℕ
 batch_text None waiting = []
 batch_text (Some board) [] = []
-batch_text (Some board) (d ∷ ds) = batch_line (counts_after board.cells board.drawops (d ∷ ds) none_counted)
+batch_text (Some board) (d ∷ ds) = batch_line (counts_of (outcomes_of board.cells board.drawops (d ∷ ds)))
 
 abbrev pub after_batch : State → State
 after_batch s = record { board = board_after s.board s.waiting; waiting = [] }

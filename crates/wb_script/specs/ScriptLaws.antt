@@ -2,7 +2,7 @@
 use Rattle.std.specs.Prelude.{◌≡◌, ℕ, ◌+◌, ◌<◌, List, [], ◌∷◌, ◌++◌, length, Bool, true, false, Result, Ok, Err}
 use Rattle.std.specs.Str.Lines.{strip_carriage_return}
 use Rattle.wb_names.specs.Values.{DrawopValue}
-use Rattle.wb_script.specs.declared.batch.Batch.{Batch}
+use Rattle.wb_names.specs.Arrivals.{Counts, counts_of, outcomes_of, history_after}
 use Rattle.wb_script.specs.declared.fault.LineFault.{LineFault}
 use Rattle.wb_script.specs.declared.fault.RunFault.{RunFault}
 use Rattle.wb_script.specs.declared.line.Line.{Line}
@@ -11,7 +11,7 @@ use Rattle.wb_script.specs.declared.summary.Summary.{Summary}
 use Rattle.wb_script.specs.Ahead.{IsLine}
 use Rattle.wb_script.specs.Parsing.{line_of}
 use Rattle.wb_script.specs.Running.{Begins}
-use Rattle.wb_script.specs.Script.{InputLine, input_lines, content, most_lines, none_counted, counts_after, drawops_after, Outcome, prints, outcome}
+use Rattle.wb_script.specs.Script.{InputLine, input_lines, content, most_lines, Outcome, prints, outcome}
 
 -- a line feed ends each line
 abbrev pub EachEnds : List InputLine → Type 0
@@ -59,14 +59,14 @@ SkippedPrintsNothing = (front line more : List ℕ) (cut : Bool) → EachEnds (i
     → length (input_lines (front ++ more)) < most_lines → text_of (outcome cut (front ++ (line ++ 10 ∷ more))) ≡ text_of (outcome cut (front ++ more))
 
 -- all that a batch has counted
-abbrev pub total : Batch → ℕ
+abbrev pub total : Counts → ℕ
 total n = n.fresh + n.again + n.clash + n.left
 
 -- The counts of a batch add up to its arrivals.
 abbrev pub CountsAddUp : Type 0
-CountsAddUp = (cells : ℕ) (held arrivals : List DrawopValue) → total (counts_after cells held arrivals none_counted) ≡ length arrivals
+CountsAddUp = (cells : ℕ) (held arrivals : List DrawopValue) → total (counts_of (outcomes_of cells held arrivals)) ≡ length arrivals
 
 -- What is held stays, and what is new comes after it.
 abbrev pub HeldStays : Type 0
 HeldStays = (cells : ℕ) (held arrivals : List DrawopValue) → (added : List DrawopValue)
-    × (drawops_after cells held arrivals ≡ held ++ added) × (length added ≡ (counts_after cells held arrivals none_counted).fresh)
+    × (history_after cells held arrivals ≡ held ++ added) × (length added ≡ (counts_of (outcomes_of cells held arrivals)).fresh)

@@ -2,6 +2,7 @@ ghost use Rattle.std.specs.Prelude.{◌≡◌, ◌≤◌, ◌++◌, true, length
 ghost use Rattle.std.specs.String.{string_bytes};
 ghost use Rattle.wb_names.specs.History.{IsHistory};
 ghost use Rattle.wb_display.specs.Canvas.{is_canvas_size};
+ghost use Rattle.wb_script.specs.Batches.{counts_in};
 ghost use Rattle.wb_script.specs.Queries.{report_of, pages_of};
 ghost use Rattle.wb_script.specs.Answers.{batch_line, pair_line, report_text, pages_text, answer_text, IsAnswerable};
 
@@ -16,7 +17,7 @@ use wb_names::{Drawop, Mark, PageId};
 
 /// The line that ends a batch.
 pub fn batch_line(alloc: Global, batch: Batch) -> Result<String, AllocError>
-    ensures { IfOk result (λ text. string_bytes text ≡ batch_line batch) }
+    ensures { IfOk result (λ text. string_bytes text ≡ batch_line (counts_in batch)) }
 {
     let Batch {
         fresh,

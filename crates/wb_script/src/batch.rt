@@ -1,8 +1,10 @@
 ghost use Rattle.std.specs.Prelude.{◌≡◌, ◌<◌, ◌^◌, length, IfOk, OnOk};
-ghost use Rattle.wb_script.specs.Script.{none_counted, counts_after, drawops_after};
+ghost use Rattle.wb_names.specs.Arrivals.{counts_of, outcomes_of, history_after};
+ghost use Rattle.wb_script.specs.Batches.{counts_in};
 
-use crate::history::{History, Reply};
+use crate::whiteboard::Whiteboard;
 use std::alloc::AllocError;
+use wb_host::Reply;
 use wb_names::Drawop;
 
 /// How many arrivals were new, were held already, met another of their name, or found no cell.
@@ -22,18 +24,18 @@ const NOTHING: Batch = Batch {
 };
 
 /// Takes drawops in order, and counts the replies.
-pub fn accept_all(history: &mut History, drawops: &[Drawop]) -> Result<Batch, AllocError>
+pub fn accept_all(board: &mut Whiteboard, drawops: &[Drawop]) -> Result<Batch, AllocError>
     requires { length drawops.now < 2 ^ 32 }
-    ensures counts { IfOk result (λ n. n ≡ counts_after history.old.cells history.old.drawops drawops.now none_counted) }
-    ensures held { OnOk result (history.new ≡ record { cells = history.old.cells; drawops = drawops_after history.old.cells history.old.drawops drawops.now }) }
+    ensures counts { IfOk result (λ n. counts_in n ≡ counts_of (outcomes_of board.old.cells board.old.drawops drawops.now)) }
+    ensures held { OnOk result (board.new ≡ record { cells = board.old.cells; drawops = history_after board.old.cells board.old.drawops drawops.now }) }
 {
     let mut batch = NOTHING;
     for drawop in drawops {
-        match history.accept(drawop)? {
-            Reply::New(_) => batch.fresh += 1,
-            Reply::Again(_) => batch.again += 1,
-            Reply::Clash(_) => batch.clash += 1,
-            Reply::Left => batch.left += 1,
+        match board.accept(drawop)? {
+            Some(Reply::New(_)) => batch.fresh += 1,
+            Some(Reply::Again(_)) => batch.again += 1,
+            Some(Reply::Clash(_)) => batch.clash += 1,
+            None => batch.left += 1,
         }
     }
     Ok(batch)

@@ -6,11 +6,11 @@ ghost use Rattle.wb_script.specs.Script.{start, EndsBatch, PrintsAnswer, DoesSte
 use crate::answers::{batch_line, print};
 use crate::batch::accept_all;
 use crate::fault::{LineFault, ParseFault, RunFault};
-use crate::history::History;
 use crate::line::Line;
 use crate::output::Output;
 use crate::parsing::parse_line;
 use crate::query::Query;
+use crate::whiteboard::Whiteboard;
 use std::alloc::Global;
 use std::marker::Model;
 use wb_names::Drawop;
@@ -18,7 +18,7 @@ use wb_names::Drawop;
 /// The board of a script, and the arrivals of the present batch.
 #[derive(Drop)]
 pub struct Host {
-    board: Option<History>,
+    board: Option<Whiteboard>,
     waiting: Vec<Drawop>,
 }
 
@@ -46,7 +46,7 @@ impl Host {
     {
         match &self.board {
             None => 0,
-            Some(history) => history.len(),
+            Some(board) => board.drawops().len() as u32,
         }
     }
 
@@ -60,8 +60,8 @@ impl Host {
         if self.waiting.is_empty() {
             return Ok(());
         }
-        if let Some(history) = &mut self.board {
-            let batch = accept_all(history, &self.waiting)?;
+        if let Some(board) = &mut self.board {
+            let batch = accept_all(board, &self.waiting)?;
             let text = batch_line(alloc, batch)?;
             output.add(text.as_bytes())?;
         }
@@ -77,12 +77,12 @@ impl Host {
     {
         match &self.board {
             None => print(alloc, &[], query, output),
-            Some(history) => print(alloc, history.drawops(), query, output),
+            Some(board) => print(alloc, board.drawops(), query, output),
         }
     }
 
     fn open_board(&mut self, alloc: Global, number: u32, cells: u32) -> Result<(), RunFault>
-        requires { cells ≤ 65535 }
+        requires { (0 < cells) × (cells ≤ 65535) }
         ensures step { DoesStep number self.old self.new [] result (opened self.old.board cells) }
         ensures unwritten { result ≢ Err RunFault.Write }
         ensures waiting { length self.new.waiting ≤ length self.old.waiting }
@@ -90,7 +90,7 @@ impl Host {
         if self.board.is_some() {
             return Err(RunFault::Line(number, LineFault::SecondBoard));
         }
-        self.board = Some(History::new(alloc, cells));
+        self.board = Some(Whiteboard::open(alloc, cells)?);
         self.waiting.clear();
         Ok(())
     }

@@ -12,7 +12,6 @@ mod batch;
 mod checking;
 mod fault;
 mod hexadecimal;
-mod history;
 mod host;
 pub mod laws;
 mod line;
@@ -23,6 +22,7 @@ mod parsing;
 mod query;
 mod running;
 mod summary;
+mod whiteboard;
 mod words;
 
 pub use checking::check;

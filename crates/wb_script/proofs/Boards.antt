@@ -1,0 +1,76 @@
+-- What the desk that owns all rows of a board is answered: p is the desk before the call, q the desk after it.
+use Rattle.std.proofs.Common.{◌≡◌, ℕ, ◌+◌, ◌<◌, ◌≤◌, List, [], ◌∷◌, length, take, sym, ap, ◌∙◌, subst, arith}
+use Rattle.std.specs.Prelude.{Some, None}
+use Rattle.std.proofs.lemmas.List.{length-append, take-append-le, take_all}
+use Rattle.wb_names.specs.Values.{DrawopValue}
+use Rattle.wb_names.specs.History.{HoldsName, IsAgainAt, IsClashAt}
+use Rattle.wb_names.specs.Arrivals.{Outcome, Fresh, Known, Clashed, Left, IsTaken, history_with, outcome_of}
+use Rattle.wb_names.proofs.Arrivals.{outcome_is}
+use Rattle.wb_history.specs.Passes.{HistoryValue, PassValue, IsSamePass, IsSound, KeepsRows}
+use Rattle.wb_host.specs.Replies.{Accepted, NotAccepted}
+use Rattle.wb_host.specs.declared.reply.Reply.{Reply}
+use Rattle.wb_host.specs.declared.reply.Reply.TheVariants.{New, Again, Clash}
+use Rattle.wb_host.specs.declared.reply.BoardFault.TheVariants.{NoRow, Memory}
+use Rattle.wb_script.specs.Board.{Held, held_of, OwnsAll}
+use Rattle.wb_script.specs.Reply.{became}
+
+-- one thread answers this outcome, and holds this then; the desk still owns all rows
+pub record Settles (b : HistoryValue) (p : PassValue) (d : DrawopValue) (q : PassValue) (o : Outcome) : Type 0 where
+  pub outcome : o ≡ outcome_of p.cells p.seen d
+  pub held : q.seen ≡ history_with p.seen d (outcome_of p.cells p.seen d)
+  pub owns : OwnsAll b q
+
+-- the same, of the board as a script sees it
+pub outcome_at : (b : HistoryValue) (p q : PassValue) (d : DrawopValue) (o : Outcome) (h : Held) → held_of p ≡ h → Settles b p d q o → o ≡ outcome_of h.cells h.drawops d
+outcome_at b p q d o h view s = subst (λ (k : Held). o ≡ outcome_of k.cells k.drawops d) view s.outcome
+
+pub held_at : (b : HistoryValue) (p q : PassValue) (d : DrawopValue) (o : Outcome) (h : Held) → held_of p ≡ h → Settles b p d q o → q.seen ≡ history_with h.drawops d (outcome_of h.cells h.drawops d)
+held_at b p q d o h view s = subst (λ (k : Held). q.seen ≡ history_with k.drawops d (outcome_of k.cells k.drawops d)) view s.held
+
+settles : (b : HistoryValue) (p q : PassValue) (d : DrawopValue) (o : Outcome) → IsSound p → OwnsAll b q → IsTaken p.cells p.seen d o → q.seen ≡ history_with p.seen d o → Settles b p d q o
+settles b p q d o sound owns taken seen =
+    let is = outcome_is p.cells p.seen d o sound.history taken in
+    record { outcome = is; held = seen ∙ ap (history_with p.seen d) is; owns = owns }
+
+kept : (b : HistoryValue) (p q : PassValue) → OwnsAll b p → IsSamePass p q → IsSound q → KeepsRows p q → OwnsAll b q
+kept b p q owns same sound rows = record {
+  sound = sound;
+  from = same.0 ∙ owns.from;
+  whole = ap (λ (n : ℕ). n + length q.mine) rows.1 ∙ ap (λ (m : List ℕ). p.free + length m) rows.0 ∙ owns.whole ∙ sym same.1;
+}
+
+pub accepted : (b : HistoryValue) (p q : PassValue) (d : DrawopValue) (r : Reply) → OwnsAll b p → IsSamePass p q → IsSound q → Accepted p d q r → Settles b p d q (became (Some r))
+accepted b p q d (New i) owns same sound a =
+    let seen = a.alone owns.whole in
+    let long : length q.seen ≡ length p.seen + 1 = ap length seen ∙ length-append p.seen (d ∷ []) in
+    let last = a.last in
+    let place : i ≡ length p.seen = omega arith in
+    let front : take i q.seen ≡ p.seen = ap (λ (n : ℕ). take n q.seen) place ∙ ap (take (length p.seen)) seen ∙ take-append-le (length p.seen) p.seen (d ∷ []) (omega arith) ∙ take_all (length p.seen) p.seen (omega arith) in
+    let absent : HoldsName p.seen d.name → ⊥ = λ h. a.new.1 (subst (λ (l : List DrawopValue). HoldsName l d.name) (sym front) h) in
+    let row = a.row in
+    let room = owns.sound.room in
+    let cell : length p.seen < p.cells = omega arith in
+    let mine : length q.mine ≡ length p.mine + 1 = ap length a.gains ∙ length-append p.mine (i ∷ []) in
+    let whole = owns.whole in
+    let cells = same.1 in
+    let all : q.free + length q.mine ≡ q.cells = omega arith in
+    settles b p q d (Fresh i) owns.sound (record { from = same.0 ∙ owns.from; whole = all; sound = sound }) ((place, absent), cell) seen
+accepted b p q d (Again i) owns same sound a =
+    let seen = a.1.1 owns.whole in
+    settles b p q d (Known i) owns.sound (kept b p q owns same sound a.1.0) (subst (λ (l : List DrawopValue). IsAgainAt l d i) seen a.0) seen
+accepted b p q d (Clash i) owns same sound a =
+    let seen = a.1.1 owns.whole in
+    settles b p q d (Clashed i) owns.sound (kept b p q owns same sound a.1.0) (subst (λ (l : List DrawopValue). IsClashAt l d i) seen a.0) seen
+
+pub left_over : (b : HistoryValue) (p q : PassValue) (d : DrawopValue) → OwnsAll b p → IsSamePass p q → IsSound q → NotAccepted p d q NoRow → Settles b p d q (became None)
+left_over b p q d owns same sound a =
+    let seen = a.kept.1 owns.whole in
+    let none = a.none_left in
+    let free = a.kept.0.1 in
+    let whole = owns.whole in
+    let many = owns.sound.as_many owns.whole in
+    let full : p.cells ≤ length p.seen = omega arith in
+    settles b p q d Left owns.sound (kept b p q owns same sound a.kept.0) (full, subst (λ (l : List DrawopValue). HoldsName l d.name → ⊥) seen a.absent) seen
+
+pub no_memory : (b : HistoryValue) (p q : PassValue) (d : DrawopValue) → OwnsAll b p → IsSamePass p q → IsSound q → NotAccepted p d q Memory → OwnsAll b q
+no_memory b p q d owns same sound a = kept b p q owns same sound a.0

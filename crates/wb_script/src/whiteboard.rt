@@ -1,0 +1,65 @@
+//! The board of a script, with the desk that owns all of its rows.
+ghost use Rattle.std.specs.Prelude.{◌≡◌, ◌≤◌, ◌<◌, [], length, IfOk, OnOk, OnErr};
+ghost use Rattle.wb_names.specs.Arrivals.{history_with, outcome_of};
+ghost use Rattle.wb_names.specs.History.{IsHistory};
+ghost use Rattle.wb_script.specs.Reply.{became};
+
+use std::alloc::{AllocError, Global};
+use std::marker::Model;
+use wb_host::{Board, BoardFault, Desk, OpenFault, Reply};
+use wb_names::Drawop;
+
+/// A board and the one desk that was ever made of it.
+#[derive(Drop)]
+pub struct Whiteboard {
+    board: Board,
+    desk: Desk,
+}
+
+impl Model for Whiteboard {
+    ghost use Rattle.wb_script.specs.Board.{Held, held_of, OwnsAll};
+
+    ghost Value = { Held };
+
+    ghost view = { λ w. held_of w.desk };
+
+    ghost invariant = { λ w. OwnsAll w.board w.desk };
+}
+
+impl Whiteboard {
+    /// An empty board of so many cells.
+    pub fn open(alloc: Global, cells: u32) -> Result<Self, AllocError>
+        requires { (0 < cells) × (cells ≤ 65535) }
+        ensures { IfOk result (λ w. w ≡ record { cells = cells; drawops = [] }) }
+    {
+        match Board::open(alloc, cells) {
+            Ok((board, desk)) => Ok(Whiteboard { board, desk }),
+            Err(OpenFault::Memory) => Err(AllocError),
+            Err(OpenFault::Cells) => unreachable!(),
+        }
+    }
+
+    /// The drawops that are held.
+    pub fn drawops(&self) -> &[Drawop]
+        ensures value { result.now ≡ self.now.drawops }
+        ensures history { IsHistory result.now }
+        ensures few { length result.now ≤ 65535 }
+    {
+        self.desk.list()
+    }
+
+    /// Accepts a drawop. No reply: it is left, since all cells are filled. Without memory nothing
+    /// changes.
+    pub fn accept(&mut self, drawop: &Drawop) -> Result<Option<Reply>, AllocError>
+        ensures reply { IfOk result (λ r. became r ≡ outcome_of self.old.cells self.old.drawops drawop.now) }
+        ensures held { OnOk result (self.new.drawops ≡ history_with self.old.drawops drawop.now (outcome_of self.old.cells self.old.drawops drawop.now)) }
+        ensures cells { self.new.cells ≡ self.old.cells }
+        ensures err { OnErr result (self.new ≡ self.old) }
+    {
+        match self.board.accept(&mut self.desk, drawop) {
+            Ok(reply) => Ok(Some(reply)),
+            Err(BoardFault::NoRow) => Ok(None),
+            Err(BoardFault::Memory) => Err(AllocError),
+        }
+    }
+}
