@@ -32,7 +32,7 @@ kind_number Request = 3
 kind_number AskPages = 4
 kind_number PageState = 5
 
-code_of_kind : (v : Datagram) → kind_number (kind_of v) ≡ kind_code v
+pub code_of_kind : (v : Datagram) → kind_number (kind_of v) ≡ kind_code v
 code_of_kind (datagrams.Draw d) = refl
 code_of_kind (datagrams.Session sender sent page marks echoes) = refl
 code_of_kind (datagrams.Request asker name) = refl
@@ -118,12 +118,12 @@ frame_takes (a ∷ b ∷ v ∷ k ∷ l0 ∷ l1 ∷ l2 ∷ l3 ∷ bytes) f fits e
     subst (λ (g : Framed). FrameTaken whole g) (ok_is (record { version = vv.0; kind = kk.0; body = m.0 }) f m.2) read
 frame_takes bytes f fits e = absurd cc
 
-version_again : (version : Version) → version_at (version_code version) ≡ Ok version
+pub version_again : (version : Version) → version_at (version_code version) ≡ Ok version
 unfolding version_at
 version_again One = refl
 version_again Two = refl
 
-kind_again : (version : Version) (kind : Kind) → HasKind version kind → kind_at version (kind_number kind) ≡ Ok kind
+pub kind_again : (version : Version) (kind : Kind) → HasKind version kind → kind_at version (kind_number kind) ≡ Ok kind
 unfolding kind_at
 kind_again One Draw has = refl
 kind_again One Session has = refl
@@ -145,7 +145,7 @@ frame_again version kind bytes has lt =
 
 -- ---- datagrams
 
-has_kind : (v : Datagram) → HasKind (version_of v) (kind_of v)
+pub has_kind : (v : Datagram) → HasKind (version_of v) (kind_of v)
 has_kind (datagrams.Draw d) = drawn (version_of (datagrams.Draw d)) where
   drawn : (version : Version) → HasKind version Draw
   drawn One = tt

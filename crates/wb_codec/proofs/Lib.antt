@@ -12,3 +12,4 @@ pub mod ListFaults
 pub mod NoMemory
 pub mod OpLaws
 pub mod RowLaws
+pub mod WholeLaws

@@ -7,3 +7,5 @@ pub mod Reading
 pub mod Grammar
 pub mod Checked
 pub mod TextLengths
+pub mod Laws
+pub mod Vectors

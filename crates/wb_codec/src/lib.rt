@@ -17,15 +17,10 @@ mod entries;
 mod fault;
 mod fields;
 mod header;
+pub mod laws;
 mod lists;
-#[cfg(test)]
-mod memory_tests;
 mod reading;
 mod row;
-#[cfg(test)]
-mod row_tests;
-#[cfg(test)]
-mod tests;
 mod version;
 mod writing;
 

@@ -1,8 +1,8 @@
-ghost use Rattle.std.specs.Prelude.{◌≡◌, ◌⊎◌, IfOk, IfErr};
+ghost use Rattle.std.specs.Prelude.{◌≡◌, ◌⊎◌, IfOk, IfErr, OnErr};
 ghost use Rattle.wb_codec.specs.declared.datagram.Datagram.{Datagram as DatagramValue};
 ghost use Rattle.wb_codec.specs.Ranges.{IsDatagram};
 ghost use Rattle.wb_codec.specs.Spelling.{spelling};
-ghost use Rattle.wb_codec.specs.Grammar.{Spells, IsFaultOf};
+ghost use Rattle.wb_codec.specs.Grammar.{Spells, IsFaultOf, HasLists};
 ghost use Rattle.wb_codec.specs.Reading.{Gives, reading};
 ghost use Rattle.wb_codec.specs.Checked.{datagram_of, IsChecked};
 
@@ -29,7 +29,8 @@ fn checked(bytes: &[u8]) -> Result<Body<'_>, ReadFault>
 #[inline(always)]
 fn datagram_from(alloc: Global, body: &Body<'_>) -> Result<Datagram, AllocError>
     requires { IsChecked body.now }
-    ensures { IfOk result (λ v. v ≡ datagram_of body.now) }
+    ensures datagram { IfOk result (λ v. v ≡ datagram_of body.now) }
+    ensures lists { OnErr result (HasLists (datagram_of body.now)) }
 {
     match *body {
         Body::Draw(drawop) => Ok(Datagram::Draw(drawop)),
@@ -67,11 +68,12 @@ fn datagram_from(alloc: Global, body: &Body<'_>) -> Result<Datagram, AllocError>
     }
 }
 
-/// The datagram that the bytes spell, all of the bytes, or the first check from the left that
-/// fails. Memory for the lists of marks and echoes is taken last, one allocation for each.
+/// The datagram that the bytes spell, all of the bytes, or the first check that fails: the header,
+/// then the sizes, then the fields. Memory for the lists of marks and echoes is taken last, one
+/// allocation for each. Datagrams without lists take none, and are never refused for want of it.
 pub fn read(alloc: Global, bytes: &[u8]) -> Result<Datagram, ReadFault>
     ensures found { IfOk result (Spells bytes.now) }
-    ensures only { (v : DatagramValue) → Spells bytes.now v → (result ≡ Ok v) ⊎ (result ≡ Err ReadFault.Memory) }
+    ensures only { (v : DatagramValue) → Spells bytes.now v → (result ≡ Ok v) ⊎ ((result ≡ Err ReadFault.Memory) × HasLists v) }
     ensures fault { IfErr result (IsFaultOf bytes.now) }
 {
     match checked(bytes) {

@@ -4,7 +4,7 @@
 
 ghost use Rattle.std.specs.Prelude.{◌<◌};
 
-use crate::{Datagram, ReadFault, read, write};
+use wb_codec::{Datagram, ReadFault, read, write};
 use std::alloc::{AllocError, Global};
 use std::process::Abort;
 use std::test::Fail;

@@ -1,0 +1,12 @@
+use Rattle.wb_codec.proofs.GrammarLaws.{reading_again, one_datagram}
+use Rattle.wb_codec.proofs.WholeLaws.{spells_below}
+use Rattle.wb_codec.proofs.laws.reading_undoes_spelling.Goals as goal
+
+pub returns-clause-reads : goal.returns-clause-reads
+returns-clause-reads c = reading_again
+
+pub returns-clause-spells : goal.returns-clause-spells
+returns-clause-spells c = spells_below
+
+pub returns-clause-one : goal.returns-clause-one
+returns-clause-one c = one_datagram
