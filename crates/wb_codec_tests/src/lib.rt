@@ -3,8 +3,14 @@
 #![tactic(auto)]
 
 #[cfg(test)]
+mod bytes;
+#[cfg(test)]
 mod datagrams;
 #[cfg(test)]
+mod longest;
+#[cfg(test)]
 mod memory;
+#[cfg(test)]
+mod refused;
 #[cfg(test)]
 mod rows;

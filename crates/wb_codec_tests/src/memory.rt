@@ -1,9 +1,9 @@
 //! Want of memory at any one allocation: the call says so, and the same call then works. A body
 //! that always answers want of memory would be proved, so it is called with ample memory too.
 
-use wb_codec::{Datagram, ReadFault, read, write};
 use std::alloc::Global;
 use std::process::Abort;
+use wb_codec::{Datagram, ReadFault, read, write};
 
 /// A session message with one mark and one echo.
 const SESSION: &[u8; 60] =

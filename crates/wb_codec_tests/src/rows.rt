@@ -1,9 +1,9 @@
 //! Records of some drawops, word by word as the layout is documented. What the contracts leave to
 //! the eye is that a row has these numbers and no others.
 
-use wb_codec::{from_row, to_row};
 use std::process::Abort;
 use std::test::Fail;
+use wb_codec::{from_row, to_row};
 use wb_names::{Drawop, Name, PageId, Shape};
 
 const PAGE: PageId = PageId {
