@@ -125,7 +125,9 @@ fn op_words(drawop: &Drawop) -> [u64; 9]
     }
 }
 
-/// The record of a drawop.
+/// The record of a drawop: its source and number, its page, its time, its operation, and at last the
+/// target or the text, from the most significant bits of each word on; words that it has no use for
+/// are 0.
 pub fn to_row(drawop: &Drawop) -> [u64; 12]
     ensures record { result ≡ row drawop.now }
     ensures len { length result ≡ row_words }

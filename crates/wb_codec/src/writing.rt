@@ -298,7 +298,8 @@ fn numbers_of(datagram: &Datagram) -> (u8, u8)
     }
 }
 
-/// The bytes of a datagram, in one allocation.
+/// The bytes that spell a datagram, all numbers big-endian, in one allocation. `read` gives the
+/// datagram back.
 pub fn write(alloc: Global, datagram: &Datagram) -> Result<Vec<u8>, AllocError>
     ensures { IfOk result (λ bytes. bytes.items ≡ spelling datagram.now) }
 {
