@@ -1,4 +1,5 @@
--- The rule of the table. Words 0 to cells - 1 are the cells, and the rows follow, three words each. A cell holds 0 or a row number plus one.
+-- The rule of the table. Words 0 to cells - 1 are the cells, and as many rows follow, each of row_words words. A cell holds 0 while
+-- it is free, and else a row number plus one.
 use Rattle.wb_history.specs.Sizes.{row_words}
 use Rattle.std.specs.Prelude.{◌≡◌, ℕ, suc, ◌+◌, ◌-◌, ◌*◌, ◌<◌, ◌≤◌, List, length, slice_index}
 use mathlib.Core.Option.{some}

@@ -1,7 +1,7 @@
 //! The parts of a pass, and the answers to a claim.
 ghost use Rattle.std.specs.Prelude.{◌≡◌};
 
-use crate::cells::Place;
+use crate::cells::Chair;
 use crate::members::Members;
 use thiserror::Error;
 
@@ -10,7 +10,7 @@ use thiserror::Error;
 #[derive(Drop)]
 pub(crate) struct Hand {
     /// The token that steps on words.
-    pub(crate) seat: Place,
+    pub(crate) seat: Chair,
     /// The members that it has seen.
     pub(crate) seen: Members,
     /// The places that it added, as they were gained.

@@ -25,14 +25,8 @@ mod knowledge;
 mod members;
 mod parts;
 mod pass;
-#[cfg(test)]
-mod races;
-#[cfg(test)]
-mod refused_tests;
 mod rule;
 mod steps;
-#[cfg(test)]
-mod tests;
 mod walk;
 
 pub use hand::{Claim, ClaimFault};

@@ -40,7 +40,7 @@ impl CellTable {
     /// Reads the member after those that were seen, whose cell was found to hold `found`. All growth
     /// for it comes before its row is read, since the last word read makes it seen.
     pub(crate) fn take_member(&self, hand: &mut Hand, found: u64) -> Result<Drawop, AllocError>
-        requires hand { SitsAt self.now hand.old.seat × InOrder hand.old × (hand.old.steps ≤ member_steps * length hand.old.seen.items + 32) }
+        requires hand { SitsAt self.now hand.old.seat × InOrder hand.old × (hand.old.steps ≤ member_steps * (length hand.old.seen.items + 2)) }
         requires found { (0 < found) × (found ≤ self.now.cells) × (hand.old.seat.me.0.looking ≡ found) × (hand.old.seat.me.0.read ≡ []) }
         ensures order { InOrder hand.new × (hand.new.mine.items ≡ hand.old.mine.items) × (hand.new.free.items ≡ hand.old.free.items) }
         ensures done { MatchResult result

@@ -1,5 +1,5 @@
 use Rattle.wb_history.specs.Passes.{IsSamePass}
-use Rattle.wb_history.proofs.refused_tests.claim_some.Given as goal
+use Rattle.wb_history_tests.proofs.refusals.claim_some.Given as goal
 
 abbrev pub invariant-loop-k : goal.invariant-loop-k
 invariant-loop-k l = IsSamePass l.initial.pass l.pass × IsSamePass l.initial.other l.other

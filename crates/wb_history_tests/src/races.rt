@@ -2,19 +2,29 @@
 
 ghost use Rattle.wb_history.specs.Passes.{IsPassOf, IsSamePass};
 
-use super::refused_tests::{answer_again, claim_some, dot, open_two_again, refresh_again};
-use super::tests::{open_two, samples};
-use super::*;
+use crate::histories::{open_two, samples, stroke};
+use crate::refusals::{answer_again, claim_some, open_two_again, refresh_again};
 use std::alloc::Global;
 use std::sync::atomic::{AtomicU32, Ordering};
 use std::test::Fail;
 use std::thread::{self, Threads};
+use wb_history::{Claim, ClaimFault, History, Pass};
 use wb_names::Drawop;
 
 /// What a claim answers.
 type Answer = Result<Claim, ClaimFault>;
 
-/// Claims as soon as the other thread is about to, or after some turns.
+/// Returns as soon as the other thread is here too, or after some turns.
+fn await_other(ready: &AtomicU32) {
+    ready.fetch_add(1, Ordering::SeqCst);
+    for _ in 0..100_000 {
+        if ready.load(Ordering::SeqCst) == 2 {
+            return;
+        }
+    }
+}
+
+/// Claims as soon as the other thread is about to.
 fn claim_at_once(
     history: &History,
     mut pass: Pass,
@@ -24,12 +34,7 @@ fn claim_at_once(
     requires { IsPassOf history.now pass }
     ensures { IsPassOf history.now result.1 }
 {
-    ready.fetch_add(1, Ordering::SeqCst);
-    for _ in 0..100_000 {
-        if ready.load(Ordering::SeqCst) == 2 {
-            break;
-        }
-    }
+    await_other(ready);
     let claim = history.claim(&mut pass, drawop);
     (claim, pass)
 }
@@ -221,8 +226,58 @@ fn each_race_ends_well<R: Threads>(
 /// loser, so there are some of each.
 #[test]
 fn a_growth_after_a_lost_race_may_be_refused(rt: HostRuntime) -> Result<(), Fail> {
-    let drawops = [dot(10, 1)?, dot(11, 1)?];
+    let drawops = [stroke(10, 1, b'.')?, stroke(11, 1, b'.')?];
     assert!(rt; each_race_ends_well(&rt, rt.alloc(), &drawops, 3));
     assert!(rt; each_race_ends_well(&rt, rt.alloc(), &drawops, 8));
+    Ok(())
+}
+
+/// Reads on as soon as the other thread is about to, and tells how many drawops it has then seen.
+fn refresh_at_once(history: &History, mut pass: Pass, ready: &AtomicU32) -> Option<u32>
+    requires { IsPassOf history.now pass }
+{
+    await_other(ready);
+    history.refresh(&mut pass).ok()
+}
+
+/// Two passes read on, on threads of their own. It tells how many drawops each has then seen.
+fn refresh_on_threads<R: Threads>(
+    rt: &R,
+    shared: &History,
+    one: Pass,
+    two: Pass,
+) -> (Option<u32>, Option<u32>)
+    requires { IsPassOf shared.now one × IsPassOf shared.now two }
+{
+    let ready = AtomicU32::new(0);
+    let gate = &ready;
+    thread::join(
+        rt,
+        move ||
+            requires { IsPassOf shared.now one }
+        { refresh_at_once(shared, one, gate) },
+        move ||
+            requires { IsPassOf shared.now two }
+        { refresh_at_once(shared, two, gate) },
+    )
+}
+
+const MEMBERS: u32 = 100;
+
+/// Whether two passes that read on at once both read what a third one added.
+fn both_read<R: Threads>(rt: &R, alloc: Global) -> Result<bool, Fail> {
+    let (history, mut root, mut one) = open_two(alloc, MEMBERS, 0)?;
+    let two = history.split(alloc, &mut root, 0)?;
+    let added = claim_some(&history, &mut root, &mut one, 8, 0, MEMBERS);
+    let (first, second) = refresh_on_threads(rt, &history, one, two);
+    Ok(added && first == Some(MEMBERS) && second == Some(MEMBERS))
+}
+
+/// A lock round the table that is only tried would refuse one of the two.
+#[test]
+fn two_threads_read_on_at_once(rt: HostRuntime) -> Result<(), Fail> {
+    for _ in 0..RACES {
+        assert!(rt; both_read(&rt, rt.alloc())?);
+    }
     Ok(())
 }

@@ -4,25 +4,10 @@
 ghost use Rattle.std.specs.Prelude.{IfSome};
 ghost use Rattle.wb_history.specs.Passes.{IsPassOf, IsSamePass};
 
-use super::*;
+use crate::histories::stroke;
 use std::alloc::Global;
-use wb_names::{Drawop, FieldFault, Name, PageId, Shape};
-
-pub(crate) fn dot(source: u32, seq: u32) -> Result<Drawop, FieldFault> {
-    let page = PageId {
-        creator: 7,
-        number: 1,
-    };
-    Drawop::new(
-        Name::new(source, page, seq)?,
-        10,
-        Shape::Text {
-            x: 1,
-            y: 1,
-            bytes: b".",
-        },
-    )
-}
+use wb_history::{Claim, ClaimFault, History, JoinFault, Pass, SplitFault};
+use wb_names::Drawop;
 
 fn open_again(alloc: Global, cells: u32) -> Option<(History, Pass)>
     ensures { IfSome result (λ t. IsPassOf t.0 t.1) }
@@ -136,7 +121,7 @@ pub(crate) fn claim_some(
     ensures { IsSamePass pass.old pass.new × IsSamePass other.old other.new }
 {
     for k in 0..count {
-        let Ok(drawop) = dot(source, k.wrapping_add(1)) else {
+        let Ok(drawop) = stroke(source, k.wrapping_add(1), b'.') else {
             return false;
         };
         let place = first.wrapping_add(k);

@@ -4,56 +4,13 @@
 //! once: each place where a proof may leave a function is one more path on which all that it owns is
 //! let go.
 
-ghost use Rattle.std.specs.Prelude.{IfOk};
 ghost use Rattle.wb_history.specs.Passes.{IsPassOf, IsSamePass};
 
-use super::*;
+use crate::histories::{open_two, samples, stroke};
 use std::alloc::Global;
 use std::test::Fail;
-use wb_names::{Drawop, FieldFault, Name, PageId, Shape};
-
-const PAGE: PageId = PageId {
-    creator: 7,
-    number: 1,
-};
-
-fn stroke(source: u32, seq: u32, glyph: u8) -> Result<Drawop, FieldFault> {
-    let line = Shape::Line {
-        x0: 0,
-        y0: 1,
-        x1: 4,
-        y1: 1,
-        glyph,
-    };
-    Drawop::new(Name::new(source, PAGE, seq)?, 10, line)
-}
-
-fn words(source: u32, x: u16, bytes: &[u8]) -> Result<Drawop, FieldFault> {
-    Drawop::new(
-        Name::new(source, PAGE, 1)?,
-        10,
-        Shape::Text { x, y: 1, bytes },
-    )
-}
-
-/// Four drawops, of which the first two have one name.
-pub(crate) fn samples() -> Result<[Drawop; 4], FieldFault> {
-    let a = stroke(7, 1, b'*')?;
-    let b = stroke(7, 1, b'#')?;
-    let d = words(8, 1, b"ab")?;
-    let e = words(9, 2, b"cd")?;
-    Ok([a, b, d, e])
-}
-
-/// A history of so many cells, with the pass that owns its rows but some, and the pass that owns
-/// those.
-pub(crate) fn open_two(alloc: Global, cells: u32, rows: u32) -> Result<(History, Pass, Pass), Fail>
-    ensures { IfOk result (λ t. IsPassOf t.0 t.1 × IsPassOf t.0 t.2) }
-{
-    let (history, mut root) = History::open(alloc, cells)?;
-    let q = history.split(alloc, &mut root, rows)?;
-    Ok((history, root, q))
-}
+use wb_history::{Claim, ClaimFault, History, OpenFault, Pass, SplitFault};
+use wb_names::Drawop;
 
 /// Whether the claims of these drawops, in turn, have these answers.
 fn answers(
@@ -300,28 +257,6 @@ fn a_dropped_pass_leaves_what_it_added(rt: HostRuntime) -> Result<(), Fail> {
     let seen = is_answered_alone(rt.alloc(), 3, 2, &[(a, Ok(Claim::Added(0)))], &turns)?;
     assert!(rt; seen == (true, true, Some(2)));
     Ok(())
-}
-
-/// Why a history of so many cells is not opened.
-fn open_fault(alloc: Global, cells: u32) -> Option<OpenFault> {
-    match History::open(alloc, cells) {
-        Ok(_) => None,
-        Err(fault) => Some(fault),
-    }
-}
-
-#[test]
-fn a_history_has_some_cells(rt: HostRuntime) {
-    assert!(rt; open_fault(rt.alloc(), 0) == Some(OpenFault::Cells));
-    assert!(rt; open_fault(rt.alloc(), 65_536) == Some(OpenFault::Cells));
-}
-
-#[test]
-fn faults_have_numbers(rt: HostRuntime) {
-    assert!(rt; (OpenFault::Cells.code(), OpenFault::Memory.code()) == (1, 2));
-    assert!(rt; (ClaimFault::NoRow.code(), ClaimFault::Memory.code()) == (1, 2));
-    assert!(rt; (SplitFault::TooMany(3).code(), SplitFault::Memory.code()) == (1, 2));
-    assert_eq!(rt; JoinFault::Memory.code(), 1);
 }
 
 /// Adds so many drawops in turn, and tells whether each took the next place by fourteen steps.
