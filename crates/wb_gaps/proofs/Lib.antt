@@ -9,3 +9,4 @@ pub mod RangeSteps
 pub mod Filling
 pub mod Rearranged
 pub mod MergeLength
+pub mod NoGaps

@@ -15,13 +15,13 @@ use Rattle.wb_gaps.proofs.HeldNumbers.{same_page-here}
 use Rattle.wb_gaps.proofs.GreatestNumbers.{one_greatest}
 use Rattle.wb_gaps.specs.declared.held.Number.{Number}
 
-held_here : (d : DrawopValue) (history : List DrawopValue) (page : PageId) (source : ℕ) → is_of page source d ≡ true → IsHeld (d ∷ history) page source d.name.seq
+pub held_here : (d : DrawopValue) (history : List DrawopValue) (page : PageId) (source : ℕ) → is_of page source d ≡ true → IsHeld (d ∷ history) page source d.name.seq
 held_here d history page source e = let h = and_both _ _ e in (0, d, omega arith, refl, name_parts _ _ _ _ _ _ (eqb-true d.name.source source h.1) (same_page-is d.name.page page h.0) refl)
 
-held_there : (d : DrawopValue) (history : List DrawopValue) (page : PageId) (source n : ℕ) → IsHeld history page source n → IsHeld (d ∷ history) page source n
+pub held_there : (d : DrawopValue) (history : List DrawopValue) (page : PageId) (source n : ℕ) → IsHeld history page source n → IsHeld (d ∷ history) page source n
 held_there d history page source n h = (suc h.0, h.1, omega arith, h.3, h.4)
 
-is_of-here : (d : DrawopValue) (page : PageId) (source n : ℕ) → d.name ≡ name_of page source n → is_of page source d ≡ true
+pub is_of-here : (d : DrawopValue) (page : PageId) (source n : ℕ) → d.name ≡ name_of page source n → is_of page source d ≡ true
 is_of-here d page source n e =
     let p = same_page-here d.name.page page (ap (λ (v : NameValue). v.page) e) in
     let s : d.name.source ≡ source = ap (λ (v : NameValue). v.source) e in
@@ -29,7 +29,7 @@ is_of-here d page source n e =
     ap (λ (b : Bool). b && nat_eq d.name.source source) p ∙ t
 
 -- of a first member: it has this number, or a later one has it
-held_cases : (d : DrawopValue) (history : List DrawopValue) (page : PageId) (source n : ℕ) → IsHeld (d ∷ history) page source n → (d.name ≡ name_of page source n) ⊎ IsHeld history page source n
+pub held_cases : (d : DrawopValue) (history : List DrawopValue) (page : PageId) (source n : ℕ) → IsHeld (d ∷ history) page source n → (d.name ≡ name_of page source n) ⊎ IsHeld history page source n
 held_cases d history page source n (zero, x, lt, is, e) = inl (ap (λ (v : DrawopValue). v.name) is ∙ e)
 held_cases d history page source n (suc k, x, lt, is, e) = inr (k, x, omega arith, is, e)
 

@@ -1,5 +1,5 @@
 -- Laws of gaps, reports, page lists and merges.
-use Rattle.std.specs.Prelude.{◌≡◌, ℕ, List, IsPermutation, length, max, ◌≤◌, ◌⊎◌, ◌↔◌}
+use Rattle.std.specs.Prelude.{◌≡◌, ℕ, List, [], IsPermutation, length, max, ◌≤◌, ◌⊎◌, ◌↔◌}
 use Rattle.wb_names.specs.Values.{DrawopValue, MarkValue}
 use Rattle.wb_names.specs.History.{IsHeld}
 use Rattle.wb_names.specs.Marks.{mark_of, known, IsReport, IsMerge}
@@ -54,3 +54,11 @@ MergesGreater = (a b marks : List MarkValue) → IsMerge a b marks → (source :
 -- a merge has as many marks as the two have sources together; so two that have over 65,535 have no merge
 abbrev pub MergesAllSources : Type 0
 MergesAllSources = (a b marks : List MarkValue) → AreMarks a → AreMarks b → IsMerge a b marks → length marks ≡ source_count a b
+
+-- a list that has no gaps below its own report holds the numbers from 1 up to the mark of each source, and no others
+abbrev pub HoldsUpToReport : Type 0
+HoldsUpToReport = (history : List DrawopValue) (page : PageId) (marks : List MarkValue) → IsReport history page marks → AreGaps history page marks [] → (source n : ℕ) → 1 ≤ n → IsHeld history page source n ↔ (n ≤ mark_of marks source)
+
+-- so two lists that have one report of a page, and no gaps below it, hold the same numbers there
+abbrev pub HoldTheSame : Type 0
+HoldTheSame = (one other : List DrawopValue) (page : PageId) (marks : List MarkValue) → IsReport one page marks → IsReport other page marks → AreGaps one page marks [] → AreGaps other page marks [] → (source n : ℕ) → 1 ≤ n → IsHeld one page source n ↔ IsHeld other page source n

@@ -4,6 +4,7 @@
 ghost use Rattle.wb_gaps.specs.Laws.{OneGaps, OneReport, OnePages, OneMerge};
 ghost use Rattle.wb_gaps.specs.Laws.{GapsOfRearranged, ReportOfRearranged, PagesOfRearranged};
 ghost use Rattle.wb_gaps.specs.Laws.{ReportsGreatest, KnownIsReached, MergesGreater, MergesAllSources};
+ghost use Rattle.wb_gaps.specs.Laws.{HoldsUpToReport, HoldTheSame};
 
 /// There is one list of gaps, one report and one list of pages of a list of drawops, and one merge of
 /// two lists of marks, whichever of the two comes first.
@@ -29,4 +30,12 @@ pub fn marks_are_greatest()
     ensures known { KnownIsReached }
     ensures merge { MergesGreater }
     ensures count { MergesAllSources }
+{}
+
+/// What a report means: a list that has no gaps below its own report holds each number up to the mark
+/// of its source, and no other. So two lists that have one report of a page, and no gaps below it, hold
+/// the same numbers there.
+pub fn reports_tell()
+    ensures one { HoldsUpToReport }
+    ensures two { HoldTheSame }
 {}

@@ -1,1 +1,3 @@
 pub mod StandingLayers
+pub mod InOrder
+pub mod Agreement

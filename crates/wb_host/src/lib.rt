@@ -10,11 +10,13 @@
 //!
 //! In reading order: `board` has the calls that open, divide and extend a board, `queries` what it
 //! answers of pages, `desk` what a desk tells by itself, and `reply` the answers to an arrival;
-//! `layers` keeps what viewed pages show.
+//! `layers` keeps what viewed pages show. `laws` says what follows for many callers, and for two
+//! boards.
 #![tactic(auto)]
 
 mod board;
 mod desk;
+pub mod laws;
 mod layers;
 mod queries;
 mod reply;

@@ -1,0 +1,76 @@
+-- One run of a whiteboard, made of what many callers were told.
+use Rattle.std.specs.Prelude.{◌≡◌, ℕ, ◌+◌, ◌*◌, ◌<◌, ◌≤◌, Bool, true, false, ◌&&◌, if◌then◌else◌, nat_eq, nat_le, List, [], ◌∷◌, length, take, map, filter, All, AllPairs, slice_get, Some}
+use Rattle.wb_names.specs.Values.{DrawopValue}
+use Rattle.wb_host.specs.declared.reply.Reply.TheVariants.{New}
+use Rattle.wb_host.specs.Board.{Call, Accept, Answer, Replied, Step, IsAnswer, history_after, IsLegalFrom}
+
+-- a call with its answer, and the point at which it was answered: how many members the history had there
+pub record Told : Type 0 where
+  pub step : Step
+  pub point : ℕ
+
+-- the answer to a drawop that was new
+abbrev pub is_new : Answer → Bool
+is_new (Replied (New i)) = true
+is_new answer = false
+
+-- what was new became the member at its place
+abbrev pub IsMember : List DrawopValue → Call → Answer → Type 0
+IsMember history (Accept d) (Replied (New i)) = slice_get history i ≡ Some d
+IsMember history call answer = Unit {0}
+
+-- t was told to a caller before u: the points of a caller never fall, and after a new drawop they have risen
+abbrev pub Precedes : Told → Told → Type 0
+Precedes t u = (t.point ≤ u.point) × (is_new t.step.answer ≡ true → t.point < u.point)
+
+-- one call, told at a point from k on
+pub record IsToldSince (history : List DrawopValue) (k : ℕ) (t : Told) : Type 0 where
+  pub since : k ≤ t.point
+  pub within : t.point ≤ length history
+  pub answer : IsAnswer (take t.point history) t.step.call t.step.answer
+  pub member : IsMember history t.step.call t.step.answer
+
+-- the member i was new to this caller
+abbrev pub is_new_at : ℕ → Told → Bool
+is_new_at i t = is_new t.step.answer && nat_eq t.point i
+
+-- What all callers were told since the history had k members, the calls of each caller in their order, as where one caller's
+-- calls stand after another's. Each member from k on was new to exactly one of them.
+pub record AreToldSince (history : List DrawopValue) (k : ℕ) (told : List Told) : Type 0 where
+  pub each : All (IsToldSince history k) told
+  pub once : (i : ℕ) → k ≤ i → i < length history → length (filter (is_new_at i) told) ≡ 1
+  pub ordered : AllPairs (λ t u. t.step.caller ≡ u.step.caller → Precedes t u) told
+
+-- at each point first what was answered there, and then the new drawop
+abbrev pub rank : Told → ℕ
+rank t = 2 * t.point + (if is_new t.step.answer then 1 else 0)
+
+abbrev pub placed : Told → List Told → List Told
+placed t [] = t ∷ []
+placed t (u ∷ us) = if nat_le (rank t) (rank u) then t ∷ u ∷ us else u ∷ placed t us
+
+-- by rank; what has one rank stays in its order
+abbrev pub in_order : List Told → List Told
+in_order [] = []
+in_order (t ∷ told) = placed t (in_order told)
+
+abbrev pub run_of : List Told → List Step
+run_of told = map (λ t. t.step) (in_order told)
+
+-- the steps of one caller
+abbrev pub steps_of : ℕ → List Step → List Step
+steps_of caller steps = filter (λ s. nat_eq s.caller caller) steps
+
+-- the history at the end of a run
+abbrev pub end_of : List DrawopValue → List Step → List DrawopValue
+end_of history [] = history
+end_of history (step ∷ steps) = end_of (history_after history step.call step.answer) steps
+
+-- The run is legal from the first k members on, ends at the whole history, and has the calls of each caller, each once, in their order.
+pub record IsOneRun (history : List DrawopValue) (k : ℕ) (told : List Told) (run : List Step) : Type 0 where
+  pub legal : IsLegalFrom (take k history) run
+  pub end : end_of (take k history) run ≡ history
+  pub callers : (caller : ℕ) → steps_of caller run ≡ steps_of caller (map (λ t. t.step) told)
+
+abbrev pub OneRun : Type 0
+OneRun = (history : List DrawopValue) (k : ℕ) (told : List Told) → k ≤ length history → AreToldSince history k told → IsOneRun history k told (run_of told)
