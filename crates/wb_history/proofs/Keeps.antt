@@ -12,7 +12,8 @@ use Rattle.atomic_table.specs.Table.{State, step, keeps, stepped, Allows}
 use Rattle.atomic_table.proofs.Lists.{at_set, set_here, at_longer, at_last}
 use Rattle.wb_history.specs.declared.knowledge.Knowledge.{Knowledge}
 use Rattle.wb_names.specs.Values.{DrawopValue}
-use Rattle.wb_history.specs.Lists.{StartsWith, Has, Once}
+use mathlib.Core.List.{IsPrefix}
+use Rattle.wb_history.specs.Lists.{Has, Once}
 use Rattle.wb_history.specs.Members.{Lacks}
 use Rattle.wb_codec.specs.Rows.{row}
 use Rattle.wb_codec.specs.Ranges.{IsDrawop}
@@ -50,7 +51,7 @@ module _ (cells : ℕ) (s : Board) (r : Lawful cells s) where
     seen_few = let b = starts-le r.log v.seen known.begins in let l = r.long in omega arith
 
     in_log : (p : ℕ) (d : DrawopValue) → get_elem? v.seen p ≡ some d → get_elem? r.log p ≡ some d
-    in_log p d e = subst (λ (l : List DrawopValue). get_elem? l p ≡ some d) (sym known.begins.1) (at_longer v.seen known.begins.0 p d e)
+    in_log p d e = subst (λ (l : List DrawopValue). get_elem? l p ≡ some d) known.begins.1 (at_longer v.seen known.begins.0 p d e)
 
     has_room : length v.seen + length v.free ≤ v.cells
     has_room =
@@ -384,7 +385,7 @@ wins cells slots id m d q unspent inside last stored_is valid_d lacks s r at fou
     let log' = log_after cells s r id q d mine.1 mine.0 mine.2 inside' in
     let rows' = rows_after cells s r id q d mine.1 mine.0 mine.2 inside' in
     let word' = other_word cells s r id q d mine.1 mine.0 mine.2 inside' in
-    let begins' : StartsWith log' (v.seen ++ d ∷ []) = next_member log' v.seen d (starts_more r.log v.seen (d ∷ []) known.begins) (at_last' r.log d (length v.seen) (omega arith)) in
+    let begins' : IsPrefix (v.seen ++ d ∷ []) log' = next_member log' v.seen d (starts_more r.log v.seen (d ∷ []) known.begins) (at_last' r.log d (length v.seen) (omega arith)) in
     let knows : Knows cells words' log' rows' r.owner id w = record {
       sized = known.sized;
       begins = begins';

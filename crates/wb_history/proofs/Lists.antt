@@ -4,7 +4,8 @@ use mathlib.Core.Option.{some, some-injective, some-ne-none}
 use lib.ListN.{get_elem?}
 use Rattle.indexmap.proofs.IndexTableLemmas.Probe.{pigeonhole}
 use Rattle.std.proofs.lemmas.Bool.{cases_lt, cond_below, cond_above}
-use Rattle.wb_history.specs.Lists.{StartsWith, Once, longer}
+use mathlib.Core.List.{IsPrefix}
+use Rattle.wb_history.specs.Lists.{Once, longer}
 
 module _ {A : Type 0} where
   pub at-lt : (l : List A) (i : ℕ) (a : A) → get_elem? l i ≡ some a → i < length l
@@ -81,26 +82,26 @@ module _ {A : Type 0} where
   same_list (x ∷ xs) [] e h = absurd (omega arith)
   same_list (x ∷ xs) (y ∷ ys) e h = let t = same_list xs ys (omega arith) (λ k a b p q. h (suc k) a b p q) in λ i. h zero x y refl refl i ∷ t i
 
-  pub starts-le : (whole start : List A) → StartsWith whole start → length start ≤ length whole
+  pub starts-le : (whole start : List A) → IsPrefix start whole → length start ≤ length whole
   starts-le whole start b = omega (arith, length-append start b.0, ap length b.1)
 
-  pub starts_more : (whole start more : List A) → StartsWith whole start → StartsWith (whole ++ more) start
-  starts_more whole start more b = (b.0 ++ more, ap (λ l. l ++ more) b.1 ∙ app start b.0 more)
+  pub starts_more : (whole start more : List A) → IsPrefix start whole → IsPrefix start (whole ++ more)
+  starts_more whole start more b = (b.0 ++ more, sym (app start b.0 more) ∙ ap (λ l. l ++ more) b.1)
     where
       app : (xs ys zs : List A) → (xs ++ ys) ++ zs ≡ xs ++ (ys ++ zs)
       app [] ys zs = refl
       app (x ∷ xs) ys zs = λ i. x ∷ app xs ys zs i
 
-  pub next_member : (whole start : List A) (x : A) → StartsWith whole start → get_elem? whole (length start) ≡ some x → StartsWith whole (start ++ x ∷ [])
-  next_member whole [] x b e = next whole b.0 b.1 e
+  pub next_member : (whole start : List A) (x : A) → IsPrefix start whole → get_elem? whole (length start) ≡ some x → IsPrefix (start ++ x ∷ []) whole
+  next_member whole [] x b e = next whole b.0 (sym b.1) e
     where
-      next : (w r : List A) → w ≡ r → get_elem? w zero ≡ some x → StartsWith w (x ∷ [])
+      next : (w r : List A) → w ≡ r → get_elem? w zero ≡ some x → IsPrefix (x ∷ []) w
       next [] r same e = absurd (some-ne-none x (sym e))
-      next (y ∷ ys) r same e = (ys, λ i. some-injective y x e i ∷ ys)
+      next (y ∷ ys) r same e = (ys, λ i. sym (some-injective y x e) i ∷ ys)
   next_member [] (y ∷ ys) x b e = absurd (some-ne-none x (sym e))
   next_member (z ∷ zs) (y ∷ ys) x b e =
-      let t = next_member zs ys x (b.0, tail_same zs (ys ++ b.0) z y b.1) e in
-      (t.0, λ i. head_same z y zs (ys ++ b.0) b.1 i ∷ t.1 i)
+      let t = next_member zs ys x (b.0, tail_same (ys ++ b.0) zs y z b.1) e in
+      (t.0, λ i. head_same y z (ys ++ b.0) zs b.1 i ∷ t.1 i)
     where
       tails : List A → List A
       tails [] = []
@@ -112,8 +113,8 @@ module _ {A : Type 0} where
       head_same : (x y : A) (xs ys : List A) → x ∷ xs ≡ y ∷ ys → x ≡ y
       head_same x y xs ys e = cc
 
-  pub starts_whole : (whole start : List A) → StartsWith whole start → length whole ≤ length start → whole ≡ start
-  starts_whole whole start b few = b.1 ∙ none_left start b.0 (omega (arith, length-append start b.0, ap length b.1))
+  pub starts_whole : (whole start : List A) → IsPrefix start whole → length whole ≤ length start → whole ≡ start
+  starts_whole whole start b few = sym b.1 ∙ none_left start b.0 (omega (arith, length-append start b.0, ap length b.1))
     where
       none_left : (xs ys : List A) → length ys ≤ 0 → xs ++ ys ≡ xs
       none_left [] [] h = refl
@@ -136,13 +137,13 @@ few l n once below =
     pigeonhole (length l) n (λ i. get_or l i 0) (λ i h. below i (get_or l i 0) (there l i h)) (λ i k h g e. once i k (get_or l i 0) (there l i h) (there l k g ∙ ap some (sym e)))
 
 -- of two beginnings of one list the longer begins with the shorter
-pub both_start : {A : Type 0} (whole xs ys : List A) → StartsWith whole xs → StartsWith whole ys → length ys ≤ length xs → StartsWith xs ys
+pub both_start : {A : Type 0} (whole xs ys : List A) → IsPrefix xs whole → IsPrefix ys whole → length ys ≤ length xs → IsPrefix ys xs
 both_start whole xs [] b c h = (xs, refl)
 both_start whole [] (y ∷ ys) b c h = absurd (omega arith)
 both_start [] (x ∷ xs) (y ∷ ys) b c h = let l = starts-le [] (x ∷ xs) b in absurd (omega arith)
 both_start (w ∷ ws) (x ∷ xs) (y ∷ ys) b c h =
-    let t = both_start ws xs ys (b.0, tail_same ws (xs ++ b.0) w x b.1) (c.0, tail_same ws (ys ++ c.0) w y c.1) (omega arith) in
-    (t.0, λ i. (sym (head_same w x ws (xs ++ b.0) b.1) ∙ head_same w y ws (ys ++ c.0) c.1) i ∷ t.1 i)
+    let t = both_start ws xs ys (b.0, tail_same (xs ++ b.0) ws x w b.1) (c.0, tail_same (ys ++ c.0) ws y w c.1) (omega arith) in
+    (t.0, λ i. (head_same y w (ys ++ c.0) ws c.1 ∙ sym (head_same x w (xs ++ b.0) ws b.1)) i ∷ t.1 i)
   where
     tail_same : {A : Type 0} (xs ys : List A) (x y : A) → x ∷ xs ≡ y ∷ ys → xs ≡ ys
     tail_same xs ys x y e = cc
@@ -150,5 +151,5 @@ both_start (w ∷ ws) (x ∷ xs) (y ∷ ys) b c h =
     head_same : {A : Type 0} (x y : A) (xs ys : List A) → x ∷ xs ≡ y ∷ ys → x ≡ y
     head_same x y xs ys e = cc
 
-pub longer_is : {A : Type 0} (xs ys : List A) → StartsWith ys xs → longer xs ys ≡ ys
+pub longer_is : {A : Type 0} (xs ys : List A) → IsPrefix xs ys → longer xs ys ≡ ys
 longer_is xs ys b = ⊎_elim (λ lt. sym (cond_below (length xs) (length ys) ys xs lt)) (λ ge. sym (cond_above (length xs) (length ys) ys xs xs ge refl) ∙ sym (starts_whole ys xs b ge)) (cases_lt (length xs) (length ys))

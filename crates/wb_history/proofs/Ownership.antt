@@ -9,7 +9,8 @@ use Rattle.atomic_table.specs.Table.{State, Splits, Joins}
 use Rattle.atomic_table.proofs.Lists.{at_set, at_longer}
 use Rattle.wb_history.specs.declared.knowledge.Knowledge.{Knowledge}
 use Rattle.wb_names.specs.Values.{DrawopValue}
-use Rattle.wb_history.specs.Lists.{StartsWith, Has, longer, shorter}
+use mathlib.Core.List.{IsPrefix}
+use Rattle.wb_history.specs.Lists.{Has, longer, shorter}
 use Rattle.wb_history.specs.Views.{left_part, right_part, united, spent}
 use Rattle.wb_history.specs.Lawful.{Knows, Lawful}
 use Rattle.wb_history.proofs.Lists.{at-lt, at_nothing, at_append, at_end, at_after, at_take, at_drop, once_nothing, once_append, once_take, once_drop, starts-le, there}
@@ -139,8 +140,8 @@ joins cells id v other w s r at apart at_other =
     let now_own' : (q : ℕ) → r.owner q ≡ other → owner' q ≡ id = λ q own. ⊎_elim (λ t. t.1) (λ t. absurd (t.0 own)) (cases q) in
     let mine : Knows cells s.words r.log r.rows owner' id both = record {
       sized = known.sized;
-      begins = ⊎_elim (λ t. subst (StartsWith r.log) (sym t.0) known.begins) (λ t. subst (StartsWith r.log) (sym t.0) known_w.begins) (longer_cases v.seen w.seen);
-      told = shorter_of (StartsWith r.log) v.seen w.seen known.begins known_w.begins;
+      begins = ⊎_elim (λ t. subst (λ (l : List DrawopValue). IsPrefix l r.log) (sym t.0) known.begins) (λ t. subst (λ (l : List DrawopValue). IsPrefix l r.log) (sym t.0) known_w.begins) (longer_cases v.seen w.seen);
+      told = shorter_of (λ (l : List DrawopValue). IsPrefix l r.log) v.seen w.seen known.begins known_w.begins;
       free_is = λ i q e. ⊎_elim (λ h. let f = known.free_is i q h in (f.0, now_own q f.1, f.2)) (λ t. let f = known_w.free_is t.0 q t.2 in (f.0, now_own' q f.1, f.2)) (at_append v.free w.free i q e);
       free_once = once_append v.free w.free known.free_once known_w.free_once (λ i k q x y. apart (sym (known_w.free_is k q y).1 ∙ (known.free_is i q x).1));
       mine_is = λ i p e. ⊎_elim (λ h. let f = known.mine_is i p h in let l = f.0 in ((omega arith), λ q x. now_own q (f.1 q x)))

@@ -20,7 +20,8 @@ use Rattle.wb_history.specs.declared.hand.Claim.{Claim}
 use Rattle.wb_history.specs.declared.hand.Claim.TheVariants.{Added, Present, Clash}
 use Rattle.wb_history.specs.declared.hand.ClaimFault.{ClaimFault}
 use Rattle.wb_history.specs.declared.hand.ClaimFault.TheVariants.{NoRow, Memory}
-use Rattle.wb_history.specs.Lists.{StartsWith, Has, Once}
+use mathlib.Core.List.{IsPrefix}
+use Rattle.wb_history.specs.Lists.{Has, Once}
 use Rattle.wb_history.specs.Members.{AllValid, NamesOnce}
 use Rattle.wb_history.specs.Lawful.{Sane}
 use Rattle.wb_history.specs.declared.cells.CellTable.{CellTable}
@@ -81,8 +82,8 @@ as_many_cells t h is_q is_p i same = sym (ap (λ (v : PassValue). v.cells) is_p)
 owns : (h : Hand) → InOrder h → IsWhole (view_of h) → OwnsAll h.seat.me.0
 owns h o all = let b = ap length o.free in let d = ap length o.mine in omega arith
 
-pub starts : (h : Hand) (more : List DrawopValue) (k : ℕ) (h' : Hand) → Walked h more k h' → StartsWith h'.seen.items h.seen.items
-starts h more k h' w = (more, w.seen)
+pub starts : (h : Hand) (more : List DrawopValue) (k : ℕ) (h' : Hand) → Walked h more k h' → IsPrefix h.seen.items h'.seen.items
+starts h more k h' w = (more, sym w.seen)
 
 keeps_rows : (h : Hand) (more : List DrawopValue) (k : ℕ) (h' : Hand) → Walked h more k h' → KeepsRows (view_of h) (view_of h')
 keeps_rows h more k h' w = (w.mine, ap length w.free)
@@ -112,8 +113,8 @@ added h more d i extra h' o w =
       alone = λ all. w.seen ∙ ap (λ (l : List DrawopValue). l ++ d ∷ []) (ap (λ (l : List DrawopValue). h.seen.items ++ l) (w.whole (owns h o all)) ∙ append-nil h.seen.items);
     }
 
-shown_claim : (h : Hand) (d : DrawopValue) (extra : ℕ) (h' : Hand) (c : Claim) → InOrder h → Settled h d extra h' c → StartsWith h'.seen.items h.seen.items × Claimed (view_of h) d (view_of h') c
-shown_claim h d extra h' (Added i) o s = ((s.0 ++ d ∷ [], s.1.seen ∙ append_assoc h.seen.items s.0 (d ∷ [])), added h s.0 d i (extra + 1) h' o s.1)
+shown_claim : (h : Hand) (d : DrawopValue) (extra : ℕ) (h' : Hand) (c : Claim) → InOrder h → Settled h d extra h' c → IsPrefix h.seen.items h'.seen.items × Claimed (view_of h) d (view_of h') c
+shown_claim h d extra h' (Added i) o s = ((s.0 ++ d ∷ [], sym (s.1.seen ∙ append_assoc h.seen.items s.0 (d ∷ []))), added h s.0 d i (extra + 1) h' o s.1)
 shown_claim h d extra h' (Present i) o s = (starts h s.0 extra h' s.1, (get_is h'.seen.items i d s.2, adds_nothing h s.0 extra h' o s.1))
 shown_claim h d extra h' (Clash i) o s = (starts h s.0 extra h' s.1, ((s.2.0, get_is h'.seen.items i s.2.0 s.2.1, s.2.2, s.2.3), adds_nothing h s.0 extra h' o s.1))
 
@@ -137,10 +138,10 @@ pub held_after : (cells : ℕ) (h : Hand) (d : DrawopValue) (h' : Hand) (r : Res
 held_after cells h d h' (Ok c) i m = claim_held h d m.0 h' c i m.2
 held_after cells h d h' (Err f) i m = fault_held cells h d h' f i m
 
-end_starts : (cells : ℕ) (h : Hand) (more : List DrawopValue) (h' : Hand) → InOrder h → AtEnd cells h more h' → StartsWith h'.seen.items h.seen.items × AddsNothing (view_of h) (view_of h')
+end_starts : (cells : ℕ) (h : Hand) (more : List DrawopValue) (h' : Hand) → InOrder h → AtEnd cells h more h' → IsPrefix h.seen.items h'.seen.items × AddsNothing (view_of h) (view_of h')
 end_starts cells h more h' o e = ⊎_elim (λ x. (starts h more 1 h' x.0, adds_nothing h more 1 h' o x.0)) (λ x. (starts h more 0 h' x.0, adds_nothing h more 0 h' o x.0)) e
 
-shown_fault : (cells : ℕ) (h : Hand) (d : DrawopValue) (h' : Hand) (f : ClaimFault) → InOrder h → h.seat.me.0.cells ≡ cells → Refused cells h d h' f → StartsWith h'.seen.items h.seen.items × NotClaimed (view_of h) d (view_of h') f
+shown_fault : (cells : ℕ) (h : Hand) (d : DrawopValue) (h' : Hand) (f : ClaimFault) → InOrder h → h.seat.me.0.cells ≡ cells → Refused cells h d h' f → IsPrefix h.seen.items h'.seen.items × NotClaimed (view_of h) d (view_of h') f
 shown_fault cells h d h' NoRow o same r =
     let e = end_starts cells h r.0 h' o r.1 in
     (e.0, record { none_left = e.1.0.1 ∙ ap length r.3; absent = holds_not h'.seen.items d.name r.2; end = caught_up cells h r.0 h' same r.1; kept = e.1 })
@@ -148,7 +149,7 @@ shown_fault cells h d h' Memory o same r = (starts h r.0 r.1 h' r.3, adds_nothin
 
 -- what a claim with a hand says of what is seen of the hand
 pub shown : (cells : ℕ) (h : Hand) (d : DrawopValue) (h' : Hand) (r : Result Claim ClaimFault) → InOrder h → h.seat.me.0.cells ≡ cells → MatchResult r (λ c. (extra : ℕ) × (extra ≤ member_steps) × Settled h d extra h' c) (Refused cells h d h')
-    → StartsWith h'.seen.items h.seen.items × MatchResult r (Claimed (view_of h) d (view_of h')) (NotClaimed (view_of h) d (view_of h'))
+    → IsPrefix h.seen.items h'.seen.items × MatchResult r (Claimed (view_of h) d (view_of h')) (NotClaimed (view_of h) d (view_of h'))
 shown cells h d h' (Ok c) o same m = shown_claim h d m.0 h' c o m.2
 shown cells h d h' (Err f) o same m = shown_fault cells h d h' f o same m
 

@@ -11,14 +11,13 @@ use Rattle.atomic_table.specs.Table.{Me, step}
 use Rattle.wb_names.specs.Values.{DrawopValue}
 use Rattle.wb_history.specs.declared.knowledge.Knowledge.{Knowledge}
 use Rattle.wb_history.specs.declared.hand.Hand.{Hand}
-use Rattle.wb_history.specs.Lists.{StartsWith, Once, longer, shorter}
+use Rattle.wb_history.specs.Lists.{Once, longer, shorter}
 use Rattle.wb_history.specs.Hands.{InOrder, United}
 use Rattle.wb_history.specs.Plays.{confirmed}
 use Rattle.wb_history.specs.Sharing.{IsJoined}
 use Rattle.wb_history.specs.Passes.{PassValue, IsSamePass, KeepsRows}
 use Rattle.wb_history.specs.Shown.{view_of}
 use Rattle.wb_history.specs.Views.{united, after_confirm}
-use Rattle.wb_history.proofs.Words.{prefix_is}
 
 pub second_longer : {A : Type 0} (xs ys : List A) → length xs < length ys → longer xs ys ≡ ys
 second_longer xs ys lt = sym (cond_below (length xs) (length ys) ys xs lt)
@@ -27,14 +26,14 @@ pub first_longer : {A : Type 0} (xs ys : List A) → length ys ≤ length xs →
 first_longer xs ys ge = sym (cond_above (length xs) (length ys) ys xs xs ge refl)
 
 -- the longer of two lists begins with each, where it begins with the shorter
-both_begin : (xs ys : List DrawopValue) → (length (shorter xs ys) ≤ length (longer xs ys) → StartsWith (longer xs ys) (shorter xs ys)) → StartsWith (longer xs ys) xs × StartsWith (longer xs ys) ys
+both_begin : (xs ys : List DrawopValue) → (length (shorter xs ys) ≤ length (longer xs ys) → IsPrefix (shorter xs ys) (longer xs ys)) → IsPrefix xs (longer xs ys) × IsPrefix ys (longer xs ys)
 both_begin xs ys h = ⊎_elim
     (λ lt. let l = second_longer xs ys lt in let s = sym (cond_below (length xs) (length ys) xs ys lt) in
-    let b = subst (StartsWith ys) s (subst (λ (z : List DrawopValue). StartsWith z (shorter xs ys)) l (h (let a = ap length l in let c = ap length s in omega arith))) in
-    (subst (λ (z : List DrawopValue). StartsWith z xs) (sym l) b, subst (λ (z : List DrawopValue). StartsWith z ys) (sym l) ([], sym (append-nil ys))))
+    let b = subst (λ (z : List DrawopValue). IsPrefix z ys) s (subst (λ (z : List DrawopValue). IsPrefix (shorter xs ys) z) l (h (let a = ap length l in let c = ap length s in omega arith))) in
+    (subst (λ (z : List DrawopValue). IsPrefix xs z) (sym l) b, subst (λ (z : List DrawopValue). IsPrefix ys z) (sym l) ([], append-nil ys)))
     (λ ge. let l = first_longer xs ys ge in let s = sym (cond_above (length xs) (length ys) xs ys ys ge refl) in
-    let b = subst (StartsWith xs) s (subst (λ (z : List DrawopValue). StartsWith z (shorter xs ys)) l (h (let a = ap length l in let c = ap length s in omega arith))) in
-    (subst (λ (z : List DrawopValue). StartsWith z xs) (sym l) ([], sym (append-nil xs)), subst (λ (z : List DrawopValue). StartsWith z ys) (sym l) b))
+    let b = subst (λ (z : List DrawopValue). IsPrefix z xs) s (subst (λ (z : List DrawopValue). IsPrefix (shorter xs ys) z) l (h (let a = ap length l in let c = ap length s in omega arith))) in
+    (subst (λ (z : List DrawopValue). IsPrefix xs z) (sym l) ([], append-nil xs), subst (λ (z : List DrawopValue). IsPrefix ys z) (sym l) b))
     (cases_lt (length xs) (length ys))
 
 -- the hand after its seat took in the other's, and a load told what the join did not
@@ -43,7 +42,7 @@ pub took_in : (h g h' : Hand) (u : Me DrawopValue Knowledge) (word found : ℕ) 
 took_in h g h' u word found o q slots is told table id seen mine free steps =
     let after : h'.seat.me.0 ≡ after_confirm (united h.seat.me.0 g.seat.me.0) word found = told.1 ∙ ap (λ (v : Knowledge). after_confirm v word found) is in
     let long = seat_longer in
-    let starts = subst (λ (v : Knowledge). length v.told ≤ length v.seen → StartsWith v.seen v.told) is told.2 in
+    let starts = subst (λ (v : Knowledge). length v.told ≤ length v.seen → IsPrefix v.told v.seen) is told.2 in
     record {
       order = record {
         slots = told.0 ∙ (slots ∙ o.slots);
@@ -55,8 +54,8 @@ took_in h g h' u word found o q slots is told table id seen mine free steps =
       seat = (table, id, told.0 ∙ slots);
       cells = ap (λ (v : Knowledge). v.cells) after;
       seen = seen;
-      first = subst (λ (l : List DrawopValue). StartsWith l h.seen.items) (sym seen) (both_begin h.seen.items g.seen.items (subst2 (λ (a b : List DrawopValue). length (shorter a b) ≤ length (longer a b) → StartsWith (longer a b) (shorter a b)) o.seen q.seen starts)).0;
-      second = subst (λ (l : List DrawopValue). StartsWith l g.seen.items) (sym seen) (both_begin h.seen.items g.seen.items (subst2 (λ (a b : List DrawopValue). length (shorter a b) ≤ length (longer a b) → StartsWith (longer a b) (shorter a b)) o.seen q.seen starts)).1;
+      first = subst (λ (l : List DrawopValue). IsPrefix h.seen.items l) (sym seen) (both_begin h.seen.items g.seen.items (subst2 (λ (a b : List DrawopValue). length (shorter a b) ≤ length (longer a b) → IsPrefix (shorter a b) (longer a b)) o.seen q.seen starts)).0;
+      second = subst (λ (l : List DrawopValue). IsPrefix g.seen.items l) (sym seen) (both_begin h.seen.items g.seen.items (subst2 (λ (a b : List DrawopValue). length (shorter a b) ≤ length (longer a b) → IsPrefix (shorter a b) (longer a b)) o.seen q.seen starts)).1;
       mine = mine;
       free = free;
       steps = steps;
@@ -97,8 +96,8 @@ same_view h k seat seen mine free steps = λ i. record {
 pub joined : (p q : PassValue) (h g h' : Hand) → view_of h ≡ p → view_of g ≡ q → United h g h' → IsJoined p q (view_of h')
 joined p q h g h' is_p is_q u = subst (λ (v : PassValue). IsJoined v q (view_of h')) is_p (subst (λ (v : PassValue). IsJoined (view_of h) v (view_of h')) is_q record {
   seen = u.seen;
-  first = prefix_is h'.seen.items h.seen.items u.first;
-  second = prefix_is h'.seen.items g.seen.items u.second;
+  first = u.first;
+  second = u.second;
   mine = u.mine;
   free = ap length u.free ∙ long;
   apart = λ i a b. shared_none h.mine.items g.mine.items (subst Once (u.order.mine ∙ u.mine) u.order.sane.mine_once) i a b;

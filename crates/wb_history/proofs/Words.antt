@@ -5,11 +5,10 @@ use Rattle.std.proofs.Common.{eqb-true, eq-eqb}
 use Rattle.std.proofs.lemmas.List.Folds.{Any-from_list_any, list_any-from_Any}
 use Rattle.std.specs.Prelude.{nat_eq, ◌↔◌, All, AllPairs, Contains, slice_get, take}
 use mathlib.Core.Option.{some, some-injective, some-ne-none}
-use mathlib.Core.List.{IsPrefix}
 use lib.ListN.{get_elem?}
 use Rattle.wb_names.specs.Values.{NameValue, DrawopValue}
 use Rattle.wb_names.specs.History.{IsHistory, HoldsName}
-use Rattle.wb_history.specs.Lists.{StartsWith, Has, Once}
+use Rattle.wb_history.specs.Lists.{Has, Once}
 use Rattle.wb_history.specs.Members.{NamesOnce, Lacks}
 use Rattle.wb_history.proofs.Lists.{at-lt, at_read, at_take}
 
@@ -36,9 +35,6 @@ module _ {A : Type 0} where
       same : Some x ≡ Some a → x ≡ a
       same h = cc
   elem_is (x ∷ xs) (suc i) a e = elem_is xs i a e
-
-  pub prefix_is : (whole start : List A) → StartsWith whole start → IsPrefix start whole
-  prefix_is whole start b = (b.0, sym b.1)
 
   pub read_is : (l : List A) (i : ℕ) (a d : A) → get_elem? l i ≡ some a → get_or l i d ≡ a
   read_is l i a d e = some-injective (get_or l i d) a (sym (at_read l i d (at-lt l i a e)) ∙ e)

@@ -9,7 +9,8 @@ use Rattle.wb_history.specs.declared.hand.Claim.{Claim}
 use Rattle.wb_history.specs.declared.hand.ClaimFault.{ClaimFault}
 use Rattle.wb_history.specs.declared.hand.ClaimFault.TheVariants.{NoRow, Memory}
 use Rattle.wb_history.specs.declared.hand.Claim.TheVariants.{Added, Present, Clash}
-use Rattle.wb_history.specs.Lists.{StartsWith, longer}
+use mathlib.Core.List.{IsPrefix}
+use Rattle.wb_history.specs.Lists.{longer}
 use Rattle.wb_history.specs.Members.{Lacks}
 use Rattle.wb_history.specs.Lawful.{Sane}
 use Rattle.wb_history.specs.Seats.{SameSeat}
@@ -83,8 +84,8 @@ pub record United (h g h' : Hand) : Type 0 where
   pub seat : SameSeat h.seat h'.seat
   pub cells : h'.seat.me.0.cells ≡ h.seat.me.0.cells
   pub seen : h'.seen.items ≡ longer h.seen.items g.seen.items
-  pub first : StartsWith h'.seen.items h.seen.items
-  pub second : StartsWith h'.seen.items g.seen.items
+  pub first : IsPrefix h.seen.items h'.seen.items
+  pub second : IsPrefix g.seen.items h'.seen.items
   pub mine : h'.mine.items ≡ h.mine.items ++ g.mine.items
   pub free : h'.free.items ≡ h.free.items ++ g.free.items
   pub steps : h'.steps ≡ h.steps

@@ -7,7 +7,8 @@ use lib.ListN.{get_elem?}
 use Rattle.atomic_table.specs.Table.{State}
 use Rattle.wb_history.specs.declared.knowledge.Knowledge.{Knowledge}
 use Rattle.wb_names.specs.Values.{DrawopValue}
-use Rattle.wb_history.specs.Lists.{StartsWith, Has, Once}
+use mathlib.Core.List.{IsPrefix}
+use Rattle.wb_history.specs.Lists.{Has, Once}
 use Rattle.wb_history.specs.Members.{AllValid, NamesOnce}
 use Rattle.wb_codec.specs.Rows.{row}
 use Rattle.wb_history.specs.Views.{OwnsAll}
@@ -19,8 +20,8 @@ address cells r k = cells + r * row_words + k
 -- What the pass j knows is so. `rows` are the row numbers of the filled cells, and `owner` says whose a row is
 pub record Knows (cells : ℕ) (words : List ℕ) (log : List DrawopValue) (rows : List ℕ) (owner : ℕ → ℕ) (j : ℕ) (v : Knowledge) : Type 0 where
   pub sized : 0 < v.cells → v.cells ≡ cells
-  pub begins : StartsWith log v.seen
-  pub told : StartsWith log v.told
+  pub begins : IsPrefix v.seen log
+  pub told : IsPrefix v.told log
   pub free_is : (i r : ℕ) → get_elem? v.free i ≡ some r → (r < cells) × (owner r ≡ j) × ((p : ℕ) → get_elem? rows p ≡ some r → ⊥)
   pub free_once : Once v.free
   pub mine_is : (i p : ℕ) → get_elem? v.mine i ≡ some p → (p < length v.seen) × ((r : ℕ) → get_elem? rows p ≡ some r → owner r ≡ j)

@@ -1,6 +1,6 @@
 -- What each kind of step tells its caller: of the step, what the pass knew, the number found, and what it knows then.
 use Rattle.std.specs.Prelude.{◌≡◌, ◌≢◌, ℕ, ◌≤◌, [], ◌∷◌, ◌++◌, length}
-use Rattle.wb_history.specs.Lists.{StartsWith}
+use mathlib.Core.List.{IsPrefix}
 use mathlib.Core.Option.{some}
 use Rattle.atomic_table.specs.Table.{Me, Step}
 use Rattle.wb_history.specs.declared.knowledge.Knowledge.{Knowledge}
@@ -32,4 +32,4 @@ published st m found m' =
 
 -- what was seen begins with what the pass was told at the last join, where that is not longer
 abbrev pub confirmed : Step DrawopValue → Known → ℕ → Known → Type 0
-confirmed st m found m' = (m'.1 ≡ m.1) × (m'.0 ≡ after_confirm m.0 st.word found) × (length m.0.told ≤ length m.0.seen → StartsWith m.0.seen m.0.told) × Sane m'.0
+confirmed st m found m' = (m'.1 ≡ m.1) × (m'.0 ≡ after_confirm m.0 st.word found) × (length m.0.told ≤ length m.0.seen → IsPrefix m.0.told m.0.seen) × Sane m'.0

@@ -1,9 +1,9 @@
 use Rattle.std.proofs.Common.{refl, sym, ap, ◌∙◌, subst, MatchResult}
-use Rattle.wb_history.specs.Lists.{StartsWith}
+use mathlib.Core.List.{IsPrefix}
 use Rattle.wb_history.specs.Passes.{PassValue}
 use Rattle.wb_history.specs.Replies.{Claimed, NotClaimed, ClaimSteps, FaultSteps}
 use Rattle.wb_names.specs.History.{HoldsName}
-use Rattle.wb_history.proofs.Words.{prefix_is, holds}
+use Rattle.wb_history.proofs.Words.{holds}
 use Rattle.wb_history.specs.Shown.{view_of}
 use Rattle.wb_history.proofs.Shows.{from_there, shown, shown_steps, fresh, sits, sound, held_after}
 use Rattle.wb_history.proofs.history.History.claim.Goals as goal
@@ -16,7 +16,7 @@ pub returns-clause-grows : goal.returns-clause-grows
 returns-clause-grows c =
     let at = sits c.self.inside.cells c.pass.inside.hand c.self.view_is c.pass.view_is c.pass.invariant.0 c.requires.pass in
     let s = shown c.self.inside.cells.cells (record c.pass.inside.hand { steps = 0 }) c.args.drawop.now c.claim_with.new.hand c.claim_with.result (fresh c.pass.inside.hand c.pass.invariant.0).0 at.1 c.claim_with.ensures.done in
-    prefix_is c.claim_with.new.hand.seen.items c.args.pass.now.seen (subst (λ (p : PassValue). StartsWith c.claim_with.new.hand.seen.items p.seen) c.pass.view_is s.0)
+    subst (λ (p : PassValue). IsPrefix p.seen c.claim_with.new.hand.seen.items) c.pass.view_is s.0
 
 pub returns-clause-answer : goal.returns-clause-answer
 returns-clause-answer c =
