@@ -1,17 +1,27 @@
 -- The lengths of texts, apart from the other checks of a drawop.
-use Rattle.std.specs.Prelude.{◌&&◌, Option, Some, None, length, if◌then◌else◌}
-use Rattle.wb_names.specs.Drawing.{is_coordinate}
+use Rattle.std.specs.Prelude.{Bool, true, Option, Some, None, length}
 use Rattle.wb_names.specs.declared.fault.FieldFault.{FieldFault}
-use Rattle.wb_names.specs.declared.fault.FieldFault.TheVariants.{Coordinate, TextLength}
+use Rattle.wb_names.specs.declared.fault.FieldFault.TheVariants.{SeqZero, Coordinate, Glyph, TextLength, TextByte, TargetZero, TargetSelf}
 use Rattle.wb_names.specs.declared.drawop.Op.{Op}
 use Rattle.wb_names.specs.declared.drawop.Op.TheVariants.{Line, Frame, Text, Delete, Restore}
 use Rattle.wb_codec.specs.declared.version.Version.{Version}
 use Rattle.wb_codec.specs.Reading.{is_length_of}
 
--- The fault of a text whose length this version does not say: it stands where lengths are checked, after the coordinates and before the bytes.
-abbrev pub length_fault_of : Version → Op → Option FieldFault
-length_fault_of version (Line x0 y0 x1 y1 glyph) = None
-length_fault_of version (Frame x0 y0 x1 y1 glyph) = None
-length_fault_of version (Text x y text) = if is_length_of version (length text) then None else (if is_coordinate x && is_coordinate y then Some TextLength else Some Coordinate)
-length_fault_of version (Delete source seq) = None
-length_fault_of version (Restore source seq) = None
+-- the version says texts of this length
+abbrev pub is_length_told : Version → Op → Bool
+is_length_told version (Line x0 y0 x1 y1 glyph) = true
+is_length_told version (Frame x0 y0 x1 y1 glyph) = true
+is_length_told version (Text x y text) = is_length_of version (length text)
+is_length_told version (Delete source seq) = true
+is_length_told version (Restore source seq) = true
+
+-- The fault of a text whose length is not told, by what is wrong with the operation else: it stands where lengths are checked, after the coordinates and before the bytes.
+abbrev pub fault_at_length : Option FieldFault → FieldFault
+fault_at_length None = TextLength
+fault_at_length (Some SeqZero) = TextLength
+fault_at_length (Some Coordinate) = Coordinate
+fault_at_length (Some Glyph) = TextLength
+fault_at_length (Some TextLength) = TextLength
+fault_at_length (Some TextByte) = TextLength
+fault_at_length (Some TargetZero) = TextLength
+fault_at_length (Some TargetSelf) = TextLength

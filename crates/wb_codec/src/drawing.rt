@@ -1,8 +1,9 @@
-ghost use Rattle.std.specs.Prelude.{◌≡◌, Option, None, ◌&&◌};
+ghost use Rattle.std.specs.Prelude.{◌≡◌};
+ghost use Rattle.std.specs.Result.{result_err};
 ghost use Rattle.wb_names.specs.Shapes.{op_of};
 ghost use Rattle.wb_names.specs.declared.drawop.Op.TheVariants.{Line as LineOp, Frame as FrameOp, Delete as DeleteOp, Restore as RestoreOp};
 ghost use Rattle.wb_codec.specs.Reading.{Gives, stroke_at, text_at, target_at, fields_at, op_at, drawop_at};
-ghost use Rattle.wb_codec.specs.TextLengths.{length_fault_of};
+ghost use Rattle.wb_codec.specs.TextLengths.{is_length_told, fault_at_length};
 
 use crate::fault::ReadFault;
 use crate::fields::{name_of, u8_of, u16_of, u32_of, u64_of};
@@ -112,25 +113,29 @@ fn shape_of(version: Version, bytes: &[u8]) -> Result<(Shape<'_>, &[u8]), ReadFa
     fields_of(version, number, rest)
 }
 
-/// The fault of a text of a length that another version says, or none does. It comes where lengths
-/// are checked: after the coordinates, before the bytes.
+/// Whether the version says texts of this length. Other operations have no length.
 #[inline(always)]
-fn length_fault(version: Version, shape: &Shape<'_>) -> Option<FieldFault>
-    ensures { result ≡ length_fault_of version (op_of shape.now) }
+fn is_length_said(version: Version, shape: &Shape<'_>) -> bool
+    ensures { result ≡ is_length_told version (op_of shape.now) }
 {
-    let Shape::Text { x, y, bytes } = *shape else {
-        return None;
+    let Shape::Text { bytes, .. } = *shape else {
+        return true;
     };
-    let is_said = match version {
+    match version {
         Version::One => 1 <= bytes.len() && bytes.len() <= 40,
         Version::Two => 41 <= bytes.len() && bytes.len() <= 64,
-    };
-    if is_said {
-        None
-    } else if x > 4095 || y > 4095 {
-        Some(FieldFault::Coordinate)
-    } else {
-        Some(FieldFault::TextLength)
+    }
+}
+
+/// The fault of a text whose length the version does not say: it stands where lengths are checked,
+/// after the coordinates and before the bytes.
+#[inline(always)]
+fn length_fault(made: &Result<Drawop, FieldFault>) -> FieldFault
+    ensures { result ≡ fault_at_length (result_err made.now) }
+{
+    match made {
+        Err(FieldFault::Coordinate) => FieldFault::Coordinate,
+        _ => FieldFault::TextLength,
     }
 }
 
@@ -147,9 +152,10 @@ pub(crate) fn drawop_of(version: Version, bytes: &[u8]) -> Result<Drawop, ReadFa
         return Err(ReadFault::Length);
     }
     let name = Name::new(fields.source, fields.page, fields.seq)?;
-    if let Some(fault) = length_fault(version, &shape) {
-        return Err(ReadFault::Field(fault));
+    let made = Drawop::new(name, time, shape);
+    if !is_length_said(version, &shape) {
+        return Err(ReadFault::Field(length_fault(&made)));
     }
-    let drawop = Drawop::new(name, time, shape)?;
+    let drawop = made?;
     Ok(drawop)
 }
