@@ -110,6 +110,7 @@ impl Recovery {
     ) -> Result<(), RecoveryFault>
         ensures fault { IsCheckedBy (call_fault self.old.moment now delay) result }
         ensures ok { OnOk result (Accepts (Asked name held now delay word) self.old self.new) }
+        ensures moment { OnOk result (self.new.moment ≡ now) }
         ensures err { OnErr result (self.new ≡ self.old) }
     {
         self.check(now, delay)?;
@@ -132,6 +133,7 @@ impl Recovery {
     pub fn got(&mut self, name: Name, now: u64, delay: u64) -> Result<(), RecoveryFault>
         ensures fault { MatchOption (call_fault self.old.moment now delay) (IsOk result) (λ fault. result ≡ Err fault) }
         ensures ok { OnOk result (Accepts (Got name now delay) self.old self.new) }
+        ensures moment { OnOk result (self.new.moment ≡ now) }
         ensures err { OnErr result (self.new ≡ self.old) }
     {
         self.check(now, delay)?;

@@ -1,6 +1,6 @@
 //! Notices of many names, all or none.
 
-ghost use Rattle.std.specs.Prelude.{◌≡◌, ◌<◌, ◌^◌, List, true, map, filter, is_none, if◌then◌else◌, IfOk, OnOk, OnErr, MatchOption, IsOk};
+ghost use Rattle.std.specs.Prelude.{◌≤◌, ◌≡◌, ◌<◌, ◌^◌, List, true, map, filter, is_none, if◌then◌else◌, IfOk, OnOk, OnErr, MatchOption, IsOk};
 ghost use Rattle.wb_names.specs.Values.{NameValue};
 ghost use Rattle.wb_recovery.specs.Alarms.{among};
 ghost use Rattle.wb_recovery.specs.Faults.{is_delay, IsCheckedBy};
@@ -34,6 +34,7 @@ impl Recovery {
     ) -> Result<(), RecoveryFault>
         ensures fault { IsCheckedBy (notices_fault self.old.moment now missed.now) result }
         ensures ok { OnOk result ((constants : Constants) (events : List Event) → StandsFor constants events self.old → StandsFor constants (notices now events missed.now) self.new) }
+        ensures moment { OnOk result (self.new.moment ≤ now) }
         ensures err { OnErr result (IsAlike self.old self.new) }
     {
         self.check_all(missed, now)?;

@@ -40,6 +40,7 @@ impl Recovery {
         ensures fault { IsCheckedBy (gots_fault self.old.moment now come.now) result }
         ensures actions { IfOk result (λ actions. (constants : Constants) (events : List Event) → StandsFor constants events self.old → actions.items ≡ actions_of constants (gots now events come.now) now) }
         ensures ok { OnOk result ((constants : Constants) (events : List Event) → StandsFor constants events self.old → StandsFor constants (Tick now words.now ∷ gots now events come.now) self.new) }
+        ensures moment { OnOk result (self.new.moment ≡ now) }
         ensures err { OnErr result (self.new ≡ self.old) }
     {
         self.check_come(come, now)?;
