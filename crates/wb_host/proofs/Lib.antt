@@ -1,3 +1,4 @@
 pub mod StandingLayers
 pub mod InOrder
 pub mod Agreement
+pub mod KeptCalls

@@ -5,3 +5,6 @@ pub mod Board
 pub mod Desks
 pub mod Runs
 pub mod Laws
+pub mod Keeper
+pub mod Keeping
+pub mod KeepFaults

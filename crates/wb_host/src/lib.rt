@@ -10,12 +10,14 @@
 //!
 //! In reading order: `board` has the calls that open, divide and extend a board, `queries` what it
 //! answers of pages, `desk` what a desk tells by itself, and `reply` the answers to an arrival;
-//! `layers` keeps what viewed pages show. `laws` says what follows for many callers, and for two
-//! boards.
+//! `layers` keeps what viewed pages show. `keeper` has what a member misses and what it heard of the
+//! delays to others. `laws` says what follows for many callers, and for two boards.
 #![tactic(auto)]
 
 mod board;
 mod desk;
+mod keep_fault;
+mod keeper;
 pub mod laws;
 mod layers;
 mod queries;
@@ -23,5 +25,7 @@ mod reply;
 
 pub use board::Board;
 pub use desk::Desk;
+pub use keep_fault::KeepFault;
+pub use keeper::Keeper;
 pub use reply::{BoardFault, Reply};
 pub use wb_history::{JoinFault, OpenFault, SplitFault};

@@ -1,0 +1,158 @@
+//! A keeper: what one member asks for, answers and reports.
+ghost use Rattle.std.specs.Prelude.{◌≡◌, ◌<◌, ◌≤◌, ◌^◌, [], List, false, IsTrue, IsOk, IfOk, OnOk, OnErr, MatchOption, MatchResult, length};
+ghost use Rattle.wb_recovery.specs.Timing.{are_constants};
+ghost use Rattle.wb_recovery.specs.Values.{timers_in, names_in};
+ghost use Rattle.wb_recovery.specs.Events.{asking, due_asks, IsNextDue, names_of, timers_of};
+ghost use Rattle.wb_recovery.specs.declared.tuning.Tuning.{Tuning as Constants};
+ghost use Rattle.wb_host.specs.Keeper.{KeeperCall, SetDelay, events_of};
+ghost use Rattle.wb_host.specs.Keeping.{StandsFor, Keeps, delay_at, marks_at};
+ghost use Rattle.wb_host.specs.KeepFaults.{moment_fault, delay_fault, IsKeptBy};
+
+mod arrivals;
+mod notices;
+
+use crate::keep_fault::KeepFault;
+use std::alloc::Global;
+use std::collections::BTreeMap;
+use std::marker::Model;
+use wb_names::{Marks, PageId};
+use wb_recovery::{Recovery, Tuning, TuningFault};
+
+/// Of a session message: the moment of its sender's clock that it named, and the moment at which it
+/// was heard, both in microseconds.
+#[derive(Clone, Copy, Debug, PartialEq, Eq)]
+pub(crate) struct Heard {
+    pub(crate) sent: u64,
+    pub(crate) at: u64,
+}
+
+/// What one member keeps of its session: when it asks for what is missing and answers others, the
+/// marks that it heard of each page, the session messages that it heard, and the delays to others.
+///
+/// What it holds is a function of the calls that it accepted: the contracts say of each call that a
+/// keeper which stands for a list of calls stands, once it has accepted this one, for the list with
+/// this one too.
+#[derive(Debug, Drop)]
+pub struct Keeper {
+    me: u32,
+    /// The moment of the last accepted call that has one.
+    moment: u64,
+    recovery: Recovery,
+    /// The delays that were set or told, by source, in microseconds.
+    delays: BTreeMap<u32, u64>,
+    /// The last session message of each of the first 65,535 members that sent one.
+    heard: BTreeMap<u32, Heard>,
+    /// The marks that others told, by page.
+    marks: BTreeMap<PageId, Marks>,
+    /// The marks of a page of which none was told.
+    none: Marks,
+}
+
+impl Model for Keeper {
+    ghost use Rattle.wb_host.specs.Keeping.{KeeperValue, IsSound};
+
+    ghost Value = { KeeperValue };
+
+    ghost view = { λ k. record { me = k.me; moment = k.moment; recovery = k.recovery; delays = k.delays.entries; heard = k.heard.entries; marks = k.marks.entries } };
+
+    ghost invariant = { λ k. IsSound k.moment k.recovery k.delays k.none };
+}
+
+impl Keeper {
+    /// The delay to a source of which none was set or told, in microseconds: a tenth of a second.
+    pub const FIRST_DELAY: u64 = 100_000;
+
+    /// The keeper of the member `me`, which has heard nothing. A constant that is not 1 to 16 is
+    /// refused with `Constant`.
+    pub fn new(alloc: Global, me: u32, tuning: Tuning) -> Result<Keeper, TuningFault>
+        ensures constants { MatchResult result (λ r. IsTrue (are_constants tuning)) (λ e. are_constants tuning ≡ false) }
+        ensures empty { IfOk result (StandsFor me tuning []) }
+    {
+        let recovery = Recovery::new(alloc, tuning)?;
+        match Marks::new(Vec::new(alloc)) {
+            Ok(none) => Ok(Keeper {
+                me,
+                moment: 0,
+                recovery,
+                delays: BTreeMap::new(alloc),
+                heard: BTreeMap::new(alloc),
+                marks: BTreeMap::new(alloc),
+                none,
+            }),
+            Err(_) => unreachable!(),
+        }
+    }
+
+    /// Sets the delay to a source, in microseconds below 2^24, until another is set or told.
+    ///
+    /// Refused with `Range` or `Memory`, in this order.
+    pub fn set_delay(&mut self, source: u32, micros: u64) -> Result<(), KeepFault>
+        ensures fault { IsKeptBy (delay_fault micros) result }
+        ensures ok { OnOk result (Keeps (SetDelay source micros) self.old self.new) }
+        ensures err { OnErr result (self.new ≡ self.old) }
+    {
+        if micros >= 1 << 24 {
+            return Err(KeepFault::Range);
+        }
+        if self.delays.insert(source, micros).is_err() {
+            return Err(KeepFault::Memory);
+        }
+        Ok(())
+    }
+
+    /// The delay to a source, in microseconds.
+    pub fn delay(&self, source: u32) -> u64
+        ensures delay { result ≡ delay_at self.now.delays source }
+        ensures near { result < 2 ^ 24 }
+    {
+        let delay = self.delays.get(&source).copied();
+        delay.unwrap_or(Keeper::FIRST_DELAY)
+    }
+
+    /// The greatest numbers that others told of a page. Empty where none did.
+    pub fn marks(&self, page: PageId) -> &Marks
+        ensures { result.now ≡ marks_at self.now.marks page }
+    {
+        match self.marks.get(&page) {
+            Some(marks) => marks,
+            None => &self.none,
+        }
+    }
+
+    /// How many request timers are due at a moment, and so how many words `tick` then wants.
+    pub fn due_count(&self, now: u64) -> usize
+        ensures { result ≡ length (due_asks (names_in self.now.recovery) (timers_in self.now.recovery) now) }
+    {
+        self.recovery.due_count(now)
+    }
+
+    /// How many request timers stand.
+    pub fn asks(&self) -> usize
+        ensures { result ≡ length (asking (names_in self.now.recovery) (timers_in self.now.recovery)) }
+    {
+        self.recovery.asks()
+    }
+
+    /// The least moment at which a timer is due, and so when the next `tick` has something to do.
+    /// None where no timer stands.
+    pub fn next_due(&self) -> Option<u64>
+        ensures { IsNextDue (timers_in self.now.recovery) result }
+    {
+        self.recovery.next_due()
+    }
+
+    /// Refuses a moment below the last one, and then one out of its range.
+    fn check(&self, now: u64) -> Result<(), KeepFault>
+        ensures fault { MatchOption (moment_fault self.now.moment now) (IsOk result) (λ fault. result ≡ Err fault) }
+        ensures after { OnOk result (self.now.moment ≤ now) }
+        ensures moment { OnOk result (now < 2 ^ 48) }
+    {
+        if now < self.moment {
+            return Err(KeepFault::BackInTime);
+        }
+        if now >= 1 << 48 {
+            return Err(KeepFault::Range);
+        }
+        Ok(())
+    }
+}
