@@ -1,4 +1,5 @@
 pub mod Digits
+pub mod DigitPairs
 pub mod Arrivals
 pub mod KnownBytes
 pub mod LineBytes

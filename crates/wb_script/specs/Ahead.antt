@@ -32,6 +32,14 @@ abbrev pub NoLineFeed : List ℕ → Type 0
 NoLineFeed [] = Unit {0}
 NoLineFeed (b ∷ bytes) = (b ≢ 10) × NoLineFeed bytes
 
+-- Bytes without a line feed were moved from the front of what is at hand to the end of a line, which has one byte too many at most.
+pub record TakesRun (old new : Ahead) (line line' : List ℕ) : Type 0 where
+  pub run : List ℕ
+  pub from : old.bytes ≡ run ++ new.bytes
+  pub onto : line' ≡ line ++ run
+  pub no_line_feed : NoLineFeed run
+  pub short : length line' ≤ most_bytes + 1
+
 -- A line that isn't too long.
 pub record IsLine (line : List ℕ) : Type 0 where
   pub no_line_feed : NoLineFeed line

@@ -1,5 +1,5 @@
 -- What a line of a script says, or its first fault.
-use Rattle.std.specs.Prelude.{◌≡◌, ◌<◌, ◌≤◌, IfErr, ℕ, ◌-◌, ◌^◌, List, [], ◌∷◌, Bool, true, false, nat_eq, Option, Some, None, Result, Ok, Err, if◌then◌else◌, codes}
+use Rattle.std.specs.Prelude.{◌≡◌, ◌<◌, ◌≤◌, IfErr, MatchResult, ℕ, ◌-◌, ◌^◌, List, [], ◌∷◌, Bool, true, false, nat_eq, Option, Some, None, Result, Ok, Err, if◌then◌else◌, codes}
 use Rattle.std.specs.Str.{bytes_eq}
 use Rattle.wb_names.specs.declared.name.PageId.{PageId}
 use Rattle.wb_codec.specs.Reading.{reading}
@@ -181,8 +181,29 @@ IsWithin (Gaps page) = Unit {0}
 IsWithin (Report page) = Unit {0}
 IsWithin Pages = Unit {0}
 
--- What parsing answers to a line: the line that it says, its first fault, or want of memory, once the digits have been looked at.
+-- A line that carries a datagram, for which memory is taken.
+abbrev pub CarriesDatagram : Line → Type 0
+CarriesDatagram (Arrive d) = Unit {0}
+CarriesDatagram (Hear v) = Unit {0}
+CarriesDatagram Skip = ⊥
+CarriesDatagram (Board member cells workers seed) = ⊥
+CarriesDatagram (Distance source micros) = ⊥
+CarriesDatagram (Tick moment) = ⊥
+CarriesDatagram (Look page) = ⊥
+CarriesDatagram (Session page) = ⊥
+CarriesDatagram (Show page width height) = ⊥
+CarriesDatagram (Gaps page) = ⊥
+CarriesDatagram (Report page) = ⊥
+CarriesDatagram Pages = ⊥
+
+-- What parsing answers to the words of a line: what they say, the first fault, or want of memory, once the digits have been looked at.
 abbrev pub Parses : {X : Type 0} → Result X ParseFault → Result X LineFault → Type 0
 Parses (Ok line) said = said ≡ Ok line
 Parses (Err (parse_faults.Line e)) said = said ≡ Err e
 Parses (Err parse_faults.Memory) said = IfErr said (λ e. 5 ≤ line_code e)
+
+-- What parsing answers to a line. Memory runs out only for one that carries a datagram, or whose fault comes after its digits.
+abbrev pub ParsesLine : Result Line ParseFault → Result Line LineFault → Type 0
+ParsesLine (Ok line) said = said ≡ Ok line
+ParsesLine (Err (parse_faults.Line e)) said = said ≡ Err e
+ParsesLine (Err parse_faults.Memory) said = MatchResult said CarriesDatagram (λ e. 5 ≤ line_code e)

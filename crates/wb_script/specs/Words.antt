@@ -1,5 +1,5 @@
 -- The words of a line, and what numbers and hexadecimal digits stand for.
-use Rattle.std.specs.Prelude.{ℕ, ◌+◌, ◌-◌, ◌*◌, ◌%◌, List, [], ◌∷◌, ◌++◌, length, Bool, nat_eq, nat_le, ◌&&◌, Option, Some, None, if◌then◌else◌}
+use Rattle.std.specs.Prelude.{ℕ, ◌+◌, ◌-◌, ◌*◌, ◌/◌, ◌%◌, List, [], ◌∷◌, ◌++◌, length, Bool, nat_eq, nat_le, ◌&&◌, Option, Some, None, if◌then◌else◌}
 use Rattle.std.specs.List.{list_all}
 use Rattle.std.specs.Result.{result_ok}
 use Rattle.hex.specs.Hex.{decode_of, is_hex_digit}
@@ -31,6 +31,10 @@ number_of low high word = if nat_eq (length word) 0 then None else number_after 
 -- an even number of hexadecimal digits, of either case
 abbrev pub is_hex : List ℕ → Bool
 is_hex word = nat_eq (length word % 2) 0 && list_all is_hex_digit word
+
+-- the value of a hexadecimal digit: the last four bits, and nine more for a letter; of another byte a number below 16
+abbrev pub digit_of : ℕ → ℕ
+digit_of c = (c % 16 + 9 * (c / 64)) % 16
 
 -- the bytes that an even number of hexadecimal digits stand for
 abbrev pub unhex : List ℕ → Option (List ℕ)

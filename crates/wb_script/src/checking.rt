@@ -36,11 +36,12 @@ fn check_content(alloc: Global, number: u32, content: &[u8]) -> Result<(), RunFa
     }
 }
 
-/// Parses the next line. Answers whether there was one.
+/// Parses the next line, which is read into `line`. Answers whether there was one.
 fn check_line<R: Source>(
     alloc: Global,
     done: u32,
     reader: &mut LineReader,
+    line: &mut Vec<u8>,
     source: &mut R,
     output: &mut Output,
 ) -> Result<bool, RunFault>
@@ -53,18 +54,17 @@ fn check_line<R: Source>(
     ensures read { result ≡ Err RunFault.Read → R.has_failed source.new ≡ true }
     ensures write { result ≢ Err RunFault.Write }
 {
-    let mut line = Vec::new(alloc);
-    match reader.next_line(source, &mut line, output, &mut Nowhere)? {
+    match reader.next_line(source, line, output, &mut Nowhere)? {
         Found::Unwritten => unreachable!(),
         Found::End => Ok(false),
         Found::Failed => Err(RunFault::Read),
         Found::TooLong => Err(RunFault::Endless),
         Found::Last => {
-            check_content(alloc, done + 1, &line)?;
+            check_content(alloc, done + 1, line)?;
             Ok(true)
         }
         Found::Whole => {
-            check_content(alloc, done + 1, without_carriage_return(&line))?;
+            check_content(alloc, done + 1, without_carriage_return(line))?;
             Ok(true)
         }
     }
@@ -82,8 +82,9 @@ pub fn check<R: Source>(alloc: Global, source: &mut R) -> Result<u32, RunFault>
 {
     let mut reader = LineReader::new(alloc)?;
     let mut output = Output::new(alloc);
+    let mut line = Vec::new(alloc);
     for done in 0..MAX_LINES {
-        let goes_on = check_line(alloc, done, &mut reader, source, &mut output)?;
+        let goes_on = check_line(alloc, done, &mut reader, &mut line, source, &mut output)?;
         if !goes_on {
             return Ok(done);
         }

@@ -1,8 +1,10 @@
-ghost use Rattle.std.specs.Prelude.{◌≡◌, ◌≢◌, ◌↔◌, [], ◌∷◌, List, ℕ, true, false, IfOk, IsTrue, Ok};
+ghost use Rattle.std.specs.Prelude.{◌≡◌, ◌≢◌, ◌≤◌, ◌<◌, ◌+◌, ◌↔◌, [], ◌∷◌, ◌++◌, List, ℕ, length, take, slice_index, true, false, IfOk, OnOk, IsTrue, Ok};
 ghost use Rattle.wb_script.specs.Output.{Sends};
-ghost use Rattle.wb_script.specs.Ahead.{Pulls, GivesByte, MayGiveLine};
+ghost use Rattle.wb_script.specs.Script.{most_bytes};
+ghost use Rattle.wb_script.specs.Ahead.{Pulls, GivesByte, NoLineFeed, TakesRun, MayGiveLine};
 
 use crate::output::Output;
+use memchr::memchr;
 use std::alloc::{AllocError, Global};
 use std::marker::Model;
 use wb_names::{Sink, Source};
@@ -41,8 +43,23 @@ pub enum Found {
     Unwritten,
 }
 
+/// How many bytes stand before the first line feed, or in all where there is none.
+fn len_before_line_feed(bytes: &[u8]) -> usize
+    ensures within { result ≤ length bytes.now }
+    ensures before { NoLineFeed (take result bytes.now) }
+    ensures first { result < length bytes.now → slice_index bytes.now result ≡ 10 }
+{
+    memchr(b'\n', bytes).unwrap_or(bytes.len())
+}
+
+fn append(line: &mut Vec<u8>, bytes: &[u8]) -> Result<(), AllocError>
+    ensures { OnOk result (line.new.items ≡ line.old.items ++ bytes.now) }
+{
+    line.extend_from_slice(bytes)
+}
+
 /// Reads a source line by line. Before each further read it writes what waits, so that whoever
-/// feeds the source sees the answers to what he has sent.
+/// feeds the source sees the answers to what he has sent. It also writes once much waits.
 #[derive(Drop)]
 pub struct LineReader {
     block: Vec<u8>,
@@ -125,13 +142,32 @@ impl LineReader {
         ensures unwritten { result ≡ Pulled.Unwritten → (W.has_failed sink.new ≡ true) × (output.old ≢ []) }
         ensures nothing { output.old ≡ [] → output.new ≡ [] }
     {
-        if !self.is_used_up() {
+        if !self.is_used_up() && !output.is_long() {
             return Pulled::Byte(self.take_byte());
         }
-        match output.flush(sink) {
-            Ok(()) => self.pull_byte(source),
-            Err(_) => Pulled::Unwritten,
+        if output.flush(sink).is_err() {
+            return Pulled::Unwritten;
         }
+        if self.is_used_up() {
+            self.pull_byte(source)
+        } else {
+            Pulled::Byte(self.take_byte())
+        }
+    }
+
+    /// Moves what stands in the block before the next line feed to the end of a line, as far as the
+    /// line has room for it.
+    fn take_run(&mut self, line: &mut Vec<u8>) -> Result<(), AllocError>
+        requires { length line.old.items ≤ most_bytes + 1 }
+        ensures ok { OnOk result (TakesRun self.old self.new line.old.items line.new.items) }
+        ensures ended { self.new.ended ≡ self.old.ended }
+    {
+        let ahead = &self.block[self.start..self.end];
+        let room = ahead.len().min(MAX_LINE_LEN + 1 - line.len());
+        let count = len_before_line_feed(&ahead[..room]);
+        append(line, &ahead[..count])?;
+        self.start += count;
+        Ok(())
     }
 
     /// Reads the next line into `line`, without its line feed.
@@ -150,7 +186,7 @@ impl LineReader {
         ensures failed { result ≡ Ok Found.Failed → R.has_failed source.new ≡ true }
     {
         line.clear();
-        for _ in 0..MAX_LINE_LEN + 1 {
+        loop {
             match self.next_byte(source, output, sink) {
                 Pulled::Unwritten => return Ok(Found::Unwritten),
                 Pulled::Failed => return Ok(Found::Failed),
@@ -166,9 +202,12 @@ impl LineReader {
                         return Ok(Found::Whole);
                     }
                     line.push(byte)?;
+                    self.take_run(line)?;
+                    if line.len() > MAX_LINE_LEN {
+                        return Ok(Found::TooLong);
+                    }
                 }
             }
         }
-        Ok(Found::TooLong)
     }
 }

@@ -1,9 +1,12 @@
-ghost use Rattle.std.specs.Prelude.{◌≡◌, [], ◌++◌, true, length, IsOk, OnOk, OnErr};
+ghost use Rattle.std.specs.Prelude.{◌≡◌, ◌<◌, ◌↔◌, [], ◌++◌, true, length, IsTrue, IsOk, OnOk, OnErr};
 ghost use Rattle.wb_script.specs.Output.{Sends};
 
 use std::alloc::{AllocError, Global};
 use std::marker::Model;
 use wb_names::Sink;
+
+/// More waiting bytes than these are written before the next line is read.
+const MOST_WAITING: usize = 65_536;
 
 /// The sink failed. What it did not take still waits.
 #[derive(Clone, Copy, Debug, PartialEq, Eq)]
@@ -41,6 +44,13 @@ impl Output {
         ensures { result ≡ length self.now }
     {
         self.bytes.len() - self.start
+    }
+
+    /// Whether so much waits that it is to be written.
+    pub fn is_long(&self) -> bool
+        ensures { IsTrue result ↔ (65536 < length self.now) }
+    {
+        self.len() > MOST_WAITING
     }
 
     /// Adds text behind what waits.

@@ -1,10 +1,10 @@
 ghost use Rattle.std.specs.Prelude.{◌≡◌, ◌≤◌, IfOk, Result, Ok, Err};
 ghost use Rattle.std.specs.Option.{option_map};
 ghost use Rattle.wb_script.specs.Words.{words};
-ghost use Rattle.wb_script.specs.Parsing.{Parses, IsWithin, number, none_of, one_of, two_of, four_of, board, show, distance, tick, page, pages, page_line, datagram, arrive, hear, command, begins_comment, line_of};
+ghost use Rattle.wb_script.specs.Parsing.{Parses, ParsesLine, IsWithin, number, none_of, one_of, two_of, four_of, board, show, distance, tick, page, pages, page_line, datagram, arrive, hear, command, begins_comment, line_of};
 
 use crate::fault::{LineFault, ParseFault};
-use crate::hexadecimal::{is_hex, unhex};
+use crate::hexadecimal::unhex;
 use crate::line::Line;
 use crate::number::number;
 use crate::words::next_word;
@@ -169,10 +169,9 @@ fn datagram(alloc: Global, rest: &[u8]) -> Result<Datagram, ParseFault>
     ensures { Parses result (datagram (words rest.now)) }
 {
     let digits = one_word(rest).ok_or(LineFault::Words)?;
-    if !is_hex(digits) {
+    let Some(bytes) = unhex(alloc, digits)? else {
         return Err(ParseFault::Line(LineFault::Hex));
-    }
-    let bytes = unhex(alloc, digits)?;
+    };
     match read(alloc, &bytes) {
         Ok(datagram) => Ok(datagram),
         Err(ReadFault::Memory) => Err(ParseFault::Memory),
@@ -181,7 +180,7 @@ fn datagram(alloc: Global, rest: &[u8]) -> Result<Datagram, ParseFault>
 }
 
 fn arrive(alloc: Global, rest: &[u8]) -> Result<Line, ParseFault>
-    ensures line { Parses result (arrive (words rest.now)) }
+    ensures line { ParsesLine result (arrive (words rest.now)) }
     ensures within { IfOk result IsWithin }
 {
     match datagram(alloc, rest)? {
@@ -191,7 +190,7 @@ fn arrive(alloc: Global, rest: &[u8]) -> Result<Line, ParseFault>
 }
 
 fn hear(alloc: Global, rest: &[u8]) -> Result<Line, ParseFault>
-    ensures line { Parses result (hear (words rest.now)) }
+    ensures line { ParsesLine result (hear (words rest.now)) }
     ensures within { IfOk result IsWithin }
 {
     match datagram(alloc, rest)? {
@@ -220,7 +219,7 @@ fn page_line(word: &[u8], rest: &[u8]) -> Result<Line, LineFault>
 
 #[tactic(auto, unfolding(crate::specs::Parsing::command))]
 fn command(alloc: Global, word: &[u8], rest: &[u8]) -> Result<Line, ParseFault>
-    ensures line { Parses result (command word.now (words rest.now)) }
+    ensures line { ParsesLine result (command word.now (words rest.now)) }
     ensures within { IfOk result IsWithin }
 {
     if word == b"board".as_slice() {
@@ -252,10 +251,10 @@ fn begins_comment(word: &[u8]) -> bool
 }
 
 /// The line that the bytes say, which stand without their end; or its first fault: `Unknown`,
-/// `Words`, `Number`, `Hex`, `Datagram` or `Kind`, in this order. Memory can run out only once the
-/// hexadecimal digits are checked.
+/// `Words`, `Number`, `Hex`, `Datagram` or `Kind`, in this order. Memory can run out only in a line
+/// that carries a datagram, and only once its hexadecimal digits are checked.
 pub fn parse_line(alloc: Global, bytes: &[u8]) -> Result<Line, ParseFault>
-    ensures line { Parses result (line_of bytes.now) }
+    ensures line { ParsesLine result (line_of bytes.now) }
     ensures within { IfOk result IsWithin }
 {
     match next_word(bytes) {

@@ -26,11 +26,12 @@ pub fn without_carriage_return(line: &[u8]) -> &[u8]
     }
 }
 
-/// Runs the next line. Answers whether there was one.
+/// Runs the next line, which is read into `line`. Answers whether there was one.
 fn run_line<R: Source, W: Sink>(
     alloc: Global,
     done: u32,
     reader: &mut LineReader,
+    line: &mut Vec<u8>,
     host: &mut Host,
     source: &mut R,
     output: &mut Output,
@@ -45,18 +46,17 @@ fn run_line<R: Source, W: Sink>(
     ensures waiting { length host.new.waiting ≤ done + 1 }
     ensures failed { result ≡ Err RunFault.Write → W.has_failed sink.new ≡ true }
 {
-    let mut line = Vec::new(alloc);
-    match reader.next_line(source, &mut line, output, sink)? {
+    match reader.next_line(source, line, output, sink)? {
         Found::Unwritten => Err(RunFault::Write),
         Found::End => Ok(false),
         Found::Failed => Err(RunFault::Read),
         Found::TooLong => Err(RunFault::Endless),
         Found::Last => {
-            host.take_line(alloc, done + 1, &line, output)?;
+            host.take_line(alloc, done + 1, line, output)?;
             Ok(true)
         }
         Found::Whole => {
-            host.take_line(alloc, done + 1, without_carriage_return(&line), output)?;
+            host.take_line(alloc, done + 1, without_carriage_return(line), output)?;
             Ok(true)
         }
     }
@@ -79,8 +79,9 @@ fn run_lines<R: Source, W: Sink>(
     ensures waiting { length host.new.waiting < 2 ^ 32 }
     ensures failed { result ≡ Err RunFault.Write → W.has_failed sink.new ≡ true }
 {
+    let mut line = Vec::new(alloc);
     for done in 0..MAX_LINES {
-        let goes_on = run_line(alloc, done, reader, host, source, output, sink)?;
+        let goes_on = run_line(alloc, done, reader, &mut line, host, source, output, sink)?;
         if !goes_on {
             return Ok(done);
         }

@@ -181,3 +181,33 @@ fn a_pause_between_arrivals_ends_no_batch(rt: HostRuntime) -> Result<(), Fail> {
     assert_eq!(rt; written.get(), "batch 2 0 0 0\n".len());
     Ok(())
 }
+
+/// Notes how many bytes it was handed at once, at most.
+#[derive(Drop)]
+struct Widest {
+    most: usize,
+}
+
+impl Sink for Widest {
+    ghost taken = { λ s. None };
+
+    ghost has_failed = { λ s. false };
+
+    fn push(&mut self, bytes: &[u8]) -> Option<usize> {
+        self.most = self.most.max(bytes.len());
+        Some(bytes.len())
+    }
+}
+
+#[test]
+fn long_answers_are_written_while_one_block_is_read(rt: HostRuntime) -> Result<(), Fail> {
+    let mut script = String::from_str(rt.alloc(), "board 1 16 1 42\n")?;
+    for _ in 0..20 {
+        script.push_str("show 7 1 200 100\n")?;
+    }
+    let mut sink = Widest { most: 0 };
+    run(rt.alloc(), &mut FromRead::new(script.as_bytes()), &mut sink)?;
+    // A canvas has 20,100 bytes: four of them pass 65,536.
+    assert_eq!(rt; sink.most, 80_400);
+    Ok(())
+}

@@ -38,8 +38,8 @@ returns-in_err-take_line-in-Last-clause-text g c =
           (last_stops c.args.done c.args.host.now c.take_line.new.self c.args.reader.now c.next_line.new.self l.0 t.0 c.next_line.new.line.items (g.R.Source.has_failed c.next_line.new.source) c.in_err-take_line-in-Last.field-0.0 c.requires.few l.2.0 l.2.2 l.2.1 l.2.3 l.2.4 t.2),
     )
 
-pub returns-in-Last-clause-text : goal.returns-in-Last-clause-text
-returns-in-Last-clause-text g c =
+pub returns-in_ok-take_line-in-Last-clause-text : goal.returns-in_ok-take_line-in-Last-clause-text
+returns-in_ok-take_line-in-Last-clause-text g c =
     let l = rw c.in-Last.is at c.in_ok-next_line.ensures.read in
     let t = rw c.deref.ensures.value at c.in_ok-take_line-in-Last.ensures.text in (
       l.0,
@@ -63,8 +63,8 @@ returns-in_err-take_line-in-Whole-clause-text g c =
           (whole_stops c.args.done c.args.host.now c.take_line-in-Whole.new.self c.args.reader.now c.next_line.new.self l.0 t.0 c.next_line.new.line.items (g.R.Source.has_failed c.next_line.new.source) c.in_err-take_line-in-Whole.field-0.0 c.requires.few l.2.0 l.2.1 t.2),
     )
 
-pub returns-clause-text : goal.returns-clause-text
-returns-clause-text g c =
+pub returns-in_ok-take_line-in-Whole-clause-text : goal.returns-in_ok-take_line-in-Whole-clause-text
+returns-in_ok-take_line-in-Whole-clause-text g c =
     let l = rw c.in-Whole.is at c.in_ok-next_line.ensures.read in
     let content : c.without_carriage_return.result.now ≡ strip_carriage_return c.next_line.new.line.items = c.without_carriage_return.ensures ∙ ap strip_carriage_return c.deref-in-Whole.ensures.value in
     let t = rw content at c.in_ok-take_line-in-Whole.ensures.text in (

@@ -73,8 +73,8 @@ returns-in-Failed-clause-text g c =
       Passes-stops 0 c.loop-done.done c.args.host.now c.loop-done.host c.loop-done.host c.args.reader.now c.loop-done.reader c.next_byte.new.self so_far.0 one.0 so_far.1 [] (g.R.Source.has_failed c.next_byte.new.source) run_faults.Read one.1.none_after_end one.1.end_stays so_far.4 stops,
     )
 
-pub returns-in-Byte-clause-text : goal.returns-in-Byte-clause-text
-returns-in-Byte-clause-text g c =
+pub returns-clause-text : goal.returns-clause-text
+returns-clause-text g c =
     let so_far = c.loop-done.invariant.1 in
     let one = c.in-Byte.ensures.read in
     let stops = count_stops c.loop-done.done c.loop-done.host c.loop-done.reader c.next_byte.new.self one.0 c.in-Byte.field-0 (g.R.Source.has_failed c.next_byte.new.source) c.loop-done-test.false one.2 in (
