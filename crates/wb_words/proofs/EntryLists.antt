@@ -1,0 +1,218 @@
+-- Lists of entries, one word after another.
+use Rattle.std.proofs.Common.{◌≡◌, ℕ, zero, suc, ◌+◌, ◌<◌, ◌≤◌, Bool, true, false, cond, Option, Some, None, List, [], ◌∷◌, ◌++◌, length, get_or, Result, Ok, Err, refl, sym, ap, subst, ◌∙◌, append_assoc, append-nil, arith}
+use Rattle.std.specs.Prelude.{nat_lt, All, AllPairs, map}
+use Rattle.std.proofs.lemmas.Bool.{ltb-true, lt-ltb}
+use Rattle.std.proofs.lemmas.Bool.Decides.{nat_tests}
+use Rattle.std.proofs.lemmas.List.{length-append}
+use Rattle.std.proofs.lemmas.List.Elements.{All-cons, All-head, All-tail}
+use Rattle.std.proofs.lemmas.List.Kept.{AllPairs-cons}
+use Rattle.wb_names.specs.ListFaults.{IsListFault}
+use Rattle.wb_names.specs.declared.fault.ListFault.{ListFault}
+use Rattle.wb_codec.specs.Reading.{is_above}
+use Rattle.wb_codec.proofs.ListFaults.{no_list_fault}
+use Rattle.wb_words.specs.declared.fault.WrongWord.{WrongWord}
+use Rattle.wb_words.specs.declared.fault.WordFault.{WordFault}
+use Rattle.wb_words.specs.declared.fault.WordFault.TheVariants.{TooMany}
+use Rattle.wb_words.specs.Reading.{◌>>=◌, require, wrong, entries_at, left_at}
+
+-- ---- steps and checks
+
+-- the value of a step that did not fail
+pub bind_ok : {A B : Type 0} (r : Result A WrongWord) (f : A → Result B WrongWord) (y : B) → (r >>= f) ≡ Ok y → (x : A) × (r ≡ Ok x) × (f x ≡ Ok y)
+bind_ok (Ok x) f y e = (x, refl, e)
+bind_ok (Err d) f y e = absurd cc
+
+abbrev done : {A : Type 0} → A → Result A WrongWord
+done x = Ok x
+
+pub ok_is : {A : Type 0} (x y : A) → done x ≡ done y → x ≡ y
+ok_is x y e = cc
+
+pub require_ok : {A : Type 0} (b : Bool) (place : ℕ) (fault : WordFault) (x y : A) → require b place fault x ≡ Ok y → (b ≡ true) × (x ≡ y)
+require_ok true place fault x y e = (refl, cc)
+require_ok false place fault x y e = absurd cc
+
+-- these entries before those that are still to be read
+abbrev pub onto : {X : Type 0} → List X → Result (List X) WrongWord → Result (List X) WrongWord
+onto xs (Ok read) = Ok (xs ++ read)
+onto xs (Err fault) = Err fault
+
+onto_none : {X : Type 0} (r : Result (List X) WrongWord) → r ≡ onto [] r
+onto_none (Ok xs) = refl
+onto_none (Err fault) = refl
+
+onto_onto : {X : Type 0} (xs ys : List X) (r : Result (List X) WrongWord) → onto xs (onto ys r) ≡ onto (xs ++ ys) r
+onto_onto xs ys (Ok zs) = ap (λ (l : List _). Ok l) (sym (append_assoc xs ys zs))
+onto_onto xs ys (Err fault) = refl
+
+onto_one : {X : Type 0} (x : X) (r : Result (List X) WrongWord) → (r >>= λ others. Ok (x ∷ others)) ≡ onto (x ∷ []) r
+onto_one x (Ok xs) = refl
+onto_one x (Err fault) = refl
+
+module _ {X : Type 0} (entry_at : ℕ → Option ℕ → List ℕ → Result X WrongWord) (source : X → ℕ) (stops : List ℕ → Bool) where
+  abbrev read : ℕ → ℕ → Option ℕ → List (List ℕ) → Result (List X) WrongWord
+  read = entries_at entry_at source stops
+
+  -- what is left to read, where these entries are read
+  pub record HasRead (place : ℕ) (ws : List (List ℕ)) (before : Option ℕ) (rest : List (List ℕ)) (xs : List X) : Type 0 where
+    pub so_far : entries_at entry_at source stops place 0 None ws ≡ onto xs (entries_at entry_at source stops (place + length xs) (length xs) before rest)
+    pub few : length xs ≤ 65535
+
+  pub read_none : (place : ℕ) (ws : List (List ℕ)) → HasRead place ws None ws []
+  read_none place ws =
+      let same : place + 0 ≡ place = omega arith in
+      record { so_far = onto_none (read place 0 None ws) ∙ ap (λ (p : ℕ). onto [] (read p 0 None ws)) (sym same); few = omega arith }
+
+  step : (place n : ℕ) (before : Option ℕ) (w : List ℕ) (after : List (List ℕ)) (x : X) → stops w ≡ false → n < 65535 → entry_at place before w ≡ Ok x
+      → read place n before (w ∷ after) ≡ onto (x ∷ []) (read (place + 1) (n + 1) (Some (source x)) after)
+  unfolding entries_at
+  step place n before w after x goes few e =
+      let test : nat_lt n 65535 ≡ true = lt-ltb n 65535 few in
+      rw (goes, test, e) (onto_one x (read (place + 1) (n + 1) (Some (source x)) after))
+
+  pub read_more : (place : ℕ) (ws : List (List ℕ)) (before : Option ℕ) (rest : List (List ℕ)) (w : List ℕ) (after : List (List ℕ)) (xs : List X) (x : X) → HasRead place ws before rest xs → rest ≡ w ∷ after → stops w ≡ false → length xs < 65535 → entry_at (place + length xs) before w ≡ Ok x
+      → HasRead place ws (Some (source x)) after (xs ++ x ∷ [])
+  read_more place ws before rest w after xs x h is goes few e =
+      let len = length-append xs (x ∷ []) in
+      let place-is : place + length xs + 1 ≡ place + length (xs ++ x ∷ []) = omega (arith, len) in
+      let count-is : length xs + 1 ≡ length (xs ++ x ∷ []) = omega (arith, len) in
+      record {
+        so_far = h.so_far
+            ∙ ap (λ (r : List (List ℕ)). onto xs (read (place + length xs) (length xs) before r)) is
+            ∙ ap (onto xs) (step (place + length xs) (length xs) before w after x goes few e)
+            ∙ onto_onto xs (x ∷ []) (read (place + length xs + 1) (length xs + 1) (Some (source x)) after)
+            ∙ ap (λ (p : ℕ). onto (xs ++ x ∷ []) (read p (length xs + 1) (Some (source x)) after)) place-is
+            ∙ ap (λ (n : ℕ). onto (xs ++ x ∷ []) (read (place + length (xs ++ x ∷ [])) n (Some (source x)) after)) count-is;
+        few = omega (arith, len);
+      }
+
+  -- the same, of a list that was extended
+  pub read_pushed : (place : ℕ) (ws : List (List ℕ)) (before : Option ℕ) (rest : List (List ℕ)) (w : List ℕ) (after : List (List ℕ)) (xs : List X) (x : X) (here last : ℕ) (ys : List X) → HasRead place ws before rest xs → rest ≡ w ∷ after → stops w ≡ false → length xs < 65535 → here ≡ place + length xs → entry_at here before w ≡ Ok x → last ≡ source x → ys ≡ xs ++ x ∷ []
+      → HasRead place ws (Some last) after ys
+  read_pushed place ws before rest w after xs x here last ys h is goes few at-is e source-is pushed =
+      let read-here : entry_at (place + length xs) before w ≡ Ok x = ap (λ (p : ℕ). entry_at p before w) (sym at-is) ∙ e in
+      subst (λ (zs : List X). HasRead place ws (Some last) after zs) (sym pushed)
+      (subst (λ (s : ℕ). HasRead place ws (Some s) after (xs ++ x ∷ [])) (sym source-is) (read_more place ws before rest w after xs x h is goes few read-here))
+
+  pub read_stops : (place : ℕ) (ws : List (List ℕ)) (before : Option ℕ) (rest : List (List ℕ)) (w : List ℕ) (after : List (List ℕ)) (xs : List X) (e : WrongWord) (here : ℕ) → HasRead place ws before rest xs → rest ≡ w ∷ after → stops w ≡ false → length xs < 65535 → here ≡ place + length xs → entry_at here before w ≡ Err e
+      → entries_at entry_at source stops place 0 None ws ≡ Err e
+  unfolding entries_at
+  read_stops place ws before rest w after xs e here h is goes few at-is refused =
+      let fault : entry_at (place + length xs) before w ≡ Err e = ap (λ (p : ℕ). entry_at p before w) (sym at-is) ∙ refused in
+      let test : nat_lt (length xs) 65535 ≡ true = lt-ltb (length xs) 65535 few in
+      h.so_far ∙ ap (λ (r : List (List ℕ)). onto xs (read (place + length xs) (length xs) before r)) is ∙ rw (goes, test, fault) refl
+
+  pub read_many : (place : ℕ) (ws : List (List ℕ)) (before : Option ℕ) (rest : List (List ℕ)) (w : List ℕ) (after : List (List ℕ)) (xs : List X) → HasRead place ws before rest xs → rest ≡ w ∷ after → stops w ≡ false → 65535 ≤ length xs
+      → entries_at entry_at source stops place 0 None ws ≡ wrong (place + length xs) TooMany
+  unfolding entries_at
+  read_many place ws before rest w after xs h is goes many =
+      let test : nat_lt (length xs) 65535 ≡ false = grind (arith, nat_tests) in
+      h.so_far ∙ ap (λ (r : List (List ℕ)). onto xs (read (place + length xs) (length xs) before r)) is ∙ rw (goes, test) refl
+
+  pub read_all : (place : ℕ) (ws : List (List ℕ)) (before : Option ℕ) (rest : List (List ℕ)) (xs : List X) → HasRead place ws before rest xs → rest ≡ [] → entries_at entry_at source stops place 0 None ws ≡ Ok xs
+  unfolding entries_at
+  read_all place ws before rest xs h is =
+      h.so_far ∙ ap (λ (r : List (List ℕ)). onto xs (read (place + length xs) (length xs) before r)) is ∙ ap (λ (l : List X). Ok l) (append-nil xs)
+
+  pub read_until : (place : ℕ) (ws : List (List ℕ)) (before : Option ℕ) (rest : List (List ℕ)) (w : List ℕ) (after : List (List ℕ)) (xs : List X) → HasRead place ws before rest xs → rest ≡ w ∷ after → stops w ≡ true → entries_at entry_at source stops place 0 None ws ≡ Ok xs
+  unfolding entries_at
+  read_until place ws before rest w after xs h is stop =
+      h.so_far ∙ ap (λ (r : List (List ℕ)). onto xs (read (place + length xs) (length xs) before r)) is ∙ rw stop (ap (λ (l : List X). Ok l) (append-nil xs))
+
+  -- ---- what was read, and what is read again
+
+  pub record EntryTaken (spell : X → List ℕ) (Fits : X → Type 0) (before : Option ℕ) (w : List ℕ) (x : X) : Type 0 where
+    pub word : w ≡ spell x
+    pub fits : Fits x
+    pub above : is_above before (source x) ≡ true
+
+  module _ (spell : X → List ℕ) (Fits : X → Type 0) where
+    pub record ListTaken (n : ℕ) (before : Option ℕ) (ws : List (List ℕ)) (xs : List X) : Type 0 where
+      pub words : ws ≡ map spell xs ++ left_at stops ws
+      pub fits : All Fits xs
+      pub ascending : AllPairs (λ a b. source a < source b) xs
+      pub above : All (λ a. is_above before (source a) ≡ true) xs
+      pub few : n + length xs ≤ 65535
+
+    taken_none : (n : ℕ) (before : Option ℕ) (ws : List (List ℕ)) → n ≤ 65535 → left_at stops ws ≡ ws → ListTaken n before ws []
+    taken_none n before ws few is = record {
+      words = sym is;
+      fits = λ k d h. absurd (omega arith);
+      ascending = λ i j d ij h. absurd (omega arith);
+      above = λ k d h. absurd (omega arith);
+      few = omega arith;
+    }
+
+    above_later : (before : Option ℕ) (s t : ℕ) → is_above before s ≡ true → is_above (Some s) t ≡ true → is_above before t ≡ true
+    above_later None s t e f = refl
+    above_later (Some b) s t e f = lt-ltb b t (omega (arith, ltb-true b s e, ltb-true s t f))
+
+    taken_more : (n : ℕ) (before : Option ℕ) (w : List ℕ) (ws : List (List ℕ)) (x : X) (xs : List X) → stops w ≡ false → EntryTaken spell Fits before w x → ListTaken (n + 1) (Some (source x)) ws xs → ListTaken n before (w ∷ ws) (x ∷ xs)
+    taken_more n before w ws x xs goes t ts =
+        let left : left_at stops (w ∷ ws) ≡ left_at stops ws = rw goes refl in
+        let front : w ∷ ws ≡ spell x ∷ (map spell xs ++ left_at stops ws) = ap (λ v. v ∷ ws) t.word ∙ ap (λ vs. spell x ∷ vs) ts.words in
+        record {
+          words = front ∙ ap (λ vs. spell x ∷ (map spell xs ++ vs)) (sym left);
+          fits = All-cons Fits x xs t.fits ts.fits;
+          ascending = AllPairs-cons (λ (a b : X). source a < source b) x xs (λ k d h. ltb-true (source x) (source (get_or xs k d)) (ts.above k d h)) ts.ascending;
+          above = All-cons (λ (a : X). is_above before (source a) ≡ true) x xs t.above (λ k d h. above_later before (source x) (source (get_or xs k d)) t.above (ts.above k d h));
+          few = omega (arith, ts.few);
+        }
+
+    pub entries_take : ((place : ℕ) (before : Option ℕ) (w : List ℕ) (x : X) → entry_at place before w ≡ Ok x → EntryTaken spell Fits before w x)
+        → (place n : ℕ) (before : Option ℕ) (ws : List (List ℕ)) (xs : List X) → n ≤ 65535 → entries_at entry_at source stops place n before ws ≡ Ok xs → ListTaken n before ws xs
+    unfolding entries_at
+    entries_take takes place n before [] xs few e = subst (λ (ys : List X). ListTaken n before [] ys) (ok_is [] xs e) (taken_none n before [] few refl)
+    entries_take takes place n before (w ∷ ws) xs few e = by (λ (s : ℕ) (ys : List X) (le : n + 1 ≤ 65535). entries_take takes (place + 1) (n + 1) (Some s) ws ys le) (stops w) refl e
+      where
+        by : ((s : ℕ) (ys : List X) → n + 1 ≤ 65535 → read (place + 1) (n + 1) (Some s) ws ≡ Ok ys → ListTaken (n + 1) (Some s) ws ys)
+            → (t : Bool) → stops w ≡ t → cond t (Ok []) (require (nat_lt n 65535) place TooMany w >>= λ word. entry_at place before word >>= λ entry. read (place + 1) (n + 1) (Some (source entry)) ws >>= λ others. Ok (entry ∷ others)) ≡ Ok xs → ListTaken n before (w ∷ ws) xs
+        by later true h e = subst (λ (ys : List X). ListTaken n before (w ∷ ws) ys) (ok_is [] xs e) (taken_none n before (w ∷ ws) few (rw h refl))
+        by later false h e =
+            let a = bind_ok (require (nat_lt n 65535) place TooMany w) _ xs e in
+            let test = require_ok (nat_lt n 65535) place TooMany w a.0 a.1 in
+            let b = bind_ok (entry_at place before a.0) _ xs a.2 in
+            let c = bind_ok (read (place + 1) (n + 1) (Some (source b.0)) ws) _ xs b.2 in
+            let t : EntryTaken spell Fits before w b.0 = subst (λ (v : List ℕ). EntryTaken spell Fits before v b.0) (sym test.1) (takes place before a.0 b.0 b.1) in
+            let below : n < 65535 = ltb-true n 65535 test.0 in
+            let room : n + 1 ≤ 65535 = omega arith in
+            subst (λ (ys : List X). ListTaken n before (w ∷ ws) ys) (ok_is (b.0 ∷ c.0) xs c.2) (taken_more n before w ws b.0 c.0 h t (later (source b.0) c.0 room c.1))
+
+    -- the list of what was read is not refused
+    pub not_refused : ((place : ℕ) (before : Option ℕ) (w : List ℕ) (x : X) → entry_at place before w ≡ Ok x → EntryTaken spell Fits before w x)
+        → (place : ℕ) (ws : List (List ℕ)) (xs : List X) (fault : ListFault) → entries_at entry_at source stops place 0 None ws ≡ Ok xs → IsListFault (map source xs) fault → ⊥
+    not_refused takes place ws xs fault e h =
+        let t = entries_take takes place 0 None ws xs (omega arith) e in
+        no_list_fault source xs fault (omega (arith, t.few)) t.ascending h
+
+    -- entries end where these words begin
+    abbrev pub Stopped : List (List ℕ) → Type 0
+    Stopped [] = Unit {0}
+    Stopped (w ∷ ws) = stops w ≡ true
+
+    stopped_ends : (place n : ℕ) (before : Option ℕ) (ws : List (List ℕ)) → Stopped ws → read place n before ws ≡ Ok []
+    unfolding entries_at
+    stopped_ends place n before [] h = refl
+    stopped_ends place n before (w ∷ ws) h = rw h refl
+
+    pub entries_again : ((place : ℕ) (before : Option ℕ) (x : X) → Fits x → is_above before (source x) ≡ true → entry_at place before (spell x) ≡ Ok x) → ((x : X) → Fits x → stops (spell x) ≡ false)
+        → (xs : List X) (place n : ℕ) (before : Option ℕ) (rest : List (List ℕ)) → Stopped rest → n + length xs ≤ 65535 → All Fits xs → AllPairs (λ a b. source a < source b) xs → All (λ a. is_above before (source a) ≡ true) xs
+        → entries_at entry_at source stops place n before (map spell xs ++ rest) ≡ Ok xs
+    unfolding entries_at
+    entries_again again goes [] place n before rest ended few fits up above = stopped_ends place n before rest ended
+    entries_again again goes (x ∷ xs) place n before rest ended few fits up above =
+        let higher : All (λ a. is_above (Some (source x)) (source a) ≡ true) xs = λ k d h. lt-ltb (source x) (source (get_or xs k d)) (up 0 (suc k) d (omega arith) (omega arith)) in
+        let one = All-head Fits x xs fits in
+        let first = again place before x one (All-head (λ (a : X). is_above before (source a) ≡ true) x xs above) in
+        let test : nat_lt n 65535 ≡ true = lt-ltb n 65535 (omega arith) in
+        let others = entries_again again goes xs (place + 1) (n + 1) (Some (source x)) rest ended (omega arith) (All-tail Fits x xs fits) (λ i j d ij h. up (suc i) (suc j) d (omega arith) (omega arith)) higher in
+        rw (goes x one, test, first, others) refl
+
+    pub left_again : ((x : X) → Fits x → stops (spell x) ≡ false) → (xs : List X) (rest : List (List ℕ)) → Stopped rest → All Fits xs → left_at stops (map spell xs ++ rest) ≡ rest
+    left_again goes [] [] ended fits = refl
+    left_again goes [] (w ∷ ws) ended fits = rw ended refl
+    left_again goes (x ∷ xs) rest ended fits = rw (goes x (All-head Fits x xs fits)) (left_again goes xs rest ended (All-tail Fits x xs fits))
+
+    -- where nothing is left, the words are the entries'
+    pub left_all : (xs : List X) (ws : List (List ℕ)) → ws ≡ map spell xs ++ [] → ws ≡ map spell xs
+    left_all xs ws e = e ∙ append-nil (map spell xs)

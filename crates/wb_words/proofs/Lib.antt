@@ -1,0 +1,7 @@
+pub mod Numerals
+pub mod Parting
+pub mod EntryLists
+pub mod WordLaws
+pub mod TextLaws
+pub mod LineLaws
+pub mod SpellingLaws

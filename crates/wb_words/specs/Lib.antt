@@ -1,0 +1,5 @@
+pub mod Words
+pub mod Rests
+pub mod Spelling
+pub mod Reading
+pub mod Grammar

@@ -1,0 +1,56 @@
+-- The line of words of a datagram: each value has one.
+use Rattle.std.specs.Prelude.{ℕ, List, [], ◌∷◌, ◌++◌, map, flat_map, codes, decimal, if◌then◌else◌}
+use Rattle.wb_names.specs.Values.{NameValue, DrawopValue, MarkValue}
+use Rattle.wb_names.specs.declared.name.PageId.{PageId}
+use Rattle.wb_names.specs.declared.echo.Echo.{Echo}
+use Rattle.wb_names.specs.declared.drawop.Op.{Op}
+use Rattle.wb_names.specs.declared.drawop.Op.TheVariants.{Line, Frame, Text, Delete, Restore}
+use Rattle.wb_codec.specs.declared.datagram.Datagram.{Datagram}
+use Rattle.wb_codec.specs.declared.datagram.Datagram.TheVariants.{Draw, Session, Request, AskPages, PageState}
+use Rattle.wb_words.specs.Words.{words, joined, is_special}
+
+-- `CREATOR/NUMBER`
+abbrev pub page_word : PageId → List ℕ
+page_word p = decimal p.creator ++ 47 ∷ decimal p.number
+
+-- `SOURCE=HIGH`
+abbrev pub mark_word : MarkValue → List ℕ
+mark_word m = decimal m.source ++ 61 ∷ decimal m.high
+
+-- `SOURCE@SENT+HELD`
+abbrev pub echo_word : Echo → List ℕ
+echo_word e = decimal e.source ++ 64 ∷ (decimal e.sent ++ 43 ∷ decimal e.held)
+
+-- a backslash stands before each quote and each backslash
+abbrev pub escaped : ℕ → List ℕ
+escaped byte = if is_special byte then 92 ∷ byte ∷ [] else byte ∷ []
+
+-- a text in quotes, whose spaces stand as they are
+abbrev pub quoted : List ℕ → List ℕ
+quoted text = 34 ∷ (flat_map escaped text ++ 34 ∷ [])
+
+abbrev pub stroke_words : ℕ → ℕ → ℕ → ℕ → ℕ → List (List ℕ)
+stroke_words x0 y0 x1 y1 glyph = decimal x0 ∷ decimal y0 ∷ decimal x1 ∷ decimal y1 ∷ (glyph ∷ []) ∷ []
+
+abbrev pub target_words : ℕ → ℕ → List (List ℕ)
+target_words source seq = decimal source ∷ decimal seq ∷ []
+
+abbrev pub op_words : Op → List (List ℕ)
+op_words (Line x0 y0 x1 y1 glyph) = codes "line" ∷ stroke_words x0 y0 x1 y1 glyph
+op_words (Frame x0 y0 x1 y1 glyph) = codes "frame" ∷ stroke_words x0 y0 x1 y1 glyph
+op_words (Text x y text) = codes "text" ∷ decimal x ∷ decimal y ∷ words (quoted text)
+op_words (Delete source seq) = codes "delete" ∷ target_words source seq
+op_words (Restore source seq) = codes "restore" ∷ target_words source seq
+
+abbrev pub name_words : NameValue → List (List ℕ) → List (List ℕ)
+name_words n more = decimal n.source ∷ page_word n.page ∷ decimal n.seq ∷ more
+
+abbrev pub word_list : Datagram → List (List ℕ)
+word_list (Draw d) = codes "draw" ∷ name_words d.name (decimal d.time ∷ op_words d.op)
+word_list (Session sender sent page marks echoes) = codes "session-message" ∷ decimal sender ∷ decimal sent ∷ page_word page ∷ (map mark_word marks ++ map echo_word echoes)
+word_list (Request asker name) = codes "request" ∷ decimal asker ∷ name_words name []
+word_list (AskPages asker) = codes "ask-pages" ∷ decimal asker ∷ []
+word_list (PageState sender page marks) = codes "page-state" ∷ decimal sender ∷ page_word page ∷ map mark_word marks
+
+abbrev pub spelled : Datagram → List ℕ
+spelled v = joined (word_list v)

@@ -1,0 +1,131 @@
+ghost use Rattle.std.specs.Prelude.{◌≡◌, ◌≤◌, IfOk};
+ghost use Rattle.wb_words.specs.Words.{number_in, page_in as page_in_word, most32, most64};
+ghost use Rattle.wb_words.specs.Rests.{words_left};
+ghost use Rattle.wb_words.specs.Reading.{Gives, number_at, page_at, glyph_at, name_at, named};
+
+use crate::fault::{WordFault, WrongWord};
+use crate::number::number_in;
+use crate::rest::{Rest, next_word, parted};
+use wb_names::{Name, PageId};
+
+// Each of these reads a field from the word at a place, and gives what follows it.
+
+/// A number up to `most`.
+#[tactic(auto, unfolding(crate::specs::Reading::number_at))]
+fn number_of(place: u32, most: u64, rest: Rest<'_>) -> Result<(u64, Rest<'_>), WrongWord>
+    ensures number { Gives (λ x. (x.0, words_left x.1)) result (number_at place most (words_left rest.entry)) }
+    ensures bound { IfOk result (λ x. x.0 ≤ most) }
+{
+    let (word, rest) = next_word(place, rest)?;
+    match number_in(word, most) {
+        Some(number) => Ok((number, rest)),
+        None => Err(WrongWord {
+            place,
+            fault: WordFault::Number,
+        }),
+    }
+}
+
+/// A number of 64 bits.
+pub(crate) fn u64_of(place: u32, rest: Rest<'_>) -> Result<(u64, Rest<'_>), WrongWord>
+    ensures { Gives (λ x. (x.0, words_left x.1)) result (number_at place most64 (words_left rest.entry)) }
+{
+    number_of(place, u64::MAX, rest)
+}
+
+/// A number of 32 bits.
+pub(crate) fn u32_of(place: u32, rest: Rest<'_>) -> Result<(u32, Rest<'_>), WrongWord>
+    ensures { Gives (λ x. (x.0, words_left x.1)) result (number_at place most32 (words_left rest.entry)) }
+{
+    let (number, rest) = number_of(place, u64::from(u32::MAX), rest)?;
+    Ok((number as u32, rest))
+}
+
+/// A coordinate, in cells.
+pub(crate) fn coordinate_of(place: u32, rest: Rest<'_>) -> Result<(u16, Rest<'_>), WrongWord>
+    ensures { Gives (λ x. (x.0, words_left x.1)) result (number_at place 4095 (words_left rest.entry)) }
+{
+    let (number, rest) = number_of(place, 4095, rest)?;
+    Ok((number as u16, rest))
+}
+
+/// The number of 32 bits that a word is.
+pub(crate) fn u32_in(word: &[u8]) -> Option<u32>
+    ensures { result ≡ number_in most32 word.now }
+{
+    let number = number_in(word, u64::from(u32::MAX))?;
+    Some(number as u32)
+}
+
+#[tactic(auto, unfolding(crate::specs::Words::page_in))]
+fn page_in(word: &[u8]) -> Option<PageId>
+    ensures { result ≡ page_in_word word.now }
+{
+    let (creator, number) = parted(word, b'/')?;
+    let creator = u32_in(creator)?;
+    let number = u32_in(number)?;
+    Some(PageId { creator, number })
+}
+
+/// A page.
+#[tactic(auto, unfolding(crate::specs::Reading::page_at))]
+pub(crate) fn page_of(place: u32, rest: Rest<'_>) -> Result<(PageId, Rest<'_>), WrongWord>
+    ensures { Gives (λ x. (x.0, words_left x.1)) result (page_at place (words_left rest.entry)) }
+{
+    let (word, rest) = next_word(place, rest)?;
+    match page_in(word) {
+        Some(page) => Ok((page, rest)),
+        None => Err(WrongWord {
+            place,
+            fault: WordFault::Page,
+        }),
+    }
+}
+
+/// A glyph.
+#[tactic(auto, unfolding(crate::specs::Reading::glyph_at))]
+pub(crate) fn glyph_of(place: u32, rest: Rest<'_>) -> Result<(u8, Rest<'_>), WrongWord>
+    ensures { Gives (λ x. (x.0, words_left x.1)) result (glyph_at place (words_left rest.entry)) }
+{
+    let (word, rest) = next_word(place, rest)?;
+    match word {
+        [glyph] => Ok((*glyph, rest)),
+        _ => Err(WrongWord {
+            place,
+            fault: WordFault::Glyph,
+        }),
+    }
+}
+
+/// The fields of a name, whose number may be 0.
+#[derive(Clone, Copy)]
+pub(crate) struct NameFields {
+    source: u32,
+    page: PageId,
+    seq: u32,
+}
+
+/// The fields of a name, whose source stands at the place.
+#[tactic(auto, unfolding(crate::specs::Reading::name_at))]
+pub(crate) fn name_of(place: u32, rest: Rest<'_>) -> Result<(NameFields, Rest<'_>), WrongWord>
+    requires { place ≤ 3 }
+    ensures { Gives (λ x. (record { source = x.0.source; page = x.0.page; seq = x.0.seq }, words_left x.1)) result (name_at place (words_left rest.entry)) }
+{
+    let (source, rest) = u32_of(place, rest)?;
+    let (page, rest) = page_of(place + 1, rest)?;
+    let (seq, rest) = u32_of(place + 2, rest)?;
+    Ok((NameFields { source, page, seq }, rest))
+}
+
+/// The name of these fields, the last of which stands at the place.
+pub(crate) fn named(place: u32, fields: NameFields) -> Result<Name, WrongWord>
+    ensures { result ≡ named place (record { source = fields.source; page = fields.page; seq = fields.seq }) }
+{
+    match Name::new(fields.source, fields.page, fields.seq) {
+        Ok(name) => Ok(name),
+        Err(fault) => Err(WrongWord {
+            place,
+            fault: WordFault::Field(fault),
+        }),
+    }
+}

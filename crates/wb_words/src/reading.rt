@@ -1,0 +1,111 @@
+ghost use Rattle.std.specs.Prelude.{◌≡◌, ◌⊎◌, IfOk};
+ghost use Rattle.wb_codec.specs.declared.datagram.Datagram.{Datagram as DatagramValue};
+ghost use Rattle.wb_words.specs.Rests.{words_left};
+ghost use Rattle.wb_words.specs.Grammar.{Says};
+ghost use Rattle.wb_words.specs.Reading.{MayGive, draw_at, session_at, request_at, ask_pages_at, page_state_at, datagram_at, reading};
+
+use crate::drawing::drawop_of;
+use crate::entries::{after_marks, echoes_of, marks_of};
+use crate::fault::{WordFault, WordsFault, WrongWord};
+use crate::fields::{name_of, named, page_of, u32_of, u64_of};
+use crate::rest::{Rest, first_word, no_word};
+use std::alloc::Global;
+use wb_codec::Datagram;
+
+// Each of these reads the words after the first, of one kind of datagram.
+
+#[tactic(auto, unfolding(crate::specs::Reading::draw_at))]
+fn draw_of(alloc: Global, rest: Rest<'_>) -> Result<Datagram, WordsFault>
+    ensures { MayGive (λ v. v) result (draw_at (words_left rest.entry)) }
+{
+    Ok(Datagram::Draw(drawop_of(alloc, rest)?))
+}
+
+#[tactic(auto, unfolding(crate::specs::Reading::session_at))]
+fn session_of(alloc: Global, rest: Rest<'_>) -> Result<Datagram, WordsFault>
+    ensures { MayGive (λ v. v) result (session_at (words_left rest.entry)) }
+{
+    let (sender, rest) = u32_of(2, rest)?;
+    let (sent, rest) = u64_of(3, rest)?;
+    let (page, rest) = page_of(4, rest)?;
+    let marks = marks_of(alloc, 5, rest)?;
+    let place = 5 + marks.as_slice().len() as u32;
+    let echoes = echoes_of(alloc, place, after_marks(rest))?;
+    Ok(Datagram::Session {
+        sender,
+        sent,
+        page,
+        marks,
+        echoes,
+    })
+}
+
+#[tactic(auto, unfolding(crate::specs::Reading::request_at))]
+fn request_of(rest: Rest<'_>) -> Result<Datagram, WrongWord>
+    ensures { result ≡ request_at (words_left rest.entry) }
+{
+    let (asker, rest) = u32_of(2, rest)?;
+    let (fields, rest) = name_of(3, rest)?;
+    let name = named(5, fields)?;
+    no_word(6, rest)?;
+    Ok(Datagram::Request { asker, name })
+}
+
+#[tactic(auto, unfolding(crate::specs::Reading::ask_pages_at))]
+fn ask_pages_of(rest: Rest<'_>) -> Result<Datagram, WrongWord>
+    ensures { result ≡ ask_pages_at (words_left rest.entry) }
+{
+    let (asker, rest) = u32_of(2, rest)?;
+    no_word(3, rest)?;
+    Ok(Datagram::AskPages { asker })
+}
+
+#[tactic(auto, unfolding(crate::specs::Reading::page_state_at))]
+fn page_state_of(alloc: Global, rest: Rest<'_>) -> Result<Datagram, WordsFault>
+    ensures { MayGive (λ v. v) result (page_state_at (words_left rest.entry)) }
+{
+    let (sender, rest) = u32_of(2, rest)?;
+    let (page, rest) = page_of(3, rest)?;
+    let marks = marks_of(alloc, 4, rest)?;
+    let place = 4 + marks.as_slice().len() as u32;
+    no_word(place, after_marks(rest))?;
+    Ok(Datagram::PageState {
+        sender,
+        page,
+        marks,
+    })
+}
+
+/// The datagram of the kind that the first word tells.
+#[tactic(auto, unfolding(crate::specs::Reading::datagram_at))]
+fn datagram_of(alloc: Global, word: &[u8], rest: Rest<'_>) -> Result<Datagram, WordsFault>
+    ensures { MayGive (λ v. v) result (datagram_at word.now (words_left rest.entry)) }
+{
+    if word == b"draw".as_slice() {
+        draw_of(alloc, rest)
+    } else if word == b"session-message".as_slice() {
+        session_of(alloc, rest)
+    } else if word == b"request".as_slice() {
+        Ok(request_of(rest)?)
+    } else if word == b"ask-pages".as_slice() {
+        Ok(ask_pages_of(rest)?)
+    } else if word == b"page-state".as_slice() {
+        page_state_of(alloc, rest)
+    } else {
+        Err(WordsFault::Word(WrongWord {
+            place: 1,
+            fault: WordFault::Unknown,
+        }))
+    }
+}
+
+/// The datagram that a line of words says, which stands without its end; or the first word from the
+/// left that is wrong, or want of memory for a text or a list.
+pub fn read_words(alloc: Global, line: &[u8]) -> Result<Datagram, WordsFault>
+    ensures found { IfOk result (Says line.now) }
+    ensures only { (v : DatagramValue) → Says line.now v → (result ≡ Ok v) ⊎ (result ≡ Err WordsFault.Memory) }
+    ensures fault { MayGive (λ v. v) result (reading line.now) }
+{
+    let (word, rest) = first_word(line);
+    datagram_of(alloc, word, rest)
+}
