@@ -5,3 +5,4 @@ pub mod WordLaws
 pub mod TextLaws
 pub mod LineLaws
 pub mod SpellingLaws
+pub mod Appending

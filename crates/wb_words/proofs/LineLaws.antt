@@ -1,6 +1,6 @@
 -- What the words of a line say is spelled so, and what is spelled so is read.
-use Rattle.std.proofs.Common.{◌≡◌, ℕ, ◌+◌, ◌^◌, ◌<◌, ◌≤◌, Bool, true, false, cond, Option, Some, None, List, [], ◌∷◌, ◌++◌, length, Result, Ok, Err, refl, sym, ap, subst, ◌∙◌, append-nil, arith}
-use Rattle.std.specs.Prelude.{All, map, decimal, codes, Decides}
+use Rattle.std.proofs.Common.{◌≡◌, ℕ, ◌+◌, ◌^◌, ◌<◌, ◌≤◌, Bool, true, false, cond, Option, Some, None, List, [], ◌∷◌, ◌++◌, length, Result, Ok, refl, sym, ap, subst, ◌∙◌, append-nil, arith}
+use Rattle.std.specs.Prelude.{All, map, decimal, codes}
 use Rattle.std.specs.Str.{bytes_eq}
 use Rattle.std.proofs.lemmas.Slice.Eq.{bytes_eq-Decides}
 use Rattle.std.proofs.lemmas.List.Elements.{All-head}
@@ -13,7 +13,7 @@ use Rattle.wb_names.specs.declared.drawop.Op.{Op}
 use Rattle.wb_names.specs.declared.drawop.Op.TheVariants.{Line, Frame, Text, Delete, Restore}
 use Rattle.wb_codec.specs.declared.datagram.Datagram.{Datagram}
 use Rattle.wb_codec.specs.declared.datagram.Datagram.TheVariants as datagrams
-use Rattle.wb_codec.specs.Ranges.{IsPage, IsName, HasTarget, IsDrawop, IsMark, IsEcho, IsMarkList, IsEchoList, IsDatagram}
+use Rattle.wb_codec.specs.Ranges.{IsPage, IsName, HasTarget, IsDrawop, IsEcho, IsMarkList, IsEchoList, IsDatagram}
 use Rattle.wb_codec.proofs.DrawopLaws.{seq_counted, seq_free}
 use Rattle.wb_codec.proofs.EntryLaws.{MarkFits, mark_source, echo_source}
 use Rattle.wb_codec.proofs.Lawful.{lawful_stroke, lawful_text}
@@ -21,12 +21,12 @@ use Rattle.wb_words.specs.declared.fault.WordFault.{WordFault}
 use Rattle.wb_words.specs.declared.fault.WordFault.TheVariants as faults
 use Rattle.wb_words.specs.declared.fault.WrongWord.{WrongWord}
 use Rattle.wb_words.specs.Words.{words, joined, most32, most64, number_in, page_in, glyph_in, text_in}
-use Rattle.wb_words.specs.Spelling.{page_word, mark_word, echo_word, quoted, stroke_words, target_words, op_words, name_words, word_list}
+use Rattle.wb_words.specs.Spelling.{page_word, mark_word, echo_word, quoted, stroke_words, op_words, name_words, word_list}
 use Rattle.wb_words.specs.Reading.{◌>>=◌, said, in_range, word_at, end_at, number_at, page_at, glyph_at, text_at, name_at, named, drawn, Stroke, stroke_at, line_at, frame_at, written_at, delete_at, restore_at, op_at, drawop_at, mark_at, echo_at, is_echo, left_at, marks_at, echoes_at, draw_at, session_at, request_at, ask_pages_at, page_state_at, datagram_at, reading_of}
 use Rattle.wb_words.proofs.Numerals.{number_takes, number_again}
-use Rattle.wb_words.proofs.Parting.{NoSpaces, words_joined, text_words, HasWord, has_word}
+use Rattle.wb_words.proofs.Parting.{NoSpaces, words_joined, text_words}
 use Rattle.wb_words.proofs.TextLaws.{text_takes, text_again}
-use Rattle.wb_words.proofs.EntryLists.{bind_ok, ok_is, entries_take, entries_again, left_again, ListTaken, Stopped}
+use Rattle.wb_words.proofs.EntryLists.{bind_ok, ok_is, entries_take, entries_again, left_again, Stopped}
 use Rattle.wb_words.proofs.WordLaws.{again32, again64, page_takes, page_again, mark_read, mark_spelled, echo_read, echo_spelled, mark_goes, echo_stops}
 
 -- ---- one word

@@ -1,8 +1,8 @@
 -- What stands before and after the first byte that is a mark, and the words of a line.
-use Rattle.std.proofs.Common.{◌≡◌, ◌≢◌, ℕ, ◌<◌, ◌≤◌, ◌+◌, ◌^◌, Bool, true, false, cond, Option, Some, None, List, [], ◌∷◌, ◌++◌, length, refl, sym, ap, ◌∙◌, append_assoc, arith, subst}
+use Rattle.std.proofs.Common.{◌≡◌, ℕ, ◌<◌, ◌≤◌, ◌^◌, Bool, true, false, cond, Some, None, List, [], ◌∷◌, ◌++◌, refl, sym, ap, ◌∙◌, append_assoc, arith, subst}
 use Rattle.std.specs.Prelude.{nat_eq, All, map, decimal}
 use Rattle.std.specs.Char.{digit_value}
-use Rattle.std.specs.List.{slice_split, onto_first, join_with_byte}
+use Rattle.std.specs.List.{onto_first}
 use Rattle.std.specs.Str.Parse.{AllDigits}
 use Rattle.std.proofs.lemmas.Bool.{eqb-true}
 use Rattle.std.proofs.lemmas.Bool.Decides.{nat_tests}
@@ -60,10 +60,10 @@ digits_lack mark far [] d = All-nil (λ b. nat_eq b mark ≡ false)
 digits_lack mark far (c ∷ cs) d =
     let other : nat_eq c mark ≡ false = no_match (nat_eq c mark) refl in
     All-cons (λ b. nat_eq b mark ≡ false) c cs other (digits_lack mark far cs d.1)
-    where
-      no_match : (t : Bool) → nat_eq c mark ≡ t → nat_eq c mark ≡ false
-      no_match false h = h
-      no_match true h = let same : c ≡ mark = eqb-true c mark h in let low : digit_value mark < 10 = subst (λ x. digit_value x < 10) same d.0 in absurd (omega arith)
+  where
+    no_match : (t : Bool) → nat_eq c mark ≡ t → nat_eq c mark ≡ false
+    no_match false h = h
+    no_match true h = let same : c ≡ mark = eqb-true c mark h in let low : digit_value mark < 10 = subst (λ x. digit_value x < 10) same d.0 in absurd (omega arith)
 
 pub decimal_lacks : (mark n : ℕ) → 10 ≤ digit_value mark → n < 2 ^ 64 → All (λ b. nat_eq b mark ≡ false) (decimal n)
 decimal_lacks mark n far small = digits_lack mark far (decimal n) (decimal_digits n small)

@@ -1,8 +1,7 @@
 -- Texts in quotes: what is read is the text that was quoted, and what was quoted is read again.
-use Rattle.std.proofs.Common.{◌≡◌, ℕ, Bool, true, false, cond, Option, Some, None, List, [], ◌∷◌, ◌++◌, length, refl, sym, ap, ◌∙◌, append_assoc, append-nil, arith}
+use Rattle.std.proofs.Common.{◌≡◌, ℕ, Bool, true, false, cond, Some, None, List, [], ◌∷◌, ◌++◌, length, refl, sym, ap, ◌∙◌, append_assoc, append-nil}
 use Rattle.std.specs.Prelude.{nat_eq, flat_map, ◌||◌}
 use Rattle.std.proofs.lemmas.Bool.{eqb-true}
-use Rattle.std.proofs.lemmas.Bool.Decides.{nat_tests}
 use Rattle.std.proofs.lemmas.List.{nil_from_length}
 use Rattle.wb_words.specs.Words.{is_special, text_after, text_in}
 use Rattle.wb_words.specs.Spelling.{escaped, quoted}
@@ -53,6 +52,7 @@ unquoted passed false (b ∷ bytes) text e = by (unquoted passed true bytes text
   closed : (t : Bool) → nat_eq (length bytes) 0 ≡ t → cond t (Some passed) None ≡ Some text → (bytes ≡ []) × (passed ≡ text)
   closed true h f = (nil_from_length bytes (eqb-true (length bytes) 0 h), some_is passed text f)
   closed false h f = absurd cc
+
   by : (text_after passed true bytes ≡ Some text → Unquoted passed true bytes text) → (text_after (passed ++ b ∷ []) false bytes ≡ Some text → Unquoted (passed ++ b ∷ []) false bytes text)
       → (q : Bool) → nat_eq b 34 ≡ q → (s : Bool) → nat_eq b 92 ≡ s → Unquoted passed false (b ∷ bytes) text
   by slash later true h s k =
@@ -81,10 +81,10 @@ quoted_again : (passed text : List ℕ) → text_after passed false (flat_map es
 quoted_again passed [] = ap (λ t. Some t) (sym (append-nil passed))
 quoted_again passed (b ∷ text) =
     ap (text_after passed false) (append_assoc (escaped b) (flat_map escaped text) (34 ∷ [])) ∙ by (flat_map escaped text ++ 34 ∷ []) (is_special b) refl ∙ quoted_again (passed ++ b ∷ []) text ∙ ap (λ t. Some t) (append_assoc passed (b ∷ []) text)
-    where
-      by : (rest : List ℕ) (t : Bool) → is_special b ≡ t → text_after passed false (escaped b ++ rest) ≡ text_after (passed ++ b ∷ []) false rest
-      by rest true h = ap (λ t. text_after passed false (t ++ rest)) (escaped_special b h) ∙ rw h refl
-      by rest false h = let n = neither (nat_eq b 34) (nat_eq b 92) h in ap (λ t. text_after passed false (t ++ rest)) (escaped_plain b h) ∙ rw (n.0, n.1) refl
+  where
+    by : (rest : List ℕ) (t : Bool) → is_special b ≡ t → text_after passed false (escaped b ++ rest) ≡ text_after (passed ++ b ∷ []) false rest
+    by rest true h = ap (λ t. text_after passed false (t ++ rest)) (escaped_special b h) ∙ rw h refl
+    by rest false h = let n = neither (nat_eq b 34) (nat_eq b 92) h in ap (λ t. text_after passed false (t ++ rest)) (escaped_plain b h) ∙ rw (n.0, n.1) refl
 
 pub text_again : (text : List ℕ) → text_in (quoted text) ≡ Some text
 text_again text = quoted_again [] text

@@ -1,10 +1,7 @@
 -- What one word says is spelled so, and what is spelled so is read.
-use Rattle.std.proofs.Common.{◌≡◌, ℕ, ◌+◌, ◌^◌, ◌<◌, ◌≤◌, Bool, true, false, cond, Option, Some, None, List, [], ◌∷◌, ◌++◌, length, Result, Ok, Err, refl, sym, ap, subst, ◌∙◌, append_assoc, append-nil, arith}
-use Rattle.std.specs.Prelude.{nat_eq, nat_lt, All, decimal, flat_map, is_some, ◌||◌}
-use Rattle.std.proofs.lemmas.Bool.{eqb-true, lt-ltb, le-leb}
-use Rattle.std.proofs.lemmas.Bool.Decides.{nat_tests}
-use Rattle.std.proofs.lemmas.List.{nil_from_length}
-use Rattle.std.proofs.lemmas.List.Elements.{All-cons, All-nil, All-append}
+use Rattle.std.proofs.Common.{◌≡◌, ℕ, ◌^◌, ◌<◌, ◌≤◌, Bool, true, false, Option, Some, None, List, [], ◌∷◌, ◌++◌, Ok, refl, sym, ap, subst, ◌∙◌, arith}
+use Rattle.std.specs.Prelude.{nat_eq, All, decimal, is_some}
+use Rattle.std.proofs.lemmas.List.Elements.{All-cons, All-append}
 use Rattle.wb_names.specs.Values.{MarkValue}
 use Rattle.wb_names.specs.Drawing.{seq_fault}
 use Rattle.wb_names.specs.declared.name.PageId.{PageId}
@@ -16,13 +13,12 @@ use Rattle.wb_codec.proofs.DrawopLaws.{seq_counted, seq_free}
 use Rattle.wb_codec.proofs.EntryLaws.{MarkFits, mark_source, echo_source}
 use Rattle.wb_words.specs.declared.fault.WordFault.{WordFault}
 use Rattle.wb_words.specs.declared.fault.WordFault.TheVariants.{Order, Mark, Echo as EchoFault}
-use Rattle.wb_words.specs.declared.fault.WrongWord.{WrongWord}
-use Rattle.wb_words.specs.Words.{◌>>=◌, parted, parted_after, most32, most64, number_in, page_in, mark_in, echo_in, is_special, text_after, text_in}
-use Rattle.wb_words.specs.Spelling.{page_word, mark_word, echo_word, escaped, quoted}
-use Rattle.wb_words.specs.Reading.{said, in_range, require, mark_at, echo_at, is_echo}
+use Rattle.wb_words.specs.Words.{◌>>=◌, parted, most32, most64, number_in, page_in, mark_in, echo_in}
+use Rattle.wb_words.specs.Spelling.{page_word, mark_word, echo_word}
+use Rattle.wb_words.specs.Reading.{said, in_range, mark_at, echo_at, is_echo}
 use Rattle.wb_words.proofs.Numerals.{number_takes, number_again}
-use Rattle.wb_words.proofs.Parting.{Chosen, chosen, some_is, parted_takes, parted_again, parted_none, decimal_lacks, NoSpace}
-use Rattle.wb_words.proofs.EntryLists.{EntryTaken, bind_ok, ok_is, require_ok}
+use Rattle.wb_words.proofs.Parting.{some_is, parted_takes, parted_again, parted_none, decimal_lacks, NoSpace}
+use Rattle.wb_words.proofs.EntryLists.{EntryTaken, bind_ok, require_ok}
 
 -- the value of a step that found something
 some_step : {A B : Type 0} (o : Option A) (f : A → Option B) (y : B) → (o >>= f) ≡ Some y → (x : A) × (o ≡ Some x) × (f x ≡ Some y)

@@ -3,3 +3,4 @@ pub mod Rests
 pub mod Spelling
 pub mod Reading
 pub mod Grammar
+pub mod Laws

@@ -1,6 +1,6 @@
 -- The line of words of a datagram: each value has one.
 use Rattle.std.specs.Prelude.{ℕ, List, [], ◌∷◌, ◌++◌, map, flat_map, codes, decimal, if◌then◌else◌}
-use Rattle.wb_names.specs.Values.{NameValue, DrawopValue, MarkValue}
+use Rattle.wb_names.specs.Values.{NameValue, MarkValue}
 use Rattle.wb_names.specs.declared.name.PageId.{PageId}
 use Rattle.wb_names.specs.declared.echo.Echo.{Echo}
 use Rattle.wb_names.specs.declared.drawop.Op.{Op}
@@ -54,3 +54,7 @@ word_list (PageState sender page marks) = codes "page-state" ∷ decimal sender 
 
 abbrev pub spelled : Datagram → List ℕ
 spelled v = joined (word_list v)
+
+-- these words behind others of a line: a space stands before each
+abbrev pub tailed : List (List ℕ) → List ℕ
+tailed ws = flat_map (λ w. 32 ∷ w) ws

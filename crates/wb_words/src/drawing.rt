@@ -122,12 +122,7 @@ fn text_of(alloc: Global, place: u32, rest: Rest<'_>) -> Result<Vec<u8>, WordsFa
 }
 
 #[tactic(auto, unfolding(crate::specs::Reading::written_at))]
-fn written_of(
-    alloc: Global,
-    name: Name,
-    time: u64,
-    rest: Rest<'_>,
-) -> Result<Drawop, WordsFault>
+fn written_of(alloc: Global, name: Name, time: u64, rest: Rest<'_>) -> Result<Drawop, WordsFault>
     ensures { MayGive (λ d. d) result (written_at name time (words_left rest.entry)) }
 {
     let (x, rest) = coordinate_of(7, rest)?;

@@ -8,10 +8,13 @@ mod drawing;
 mod entries;
 mod fault;
 mod fields;
+pub mod laws;
 mod number;
 mod reading;
 mod rest;
 mod text;
+mod writing;
 
 pub use fault::{WordFault, WordsFault, WrongWord};
 pub use reading::read_words;
+pub use writing::write_words;

@@ -1,4 +1,4 @@
-use Rattle.std.proofs.Common.{ℕ, length, false}
+use Rattle.std.proofs.Common.{length, false}
 use Rattle.wb_words.specs.Rests.{words_left}
 use Rattle.wb_words.specs.Reading.{echo_at}
 use Rattle.wb_words.proofs.EntryLists.{HasRead}

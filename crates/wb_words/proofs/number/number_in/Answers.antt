@@ -1,5 +1,4 @@
-use Rattle.std.proofs.Common.{◌≡◌, ◌<◌, ◌≤◌, ◌+◌, ◌-◌, ◌*◌, get_or, refl, sym, ap, ◌∙◌, cond, arith, Option, Some, None, ℕ}
-use Rattle.std.specs.Prelude.{nat_le}
+use Rattle.std.proofs.Common.{◌<◌, ◌+◌, ◌-◌, ◌*◌, get_or, refl, sym, ◌∙◌, arith}
 use Rattle.std.proofs.lemmas.Bool.Decides.{nat_tests}
 use Rattle.wb_words.proofs.Numerals.{not_plain, walked_stops, walked_past, walked_all, not_digit, a_digit}
 use Rattle.wb_words.proofs.number.number_in.Goals as goal

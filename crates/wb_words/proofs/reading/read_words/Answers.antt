@@ -1,4 +1,3 @@
-use Rattle.wb_words.specs.Reading.{reading}
 use Rattle.wb_words.proofs.SpellingLaws.{first_read, answer_same, answer_found, answer_only}
 use Rattle.wb_words.proofs.reading.read_words.Goals as goal
 

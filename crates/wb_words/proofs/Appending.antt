@@ -1,0 +1,71 @@
+-- Words added one after another.
+use Rattle.std.proofs.Common.{◌≡◌, ℕ, ◌+◌, ◌<◌, List, [], ◌∷◌, ◌++◌, length, get_or, take, sym, ap, ◌∙◌, append_assoc, append-nil}
+use Rattle.std.specs.Prelude.{map, codes, decimal, OnOk, Result, Ok, Err}
+use Rattle.std.proofs.lemmas.List.{take_more, map-append}
+use Rattle.std.proofs.lemmas.Grind.{flat_map-append}
+use Rattle.wb_words.specs.Words.{words, joined}
+use Rattle.wb_words.specs.Spelling.{stroke_words, quoted, tailed}
+use Rattle.wb_words.proofs.Parting.{has_word, joined_words}
+
+-- a text added, and another behind it
+pub glued : (o a b text tail whole : List ℕ) → a ≡ o ++ text → b ≡ a ++ tail → text ++ tail ≡ whole → b ≡ o ++ whole
+glued o a b text tail whole e f g = f ∙ ap (λ t. t ++ tail) e ∙ append_assoc o text tail ∙ ap (λ t. o ++ t) g
+
+pub joined_tailed : (w : List ℕ) (ws : List (List ℕ)) → joined (w ∷ ws) ≡ w ++ tailed ws
+joined_tailed w [] = sym (append-nil w)
+joined_tailed w (v ∷ ws) = ap (λ t. w ++ 32 ∷ t) (joined_tailed v ws)
+
+-- the words of a text in quotes, a space before each
+pub tailed_words : (line : List ℕ) → tailed (words line) ≡ 32 ∷ line
+tailed_words line =
+    let h = has_word line in
+    let whole : joined (h.first ∷ h.others) ≡ line = ap joined (sym h.is) ∙ joined_words line in
+    ap tailed h.is ∙ ap (λ t. 32 ∷ t) (sym (joined_tailed h.first h.others) ∙ whole)
+
+pub tailed_more : {X : Type 0} (f : X → List ℕ) (xs : List X) (i : ℕ) (d : X) → i < length xs → tailed (map f (take (i + 1) xs)) ≡ tailed (map f (take i xs)) ++ 32 ∷ f (get_or xs i d)
+tailed_more f xs i d lt = ap (λ ys. tailed (map f ys)) (take_more xs i d lt) ∙ ap tailed (map-append f (take i xs) (get_or xs i d ∷ [])) ∙ flat_map-append (λ w. 32 ∷ w) (map f (take i xs)) (f (get_or xs i d) ∷ []) ∙ ap (λ t. tailed (map f (take i xs)) ++ t) (append-nil (32 ∷ f (get_or xs i d)))
+
+-- an entry of a list added
+pub entry_added : {X : Type 0} (f : X → List ℕ) (xs : List X) (i : ℕ) (x : X) (o a b text : List ℕ) → i < length xs → x ≡ get_or xs i x → a ≡ o ++ tailed (map f (take i xs)) → b ≡ a ++ text → text ≡ 32 ∷ f x → b ≡ o ++ tailed (map f (take (i + 1) xs))
+entry_added f xs i x o a b text lt is e g h =
+    glued o a b (tailed (map f (take i xs))) text _ e g (ap (λ t. tailed (map f (take i xs)) ++ t) (h ∙ ap (λ y. 32 ∷ f y) is) ∙ sym (tailed_more f xs i x lt))
+
+-- the same, of the entry at a place
+pub entry_added_at : {X : Type 0} (f : X → List ℕ) (xs : List X) (i : ℕ) (d : X) (o a b : List ℕ) → i < length xs → a ≡ o ++ tailed (map f (take i xs)) → b ≡ a ++ 32 ∷ f (get_or xs i d) → b ≡ o ++ tailed (map f (take (i + 1) xs))
+entry_added_at f xs i d o a b lt e g = glued o a b (tailed (map f (take i xs))) (32 ∷ f (get_or xs i d)) _ e g (sym (tailed_more f xs i d lt))
+
+pub line_text : (x0 y0 x1 y1 glyph : ℕ) → (codes " line " ++ (decimal x0 ++ (codes " " ++ (decimal y0 ++ (codes " " ++ (decimal x1 ++ (codes " " ++ (decimal y1 ++ codes " ")))))))) ++ glyph ∷ [] ≡ tailed (codes "line" ∷ stroke_words x0 y0 x1 y1 glyph)
+line_text x0 y0 x1 y1 glyph = simp append_assoc
+
+pub frame_text : (x0 y0 x1 y1 glyph : ℕ) → (codes " frame " ++ (decimal x0 ++ (codes " " ++ (decimal y0 ++ (codes " " ++ (decimal x1 ++ (codes " " ++ (decimal y1 ++ codes " ")))))))) ++ glyph ∷ [] ≡ tailed (codes "frame" ∷ stroke_words x0 y0 x1 y1 glyph)
+frame_text x0 y0 x1 y1 glyph = simp append_assoc
+
+pub text_text : (x y : ℕ) (text : List ℕ) → (codes " text " ++ (decimal x ++ (codes " " ++ decimal y))) ++ 32 ∷ quoted text ≡ tailed (codes "text" ∷ decimal x ∷ decimal y ∷ words (quoted text))
+text_text x y text = ap (λ t. (codes " text " ++ (decimal x ++ (codes " " ++ decimal y))) ++ t) (sym (tailed_words (quoted text))) ∙ simp append_assoc
+
+-- ---- whole lines
+
+pub draw_text : (source creator number seq time : ℕ) (op : List (List ℕ)) → (codes "draw " ++ (decimal source ++ (codes " " ++ (decimal creator ++ (codes "/" ++ (decimal number ++ (codes " " ++ (decimal seq ++ (codes " " ++ decimal time))))))))) ++ tailed op
+    ≡ joined (codes "draw" ∷ decimal source ∷ (decimal creator ++ 47 ∷ decimal number) ∷ decimal seq ∷ decimal time ∷ op)
+draw_text source creator number seq time op =
+    let ws : List (List ℕ) = decimal source ∷ (decimal creator ++ 47 ∷ decimal number) ∷ decimal seq ∷ decimal time ∷ op in
+    let flat : (codes "draw " ++ (decimal source ++ (codes " " ++ (decimal creator ++ (codes "/" ++ (decimal number ++ (codes " " ++ (decimal seq ++ (codes " " ++ decimal time))))))))) ++ tailed op ≡ codes "draw" ++ tailed ws = simp append_assoc in
+    flat ∙ sym (joined_tailed (codes "draw") ws)
+
+pub session_text : (sender sent creator number : ℕ) (marks echoes : List (List ℕ)) → ((codes "session-message " ++ (decimal sender ++ (codes " " ++ (decimal sent ++ (codes " " ++ (decimal creator ++ (codes "/" ++ decimal number))))))) ++ tailed marks) ++ tailed echoes
+    ≡ joined (codes "session-message" ∷ decimal sender ∷ decimal sent ∷ (decimal creator ++ 47 ∷ decimal number) ∷ (marks ++ echoes))
+session_text sender sent creator number marks echoes =
+    let ws : List (List ℕ) = decimal sender ∷ decimal sent ∷ (decimal creator ++ 47 ∷ decimal number) ∷ (marks ++ echoes) in
+    let flat : ((codes "session-message " ++ (decimal sender ++ (codes " " ++ (decimal sent ++ (codes " " ++ (decimal creator ++ (codes "/" ++ decimal number))))))) ++ tailed marks) ++ tailed echoes ≡ codes "session-message" ++ tailed ws = simp (append_assoc, flat_map-append) in
+    flat ∙ sym (joined_tailed (codes "session-message") ws)
+
+pub page_state_text : (sender creator number : ℕ) (marks : List (List ℕ)) → (codes "page-state " ++ (decimal sender ++ (codes " " ++ (decimal creator ++ (codes "/" ++ decimal number))))) ++ tailed marks
+    ≡ joined (codes "page-state" ∷ decimal sender ∷ (decimal creator ++ 47 ∷ decimal number) ∷ marks)
+page_state_text sender creator number marks =
+    let ws : List (List ℕ) = decimal sender ∷ (decimal creator ++ 47 ∷ decimal number) ∷ marks in
+    let flat : (codes "page-state " ++ (decimal sender ++ (codes " " ++ (decimal creator ++ (codes "/" ++ decimal number))))) ++ tailed marks ≡ codes "page-state" ++ tailed ws = simp append_assoc in
+    flat ∙ sym (joined_tailed (codes "page-state") ws)
+
+pub ok_then : {A E P Q : Type 0} (r : Result A E) → (P → Q) → OnOk r P → OnOk r Q
+ok_then (Ok x) f h = f h
+ok_then (Err e) f h = h

@@ -1,0 +1,193 @@
+ghost use Rattle.std.specs.Prelude.{◌≡◌, ◌∷◌, ◌++◌, IfOk, OnOk, map};
+ghost use Rattle.wb_codec.specs.declared.datagram.Datagram.{Datagram as DatagramValue};
+ghost use Rattle.wb_words.specs.Spelling.{quoted, mark_word, echo_word, op_words, spelled, tailed};
+
+use crate::text::is_special;
+use std::alloc::{AllocError, Global};
+use wb_codec::Datagram;
+use wb_names::{Drawop, Echo, Mark, Name, Op, PageId};
+
+/// Adds a space and a text in quotes.
+fn put_text(out: &mut Vec<u8>, text: &[u8]) -> Result<(), AllocError>
+    ensures { OnOk result (out.new.items ≡ out.old.items ++ 32 ∷ quoted text.now) }
+{
+    out.extend_from_slice(b" \"")?;
+    for byte in text {
+        if is_special(*byte) {
+            out.push(b'\\')?;
+        }
+        out.push(*byte)?;
+    }
+    out.push(b'"')?;
+    Ok(())
+}
+
+/// Adds the words of an operation, a space before each.
+fn put_op(alloc: Global, out: &mut Vec<u8>, op: &Op) -> Result<(), AllocError>
+    ensures { OnOk result (out.new.items ≡ out.old.items ++ tailed (op_words op.now)) }
+{
+    match op {
+        Op::Line {
+            x0,
+            y0,
+            x1,
+            y1,
+            glyph,
+        } => {
+            let text = format!(in alloc; " line {x0} {y0} {x1} {y1} ")?;
+            out.extend_from_slice(text.as_bytes())?;
+            out.push(*glyph)?;
+            Ok(())
+        }
+        Op::Frame {
+            x0,
+            y0,
+            x1,
+            y1,
+            glyph,
+        } => {
+            let text = format!(in alloc; " frame {x0} {y0} {x1} {y1} ")?;
+            out.extend_from_slice(text.as_bytes())?;
+            out.push(*glyph)?;
+            Ok(())
+        }
+        Op::Text { x, y, text } => {
+            let front = format!(in alloc; " text {x} {y}")?;
+            out.extend_from_slice(front.as_bytes())?;
+            put_text(out, text.as_slice())
+        }
+        Op::Delete { source, seq } => {
+            let text = format!(in alloc; " delete {source} {seq}")?;
+            out.extend_from_slice(text.as_bytes())
+        }
+        Op::Restore { source, seq } => {
+            let text = format!(in alloc; " restore {source} {seq}")?;
+            out.extend_from_slice(text.as_bytes())
+        }
+    }
+}
+
+/// Adds marks, a space before each.
+fn put_marks(alloc: Global, out: &mut Vec<u8>, marks: &[Mark]) -> Result<(), AllocError>
+    ensures { OnOk result (out.new.items ≡ out.old.items ++ tailed (map mark_word marks.now)) }
+{
+    for mark in marks {
+        let source = mark.source();
+        let high = mark.high();
+        let text = format!(in alloc; " {source}={high}")?;
+        out.extend_from_slice(text.as_bytes())?;
+    }
+    Ok(())
+}
+
+/// Adds a space and an echo.
+fn put_echo(alloc: Global, out: &mut Vec<u8>, echo: &Echo) -> Result<(), AllocError>
+    ensures { OnOk result (out.new.items ≡ out.old.items ++ 32 ∷ echo_word echo.now) }
+{
+    let Echo { source, sent, held } = *echo;
+    let text = format!(in alloc; " {source}@{sent}+{held}")?;
+    out.extend_from_slice(text.as_bytes())
+}
+
+/// Adds echoes, a space before each.
+fn put_echoes(alloc: Global, out: &mut Vec<u8>, echoes: &[Echo]) -> Result<(), AllocError>
+    ensures { OnOk result (out.new.items ≡ out.old.items ++ tailed (map echo_word echoes.now)) }
+{
+    for echo in echoes {
+        put_echo(alloc, out, echo)?;
+    }
+    Ok(())
+}
+
+fn write_draw(alloc: Global, drawop: &Drawop) -> Result<Vec<u8>, AllocError>
+    ensures { IfOk result (λ line. line.items ≡ spelled (DatagramValue.Draw drawop.now)) }
+{
+    let name = drawop.name();
+    let source = name.source();
+    let PageId { creator, number } = name.page();
+    let seq = name.seq();
+    let time = drawop.time();
+    let front = format!(in alloc; "draw {source} {creator}/{number} {seq} {time}")?;
+    let mut line = front.into_bytes();
+    put_op(alloc, &mut line, drawop.op())?;
+    Ok(line)
+}
+
+fn write_request(alloc: Global, asker: u32, name: Name) -> Result<Vec<u8>, AllocError>
+    ensures { IfOk result (λ line. line.items ≡ spelled (DatagramValue.Request asker name)) }
+{
+    let source = name.source();
+    let PageId { creator, number } = name.page();
+    let seq = name.seq();
+    let line = format!(in alloc; "request {asker} {source} {creator}/{number} {seq}")?;
+    Ok(line.into_bytes())
+}
+
+fn write_ask_pages(alloc: Global, asker: u32) -> Result<Vec<u8>, AllocError>
+    ensures { IfOk result (λ line. line.items ≡ spelled (DatagramValue.AskPages asker)) }
+{
+    Ok(format!(in alloc; "ask-pages {asker}")?.into_bytes())
+}
+
+fn write_session(
+    alloc: Global,
+    sender: u32,
+    sent: u64,
+    page: PageId,
+    marks: &[Mark],
+    echoes: &[Echo],
+) -> Result<Vec<u8>, AllocError>
+    ensures { IfOk result (λ line. line.items ≡ spelled (DatagramValue.Session sender sent page marks.now echoes.now)) }
+{
+    let PageId { creator, number } = page;
+    let front = format!(in alloc; "session-message {sender} {sent} {creator}/{number}")?;
+    let mut line = front.into_bytes();
+    put_marks(alloc, &mut line, marks)?;
+    put_echoes(alloc, &mut line, echoes)?;
+    Ok(line)
+}
+
+fn write_page_state(
+    alloc: Global,
+    sender: u32,
+    page: PageId,
+    marks: &[Mark],
+) -> Result<Vec<u8>, AllocError>
+    ensures { IfOk result (λ line. line.items ≡ spelled (DatagramValue.PageState sender page marks.now)) }
+{
+    let PageId { creator, number } = page;
+    let front = format!(in alloc; "page-state {sender} {creator}/{number}")?;
+    let mut line = front.into_bytes();
+    put_marks(alloc, &mut line, marks)?;
+    Ok(line)
+}
+
+/// The line of words of a datagram, without its end.
+pub fn write_words(alloc: Global, datagram: &Datagram) -> Result<Vec<u8>, AllocError>
+    ensures { IfOk result (λ line. line.items ≡ spelled datagram.now) }
+{
+    match datagram {
+        Datagram::Draw(drawop) => write_draw(alloc, drawop),
+        Datagram::Session {
+            sender,
+            sent,
+            page,
+            marks,
+            echoes,
+        } => write_session(
+            alloc,
+            *sender,
+            *sent,
+            *page,
+            marks.as_slice(),
+            echoes.as_slice(),
+        ),
+        Datagram::Request { asker, name } => write_request(alloc, *asker, *name),
+        Datagram::AskPages { asker } => write_ask_pages(alloc, *asker),
+        Datagram::PageState {
+            sender,
+            page,
+            marks,
+        } => write_page_state(alloc, *sender, *page, marks.as_slice()),
+    }
+}
