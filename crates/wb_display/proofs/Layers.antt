@@ -17,11 +17,11 @@ use Rattle.wb_display.specs.LastWord.{same_label, label_of, stake_label, is_show
 use Rattle.wb_display.specs.LastWords.{AreLastWords, word_on}
 use Rattle.wb_display.specs.Layer.{LayerValue, holds_name, is_news, held_with}
 use Rattle.wb_display.specs.LayerFields.{held_of}
-use Rattle.wb_display.specs.TakingIn.{AreKept, IsLabelled, TakesIn}
+use Rattle.wb_display.specs.TakingIn.{AreHeld, AreKept, IsLabelled, TakesIn, Touches}
 use Rattle.wb_display.specs.declared.last_words.Label.{Label}
 use Rattle.wb_display.specs.declared.last_words.LastWords.{LastWords}
 use Rattle.wb_display.proofs.Holding.{known_name, found_held, not_found, names_more, held_here}
-use Rattle.wb_display.proofs.Putting.{view_settled, view_stays, ties_alone}
+use Rattle.wb_display.proofs.Putting.{view_settled, view_stays, ties_alone, touches_stake, touches_no_stake}
 use Rattle.wb_display.proofs.Views.{shown_here}
 use Rattle.wb_display.proofs.Deciding.{false_from_not}
 use Rattle.wb_names.proofs.Orders.{and_both}
@@ -44,46 +44,61 @@ insert_new l d (e ∷ es) none = at (same_label l e.0) (insert_new l d es) none 
   at true rest f = cc
   at false rest f = ap (λ (t : List (Label × DrawopValue)). e ∷ t) (rest f)
 
-module _ (words words' : LastWords) (entries : List (Label × DrawopValue)) (shown shown' : List DrawopValue) (d : DrawopValue) (here : same_page d.name.page words.page ≡ true) (new : holds_name (held_of entries) d.name ≡ false) (kept : AreKept words entries shown) (page : words'.page ≡ words.page) (heard : (history : List DrawopValue) → AreLastWords history words → AreLastWords (history ++ d ∷ []) words') where
-  entries_after : List (Label × DrawopValue)
-  entries_after = entries ++ (label_of d, d) ∷ []
-
-  same : held_of (entries ++ (label_of d, d) ∷ []) ≡ held_of entries ++ d ∷ []
-  same = map-append (λ (e : Label × DrawopValue). e.1) entries ((label_of d, d) ∷ [])
-
-  names' : IsHistory (held_of entries ++ d ∷ [])
-  names' = names_more (held_of entries) d kept.names new
-
-  labels' : All (IsLabelled words.page) (entries ++ (label_of d, d) ∷ [])
-  labels' = All-push (IsLabelled words.page) entries (label_of d, d) kept.labels (refl, here)
-
-  all_here : (x : DrawopValue) → Contains (held_of entries ++ d ∷ []) x → same_page x.name.page words.page ≡ true
-  all_here x c = held_here words.page (entries ++ (label_of d, d) ∷ []) labels' x (subst (λ (h : List DrawopValue). Contains h x) (sym same) c)
+module _ (words words' : LastWords) (entries : List (Label × DrawopValue)) (d : DrawopValue) (here : same_page d.name.page words.page ≡ true) (new : holds_name (held_of entries) d.name ≡ false) (held : AreHeld words entries) (page : words'.page ≡ words.page) (heard : (history : List DrawopValue) → AreLastWords history words → AreLastWords (history ++ d ∷ []) words') where
+  same_held : held_of (entries ++ (label_of d, d) ∷ []) ≡ held_of entries ++ d ∷ []
+  same_held = map-append (λ (e : Label × DrawopValue). e.1) entries ((label_of d, d) ∷ [])
 
   -- the table after it was inserted
   pub entries_with : insert_entry same_label entries (label_of d) d ≡ entries ++ (label_of d, d) ∷ []
-  entries_with = insert_new (label_of d) d entries (known_name words.page d entries here kept.labels ∙ new)
+  entries_with = insert_new (label_of d) d entries (known_name words.page d entries here held.labels ∙ new)
 
-  keeps : (after : List DrawopValue) → IsView (held_of entries ++ d ∷ []) words.page after → AreKept words' (entries ++ (label_of d, d) ∷ []) after
-  keeps after view = record {
-    names = subst IsHistory (sym same) names';
-    labels = subst (λ (p : PageId). All (IsLabelled p) (entries ++ (label_of d, d) ∷ [])) (sym page) labels';
-    heard = subst (λ (h : List DrawopValue). AreLastWords h words') (sym same) (heard (held_of entries) kept.heard);
-    view = subst (λ (h : List DrawopValue). IsView h words'.page after) (sym same) (subst (λ (p : PageId). IsView (held_of entries ++ d ∷ []) p after) (sym page) view);
+  pub held_more_of : AreHeld words' (entries ++ (label_of d, d) ∷ [])
+  held_more_of = record {
+    names = subst IsHistory (sym same_held) (names_more (held_of entries) d held.names new);
+    labels = subst (λ (p : PageId). All (IsLabelled p) (entries ++ (label_of d, d) ∷ [])) (sym page) (All-push (IsLabelled words.page) entries (label_of d, d) held.labels (refl, here));
+    heard = subst (λ (h : List DrawopValue). AreLastWords h words') (sym same_held) (heard (held_of entries) held.heard);
+  }
+
+module _ (words words' : LastWords) (entries entries' : List (Label × DrawopValue)) (d : DrawopValue) (page : words'.page ≡ words.page) (old : AreHeld words entries) (after : AreHeld words' entries') (grown : entries' ≡ entries ++ (label_of d, d) ∷ []) where
+  same : held_of entries' ≡ held_of entries ++ d ∷ []
+  same = ap held_of grown ∙ map-append (λ (e : Label × DrawopValue). e.1) entries ((label_of d, d) ∷ [])
+
+  names' : IsHistory (held_of entries ++ d ∷ [])
+  names' = subst IsHistory same after.names
+
+  all_here : (x : DrawopValue) → Contains (held_of entries ++ d ∷ []) x → same_page x.name.page words.page ≡ true
+  all_here x c = subst (λ (p : PageId). same_page x.name.page p ≡ true) page (held_here words'.page entries' after.labels x (subst (λ (h : List DrawopValue). Contains h x) (sym same) c))
+
+  found : (a : DrawopValue) → lookup (same_label (stake_label d)) entries' ≡ Some a → Contains (held_of entries ++ d ∷ []) a × (same_label (stake_label d) (label_of a) ≡ true)
+  found a e = let f = found_held words'.page (stake_label d) a entries' after.labels e in (subst (λ (h : List DrawopValue). Contains h a) same f.0, f.1)
+
+  missing : lookup (same_label (stake_label d)) entries' ≡ None → (x : DrawopValue) → Contains (held_of entries ++ d ∷ []) x → same_label (stake_label d) (label_of x) ≡ false
+  missing none x c = not_found words'.page (stake_label d) entries' after.labels none x (subst (λ (h : List DrawopValue). Contains h x) (sym same) c)
+
+  viewed : (shown : List DrawopValue) → IsView (held_of entries ++ d ∷ []) words.page shown → AreKept words' entries' shown
+  viewed shown view = record {
+    held = after;
+    view = subst (λ (h : List DrawopValue). IsView h words'.page shown) (sym same) (subst (λ (p : PageId). IsView (held_of entries ++ d ∷ []) p shown) (sym page) view);
   }
 
   -- the drawop at stake was found, and settled in what is shown
-  pub took_in : (a : DrawopValue) (show : Bool) → lookup (same_label (stake_label d)) (entries ++ (label_of d, d) ∷ []) ≡ Some a → show ≡ is_shown_by words'.page a (word_on words' (label_of a)) → (IsStrictlySortedBy display_cmp shown → TiesAlone shown a → Settles a show shown shown') → AreKept words' (entries ++ (label_of d, d) ∷ []) shown'
-  took_in a show found says settle =
-      let f = found_held words.page (stake_label d) a (entries ++ (label_of d, d) ∷ []) labels' found in
-      let ca : Contains (held_of entries ++ d ∷ []) a = subst (λ (h : List DrawopValue). Contains h a) same f.0 in
-      let shows : show ≡ is_shown (held_of entries ++ d ∷ []) words.page a = says ∙ sym (shown_here (held_of entries ++ d ∷ []) words.page words' a names' page (heard (held_of entries) kept.heard)) in
-      let settled = settle kept.view.rising (ties_alone (held_of entries) d words.page kept.names names' all_here a shown ca kept.view) in
-      keeps shown' (view_settled (held_of entries) d words.page kept.names names' all_here a shown shown' ca f.1 kept.view (subst (λ (s : Bool). Settles a s shown shown') shows settled))
+  pub took_in : (shown shown' : List DrawopValue) (a : DrawopValue) (show : Bool) → IsView (held_of entries) words.page shown → lookup (same_label (stake_label d)) entries' ≡ Some a → show ≡ is_shown_by words'.page a (word_on words' (label_of a)) → (IsStrictlySortedBy display_cmp shown → TiesAlone shown a → Settles a show shown shown') → AreKept words' entries' shown'
+  took_in shown shown' a show view at says settle =
+      let f = found a at in
+      let shows : show ≡ is_shown (held_of entries ++ d ∷ []) words.page a = says ∙ sym (shown_here (held_of entries ++ d ∷ []) words.page words' a names' page (subst (λ (h : List DrawopValue). AreLastWords h words') same after.heard)) in
+      let settled = settle view.rising (ties_alone (held_of entries) d words.page old.names names' all_here a shown f.0 view) in
+      viewed shown' (view_settled (held_of entries) d words.page old.names names' all_here a shown shown' f.0 f.1 view (subst (λ (s : Bool). Settles a s shown shown') shows settled))
 
   -- none was found: its target is not held yet
-  pub took_in_alone : lookup (same_label (stake_label d)) (entries ++ (label_of d, d) ∷ []) ≡ None → AreKept words' (entries ++ (label_of d, d) ∷ []) shown
-  took_in_alone none = keeps shown (view_stays (held_of entries) d words.page kept.names names' all_here shown (λ x c. not_found words.page (stake_label d) (entries ++ (label_of d, d) ∷ []) labels' none x (subst (λ (h : List DrawopValue). Contains h x) (sym same) c)) kept.view)
+  pub took_in_alone : (shown : List DrawopValue) → IsView (held_of entries) words.page shown → lookup (same_label (stake_label d)) entries' ≡ None → AreKept words' entries' shown
+  took_in_alone shown view none = viewed shown (view_stays (held_of entries) d words.page old.names names' all_here shown (missing none) view)
+
+  -- the same, where what is touched is listed
+  pub touched_more : (before touched : List DrawopValue) (a : DrawopValue) → lookup (same_label (stake_label d)) entries' ≡ Some a → Touches words.page before (held_of entries) touched → Touches words.page before (held_of entries') (touched ++ a ∷ [])
+  touched_more before touched a at t = let f = found a at in subst (λ (h : List DrawopValue). Touches words.page before h (touched ++ a ∷ [])) (sym same) (touches_stake (held_of entries) d words.page old.names names' all_here before touched a f.0 f.1 t)
+
+  pub touched_alone : (before touched : List DrawopValue) → lookup (same_label (stake_label d)) entries' ≡ None → Touches words.page before (held_of entries) touched → Touches words.page before (held_of entries') touched
+  touched_alone before touched none t = subst (λ (h : List DrawopValue). Touches words.page before h touched) (sym same) (touches_no_stake (held_of entries) d words.page old.names names' all_here before touched (missing none) t)
 
 -- what holds at Ok
 pub on_ok : (X F : Type 0) (P : Type 0) (r : Result X F) (v : X) → r ≡ Ok v → OnOk r P → P
@@ -93,9 +108,11 @@ on_ok X F P r v e h = subst (λ (s : Result X F). OnOk s P) e h
 pub kept_with_room : (words words' : LastWords) (entries entries' : List (Label × DrawopValue)) (shown shown' : List DrawopValue) → words'.page ≡ words.page → ((l : Label) → word_on words' l ≡ word_on words l) → entries' ≡ entries → shown' ≡ shown → AreKept words entries shown → AreKept words' entries' shown'
 kept_with_room words words' entries entries' shown shown' page same e s kept =
     let moved : AreKept words' entries shown = record {
-      names = kept.names;
-      labels = subst (λ (p : PageId). All (IsLabelled p) entries) (sym page) kept.labels;
-      heard = λ l. subst (λ (p : PageId). IsLastWord (held_of entries) p l (word_on words' l)) (sym page) (subst (IsLastWord (held_of entries) words.page l) (sym (same l)) (kept.heard l));
+      held = record {
+        names = kept.held.names;
+        labels = subst (λ (p : PageId). All (IsLabelled p) entries) (sym page) kept.held.labels;
+        heard = λ l. subst (λ (p : PageId). IsLastWord (held_of entries) p l (word_on words' l)) (sym page) (subst (IsLastWord (held_of entries) words.page l) (sym (same l)) (kept.held.heard l));
+      };
       view = subst (λ (p : PageId). IsView (held_of entries) p shown) (sym page) kept.view;
     } in
     subst (λ (xs : List DrawopValue). AreKept words' entries' xs) (sym s) (subst (λ (es : List (Label × DrawopValue)). AreKept words' es shown) (sym e) moved)

@@ -10,6 +10,8 @@ pub mod Hearing
 pub mod Deciding
 pub mod Views
 pub mod Settling
+pub mod MergeSteps
+pub mod ShowingAll
 pub mod Putting
 pub mod Holding
 pub mod Layers

@@ -1,9 +1,9 @@
 -- What one more drawop changes of a view.
 use Rattle.std.proofs.Common.{◌≡◌, List, [], ◌∷◌, ◌++◌, refl, ap, ◌∙◌, sym, subst, ⊎_elim, append-nil, append_assoc, arith}
 use Rattle.std.proofs.lemmas.Bool.Decides.{nat_tests}
-use Rattle.std.specs.Prelude.{◌≢◌, Bool, true, false, ◌&&◌, Contains, Option, Some, None, unwrap_or}
+use Rattle.std.specs.Prelude.{◌≢◌, ◌↔◌, Bool, true, false, ◌&&◌, Contains, Option, Some, None, unwrap_or}
 use Rattle.std.specs.Ordering.{is_eq}
-use Rattle.std.proofs.lemmas.List.Elements.{Contains-append_left, Contains-push_cases}
+use Rattle.std.proofs.lemmas.List.Elements.{Contains-append_left, Contains-push, Contains-push_cases}
 use Rattle.wb_names.specs.Values.{DrawopValue}
 use Rattle.wb_names.specs.History.{IsHistory}
 use Rattle.wb_names.specs.Orders.{same_page}
@@ -15,6 +15,7 @@ use Rattle.wb_names.proofs.Listings.{Contains-none}
 use Rattle.wb_names.proofs.Orders.{and_both, name_parts, same_page-is}
 use Rattle.wb_display.specs.Display.{is_drawing, is_shown, IsView}
 use Rattle.wb_display.specs.DisplayList.{Settles, TiesAlone}
+use Rattle.wb_display.specs.TakingIn.{IsShownIn, Touches}
 use Rattle.wb_display.specs.LastWord.{same_label, label_of, target_label, stake_label, word_of, later_word, speaks_of, IsLastWord}
 use Rattle.wb_display.specs.declared.last_words.Label.{Label}
 use Rattle.wb_display.specs.declared.last_words.LastWord.{LastWord}
@@ -119,6 +120,45 @@ module _ (held : List DrawopValue) (d : DrawopValue) (page : PageId) (names : Is
     members = λ x. (
       (λ h. let m = (view.members x).0 h in let c = Contains-append_left held (d ∷ []) x m.0 in (c, unaffected x (differs x c) ∙ m.1)),
       (λ m. (view.members x).1 (before x m.0 m.1 (differs x m.0), sym (unaffected x (differs x m.0)) ∙ m.1)),
+    );
+  }
+
+  -- what is shown changes at the stake alone
+  stays_elsewhere : (x : DrawopValue) → same_label (stake_label d) (label_of x) ≡ false → IsShownIn (held ++ d ∷ []) page x ↔ IsShownIn held page x
+  stays_elsewhere x differs = (
+    (λ m. (before x m.0 m.1 differs, sym (unaffected x differs) ∙ m.1)),
+    (λ m. let c = Contains-append_left held (d ∷ []) x m.0 in (c, unaffected x differs ∙ m.1)),
+  )
+
+  -- the one at stake is touched
+  pub touches_stake : (start touched : List DrawopValue) (a : DrawopValue) → Contains (held ++ d ∷ []) a → same_label (stake_label d) (label_of a) ≡ true → Touches page start held touched → Touches page start (held ++ d ∷ []) (touched ++ a ∷ [])
+  touches_stake start touched a ca la t = record {
+    more = λ x c. Contains-append_left held (d ∷ []) x (t.more x c);
+    among = λ x c. ⊎_elim (λ (h : Contains touched x). Contains-append_left held (d ∷ []) x (t.among x h)) (λ (e : a ≡ x). subst (Contains (held ++ d ∷ [])) e ca) (Contains-push_cases touched a x c);
+    others = λ x out. ((λ m. to x out (same_label (stake_label d) (label_of x)) refl m), (λ m. from x out (same_label (stake_label d) (label_of x)) refl m));
+  } where
+    was_out : (x : DrawopValue) → ¬ Contains (touched ++ a ∷ []) x → ¬ Contains touched x
+    was_out x out c = out (Contains-append_left touched (a ∷ []) x c)
+
+    not_stake : (x : DrawopValue) → ¬ Contains (touched ++ a ∷ []) x → Contains (held ++ d ∷ []) x → same_label (stake_label d) (label_of x) ≡ true → ⊥
+    not_stake x out c l = out (subst (Contains (touched ++ a ∷ [])) (one_label (stake_label d) a x ca c la l) (Contains-push touched a))
+
+    to : (x : DrawopValue) → ¬ Contains (touched ++ a ∷ []) x → (b : Bool) → same_label (stake_label d) (label_of x) ≡ b → IsShownIn (held ++ d ∷ []) page x → IsShownIn start page x
+    to x out true l m = absurd (not_stake x out m.0 l)
+    to x out false l m = (t.others x (was_out x out)).0 ((stays_elsewhere x l).0 m)
+
+    from : (x : DrawopValue) → ¬ Contains (touched ++ a ∷ []) x → (b : Bool) → same_label (stake_label d) (label_of x) ≡ b → IsShownIn start page x → IsShownIn (held ++ d ∷ []) page x
+    from x out true l m = absurd (not_stake x out (Contains-append_left held (d ∷ []) x ((t.others x (was_out x out)).1 m).0) l)
+    from x out false l m = (stays_elsewhere x l).1 ((t.others x (was_out x out)).1 m)
+
+  -- none is at stake
+  pub touches_no_stake : (start touched : List DrawopValue) → ((x : DrawopValue) → Contains (held ++ d ∷ []) x → same_label (stake_label d) (label_of x) ≡ false) → Touches page start held touched → Touches page start (held ++ d ∷ []) touched
+  touches_no_stake start touched differs t = record {
+    more = λ x c. Contains-append_left held (d ∷ []) x (t.more x c);
+    among = λ x c. Contains-append_left held (d ∷ []) x (t.among x c);
+    others = λ x out. (
+      (λ m. (t.others x out).0 ((stays_elsewhere x (differs x m.0)).0 m)),
+      (λ m. let s = (t.others x out).1 m in (stays_elsewhere x (differs x (Contains-append_left held (d ∷ []) x s.0))).1 s),
     );
   }
 

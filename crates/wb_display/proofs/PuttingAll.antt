@@ -1,19 +1,32 @@
 -- Many puts, one after another: there is room for what is still news, and what is held is as after that many puts.
-use Rattle.std.proofs.Common.{◌≡◌, ℕ, ◌+◌, ◌<◌, ◌≤◌, List, [], ◌∷◌, ◌++◌, length, get_or, take, drop, refl, ap, ◌∙◌, sym, arith, add-one, drop-cons}
-use Rattle.std.specs.Prelude.{Bool, true, false, cond, filter, All}
+use Rattle.std.proofs.Common.{◌≡◌, ℕ, ◌+◌, ◌<◌, ◌≤◌, List, [], ◌∷◌, ◌++◌, length, get_or, take, drop, refl, ap, ◌∙◌, sym, subst, arith, add-one, drop-cons, ◌⊎◌, inl, inr, ⊎_elim}
+use Rattle.std.specs.Prelude.{Bool, true, false, cond, filter, All, Contains}
+use Rattle.std.specs.List.{list_any}
+use Rattle.std.specs.Ordering.{is_eq}
+use Rattle.std.proofs.lemmas.List.Folds.{Any-from_list_any}
+use Rattle.std.proofs.lemmas.List.{map-append}
 use Rattle.std.proofs.lemmas.List.Elements.{Contains-append_left, All-head, All-tail}
 use Rattle.std.proofs.lemmas.List.Sums.{fold_more}
 use Rattle.wb_names.specs.Values.{DrawopValue}
-use Rattle.wb_names.specs.Orders.{same_page, same_name}
+use Rattle.wb_names.specs.Listing.{Lists}
+use Rattle.wb_names.specs.Orders.{same_page, same_name, display_cmp}
+use Rattle.wb_names.specs.Same.{same_drawop, same_drawop-Decides}
 use Rattle.wb_names.specs.declared.name.PageId.{PageId}
+use Rattle.wb_names.proofs.Listings.{Contains-none}
 use Rattle.wb_names.proofs.Orders.{and_both}
 use Rattle.wb_display.specs.Layer.{LayerValue, is_news, held_with, held_with_all, news_count}
 use Rattle.wb_display.specs.LayerFields.{held_of}
-use Rattle.wb_display.specs.TakingIn.{AreKept, TakesIn}
+use Rattle.wb_display.specs.Display.{is_shown, IsView}
+use Rattle.wb_display.specs.DisplayList.{ShowsOthers, TieOnce}
+use Rattle.wb_display.specs.LastWord.{label_of}
+use Rattle.wb_display.specs.LastWords.{is_shown_now}
+use Rattle.wb_display.specs.TakingIn.{AreHeld, AreKept, HoldsToo, IsShownIn, Touches}
 use Rattle.wb_display.specs.declared.last_words.Label.{Label}
 use Rattle.wb_display.specs.declared.last_words.LastWords.{LastWords}
-use Rattle.wb_display.proofs.Deciding.{list_any_nowhere, nowhere_from, false_from_not, not_false, and_true}
-use Rattle.wb_display.proofs.Layers.{layer_value, put_news}
+use Rattle.wb_display.proofs.Deciding.{list_any_nowhere, nowhere_from, false_from_not, not_false, and_true, one_drawop, tie_names}
+use Rattle.wb_display.proofs.Holding.{held_here}
+use Rattle.wb_display.proofs.Views.{shown_here}
+use Rattle.wb_display.proofs.Layers.{layer_value, held_more, news_parts}
 
 -- what is news later was news before
 news_before : (page : PageId) (held : List DrawopValue) (d x : DrawopValue) → is_news page (held ++ d ∷ []) x ≡ true → is_news page held x ≡ true
@@ -59,16 +72,16 @@ held_more_puts page here start held held' list i d h is at so then =
 pub held_not_more : (page : PageId) (held : List DrawopValue) (d : DrawopValue) → is_news page held d ≡ false → held ≡ held_with page held d
 held_not_more page held d e = sym (ap (λ (b : Bool). cond b (held ++ d ∷ []) held) e)
 
--- what is news was taken in
-pub step_taken : (words words' : LastWords) (entries entries' : List (Label × DrawopValue)) (shown shown' list : List DrawopValue) (i : ℕ) (d : DrawopValue)
+-- what is news is held from now on
+pub step_held : (words words' : LastWords) (entries entries' : List (Label × DrawopValue)) (list : List DrawopValue) (i : ℕ) (d : DrawopValue)
     → i < length list → get_or list i d ≡ d → is_news words.page (held_of entries) d ≡ true → words'.page ≡ words.page
-    → TakesIn words entries shown d words' entries' shown' → AreKept words entries shown
-    → AreKept words' entries' shown' × (held_of entries' ≡ held_with words.page (held_of entries) d) × (news_count words'.page (held_of entries') (drop (i + 1) list) + 1 ≤ news_count words.page (held_of entries) (drop i list))
-step_taken words words' entries entries' shown shown' list i d h is news page takes kept =
-    let p = put_news words words words' entries entries entries' shown shown shown' d (layer_value words.page (held_of entries)) refl news refl (λ l. refl) refl refl page takes kept in
-    let e : held_of entries' ≡ held_with words.page (held_of entries) d = ap (λ (v : LayerValue). v.held) p.1 in
-    let r = room_taken words.page (held_of entries) list i d h is news in
-    (p.0, e, rw (page, e) r)
+    → HoldsToo words entries d words' entries' → AreHeld words entries
+    → AreHeld words' entries' × (entries' ≡ entries ++ (label_of d, d) ∷ []) × (held_of entries' ≡ held_with words.page (held_of entries) d) × (news_count words'.page (held_of entries') (drop (i + 1) list) + 1 ≤ news_count words.page (held_of entries) (drop i list))
+step_held words words' entries entries' list i d h is news page holds held =
+    let parts = news_parts words.page (held_of entries) d news in
+    let t = holds parts.0 parts.1 held in
+    let e : held_of entries' ≡ held_with words.page (held_of entries) d = ap held_of t.1 ∙ map-append (λ (e : Label × DrawopValue). e.1) entries ((label_of d, d) ∷ []) ∙ sym (held_more words.page (held_of entries) d news) in
+    (t.0, t.1, e, rw (page, e) (room_taken words.page (held_of entries) list i d h is news))
 
 -- where nothing is news there is nothing to make room for
 pub news_none : (page : PageId) (held list : List DrawopValue) → All (λ d. is_news page held d ≡ false) list → news_count page held list ≡ 0
@@ -87,3 +100,48 @@ held_stays page held (x ∷ xs) e = at (is_news page held x) refl e (held_stays 
 
 pub value_stays : (v : LayerValue) (list : List DrawopValue) → news_count v.page v.held list ≡ 0 → v ≡ layer_value v.page (held_with_all v.page v.held list)
 value_stays v list e = ap (layer_value v.page) (held_stays v.page v.held list e)
+
+-- nothing is touched before the first
+pub touched_none : (page : PageId) (held : List DrawopValue) → Touches page held held []
+touched_none page held = record {
+  more = λ x c. c;
+  among = λ x c. absurd (Contains-none x c);
+  others = λ x out. ((λ m. m), (λ m. m));
+}
+
+-- a drawop is a member or not
+member_or_not : (xs : List DrawopValue) (x : DrawopValue) → Contains xs x ⊎ ¬ Contains xs x
+member_or_not xs x = at (list_any (λ y. same_drawop y x) xs) refl where
+  at : (b : Bool) → list_any (λ y. same_drawop y x) xs ≡ b → Contains xs x ⊎ ¬ Contains xs x
+  at true e =
+      let found = Any-from_list_any (λ y. same_drawop y x) xs e in
+      let c : Contains xs found.1 = (found.0, found.2, found.3) in
+      inl (subst (Contains xs) ((same_drawop-Decides found.1 x).0 found.4) c)
+  at false e = inr (λ c. let f : true ≡ false = sym ((same_drawop-Decides x x).1 refl) ∙ nowhere_from (λ y. same_drawop y x) xs e x c in cc)
+
+-- what is held grew, and what is shown is still as it was before
+module _ (words words' : LastWords) (entries entries' : List (Label × DrawopValue)) (shown touched : List DrawopValue) (kept : AreKept words entries shown) (held : AreHeld words' entries') (page : words'.page ≡ words.page) (touches : Touches words.page (held_of entries) (held_of entries') touched) where
+  among : (x : DrawopValue) → Contains shown x ⊎ Contains touched x → Contains (held_of entries') x
+  among x (inl c) = touches.more x ((kept.view.members x).0 c).0
+  among x (inr c) = touches.among x c
+
+  pub ties_once : TieOnce shown touched
+  ties_once x y cx cy tie = one_drawop (held_of entries') held.names x y (among x cx) (among y cy) (tie_names words'.page x y (held_here words'.page entries' held.labels x (among x cx)) (held_here words'.page entries' held.labels y (among y cy)) (ap is_eq tie))
+
+  shows : (x : DrawopValue) → is_shown_now words' x ≡ is_shown (held_of entries') words.page x
+  shows x = sym (shown_here (held_of entries') words.page words' x held.names page held.heard)
+
+  pub shows_others : ShowsOthers (is_shown_now words') shown touched
+  shows_others x c out = shows x ∙ ((touches.others x out).1 ((kept.view.members x).0 c)).1
+
+  -- once all that was touched is settled, it is the view of what is held now
+  pub kept_after : (after : List DrawopValue) → Lists display_cmp (λ x. (Contains shown x ⊎ Contains touched x) × (is_shown_now words' x ≡ true)) after → AreKept words' entries' after
+  kept_after after listed = record {
+    held = held;
+    view = subst (λ (p : PageId). IsView (held_of entries') p after) (sym page) (record {
+      rising = listed.rising;
+      members = λ x. ((λ c. let m = (listed.members x).0 c in (among x m.0, sym (shows x) ∙ m.1)), (λ m. (listed.members x).1 (from x m, shows x ∙ m.1)));
+    });
+  } where
+    from : (x : DrawopValue) → IsShownIn (held_of entries') words.page x → Contains shown x ⊎ Contains touched x
+    from x m = ⊎_elim (λ (c : Contains touched x). inr c) (λ (out : ¬ Contains touched x). inl ((kept.view.members x).1 ((touches.others x out).0 m))) (member_or_not touched x)

@@ -1,9 +1,9 @@
 -- What a layer keeps after a new drawop.
-use Rattle.std.specs.Prelude.{◌≡◌, true, false, All, List, [], ◌∷◌, ◌++◌}
+use Rattle.std.specs.Prelude.{◌≡◌, ◌↔◌, true, false, IsTrue, All, Contains, List, [], ◌∷◌, ◌++◌}
 use Rattle.wb_names.specs.Values.{DrawopValue}
 use Rattle.wb_names.specs.History.{IsHistory}
 use Rattle.wb_names.specs.Orders.{same_page}
-use Rattle.wb_display.specs.Display.{IsView}
+use Rattle.wb_display.specs.Display.{is_shown, IsView}
 use Rattle.wb_display.specs.LastWord.{label_of}
 use Rattle.wb_display.specs.LastWords.{AreLastWords}
 use Rattle.wb_display.specs.Layer.{holds_name}
@@ -16,16 +16,36 @@ use Rattle.wb_display.specs.declared.last_words.LastWords.{LastWords}
 abbrev pub IsLabelled : PageId → Label × DrawopValue → Type 0
 IsLabelled page e = (e.0 ≡ label_of e.1) × (same_page e.1.name.page page ≡ true)
 
--- no name is held twice, each drawop stands under its label and is of the page, the last words are those of what is
--- held, and so is what is shown
-pub record AreKept (words : LastWords) (entries : List (Label × DrawopValue)) (shown : List DrawopValue) : Type 0 where
+-- no name is held twice, each drawop stands under its label and is of the page, and the last words are those of what
+-- is held
+pub record AreHeld (words : LastWords) (entries : List (Label × DrawopValue)) : Type 0 where
   pub names : IsHistory (held_of entries)
   pub labels : All (IsLabelled words.page) entries
   pub heard : AreLastWords (held_of entries) words
+
+-- and so is what is shown
+pub record AreKept (words : LastWords) (entries : List (Label × DrawopValue)) (shown : List DrawopValue) : Type 0 where
+  pub held : AreHeld words entries
   pub view : IsView (held_of entries) words.page shown
+
+-- a new drawop of the page is held too, last
+abbrev pub HoldsToo : LastWords → List (Label × DrawopValue) → DrawopValue → LastWords → List (Label × DrawopValue) → Type 0
+HoldsToo words entries d words' entries' =
+    same_page d.name.page words.page ≡ true → holds_name (held_of entries) d.name ≡ false → AreHeld words entries
+    → AreHeld words' entries' × (entries' ≡ entries ++ (label_of d, d) ∷ [])
 
 -- a new drawop of the page is taken in
 abbrev pub TakesIn : LastWords → List (Label × DrawopValue) → List DrawopValue → DrawopValue → LastWords → List (Label × DrawopValue) → List DrawopValue → Type 0
 TakesIn words entries shown d words' entries' shown' =
     same_page d.name.page words.page ≡ true → holds_name (held_of entries) d.name ≡ false → AreKept words entries shown
     → AreKept words' entries' shown' × (entries' ≡ entries ++ (label_of d, d) ∷ [])
+
+-- a member of the history that its view shows
+abbrev pub IsShownIn : List DrawopValue → PageId → DrawopValue → Type 0
+IsShownIn history page d = Contains history d × IsTrue (is_shown history page d)
+
+-- more is held than before, and what was not touched is shown as it was
+pub record Touches (page : PageId) (before after touched : List DrawopValue) : Type 0 where
+  pub more : (x : DrawopValue) → Contains before x → Contains after x
+  pub among : (x : DrawopValue) → Contains touched x → Contains after x
+  pub others : (x : DrawopValue) → ¬ Contains touched x → IsShownIn after page x ↔ IsShownIn before page x

@@ -1,9 +1,9 @@
 //! A list in the order of display, which drawops enter and leave.
 
-ghost use Rattle.std.specs.Prelude.{◌≡◌, ◌<◌, ◌≤◌, ◌+◌, vec_len, vec_capacity};
+ghost use Rattle.std.specs.Prelude.{◌≡◌, ◌<◌, ◌≤◌, vec_len, vec_capacity};
 ghost use Rattle.std.specs.List.Sorted.{IsStrictlySortedBy};
 ghost use Rattle.wb_names.specs.Orders.{display_cmp};
-ghost use Rattle.wb_display.specs.DisplayList.{IsPlaceOf, Settles, TiesAlone};
+ghost use Rattle.wb_display.specs.DisplayList.{IsPlaceOf, Settles, TiesAlone, ties_with};
 
 use wb_names::{Drawop, before, display_order};
 
@@ -23,9 +23,7 @@ fn place_in(list: &[Drawop], drawop: &Drawop) -> Result<usize, usize>
 /// has room for one more.
 pub(crate) fn settle(list: &mut Vec<Drawop>, drawop: &Drawop, shows: bool)
     requires { vec_len list.old < vec_capacity list.old }
-    ensures settled { IsStrictlySortedBy display_cmp list.old.items → TiesAlone list.old.items drawop.now → Settles drawop.now shows list.old.items list.new.items }
-    ensures len { vec_len list.new ≤ vec_len list.old + 1 }
-    ensures capacity { vec_capacity list.old ≤ vec_capacity list.new }
+    ensures { IsStrictlySortedBy display_cmp list.old.items → TiesAlone list.old.items drawop.now → Settles drawop.now shows list.old.items list.new.items }
 {
     match place_in(list, drawop) {
         Ok(place) => {
@@ -39,4 +37,11 @@ pub(crate) fn settle(list: &mut Vec<Drawop>, drawop: &Drawop, shows: bool)
             }
         }
     }
+}
+
+/// Whether the list holds what ties with a drawop.
+pub(crate) fn is_placed(list: &[Drawop], drawop: &Drawop) -> bool
+    ensures { IsStrictlySortedBy display_cmp list.now → result ≡ ties_with list.now drawop.now }
+{
+    place_in(list, drawop).is_ok()
 }

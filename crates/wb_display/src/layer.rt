@@ -5,13 +5,16 @@
 
 ghost use Rattle.std.specs.Prelude.{◌≡◌, ◌≤◌, ◌<◌, ◌+◌, [], OnOk, OnErr, IsOk, All, false, vec_len, vec_capacity};
 ghost use Rattle.indexmap.specs.IndexMap.{spare};
-ghost use Rattle.wb_display.specs.TakingIn.{AreKept, IsLabelled, TakesIn};
+ghost use Rattle.wb_display.specs.TakingIn.{AreHeld, HoldsToo, IsLabelled, TakesIn, Touches};
+ghost use Rattle.wb_display.specs.LastWord.{same_label, stake_label};
+ghost use Rattle.std.specs.Map.{lookup};
 ghost use Rattle.wb_display.specs.Display.{IsView};
 ghost use Rattle.wb_display.specs.Layer.{held_with, held_with_all, is_news as is_news_of, news_count};
 ghost use Rattle.wb_display.specs.LayerFields.{held_of};
 
 use crate::display_list::settle;
 use crate::last_words::{Label, LastWords, stake_of};
+use crate::merging::show_all;
 use indexmap::IndexMap;
 use std::alloc::{AllocError, Global};
 use std::marker::Model;
@@ -78,10 +81,12 @@ impl Layer {
         if count == 0 {
             return Ok(());
         }
+        let mut touched = Vec::with_capacity(*self.shown.allocator(), count)?;
         self.words.reserve(count)?;
         self.drawops.reserve(count)?;
         self.shown.reserve(count)?;
-        take_in_all(&mut self.words, &mut self.drawops, &mut self.shown, drawops);
+        take_in_all(&mut self.words, &mut self.drawops, &mut touched, drawops);
+        show_all(&self.words, &mut self.shown, touched);
         Ok(())
     }
 
@@ -114,30 +119,36 @@ fn is_news(words: &LastWords, drawops: &IndexMap<Label, Drawop>, drawop: &Drawop
     words.is_on_page(drawop) && !drawops.contains_key(&Label::of(drawop))
 }
 
-/// Takes in what is news in a list, one drawop after another. There is room for all of it.
+/// Takes in what is news in a list, one drawop after another, and lists what is held of those whose
+/// showing that may change. There is room for all of it.
 fn take_in_all(
     words: &mut LastWords,
     drawops: &mut IndexMap<Label, Drawop>,
-    shown: &mut Vec<Drawop>,
+    touched: &mut Vec<Drawop>,
     list: &[Drawop],
 )
-    requires kept { AreKept words.old drawops.old.entries shown.old.items }
+    requires held { AreHeld words.old drawops.old.entries }
+    requires none { touched.old.items ≡ [] }
     requires words { news_count words.old.page (held_of drawops.old.entries) list.now ≤ spare words.old.latest }
     requires drawops { news_count words.old.page (held_of drawops.old.entries) list.now ≤ spare drawops.old }
-    requires shown { vec_len shown.old + news_count words.old.page (held_of drawops.old.entries) list.now ≤ vec_capacity shown.old }
+    requires touched { news_count words.old.page (held_of drawops.old.entries) list.now ≤ vec_capacity touched.old }
     ensures page { words.new.page ≡ words.old.page }
-    ensures kept { AreKept words.new drawops.new.entries shown.new.items }
-    ensures held { held_of drawops.new.entries ≡ held_with_all words.old.page (held_of drawops.old.entries) list.now }
+    ensures held { AreHeld words.new drawops.new.entries }
+    ensures all { held_of drawops.new.entries ≡ held_with_all words.old.page (held_of drawops.old.entries) list.now }
+    ensures touched { Touches words.old.page (held_of drawops.old.entries) (held_of drawops.new.entries) touched.new.items }
+    ensures count { vec_len touched.new ≤ news_count words.old.page (held_of drawops.old.entries) list.now }
 {
     for drawop in list {
         if is_news(words, drawops, drawop) {
-            take_in(words, drawops, shown, drawop);
+            if let Some(at_stake) = hold(words, drawops, drawop) {
+                touched.push(at_stake).unwrap();
+            }
         }
     }
 }
 
-/// Takes in a new drawop of the page: what it says, the drawop itself, and whether the one at its
-/// stake is shown from now on. There is room for all three.
+/// Takes in a new drawop of the page, and whether the one at its stake is shown from now on. There is
+/// room for all three.
 fn take_in(
     words: &mut LastWords,
     drawops: &mut IndexMap<Label, Drawop>,
@@ -149,14 +160,29 @@ fn take_in(
     requires shown { vec_len shown.old < vec_capacity shown.old }
     ensures page { words.new.page ≡ words.old.page }
     ensures kept { TakesIn words.old drawops.old.entries shown.old.items drawop.now words.new drawops.new.entries shown.new.items }
-    ensures words { spare words.old.latest ≤ spare words.new.latest + 1 }
-    ensures drawops { spare drawops.old ≤ spare drawops.new + 1 }
-    ensures len { vec_len shown.new ≤ vec_len shown.old + 1 }
-    ensures capacity { vec_capacity shown.old ≤ vec_capacity shown.new }
+{
+    if let Some(at_stake) = hold(words, drawops, drawop) {
+        settle(shown, &at_stake, words.show(&at_stake));
+    }
+}
+
+/// Takes in what a new drawop of the page says, and the drawop itself. Gives the one at its stake,
+/// where that is held.
+#[inline(always)]
+fn hold(
+    words: &mut LastWords,
+    drawops: &mut IndexMap<Label, Drawop>,
+    drawop: &Drawop,
+) -> Option<Drawop>
+    requires words { 1 ≤ spare words.old.latest }
+    requires drawops { 1 ≤ spare drawops.old }
+    ensures page { words.new.page ≡ words.old.page }
+    ensures held { HoldsToo words.old drawops.old.entries drawop.now words.new drawops.new.entries }
+    ensures stake { result ≡ lookup (same_label (stake_label drawop.now)) drawops.new.entries }
+    ensures words_room { spare words.old.latest ≤ spare words.new.latest + 1 }
+    ensures drawops_room { spare drawops.old ≤ spare drawops.new + 1 }
 {
     words.hear(drawop).unwrap();
     drawops.insert(Label::of(drawop), *drawop).unwrap();
-    if let Some(at_stake) = drawops.get(&stake_of(drawop)) {
-        settle(shown, at_stake, words.show(at_stake));
-    }
+    drawops.get(&stake_of(drawop)).copied()
 }

@@ -17,6 +17,7 @@ mod last_words;
 pub mod laws;
 mod layer;
 mod line_points;
+mod merging;
 mod strokes;
 #[cfg(test)]
 mod tests;

@@ -9,15 +9,15 @@ use Rattle.wb_display.specs.DisplayList.{IsPlaceOf}
 use Rattle.wb_display.proofs.Settling.{entered, left, tied_is}
 use Rattle.wb_display.proofs.display_list.settle.Goals as goal
 
-pub returns-then-not-shows-clause-settled : goal.returns-then-not-shows-clause-settled
-returns-then-not-shows-clause-settled c up alone =
+pub returns-then-not-shows : goal.returns-then-not-shows
+returns-then-not-shows c up alone =
     let listed = c.deref.ensures.value in
     let within : c.in-Ok.place < length c.args.list.now.items = subst (λ (xs : List DrawopValue). c.in-Ok.place < length xs) listed c.in-Ok.ensures.0 in
     let tied = subst (λ (xs : List DrawopValue). HoldsAt (λ x. display_cmp x c.args.drawop.now ≡ Equal) xs c.in-Ok.place) listed c.in-Ok.ensures.1 in
     rw (c.if-not-shows.true, c.remove.ensures.items) (left c.args.list.now.items up c.args.drawop.now c.in-Ok.place within (tied_is c.args.list.now.items c.args.drawop.now c.in-Ok.place within tied alone))
 
-pub returns-then-shows-clause-settled : goal.returns-then-shows-clause-settled
-returns-then-shows-clause-settled c up alone =
+pub returns-then-shows : goal.returns-then-shows
+returns-then-shows c up alone =
     let listed = c.deref.ensures.value in
     let here = subst (λ (xs : List DrawopValue). IsPlaceOf xs c.args.drawop.now (Err c.in-Err.place)) listed c.in-Err.ensures in
     let placed = c.insert.ensures.items ∙ ap (λ (r : Result (Unit {0}) (AllocFailed DrawopValue)). if is_ok r then insert c.args.list.now.items c.in-Err.place c.args.drawop.now else c.args.list.now.items) c.unwrap.ensures in

@@ -1,38 +1,74 @@
-use Rattle.std.proofs.Common.{◌≡◌, ◌∙◌, sym, arith}
+use Rattle.std.proofs.Common.{rules, ◌≡◌, ◌∙◌, ◌+◌, ◌++◌, [], ◌∷◌, true, false, sym, ap, arith, length, vec_len}
 use Rattle.wb_display.specs.Layer.{is_news}
 use Rattle.wb_display.specs.LayerFields.{held_of}
-use Rattle.std.specs.Prelude.{true, false}
-use Rattle.wb_display.proofs.PuttingAll.{step_taken, room_left, held_more_puts, held_not_more}
+use Rattle.wb_display.proofs.Layers.{touched_more, touched_alone}
+use Rattle.wb_display.proofs.PuttingAll.{step_held, room_left, held_more_puts, held_not_more, touched_none}
 use Rattle.wb_display.proofs.layer.take_in_all.Goals as goal
-use Rattle.wb_display.proofs.layer.take_in_all.Goals.{then-is_news, else-is_news}
+use Rattle.wb_display.proofs.layer.take_in_all.Goals.{then-is_news+in-Some, then-is_news+in_default, else-is_news}
+
+pub loop-drawop-init : goal.loop-drawop-init
+loop-drawop-init c = record {
+  page = search rules;
+  held = c.requires.held;
+  all = search rules;
+  touches = rw c.requires.none (touched_none c.args.words.now.page (held_of c.args.drawops.now.entries));
+  words = c.requires.words;
+  drawops = c.requires.drawops;
+  touched = omega (arith, ap length c.requires.none);
+  count = omega (arith, ap length c.requires.none);
+}
 
 pub loop-drawop-preserved : goal.loop-drawop-preserved
-loop-drawop-preserved c = elim c.if-is_news.branch [
-  | then-is_news w ↦
-      let inv = c.loop-drawop.invariant in
-      let d = c.drawop-item.result in
-      let news : is_news c.loop-drawop.words.page (held_of c.loop-drawop.drawops.entries) d ≡ true = sym (c.is_news.ensures inv.kept.labels) ∙ w.if-is_news.true in
-      let step = step_taken c.loop-drawop.words w.take_in.new.words c.loop-drawop.drawops.entries w.take_in.new.drawops.entries c.loop-drawop.shown.items w.take_in.new.shown.items c.args.list.now c.loop-drawop.drawop-index d (omega arith) (sym c.drawop-item.is) news w.take_in.ensures.page w.take_in.ensures.kept inv.kept in
-      rw (w.words-is, w.drawops-is, w.shown-is) (record {
-        page = w.take_in.ensures.page ∙ inv.page;
-        kept = step.0;
-        held = held_more_puts c.args.words.now.page c.loop-drawop.words.page (held_of c.args.drawops.now.entries) (held_of c.loop-drawop.drawops.entries) _ c.args.list.now c.loop-drawop.drawop-index d (omega arith) (sym c.drawop-item.is) inv.page inv.held step.1;
-        words = omega (arith, step.2);
-        drawops = omega (arith, step.2);
-        shown = omega (arith, step.2);
-      })
-  | else-is_news w ↦
-      let inv = c.loop-drawop.invariant in
-      let d = c.drawop-item.result in
-      let known : is_news c.loop-drawop.words.page (held_of c.loop-drawop.drawops.entries) d ≡ false = sym (c.is_news.ensures inv.kept.labels) ∙ w.if-is_news.false in
-      let same = held_not_more c.loop-drawop.words.page (held_of c.loop-drawop.drawops.entries) d known in
-      let room = room_left c.loop-drawop.words.page (held_of c.loop-drawop.drawops.entries) c.args.list.now c.loop-drawop.drawop-index d (omega arith) (sym c.drawop-item.is) known in
-      rw (w.words-is, w.drawops-is, w.shown-is) (record {
-        page = inv.page;
-        kept = inv.kept;
-        held = held_more_puts c.args.words.now.page c.loop-drawop.words.page (held_of c.args.drawops.now.entries) (held_of c.loop-drawop.drawops.entries) _ c.args.list.now c.loop-drawop.drawop-index d (omega arith) (sym c.drawop-item.is) inv.page inv.held same;
-        words = omega (arith, room);
-        drawops = omega (arith, room);
-        shown = omega (arith, room);
-      })
-]
+loop-drawop-preserved c =
+    let inv = c.loop-drawop.invariant in
+    let d = c.drawop-item.result in
+    let words = c.loop-drawop.words in
+    let entries = c.loop-drawop.drawops.entries in
+    let i = c.loop-drawop.drawop-index in
+    let is = sym c.drawop-item.is in
+    elim c.if-is_news.branch [
+      | then-is_news+in-Some w ↦
+          let news : is_news words.page (held_of entries) d ≡ true = sym (c.is_news.ensures inv.held.labels) ∙ w.if-is_news.true in
+          let step = step_held words w.hold.new.words entries w.hold.new.drawops.entries c.args.list.now i d (omega arith) is news w.hold.ensures.page w.hold.ensures.held inv.held in
+          let grown : w.push.new.self.items ≡ c.loop-drawop.touched.items ++ w.in-Some.at_stake ∷ [] = search rules in
+          let len : vec_len w.push.new.self ≡ vec_len c.loop-drawop.touched + 1 = search rules in
+          let capacity = w.push.ensures.capacity in
+          let touches = touched_more words w.hold.new.words entries w.hold.new.drawops.entries d w.hold.ensures.page inv.held step.0 step.1 (held_of c.args.drawops.now.entries) c.loop-drawop.touched.items w.in-Some.at_stake (sym w.in-Some.ensures.stake) inv.touches in
+          rw (w.words-is, w.drawops-is, w.touched-is) (record {
+            page = w.hold.ensures.page ∙ inv.page;
+            held = step.0;
+            all = held_more_puts c.args.words.now.page words.page (held_of c.args.drawops.now.entries) (held_of entries) _ c.args.list.now i d (omega arith) is inv.page inv.all step.2;
+            touches = rw (w.hold.ensures.page, grown) touches;
+            words = omega (arith, step.3);
+            drawops = omega (arith, step.3);
+            touched = omega (arith, step.3);
+            count = omega (arith, step.3);
+          })
+      | then-is_news+in_default w ↦
+          let news : is_news words.page (held_of entries) d ≡ true = sym (c.is_news.ensures inv.held.labels) ∙ w.if-is_news.true in
+          let step = step_held words w.hold.new.words entries w.hold.new.drawops.entries c.args.list.now i d (omega arith) is news w.hold.ensures.page w.hold.ensures.held inv.held in
+          let touches = touched_alone words w.hold.new.words entries w.hold.new.drawops.entries d w.hold.ensures.page inv.held step.0 step.1 (held_of c.args.drawops.now.entries) c.loop-drawop.touched.items (sym w.in_default.ensures.stake) inv.touches in
+          rw (w.words-is, w.drawops-is, w.touched-is) (record {
+            page = w.hold.ensures.page ∙ inv.page;
+            held = step.0;
+            all = held_more_puts c.args.words.now.page words.page (held_of c.args.drawops.now.entries) (held_of entries) _ c.args.list.now i d (omega arith) is inv.page inv.all step.2;
+            touches = rw w.hold.ensures.page touches;
+            words = omega (arith, step.3);
+            drawops = omega (arith, step.3);
+            touched = omega (arith, step.3);
+            count = omega (arith, step.3);
+          })
+      | else-is_news w ↦
+          let known : is_news words.page (held_of entries) d ≡ false = sym (c.is_news.ensures inv.held.labels) ∙ w.if-is_news.false in
+          let room = room_left words.page (held_of entries) c.args.list.now i d (omega arith) is known in
+          rw (w.words-is, w.drawops-is, w.touched-is) (record {
+            page = inv.page;
+            held = inv.held;
+            all = held_more_puts c.args.words.now.page words.page (held_of c.args.drawops.now.entries) (held_of entries) _ c.args.list.now i d (omega arith) is inv.page inv.all (held_not_more words.page (held_of entries) d known);
+            touches = inv.touches;
+            words = omega (arith, room);
+            drawops = omega (arith, room);
+            touched = omega (arith, room);
+            count = omega (arith, room);
+          })
+    ]

@@ -4,8 +4,10 @@ use Rattle.wb_display.proofs.layer.Layer.new.Goals as goal
 
 pub invariant_of-result : goal.invariant_of-result
 invariant_of-result c = rw (c.new-2.ensures.empty, c.new-3.ensures.items) (record {
-  names = λ i j d ij h. absurd (omega arith);
-  labels = λ k d h. absurd (omega arith);
-  heard = c.new.ensures.none;
+  held = record {
+    names = λ i j d ij h. absurd (omega arith);
+    labels = λ k d h. absurd (omega arith);
+    heard = c.new.ensures.none;
+  };
   view = nothing_shown c.new.result.page;
 })
