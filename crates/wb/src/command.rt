@@ -37,7 +37,9 @@ fn run_command<'a>(alloc: Global) -> Result<Command<'a>, AllocError> {
     let workers = Arg::new(alloc, "workers")
         .long("workers")
         .value_name("N")
-        .help("Takes arrivals by N workers, 1 to 8, whatever the script says")
+        .help(
+            "Takes arrivals by N workers, 1 to 8, whatever the script says: without effect yet, since scripts run on one thread",
+        )
         .value_parser(value_parser!(u32).range(1..=8))
         .action(ArgAction::Set);
     Command::new(alloc, "run")
