@@ -13,11 +13,11 @@ use Rattle.wb_names.specs.Orders.{same_name, name_cmp}
 use Rattle.wb_names.specs.Listing.{Lists}
 use Rattle.wb_names.proofs.Orders.{name_total, same_name-is, and_both}
 use Rattle.wb_names.proofs.Listings.{Contains-filter, Contains-from_filter, one_list, lists_same}
-use Rattle.wb_recovery.specs.Timing.{ask_due, answer_due, got, ticked, is_standing, is_ask_due, is_answer_due, quiet_after}
+use Rattle.wb_recovery.specs.Timing.{ask_moment, ask_due, answer_due, got, ticked, is_standing, is_ask_due, is_answer_due, quiet_after}
 use Rattle.wb_recovery.specs.Alarms.{among, is_until}
 use Rattle.wb_recovery.specs.Faults.{is_delay}
 use Rattle.wb_recovery.specs.Values.{RecoveryValue, timers_at, timers_in, names_in, Replaces}
-use Rattle.wb_recovery.specs.Events.{Event, Got, Tick, names_of, timers_of, due_asks, due_answers, word_for}
+use Rattle.wb_recovery.specs.Events.{Event, Got, Tick, names_of, timers_of, asking, due_asks, due_answers, word_for}
 use Rattle.wb_recovery.specs.Standing.{StandsFor}
 use Rattle.wb_recovery.specs.Firing.{with_ask_fired, with_answer_fired}
 use Rattle.wb_recovery.specs.Stopping.{gots, has_come, got_each, EndsAll, FiresThese, with_these_fired}
@@ -28,7 +28,7 @@ use Rattle.wb_recovery.specs.declared.timers.AskTimer.{AskTimer}
 use Rattle.wb_recovery.specs.declared.timers.AnswerTimer.{AnswerTimer}
 use Rattle.wb_recovery.proofs.AlarmOrder.{name_ties}
 use Rattle.wb_recovery.proofs.Counting.{list_due_asks}
-use Rattle.wb_recovery.proofs.NameLists.{listed_of}
+use Rattle.wb_recovery.proofs.NameLists.{listed_of, listed_in}
 use Rattle.wb_recovery.proofs.Ticking.{among_listed, asks_until, answers_until}
 use Rattle.wb_recovery.proofs.FiredTimers.{ask_stays, answer_stays, quiet_stays}
 
@@ -260,3 +260,13 @@ module _ (now : ℕ) (inside value : RecoveryValue) (is : inside ≡ value) (com
       let here : length xs ≡ length (others_of come due) = ap length left_over in
       let fewer = fewer_others come due in
       omega arith
+
+-- the names with a request timer, told of a recovery's alarms
+some_ask : (o : Option AskTimer) → is_some (ask_moment o) ≡ is_some o
+some_ask None = refl
+some_ask (Some a) = refl
+
+pub names_asking : (value : RecoveryValue) → IsStrictlySortedBy name_cmp (names_in value) → (xs : List NameValue) → Lists name_cmp (λ n. is_some (ask_due (timers_in value n)) ≡ true) xs → xs ≡ asking (names_in value) (timers_in value)
+names_asking value rises xs l = one_list name_total _ _ _
+    (lists_same name_total _ _ _ (λ n h. sym (some_ask (timers_in value n).ask) ∙ h) (λ n h. some_ask (timers_in value n).ask ∙ h) l)
+    (listed_in (λ (s : Timers). is_some s.ask) refl value rises)

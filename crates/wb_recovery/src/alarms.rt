@@ -1,4 +1,4 @@
-ghost use Rattle.std.specs.Prelude.{◌≡◌, ℕ, Option, true, map, take_while, nat_le, length, IfOk, OnOk, OnErr};
+ghost use Rattle.std.specs.Prelude.{◌≡◌, is_some, ℕ, Option, true, map, take_while, nat_le, length, IfOk, OnOk, OnErr};
 ghost use Rattle.std.specs.Prelude.{Some as some, None as none};
 ghost use Rattle.std.specs.Prelude.{◌||◌, ◌&&◌, not, false};
 ghost use Rattle.std.specs.BTreeSet.{contains, IsOrdered};
@@ -101,6 +101,23 @@ impl Alarms {
     {
         let due = self.set.iter().take_while(|alarm| alarm.due <= now);
         due.map(|alarm| alarm.name).collect(alloc)
+    }
+
+    /// The names that have a timer, ascending.
+    pub(crate) fn names(&self, alloc: Global) -> Result<Vec<Name>, AllocError>
+        ensures { (dues : NameValue → Option ℕ) → Keep dues self.now → IfOk result (λ v. Lists name_cmp (λ n. is_some (dues n) ≡ true) v.items) }
+    {
+        let mut names = self.all_names(alloc)?;
+        names.sort_unstable();
+        Ok(names)
+    }
+
+    /// The same, in the order of the alarms.
+    fn all_names(&self, alloc: Global) -> Result<Vec<Name>, AllocError>
+        ensures ordered { IsOrdered alarm_cmp self.now.set }
+        ensures names { IfOk result (λ v. v.items ≡ map (λ a. a.name) self.now.set.keys) }
+    {
+        self.set.iter().map(|alarm| alarm.name).collect(alloc)
     }
 
     /// Moves the alarm of a name.

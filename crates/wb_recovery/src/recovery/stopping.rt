@@ -9,7 +9,7 @@ ghost use Rattle.wb_names.specs.Orders.{name_cmp};
 ghost use Rattle.wb_recovery.specs.Faults.{is_delay, IsCheckedBy};
 ghost use Rattle.wb_recovery.specs.Timing.{is_answer_due};
 ghost use Rattle.wb_recovery.specs.Values.{timers_in, names_in};
-ghost use Rattle.wb_recovery.specs.Events.{Event, Tick, due_asks, actions_of};
+ghost use Rattle.wb_recovery.specs.Events.{Event, Tick, asking, due_asks, actions_of};
 ghost use Rattle.wb_recovery.specs.Standing.{StandsFor};
 ghost use Rattle.wb_recovery.specs.Stopping.{gots, gots_fault, has_come, EndsAll, FiresThese};
 ghost use Rattle.wb_recovery.specs.declared.tuning.Tuning.{Tuning as Constants};
@@ -54,6 +54,31 @@ impl Recovery {
         self.end_all(come, now);
         self.moment = now;
         Ok(actions)
+    }
+
+    /// What `stop_and_tick` would answer at this moment. It changes nothing.
+    pub fn actions_after(
+        &self,
+        alloc: Global,
+        come: &[Come],
+        now: u64,
+    ) -> Result<Vec<Action>, AllocError>
+        ensures { IfOk result (λ actions. (constants : Constants) (events : List Event) → StandsFor constants events self.now → actions.items ≡ actions_of constants (gots now events come.now) now) }
+    {
+        let stopped = stopped_names(alloc, come)?;
+        let due = self.asks.names_until(alloc, now)?;
+        let asking = others(alloc, &due, &stopped)?;
+        let ready = self.answers.names_until(alloc, now)?;
+        let answering = others(alloc, &ready, &stopped)?;
+        let actions = actions(alloc, &asking, &answering)?;
+        Ok(actions)
+    }
+
+    /// The names for which a request timer stands, ascending.
+    pub fn asked_names(&self, alloc: Global) -> Result<Vec<Name>, AllocError>
+        ensures { IfOk result (λ names. names.items ≡ asking (names_in self.now) (timers_in self.now)) }
+    {
+        self.asks.names(alloc)
     }
 
     /// Refuses a moment below the last one, and then a moment or a delay out of its range.
