@@ -79,7 +79,7 @@ keeps_delay source micros old new delays is r me t calls s = subst (StandsFor me
   from q false = s.delays q
 
 -- ---- names that have come
-same_here : (m n : NameValue) → m ≡ n → same_name m n ≡ true
+pub same_here : (m n : NameValue) → m ≡ n → same_name m n ≡ true
 same_here m n e = name_ties m n ∙ (name_decides m n).1 e
 
 pub holds_from : (history : List DrawopValue) (name : NameValue) (d : DrawopValue) → Contains history d → d.name ≡ name → holds history name ≡ true

@@ -2,3 +2,5 @@ pub mod StandingLayers
 pub mod InOrder
 pub mod Agreement
 pub mod KeptCalls
+pub mod SentEchoes
+pub mod FoundDrawops

@@ -53,8 +53,9 @@ pub record IsAsBefore (old new : KeeperValue) : Type 0 where
   pub rest : new ≡ record old { recovery = new.recovery }
 
 -- what holds of every keeper
-pub record IsSound (last : ℕ) (recovery : RecoveryValue) (delays : BTreeMap ℕ ℕ) (none : List MarkValue) : Type 0 where
+pub record IsSound (last : ℕ) (recovery : RecoveryValue) (delays : BTreeMap ℕ ℕ) (heard : BTreeMap ℕ Heard) (none : List MarkValue) : Type 0 where
   pub moment : last < 2 ^ 48
   pub before : recovery.moment ≤ last
   pub near : (source : ℕ) → delay_at delays.entries source < 2 ^ 24
+  pub few : length heard.entries ≤ 65535
   pub empty : none ≡ []

@@ -8,3 +8,5 @@ pub mod Laws
 pub mod Keeper
 pub mod Keeping
 pub mod KeepFaults
+pub mod Sessions
+pub mod Ticks

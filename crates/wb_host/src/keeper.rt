@@ -10,6 +10,8 @@ ghost use Rattle.wb_host.specs.KeepFaults.{moment_fault, delay_fault, IsKeptBy};
 
 mod arrivals;
 mod notices;
+mod sessions;
+mod ticks;
 
 use crate::keep_fault::KeepFault;
 use std::alloc::Global;
@@ -55,7 +57,7 @@ impl Model for Keeper {
 
     ghost view = { λ k. record { me = k.me; moment = k.moment; recovery = k.recovery; delays = k.delays.entries; heard = k.heard.entries; marks = k.marks.entries } };
 
-    ghost invariant = { λ k. IsSound k.moment k.recovery k.delays k.none };
+    ghost invariant = { λ k. IsSound k.moment k.recovery k.delays k.heard k.none };
 }
 
 impl Keeper {

@@ -10,4 +10,4 @@ use Rattle.wb_recovery.proofs.alarms.Alarms.all_names.Goals as goal
 pub returns-clause-names : goal.returns-clause-names
 returns-clause-names c = IfOk-weaker c.collect.result (λ v. (v.items ≡ map (λ (a : Alarm). a.name) c.args.self.now.set.keys) × (v.len ≡ length (map (λ (a : Alarm). a.name) c.args.self.now.set.keys))) _ (λ v q. q.0)
     (fact_from_collect (λ xs v. (v.items ≡ xs) × (v.len ≡ length xs)) c.collect.result c.collect.ensures.ran
-        (YieldsList-from_map _ (λ (a : Alarm). a.name) (YieldsList-at c.map.ensures.source (YieldsList-from_rest c.args.self.now.set.keys c.iter.ensures.rest)) c.map.ensures.closure (λ x r q k. search rules)))
+    (YieldsList-from_map _ (λ (a : Alarm). a.name) (YieldsList-at c.map.ensures.source (YieldsList-from_rest c.args.self.now.set.keys c.iter.ensures.rest)) c.map.ensures.closure (λ x r q k. search rules)))

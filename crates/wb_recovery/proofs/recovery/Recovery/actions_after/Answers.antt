@@ -25,4 +25,3 @@ returns c = λ constants events s.
     c.in_ok-actions.ensures
     ∙ ap (λ (xs : List NameValue). map {B = Action} Ask xs ++ map {B = Action} Answer c.deref-4.result.now) a
     ∙ ap (λ (xs : List NameValue). map {B = Action} Ask (due_asks (names_of (gots c.args.now events c.args.come.now)) (timers_of constants (gots c.args.now events c.args.come.now)) c.args.now) ++ map {B = Action} Answer xs) b
-

@@ -1,0 +1,36 @@
+-- The session message that a keeper sends.
+use Rattle.std.specs.Prelude.{◌≡◌, ℕ, ◌-◌, List, Some, map}
+use Rattle.std.specs.Ordering.{nat_cmp}
+use Rattle.std.specs.declared.cmp.Ordering.{Ordering}
+use Rattle.wb_names.specs.Values.{DrawopValue, MarkValue}
+use Rattle.wb_names.specs.Listing.{Lists}
+use Rattle.wb_names.specs.Marks.{IsReport}
+use Rattle.wb_names.specs.declared.name.PageId.{PageId}
+use Rattle.wb_names.specs.declared.echo.Echo.{Echo}
+use Rattle.wb_codec.specs.declared.datagram.Datagram.{Datagram}
+use Rattle.wb_codec.specs.declared.datagram.Datagram.TheVariants.{Session}
+use Rattle.wb_host.specs.Keeper.{KeeperCall, last_heard}
+use Rattle.wb_host.specs.declared.keeper.Heard.{Heard}
+
+abbrev pub echo_cmp : Echo → Echo → Ordering
+echo_cmp a b = nat_cmp a.source b.source
+
+-- what is told a sender that is remembered: the moment that its last session message named, and how long ago that was heard
+abbrev pub IsEchoTo : ℕ → List KeeperCall → ℕ → Echo → Type 0
+IsEchoTo me calls now e = (h : Heard) × (last_heard me calls e.source ≡ Some h) × (e.sent ≡ h.sent) × (e.held ≡ now - h.at)
+
+-- sent at this moment, with the report of the page and an echo to each such sender, ascending
+pub record IsSession (me : ℕ) (calls : List KeeperCall) (now : ℕ) (history : List DrawopValue) (page : PageId) (message : Datagram) : Type 0 where
+  pub marks : List MarkValue
+  pub echoes : List Echo
+  pub report : IsReport history page marks
+  pub echoed : Lists echo_cmp (IsEchoTo me calls now) echoes
+  pub is : message ≡ Session me now page marks echoes
+
+-- the echoes at a moment, as a keeper holds them
+abbrev pub echoes_at : ℕ → List (ℕ × Heard) → List Echo
+echoes_at now heard = map (λ p. record { source = p.0; sent = p.1.sent; held = now - p.1.at }) heard
+
+-- there is one such message
+abbrev pub OneSession : Type 0
+OneSession = (me : ℕ) (calls : List KeeperCall) (now : ℕ) (history : List DrawopValue) (page : PageId) (a b : Datagram) → IsSession me calls now history page a → IsSession me calls now history page b → a ≡ b
