@@ -1,0 +1,119 @@
+-- What the workers accepted and what was taken again, as one batch.
+use Rattle.std.proofs.Common.{◌≡◌, ℕ, zero, suc, ◌+◌, ◌≤◌, ◌<◌, Bool, List, [], ◌∷◌, ◌++◌, length, map, get_or, refl, ap, ap₂, sym, subst, ◌∙◌, arith, append_assoc, length-append}
+use Rattle.std.specs.Prelude.{All}
+use Rattle.std.proofs.lemmas.Bool.Decides.{nat_tests}
+use Rattle.std.proofs.lemmas.List.Elements.{All-nil, All-cons}
+use Rattle.std.specs.List.Sorted.{IsPermutation}
+use Rattle.std.proofs.lemmas.List.Sorted.{IsPermutation-trans, IsPermutation-append_right, length_permutation}
+use mathlib.Core.List.{IsPrefix}
+use Rattle.wb_names.specs.Values.{DrawopValue}
+use Rattle.wb_names.specs.History.{HoldsName}
+use Rattle.wb_names.specs.Arrivals.{Outcome, Fresh, Known, Clashed, Left, Counts, counts, IsBatch}
+use Rattle.wb_host.specs.Passes.{PassValue, IsSound, IsWhole}
+use Rattle.wb_feed.specs.declared.line.Hand.{Hand}
+use Rattle.wb_feed.specs.declared.worker.Accepted.{Accepted}
+use Rattle.wb_feed.specs.declared.message.Message.{Message}
+use Rattle.wb_feed.specs.declared.batch.Batch.{Batch}
+use Rattle.wb_feed.specs.Accepts.{Entry, drawops, tally, Runs}
+use Rattle.wb_feed.specs.Batches.{counts_in, IsInOrder, IsInSomeOrder, HoldsNamesBut, Takes, IsTotal}
+use Rattle.wb_feed.specs.Crews.{Crew, Crewed}
+use Rattle.wb_feed.specs.Line.{once_below, IsComplete, AreRight, spots}
+use Rattle.wb_feed.specs.Marks.{unmarked, Marks, Retakes}
+use Rattle.wb_feed.specs.Served.{Spot, is_left, entries, accepted_at, offered}
+use Rattle.wb_feed.proofs.Log.{is_taken, chosen, chosen-append, drawops-append, tally-append, tally_all, left_many, Told, Gathers, gathers_run, runs_empty}
+use Rattle.wb_feed.proofs.Members.{nothing, at_named}
+use Rattle.wb_feed.proofs.Numbers.{times}
+use Rattle.wb_feed.proofs.OneThread.{counted_as, same_counts}
+use Rattle.wb_feed.proofs.OneWorker.{in_given_order}
+use Rattle.wb_feed.proofs.Placing.{OffersRight, places_and_rest, crew_offers, crew_once, crew_gathers, taken_at}
+use Rattle.wb_feed.proofs.Prefixes.{prefix_length}
+use Rattle.wb_feed.proofs.Settling.{taken_or_left, settles, left_lacks, stays_whole}
+
+taken_many : (log : List Entry) → length (drawops (chosen is_taken log)) ≡ ((tally log).fresh + (tally log).again) + (tally log).clash
+taken_many [] = omega arith
+taken_many ((d, Left) ∷ es) = taken_many es
+taken_many ((d, Fresh i) ∷ es) = omega (arith, taken_many es)
+taken_many ((d, Known i) ∷ es) = omega (arith, taken_many es)
+taken_many ((d, Clashed i) ∷ es) = omega (arith, taken_many es)
+
+-- the names of what was taken are held
+taken_names : (h : List DrawopValue) (log : List Entry) → Told h log → All (λ d. HoldsName h d.name) (drawops (chosen is_taken log))
+taken_names h [] t = All-nil (λ (d : DrawopValue). HoldsName h d.name)
+taken_names h ((d, Left) ∷ es) t = taken_names h es t.1
+taken_names h ((d, Fresh i) ∷ es) t = All-cons (λ (d : DrawopValue). HoldsName h d.name) d (drawops (chosen is_taken es)) (at_named h i d d t.0 refl) (taken_names h es t.1)
+taken_names h ((d, Known i) ∷ es) t = All-cons (λ (d : DrawopValue). HoldsName h d.name) d (drawops (chosen is_taken es)) (at_named h i d d t.0 refl) (taken_names h es t.1)
+taken_names h ((d, Clashed i) ∷ es) t = All-cons (λ (d : DrawopValue). HoldsName h d.name) d (drawops (chosen is_taken es)) (at_named h i t.0.0 d t.0.1 t.0.2) (taken_names h es t.1)
+
+once_rises : (i m n : ℕ) → m ≤ n → once_below i m ≤ once_below i n
+once_rises i m n h = grind (arith, nat_tests)
+
+-- what the workers accepted, as drawops, and what is not marked are the drawops drawn
+pub record Whole (drawn : List DrawopValue) (ms : List Bool) (log : List Spot) (gots : List Message) : Type 0 where
+  pub moved : IsPermutation drawn (drawops (chosen is_taken (entries log)) ++ unmarked ms drawn)
+  pub low : ℕ
+  pub most : low ≤ length drawn
+  pub once : (p : ℕ) → spots p gots ≡ once_below p low
+  pub right : OffersRight drawn (offered log)
+  pub marks : Marks (accepted_at log) (length drawn) ms
+
+pub whole_from : (rows n : ℕ) (p q : PassValue) (g h : Hand) (a : Accepted) (drawn : List DrawopValue) (ms : List Bool) (c : Crewed rows n p g h q a) → g.got ≡ [] → IsComplete h → IsPrefix h.sent drawn
+    → Marks a.positions.items (length drawn) ms → Whole drawn ms c.log c.gots
+whole_from rows n p q g h a drawn ms c none all sent m =
+    let got : h.got ≡ c.gots = c.got ∙ ap (λ l. l ++ c.gots) none in
+    let right : AreRight h.sent c.gots = subst (λ l. AreRight h.sent l) got all.right in
+    let most : (i : ℕ) → times i a.positions.items ≤ once_below i (length drawn) =
+      λ i. omega (arith, ap (times i) c.tells.positions, crew_once i c.crew, ap (λ l. spots i l) got, all.once i, once_rises i all.low (length drawn) (omega (arith, all.most, prefix_length h.sent drawn sent))) in
+    let e : map (λ i. get_or drawn i nothing) a.positions.items ≡ drawops (chosen is_taken (entries c.log)) =
+      ap (map (λ i. get_or drawn i nothing)) c.tells.positions ∙ sym (taken_at drawn c.log (crew_offers h.sent drawn sent right c.crew)) in
+    record {
+      moved = subst (λ l. IsPermutation drawn (l ++ unmarked ms drawn)) e (places_and_rest drawn a.positions.items ms m most);
+      low = all.low;
+      most = omega (arith, all.most, prefix_length h.sent drawn sent);
+      once = λ i. sym (ap (λ l. spots i l) got) ∙ all.once i;
+      right = crew_offers h.sent drawn sent right c.crew;
+      marks = subst (λ l. Marks l (length drawn) ms) c.tells.positions m;
+    }
+
+pub takes_all : (rows n : ℕ) (p q r : PassValue) (g h : Hand) (a : Accepted) (drawn : List DrawopValue) (ms : List Bool) (t b : Batch) (c : Crewed rows n p g h q a) → Whole drawn ms c.log c.gots
+    → (n ≡ 1 → rows ≡ p.free) → IsSound p → IsSound q → IsSound r → Retakes q (unmarked ms drawn) r t → IsTotal a t b → Takes p drawn n r b
+takes_all rows n p q r g h a drawn ms t b c whole one sp sq sr m e =
+    let log = entries c.log in
+    let more = m.log in
+    let all = log ++ more in
+    let sum = tally-append log more in
+    let gs : Gathers p all r = gathers_run p q r log more (crew_gathers c.crew) m.runs in
+    let fresh : (tally all).fresh ≡ b.fresh = omega (arith, sum.fresh, e.fresh, c.tells.fresh, m.tallies.fresh) in
+    let again : (tally all).again ≡ b.again = omega (arith, sum.again, e.again, c.tells.again, m.tallies.again) in
+    let clash : (tally all).clash ≡ b.clash = omega (arith, sum.clash, e.clash, c.tells.clash, m.tallies.clash) in
+    let left : (tally more).left ≡ b.left = omega (arith, e.left, m.tallies.left) in
+    let lefts = drawops (chosen is_left more) in
+    let left' : length lefts ≡ b.left = sym (left_many more) ∙ left in
+    let taken = drawops (chosen is_taken log) in
+    let retaken = drawops (chosen is_taken more) in
+    let rest : IsPermutation (unmarked ms drawn) (retaken ++ lefts) = subst (λ l. IsPermutation l (retaken ++ lefts)) m.all (taken_or_left more) in
+    let both : IsPermutation drawn ((taken ++ retaken) ++ lefts) = subst (λ l. IsPermutation drawn l) (sym (append_assoc taken retaken lefts))
+      (IsPermutation-trans drawn (taken ++ unmarked ms drawn) (taken ++ (retaken ++ lefts)) whole.moved (IsPermutation-append_right taken (unmarked ms drawn) (retaken ++ lefts) rest)) in
+    let in_all : drawops (chosen is_taken all) ≡ taken ++ retaken = ap drawops (chosen-append is_taken log more) ∙ drawops-append (chosen is_taken log) (chosen is_taken more) in
+    let moved : IsPermutation drawn (drawops (chosen is_taken all) ++ lefts) = subst (λ l. IsPermutation drawn (l ++ lefts)) (sym in_all) both in
+    let many = length_permutation drawn (drawops (chosen is_taken all) ++ lefts) moved in
+    let none : 0 < length lefts → r.free ≡ 0 = λ some. runs_empty q r more m.runs (omega (arith, left_many more)) in
+    record {
+      counted = omega (arith, many, length-append (drawops (chosen is_taken all)) lefts, taken_many all, left', fresh, again, clash);
+      rows = omega (arith, gs.free, fresh);
+      named = record { held = drawops (chosen is_taken all); others = lefts; moved = moved; names = taken_names r.seen all gs.told; few = left' };
+      full = λ some. none (omega (arith, left'));
+      whole = stays_whole p r all gs;
+      settled = λ w.
+        let s = settles p r all drawn lefts sp w sr gs moved (left_lacks q r more sr (stays_whole p r all gs w) m.runs) none in
+        record { order = s.order; moved = s.moved; taken = counted_as p.cells p.seen r.seen s.order (counts (tally all).fresh (tally all).again (tally all).clash (length lefts)) (counts_in b) (same_counts fresh again clash left') s.taken };
+      in_order = λ is w.
+        counted_as p.cells p.seen r.seen drawn (counts (tally all).fresh (tally all).again (tally all).clash (tally more).left) (counts_in b) (same_counts fresh again clash left)
+        (in_given_order r more drawn ms (one is) sp w sq sr (subst (λ (k : ℕ). Crew rows k p c.log c.gots q) is c.crew) (crew_gathers c.crew) gs m.runs m.all whole.most whole.once whole.right whole.marks);
+    }
+
+pub total_few : (rows n : ℕ) (p q r : PassValue) (g h : Hand) (a : Accepted) (drawn : List DrawopValue) (ms : List Bool) (t : Batch) (c : Crewed rows n p g h q a) → Whole drawn ms c.log c.gots → Retakes q (unmarked ms drawn) r t
+    → (((a.fresh + t.fresh) + (a.again + t.again)) + (a.clash + t.clash)) + t.left ≤ length drawn
+total_few rows n p q r g h a drawn ms t c whole m =
+    let taken = drawops (chosen is_taken (entries c.log)) in
+    omega (arith, length_permutation drawn (taken ++ unmarked ms drawn) whole.moved, length-append taken (unmarked ms drawn), taken_many (entries c.log), ap length m.all, tally_all m.log,
+      c.tells.fresh, c.tells.again, c.tells.clash, m.tallies.fresh, m.tallies.again, m.tallies.clash, m.tallies.left)

@@ -1,0 +1,15 @@
+pub mod Prefixes
+pub mod Numbers
+pub mod Members
+pub mod Log
+pub mod OneThread
+pub mod InOrder
+pub mod Settling
+pub mod Rules
+pub mod Sending
+pub mod Serving
+pub mod Crewing
+pub mod Marking
+pub mod Placing
+pub mod OneWorker
+pub mod Batching

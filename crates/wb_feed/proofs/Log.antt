@@ -1,0 +1,242 @@
+-- What a log tells of the desks that made it.
+use Rattle.std.proofs.Common.{◌≡◌, ℕ, ◌+◌, ◌≤◌, ◌<◌, Bool, true, false, cond, List, [], ◌∷◌, ◌++◌, length, refl, ap, sym, ◌∙◌, arith, append_assoc, length-append}
+use Rattle.std.proofs.lemmas.List.{append-nil}
+use mathlib.Core.List.{IsPrefix}
+use Rattle.wb_names.specs.Values.{DrawopValue}
+use Rattle.wb_names.specs.History.{IsAgainAt, IsClashAt}
+use Rattle.wb_names.specs.Arrivals.{Outcome, Fresh, Known, Clashed, Left, Counts, counts_of}
+use Rattle.wb_host.specs.Passes.{PassValue, IsSamePass, AddsNothing, IsSound}
+use Rattle.wb_host.specs.Sharing.{IsSplit, IsJoined}
+use Rattle.wb_feed.specs.Accepts.{Keeps, Becomes, Accepts, Entry, drawops, outcomes, tally, Runs}
+use Rattle.wb_feed.proofs.Prefixes.{prefix_self, prefix_is, prefix_trans, prefix_get}
+use Rattle.wb_feed.specs.Line.{once_below}
+use Rattle.wb_feed.specs.Served.{is_left}
+use Rattle.wb_feed.proofs.Numbers.{times, times-append, each_once}
+
+-- the kinds of outcomes
+abbrev pub is_new : Outcome → Bool
+is_new (Fresh i) = true
+is_new (Known i) = false
+is_new (Clashed i) = false
+is_new Left = false
+
+abbrev pub is_held : Outcome → Bool
+is_held (Fresh i) = false
+is_held (Known i) = true
+is_held (Clashed i) = true
+is_held Left = false
+
+abbrev pub is_taken : Outcome → Bool
+is_taken (Fresh i) = true
+is_taken (Known i) = true
+is_taken (Clashed i) = true
+is_taken Left = false
+
+-- the entries with such an outcome
+abbrev pub chosen : (Outcome → Bool) → List Entry → List Entry
+chosen p [] = []
+chosen p (e ∷ es) = cond (p e.1) (e ∷ chosen p es) (chosen p es)
+
+-- the places that were gained
+abbrev pub place : Outcome → List ℕ
+place (Fresh i) = i ∷ []
+place (Known i) = []
+place (Clashed i) = []
+place Left = []
+
+abbrev pub places : List Entry → List ℕ
+places [] = []
+places (e ∷ es) = place e.1 ++ places es
+
+-- what an outcome says of a list, and so of each longer one
+abbrev pub Says : List DrawopValue → DrawopValue → Outcome → Type 0
+Says h d (Fresh i) = IsAgainAt h d i
+Says h d (Known i) = IsAgainAt h d i
+Says h d (Clashed i) = IsClashAt h d i
+Says h d Left = Unit {0}
+
+abbrev pub Told : List DrawopValue → List Entry → Type 0
+Told h [] = Unit {0}
+Told h (e ∷ es) = Says h e.0 e.1 × Told h es
+
+pub record Sum (m n s : Counts) : Type 0 where
+  pub fresh : s.fresh ≡ m.fresh + n.fresh
+  pub again : s.again ≡ m.again + n.again
+  pub clash : s.clash ≡ m.clash + n.clash
+  pub left : s.left ≡ m.left + n.left
+
+pub tally-append : (xs ys : List Entry) → Sum (tally xs) (tally ys) (tally (xs ++ ys))
+tally-append [] ys = record { fresh = omega arith; again = omega arith; clash = omega arith; left = omega arith }
+tally-append ((d, Fresh i) ∷ xs) ys = let s = tally-append xs ys in record { fresh = omega arith; again = s.again; clash = s.clash; left = s.left }
+tally-append ((d, Known i) ∷ xs) ys = let s = tally-append xs ys in record { fresh = s.fresh; again = omega arith; clash = s.clash; left = s.left }
+tally-append ((d, Clashed i) ∷ xs) ys = let s = tally-append xs ys in record { fresh = s.fresh; again = s.again; clash = omega arith; left = s.left }
+tally-append ((d, Left) ∷ xs) ys = let s = tally-append xs ys in record { fresh = s.fresh; again = s.again; clash = s.clash; left = omega arith }
+
+pub chosen-append : (p : Outcome → Bool) (xs ys : List Entry) → chosen p (xs ++ ys) ≡ chosen p xs ++ chosen p ys
+chosen-append p [] ys = refl
+chosen-append p (x ∷ xs) ys =
+    elim (p x.1) as (λ b. cond b (x ∷ chosen p (xs ++ ys)) (chosen p (xs ++ ys)) ≡ cond b (x ∷ chosen p xs) (chosen p xs) ++ chosen p ys)
+    [ true ↦ ap (λ l. x ∷ l) (chosen-append p xs ys) | false ↦ chosen-append p xs ys ]
+
+pub drawops-append : (xs ys : List Entry) → drawops (xs ++ ys) ≡ drawops xs ++ drawops ys
+drawops-append [] ys = refl
+drawops-append (x ∷ xs) ys = ap (λ l. x.0 ∷ l) (drawops-append xs ys)
+
+pub places-append : (xs ys : List Entry) → places (xs ++ ys) ≡ places xs ++ places ys
+places-append [] ys = refl
+places-append (x ∷ xs) ys = ap (λ l. place x.1 ++ l) (places-append xs ys) ∙ sym (append_assoc (place x.1) (places xs) (places ys))
+
+pub places_many : (es : List Entry) → length (places es) ≡ (tally es).fresh
+places_many [] = refl
+places_many ((d, Fresh i) ∷ es) = omega (arith, places_many es)
+places_many ((d, Known i) ∷ es) = places_many es
+places_many ((d, Clashed i) ∷ es) = places_many es
+places_many ((d, Left) ∷ es) = places_many es
+
+pub left_many : (es : List Entry) → (tally es).left ≡ length (drawops (chosen is_left es))
+left_many [] = refl
+left_many ((d, Fresh i) ∷ es) = left_many es
+left_many ((d, Known i) ∷ es) = left_many es
+left_many ((d, Clashed i) ∷ es) = left_many es
+left_many ((d, Left) ∷ es) = omega (arith, left_many es)
+
+-- each drawop is counted in one way
+pub tally_all : (es : List Entry) → (tally es).fresh + (tally es).again + (tally es).clash + (tally es).left ≡ length (drawops es)
+tally_all [] = omega arith
+tally_all ((d, Fresh i) ∷ es) = omega (arith, tally_all es)
+tally_all ((d, Known i) ∷ es) = omega (arith, tally_all es)
+tally_all ((d, Clashed i) ∷ es) = omega (arith, tally_all es)
+tally_all ((d, Left) ∷ es) = omega (arith, tally_all es)
+
+says_longer : (g h : List DrawopValue) (d : DrawopValue) (o : Outcome) → IsPrefix g h → Says g d o → Says h d o
+says_longer g h d (Fresh i) p s = prefix_get g h i d p s
+says_longer g h d (Known i) p s = prefix_get g h i d p s
+says_longer g h d (Clashed i) p s = (s.0, prefix_get g h i s.0 p s.1, s.2, s.3)
+says_longer g h d Left p s = tt
+
+pub told_longer : (g h : List DrawopValue) (es : List Entry) → IsPrefix g h → Told g es → Told h es
+told_longer g h [] p t = tt
+told_longer g h (e ∷ es) p t = (says_longer g h e.0 e.1 p t.0, told_longer g h es p t.1)
+
+pub told_append : (h : List DrawopValue) (xs ys : List Entry) → Told h xs → Told h ys → Told h (xs ++ ys)
+told_append h [] ys s t = t
+told_append h (x ∷ xs) ys s t = (s.0, told_append h xs ys s.1 t)
+
+pub told_parts : (h : List DrawopValue) (xs ys : List Entry) → Told h (xs ++ ys) → Told h xs × Told h ys
+told_parts h [] ys t = (tt, t)
+told_parts h (x ∷ xs) ys t = let r = told_parts h xs ys t.1 in ((t.0, r.0), r.1)
+
+-- a run and one accept more
+pub runs_more : (p q r : PassValue) (es : List Entry) (d : DrawopValue) (o : Outcome) → Runs p es q → Accepts q d o r → Runs p (es ++ (d, o) ∷ []) r
+runs_more p q r [] d o run a = (r, rw (← run) a, refl)
+runs_more p q r (e ∷ es) d o run a = (run.0, run.1, runs_more run.0 q r es d o run.2 a)
+
+-- what the accepts of one desk leave
+pub record Leaves (p : PassValue) (es : List Entry) (q : PassValue) : Type 0 where
+  pub kept : Keeps p q
+  pub mine : q.mine ≡ p.mine ++ places es
+  pub free : q.free + (tally es).fresh ≡ p.free
+  pub told : Told q.seen es
+
+-- an outcome that gained nothing
+leaves_rows : (p q : PassValue) (d : DrawopValue) (o : Outcome) → place o ≡ [] → (tally ((d, o) ∷ [])).fresh ≡ 0 → Keeps p q → AddsNothing p q → Says q.seen d o → Leaves p ((d, o) ∷ []) q
+leaves_rows p q d o none zero k a says = record {
+  kept = k;
+  mine = a.0.0 ∙ sym (ap (λ l. p.mine ++ (l ++ [])) none ∙ append-nil p.mine);
+  free = omega (arith, a.0.1, zero);
+  told = (says, tt);
+}
+
+pub accept_leaves : (p q : PassValue) (d : DrawopValue) (o : Outcome) → Accepts p d o q → Leaves p ((d, o) ∷ []) q
+accept_leaves p q d (Fresh i) a = record { kept = a.kept; mine = a.becomes.gains; free = a.becomes.row; told = (a.becomes.member, tt) }
+accept_leaves p q d (Known i) a = leaves_rows p q d (Known i) refl refl a.kept a.becomes.1 a.becomes.0
+accept_leaves p q d (Clashed i) a = leaves_rows p q d (Clashed i) refl refl a.kept a.becomes.1 a.becomes.0
+accept_leaves p q d Left a = leaves_rows p q d Left refl refl a.kept a.becomes.kept tt
+
+pub keeps_self : (p : PassValue) → Keeps p p
+keeps_self p = record { same = (refl, refl); seen = prefix_self p.seen }
+
+pub keeps_is : (p q : PassValue) → q ≡ p → Keeps p q
+keeps_is p q e = rw e (keeps_self p)
+
+pub keeps_trans : (p q r : PassValue) → Keeps p q → Keeps q r → Keeps p r
+keeps_trans p q r a b = record { same = (b.same.0 ∙ a.same.0, b.same.1 ∙ a.same.1); seen = prefix_trans p.seen q.seen r.seen a.seen b.seen }
+
+pub runs_leave : (p q : PassValue) (es : List Entry) → Runs p es q → Leaves p es q
+runs_leave p q [] r = record {
+  kept = keeps_is p q r;
+  mine = ap (λ (x : PassValue). x.mine) r ∙ sym (append-nil p.mine);
+  free = omega (arith, ap (λ (x : PassValue). x.free) r);
+  told = tt;
+}
+runs_leave p q (e ∷ es) r =
+    let a = accept_leaves p r.0 e.0 e.1 r.1 in
+    let b = runs_leave r.0 q es r.2 in
+    let s = tally-append (e ∷ []) es in
+    record {
+      kept = keeps_trans p r.0 q a.kept b.kept;
+      mine = b.mine ∙ (ap (λ l. l ++ places es) (a.mine ∙ ap (λ l. p.mine ++ l) (append-nil (place e.1))) ∙ append_assoc p.mine (place e.1) (places es));
+      free = omega (arith, a.free, b.free, s.fresh);
+      told = (says_longer r.0.seen q.seen e.0 e.1 b.kept.seen a.told.0, b.told);
+    }
+
+-- From the desk p to the desk q, by the entries of all desks that came back
+pub record Gathers (p : PassValue) (log : List Entry) (q : PassValue) : Type 0 where
+  pub kept : Keeps p q
+  pub mine : (i : ℕ) → times i q.mine ≡ times i p.mine + times i (places log)
+  pub many : length q.mine ≡ length p.mine + (tally log).fresh
+  pub free : q.free + (tally log).fresh ≡ p.free
+  pub told : Told q.seen log
+
+pub gathers_none : (p : PassValue) → Gathers p [] p
+gathers_none p = record { kept = keeps_self p; mine = λ i. omega arith; many = omega arith; free = omega arith; told = tt }
+
+-- a split keeps all but the rows
+pub split_keeps : (p rest desk : PassValue) (n : ℕ) → IsSplit p n rest desk → Keeps p rest
+split_keeps p rest desk n s = record {
+  same = (ap (λ (x : PassValue). x.table) s.rest, ap (λ (x : PassValue). x.cells) s.rest);
+  seen = prefix_is p.seen rest.seen (ap (λ (x : PassValue). x.seen) s.rest);
+}
+
+pub split_mine : (p rest desk : PassValue) (n : ℕ) → IsSplit p n rest desk → rest.mine ≡ p.mine
+split_mine p rest desk n s = ap (λ (x : PassValue). x.mine) s.rest
+
+-- a worker's desk, which is cut off before the other workers start and comes back after them
+pub gathers_level : (p rest back q desk done : PassValue) (n : ℕ) (es others : List Entry) → IsSplit p n rest desk → Runs desk es done → Gathers rest others back → IsSamePass back q → IsJoined back done q
+    → Gathers p (es ++ others) q
+gathers_level p rest back q desk done n es others s r g same j =
+    let l = runs_leave desk done es r in
+    let mine : q.mine ≡ back.mine ++ places es = j.mine ∙ ap (λ m. back.mine ++ m) (l.mine ∙ ap (λ m. m ++ places es) s.mine) in
+    let sum = tally-append es others in
+    record {
+      kept = keeps_trans p rest q (split_keeps p rest desk n s) (keeps_trans rest back q g.kept (record { same = same; seen = j.first }));
+      mine = λ i. ap (times i) mine ∙ omega (arith, times-append i back.mine (places es), g.mine i, ap (times i) (split_mine p rest desk n s), times-append i (places es) (places others), ap (times i) (places-append es others));
+      many = omega (arith, ap length mine, length-append back.mine (places es), places_many es, g.many, ap length (split_mine p rest desk n s), sum.fresh);
+      free = omega (arith, j.free, l.free, s.rows, s.free, g.free, sum.fresh);
+      told = told_append q.seen es others (told_longer done.seen q.seen es j.second l.told) (told_longer back.seen q.seen others j.first g.told);
+    }
+
+-- the desk takes more itself
+pub gathers_run : (p q r : PassValue) (log es : List Entry) → Gathers p log q → Runs q es r → Gathers p (log ++ es) r
+gathers_run p q r log es g run =
+    let l = runs_leave q r es run in
+    let sum = tally-append log es in
+    record {
+      kept = keeps_trans p q r g.kept l.kept;
+      mine = λ i. ap (times i) l.mine ∙ omega (arith, times-append i q.mine (places es), g.mine i, times-append i (places log) (places es), ap (times i) (places-append log es));
+      many = omega (arith, ap length l.mine, length-append q.mine (places es), places_many es, g.many, sum.fresh);
+      free = omega (arith, l.free, g.free, sum.fresh);
+      told = told_append r.seen log es (told_longer q.seen r.seen log l.kept.seen g.told) l.told;
+    }
+
+-- after one refusal for want of a row there is none
+pub runs_empty : (p q : PassValue) (es : List Entry) → Runs p es q → 0 < (tally es).left → q.free ≡ 0
+runs_empty p q [] r some = absurd (omega arith)
+runs_empty p q ((d, Left) ∷ es) r some = omega (arith, (runs_leave r.0 q es r.2).free, r.1.becomes.none_left)
+runs_empty p q ((d, Fresh i) ∷ es) r some = runs_empty r.0 q es r.2 some
+runs_empty p q ((d, Known i) ∷ es) r some = runs_empty r.0 q es r.2 some
+runs_empty p q ((d, Clashed i) ∷ es) r some = runs_empty r.0 q es r.2 some
+
+-- the own places of a desk, each once
+pub sound_once : (p : PassValue) → IsSound p → (i : ℕ) → times i p.mine ≤ once_below i (length p.seen)
+sound_once p s = each_once (length p.seen) p.mine s.own s.once

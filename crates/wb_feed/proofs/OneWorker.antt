@@ -1,0 +1,277 @@
+-- One worker takes the arrivals in the order in which they were drawn.
+use Rattle.std.proofs.Common.{◌≡◌, ◌≢◌, ◌⊎◌, ℕ, zero, suc, ◌+◌, ◌≤◌, ◌<◌, ◌==◌, ◌||◌, Bool, true, false, true≢false, cond, List, [], ◌∷◌, ◌++◌, length, get_or, Option, Some, None, slice_get, refl, ap, ap₂, sym, subst, ◌∙◌, arith, ⊎_elim, append_assoc, length-append, inl, inr}
+use Rattle.std.proofs.lemmas.List.{append-nil}
+use Rattle.std.proofs.lemmas.Bool.{cases_lt}
+use Rattle.std.proofs.lemmas.Bool.Decides.{nat_tests}
+use mathlib.Core.List.{IsPrefix}
+use Rattle.wb_names.specs.Values.{DrawopValue}
+use Rattle.wb_names.specs.Arrivals.{Outcome, Fresh, Known, Clashed, Left, Counts, counts, counts_of, IsBatch}
+use Rattle.wb_host.specs.Passes.{PassValue, IsSound, IsWhole, IsSamePass}
+use Rattle.wb_host.specs.Sharing.{IsSplit, IsJoined}
+use Rattle.wb_feed.specs.Accepts.{Entry, drawops, outcomes, tally, Runs}
+use Rattle.wb_feed.proofs.Prefixes.{prefix_self, prefix_whole, prefix_trans, prefix_length}
+use Rattle.wb_feed.proofs.Numbers.{times}
+use Rattle.wb_feed.proofs.Log.{chosen, Told, Gathers, runs_leave, runs_empty, tally-append, left_many, split_keeps}
+use Rattle.wb_feed.proofs.Settling.{whole_mine, stays_whole}
+use Rattle.wb_feed.proofs.OneThread.{Lacks, both_batches, counted_as, same_counts, plus, zero_plus}
+use Rattle.wb_feed.proofs.InOrder.{in_order}
+use Rattle.wb_feed.proofs.Members.{at_named}
+use Rattle.wb_feed.specs.declared.message.Message.{Message}
+use Rattle.wb_feed.specs.Line.{spots, once_below}
+use Rattle.wb_feed.specs.Served.{Spot, is_left, entries, accepted_at, takes, offered, Rises}
+use Rattle.wb_feed.specs.Marks.{has, unmarked, Marks}
+use Rattle.wb_feed.specs.Crews.{Crew, nobody, worker}
+use Rattle.wb_feed.proofs.Placing.{OffersRight, pair_times, accepted_few, takes_spots, has_not, once_under, once_past, crew_gathers}
+
+-- below low, and else 0, as a count
+same_test : (m n : ℕ) → m ≡ n → (m == n) ≡ true
+same_test m n e = grind (arith, nat_tests)
+
+apart_test : (m n : ℕ) → m ≢ n → (m == n) ≡ false
+apart_test m n e = grind (arith, nat_tests)
+
+-- positions that rise from low on have none below
+rises_none : (low p : ℕ) (xs : List (ℕ × DrawopValue)) → p < low → Rises low xs → pair_times p xs ≡ 0
+rises_none low p [] lt r = refl
+rises_none low p (x ∷ xs) lt r =
+    let t : (x.0 == p) ≡ false = apart_test x.0 p (λ e. absurd (omega (arith, e, lt, r.0))) in
+    ap (λ b. cond b 1 0 + pair_times p xs) t ∙ (zero_plus (pair_times p xs) ∙ rises_none (x.0 + 1) p xs (omega (arith, lt, r.0)) r.1)
+
+slice_mid : (a r : List DrawopValue) (x d : DrawopValue) (k : ℕ) → k ≡ length a → slice_get (a ++ x ∷ r) k ≡ Some d → x ≡ d
+slice_mid [] r x d k e h = let g : slice_get (x ∷ r) 0 ≡ Some d = ap (λ n. slice_get (x ∷ r) n) (sym e) ∙ h in cc (g)
+slice_mid (y ∷ a) r x d zero e h = absurd (omega (arith, e))
+slice_mid (y ∷ a) r x d (suc k) e h = slice_mid a r x d k (omega (arith, e)) h
+
+-- nothing is marked
+all_unmarked : (ms : List Bool) (ds : List DrawopValue) → length ms ≡ length ds → ((j : ℕ) → j < length ms → get_or ms j false ≡ false) → unmarked ms ds ≡ ds
+all_unmarked [] [] e h = refl
+all_unmarked [] (d ∷ ds) e h = absurd (omega (arith, e))
+all_unmarked (m ∷ ms) [] e h = absurd (omega (arith, e))
+all_unmarked (m ∷ ms) (d ∷ ds) e h =
+    let here : m ≡ false = h 0 (omega arith) in
+    ap (λ b. cond b (unmarked ms ds) (d ∷ unmarked ms ds)) here ∙ ap (λ l. d ∷ l) (all_unmarked ms ds (omega (arith, e)) (λ j lt. h (suc j) (omega (arith, lt))))
+
+-- the drawops of the log, and those that the worker never received
+pub record Split (ss : List Spot) (ds : List DrawopValue) (ms : List Bool) : Type 0 where
+  pub rest : List DrawopValue
+  pub all : ds ≡ drawops (entries ss) ++ rest
+  pub left : unmarked ms ds ≡ drawops (chosen is_left (entries ss)) ++ rest
+
+-- the first position that was received is the next one
+first_is : (p k low : ℕ) (d : DrawopValue) (xs : List (ℕ × DrawopValue)) → Rises k ((p , d) ∷ xs) → ((q : ℕ) → k ≤ q → pair_times q ((p , d) ∷ xs) ≡ once_below q low) → (p ≡ k) × (k < low)
+first_is p k low d xs rise once =
+    let mine : cond (p == p) 1 0 ≡ suc zero = ap (λ b. cond b 1 (zero)) (same_test p p refl) in
+    let under : p < low = ⊎_elim (λ (h : p < low). h) (λ (h : low ≤ p). absurd (omega (arith, once p rise.0, mine, once_past p low h))) (cases_lt p low) in
+    ⊎_elim
+    (λ (h : k < p).
+      let none : pair_times k ((p , d) ∷ xs) ≡ 0 = ap (λ b. cond b 1 0 + pair_times k xs) (apart_test p k (λ e. absurd (omega (arith, e, h)))) ∙ (zero_plus (pair_times k xs) ∙ rises_none (p + 1) k xs (omega (arith, h)) rise.1) in
+      absurd (omega (arith, once k (omega arith), none, once_under k low (omega (arith, h, under)))))
+    (λ (h : p ≤ k). let e : p ≡ k = omega (arith, h, rise.0) in (e, omega (arith, e, under))) (cases_lt k p)
+
+cases : (b : Bool) → (b ≡ true) ⊎ (b ≡ false)
+cases true = inl refl
+cases false = inr refl
+
+one_more : (p q : ℕ) (ps : List ℕ) → (q == p) ≡ true → times p (q ∷ ps) ≡ 0 → ⊥
+one_more p q ps e h = let t : times p (q ∷ ps) ≡ 1 + times p ps = ap (λ b. cond b 1 0 + times p ps) e in absurd (omega (arith, t, h))
+
+has_false : (p : ℕ) (ps : List ℕ) → times p ps ≡ 0 → has p ps ≡ false
+has_false p [] h = refl
+has_false p (q ∷ ps) h =
+    ⊎_elim (λ (e : (q == p) ≡ true). absurd (one_more p q ps e h))
+    (λ (e : (q == p) ≡ false). ap₂ (λ a b. a || b) e (has_false p ps (sym (zero_plus (times p ps)) ∙ (sym (ap (λ b. cond b 1 0 + times p ps) e) ∙ h)))) (cases (q == p))
+
+-- the rest of the log has no place up to k
+none_left : (k p : ℕ) (ss : List Spot) → p ≤ k → Rises (k + 1) (offered ss) → has p (accepted_at ss) ≡ false
+none_left k p ss le rise = has_false p (accepted_at ss) (omega (arith, accepted_few p ss, rises_none (k + 1) p (offered ss) (omega (arith, le)) rise))
+
+once_next : (p k low : ℕ) (d : DrawopValue) (xs : List (ℕ × DrawopValue)) → p ≡ k → ((q : ℕ) → k ≤ q → pair_times q ((p , d) ∷ xs) ≡ once_below q low) → (q : ℕ) → k + 1 ≤ q → pair_times q xs ≡ once_below q low
+once_next p k low d xs here once q le =
+    let t : pair_times q ((p , d) ∷ xs) ≡ pair_times q xs = ap (λ b. cond b 1 0 + pair_times q xs) (apart_test p q (λ e. absurd (omega (arith, e, here, le)))) ∙ zero_plus (pair_times q xs) in
+    sym t ∙ once q (omega (arith, le))
+
+regroup : (k j : ℕ) → k + suc j ≡ k + 1 + j
+regroup k j = omega arith
+
+abbrev pub Marked : ℕ → List Bool → List Spot → Type 0
+Marked k ms ss = (j : ℕ) → j < length ms → get_or ms j false ≡ has (k + j) (accepted_at ss)
+
+pub split_from : (whole : List DrawopValue) (low : ℕ) (pre ds : List DrawopValue) (k : ℕ) (ms : List Bool) (ss : List Spot) → k ≡ length pre → pre ++ ds ≡ whole → length ms ≡ length ds → low ≤ length whole
+    → Rises k (offered ss) → ((p : ℕ) → k ≤ p → pair_times p (offered ss) ≡ once_below p low) → OffersRight whole (offered ss) → Marked k ms ss → Split ss ds ms
+split_from whole low pre ds k ms [] at is long most rise once right mark = record { rest = ds; all = refl; left = all_unmarked ms ds long mark }
+split_from whole low pre [] k ms ((p , (d , o)) ∷ ss) at is long most rise once right mark =
+    let f = first_is p k low d (offered ss) rise once in absurd (omega (arith, f.1, most, at, ap length is, length-append pre []))
+split_from whole low pre (a ∷ ds) k [] ((p , (d , o)) ∷ ss) at is long most rise once right mark = absurd (omega (arith, long))
+split_from whole low pre (a ∷ ds) k (m ∷ ms) ((p , (d , Left)) ∷ ss) at is long most rise once right mark =
+    let f = first_is p k low d (offered ss) rise once in
+    let same : a ≡ d = slice_mid pre ds a d k at (ap₂ (λ l n. slice_get l n) is (sym f.0) ∙ right.0) in
+    let rise' : Rises (k + 1) (offered ss) = subst (λ n. Rises (n + 1) (offered ss)) f.0 rise.1 in
+    let r = split_from whole low (pre ++ a ∷ []) ds (k + 1) ms ss (omega (arith, at, length-append pre (a ∷ []))) (append_assoc pre (a ∷ []) ds ∙ is) (omega (arith, long)) most rise'
+        (once_next p k low d (offered ss) f.0 once) right.1 (λ j lt. mark (suc j) (omega (arith, lt)) ∙ ap (λ n. has n (accepted_at ss)) (regroup k j)) in
+    let open' : m ≡ false = mark 0 (omega arith) ∙ none_left k (k + 0) ss (omega arith) rise' in
+    record {
+      rest = r.rest;
+      all = ap₂ (λ x xs. x ∷ xs) same r.all;
+      left = ap (λ b. cond b (unmarked ms ds) (a ∷ unmarked ms ds)) open' ∙ ap₂ (λ x xs. x ∷ xs) same r.left;
+    }
+split_from whole low pre (a ∷ ds) k (m ∷ ms) ((p , (d , Fresh i)) ∷ ss) at is long most rise once right mark =
+    let f = first_is p k low d (offered ss) rise once in
+    let same : a ≡ d = slice_mid pre ds a d k at (ap₂ (λ l n. slice_get l n) is (sym f.0) ∙ right.0) in
+    let rise' : Rises (k + 1) (offered ss) = subst (λ n. Rises (n + 1) (offered ss)) f.0 rise.1 in
+    let next : Marked (k + 1) ms ss = λ j lt.
+      mark (suc j) (omega (arith, lt)) ∙ (ap (λ b. b || has (k + suc j) (accepted_at ss)) (apart_test p (k + suc j) (λ e. absurd (omega (arith, e, f.0)))) ∙ ap (λ n. has n (accepted_at ss)) (regroup k j)) in
+    let r = split_from whole low (pre ++ a ∷ []) ds (k + 1) ms ss (omega (arith, at, length-append pre (a ∷ []))) (append_assoc pre (a ∷ []) ds ∙ is) (omega (arith, long)) most rise'
+        (once_next p k low d (offered ss) f.0 once) right.1 next in
+    let shut' : m ≡ true = mark 0 (omega arith) ∙ ap (λ b. b || has (k + 0) (accepted_at ss)) (same_test p (k + 0) (omega (arith, f.0))) in
+    record {
+      rest = r.rest;
+      all = ap₂ (λ x xs. x ∷ xs) same r.all;
+      left = ap (λ b. cond b (unmarked ms ds) (a ∷ unmarked ms ds)) shut' ∙ r.left;
+    }
+
+split_from whole low pre (a ∷ ds) k (m ∷ ms) ((p , (d , Known i)) ∷ ss) at is long most rise once right mark =
+    let f = first_is p k low d (offered ss) rise once in
+    let same : a ≡ d = slice_mid pre ds a d k at (ap₂ (λ l n. slice_get l n) is (sym f.0) ∙ right.0) in
+    let rise' : Rises (k + 1) (offered ss) = subst (λ n. Rises (n + 1) (offered ss)) f.0 rise.1 in
+    let next : Marked (k + 1) ms ss = λ j lt.
+      mark (suc j) (omega (arith, lt)) ∙ (ap (λ b. b || has (k + suc j) (accepted_at ss)) (apart_test p (k + suc j) (λ e. absurd (omega (arith, e, f.0)))) ∙ ap (λ n. has n (accepted_at ss)) (regroup k j)) in
+    let r = split_from whole low (pre ++ a ∷ []) ds (k + 1) ms ss (omega (arith, at, length-append pre (a ∷ []))) (append_assoc pre (a ∷ []) ds ∙ is) (omega (arith, long)) most rise'
+        (once_next p k low d (offered ss) f.0 once) right.1 next in
+    let shut' : m ≡ true = mark 0 (omega arith) ∙ ap (λ b. b || has (k + 0) (accepted_at ss)) (same_test p (k + 0) (omega (arith, f.0))) in
+    record {
+      rest = r.rest;
+      all = ap₂ (λ x xs. x ∷ xs) same r.all;
+      left = ap (λ b. cond b (unmarked ms ds) (a ∷ unmarked ms ds)) shut' ∙ r.left;
+    }
+
+split_from whole low pre (a ∷ ds) k (m ∷ ms) ((p , (d , Clashed i)) ∷ ss) at is long most rise once right mark =
+    let f = first_is p k low d (offered ss) rise once in
+    let same : a ≡ d = slice_mid pre ds a d k at (ap₂ (λ l n. slice_get l n) is (sym f.0) ∙ right.0) in
+    let rise' : Rises (k + 1) (offered ss) = subst (λ n. Rises (n + 1) (offered ss)) f.0 rise.1 in
+    let next : Marked (k + 1) ms ss = λ j lt.
+      mark (suc j) (omega (arith, lt)) ∙ (ap (λ b. b || has (k + suc j) (accepted_at ss)) (apart_test p (k + suc j) (λ e. absurd (omega (arith, e, f.0)))) ∙ ap (λ n. has n (accepted_at ss)) (regroup k j)) in
+    let r = split_from whole low (pre ++ a ∷ []) ds (k + 1) ms ss (omega (arith, at, length-append pre (a ∷ []))) (append_assoc pre (a ∷ []) ds ∙ is) (omega (arith, long)) most rise'
+        (once_next p k low d (offered ss) f.0 once) right.1 next in
+    let shut' : m ≡ true = mark 0 (omega arith) ∙ ap (λ b. b || has (k + 0) (accepted_at ss)) (same_test p (k + 0) (omega (arith, f.0))) in
+    record {
+      rest = r.rest;
+      all = ap₂ (λ x xs. x ∷ xs) same r.all;
+      left = ap (λ b. cond b (unmarked ms ds) (a ∷ unmarked ms ds)) shut' ∙ r.left;
+    }
+
+-- a run in two parts
+pub record Parts (p q : PassValue) (log : List Entry) (xs ys : List DrawopValue) : Type 0 where
+  pub mid : PassValue
+  pub front : List Entry
+  pub back : List Entry
+  pub all : log ≡ front ++ back
+  pub first : drawops front ≡ xs
+  pub second : drawops back ≡ ys
+  pub to : Runs p front mid
+  pub on : Runs mid back q
+
+runs_split : (p q : PassValue) (log : List Entry) (xs ys : List DrawopValue) → Runs p log q → drawops log ≡ xs ++ ys → Parts p q log xs ys
+runs_split p q log [] ys r e = record { mid = p; front = []; back = log; all = refl; first = refl; second = e; to = refl; on = r }
+runs_split p q [] (x ∷ xs) ys r e = absurd (cc (e))
+runs_split p q (h ∷ log) (x ∷ xs) ys r e =
+    let rest = runs_split r.0 q log xs ys r.2 (cc (e)) in
+    let head : h.0 ≡ x = cc (e) in
+    record {
+      mid = rest.mid;
+      front = h ∷ rest.front;
+      back = rest.back;
+      all = ap (λ l. h ∷ l) rest.all;
+      first = ap₂ (λ y ys'. y ∷ ys') head rest.first;
+      second = rest.second;
+      to = (r.0, r.1, rest.to);
+      on = rest.on;
+    }
+
+-- drawops that a list lacks are refused while no longer list is seen
+record AllLeft (es : List Entry) : Type 0 where
+  left : (tally es).left ≡ length (drawops es)
+  fresh : (tally es).fresh ≡ 0
+  again : (tally es).again ≡ 0
+  clash : (tally es).clash ≡ 0
+
+all_left : (h : List DrawopValue) (es : List Entry) → Told h es → Lacks h (drawops es) → AllLeft es
+all_left h [] t k = record { left = refl; fresh = refl; again = refl; clash = refl }
+all_left h ((d, Left) ∷ es) t k = let r = all_left h es t.1 k.1 in record { left = omega (arith, r.left); fresh = r.fresh; again = r.again; clash = r.clash }
+all_left h ((d, Fresh i) ∷ es) t k = absurd (k.0 (at_named h i d d t.0 refl))
+all_left h ((d, Known i) ∷ es) t k = absurd (k.0 (at_named h i d d t.0 refl))
+all_left h ((d, Clashed i) ∷ es) t k = absurd (k.0 (at_named h i t.0.0 d t.0.1 t.0.2))
+
+-- What the worker left is refused again, since no row is left anywhere
+record Again (w y : PassValue) (es a : List Entry) : Type 0 where
+  seen : w.seen ≡ y.seen
+  fresh : (tally a).fresh ≡ 0
+  again : (tally a).again ≡ 0
+  clash : (tally a).clash ≡ 0
+  left : (tally a).left ≡ (tally es).left
+
+first_part : (w y z : PassValue) (es a b : List Entry) → drawops a ≡ drawops (chosen is_left es) → Runs w a y → Runs y b z → Lacks w.seen (drawops (chosen is_left es)) → (0 < (tally es).left → w.seen ≡ z.seen) → Again w y es a
+first_part w y z es [] b e r q lack full =
+    record { seen = sym (ap (λ (x : PassValue). x.seen) r); fresh = refl; again = refl; clash = refl; left = sym (left_many es ∙ sym (ap length e)) }
+first_part w y z es (h ∷ a) b e r q lack full =
+    let is = full (omega (arith, left_many es, ap length e)) in
+    let l = runs_leave w y (h ∷ a) r in
+    let m = runs_leave y z b q in
+    let same : w.seen ≡ y.seen = prefix_whole w.seen y.seen l.kept.seen (omega (arith, prefix_length y.seen z.seen m.kept.seen, ap length is)) in
+    let lack' : Lacks y.seen (drawops (h ∷ a)) = subst (λ (k : List DrawopValue × List DrawopValue). Lacks k.0 k.1) (λ i. (same i, sym e i)) lack in
+    let c = all_left y.seen (h ∷ a) l.told lack' in
+    record { seen = same; fresh = c.fresh; again = c.again; clash = c.clash; left = c.left ∙ (ap length e ∙ sym (left_many es)) }
+
+-- After the worker the desk w takes what is not marked, in order: first what the worker left, then what it never received
+phases : (v x u₀ u w z : PassValue) (es more : List Entry) (rest all : List DrawopValue) → IsSound v → IsWhole v → IsSound w → IsSound z → IsSplit v v.free x u₀ → Runs u₀ es u → IsJoined x u w
+    → Gathers v es w → Gathers v (es ++ more) z → Runs w more z → drawops more ≡ drawops (chosen is_left es) ++ rest → all ≡ drawops es ++ rest
+    → IsBatch v.cells v.seen all z.seen (counts (tally (es ++ more)).fresh (tally (es ++ more)).again (tally (es ++ more)).clash (tally more).left)
+phases v x u₀ u w z es more rest all sv hv sw sz parts runs back gw gz run split whole' =
+    let hw : IsWhole w = stays_whole v w es gw hv in
+    let hz : IsWhole z = stays_whole v z (es ++ more) gz hv in
+    let ov = whole_mine v sv hv in
+    let ow = whole_mine w sw hw in
+    let oz = whole_mine z sz hz in
+    let s = runs_split w z more (drawops (chosen is_left es)) rest run split in
+    let la = runs_leave w s.mid s.front s.to in
+    let lb = runs_leave s.mid z s.back s.on in
+    let free : 0 < (tally es).left → w.free ≡ 0 = λ some. omega (arith, runs_empty u₀ u es runs some, back.free, parts.rows) in
+    let long : length w.seen ≡ length u₀.seen + (tally es).fresh = omega (arith, gw.many, ov.many, ow.many, ap length parts.seen) in
+    let first = in_order v.cells w.seen u₀ u es sw.history (omega (arith, sw.room, gw.kept.same.1)) runs back.second long (λ some. omega (arith, free some, hw, ow.many, gw.kept.same.1)) in
+    let wz : IsPrefix w.seen z.seen = prefix_trans w.seen s.mid.seen z.seen la.kept.seen lb.kept.seen in
+    let full : 0 < (tally es).left → w.seen ≡ z.seen = λ some. prefix_whole w.seen z.seen wz (omega (arith, free some, hw, ow.many, sz.room, gz.kept.same.1, gw.kept.same.1)) in
+    let c = first_part w s.mid z es s.front s.back s.first s.to s.on first.lacks full in
+    let both = tally-append es more in
+    let parted = tally-append s.front s.back in
+    let fresh : (tally more).fresh ≡ (tally s.back).fresh = ap (λ l. (tally l).fresh) s.all ∙ omega (arith, parted.fresh, c.fresh) in
+    let again : (tally more).again ≡ (tally s.back).again = ap (λ l. (tally l).again) s.all ∙ omega (arith, parted.again, c.again) in
+    let clash : (tally more).clash ≡ (tally s.back).clash = ap (λ l. (tally l).clash) s.all ∙ omega (arith, parted.clash, c.clash) in
+    let left : (tally more).left ≡ (tally es).left + (tally s.back).left = ap (λ l. (tally l).left) s.all ∙ omega (arith, parted.left, c.left) in
+    let more_long : length z.seen ≡ length s.mid.seen + (tally s.back).fresh = omega (arith, gz.many, gw.many, oz.many, ow.many, both.fresh, fresh, ap length c.seen) in
+    let second = in_order v.cells z.seen s.mid z s.back sz.history (omega (arith, sz.room, gz.kept.same.1)) s.on (prefix_self z.seen) more_long
+        (λ some. omega (arith, runs_empty s.mid z s.back s.on some, hz, oz.many, gz.kept.same.1)) in
+    let one : IsBatch v.cells v.seen (drawops es) w.seen (tally es) =
+      subst (λ l. IsBatch v.cells l (drawops es) w.seen (tally es)) parts.seen (outcomes es, first.taken, refl) in
+    let two : IsBatch v.cells w.seen rest z.seen (tally s.back) =
+      subst (λ (k : List DrawopValue × List DrawopValue). IsBatch v.cells k.0 k.1 z.seen (tally s.back)) (λ i. (sym c.seen i, s.second i)) (outcomes s.back, second.taken, refl) in
+    subst (λ l. IsBatch v.cells v.seen l z.seen (counts (tally (es ++ more)).fresh (tally (es ++ more)).again (tally (es ++ more)).clash (tally more).left)) (sym whole')
+    (counted_as v.cells v.seen z.seen (drawops es ++ rest) (plus (tally es) (tally s.back)) (counts (tally (es ++ more)).fresh (tally (es ++ more)).again (tally (es ++ more)).clash (tally more).left)
+      (same_counts (omega (arith, both.fresh, fresh)) (omega (arith, both.again, again)) (omega (arith, both.clash, clash)) (sym left))
+      (both_batches v.cells v.seen w.seen z.seen (drawops es) rest (tally es) (tally s.back) one two))
+
+-- one worker, through the channel
+pub in_given_order : {rows low : ℕ} {v w : PassValue} {log : List Spot} {gots : List Message} → (z : PassValue) (more : List Entry) (all : List DrawopValue) (ms : List Bool) → rows ≡ v.free → IsSound v → IsWhole v → IsSound w → IsSound z
+    → Crew rows (suc zero) v log gots w → Gathers v (entries log) w → Gathers v (entries log ++ more) z → Runs w more z → drawops more ≡ unmarked ms all
+    → low ≤ length all → ((p : ℕ) → spots p gots ≡ once_below p low) → OffersRight all (offered log) → Marks (accepted_at log) (length all) ms
+    → IsBatch v.cells v.seen all z.seen (counts (tally (entries log ++ more)).fresh (tally (entries log ++ more)).again (tally (entries log ++ more)).clash (tally more).left)
+in_given_order z more all ms given sv hv sw sz (worker {p = v} {rest = x} {q = w} {desk = u₀} {done = u} es _ got _ p r o rise nobody same j) gw gz run again' most once right marks =
+    let e : es ++ [] ≡ es = append-nil es in
+    let parts : IsSplit v v.free x u₀ = subst (λ n. IsSplit v n x u₀) given p in
+    let gw' : Gathers v (entries es) w = subst (λ l. Gathers v (entries l) w) e gw in
+    let gz' : Gathers v (entries es ++ more) z = subst (λ l. Gathers v (entries l ++ more) z) e gz in
+    let right' : OffersRight all (offered es) = subst (λ l. OffersRight all (offered l)) e right in
+    let rise' : Rises 0 (offered es) = subst (λ l. Rises 0 l) (sym o) rise in
+    let marks' : Marks (accepted_at es) (length all) ms = subst (λ l. Marks (accepted_at l) (length all) ms) e marks in
+    let s = split_from all _ [] all 0 ms es refl refl marks'.long most rise' (λ q _. ap (pair_times q) o ∙ (takes_spots q got ∙ once q)) right'
+        (λ i lt. marks'.each i (omega (arith, lt, marks'.long)) ∙ ap (λ n. has n (accepted_at es)) (sym (zero_plus i))) in
+    subst (λ l. IsBatch v.cells v.seen all z.seen (counts (tally (entries l ++ more)).fresh (tally (entries l ++ more)).again (tally (entries l ++ more)).clash (tally more).left)) (sym e)
+    (phases v x u₀ u w z (entries es) more s.rest all sv hv sw sz parts r j gw' gz' run (again' ∙ s.left) s.all)

@@ -1,0 +1,134 @@
+-- A worker's loop over the messages.
+use Rattle.std.proofs.Common.{◌≡◌, ℕ, zero, suc, ◌+◌, ◌≤◌, ◌<◌, ◌^◌, Bool, true, false, true≢false, cond, List, [], ◌∷◌, ◌++◌, length, Option, Some, None, refl, ap, sym, subst, ◌∙◌, arith, append_assoc, length-append, ◌⊎◌, ⊎_elim}
+use Rattle.std.proofs.lemmas.List.{append-nil}
+use Rattle.wb_names.specs.Values.{DrawopValue}
+use Rattle.wb_names.specs.Arrivals.{Outcome, Fresh, Known, Clashed, Left, counts_of}
+use Rattle.wb_host.specs.Passes.{PassValue}
+use Rattle.wb_feed.specs.Accepts.{Entry, Keeps, Accepts, Runs, drawops, tally}
+use Rattle.wb_feed.proofs.Log.{keeps_self, keeps_trans, runs_more, tally-append, tally_all}
+use Rattle.wb_feed.specs.declared.message.Message.{Message}
+use Rattle.wb_feed.specs.declared.message.Message.TheVariants.{Take, End}
+use Rattle.wb_feed.specs.declared.line.Hand.{Hand}
+use Rattle.wb_feed.specs.declared.worker.Accepted.{Accepted}
+use Rattle.wb_feed.specs.Line.{hand, receives, AreBelow, IsBelow, Follows}
+use Rattle.wb_feed.specs.Served.{Spot, is_left, entries, accepted_at, takes, offered, Rises, AcceptsOne, Tells, TookAll, Served}
+
+pub takes-append : (xs ys : List Message) → takes (xs ++ ys) ≡ takes xs ++ takes ys
+takes-append [] ys = refl
+takes-append (Take p d ∷ xs) ys = ap (λ l. (p, d) ∷ l) (takes-append xs ys)
+takes-append (End ∷ xs) ys = takes-append xs ys
+
+pub entries-append : (xs ys : List Spot) → entries (xs ++ ys) ≡ entries xs ++ entries ys
+entries-append [] ys = refl
+entries-append (x ∷ xs) ys = ap (λ l. x.1 ∷ l) (entries-append xs ys)
+
+pub offered-append : (xs ys : List Spot) → offered (xs ++ ys) ≡ offered xs ++ offered ys
+offered-append [] ys = refl
+offered-append (x ∷ xs) ys = ap (λ l. (x.0, x.1.0) ∷ l) (offered-append xs ys)
+
+pub accepted-append : (xs ys : List Spot) → accepted_at (xs ++ ys) ≡ accepted_at xs ++ accepted_at ys
+accepted-append [] ys = refl
+accepted-append (x ∷ xs) ys = let f = cond (is_left x.1.1) [] (x.0 ∷ []) in ap (λ l. f ++ l) (accepted-append xs ys) ∙ sym (append_assoc f (accepted_at xs) (accepted_at ys))
+
+-- rising positions below n are n at most
+rises_few : (low n : ℕ) (ms : List Message) → Rises low (takes ms) → AreBelow n ms → low ≤ n → low + length (takes ms) ≤ n
+rises_few low n [] r b le = omega (arith, le)
+rises_few low n (Take p d ∷ ms) r b le = omega (arith, r.0, rises_few (p + 1) n ms r.1 b.1 (omega (arith, b.0)))
+rises_few low n (End ∷ ms) r b le = rises_few low n ms r b.1 le
+
+rises_more : (low p : ℕ) (d : DrawopValue) (ms : List Message) → Rises low (takes ms) → AreBelow p ms → low ≤ p → Rises low (takes (ms ++ Take p d ∷ []))
+rises_more low p d [] r b le = (le, tt)
+rises_more low p d (Take q e ∷ ms) r b le = (r.0, rises_more (q + 1) p d ms r.1 b.1 (omega (arith, b.0)))
+rises_more low p d (End ∷ ms) r b le = rises_more low p d ms r b.1 le
+
+rises_end : (low : ℕ) (ms : List Message) → Rises low (takes ms) → Rises low (takes (ms ++ End ∷ []))
+rises_end low ms r = let e : takes (ms ++ End ∷ []) ≡ takes ms = takes-append ms (End ∷ []) ∙ append-nil (takes ms) in subst (λ x. Rises low x) (sym e) r
+
+offered_many : (log : List Spot) → length (drawops (entries log)) ≡ length (offered log)
+offered_many [] = refl
+offered_many (s ∷ ss) = omega (arith, offered_many ss)
+
+-- the counts of one that took all that it received, where a message at p comes next
+pub tells_few : (v w : PassValue) (got : List Message) (a : Accepted) (p : ℕ) → TookAll v w got a → Rises 0 (takes got) → AreBelow p got → (a.fresh + a.again) + a.clash ≤ p
+tells_few v w got a p t r b =
+    omega (arith, t.tells.fresh, t.tells.again, t.tells.clash, tally_all (entries t.log), offered_many t.log, ap length t.offered, rises_few 0 p got r b (omega arith))
+
+pub serves_none : (v : PassValue) (a : Accepted) (h : Hand) → h ≡ hand 1 false [] [] → Tells a [] → Served v v h a false
+serves_none v a h e t = record {
+  kept = keeps_self v;
+  hand = e ∙ ap (λ g. hand 1 false [] g) (sym (ap (λ (x : Hand). x.got) e));
+  rises = subst (λ g. Rises 0 (takes g)) (sym (ap (λ (x : Hand). x.got) e)) tt;
+  took = λ _. record { log = []; runs = refl; offered = ap takes (sym (ap (λ (x : Hand). x.got) e)); tells = t; few = omega (arith, t.fresh, t.again, t.clash) };
+}
+
+hand_next : (h i : Hand) (x : Message) → h ≡ hand 1 false [] h.got → i ≡ receives h x → i ≡ hand 1 false [] i.got
+hand_next h i x e n =
+    let g : i.got ≡ h.got ++ x ∷ [] = ap (λ (y : Hand). y.got) n in
+    n ∙ (ap (λ (y : Hand). receives y x) e ∙ ap (λ l. hand 1 false [] l) (sym g))
+
+rises_next : (h i : Hand) (x : Message) → i ≡ receives h x → Follows h.got x → Rises 0 (takes h.got) → Rises 0 (takes i.got)
+rises_next h i (Take p d) n f r = let g : i.got ≡ h.got ++ Take p d ∷ [] = ap (λ (y : Hand). y.got) n in rw g (rises_more 0 p d h.got r f (omega arith))
+rises_next h i End n f r = let g : i.got ≡ h.got ++ End ∷ [] = ap (λ (y : Hand). y.got) n in rw g (rises_end 0 h.got r)
+
+-- the end message
+pub serves_end : (v w : PassValue) (h i : Hand) (a : Accepted) (failed : Bool) → Served v w h a failed → i ≡ receives h End → Follows h.got End → Served v w i a failed
+serves_end v w h i a failed s n f =
+    let g : i.got ≡ h.got ++ End ∷ [] = ap (λ (y : Hand). y.got) n in
+    let e : takes i.got ≡ takes h.got = ap takes g ∙ (takes-append h.got (End ∷ []) ∙ append-nil (takes h.got)) in
+    record {
+      kept = s.kept;
+      hand = hand_next h i End s.hand n;
+      rises = rises_next h i End n f s.rises;
+      took = λ ok. let t = s.took ok in record { log = t.log; runs = t.runs; offered = t.offered ∙ sym e; tells = t.tells; few = t.few };
+    }
+
+-- a message while nothing is accepted any more
+pub serves_failed : (v w u : PassValue) (h i : Hand) (x : Message) (a b : Accepted) (failed : Bool) → Served v w h a failed → i ≡ receives h x → Follows h.got x → Keeps w u → Served v u i b true
+serves_failed v w u h i x a b failed s n f k = record {
+  kept = keeps_trans v w u s.kept k;
+  hand = hand_next h i x s.hand n;
+  rises = rises_next h i x n f s.rises;
+  took = λ no. absurd (true≢false no);
+}
+
+-- an arrival that is accepted
+one_kind : (o : Outcome) → ((counts_of (o ∷ [])).fresh + (counts_of (o ∷ [])).again) + (counts_of (o ∷ [])).clash ≤ 1
+one_kind (Fresh i) = omega arith
+one_kind (Known i) = omega arith
+one_kind (Clashed i) = omega arith
+one_kind Left = omega arith
+
+pub serves_more : (v w u : PassValue) (h i : Hand) (p : ℕ) (d : DrawopValue) (a b : Accepted) → p < 2 ^ 32 → Served v w h a false → i ≡ receives h (Take p d) → Follows h.got (Take p d) → Keeps w u
+    → (o : Outcome) × Accepts w d o u × AcceptsOne a p o b → Served v u i b false
+serves_more v w u h i p d a b small s n f k one =
+    let g : i.got ≡ h.got ++ Take p d ∷ [] = ap (λ (y : Hand). y.got) n in
+    let t = s.took refl in
+    let o = one.0 in
+    let x : Spot = (p, (d, o)) in
+    let more : entries (t.log ++ x ∷ []) ≡ entries t.log ++ (d, o) ∷ [] = entries-append t.log (x ∷ []) in
+    record {
+      kept = keeps_trans v w u s.kept k;
+      hand = hand_next h i (Take p d) s.hand n;
+      rises = rises_next h i (Take p d) n f s.rises;
+      took = λ _. record {
+        log = t.log ++ x ∷ [];
+        runs = rw more (runs_more v w u (entries t.log) d o t.runs one.1);
+        offered = offered-append t.log (x ∷ []) ∙ (ap (λ l. l ++ (p, d) ∷ []) t.offered ∙ sym (ap takes g ∙ takes-append h.got (Take p d ∷ [])));
+        tells = record {
+          fresh = rw more (omega (arith, one.2.fresh, t.tells.fresh, (tally-append (entries t.log) ((d, o) ∷ [])).fresh));
+          again = rw more (omega (arith, one.2.again, t.tells.again, (tally-append (entries t.log) ((d, o) ∷ [])).again));
+          clash = rw more (omega (arith, one.2.clash, t.tells.clash, (tally-append (entries t.log) ((d, o) ∷ [])).clash));
+          positions = one.2.positions ∙ (ap (λ l. l ++ cond (is_left o) [] (p ∷ [])) t.tells.positions ∙ sym (accepted-append t.log (x ∷ []) ∙ ap (λ l. accepted_at t.log ++ l) (append-nil (cond (is_left o) [] (p ∷ [])))));
+        };
+        few = omega (arith, one.2.fresh, one.2.again, one.2.clash, one_kind o, tells_few v w h.got a p t s.rises f, small);
+      };
+    }
+
+pub serves_turn : (v w u : PassValue) (h i : Hand) (p : ℕ) (d : DrawopValue) (a b : Accepted) (failed r : Bool) → p < 2 ^ 32 → Served v w h a failed → i ≡ receives h (Take p d) → Follows h.got (Take p d) → Keeps w u
+    → (r ≡ false → (failed ≡ false) × ((o : Outcome) × Accepts w d o u × AcceptsOne a p o b)) → Served v u i b r
+serves_turn v w u h i p d a b failed true small s n f k took = serves_failed v w u h i (Take p d) a b failed s n f k
+serves_turn v w u h i p d a b failed false small s n f k took =
+    let t = took refl in serves_more v w u h i p d a b small (subst (λ (x : Bool). Served v w h a x) t.0 s) n f k t.1
+
+pub serves_same : (v w : PassValue) (h i : Hand) (a : Accepted) (failed : Bool) → Served v w h a failed → (i ≡ h) ⊎ (i ≡ receives h End) → Served v w i a failed
+serves_same v w h i a failed s e = ⊎_elim (λ (x : i ≡ h). subst (λ (y : Hand). Served v w y a failed) (sym x) s) (λ (x : i ≡ receives h End). serves_end v w h i a failed s x tt) e

@@ -1,0 +1,21 @@
+use Rattle.std.proofs.Common.{rules, ◌≡◌, get_or, true, false}
+use Rattle.wb_feed.proofs.Log.{keeps_trans}
+use Rattle.wb_feed.proofs.Members.{nothing}
+use Rattle.wb_feed.proofs.Marking.{rest_more, rest_skip, rest_keeps}
+use Rattle.wb_feed.proofs.batch.take_rest.Goals as goal
+
+pub returns-in_err-take_one-clause-kept : goal.returns-in_err-take_one-clause-kept
+returns-in_err-take_one-clause-kept c = keeps_trans _ _ _ (rest_keeps _ _ _ _ _ _ c.loop-i.invariant) c.take_one.ensures.kept
+
+pub returns-clause-kept : goal.returns-clause-kept
+returns-clause-kept c = rest_keeps _ _ _ _ _ _ c.loop-i.invariant
+
+pub loop-i-preserved-then-marks-i : goal.loop-i-preserved-then-marks-i
+loop-i-preserved-then-marks-i c =
+    let marked : get_or c.args.marks.now c.loop-i.i false ≡ true = search rules in
+    rest_skip _ _ _ _ _ _ nothing c.loop-i-test.true c.requires.marks marked c.loop-i.invariant
+
+pub loop-i-preserved : goal.loop-i-preserved
+loop-i-preserved c =
+    let free : get_or c.args.marks.now c.loop-i.i false ≡ false = search rules in
+    rest_more _ _ _ _ _ _ _ _ nothing c.loop-i-test.true c.requires.marks free c.loop-i.invariant c.in_ok-take_one.ensures.ok

@@ -1,0 +1,18 @@
+use Rattle.std.proofs.Common.{◌≡◌}
+use Rattle.crossbeam_channel.specs.Claims.{view, IsSeatAt}
+use Rattle.crossbeam_channel.specs.Ends.{sends_on}
+use Rattle.wb_feed.specs.Sent.{IsSent, IsDrawn}
+use Rattle.wb_feed.proofs.Sending.{Stays}
+use Rattle.wb_feed.proofs.sender.feed.Given as goal
+
+abbrev pub invariant-loop-position : goal.invariant-loop-position
+invariant-loop-position g l =
+    record {
+      seat : IsSeatAt (sends_on l.line) l.pass;
+      sent : IsSent (view l.pass) l.drawn.items l.going;
+      stays : Stays (view l.initial.pass) (view l.pass);
+      drawn : IsDrawn (g.S.Arrivals.to_come l.initial.arrivals) (g.S.Arrivals.most_to_come l.initial.arrivals) l.initial.drawn.items (g.S.Arrivals.to_come l.arrivals) (g.S.Arrivals.most_to_come l.arrivals) l.drawn.items;
+    }
+
+abbrev pub decreases-loop-position : goal.decreases-loop-position
+decreases-loop-position g l = g.S.Arrivals.most_to_come l.arrivals

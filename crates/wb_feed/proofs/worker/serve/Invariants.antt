@@ -1,0 +1,8 @@
+use Rattle.std.proofs.Common.{◌≡◌}
+use Rattle.crossbeam_channel.specs.Claims.{view, IsSeatAt}
+use Rattle.crossbeam_channel.specs.Ends.{receives_on}
+use Rattle.wb_feed.specs.Served.{Served}
+use Rattle.wb_feed.proofs.worker.serve.Given as goal
+
+abbrev pub invariant-loop : goal.invariant-loop
+invariant-loop g l = IsSeatAt (receives_on l.line) l.pass × Served l.initial.desk l.desk (view l.pass) l.accepted l.failed

@@ -1,0 +1,53 @@
+-- What accepts leave of a desk: p is the desk before them, q the desk after them.
+use Rattle.std.specs.Prelude.{◌≡◌, List, [], ◌∷◌}
+use mathlib.Core.List.{IsPrefix}
+use Rattle.wb_names.specs.Values.{DrawopValue}
+use Rattle.wb_names.specs.History.{IsAgainAt, IsClashAt}
+use Rattle.wb_names.specs.Arrivals.{Outcome, Fresh, Known, Clashed, Left, Counts, counts_of}
+use Rattle.wb_host.specs.Passes.{PassValue, IsSamePass, AddsNothing}
+use Rattle.wb_host.specs.Replies.{IsAdded, HasNoRow}
+use Rattle.wb_host.specs.declared.board.Reply.{Reply}
+use Rattle.wb_host.specs.declared.board.Reply.TheVariants.{New, Again, Clash}
+
+-- whatever is answered, the desk is of the same board, and its list begins with what it was
+pub record Keeps (p q : PassValue) : Type 0 where
+  pub same : IsSamePass p q
+  pub seen : IsPrefix p.seen q.seen
+
+-- the outcome that a reply tells
+abbrev pub outcome : Reply → Outcome
+outcome (New i) = Fresh i
+outcome (Again i) = Known i
+outcome (Clash i) = Clashed i
+
+abbrev pub Becomes : PassValue → DrawopValue → Outcome → PassValue → Type 0
+Becomes p d (Fresh i) q = IsAdded p d i q
+Becomes p d (Known i) q = IsAgainAt q.seen d i × AddsNothing p q
+Becomes p d (Clashed i) q = IsClashAt q.seen d i × AddsNothing p q
+Becomes p d Left q = HasNoRow p d q
+
+-- one accept, in which d had this outcome
+pub record Accepts (p : PassValue) (d : DrawopValue) (o : Outcome) (q : PassValue) : Type 0 where
+  pub kept : Keeps p q
+  pub becomes : Becomes p d o q
+
+-- a drawop and its outcome
+abbrev pub Entry : Type 0
+Entry = DrawopValue × Outcome
+
+abbrev pub drawops : List Entry → List DrawopValue
+drawops [] = []
+drawops (e ∷ es) = e.0 ∷ drawops es
+
+abbrev pub outcomes : List Entry → List Outcome
+outcomes [] = []
+outcomes (e ∷ es) = e.1 ∷ outcomes es
+
+-- how many entries have each outcome
+abbrev pub tally : List Entry → Counts
+tally es = counts_of (outcomes es)
+
+-- one accept after another, while other desks of the board may accept too
+abbrev pub Runs : PassValue → List Entry → PassValue → Type 0
+Runs p [] q = q ≡ p
+Runs p (e ∷ es) q = (r : PassValue) × Accepts p e.0 e.1 r × Runs r es q

@@ -1,0 +1,53 @@
+-- What a batch leaves: p is the desk before it, given the drawops that came, q the desk after it, and b the counts.
+use Rattle.std.specs.Prelude.{◌≡◌, ℕ, ◌+◌, ◌<◌, List, ◌++◌, length, All}
+use Rattle.std.specs.List.Sorted.{IsPermutation}
+use Rattle.wb_names.specs.Values.{DrawopValue}
+use Rattle.wb_names.specs.History.{HoldsName}
+use Rattle.wb_names.specs.Arrivals.{Counts, counts, IsBatch}
+use Rattle.wb_host.specs.Passes.{PassValue, IsWhole}
+use Rattle.wb_feed.specs.declared.batch.Batch.{Batch}
+use Rattle.wb_feed.specs.declared.worker.Accepted.{Accepted}
+
+abbrev pub counts_in : Batch → Counts
+counts_in b = counts b.fresh b.again b.clash b.left
+
+-- one thread that takes the drawops in this order comes from the list of p to that of q, and to these counts
+abbrev pub IsInOrder : PassValue → List DrawopValue → PassValue → Batch → Type 0
+IsInOrder p order q b = IsBatch p.cells p.seen order q.seen (counts_in b)
+
+-- the same for some order of the drawops
+pub record IsInSomeOrder (p : PassValue) (given : List DrawopValue) (q : PassValue) (b : Batch) : Type 0 where
+  pub order : List DrawopValue
+  pub moved : IsPermutation given order
+  pub taken : IsInOrder p order q b
+
+-- the list has the names of all drawops but at most so many
+pub record HoldsNamesBut (left : ℕ) (history given : List DrawopValue) : Type 0 where
+  pub held : List DrawopValue
+  pub others : List DrawopValue
+  pub moved : IsPermutation given (held ++ others)
+  pub names : All (λ d. HoldsName history d.name) held
+  pub few : length others ≡ left
+
+pub record Takes (p : PassValue) (given : List DrawopValue) (workers : ℕ) (q : PassValue) (b : Batch) : Type 0 where
+  pub counted : b.fresh + b.again + b.clash + b.left ≡ length given
+  pub rows : q.free + b.fresh ≡ p.free
+  pub named : HoldsNamesBut b.left q.seen given
+  pub full : 0 < b.left → q.free ≡ 0
+  -- of a desk that owned all rows
+  pub whole : IsWhole p → IsWhole q
+  pub settled : IsWhole p → IsInSomeOrder p given q b
+  pub in_order : workers ≡ 1 → IsWhole p → IsInOrder p given q b
+
+-- the drawops that came are the first of those that were to come
+pub record TakesSome (p : PassValue) (old : List DrawopValue) (workers : ℕ) (q : PassValue) (new : List DrawopValue) (b : Batch) : Type 0 where
+  pub given : List DrawopValue
+  pub drawn : old ≡ given ++ new
+  pub takes : Takes p given workers q b
+
+-- the counts of what the workers accepted, and of what was taken again
+pub record IsTotal (a : Accepted) (t b : Batch) : Type 0 where
+  pub fresh : b.fresh ≡ a.fresh + t.fresh
+  pub again : b.again ≡ a.again + t.again
+  pub clash : b.clash ≡ a.clash + t.clash
+  pub left : b.left ≡ t.left

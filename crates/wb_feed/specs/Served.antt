@@ -1,0 +1,72 @@
+-- What a worker does with the messages that it receives.
+use Rattle.std.specs.Prelude.{◌≡◌, ℕ, ◌+◌, ◌≤◌, ◌^◌, Bool, true, false, cond, List, [], ◌∷◌, ◌++◌}
+use Rattle.wb_names.specs.Values.{DrawopValue}
+use Rattle.wb_names.specs.Arrivals.{Outcome, Fresh, Known, Clashed, Left, counts_of}
+use Rattle.wb_host.specs.Passes.{PassValue}
+use Rattle.wb_feed.specs.Accepts.{Entry, Keeps, Runs, tally}
+use Rattle.wb_feed.specs.declared.message.Message.{Message}
+use Rattle.wb_feed.specs.declared.message.Message.TheVariants.{Take, End}
+use Rattle.wb_feed.specs.declared.line.Hand.{Hand}
+use Rattle.wb_feed.specs.declared.worker.Accepted.{Accepted}
+use Rattle.wb_feed.specs.Line.{hand}
+
+abbrev pub is_left : Outcome → Bool
+is_left (Fresh i) = false
+is_left (Known i) = false
+is_left (Clashed i) = false
+is_left Left = true
+
+-- a position, its drawop and the outcome
+abbrev pub Spot : Type 0
+Spot = ℕ × Entry
+
+abbrev pub entries : List Spot → List Entry
+entries [] = []
+entries (s ∷ ss) = s.1 ∷ entries ss
+
+-- the positions that were accepted
+abbrev pub accepted_at : List Spot → List ℕ
+accepted_at [] = []
+accepted_at (s ∷ ss) = cond (is_left s.1.1) [] (s.0 ∷ []) ++ accepted_at ss
+
+-- the arrivals among the messages, and in the log
+abbrev pub takes : List Message → List (ℕ × DrawopValue)
+takes [] = []
+takes (Take p d ∷ ms) = (p, d) ∷ takes ms
+takes (End ∷ ms) = takes ms
+
+abbrev pub offered : List Spot → List (ℕ × DrawopValue)
+offered [] = []
+offered (s ∷ ss) = (s.0, s.1.0) ∷ offered ss
+
+-- the positions rise, from low on
+abbrev pub Rises : ℕ → List (ℕ × DrawopValue) → Type 0
+Rises low [] = Unit {0}
+Rises low (x ∷ xs) = (low ≤ x.0) × Rises (x.0 + 1) xs
+
+-- the outcome at a position is noted
+pub record AcceptsOne (a : Accepted) (position : ℕ) (o : Outcome) (b : Accepted) : Type 0 where
+  pub fresh : b.fresh ≡ a.fresh + (counts_of (o ∷ [])).fresh
+  pub again : b.again ≡ a.again + (counts_of (o ∷ [])).again
+  pub clash : b.clash ≡ a.clash + (counts_of (o ∷ [])).clash
+  pub positions : b.positions.items ≡ a.positions.items ++ cond (is_left o) [] (position ∷ [])
+
+pub record Tells (a : Accepted) (log : List Spot) : Type 0 where
+  pub fresh : a.fresh ≡ (tally (entries log)).fresh
+  pub again : a.again ≡ (tally (entries log)).again
+  pub clash : a.clash ≡ (tally (entries log)).clash
+  pub positions : a.positions.items ≡ accepted_at log
+
+-- the desk took all that was received
+pub record TookAll (p q : PassValue) (got : List Message) (a : Accepted) : Type 0 where
+  pub log : List Spot
+  pub runs : Runs p (entries log) q
+  pub offered : offered log ≡ takes got
+  pub tells : Tells a log
+  pub few : (a.fresh + a.again) + a.clash ≤ 2 ^ 32
+
+pub record Served (p q : PassValue) (h : Hand) (a : Accepted) (failed : Bool) : Type 0 where
+  pub kept : Keeps p q
+  pub hand : h ≡ hand 1 false [] h.got
+  pub rises : Rises 0 (takes h.got)
+  pub took : failed ≡ false → TookAll p q h.got a

@@ -1,0 +1,30 @@
+//! Where the drawops of a batch come from.
+ghost use Rattle.std.specs.Prelude.{◌≡◌, ℕ, ◌<◌, ◌≤◌, ◌∷◌, List, Bool, true, IfSome, IfNone};
+
+use wb_names::Drawop;
+
+/// A source of drawops. It may end before all that it has to give are drawn.
+pub trait Arrivals {
+    ghost use Rattle.wb_names.specs.Values.{DrawopValue};
+
+    /// The drawops still to come.
+    ghost to_come: { Self → List DrawopValue };
+
+    /// Whether `next` has answered None.
+    ghost has_ended: { Self → Bool };
+
+    /// What `most` answers.
+    ghost most_to_come: { Self → ℕ };
+
+    /// The next drawop, or None at the end or earlier.
+    fn next(&mut self) -> Option<Drawop>
+        ensures first { IfSome result (λ d. to_come self.old ≡ d ∷ to_come self.new) }
+        ensures nearer { IfSome result (λ d. most_to_come self.new < most_to_come self.old) }
+        ensures rest { IfNone result (to_come self.new ≡ to_come self.old) }
+        ensures no_more { IfNone result (most_to_come self.new ≤ most_to_come self.old) }
+        ensures ended { IfNone result (has_ended self.new ≡ true) };
+
+    /// A bound on how many drawops are still given. It falls with each of them.
+    fn most(&self) -> u32
+        ensures { result ≡ most_to_come self.now };
+}

@@ -1,0 +1,204 @@
+//! A batch: the workers take what comes, and the desk takes again what none of them accepted.
+ghost use Rattle.std.specs.Prelude.{◌≡◌, ◌+◌, ◌*◌, ◌<◌, ◌≤◌, ◌^◌, ◌⊎◌, ◌↔◌, true, [], Err, length, IfOk, OnOk};
+ghost use Rattle.wb_names.specs.Arrivals.{Outcome};
+ghost use Rattle.wb_host.specs.Passes.{IsPassOf};
+ghost use Rattle.wb_feed.specs.Accepts.{Keeps, Accepts};
+ghost use Rattle.wb_feed.specs.Marks.{unmarked, Marks, Retakes, CountsOne};
+ghost use Rattle.wb_feed.specs.Sent.{IsDrawn};
+ghost use Rattle.wb_feed.specs.Batches.{Takes, TakesSome, IsTotal};
+
+use crate::arrivals::Arrivals;
+use crate::crew::{CrewFault, crew};
+use crate::fault::FeedFault;
+use crate::gate::Gate;
+use crate::line::{EachOnce, Hand, Whole};
+use crate::message::Message;
+use crate::worker::Accepted;
+use crossbeam_channel::bounded_with;
+use std::alloc::{AllocError, Global};
+use std::sync::Wait;
+use std::thread::Threads;
+use wb_host::{Board, BoardFault, Desk, Reply};
+use wb_names::Drawop;
+
+/// How many arrivals were new, were held already, had the name of another drawop, and were left for
+/// want of a row.
+#[derive(Clone, Copy, PartialEq, Eq, Debug)]
+pub struct Batch {
+    pub fresh: u32,
+    pub again: u32,
+    pub clash: u32,
+    pub left: u32,
+}
+
+impl Batch {
+    ghost use Rattle.wb_feed.specs.Accepts.{outcome};
+
+    /// Counts a reply.
+    fn count(&mut self, reply: Reply)
+        requires room { self.old.fresh + self.old.again + self.old.clash + self.old.left + 1 < 2 ^ 32 }
+        ensures { CountsOne self.old (outcome reply) self.new }
+    {
+        match reply {
+            Reply::New(_) => self.fresh += 1,
+            Reply::Again(_) => self.again += 1,
+            Reply::Clash(_) => self.clash += 1,
+        }
+    }
+}
+
+/// How many messages the channel has room for.
+const CAPACITY: usize = 64;
+
+/// Takes all that the source gives, each drawop once, by so many workers, from 1 to 8. Each gets an
+/// equal part of the desk's free rows; a drawop that a worker had no row for is taken again with the
+/// desk once all are joined, in order of arrival, and `left` counts those that find no row there either.
+/// The gate is called round each accept of a worker.
+///
+/// With a number of workers out of range nothing is taken. After `Start` or `Memory` any part of the
+/// arrivals may have been taken; a worker's desk whose thread or whose join was refused is dropped with
+/// its rows, and all others are joined back.
+pub fn run_batch<R: Threads + Wait + Sync, S: Arrivals, G: Gate + Sync>(
+    rt: &R,
+    alloc: Global,
+    board: &Board,
+    desk: &mut Desk,
+    workers: u32,
+    arrivals: &mut S,
+    gate: &G,
+) -> Result<Batch, FeedFault>
+    requires desk { IsPassOf board.now desk.old }
+    ensures kept { Keeps desk.old desk.new }
+    ensures workers { (result ≡ Err FeedFault.Workers) ↔ ((workers ≡ 0) ⊎ (8 < workers)) }
+    ensures untouched { (workers ≡ 0) ⊎ (8 < workers) → (desk.new ≡ desk.old) × (arrivals.new ≡ arrivals.old) }
+    ensures taken { IfOk result (λ b. TakesSome desk.old (S.to_come arrivals.old) workers desk.new (S.to_come arrivals.new) b) }
+    ensures ended { OnOk result (S.has_ended arrivals.new ≡ true) }
+{
+    if workers == 0 || workers > 8 {
+        return Err(FeedFault::Workers);
+    }
+    let mut drawn = Vec::new(alloc);
+    let _most = arrivals.most();
+    match take_batch(
+        rt, alloc, board, desk, workers, arrivals, &mut drawn, gate,
+    ) {
+        Ok(batch) => Ok(batch),
+        Err(CrewFault::Start) => Err(FeedFault::Start),
+        Err(CrewFault::Memory) => Err(FeedFault::Memory),
+    }
+}
+
+/// Starts the workers, feeds them what the source gives, and takes again what none of them accepted.
+fn take_batch<R: Threads + Wait + Sync, S: Arrivals, G: Gate + Sync>(
+    rt: &R,
+    alloc: Global,
+    board: &Board,
+    desk: &mut Desk,
+    workers: u32,
+    arrivals: &mut S,
+    drawn: &mut Vec<Drawop>,
+    gate: &G,
+) -> Result<Batch, CrewFault>
+    requires desk { IsPassOf board.now desk.old }
+    requires workers { (0 < workers) × (workers ≤ 8) }
+    requires drawn { drawn.old.items ≡ [] }
+    requires few { S.most_to_come arrivals.old < 2 ^ 32 }
+    ensures kept { Keeps desk.old desk.new }
+    ensures drawn { IsDrawn (S.to_come arrivals.old) (S.most_to_come arrivals.old) drawn.old.items (S.to_come arrivals.new) (S.most_to_come arrivals.new) drawn.new.items }
+    ensures ended { OnOk result (S.has_ended arrivals.new ≡ true) }
+    ensures ok { IfOk result (λ b. Takes desk.old drawn.new.items workers desk.new b) }
+{
+    let Ok((line, end, mut pass)) = bounded_with::<Message, Hand, EachOnce, Global>(alloc, CAPACITY) else {
+        return Err(CrewFault::Memory);
+    };
+    let rows = desk.rows_left() / workers;
+    let accepted = crew(
+        rt, alloc, board, desk, rows, workers, &line, &end, &mut pass, arrivals, drawn, gate,
+    )?;
+    let _joined = desk.rows_left();
+    line.learn_as::<Whole>(&mut pass);
+    let Ok(marks) = mark(alloc, accepted.positions.as_slice(), drawn.len()) else {
+        return Err(CrewFault::Memory);
+    };
+    let Ok(rest) = take_rest(board, desk, marks.as_slice(), drawn.as_slice()) else {
+        return Err(CrewFault::Memory);
+    };
+    let _sound = desk.rows_left();
+    Ok(in_all(&accepted, &rest))
+}
+
+/// Marks these places, of so many.
+fn mark(alloc: Global, places: &[u32], count: usize) -> Result<Vec<bool>, AllocError>
+    ensures { IfOk result (λ v. Marks places.now count v.items) }
+{
+    let mut marks = Vec::from_elem(alloc, false, count)?;
+    for place in places {
+        let at = *place as usize;
+        if at >= marks.len() {
+            continue;
+        }
+        marks[at] = true;
+    }
+    Ok(marks)
+}
+
+/// Takes the drawops that are not marked, in order.
+fn take_rest(
+    board: &Board,
+    desk: &mut Desk,
+    marks: &[bool],
+    drawn: &[Drawop],
+) -> Result<Batch, AllocError>
+    requires desk { IsPassOf board.now desk.old }
+    requires few { length drawn.now < 2 ^ 32 }
+    requires marks { length marks.now ≡ length drawn.now }
+    ensures ok { IfOk result (λ b. Retakes desk.old (unmarked marks.now drawn.now) desk.new b) }
+    ensures kept { Keeps desk.old desk.new }
+{
+    let mut batch = Batch {
+        fresh: 0,
+        again: 0,
+        clash: 0,
+        left: 0,
+    };
+    for (i, drawop) in drawn.iter().enumerate() {
+        if marks[i] {
+            continue;
+        }
+        take_one(board, desk, &mut batch, drawop)?;
+    }
+    Ok(batch)
+}
+
+/// Takes one drawop, and counts what became of it.
+fn take_one(
+    board: &Board,
+    desk: &mut Desk,
+    batch: &mut Batch,
+    drawop: &Drawop,
+) -> Result<(), AllocError>
+    requires desk { IsPassOf board.now desk.old }
+    requires room { batch.old.fresh + batch.old.again + batch.old.clash + batch.old.left + 1 < 2 ^ 32 }
+    ensures ok { OnOk result ((o : Outcome) × Accepts desk.old drawop.now o desk.new × CountsOne batch.old o batch.new) }
+    ensures kept { Keeps desk.old desk.new }
+{
+    match board.accept(desk, drawop) {
+        Ok(reply) => batch.count(reply),
+        Err(BoardFault::NoRow) => batch.left += 1,
+        Err(BoardFault::Memory) => return Err(AllocError),
+    }
+    Ok(())
+}
+
+/// The counts of both.
+fn in_all(accepted: &Accepted, rest: &Batch) -> Batch
+    requires few { (((accepted.now.fresh + rest.now.fresh) + (accepted.now.again + rest.now.again)) + (accepted.now.clash + rest.now.clash)) + rest.now.left < 2 ^ 32 }
+    ensures { IsTotal accepted.now rest.now result }
+{
+    Batch {
+        fresh: accepted.fresh as u32 + rest.fresh,
+        again: accepted.again as u32 + rest.again,
+        clash: accepted.clash as u32 + rest.clash,
+        left: rest.left,
+    }
+}

@@ -1,0 +1,30 @@
+//! Workers that take a batch of arrivals on a shared board, each arrival once.
+//!
+//! `run_batch` splits a desk for each of up to eight workers, starts them on threads of their own, and
+//! sends them what its source gives, one drawop at a time, through one channel of bounded capacity. The
+//! channel is under a rule, by which no position is received twice; so after the joins the desk knows
+//! which arrivals no worker accepted, and takes those again, in order. What comes out is what one thread
+//! would have made of the arrivals in some order, and with one worker in the order given.
+//!
+//! Threads are started here, and joined here, each of them. Nothing is promised of time, or that two
+//! workers run at once; a call waits for the threads that it started.
+//!
+//! In reading order: where drawops come from (`arrivals`) and what is called round each accept (`gate`);
+//! the call (`batch`), its workers (`crew`), what each does (`worker`), and the sender's part (`sender`);
+//! and the channel (`line`) with its messages (`message`).
+#![tactic(auto)]
+
+mod arrivals;
+mod batch;
+mod crew;
+mod fault;
+mod gate;
+mod line;
+mod message;
+mod sender;
+mod worker;
+
+pub use arrivals::Arrivals;
+pub use batch::{Batch, run_batch};
+pub use fault::FeedFault;
+pub use gate::{Gate, NoGate};
