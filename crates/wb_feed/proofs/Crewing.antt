@@ -2,8 +2,8 @@
 use Rattle.std.proofs.Common.{◌≡◌, ℕ, zero, suc, ◌+◌, ◌-◌, ◌*◌, ◌^◌, ◌≤◌, ◌<◌, Bool, true, false, List, [], ◌∷◌, ◌++◌, length, Result, Ok, Err, refl, ap, sym, subst, ◌∙◌, arith, append_assoc, length-append}
 use Rattle.std.proofs.lemmas.List.{append-nil}
 use mathlib.Core.List.{IsPrefix}
-use Rattle.wb_host.specs.Passes.{PassValue, IsSamePass}
-use Rattle.wb_host.specs.Sharing.{IsSplit, IsJoined}
+use Rattle.wb_history.specs.Passes.{PassValue, IsSamePass}
+use Rattle.wb_history.specs.Sharing.{IsSplit, IsJoined}
 use Rattle.wb_feed.specs.Accepts.{tally}
 use Rattle.wb_feed.proofs.Log.{tally-append}
 use Rattle.wb_feed.specs.declared.message.Message.{Message}

@@ -4,7 +4,7 @@ use mathlib.Core.List.{IsPrefix}
 use Rattle.wb_names.specs.Values.{DrawopValue}
 use Rattle.wb_names.specs.History.{IsHistory, HoldsName, IsAgainAt}
 use Rattle.wb_names.specs.Arrivals.{Outcome, Fresh, Known, Clashed, Left, AreTaken}
-use Rattle.wb_host.specs.Passes.{PassValue}
+use Rattle.wb_history.specs.Passes.{PassValue}
 use Rattle.wb_feed.specs.Accepts.{Entry, drawops, outcomes, tally, Runs}
 use Rattle.wb_feed.specs.Served.{is_left}
 use Rattle.wb_feed.proofs.Prefixes.{prefix_is, prefix_trans, prefix_whole, prefix_length}

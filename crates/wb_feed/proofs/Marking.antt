@@ -4,7 +4,7 @@ use Rattle.std.proofs.lemmas.List.{append-nil, take_more}
 use Rattle.std.proofs.lemmas.Bool.Decides.{nat_tests}
 use Rattle.wb_names.specs.Values.{DrawopValue}
 use Rattle.wb_names.specs.Arrivals.{Outcome, Fresh, Known, Clashed, Left, counts_of}
-use Rattle.wb_host.specs.Passes.{PassValue}
+use Rattle.wb_history.specs.Passes.{PassValue}
 use Rattle.wb_feed.specs.Accepts.{Keeps, Accepts, Runs, drawops, tally}
 use Rattle.wb_feed.specs.declared.batch.Batch.{Batch}
 use Rattle.wb_feed.proofs.Log.{runs_more, runs_leave, drawops-append, tally-append, tally_all}
@@ -53,15 +53,14 @@ one_kind (Known i) = omega arith
 one_kind (Clashed i) = omega arith
 one_kind Left = omega arith
 
-pub rest_more : (p q r : PassValue) (ms : List Bool) (ds : List DrawopValue) (i : ℕ) (b c : Batch) (z : DrawopValue) → i < length ds → length ms ≡ length ds → get_or ms i false ≡ false → RestSoFar p ms ds i q b
-    → (o : Outcome) × Accepts q (get_or ds i z) o r × CountsOne b o c → RestSoFar p ms ds (i + 1) r c
-rest_more p q r ms ds i b c z lt e free h one =
-    let d = get_or ds i z in
+pub rest_more : (p q r : PassValue) (ms : List Bool) (ds : List DrawopValue) (i : ℕ) (b c : Batch) (d : DrawopValue) → i < length ds → length ms ≡ length ds → get_or ms i false ≡ false → d ≡ get_or ds i d → RestSoFar p ms ds i q b
+    → (o : Outcome) × Accepts q d o r × CountsOne b o c → RestSoFar p ms ds (i + 1) r c
+rest_more p q r ms ds i b c d lt e free is h one =
     let o = one.0 in
     let k = h.taken in
     let sum = tally-append k.log ((d, o) ∷ []) in
     let same : unmarked (take (i + 1) ms) (take (i + 1) ds) ≡ unmarked (take i ms) (take i ds) ++ d ∷ [] =
-      unmarked-take ms ds i z lt e ∙ ap (λ c. unmarked (take i ms) (take i ds) ++ cond c [] (d ∷ [])) free in
+      unmarked-take ms ds i d lt e ∙ (ap (λ c. unmarked (take i ms) (take i ds) ++ cond c [] (get_or ds i d ∷ [])) free ∙ ap (λ x. unmarked (take i ms) (take i ds) ++ x ∷ []) (sym is)) in
     record {
       taken = record {
         log = k.log ++ (d, o) ∷ [];

@@ -6,8 +6,8 @@ use Rattle.std.proofs.lemmas.Bool.Decides.{nat_tests}
 use mathlib.Core.List.{IsPrefix}
 use Rattle.wb_names.specs.Values.{DrawopValue}
 use Rattle.wb_names.specs.Arrivals.{Outcome, Fresh, Known, Clashed, Left, Counts, counts, counts_of, IsBatch}
-use Rattle.wb_host.specs.Passes.{PassValue, IsSound, IsWhole, IsSamePass}
-use Rattle.wb_host.specs.Sharing.{IsSplit, IsJoined}
+use Rattle.wb_history.specs.Passes.{PassValue, IsSound, IsWhole, IsSamePass}
+use Rattle.wb_history.specs.Sharing.{IsSplit, IsJoined}
 use Rattle.wb_feed.specs.Accepts.{Entry, drawops, outcomes, tally, Runs}
 use Rattle.wb_feed.proofs.Prefixes.{prefix_self, prefix_whole, prefix_trans, prefix_length}
 use Rattle.wb_feed.proofs.Numbers.{times}

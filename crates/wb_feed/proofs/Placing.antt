@@ -9,7 +9,7 @@ use Rattle.std.proofs.lemmas.List.Sorted.{IsPermutation-refl, IsPermutation-sym,
 use mathlib.Core.List.{IsPrefix}
 use Rattle.wb_names.specs.Values.{DrawopValue}
 use Rattle.wb_names.specs.Arrivals.{Outcome, Fresh, Known, Clashed, Left}
-use Rattle.wb_host.specs.Passes.{PassValue}
+use Rattle.wb_history.specs.Passes.{PassValue}
 use Rattle.wb_feed.specs.Accepts.{Entry, drawops}
 use Rattle.wb_feed.proofs.Prefixes.{prefix_get}
 use Rattle.wb_feed.proofs.Numbers.{times, times-append, IsPermutation-times, times-range}

@@ -9,7 +9,7 @@ use Rattle.wb_feed.specs.declared.message.Message.{Message}
 use Rattle.wb_feed.specs.declared.message.Message.TheVariants.{Take, End}
 use Rattle.wb_feed.specs.declared.line.Hand.{Hand}
 use Rattle.wb_feed.specs.Line.{hand, sends, sent_with}
-use Rattle.wb_feed.specs.Sent.{IsNext, IsSent, IsDrawn, Draws}
+use Rattle.wb_feed.specs.Sent.{IsNext, IsSent, IsDrawn, DrawsOne}
 
 -- the sender's pass keeps its parts, and what it received
 abbrev pub Stays : Hand → Hand → Type 0
@@ -18,11 +18,11 @@ Stays h i = (i.parts ≡ h.parts) × (i.got ≡ h.got)
 pub drawn_none : (old : List DrawopValue) (most : ℕ) (was : List DrawopValue) → IsDrawn old most was old most was
 drawn_none old most was = record { all = refl; few = omega arith }
 
-pub drawn_more : (old : List DrawopValue) (most : ℕ) (was new : List DrawopValue) (most' : ℕ) (drawn rest : List DrawopValue) (most'' : ℕ) (more : List DrawopValue) (ended : Bool) (x : ℕ × DrawopValue)
-    → IsDrawn old most was new most' drawn → Draws new most' drawn rest most'' more ended (Ok (Some x)) → IsDrawn old most was rest most'' more
-drawn_more old most was new most' drawn rest most'' more ended x d s = record {
-  all = d.all ∙ (ap (λ l. drawn ++ l) s.0 ∙ (sym (append_assoc drawn (x.1 ∷ []) rest) ∙ ap (λ l. l ++ rest) (sym s.2)));
-  few = omega (arith, d.few, s.1, ap length s.2, length-append drawn (x.1 ∷ []));
+pub drawn_more : (old : List DrawopValue) (most : ℕ) (was new : List DrawopValue) (most' : ℕ) (drawn rest : List DrawopValue) (most'' : ℕ) (more : List DrawopValue) (x : Message)
+    → IsDrawn old most was new most' drawn → DrawsOne new most' drawn rest most'' more x → IsDrawn old most was rest most'' more
+drawn_more old most was new most' drawn rest most'' more x d s = record {
+  all = d.all ∙ (ap (λ l. drawn ++ l) s.next ∙ (sym (append_assoc drawn (s.drawop ∷ []) rest) ∙ ap (λ l. l ++ rest) (sym s.all)));
+  few = omega (arith, d.few, s.nearer, ap length s.all, length-append drawn (s.drawop ∷ []));
 }
 
 pub drawn_end : (old : List DrawopValue) (most : ℕ) (was new : List DrawopValue) (most' : ℕ) (drawn rest : List DrawopValue) (most'' : ℕ) (more : List DrawopValue)
@@ -30,20 +30,21 @@ pub drawn_end : (old : List DrawopValue) (most : ℕ) (was new : List DrawopValu
 drawn_end old most was new most' drawn rest most'' more d a b c = record { all = rw (a, c) d.all; few = omega (arith, d.few, b, ap length c) }
 
 -- the next message after those that were sent
-pub next_is : (h : Hand) (drawn more : List DrawopValue) (going : Bool) (p : ℕ) (d : DrawopValue) → IsSent h drawn going → p ≡ length drawn → going ≡ true → IsNext h.sent (Take p d)
-next_is h drawn more going p d s e g = e ∙ ap length (sym (s.all g))
+pub next_is : (old : List DrawopValue) (most : ℕ) (drawn rest : List DrawopValue) (most' : ℕ) (more : List DrawopValue) (h : Hand) (going : Bool) (x : Message) → IsSent h drawn going → DrawsOne old most drawn rest most' more x → going ≡ true → IsNext h.sent x
+next_is old most drawn rest most' more h going x s d g = subst (λ (m : Message). IsNext h.sent m) (sym d.is) (ap length (sym (s.all g)))
 
-pub sent_more : (h i : Hand) (drawn more : List DrawopValue) (going r : Bool) (p : ℕ) (d : DrawopValue) → IsSent h drawn going → more ≡ drawn ++ d ∷ []
-    → (r ≡ true → (going ≡ true) × (i ≡ sends h (Take p d))) → (r ≡ false → i ≡ h) → IsSent i more r
-sent_more h i drawn more going true p d s m won shut =
+pub sent_more : (old : List DrawopValue) (most : ℕ) (drawn rest : List DrawopValue) (most' : ℕ) (more : List DrawopValue) (h i : Hand) (going r : Bool) (x : Message) → IsSent h drawn going → DrawsOne old most drawn rest most' more x
+    → (r ≡ true → (going ≡ true) × (i ≡ sends h x)) → (r ≡ false → i ≡ h) → IsSent i more r
+sent_more old most drawn rest most' more h i going true x s d won shut =
     let t = won refl in
-    let e : i.sent ≡ more = ap (λ (x : Hand). x.sent) t.1 ∙ (ap (λ l. l ++ d ∷ []) (s.all t.0) ∙ sym m) in
-    record { sends = ap (λ (x : Hand). x.sends) t.1 ∙ s.sends; first = subst (λ l. IsPrefix i.sent l) e (prefix_self i.sent); all = λ _. e }
-sent_more h i drawn more going false p d s m won shut =
+    let sent : i ≡ sends h (Take (length drawn) d.drawop) = t.1 ∙ ap (λ m. sends h m) d.is in
+    let e : i.sent ≡ more = ap (λ (x : Hand). x.sent) sent ∙ (ap (λ l. l ++ d.drawop ∷ []) (s.all t.0) ∙ sym d.all) in
+    record { sends = ap (λ (x : Hand). x.sends) sent ∙ s.sends; first = subst (λ l. IsPrefix i.sent l) e (prefix_self i.sent); all = λ _. e }
+sent_more old most drawn rest most' more h i going false x s d won shut =
     let e = shut refl in
     record {
       sends = ap (λ (x : Hand). x.sends) e ∙ s.sends;
-      first = rw (ap (λ (x : Hand). x.sent) e) (prefix_trans h.sent drawn more s.first (d ∷ [], sym m));
+      first = rw (ap (λ (x : Hand). x.sent) e) (prefix_trans h.sent drawn more s.first (d.drawop ∷ [], sym d.all));
       all = λ f. absurd (true≢false (sym f));
     }
 
@@ -58,3 +59,7 @@ stays_trans h i j a b = (b.0 ∙ a.0, b.1 ∙ a.1)
 pub ends_same : (h i : Hand) (going r : Bool) → (r ≡ true → (going ≡ true) × (i ≡ sends h End)) → (r ≡ false → i ≡ h) → i ≡ h
 ends_same h i going true won shut = (won refl).1
 ends_same h i going false won shut = shut refl
+
+-- what the sender sent stays where a worker's pass is taken back
+pub sent_stays : (h i j : Hand) (drawn : List DrawopValue) → h ≡ hand (i.parts + j.parts) i.sends i.sent (i.got ++ j.got) → (i.sends ≡ true) × IsPrefix i.sent drawn → (h.sends ≡ true) × IsPrefix h.sent drawn
+sent_stays h i j drawn e s = rw e s

@@ -3,7 +3,7 @@ use Rattle.std.proofs.Common.{◌≡◌, ℕ, zero, suc, ◌+◌, ◌≤◌, ◌
 use Rattle.std.proofs.lemmas.List.{append-nil}
 use Rattle.wb_names.specs.Values.{DrawopValue}
 use Rattle.wb_names.specs.Arrivals.{Outcome, Fresh, Known, Clashed, Left, counts_of}
-use Rattle.wb_host.specs.Passes.{PassValue}
+use Rattle.wb_history.specs.Passes.{PassValue}
 use Rattle.wb_feed.specs.Accepts.{Entry, Keeps, Accepts, Runs, drawops, tally}
 use Rattle.wb_feed.proofs.Log.{keeps_self, keeps_trans, runs_more, tally-append, tally_all}
 use Rattle.wb_feed.specs.declared.message.Message.{Message}

@@ -7,7 +7,7 @@ use Rattle.std.proofs.lemmas.List.Sorted.{IsPermutation-refl, IsPermutation-sym,
 use Rattle.wb_names.specs.Values.{DrawopValue}
 use Rattle.wb_names.specs.History.{IsHistory, HoldsName}
 use Rattle.wb_names.specs.Arrivals.{Outcome, Fresh, Known, Clashed, Left, Counts, counts, IsBatch}
-use Rattle.wb_host.specs.Passes.{PassValue, IsSound, IsWhole}
+use Rattle.wb_history.specs.Passes.{PassValue, IsSound, IsWhole}
 use Rattle.wb_feed.specs.Accepts.{Entry, drawops, tally, Runs}
 use Rattle.wb_feed.specs.Line.{once_below}
 use Rattle.wb_feed.specs.Served.{is_left}
@@ -24,10 +24,8 @@ pub record HasAll (p : PassValue) : Type 0 where
 
 pub whole_mine : (p : PassValue) → IsSound p → IsWhole p → HasAll p
 whole_mine p s w =
-    let once = sound_once p s in
-    let few = few_below (length p.seen) p.mine once in
-    let many : length p.seen ≤ length p.mine = omega (arith, s.room, w) in
-    record { many = omega (arith, few, many); each = all_below (length p.seen) p.mine once many }
+    let many = s.as_many w in
+    record { many = many; each = all_below (length p.seen) p.mine (sound_once p s) (omega (arith, many)) }
 
 -- the drawops that were new are those at the places that were gained
 news : (h : List DrawopValue) (log : List Entry) → Told h log → drawops (chosen is_new log) ≡ map (λ i. get_or h i nothing) (places log)
@@ -75,7 +73,7 @@ left_lacks p q [] s w r = tt
 left_lacks p q ((d, Left) ∷ es) s w r =
     let b = r.0 in
     let l = runs_leave b q es r.2 in
-    let some : length b.mine ≤ length b.seen = few_below (length b.seen) b.mine (sound_once b r.1.becomes.sound) in
+    let some : length b.mine ≤ length b.seen = few_below (length b.seen) b.mine (sound_once b r.1.sound) in
     let many : length q.mine ≡ length b.mine + length (places es) = ap length l.mine ∙ length-append b.mine (places es) in
     let all : length q.seen ≤ length b.seen = omega (arith, some, many, places_many es, l.free, r.1.becomes.none_left, s.room, w) in
     (subst (λ (k : List DrawopValue). HoldsName k d.name → ⊥) (prefix_whole b.seen q.seen l.kept.seen all) r.1.becomes.absent, left_lacks b q es s w r.2)

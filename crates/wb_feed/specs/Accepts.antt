@@ -4,10 +4,10 @@ use mathlib.Core.List.{IsPrefix}
 use Rattle.wb_names.specs.Values.{DrawopValue}
 use Rattle.wb_names.specs.History.{IsAgainAt, IsClashAt}
 use Rattle.wb_names.specs.Arrivals.{Outcome, Fresh, Known, Clashed, Left, Counts, counts_of}
-use Rattle.wb_host.specs.Passes.{PassValue, IsSamePass, AddsNothing}
-use Rattle.wb_host.specs.Replies.{IsAdded, HasNoRow}
-use Rattle.wb_host.specs.declared.board.Reply.{Reply}
-use Rattle.wb_host.specs.declared.board.Reply.TheVariants.{New, Again, Clash}
+use Rattle.wb_history.specs.Passes.{PassValue, IsSamePass, AddsNothing, IsSound}
+use Rattle.wb_history.specs.Replies.{IsAdded, HasNoRow}
+use Rattle.wb_host.specs.declared.reply.Reply.{Reply}
+use Rattle.wb_host.specs.declared.reply.Reply.TheVariants.{New, Again, Clash}
 
 -- whatever is answered, the desk is of the same board, and its list begins with what it was
 pub record Keeps (p q : PassValue) : Type 0 where
@@ -29,6 +29,7 @@ Becomes p d Left q = HasNoRow p d q
 -- one accept, in which d had this outcome
 pub record Accepts (p : PassValue) (d : DrawopValue) (o : Outcome) (q : PassValue) : Type 0 where
   pub kept : Keeps p q
+  pub sound : IsSound q
   pub becomes : Becomes p d o q
 
 -- a drawop and its outcome

@@ -1,7 +1,7 @@
 -- Workers that each serve the channel.
 use Rattle.std.specs.Prelude.{◌≡◌, ℕ, zero, suc, ◌+◌, ◌*◌, ◌^◌, ◌≤◌, List, [], ◌∷◌, ◌++◌}
-use Rattle.wb_host.specs.Passes.{PassValue, IsSamePass}
-use Rattle.wb_host.specs.Sharing.{IsSplit, IsJoined}
+use Rattle.wb_history.specs.Passes.{PassValue, IsSamePass}
+use Rattle.wb_history.specs.Sharing.{IsSplit, IsJoined}
 use Rattle.wb_feed.specs.Accepts.{Runs}
 use Rattle.wb_feed.specs.declared.message.Message.{Message}
 use Rattle.wb_feed.specs.declared.line.Hand.{Hand}

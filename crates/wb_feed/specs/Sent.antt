@@ -24,7 +24,15 @@ pub record IsDrawn (old : List DrawopValue) (most : ℕ) (was : List DrawopValue
   pub all : was ++ old ≡ drawn ++ new
   pub few : length drawn + most' ≤ length was + most
 
-abbrev pub Draws : List DrawopValue → ℕ → List DrawopValue → List DrawopValue → ℕ → List DrawopValue → Bool → Result (Option (ℕ × DrawopValue)) AllocError → Type 0
+-- one arrival was drawn, and the message is that with its position
+pub record DrawsOne (old : List DrawopValue) (most : ℕ) (was : List DrawopValue) (new : List DrawopValue) (most' : ℕ) (drawn : List DrawopValue) (message : Message) : Type 0 where
+  pub drawop : DrawopValue
+  pub next : old ≡ drawop ∷ new
+  pub nearer : most' < most
+  pub all : drawn ≡ was ++ drawop ∷ []
+  pub is : message ≡ Take (length was) drawop
+
+abbrev pub Draws : List DrawopValue → ℕ → List DrawopValue → List DrawopValue → ℕ → List DrawopValue → Bool → Result (Option Message) AllocError → Type 0
 Draws old most was new most' drawn ended (Err e) = (new ≡ old) × (most' ≤ most) × (drawn ≡ was)
 Draws old most was new most' drawn ended (Ok None) = (new ≡ old) × (most' ≤ most) × (drawn ≡ was) × (ended ≡ true)
-Draws old most was new most' drawn ended (Ok (Some x)) = (old ≡ x.1 ∷ new) × (most' < most) × (drawn ≡ was ++ x.1 ∷ []) × (x.0 ≡ length was)
+Draws old most was new most' drawn ended (Ok (Some m)) = DrawsOne old most was new most' drawn m

@@ -1,7 +1,7 @@
 //! A batch: the workers take what comes, and the desk takes again what none of them accepted.
 ghost use Rattle.std.specs.Prelude.{◌≡◌, ◌+◌, ◌*◌, ◌<◌, ◌≤◌, ◌^◌, ◌⊎◌, ◌↔◌, true, [], Err, length, IfOk, OnOk};
 ghost use Rattle.wb_names.specs.Arrivals.{Outcome};
-ghost use Rattle.wb_host.specs.Passes.{IsPassOf};
+ghost use Rattle.wb_history.specs.Passes.{IsPassOf};
 ghost use Rattle.wb_feed.specs.Accepts.{Keeps, Accepts};
 ghost use Rattle.wb_feed.specs.Marks.{unmarked, Marks, Retakes, CountsOne};
 ghost use Rattle.wb_feed.specs.Sent.{IsDrawn};

@@ -4,7 +4,7 @@ ghost use Rattle.std.specs.Thread.{IsSync};
 ghost use mathlib.Core.List.{IsPrefix};
 ghost use Rattle.crossbeam_channel.specs.Claims.{view, IsSeatAt};
 ghost use Rattle.crossbeam_channel.specs.Ends.{sends_on, receives_on};
-ghost use Rattle.wb_host.specs.Passes.{IsPassOf};
+ghost use Rattle.wb_history.specs.Passes.{IsPassOf};
 ghost use Rattle.wb_feed.specs.Accepts.{Keeps};
 ghost use Rattle.wb_feed.specs.Line.{hand};
 ghost use Rattle.wb_feed.specs.Sent.{IsSent, IsDrawn};

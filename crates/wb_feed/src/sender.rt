@@ -13,11 +13,11 @@ use std::alloc::AllocError;
 use std::sync::Wait;
 use wb_names::Drawop;
 
-/// Draws one arrival, once there is room for it, and answers its position.
+/// Draws one arrival, once there is room for it, and answers the message that it becomes.
 fn draw_one<S: Arrivals>(
     arrivals: &mut S,
     drawn: &mut Vec<Drawop>,
-) -> Result<Option<(u32, Drawop)>, AllocError>
+) -> Result<Option<Message>, AllocError>
     requires { length drawn.old.items + S.most_to_come arrivals.old < 2 ^ 32 }
     ensures { Draws (S.to_come arrivals.old) (S.most_to_come arrivals.old) drawn.old.items (S.to_come arrivals.new) (S.most_to_come arrivals.new) drawn.new.items (S.has_ended arrivals.new) result }
 {
@@ -27,7 +27,7 @@ fn draw_one<S: Arrivals>(
         return Ok(None);
     };
     drawn.push_reserved(drawop);
-    Ok(Some((position, drawop)))
+    Ok(Some(Message::Take(position, drawop)))
 }
 
 /// Sends the message while the line is open. Answers whether it is still open.
@@ -66,8 +66,8 @@ pub(crate) fn feed<R: Wait, S: Arrivals>(
     ensures drawn { IsDrawn (S.to_come arrivals.old) (S.most_to_come arrivals.old) drawn.old.items (S.to_come arrivals.new) (S.most_to_come arrivals.new) drawn.new.items }
     ensures ended { OnOk result (S.has_ended arrivals.new ≡ true) }
 {
-    while let Some((position, drawop)) = draw_one(arrivals, drawn)? {
-        *going = send_one(rt, line, pass, *going, Message::Take(position, drawop));
+    while let Some(message) = draw_one(arrivals, drawn)? {
+        *going = send_one(rt, line, pass, *going, message);
     }
     Ok(())
 }

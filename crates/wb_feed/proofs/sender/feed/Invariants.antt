@@ -5,8 +5,8 @@ use Rattle.wb_feed.specs.Sent.{IsSent, IsDrawn}
 use Rattle.wb_feed.proofs.Sending.{Stays}
 use Rattle.wb_feed.proofs.sender.feed.Given as goal
 
-abbrev pub invariant-loop-position : goal.invariant-loop-position
-invariant-loop-position g l =
+abbrev pub invariant-loop-message : goal.invariant-loop-message
+invariant-loop-message g l =
     record {
       seat : IsSeatAt (sends_on l.line) l.pass;
       sent : IsSent (view l.pass) l.drawn.items l.going;
@@ -14,5 +14,5 @@ invariant-loop-position g l =
       drawn : IsDrawn (g.S.Arrivals.to_come l.initial.arrivals) (g.S.Arrivals.most_to_come l.initial.arrivals) l.initial.drawn.items (g.S.Arrivals.to_come l.arrivals) (g.S.Arrivals.most_to_come l.arrivals) l.drawn.items;
     }
 
-abbrev pub decreases-loop-position : goal.decreases-loop-position
-decreases-loop-position g l = g.S.Arrivals.most_to_come l.arrivals
+abbrev pub decreases-loop-message : goal.decreases-loop-message
+decreases-loop-message g l = g.S.Arrivals.most_to_come l.arrivals
