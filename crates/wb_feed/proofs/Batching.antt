@@ -62,9 +62,9 @@ whole_from rows n p q g h a drawn ms c none all sent m =
     let got : h.got ≡ c.gots = c.got ∙ ap (λ l. l ++ c.gots) none in
     let right : AreRight h.sent c.gots = subst (λ l. AreRight h.sent l) got all.right in
     let most : (i : ℕ) → times i a.positions.items ≤ once_below i (length drawn) =
-      λ i. omega (arith, ap (times i) c.tells.positions, crew_once i c.crew, ap (λ l. spots i l) got, all.once i, once_rises i all.low (length drawn) (omega (arith, all.most, prefix_length h.sent drawn sent))) in
+    λ i. omega (arith, ap (times i) c.tells.positions, crew_once i c.crew, ap (λ l. spots i l) got, all.once i, once_rises i all.low (length drawn) (omega (arith, all.most, prefix_length h.sent drawn sent))) in
     let e : map (λ i. get_or drawn i nothing) a.positions.items ≡ drawops (chosen is_taken (entries c.log)) =
-      ap (map (λ i. get_or drawn i nothing)) c.tells.positions ∙ sym (taken_at drawn c.log (crew_offers h.sent drawn sent right c.crew)) in
+    ap (map (λ i. get_or drawn i nothing)) c.tells.positions ∙ sym (taken_at drawn c.log (crew_offers h.sent drawn sent right c.crew)) in
     record {
       moved = subst (λ l. IsPermutation drawn (l ++ unmarked ms drawn)) e (places_and_rest drawn a.positions.items ms m most);
       low = all.low;
@@ -92,7 +92,7 @@ takes_all rows n p q r g h a drawn ms t b c whole one sp sq sr m e =
     let retaken = drawops (chosen is_taken more) in
     let rest : IsPermutation (unmarked ms drawn) (retaken ++ lefts) = subst (λ l. IsPermutation l (retaken ++ lefts)) m.all (taken_or_left more) in
     let both : IsPermutation drawn ((taken ++ retaken) ++ lefts) = subst (λ l. IsPermutation drawn l) (sym (append_assoc taken retaken lefts))
-      (IsPermutation-trans drawn (taken ++ unmarked ms drawn) (taken ++ (retaken ++ lefts)) whole.moved (IsPermutation-append_right taken (unmarked ms drawn) (retaken ++ lefts) rest)) in
+    (IsPermutation-trans drawn (taken ++ unmarked ms drawn) (taken ++ (retaken ++ lefts)) whole.moved (IsPermutation-append_right taken (unmarked ms drawn) (retaken ++ lefts) rest)) in
     let in_all : drawops (chosen is_taken all) ≡ taken ++ retaken = ap drawops (chosen-append is_taken log more) ∙ drawops-append (chosen is_taken log) (chosen is_taken more) in
     let moved : IsPermutation drawn (drawops (chosen is_taken all) ++ lefts) = subst (λ l. IsPermutation drawn (l ++ lefts)) (sym in_all) both in
     let many = length_permutation drawn (drawops (chosen is_taken all) ++ lefts) moved in
@@ -104,16 +104,29 @@ takes_all rows n p q r g h a drawn ms t b c whole one sp sq sr m e =
       full = λ some. none (omega (arith, left'));
       whole = stays_whole p r all gs;
       settled = λ w.
-        let s = settles p r all drawn lefts sp w sr gs moved (left_lacks q r more sr (stays_whole p r all gs w) m.runs) none in
-        record { order = s.order; moved = s.moved; taken = counted_as p.cells p.seen r.seen s.order (counts (tally all).fresh (tally all).again (tally all).clash (length lefts)) (counts_in b) (same_counts fresh again clash left') s.taken };
+          let s = settles p r all drawn lefts sp w sr gs moved (left_lacks q r more sr (stays_whole p r all gs w) m.runs) none in
+          record { order = s.order; moved = s.moved; taken = counted_as p.cells p.seen r.seen s.order (counts (tally all).fresh (tally all).again (tally all).clash (length lefts)) (counts_in b) (same_counts fresh again clash left') s.taken };
       in_order = λ is w.
-        counted_as p.cells p.seen r.seen drawn (counts (tally all).fresh (tally all).again (tally all).clash (tally more).left) (counts_in b) (same_counts fresh again clash left)
-        (in_given_order r more drawn ms (one is) sp w sq sr (subst (λ (k : ℕ). Crew rows k p c.log c.gots q) is c.crew) (crew_gathers c.crew) gs m.runs m.all whole.most whole.once whole.right whole.marks);
+          counted_as p.cells p.seen r.seen drawn (counts (tally all).fresh (tally all).again (tally all).clash (tally more).left) (counts_in b) (same_counts fresh again clash left)
+          (in_given_order r more drawn ms (one is) sp w sq sr (subst (λ (k : ℕ). Crew rows k p c.log c.gots q) is c.crew) (crew_gathers c.crew) gs m.runs m.all whole.most whole.once whole.right whole.marks);
     }
 
 pub total_few : (rows n : ℕ) (p q r : PassValue) (g h : Hand) (a : Accepted) (drawn : List DrawopValue) (ms : List Bool) (t : Batch) (c : Crewed rows n p g h q a) → Whole drawn ms c.log c.gots → Retakes q (unmarked ms drawn) r t
     → (((a.fresh + t.fresh) + (a.again + t.again)) + (a.clash + t.clash)) + t.left ≤ length drawn
 total_few rows n p q r g h a drawn ms t c whole m =
     let taken = drawops (chosen is_taken (entries c.log)) in
-    omega (arith, length_permutation drawn (taken ++ unmarked ms drawn) whole.moved, length-append taken (unmarked ms drawn), taken_many (entries c.log), ap length m.all, tally_all m.log,
-      c.tells.fresh, c.tells.again, c.tells.clash, m.tallies.fresh, m.tallies.again, m.tallies.clash, m.tallies.left)
+    omega (
+      arith,
+      length_permutation drawn (taken ++ unmarked ms drawn) whole.moved,
+      length-append taken (unmarked ms drawn),
+      taken_many (entries c.log),
+      ap length m.all,
+      tally_all m.log,
+      c.tells.fresh,
+      c.tells.again,
+      c.tells.clash,
+      m.tallies.fresh,
+      m.tallies.again,
+      m.tallies.clash,
+      m.tallies.left,
+    )

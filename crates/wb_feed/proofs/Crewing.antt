@@ -4,8 +4,8 @@ use Rattle.std.proofs.lemmas.List.{append-nil}
 use mathlib.Core.List.{IsPrefix}
 use Rattle.wb_history.specs.Passes.{PassValue, IsSamePass}
 use Rattle.wb_history.specs.Sharing.{IsSplit, IsJoined}
-use Rattle.wb_feed.specs.Accepts.{tally}
-use Rattle.wb_feed.proofs.Log.{tally-append}
+use Rattle.wb_feed.specs.Accepts.{Keeps, tally}
+use Rattle.wb_feed.proofs.Log.{keeps_trans, split_keeps, tally-append}
 use Rattle.wb_feed.specs.declared.message.Message.{Message}
 use Rattle.wb_feed.specs.declared.line.Hand.{Hand}
 use Rattle.wb_feed.specs.declared.worker.Accepted.{Accepted}
@@ -53,3 +53,8 @@ crewed_more rows n m v x y w u₀ u g k i j h a b both failed next some cut p s 
 pub counts_fit : (v w x y : PassValue) (rows n : ℕ) (j k i : Hand) (a b : Accepted) (failed : Bool) → n ≤ 8 → Served v w j a failed → failed ≡ false → Crewed rows n x k i y b
     → ((a.fresh + a.again) + a.clash < 2 ^ 62) × ((b.fresh + b.again) + b.clash < 2 ^ 62)
 counts_fit v w x y rows n j k i a b failed le s fine c = let t = s.took fine in (omega (arith, t.few), omega (arith, c.few, le))
+
+-- a desk that was split, lent to the other workers, and took a worker's desk back
+pub keeps_level : (p rest back q desk done : PassValue) (rows : ℕ) → IsSplit p rows rest desk → Keeps rest back → IsSamePass back q → IsJoined back done q → Keeps p q
+keeps_level p rest back q desk done rows s k same j =
+    keeps_trans p rest q (split_keeps p rest desk rows s) (keeps_trans rest back q k (record { same = same; seen = j.first }))

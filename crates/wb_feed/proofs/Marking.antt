@@ -44,7 +44,7 @@ pub rest_skip : (p q : PassValue) (ms : List Bool) (ds : List DrawopValue) (i : 
     → RestSoFar p ms ds (i + 1) q b
 rest_skip p q ms ds i b z lt e marked h =
     let same : unmarked (take (i + 1) ms) (take (i + 1) ds) ≡ unmarked (take i ms) (take i ds) =
-      unmarked-take ms ds i z lt e ∙ (ap (λ c. unmarked (take i ms) (take i ds) ++ cond c [] (get_or ds i z ∷ [])) marked ∙ append-nil (unmarked (take i ms) (take i ds))) in
+    unmarked-take ms ds i z lt e ∙ (ap (λ c. unmarked (take i ms) (take i ds) ++ cond c [] (get_or ds i z ∷ [])) marked ∙ append-nil (unmarked (take i ms) (take i ds))) in
     record { taken = subst (λ l. Retakes p l q b) (sym same) h.taken; few = omega (arith, h.few) }
 
 one_kind : (o : Outcome) → (counts_of (o ∷ [])).fresh + (counts_of (o ∷ [])).again + (counts_of (o ∷ [])).clash + (counts_of (o ∷ [])).left ≡ 1
@@ -60,7 +60,7 @@ rest_more p q r ms ds i b c d lt e free is h one =
     let k = h.taken in
     let sum = tally-append k.log ((d, o) ∷ []) in
     let same : unmarked (take (i + 1) ms) (take (i + 1) ds) ≡ unmarked (take i ms) (take i ds) ++ d ∷ [] =
-      unmarked-take ms ds i d lt e ∙ (ap (λ c. unmarked (take i ms) (take i ds) ++ cond c [] (get_or ds i d ∷ [])) free ∙ ap (λ x. unmarked (take i ms) (take i ds) ++ x ∷ []) (sym is)) in
+    unmarked-take ms ds i d lt e ∙ (ap (λ c. unmarked (take i ms) (take i ds) ++ cond c [] (get_or ds i d ∷ [])) free ∙ ap (λ x. unmarked (take i ms) (take i ds) ++ x ∷ []) (sym is)) in
     record {
       taken = record {
         log = k.log ++ (d, o) ∷ [];
@@ -113,8 +113,8 @@ pub marks_past : (ps : List ℕ) (i n : ℕ) (ms : List Bool) → i < length ps 
 marks_past ps i n ms lt past h = record {
   long = h.long;
   each = λ p small.
-    let no' : (get_or ps i 0 == p) ≡ false = test_apart (get_or ps i 0) p (λ e. absurd (omega (arith, e, past, small))) in
-    h.each p small ∙ sym (has_more ps i p lt ∙ (ap (λ b. has p (take i ps) || (b || false)) no' ∙ or_false (has p (take i ps))));
+      let no' : (get_or ps i 0 == p) ≡ false = test_apart (get_or ps i 0) p (λ e. absurd (omega (arith, e, past, small))) in
+      h.each p small ∙ sym (has_more ps i p lt ∙ (ap (λ b. has p (take i ps) || (b || false)) no' ∙ or_false (has p (take i ps))));
 }
 
 pub marks_more : (ps : List ℕ) (i n : ℕ) (ms : List Bool) → i < length ps → get_or ps i 0 < n → Marks (take i ps) n ms → Marks (take (i + 1) ps) n (set ms (get_or ps i 0) true)
@@ -124,8 +124,8 @@ marks_more ps i n ms lt small h =
     record {
       long = length-set ms q true ∙ h.long;
       each = λ p under. ⊎_elim
-        (λ (e : p ≡ q). ap (λ k. get_or (set ms q true) k false) e ∙ (get_or-set_same ms q true false room
+          (λ (e : p ≡ q). ap (λ k. get_or (set ms q true) k false) e ∙ (get_or-set_same ms q true false room
           ∙ sym (has_more ps i p lt ∙ (ap (λ b. has p (take i ps) || (b || false)) (test_same q p (sym e)) ∙ or_true (has p (take i ps))))))
-        (λ (d : p ≢ q). get_or-set_other ms q p true false d ∙ (h.each p under
+          (λ (d : p ≢ q). get_or-set_other ms q p true false d ∙ (h.each p under
           ∙ sym (has_more ps i p lt ∙ (ap (λ b. has p (take i ps) || (b || false)) (test_apart q p (λ e. d (sym e))) ∙ or_false (has p (take i ps)))))) (dec_same p q);
     }

@@ -24,7 +24,7 @@ without n (x ∷ xs) = cond (x == n) (without n xs) (x ∷ without n xs)
 length-without : (n : ℕ) (xs : List ℕ) → length xs ≡ times n xs + length (without n xs)
 length-without n [] = refl
 length-without n (x ∷ xs) = elim (x == n) as (λ b. suc (length xs) ≡ (cond b 1 0 + times n xs) + length (cond b (without n xs) (x ∷ without n xs)))
-  [ true ↦ omega (arith, length-without n xs) | false ↦ omega (arith, length-without n xs) ]
+    [ true ↦ omega (arith, length-without n xs) | false ↦ omega (arith, length-without n xs) ]
 
 times_apart : (p x : ℕ) (xs : List ℕ) → p ≢ x → times p (x ∷ xs) ≡ times p xs
 times_apart p x xs apart = grind (arith, nat_tests)
@@ -78,8 +78,8 @@ pub few_below : (n : ℕ) (xs : List ℕ) → ((p : ℕ) → times p xs ≤ once
 few_below zero xs h = let e : xs ≡ [] = no_times xs (λ p. omega (arith, h p, once_zero p)) in omega (arith, ap length e)
 few_below (suc n) xs h =
     let rest = few_below n (without n xs) (λ p. ⊎_elim
-      (λ (e : p ≡ n). omega (arith, ap (λ k. times k (without n xs)) e, times_gone n xs))
-      (λ (d : p ≢ n). omega (arith, times-without n p xs d, h p, once_suc p n d)) (dec_same p n)) in
+    (λ (e : p ≡ n). omega (arith, ap (λ k. times k (without n xs)) e, times_gone n xs))
+    (λ (d : p ≢ n). omega (arith, times-without n p xs d, h p, once_suc p n d)) (dec_same p n)) in
     omega (arith, length-without n xs, rest, h n, once_last n)
 
 -- and where they are n, all are there
@@ -87,8 +87,8 @@ pub all_below : (n : ℕ) (xs : List ℕ) → ((p : ℕ) → times p xs ≤ once
 all_below zero xs h many p = omega (arith, h p, once_zero p)
 all_below (suc n) xs h many p =
     let below : (q : ℕ) → times q (without n xs) ≤ once_below q n = λ q. ⊎_elim
-      (λ (e : q ≡ n). omega (arith, ap (λ k. times k (without n xs)) e, times_gone n xs))
-      (λ (d : q ≢ n). omega (arith, times-without n q xs d, h q, once_suc q n d)) (dec_same q n) in
+    (λ (e : q ≡ n). omega (arith, ap (λ k. times k (without n xs)) e, times_gone n xs))
+    (λ (d : q ≢ n). omega (arith, times-without n q xs d, h q, once_suc q n d)) (dec_same q n) in
     let few = few_below n (without n xs) below in
     let one : times n xs ≡ 1 = omega (arith, h n, once_last n, few, length-without n xs) in
     ⊎_elim (λ (e : p ≡ n). rw e (one ∙ sym (once_last n)))
@@ -142,6 +142,6 @@ each_once n (x ∷ xs) low apart p =
     let here : x < n = All-head (λ (x : ℕ). x < n) x xs low in
     ⊎_elim
     (λ (e : p ≡ x).
-      let none : times x xs ≡ 0 = absent x xs (first_apart x xs apart) in
-      subst (λ (q : ℕ). times q (x ∷ xs) ≤ once_below q n) (sym e) (omega (arith, times_here x xs, none, below_once x n here)))
+    let none : times x xs ≡ 0 = absent x xs (first_apart x xs apart) in
+    subst (λ (q : ℕ). times q (x ∷ xs) ≤ once_below q n) (sym e) (omega (arith, times_here x xs, none, below_once x n here)))
     (λ (d : p ≢ x). omega (arith, rest, times_apart p x xs d)) (dec_same p x)

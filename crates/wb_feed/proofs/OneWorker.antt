@@ -58,14 +58,14 @@ pub record Split (ss : List Spot) (ds : List DrawopValue) (ms : List Bool) : Typ
   pub left : unmarked ms ds ≡ drawops (chosen is_left (entries ss)) ++ rest
 
 -- the first position that was received is the next one
-first_is : (p k low : ℕ) (d : DrawopValue) (xs : List (ℕ × DrawopValue)) → Rises k ((p , d) ∷ xs) → ((q : ℕ) → k ≤ q → pair_times q ((p , d) ∷ xs) ≡ once_below q low) → (p ≡ k) × (k < low)
+first_is : (p k low : ℕ) (d : DrawopValue) (xs : List (ℕ × DrawopValue)) → Rises k ((p, d) ∷ xs) → ((q : ℕ) → k ≤ q → pair_times q ((p, d) ∷ xs) ≡ once_below q low) → (p ≡ k) × (k < low)
 first_is p k low d xs rise once =
     let mine : cond (p == p) 1 0 ≡ suc zero = ap (λ b. cond b 1 (zero)) (same_test p p refl) in
     let under : p < low = ⊎_elim (λ (h : p < low). h) (λ (h : low ≤ p). absurd (omega (arith, once p rise.0, mine, once_past p low h))) (cases_lt p low) in
     ⊎_elim
     (λ (h : k < p).
-      let none : pair_times k ((p , d) ∷ xs) ≡ 0 = ap (λ b. cond b 1 0 + pair_times k xs) (apart_test p k (λ e. absurd (omega (arith, e, h)))) ∙ (zero_plus (pair_times k xs) ∙ rises_none (p + 1) k xs (omega (arith, h)) rise.1) in
-      absurd (omega (arith, once k (omega arith), none, once_under k low (omega (arith, h, under)))))
+    let none : pair_times k ((p, d) ∷ xs) ≡ 0 = ap (λ b. cond b 1 0 + pair_times k xs) (apart_test p k (λ e. absurd (omega (arith, e, h)))) ∙ (zero_plus (pair_times k xs) ∙ rises_none (p + 1) k xs (omega (arith, h)) rise.1) in
+    absurd (omega (arith, once k (omega arith), none, once_under k low (omega (arith, h, under)))))
     (λ (h : p ≤ k). let e : p ≡ k = omega (arith, h, rise.0) in (e, omega (arith, e, under))) (cases_lt k p)
 
 cases : (b : Bool) → (b ≡ true) ⊎ (b ≡ false)
@@ -85,9 +85,9 @@ has_false p (q ∷ ps) h =
 none_left : (k p : ℕ) (ss : List Spot) → p ≤ k → Rises (k + 1) (offered ss) → has p (accepted_at ss) ≡ false
 none_left k p ss le rise = has_false p (accepted_at ss) (omega (arith, accepted_few p ss, rises_none (k + 1) p (offered ss) (omega (arith, le)) rise))
 
-once_next : (p k low : ℕ) (d : DrawopValue) (xs : List (ℕ × DrawopValue)) → p ≡ k → ((q : ℕ) → k ≤ q → pair_times q ((p , d) ∷ xs) ≡ once_below q low) → (q : ℕ) → k + 1 ≤ q → pair_times q xs ≡ once_below q low
+once_next : (p k low : ℕ) (d : DrawopValue) (xs : List (ℕ × DrawopValue)) → p ≡ k → ((q : ℕ) → k ≤ q → pair_times q ((p, d) ∷ xs) ≡ once_below q low) → (q : ℕ) → k + 1 ≤ q → pair_times q xs ≡ once_below q low
 once_next p k low d xs here once q le =
-    let t : pair_times q ((p , d) ∷ xs) ≡ pair_times q xs = ap (λ b. cond b 1 0 + pair_times q xs) (apart_test p q (λ e. absurd (omega (arith, e, here, le)))) ∙ zero_plus (pair_times q xs) in
+    let t : pair_times q ((p, d) ∷ xs) ≡ pair_times q xs = ap (λ b. cond b 1 0 + pair_times q xs) (apart_test p q (λ e. absurd (omega (arith, e, here, le)))) ∙ zero_plus (pair_times q xs) in
     sym t ∙ once q (omega (arith, le))
 
 regroup : (k j : ℕ) → k + suc j ≡ k + 1 + j
@@ -99,59 +99,57 @@ Marked k ms ss = (j : ℕ) → j < length ms → get_or ms j false ≡ has (k + 
 pub split_from : (whole : List DrawopValue) (low : ℕ) (pre ds : List DrawopValue) (k : ℕ) (ms : List Bool) (ss : List Spot) → k ≡ length pre → pre ++ ds ≡ whole → length ms ≡ length ds → low ≤ length whole
     → Rises k (offered ss) → ((p : ℕ) → k ≤ p → pair_times p (offered ss) ≡ once_below p low) → OffersRight whole (offered ss) → Marked k ms ss → Split ss ds ms
 split_from whole low pre ds k ms [] at is long most rise once right mark = record { rest = ds; all = refl; left = all_unmarked ms ds long mark }
-split_from whole low pre [] k ms ((p , (d , o)) ∷ ss) at is long most rise once right mark =
+split_from whole low pre [] k ms ((p, (d, o)) ∷ ss) at is long most rise once right mark =
     let f = first_is p k low d (offered ss) rise once in absurd (omega (arith, f.1, most, at, ap length is, length-append pre []))
-split_from whole low pre (a ∷ ds) k [] ((p , (d , o)) ∷ ss) at is long most rise once right mark = absurd (omega (arith, long))
-split_from whole low pre (a ∷ ds) k (m ∷ ms) ((p , (d , Left)) ∷ ss) at is long most rise once right mark =
+split_from whole low pre (a ∷ ds) k [] ((p, (d, o)) ∷ ss) at is long most rise once right mark = absurd (omega (arith, long))
+split_from whole low pre (a ∷ ds) k (m ∷ ms) ((p, (d, Left)) ∷ ss) at is long most rise once right mark =
     let f = first_is p k low d (offered ss) rise once in
     let same : a ≡ d = slice_mid pre ds a d k at (ap₂ (λ l n. slice_get l n) is (sym f.0) ∙ right.0) in
     let rise' : Rises (k + 1) (offered ss) = subst (λ n. Rises (n + 1) (offered ss)) f.0 rise.1 in
     let r = split_from whole low (pre ++ a ∷ []) ds (k + 1) ms ss (omega (arith, at, length-append pre (a ∷ []))) (append_assoc pre (a ∷ []) ds ∙ is) (omega (arith, long)) most rise'
-        (once_next p k low d (offered ss) f.0 once) right.1 (λ j lt. mark (suc j) (omega (arith, lt)) ∙ ap (λ n. has n (accepted_at ss)) (regroup k j)) in
+    (once_next p k low d (offered ss) f.0 once) right.1 (λ j lt. mark (suc j) (omega (arith, lt)) ∙ ap (λ n. has n (accepted_at ss)) (regroup k j)) in
     let open' : m ≡ false = mark 0 (omega arith) ∙ none_left k (k + 0) ss (omega arith) rise' in
     record {
       rest = r.rest;
       all = ap₂ (λ x xs. x ∷ xs) same r.all;
       left = ap (λ b. cond b (unmarked ms ds) (a ∷ unmarked ms ds)) open' ∙ ap₂ (λ x xs. x ∷ xs) same r.left;
     }
-split_from whole low pre (a ∷ ds) k (m ∷ ms) ((p , (d , Fresh i)) ∷ ss) at is long most rise once right mark =
+split_from whole low pre (a ∷ ds) k (m ∷ ms) ((p, (d, Fresh i)) ∷ ss) at is long most rise once right mark =
     let f = first_is p k low d (offered ss) rise once in
     let same : a ≡ d = slice_mid pre ds a d k at (ap₂ (λ l n. slice_get l n) is (sym f.0) ∙ right.0) in
     let rise' : Rises (k + 1) (offered ss) = subst (λ n. Rises (n + 1) (offered ss)) f.0 rise.1 in
     let next : Marked (k + 1) ms ss = λ j lt.
-      mark (suc j) (omega (arith, lt)) ∙ (ap (λ b. b || has (k + suc j) (accepted_at ss)) (apart_test p (k + suc j) (λ e. absurd (omega (arith, e, f.0)))) ∙ ap (λ n. has n (accepted_at ss)) (regroup k j)) in
+    mark (suc j) (omega (arith, lt)) ∙ (ap (λ b. b || has (k + suc j) (accepted_at ss)) (apart_test p (k + suc j) (λ e. absurd (omega (arith, e, f.0)))) ∙ ap (λ n. has n (accepted_at ss)) (regroup k j)) in
     let r = split_from whole low (pre ++ a ∷ []) ds (k + 1) ms ss (omega (arith, at, length-append pre (a ∷ []))) (append_assoc pre (a ∷ []) ds ∙ is) (omega (arith, long)) most rise'
-        (once_next p k low d (offered ss) f.0 once) right.1 next in
+    (once_next p k low d (offered ss) f.0 once) right.1 next in
     let shut' : m ≡ true = mark 0 (omega arith) ∙ ap (λ b. b || has (k + 0) (accepted_at ss)) (same_test p (k + 0) (omega (arith, f.0))) in
     record {
       rest = r.rest;
       all = ap₂ (λ x xs. x ∷ xs) same r.all;
       left = ap (λ b. cond b (unmarked ms ds) (a ∷ unmarked ms ds)) shut' ∙ r.left;
     }
-
-split_from whole low pre (a ∷ ds) k (m ∷ ms) ((p , (d , Known i)) ∷ ss) at is long most rise once right mark =
+split_from whole low pre (a ∷ ds) k (m ∷ ms) ((p, (d, Known i)) ∷ ss) at is long most rise once right mark =
     let f = first_is p k low d (offered ss) rise once in
     let same : a ≡ d = slice_mid pre ds a d k at (ap₂ (λ l n. slice_get l n) is (sym f.0) ∙ right.0) in
     let rise' : Rises (k + 1) (offered ss) = subst (λ n. Rises (n + 1) (offered ss)) f.0 rise.1 in
     let next : Marked (k + 1) ms ss = λ j lt.
-      mark (suc j) (omega (arith, lt)) ∙ (ap (λ b. b || has (k + suc j) (accepted_at ss)) (apart_test p (k + suc j) (λ e. absurd (omega (arith, e, f.0)))) ∙ ap (λ n. has n (accepted_at ss)) (regroup k j)) in
+    mark (suc j) (omega (arith, lt)) ∙ (ap (λ b. b || has (k + suc j) (accepted_at ss)) (apart_test p (k + suc j) (λ e. absurd (omega (arith, e, f.0)))) ∙ ap (λ n. has n (accepted_at ss)) (regroup k j)) in
     let r = split_from whole low (pre ++ a ∷ []) ds (k + 1) ms ss (omega (arith, at, length-append pre (a ∷ []))) (append_assoc pre (a ∷ []) ds ∙ is) (omega (arith, long)) most rise'
-        (once_next p k low d (offered ss) f.0 once) right.1 next in
+    (once_next p k low d (offered ss) f.0 once) right.1 next in
     let shut' : m ≡ true = mark 0 (omega arith) ∙ ap (λ b. b || has (k + 0) (accepted_at ss)) (same_test p (k + 0) (omega (arith, f.0))) in
     record {
       rest = r.rest;
       all = ap₂ (λ x xs. x ∷ xs) same r.all;
       left = ap (λ b. cond b (unmarked ms ds) (a ∷ unmarked ms ds)) shut' ∙ r.left;
     }
-
-split_from whole low pre (a ∷ ds) k (m ∷ ms) ((p , (d , Clashed i)) ∷ ss) at is long most rise once right mark =
+split_from whole low pre (a ∷ ds) k (m ∷ ms) ((p, (d, Clashed i)) ∷ ss) at is long most rise once right mark =
     let f = first_is p k low d (offered ss) rise once in
     let same : a ≡ d = slice_mid pre ds a d k at (ap₂ (λ l n. slice_get l n) is (sym f.0) ∙ right.0) in
     let rise' : Rises (k + 1) (offered ss) = subst (λ n. Rises (n + 1) (offered ss)) f.0 rise.1 in
     let next : Marked (k + 1) ms ss = λ j lt.
-      mark (suc j) (omega (arith, lt)) ∙ (ap (λ b. b || has (k + suc j) (accepted_at ss)) (apart_test p (k + suc j) (λ e. absurd (omega (arith, e, f.0)))) ∙ ap (λ n. has n (accepted_at ss)) (regroup k j)) in
+    mark (suc j) (omega (arith, lt)) ∙ (ap (λ b. b || has (k + suc j) (accepted_at ss)) (apart_test p (k + suc j) (λ e. absurd (omega (arith, e, f.0)))) ∙ ap (λ n. has n (accepted_at ss)) (regroup k j)) in
     let r = split_from whole low (pre ++ a ∷ []) ds (k + 1) ms ss (omega (arith, at, length-append pre (a ∷ []))) (append_assoc pre (a ∷ []) ds ∙ is) (omega (arith, long)) most rise'
-        (once_next p k low d (offered ss) f.0 once) right.1 next in
+    (once_next p k low d (offered ss) f.0 once) right.1 next in
     let shut' : m ≡ true = mark 0 (omega arith) ∙ ap (λ b. b || has (k + 0) (accepted_at ss)) (same_test p (k + 0) (omega (arith, f.0))) in
     record {
       rest = r.rest;
@@ -248,15 +246,15 @@ phases v x u₀ u w z es more rest all sv hv sw sz parts runs back gw gz run spl
     let left : (tally more).left ≡ (tally es).left + (tally s.back).left = ap (λ l. (tally l).left) s.all ∙ omega (arith, parted.left, c.left) in
     let more_long : length z.seen ≡ length s.mid.seen + (tally s.back).fresh = omega (arith, gz.many, gw.many, oz.many, ow.many, both.fresh, fresh, ap length c.seen) in
     let second = in_order v.cells z.seen s.mid z s.back sz.history (omega (arith, sz.room, gz.kept.same.1)) s.on (prefix_self z.seen) more_long
-        (λ some. omega (arith, runs_empty s.mid z s.back s.on some, hz, oz.many, gz.kept.same.1)) in
+    (λ some. omega (arith, runs_empty s.mid z s.back s.on some, hz, oz.many, gz.kept.same.1)) in
     let one : IsBatch v.cells v.seen (drawops es) w.seen (tally es) =
-      subst (λ l. IsBatch v.cells l (drawops es) w.seen (tally es)) parts.seen (outcomes es, first.taken, refl) in
+    subst (λ l. IsBatch v.cells l (drawops es) w.seen (tally es)) parts.seen (outcomes es, first.taken, refl) in
     let two : IsBatch v.cells w.seen rest z.seen (tally s.back) =
-      subst (λ (k : List DrawopValue × List DrawopValue). IsBatch v.cells k.0 k.1 z.seen (tally s.back)) (λ i. (sym c.seen i, s.second i)) (outcomes s.back, second.taken, refl) in
+    subst (λ (k : List DrawopValue × List DrawopValue). IsBatch v.cells k.0 k.1 z.seen (tally s.back)) (λ i. (sym c.seen i, s.second i)) (outcomes s.back, second.taken, refl) in
     subst (λ l. IsBatch v.cells v.seen l z.seen (counts (tally (es ++ more)).fresh (tally (es ++ more)).again (tally (es ++ more)).clash (tally more).left)) (sym whole')
     (counted_as v.cells v.seen z.seen (drawops es ++ rest) (plus (tally es) (tally s.back)) (counts (tally (es ++ more)).fresh (tally (es ++ more)).again (tally (es ++ more)).clash (tally more).left)
-      (same_counts (omega (arith, both.fresh, fresh)) (omega (arith, both.again, again)) (omega (arith, both.clash, clash)) (sym left))
-      (both_batches v.cells v.seen w.seen z.seen (drawops es) rest (tally es) (tally s.back) one two))
+    (same_counts (omega (arith, both.fresh, fresh)) (omega (arith, both.again, again)) (omega (arith, both.clash, clash)) (sym left))
+    (both_batches v.cells v.seen w.seen z.seen (drawops es) rest (tally es) (tally s.back) one two))
 
 -- one worker, through the channel
 pub in_given_order : {rows low : ℕ} {v w : PassValue} {log : List Spot} {gots : List Message} → (z : PassValue) (more : List Entry) (all : List DrawopValue) (ms : List Bool) → rows ≡ v.free → IsSound v → IsWhole v → IsSound w → IsSound z
@@ -272,6 +270,6 @@ in_given_order z more all ms given sv hv sw sz (worker {p = v} {rest = x} {q = w
     let rise' : Rises 0 (offered es) = subst (λ l. Rises 0 l) (sym o) rise in
     let marks' : Marks (accepted_at es) (length all) ms = subst (λ l. Marks (accepted_at l) (length all) ms) e marks in
     let s = split_from all _ [] all 0 ms es refl refl marks'.long most rise' (λ q _. ap (pair_times q) o ∙ (takes_spots q got ∙ once q)) right'
-        (λ i lt. marks'.each i (omega (arith, lt, marks'.long)) ∙ ap (λ n. has n (accepted_at es)) (sym (zero_plus i))) in
+    (λ i lt. marks'.each i (omega (arith, lt, marks'.long)) ∙ ap (λ n. has n (accepted_at es)) (sym (zero_plus i))) in
     subst (λ l. IsBatch v.cells v.seen all z.seen (counts (tally (entries l ++ more)).fresh (tally (entries l ++ more)).again (tally (entries l ++ more)).clash (tally more).left)) (sym e)
     (phases v x u₀ u w z (entries es) more s.rest all sv hv sw sz parts r j gw' gz' run (again' ∙ s.left) s.all)

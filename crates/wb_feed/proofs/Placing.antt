@@ -86,12 +86,12 @@ free_at p k (suc j) (m ∷ ms) e lt =
 pub has_not : (p : ℕ) (ps : List ℕ) → has p ps ≡ false → times p ps ≡ 0
 has_not p [] h = refl
 has_not p (q ∷ ps) h = elim (q == p) as (λ b. (b || has p ps) ≡ false → cond b 1 0 + times p ps ≡ zero)
-  [ true ↦ λ e. absurd (true≢false e) | false ↦ λ e. zero_plus (times p ps) ∙ has_not p ps e ] h
+    [ true ↦ λ e. absurd (true≢false e) | false ↦ λ e. zero_plus (times p ps) ∙ has_not p ps e ] h
 
 has_some : (p : ℕ) (ps : List ℕ) → has p ps ≡ true → (times p ps ≡ 0 → ⊥)
 has_some p [] h = absurd (true≢false (sym h))
 has_some p (q ∷ ps) h = elim (q == p) as (λ b. (b || has p ps) ≡ true → (cond b 1 0 + times p ps ≡ zero → ⊥))
-  [ true ↦ λ e z. absurd (omega (arith, z)) | false ↦ λ e z. has_some p ps e (sym (zero_plus (times p ps)) ∙ z) ] h
+    [ true ↦ λ e z. absurd (omega (arith, z)) | false ↦ λ e z. has_some p ps e (sym (zero_plus (times p ps)) ∙ z) ] h
 
 pub once_under : (p n : ℕ) → p < n → once_below p n ≡ 1
 once_under p n h = grind (arith, nat_tests)
@@ -109,11 +109,11 @@ order_cases p n = cases_lt p n
 each_once : (ps : List ℕ) (n : ℕ) (ms : List Bool) (p : ℕ) → Marks ps n ms → times p ps ≤ once_below p n → times p ps + times p (free_places 0 ms) ≡ once_below p n
 each_once ps n ms p m most = ⊎_elim
     (λ (lt : p < n).
-      let free = free_at p 0 p ms (sym (zero_plus p)) (omega (arith, lt, m.long)) in
-      let mark = m.each p lt in
-      ⊎_elim
-      (λ (e : has p ps ≡ true). omega (arith, free ∙ ap (λ b. cond b 0 1) (mark ∙ e), has_some p ps e, most, once_under p n lt))
-      (λ (e : has p ps ≡ false). omega (arith, free ∙ ap (λ b. cond b 0 1) (mark ∙ e), has_not p ps e, once_under p n lt)) (bool_cases (has p ps)))
+    let free = free_at p 0 p ms (sym (zero_plus p)) (omega (arith, lt, m.long)) in
+    let mark = m.each p lt in
+    ⊎_elim
+    (λ (e : has p ps ≡ true). omega (arith, free ∙ ap (λ b. cond b 0 1) (mark ∙ e), has_some p ps e, most, once_under p n lt))
+    (λ (e : has p ps ≡ false). omega (arith, free ∙ ap (λ b. cond b 0 1) (mark ∙ e), has_not p ps e, once_under p n lt)) (bool_cases (has p ps)))
     (λ (le : n ≤ p). omega (arith, free_high p 0 ms (omega (arith, le, m.long)), most, once_past p n le)) (order_cases p n)
 
 -- what stands at the places, and what is not marked, is the whole list
@@ -124,7 +124,7 @@ places_and_rest ds ps ms m most =
     let at = λ (i : ℕ). get_or ds i nothing in
     let free = free_places 0 ms in
     let all : IsPermutation (range_with_len 0 n) (ps ++ free) =
-      IsPermutation-times (range_with_len 0 n) (ps ++ free) (λ p. omega (arith, times-range p 0 n, times-append p ps free, each_once ps n ms p m (most p), once_past p 0 (omega arith), ap (λ k. once_below p k) (zero_plus n))) in
+    IsPermutation-times (range_with_len 0 n) (ps ++ free) (λ p. omega (arith, times-range p 0 n, times-append p ps free, each_once ps n ms p m (most p), once_past p 0 (omega arith), ap (λ k. once_below p k) (zero_plus n))) in
     let whole : map at (range_with_len 0 n) ≡ ds = map_range [] ds 0 refl in
     let rest : unmarked ms ds ≡ map at free = unmarked_at [] ds ms 0 refl m.long in
     let moved : IsPermutation ds (map at (ps ++ free)) = subst (λ l. IsPermutation l (map at (ps ++ free))) whole (IsPermutation-map at (range_with_len 0 n) (ps ++ free) all) in

@@ -15,19 +15,21 @@ use Rattle.wb_feed.specs.Sent.{IsNext, IsSent, IsDrawn, DrawsOne}
 abbrev pub Stays : Hand → Hand → Type 0
 Stays h i = (i.parts ≡ h.parts) × (i.got ≡ h.got)
 
-pub drawn_none : (old : List DrawopValue) (most : ℕ) (was : List DrawopValue) → IsDrawn old most was old most was
-drawn_none old most was = record { all = refl; few = omega arith }
+pub drawn_none : (given : List DrawopValue) (most : ℕ) (was : List DrawopValue) → IsDrawn given most was given most was
+drawn_none given most was = record { more = []; next = sym (append-nil given); all = sym (append-nil was); few = omega arith }
 
-pub drawn_more : (old : List DrawopValue) (most : ℕ) (was new : List DrawopValue) (most' : ℕ) (drawn rest : List DrawopValue) (most'' : ℕ) (more : List DrawopValue) (x : Message)
-    → IsDrawn old most was new most' drawn → DrawsOne new most' drawn rest most'' more x → IsDrawn old most was rest most'' more
-drawn_more old most was new most' drawn rest most'' more x d s = record {
-  all = d.all ∙ (ap (λ l. drawn ++ l) s.next ∙ (sym (append_assoc drawn (s.drawop ∷ []) rest) ∙ ap (λ l. l ++ rest) (sym s.all)));
+pub drawn_more : (given : List DrawopValue) (most : ℕ) (was given' : List DrawopValue) (most' : ℕ) (drawn given'' : List DrawopValue) (most'' : ℕ) (drawn' : List DrawopValue) (x : Message)
+    → IsDrawn given most was given' most' drawn → DrawsOne given' most' drawn given'' most'' drawn' x → IsDrawn given most was given'' most'' drawn'
+drawn_more given most was given' most' drawn given'' most'' drawn' x d s = record {
+  more = d.more ++ s.drawop ∷ [];
+  next = s.next ∙ (ap (λ l. l ++ s.drawop ∷ []) d.next ∙ append_assoc given d.more (s.drawop ∷ []));
+  all = s.all ∙ (ap (λ l. l ++ s.drawop ∷ []) d.all ∙ append_assoc was d.more (s.drawop ∷ []));
   few = omega (arith, d.few, s.nearer, ap length s.all, length-append drawn (s.drawop ∷ []));
 }
 
-pub drawn_end : (old : List DrawopValue) (most : ℕ) (was new : List DrawopValue) (most' : ℕ) (drawn rest : List DrawopValue) (most'' : ℕ) (more : List DrawopValue)
-    → IsDrawn old most was new most' drawn → rest ≡ new → most'' ≤ most' → more ≡ drawn → IsDrawn old most was rest most'' more
-drawn_end old most was new most' drawn rest most'' more d a b c = record { all = rw (a, c) d.all; few = omega (arith, d.few, b, ap length c) }
+pub drawn_end : (given : List DrawopValue) (most : ℕ) (was given' : List DrawopValue) (most' : ℕ) (drawn given'' : List DrawopValue) (most'' : ℕ) (drawn' : List DrawopValue)
+    → IsDrawn given most was given' most' drawn → given'' ≡ given' → most'' ≤ most' → drawn' ≡ drawn → IsDrawn given most was given'' most'' drawn'
+drawn_end given most was given' most' drawn given'' most'' drawn' d a b c = record { more = d.more; next = a ∙ d.next; all = c ∙ d.all; few = omega (arith, d.few, b, ap length c) }
 
 -- the next message after those that were sent
 pub next_is : (old : List DrawopValue) (most : ℕ) (drawn rest : List DrawopValue) (most' : ℕ) (more : List DrawopValue) (h : Hand) (going : Bool) (x : Message) → IsSent h drawn going → DrawsOne old most drawn rest most' more x → going ≡ true → IsNext h.sent x

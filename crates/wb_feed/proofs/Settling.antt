@@ -43,7 +43,7 @@ map_range a (x ∷ r) n e =
     let more : n + 1 ≡ length b = omega (arith, e, length-append a (x ∷ [])) in
     let same' : b ++ r ≡ a ++ x ∷ r = append_assoc a (x ∷ []) r in
     let rest : map (λ i. get_or (a ++ x ∷ r) i nothing) (range_with_len (n + 1) (length r)) ≡ r =
-      ap (λ l. map (λ i. get_or l i nothing) (range_with_len (n + 1) (length r))) (sym same') ∙ map_range b r (n + 1) more in
+    ap (λ l. map (λ i. get_or l i nothing) (range_with_len (n + 1) (length r))) (sym same') ∙ map_range b r (n + 1) more in
     ap₂ (λ y ys. y ∷ ys) here rest
 
 behind : (x : DrawopValue) (xs ys zs : List DrawopValue) → IsPermutation xs (ys ++ zs) → IsPermutation (x ∷ xs) (ys ++ x ∷ zs)
@@ -100,15 +100,15 @@ settles p q log given lefts sp wp sq g moved lack none =
     let long : length q.seen ≡ k + length rest = sym (ap length is) ∙ length-append p.seen rest in
     let many : length rest ≡ (tally log).fresh = omega (arith, long, g.many, old.many, new.many) in
     let gained : IsPermutation (places log) (range_with_len k (length rest)) =
-      IsPermutation-times (places log) (range_with_len k (length rest))
-      (λ i. omega (arith, g.mine i, old.each i, new.each i, times-range i k (length rest), ap (λ n. once_below i n) long)) in
+    IsPermutation-times (places log) (range_with_len k (length rest))
+    (λ i. omega (arith, g.mine i, old.each i, new.each i, times-range i k (length rest), ap (λ n. once_below i n) long)) in
     let at = λ (i : ℕ). get_or q.seen i nothing in
     let all : map at (range_with_len k (length rest)) ≡ rest = subst (λ l. map (λ i. get_or l i nothing) (range_with_len k (length rest)) ≡ rest) is (map_range p.seen rest k refl) in
     let fresh : IsPermutation (drawops (chosen is_new log)) rest =
-      subst (λ l. IsPermutation l rest) (sym (news q.seen log g.told)) (subst (λ l. IsPermutation (map at (places log)) l) all (IsPermutation-map at (places log) (range_with_len k (length rest)) gained)) in
+    subst (λ l. IsPermutation l rest) (sym (news q.seen log g.told)) (subst (λ l. IsPermutation (map at (places log)) l) all (IsPermutation-map at (places log) (range_with_len k (length rest)) gained)) in
     let held = drawops (chosen is_held log) in
     let taken : IsPermutation (drawops (chosen is_taken log)) (rest ++ held) =
-      IsPermutation-trans (drawops (chosen is_taken log)) (drawops (chosen is_new log) ++ held) (rest ++ held) (taken_split log) (IsPermutation-append_left held (drawops (chosen is_new log)) rest fresh) in
+    IsPermutation-trans (drawops (chosen is_taken log)) (drawops (chosen is_new log) ++ held) (rest ++ held) (taken_split log) (IsPermutation-append_left held (drawops (chosen is_new log)) rest fresh) in
     let order = (rest ++ held) ++ lefts in
     let full : 0 < length lefts → p.cells ≤ length q.seen = λ some. omega (arith, none some, whole, new.many, g.kept.same.1) in
     let history : IsHistory (p.seen ++ rest) = subst IsHistory (sym is) sq.history in
@@ -124,6 +124,6 @@ settles p q log given lefts sp wp sq g moved lack none =
       order = order;
       moved = IsPermutation-trans given (drawops (chosen is_taken log) ++ lefts) order moved (IsPermutation-append_left lefts (drawops (chosen is_taken log)) (rest ++ held) taken);
       taken = counted_as p.cells p.seen q.seen order (plus (plus n m) o) (counts (tally log).fresh (tally log).again (tally log).clash (length lefts))
-        (same_counts (omega (arith, many)) (omega arith) (omega arith) (omega arith))
-        (both_batches p.cells p.seen q.seen q.seen (rest ++ held) lefts (plus n m) o early third);
+          (same_counts (omega (arith, many)) (omega arith) (omega arith) (omega arith))
+          (both_batches p.cells p.seen q.seen q.seen (rest ++ held) lefts (plus n m) o early third);
     }

@@ -39,11 +39,11 @@ pub record Takes (p : PassValue) (given : List DrawopValue) (workers : ℕ) (q :
   pub settled : IsWhole p → IsInSomeOrder p given q b
   pub in_order : workers ≡ 1 → IsWhole p → IsInOrder p given q b
 
--- the drawops that came are the first of those that were to come
-pub record TakesSome (p : PassValue) (old : List DrawopValue) (workers : ℕ) (q : PassValue) (new : List DrawopValue) (b : Batch) : Type 0 where
-  pub given : List DrawopValue
-  pub drawn : old ≡ given ++ new
-  pub takes : Takes p given workers q b
+-- the source had given some drawops, and has given more, which the batch took
+pub record TakesMore (p : PassValue) (given : List DrawopValue) (workers : ℕ) (q : PassValue) (given' : List DrawopValue) (b : Batch) : Type 0 where
+  pub more : List DrawopValue
+  pub next : given' ≡ given ++ more
+  pub takes : Takes p more workers q b
 
 -- the counts of what the workers accepted, and of what was taken again
 pub record IsTotal (a : Accepted) (t b : Batch) : Type 0 where

@@ -18,21 +18,22 @@ pub record IsSent (h : Hand) (drawn : List DrawopValue) (going : Bool) : Type 0 
   pub first : IsPrefix h.sent drawn
   pub all : going ≡ true → h.sent ≡ drawn
 
--- Of the arrivals to come, some were drawn: old and most are those to come before, new and most' those after; was and drawn what had
--- been drawn before and after
-pub record IsDrawn (old : List DrawopValue) (most : ℕ) (was : List DrawopValue) (new : List DrawopValue) (most' : ℕ) (drawn : List DrawopValue) : Type 0 where
-  pub all : was ++ old ≡ drawn ++ new
+-- Some more were drawn: given and most are what the source had given and had to give at most, was what had been drawn
+pub record IsDrawn (given : List DrawopValue) (most : ℕ) (was : List DrawopValue) (given' : List DrawopValue) (most' : ℕ) (drawn : List DrawopValue) : Type 0 where
+  pub more : List DrawopValue
+  pub next : given' ≡ given ++ more
+  pub all : drawn ≡ was ++ more
   pub few : length drawn + most' ≤ length was + most
 
--- one arrival was drawn, and the message is that with its position
-pub record DrawsOne (old : List DrawopValue) (most : ℕ) (was : List DrawopValue) (new : List DrawopValue) (most' : ℕ) (drawn : List DrawopValue) (message : Message) : Type 0 where
+-- one was drawn, and the message is that with its position
+pub record DrawsOne (given : List DrawopValue) (most : ℕ) (was : List DrawopValue) (given' : List DrawopValue) (most' : ℕ) (drawn : List DrawopValue) (message : Message) : Type 0 where
   pub drawop : DrawopValue
-  pub next : old ≡ drawop ∷ new
+  pub next : given' ≡ given ++ drawop ∷ []
   pub nearer : most' < most
   pub all : drawn ≡ was ++ drawop ∷ []
   pub is : message ≡ Take (length was) drawop
 
 abbrev pub Draws : List DrawopValue → ℕ → List DrawopValue → List DrawopValue → ℕ → List DrawopValue → Bool → Result (Option Message) AllocError → Type 0
-Draws old most was new most' drawn ended (Err e) = (new ≡ old) × (most' ≤ most) × (drawn ≡ was)
-Draws old most was new most' drawn ended (Ok None) = (new ≡ old) × (most' ≤ most) × (drawn ≡ was) × (ended ≡ true)
-Draws old most was new most' drawn ended (Ok (Some m)) = DrawsOne old most was new most' drawn m
+Draws given most was given' most' drawn ended (Err e) = (given' ≡ given) × (most' ≤ most) × (drawn ≡ was)
+Draws given most was given' most' drawn ended (Ok None) = (given' ≡ given) × (most' ≤ most) × (drawn ≡ was) × (ended ≡ true)
+Draws given most was given' most' drawn ended (Ok (Some m)) = DrawsOne given most was given' most' drawn m

@@ -1,5 +1,5 @@
 //! Where the drawops of a batch come from.
-ghost use Rattle.std.specs.Prelude.{◌≡◌, ℕ, ◌<◌, ◌≤◌, ◌∷◌, List, Bool, true, IfSome, IfNone};
+ghost use Rattle.std.specs.Prelude.{◌≡◌, ℕ, ◌<◌, ◌≤◌, [], ◌∷◌, ◌++◌, List, Bool, true, IfSome, IfNone};
 
 use wb_names::Drawop;
 
@@ -7,8 +7,9 @@ use wb_names::Drawop;
 pub trait Arrivals {
     ghost use Rattle.wb_names.specs.Values.{DrawopValue};
 
-    /// The drawops still to come.
-    ghost to_come: { Self → List DrawopValue };
+    /// The drawops that `next` has given so far. What is still to come need not be known, as of a
+    /// script that is being read.
+    ghost given: { Self → List DrawopValue };
 
     /// Whether `next` has answered None.
     ghost has_ended: { Self → Bool };
@@ -18,9 +19,9 @@ pub trait Arrivals {
 
     /// The next drawop, or None at the end or earlier.
     fn next(&mut self) -> Option<Drawop>
-        ensures first { IfSome result (λ d. to_come self.old ≡ d ∷ to_come self.new) }
+        ensures first { IfSome result (λ d. given self.new ≡ given self.old ++ d ∷ []) }
         ensures nearer { IfSome result (λ d. most_to_come self.new < most_to_come self.old) }
-        ensures rest { IfNone result (to_come self.new ≡ to_come self.old) }
+        ensures rest { IfNone result (given self.new ≡ given self.old) }
         ensures no_more { IfNone result (most_to_come self.new ≤ most_to_come self.old) }
         ensures ended { IfNone result (has_ended self.new ≡ true) };
 

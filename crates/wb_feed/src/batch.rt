@@ -1,11 +1,12 @@
 //! A batch: the workers take what comes, and the desk takes again what none of them accepted.
 ghost use Rattle.std.specs.Prelude.{◌≡◌, ◌+◌, ◌*◌, ◌<◌, ◌≤◌, ◌^◌, ◌⊎◌, ◌↔◌, true, [], Err, length, IfOk, OnOk};
+ghost use mathlib.Core.List.{IsPrefix};
 ghost use Rattle.wb_names.specs.Arrivals.{Outcome};
 ghost use Rattle.wb_history.specs.Passes.{IsPassOf};
 ghost use Rattle.wb_feed.specs.Accepts.{Keeps, Accepts};
 ghost use Rattle.wb_feed.specs.Marks.{unmarked, Marks, Retakes, CountsOne};
 ghost use Rattle.wb_feed.specs.Sent.{IsDrawn};
-ghost use Rattle.wb_feed.specs.Batches.{Takes, TakesSome, IsTotal};
+ghost use Rattle.wb_feed.specs.Batches.{Takes, TakesMore, IsTotal};
 
 use crate::arrivals::Arrivals;
 use crate::crew::{CrewFault, crew};
@@ -71,7 +72,8 @@ pub fn run_batch<R: Threads + Wait + Sync, S: Arrivals, G: Gate + Sync>(
     ensures kept { Keeps desk.old desk.new }
     ensures workers { (result ≡ Err FeedFault.Workers) ↔ ((workers ≡ 0) ⊎ (8 < workers)) }
     ensures untouched { (workers ≡ 0) ⊎ (8 < workers) → (desk.new ≡ desk.old) × (arrivals.new ≡ arrivals.old) }
-    ensures taken { IfOk result (λ b. TakesSome desk.old (S.to_come arrivals.old) workers desk.new (S.to_come arrivals.new) b) }
+    ensures taken { IfOk result (λ b. TakesMore desk.old (S.given arrivals.old) workers desk.new (S.given arrivals.new) b) }
+    ensures drawn { IsPrefix (S.given arrivals.old) (S.given arrivals.new) }
     ensures ended { OnOk result (S.has_ended arrivals.new ≡ true) }
 {
     if workers == 0 || workers > 8 {
@@ -79,9 +81,7 @@ pub fn run_batch<R: Threads + Wait + Sync, S: Arrivals, G: Gate + Sync>(
     }
     let mut drawn = Vec::new(alloc);
     let _most = arrivals.most();
-    match take_batch(
-        rt, alloc, board, desk, workers, arrivals, &mut drawn, gate,
-    ) {
+    match take_batch(rt, alloc, board, desk, workers, arrivals, &mut drawn, gate) {
         Ok(batch) => Ok(batch),
         Err(CrewFault::Start) => Err(FeedFault::Start),
         Err(CrewFault::Memory) => Err(FeedFault::Memory),
@@ -104,11 +104,12 @@ fn take_batch<R: Threads + Wait + Sync, S: Arrivals, G: Gate + Sync>(
     requires drawn { drawn.old.items ≡ [] }
     requires few { S.most_to_come arrivals.old < 2 ^ 32 }
     ensures kept { Keeps desk.old desk.new }
-    ensures drawn { IsDrawn (S.to_come arrivals.old) (S.most_to_come arrivals.old) drawn.old.items (S.to_come arrivals.new) (S.most_to_come arrivals.new) drawn.new.items }
+    ensures drawn { IsDrawn (S.given arrivals.old) (S.most_to_come arrivals.old) drawn.old.items (S.given arrivals.new) (S.most_to_come arrivals.new) drawn.new.items }
     ensures ended { OnOk result (S.has_ended arrivals.new ≡ true) }
     ensures ok { IfOk result (λ b. Takes desk.old drawn.new.items workers desk.new b) }
 {
-    let Ok((line, end, mut pass)) = bounded_with::<Message, Hand, EachOnce, Global>(alloc, CAPACITY) else {
+    let Ok((line, end, mut pass)) = bounded_with::<Message, Hand, EachOnce, Global>(alloc, CAPACITY)
+    else {
         return Err(CrewFault::Memory);
     };
     let rows = desk.rows_left() / workers;

@@ -75,7 +75,7 @@ fn run_workers<'s, 'e: 's, R: Threads + Wait + Sync, S: Arrivals, G: Gate + Sync
     ensures kept { Keeps root.old root.new }
     ensures seat { IsSeatAt (sends_on line.now) pass.new }
     ensures sent { ((view pass.new).sends ≡ true) × IsPrefix (view pass.new).sent drawn.new.items }
-    ensures drawn { IsDrawn (S.to_come arrivals.old) (S.most_to_come arrivals.old) drawn.old.items (S.to_come arrivals.new) (S.most_to_come arrivals.new) drawn.new.items }
+    ensures drawn { IsDrawn (S.given arrivals.old) (S.most_to_come arrivals.old) drawn.old.items (S.given arrivals.new) (S.most_to_come arrivals.new) drawn.new.items }
     ensures ended { OnOk result (S.has_ended arrivals.new ≡ true) }
     ensures ok { IfOk result (λ a. Crewed rows left root.old (view pass.old) (view pass.new) root.new a) }
 {
@@ -170,20 +170,26 @@ pub(crate) fn crew<R: Threads + Wait + Sync, S: Arrivals, G: Gate + Sync>(
     ensures kept { Keeps root.old root.new }
     ensures seat { IsSeatAt (sends_on line.now) pass.new }
     ensures sent { ((view pass.new).sends ≡ true) × IsPrefix (view pass.new).sent drawn.new.items }
-    ensures drawn { IsDrawn (S.to_come arrivals.old) (S.most_to_come arrivals.old) drawn.old.items (S.to_come arrivals.new) (S.most_to_come arrivals.new) drawn.new.items }
+    ensures drawn { IsDrawn (S.given arrivals.old) (S.most_to_come arrivals.old) drawn.old.items (S.given arrivals.new) (S.most_to_come arrivals.new) drawn.new.items }
     ensures ended { OnOk result (S.has_ended arrivals.new ≡ true) }
     ensures ok { IfOk result (λ a. Crewed rows workers root.old (view pass.old) (view pass.new) root.new a) }
 {
     let (root, pass, arrivals, drawn, accepted) = thread::scope(
         thread::scope_env(),
         rt,
-        move |scope| -> (&mut Desk, &mut LinePass, &mut S, &mut Vec<Drawop>, Result<Accepted, CrewFault>)
+        move |scope| -> (
+            &mut Desk,
+            &mut LinePass,
+            &mut S,
+            &mut Vec<Drawop>,
+            Result<Accepted, CrewFault>,
+        )
             requires { IsSync R.row × IsSync G.row × IsPassOf board.now root.now × (rows * workers ≤ root.now.free) × (0 < workers) × (workers ≤ 8) × (receives_on end.now ≡ sends_on line.now) × IsSeatAt (sends_on line.now) pass.now × (view pass.now ≡ hand 16 true [] []) × (drawn.now.items ≡ []) × (S.most_to_come arrivals.now < 2 ^ 32) }
             ensures names { (result.0.ghost_name ≡ root.entry.ghost_name) × (result.1.ghost_name ≡ pass.entry.ghost_name) × (result.2.ghost_name ≡ arrivals.entry.ghost_name) × (result.3.ghost_name ≡ drawn.entry.ghost_name) }
             ensures kept { Keeps root.entry.now result.0.now }
             ensures seat { IsSeatAt (sends_on line.entry.now) result.1.now }
             ensures sent { ((view result.1.now).sends ≡ true) × IsPrefix (view result.1.now).sent result.3.now.items }
-            ensures drawn { IsDrawn (S.to_come arrivals.entry.now) (S.most_to_come arrivals.entry.now) drawn.entry.now.items (S.to_come result.2.now) (S.most_to_come result.2.now) result.3.now.items }
+            ensures drawn { IsDrawn (S.given arrivals.entry.now) (S.most_to_come arrivals.entry.now) drawn.entry.now.items (S.given result.2.now) (S.most_to_come result.2.now) result.3.now.items }
             ensures ended { OnOk result.4 (S.has_ended result.2.now ≡ true) }
             ensures ok { IfOk result.4 (λ a. Crewed rows workers root.entry.now (view pass.entry.now) (view result.1.now) result.0.now a) }
         {

@@ -19,7 +19,7 @@ fn draw_one<S: Arrivals>(
     drawn: &mut Vec<Drawop>,
 ) -> Result<Option<Message>, AllocError>
     requires { length drawn.old.items + S.most_to_come arrivals.old < 2 ^ 32 }
-    ensures { Draws (S.to_come arrivals.old) (S.most_to_come arrivals.old) drawn.old.items (S.to_come arrivals.new) (S.most_to_come arrivals.new) drawn.new.items (S.has_ended arrivals.new) result }
+    ensures { Draws (S.given arrivals.old) (S.most_to_come arrivals.old) drawn.old.items (S.given arrivals.new) (S.most_to_come arrivals.new) drawn.new.items (S.has_ended arrivals.new) result }
 {
     drawn.reserve(1)?;
     let position = drawn.len() as u32;
@@ -31,7 +31,13 @@ fn draw_one<S: Arrivals>(
 }
 
 /// Sends the message while the line is open. Answers whether it is still open.
-fn send_one<R: Wait>(rt: &R, line: &Line, pass: &mut LinePass, going: bool, message: Message) -> bool
+fn send_one<R: Wait>(
+    rt: &R,
+    line: &Line,
+    pass: &mut LinePass,
+    going: bool,
+    message: Message,
+) -> bool
     requires seat { IsSeatAt (sends_on line.now) pass.old }
     requires sender { (view pass.old).sends ≡ true }
     requires next { going ≡ true → IsNext (view pass.old).sent message }
@@ -63,7 +69,7 @@ pub(crate) fn feed<R: Wait, S: Arrivals>(
     ensures seat { IsSeatAt (sends_on line.now) pass.new }
     ensures sent { IsSent (view pass.new) drawn.new.items going.new }
     ensures same { ((view pass.new).parts ≡ (view pass.old).parts) × ((view pass.new).got ≡ (view pass.old).got) }
-    ensures drawn { IsDrawn (S.to_come arrivals.old) (S.most_to_come arrivals.old) drawn.old.items (S.to_come arrivals.new) (S.most_to_come arrivals.new) drawn.new.items }
+    ensures drawn { IsDrawn (S.given arrivals.old) (S.most_to_come arrivals.old) drawn.old.items (S.given arrivals.new) (S.most_to_come arrivals.new) drawn.new.items }
     ensures ended { OnOk result (S.has_ended arrivals.new ≡ true) }
 {
     while let Some(message) = draw_one(arrivals, drawn)? {
@@ -73,7 +79,14 @@ pub(crate) fn feed<R: Wait, S: Arrivals>(
 }
 
 /// Sends an end message for each worker.
-pub(crate) fn end_all<R: Wait>(rt: &R, line: &Line, pass: &mut LinePass, drawn: &Vec<Drawop>, going: bool, workers: u32)
+pub(crate) fn end_all<R: Wait>(
+    rt: &R,
+    line: &Line,
+    pass: &mut LinePass,
+    drawn: &Vec<Drawop>,
+    going: bool,
+    workers: u32,
+)
     requires seat { IsSeatAt (sends_on line.now) pass.old }
     requires sender { IsSent (view pass.old) drawn.now.items going }
     ensures seat { IsSeatAt (sends_on line.now) pass.new }

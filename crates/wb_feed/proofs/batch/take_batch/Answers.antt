@@ -5,7 +5,7 @@ use Rattle.wb_feed.specs.declared.line.Hand.{Hand}
 use Rattle.wb_feed.specs.Line.{hand, IsComplete}
 use Rattle.wb_feed.specs.Marks.{unmarked, Marks, Retakes}
 use Rattle.wb_feed.specs.Crews.{Crewed}
-use Rattle.wb_feed.specs.Batch.{IsTotal}
+use Rattle.wb_feed.specs.Batches.{IsTotal}
 use Rattle.wb_feed.proofs.Rules.{learns_kept}
 use Rattle.wb_feed.proofs.Batching.{whole_from, takes_all, total_few}
 use Rattle.wb_feed.proofs.batch.take_batch.Goals as goal

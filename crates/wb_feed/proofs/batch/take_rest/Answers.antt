@@ -1,4 +1,4 @@
-use Rattle.std.proofs.Common.{rules, ◌≡◌, get_or, true, false}
+use Rattle.std.proofs.Common.{rules, ◌≡◌, ◌∙◌, get_or, true, false}
 use Rattle.wb_feed.proofs.Log.{keeps_trans}
 use Rattle.wb_feed.proofs.Members.{nothing}
 use Rattle.wb_feed.proofs.Marking.{rest_more, rest_skip, rest_keeps}

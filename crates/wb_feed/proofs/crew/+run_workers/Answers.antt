@@ -7,7 +7,7 @@ use Rattle.wb_feed.specs.Served.{Served}
 use Rattle.wb_feed.specs.Crews.{Crewed, IsSum}
 use Rattle.wb_feed.proofs.Rules.{forks_kept, merges_kept}
 use Rattle.wb_feed.proofs.Sending.{sent_stays}
-use Rattle.wb_feed.proofs.Crewing.{crewed_none, crewed_more, counts_fit}
+use Rattle.wb_feed.proofs.Crewing.{keeps_level, crewed_none, crewed_more, counts_fit}
 use Rattle.wb_feed.proofs.crew.+run_workers.Goals as goal
 
 pub returns-in-Ok-clause-ok : goal.returns-in-Ok-clause-ok
@@ -24,16 +24,16 @@ pub and-requires : goal.and-requires
 and-requires g t c =
     let same : c.in-Ok-spawn_with.child.promise.desk.value ≡ c.in-Ok-split.desk = search rules in
     let served : Served c.in-Ok-split.desk c.join-desk.result.desk (view c.join-desk.result.pass) c.join-desk.result.accepted c.join-desk.result.failed =
-        subst (λ (v : PassValue). Served v c.join-desk.result.desk (view c.join-desk.result.pass) c.join-desk.result.accepted c.join-desk.result.failed) same c.join-desk.ensures.1 in
+    subst (λ (v : PassValue). Served v c.join-desk.result.desk (view c.join-desk.result.pass) c.join-desk.result.accepted c.join-desk.result.failed) same c.join-desk.ensures.1 in
     let crewed : Crewed c.args.rows (c.args.left - 1) c.split.new.desk (view c.another-theirs.new.pass) (view c.run_workers-others.new.pass) c.run_workers-others.new.root c.in_ok-others.others = search rules in
     record { few = counts_fit _ _ _ _ _ _ _ _ _ _ _ _ (omega arith) served c.if-failed.false crewed }
 
 pub returns-in-Ok-and-clause-ok : goal.returns-in-Ok-and-clause-ok
 returns-in-Ok-and-clause-ok g t c =
-    let parts : IsSplit c.args.root.now c.args.rows c.split.new.desk c.in-Ok-split.desk = search rules in
+    let parts : IsSplit c.args.root.now c.args.rows c.split.new.desk c.in-Ok-split.desk = c.in-Ok-split.ensures.parts in
     let same : c.in-Ok-spawn_with.child.promise.desk.value ≡ c.in-Ok-split.desk = search rules in
     let served : Served c.in-Ok-split.desk c.join-desk.result.desk (view c.join-desk.result.pass) c.join-desk.result.accepted c.join-desk.result.failed =
-        subst (λ (v : PassValue). Served v c.join-desk.result.desk (view c.join-desk.result.pass) c.join-desk.result.accepted c.join-desk.result.failed) same c.join-desk.ensures.1 in
+    subst (λ (v : PassValue). Served v c.join-desk.result.desk (view c.join-desk.result.pass) c.join-desk.result.accepted c.join-desk.result.failed) same c.join-desk.ensures.1 in
     let crewed : Crewed c.args.rows (c.args.left - 1) c.split.new.desk (view c.another-theirs.new.pass) (view c.run_workers-others.new.pass) c.run_workers-others.new.root c.in_ok-others.others = search rules in
     let united : IsJoined c.run_workers-others.new.root c.join-desk.result.desk c.join.new.desk = c.in-Ok-join.ensures.joined in
     let same' : IsSamePass c.run_workers-others.new.root c.join.new.desk = c.join.ensures.same.0 in
@@ -54,3 +54,23 @@ returns-in-Ok-and-clause-sent g t c = sent_stays (view c.absorb.new.pass) (view 
 
 pub returns-in-Err-and-clause-sent : goal.returns-in-Err-and-clause-sent
 returns-in-Err-and-clause-sent g t c = sent_stays (view c.absorb.new.pass) (view c.run_workers-others.new.pass) (view c.join-desk.result.pass) _ c.absorb.ensures.rule c.run_workers-others.ensures.sent
+
+pub returns-in_err-others-clause-kept : goal.returns-in_err-others-clause-kept
+returns-in_err-others-clause-kept g t c =
+    let parts : IsSplit c.args.root.now c.args.rows c.split.new.desk c.in-Ok-split.desk = c.in-Ok-split.ensures.parts in
+    keeps_level _ _ _ _ _ _ _ parts c.run_workers-others.ensures.kept c.join.ensures.same.0 c.in-Ok-join.ensures.joined
+
+pub returns-then-failed-clause-kept : goal.returns-then-failed-clause-kept
+returns-then-failed-clause-kept g t c =
+    let parts : IsSplit c.args.root.now c.args.rows c.split.new.desk c.in-Ok-split.desk = c.in-Ok-split.ensures.parts in
+    keeps_level _ _ _ _ _ _ _ parts c.run_workers-others.ensures.kept c.join.ensures.same.0 c.in-Ok-join.ensures.joined
+
+pub returns-in-Ok-and-clause-kept : goal.returns-in-Ok-and-clause-kept
+returns-in-Ok-and-clause-kept g t c =
+    let parts : IsSplit c.args.root.now c.args.rows c.split.new.desk c.in-Ok-split.desk = c.in-Ok-split.ensures.parts in
+    keeps_level _ _ _ _ _ _ _ parts c.run_workers-others.ensures.kept c.join.ensures.same.0 c.in-Ok-join.ensures.joined
+
+pub returns-in-Err-and-clause-kept : goal.returns-in-Err-and-clause-kept
+returns-in-Err-and-clause-kept g t c =
+    let parts : IsSplit c.args.root.now c.args.rows c.split.new.desk c.in-Ok-split.desk = c.in-Ok-split.ensures.parts in
+    keeps_level _ _ _ _ _ _ _ parts c.run_workers-others.ensures.kept c.join.ensures.same.0 c.in-Ok-join.ensures.joined

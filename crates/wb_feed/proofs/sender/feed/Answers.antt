@@ -6,14 +6,14 @@ use Rattle.wb_feed.proofs.sender.feed.Goals as goal
 
 pub send_one-requires-clause-next : goal.send_one-requires-clause-next
 send_one-requires-clause-next g c =
-    let draws : DrawsOne (g.S.Arrivals.to_come c.loop-message.arrivals) (g.S.Arrivals.most_to_come c.loop-message.arrivals) c.loop-message.drawn.items (g.S.Arrivals.to_come c.draw_one.new.arrivals)
-        (g.S.Arrivals.most_to_come c.draw_one.new.arrivals) c.draw_one.new.drawn.items c.in-Some.message = search rules in
+    let draws : DrawsOne (g.S.Arrivals.given c.loop-message.arrivals) (g.S.Arrivals.most_to_come c.loop-message.arrivals) c.loop-message.drawn.items (g.S.Arrivals.given c.draw_one.new.arrivals)
+    (g.S.Arrivals.most_to_come c.draw_one.new.arrivals) c.draw_one.new.drawn.items c.in-Some.message = search rules in
     next_is _ _ _ _ _ _ _ _ _ c.loop-message.invariant.sent draws
 
 pub loop-message-preserved : goal.loop-message-preserved
 loop-message-preserved g c =
-    let draws : DrawsOne (g.S.Arrivals.to_come c.loop-message.arrivals) (g.S.Arrivals.most_to_come c.loop-message.arrivals) c.loop-message.drawn.items (g.S.Arrivals.to_come c.draw_one.new.arrivals)
-        (g.S.Arrivals.most_to_come c.draw_one.new.arrivals) c.draw_one.new.drawn.items c.in-Some.message = search rules in
+    let draws : DrawsOne (g.S.Arrivals.given c.loop-message.arrivals) (g.S.Arrivals.most_to_come c.loop-message.arrivals) c.loop-message.drawn.items (g.S.Arrivals.given c.draw_one.new.arrivals)
+    (g.S.Arrivals.most_to_come c.draw_one.new.arrivals) c.draw_one.new.drawn.items c.in-Some.message = search rules in
     let before = view c.loop-message.pass in
     let after = view c.send_one.new.pass in
     record {

@@ -11,7 +11,7 @@ invariant-loop-message g l =
       seat : IsSeatAt (sends_on l.line) l.pass;
       sent : IsSent (view l.pass) l.drawn.items l.going;
       stays : Stays (view l.initial.pass) (view l.pass);
-      drawn : IsDrawn (g.S.Arrivals.to_come l.initial.arrivals) (g.S.Arrivals.most_to_come l.initial.arrivals) l.initial.drawn.items (g.S.Arrivals.to_come l.arrivals) (g.S.Arrivals.most_to_come l.arrivals) l.drawn.items;
+      drawn : IsDrawn (g.S.Arrivals.given l.initial.arrivals) (g.S.Arrivals.most_to_come l.initial.arrivals) l.initial.drawn.items (g.S.Arrivals.given l.arrivals) (g.S.Arrivals.most_to_come l.arrivals) l.drawn.items;
     }
 
 abbrev pub decreases-loop-message : goal.decreases-loop-message

@@ -19,6 +19,6 @@ loop-preserved g c =
 pub returns-clause-served : goal.returns-clause-served
 returns-clause-served g c =
     elim c.match-next.branch [
-      in-None w ↦ rw w.pass-is c.loop.invariant.1
+      | in-None w ↦ rw w.pass-is c.loop.invariant.1
       | in-Some+in_default w ↦ rw w.pass-is (serves_same _ _ _ _ _ _ c.loop.invariant.1 w.in_default.ensures.none)
     ]
