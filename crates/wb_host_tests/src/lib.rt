@@ -1,0 +1,14 @@
+//! Tests of wb_host over its public calls: values from outside, growths that are refused, pages viewed
+//! in turn, and two threads on desks of one board.
+#![tactic(auto)]
+
+#[cfg(test)]
+mod boards;
+#[cfg(test)]
+mod pages;
+#[cfg(test)]
+mod refusals;
+#[cfg(test)]
+mod replies;
+#[cfg(test)]
+mod threads;
