@@ -1,5 +1,6 @@
 pub mod Digits
 pub mod DigitPairs
+pub mod WordEnds
 pub mod Arrivals
 pub mod KnownBytes
 pub mod LineBytes
