@@ -13,3 +13,4 @@ pub mod Marking
 pub mod Placing
 pub mod OneWorker
 pub mod Batching
+pub mod Telling

@@ -6,3 +6,4 @@ pub mod Served
 pub mod Crews
 pub mod Marks
 pub mod Batches
+pub mod Relays

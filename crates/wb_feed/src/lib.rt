@@ -9,9 +9,11 @@
 //! Threads are started here, and joined here, each of them. Nothing is promised of time, or that two
 //! workers run at once; a call waits for the threads that it started.
 //!
+//! `relay` has one desk accept a drawop on a thread of its own, and another desk told of it.
+//!
 //! In reading order: where drawops come from (`arrivals`) and what is called round each accept (`gate`);
 //! the call (`batch`), its workers (`crew`), what each does (`worker`), and the sender's part (`sender`);
-//! and the channel (`line`) with its messages (`message`).
+//! the channel (`line`) with its messages (`message`); and `relays`.
 #![tactic(auto)]
 
 mod arrivals;
@@ -21,6 +23,7 @@ mod fault;
 mod gate;
 mod line;
 mod message;
+mod relays;
 mod sender;
 mod worker;
 
@@ -28,3 +31,4 @@ pub use arrivals::Arrivals;
 pub use batch::{Batch, run_batch};
 pub use fault::FeedFault;
 pub use gate::{Gate, NoGate};
+pub use relays::{RelayFault, relay};
