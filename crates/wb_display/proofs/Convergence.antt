@@ -10,7 +10,7 @@ use Rattle.wb_names.specs.declared.name.PageId.{PageId}
 use Rattle.wb_names.proofs.Listings.{same_sorted}
 use Rattle.wb_display.specs.Canvas.{canvas_text}
 use Rattle.wb_display.specs.Display.{is_drawing, is_delete, is_aimed_at, is_last_word, is_hidden_in, is_shown, IsView}
-use Rattle.wb_display.specs.Laws.{Converges, PaintsAlike}
+use Rattle.wb_display.specs.Laws.{Converges, StaysAView, PaintsAlike}
 use Rattle.wb_display.proofs.Deciding.{display_total}
 
 -- tests that agree are passed alike
@@ -39,6 +39,16 @@ converges one other page shown again moved a b =
     same_sorted display_total shown again a.rising b.rising
     (carried one other page shown again moved a b)
     (carried other one page again shown (IsPermutation-sym one other moved) b a)
+
+-- and the view of one is the view of the other
+pub stays_a_view : StaysAView
+stays_a_view one other page shown moved a = record {
+  rising = a.rising;
+  members = λ d. (
+    (λ h. let m = (a.members d).0 h in (Contains-permutation one other d moved m.0, sym (same_test one other page moved d) ∙ m.1)),
+    (λ m. (a.members d).1 (Contains-permutation other one d (IsPermutation-sym one other moved) m.0, same_test one other page moved d ∙ m.1)),
+  );
+}
 
 pub paints_alike : PaintsAlike
 paints_alike one other page shown again w h moved a b = ap (λ (ds : List DrawopValue). canvas_text ds w h) (converges one other page shown again moved a b)

@@ -1,8 +1,11 @@
 -- What a layer holds, by the labels of its drawops.
-use Rattle.std.proofs.Common.{◌≡◌, List, [], ◌∷◌, ◌++◌, get_or, refl, ap, ◌∙◌, sym, subst, arith, ⊎_elim}
+use Rattle.std.proofs.Common.{◌≡◌, ℕ, ◌<◌, length, take, List, [], ◌∷◌, ◌++◌, get_or, refl, ap, ◌∙◌, sym, subst, arith, ⊎_elim}
 use Rattle.std.specs.Prelude.{◌≢◌, Bool, true, false, cond, ◌||◌, All, Contains, Option, Some, None, is_some}
 use Rattle.std.specs.Map.{lookup}
 use Rattle.std.proofs.lemmas.Bool.Decides.{nat_tests}
+use Rattle.std.proofs.lemmas.List.{length-take, get_or-take, get_or_default}
+use Rattle.std.proofs.lemmas.List.Folds.{Any-from_list_any}
+use Rattle.wb_names.proofs.Orders.{same_name-is}
 use Rattle.std.proofs.lemmas.List.Elements.{All-head, All-tail, Contains-get_or}
 use Rattle.std.proofs.lemmas.List.Quantifiers.{all_pairs_push}
 use Rattle.wb_names.specs.Values.{DrawopValue, NameValue}
@@ -60,7 +63,7 @@ not_found page l (e ∷ es) all f x c = at (λ s h. not_found page l es (All-tai
       (λ (h : Contains (held_of es) x). rest s h)
       (Contains-cases e.1 x (held_of es) c)
 
-same_name-here : (n : NameValue) → same_name n n ≡ true
+pub same_name-here : (n : NameValue) → same_name n n ≡ true
 same_name-here n = grind (arith, nat_tests)
 
 -- with a name that is not held, no name stands twice
@@ -75,3 +78,11 @@ held_here page (e ∷ es) all x c = ⊎_elim
     (λ (same : e.1 ≡ x). ap (λ (y : DrawopValue). same_page y.name.page page) (sym same) ∙ (All-head (IsLabelled page) e es all).1)
     (λ (h : Contains (held_of es) x). held_here page es (All-tail (IsLabelled page) e es all) x h)
     (Contains-cases e.1 x (held_of es) c)
+
+-- a name that stood before stands twice
+pub named_twice : (list : List DrawopValue) (i : ℕ) (d : DrawopValue) → i < length list → get_or list i d ≡ d → holds_name (take i list) d.name ≡ true → IsHistory list → ⊥
+named_twice list i d h is known names =
+    let found = Any-from_list_any (λ e. same_name e.name d.name) (take i list) known in
+    let low : found.0 < i = omega (arith, found.2, length-take i list) in
+    let at : get_or list found.0 found.1 ≡ found.1 = sym (get_or-take i list found.0 found.1 low) ∙ found.3 in
+    names found.0 i d low h (ap (λ (e : DrawopValue). e.name) (get_or_default list found.0 d found.1 (omega arith) ∙ at) ∙ same_name-is found.1.name d.name found.4 ∙ ap (λ (e : DrawopValue). e.name) (sym is))

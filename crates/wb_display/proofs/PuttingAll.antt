@@ -1,20 +1,21 @@
 -- Many puts, one after another: there is room for what is still news, and what is held is as after that many puts.
 use Rattle.std.proofs.Common.{◌≡◌, ℕ, ◌+◌, ◌<◌, ◌≤◌, List, [], ◌∷◌, ◌++◌, length, get_or, take, drop, refl, ap, ◌∙◌, sym, subst, arith, add-one, drop-cons, ◌⊎◌, inl, inr, ⊎_elim}
-use Rattle.std.specs.Prelude.{Bool, true, false, cond, filter, All, Contains}
+use Rattle.std.specs.Prelude.{Bool, true, false, cond, not, ◌&&◌, filter, All, Contains}
 use Rattle.std.specs.List.{list_any}
 use Rattle.std.specs.Ordering.{is_eq}
 use Rattle.std.proofs.lemmas.List.Folds.{Any-from_list_any}
 use Rattle.std.proofs.lemmas.List.{map-append}
-use Rattle.std.proofs.lemmas.List.Elements.{Contains-append_left, All-head, All-tail}
+use Rattle.std.proofs.lemmas.List.Elements.{Contains-append_left, Contains-push, All-head, All-tail}
 use Rattle.std.proofs.lemmas.List.Sums.{fold_more}
-use Rattle.wb_names.specs.Values.{DrawopValue}
+use Rattle.wb_names.specs.Values.{DrawopValue, NameValue}
 use Rattle.wb_names.specs.Listing.{Lists}
 use Rattle.wb_names.specs.Orders.{same_page, same_name, display_cmp}
 use Rattle.wb_names.specs.Same.{same_drawop, same_drawop-Decides}
 use Rattle.wb_names.specs.declared.name.PageId.{PageId}
 use Rattle.wb_names.proofs.Listings.{Contains-none}
 use Rattle.wb_names.proofs.Orders.{and_both}
-use Rattle.wb_display.specs.Layer.{LayerValue, is_news, held_with, held_with_all, news_count}
+use Rattle.wb_display.specs.Layer.{LayerValue, holds_name, is_news, held_with, held_with_all, news_count}
+use Rattle.wb_display.specs.Laws.{KeepsTheFirst}
 use Rattle.wb_display.specs.LayerFields.{held_of}
 use Rattle.wb_display.specs.Display.{is_shown, IsView}
 use Rattle.wb_display.specs.DisplayList.{ShowsOthers, TieOnce}
@@ -23,8 +24,8 @@ use Rattle.wb_display.specs.LastWords.{is_shown_now}
 use Rattle.wb_display.specs.TakingIn.{AreHeld, AreKept, HoldsToo, IsShownIn, Touches}
 use Rattle.wb_display.specs.declared.last_words.Label.{Label}
 use Rattle.wb_display.specs.declared.last_words.LastWords.{LastWords}
-use Rattle.wb_display.proofs.Deciding.{list_any_nowhere, nowhere_from, false_from_not, not_false, and_true, one_drawop, tie_names}
-use Rattle.wb_display.proofs.Holding.{held_here}
+use Rattle.wb_display.proofs.Deciding.{list_any_here, and_false, list_any_nowhere, nowhere_from, false_from_not, not_false, and_true, one_drawop, tie_names}
+use Rattle.wb_display.proofs.Holding.{held_here, same_name-here}
 use Rattle.wb_display.proofs.Views.{shown_here}
 use Rattle.wb_display.proofs.Layers.{layer_value, held_more, news_parts}
 
@@ -145,3 +146,16 @@ module _ (words words' : LastWords) (entries entries' : List (Label × DrawopVal
   } where
     from : (x : DrawopValue) → IsShownIn (held_of entries') words.page x → Contains shown x ⊎ Contains touched x
     from x m = ⊎_elim (λ (c : Contains touched x). inr c) (λ (out : ¬ Contains touched x). inl ((kept.view.members x).1 ((touches.others x out).0 m))) (member_or_not touched x)
+
+-- of two of one name the first is kept
+pub keeps_the_first : KeepsTheFirst
+keeps_the_first page held d e same = sym (held_not_more page (held_with page held d) e (subst (λ (n : NameValue). (same_page n.page page && not (holds_name (held_with page held d) n)) ≡ false) same (at (same_page d.name.page page) (holds_name held d.name) refl refl))) where
+  at : (here known : Bool) → same_page d.name.page page ≡ here → holds_name held d.name ≡ known → (same_page d.name.page page && not (holds_name (held_with page held d) d.name)) ≡ false
+  at false known p h = ap (λ (b : Bool). b && not (holds_name (held_with page held d) d.name)) p
+  at true true p h =
+      let none : is_news page held d ≡ false = ap (λ (b : Bool). same_page d.name.page page && not b) h ∙ and_false (same_page d.name.page page) false refl in
+      and_false (same_page d.name.page page) _ (ap (λ (hs : List DrawopValue). not (holds_name hs d.name)) (sym (held_not_more page held d none)) ∙ ap not h)
+  at true false p h =
+      let news : is_news page held d ≡ true = and_true (same_page d.name.page page) _ p (not_false _ h) in
+      let held_now : holds_name (held ++ d ∷ []) d.name ≡ true = list_any_here (λ x. same_name x.name d.name) (held ++ d ∷ []) d (Contains-push held d) (same_name-here d.name) in
+      and_false (same_page d.name.page page) _ (ap (λ (hs : List DrawopValue). not (holds_name hs d.name)) (held_more page held d news) ∙ ap not held_now)

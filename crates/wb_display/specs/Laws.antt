@@ -8,11 +8,15 @@ use Rattle.wb_names.specs.Orders.{same_page, display_cmp}
 use Rattle.wb_names.specs.declared.name.PageId.{PageId}
 use Rattle.wb_display.specs.Canvas.{canvas_text, share, is_on_line}
 use Rattle.wb_display.specs.Display.{is_drawing, is_delete, is_restore, is_aimed_at, is_last_word, is_hidden_in, IsView}
-use Rattle.wb_display.specs.Layer.{held_after}
+use Rattle.wb_display.specs.Layer.{held_with, held_after}
 
 -- Histories that hold the same drawops, in any order, show the same list on every page.
 abbrev pub Converges : Type 0
 Converges = (one other : List DrawopValue) (page : PageId) (shown again : List DrawopValue) → IsPermutation one other → IsView one page shown → IsView other page again → shown ≡ again
+
+-- What a page shows by one history it shows by each that holds the same drawops.
+abbrev pub StaysAView : Type 0
+StaysAView = (one other : List DrawopValue) (page : PageId) (shown : List DrawopValue) → IsPermutation one other → IsView one page shown → IsView other page shown
 
 -- And so they paint the same canvas, of every size.
 abbrev pub PaintsAlike : Type 0
@@ -69,3 +73,7 @@ HoldsAHistory = (puts : List DrawopValue) (page : PageId) → IsHistory (held_af
 -- of that many steps; equal ends give one point.
 abbrev pub LinesStepByOne : Type 0
 LinesStepByOne = ((d k : ℕ) → 0 < d → share d k d ≡ k) × ((x0 y0 x y : ℕ) → is_on_line x0 y0 x0 y0 x y ≡ (nat_eq x x0 && nat_eq y y0))
+
+-- Of two drawops of one name a layer keeps the one that was put first.
+abbrev pub KeepsTheFirst : Type 0
+KeepsTheFirst = (page : PageId) (held : List DrawopValue) (first later : DrawopValue) → first.name ≡ later.name → held_with page (held_with page held first) later ≡ held_with page held first

@@ -1,10 +1,15 @@
 //! Laws of what a page shows. Each function does nothing: its contract is a law, for proofs to cite.
 
-ghost use Rattle.wb_display.specs.Laws.{Converges, PaintsAlike, AgreesWithOlderRule, PutsShow, StandsAlone, HoldsItsPage, HoldsAHistory, LinesStepByOne};
+ghost use Rattle.wb_display.specs.Laws.{Converges, StaysAView, KeepsTheFirst, PaintsAlike, AgreesWithOlderRule, PutsShow, StandsAlone, HoldsItsPage, HoldsAHistory, LinesStepByOne};
 
 /// Histories that hold the same drawops, in any order, show the same list on every page.
 pub fn order_is_free()
     ensures { Converges }
+{}
+
+/// A view of a history is a view of each history that holds the same drawops, in any order.
+pub fn view_is_free()
+    ensures { StaysAView }
 {}
 
 /// Histories that hold the same drawops, in any order, paint the same canvas of every page and size.
@@ -37,6 +42,11 @@ pub fn layer_holds_its_page()
 /// Whatever is put on a layer, it holds no name twice.
 pub fn layer_holds_a_history()
     ensures { HoldsAHistory }
+{}
+
+/// Of two drawops of one name a layer keeps the one that was put first.
+pub fn layer_keeps_the_first()
+    ensures { KeepsTheFirst }
 {}
 
 /// Each point of a line is one step on along the longer distance, and a line with equal ends is one

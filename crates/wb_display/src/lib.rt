@@ -25,4 +25,4 @@ mod view;
 
 pub use canvas::{Canvas, CanvasFault, Stopped};
 pub use layer::Layer;
-pub use view::order;
+pub use view::{is_history, order};

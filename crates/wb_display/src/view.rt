@@ -1,13 +1,14 @@
 //! What a page shows, from a whole list of drawops.
 
-ghost use Rattle.std.specs.Prelude.{◌≡◌, IfOk, take};
+ghost use Rattle.std.specs.Prelude.{◌≡◌, ◌↔◌, IfOk, IsTrue, take};
 ghost use Rattle.wb_names.specs.History.{IsHistory};
 ghost use Rattle.wb_display.specs.Display.{IsView};
 ghost use Rattle.wb_display.specs.LastWords.{AreLastWords};
+ghost use Rattle.wb_display.specs.Layer.{holds_name as holds_name_of};
 
 use crate::last_words::LastWords;
 use std::alloc::{AllocError, Global};
-use wb_names::{Drawop, PageId, display_order};
+use wb_names::{Drawop, Name, PageId, display_order};
 
 /// The last words of a list on a page.
 fn hear_all(alloc: Global, list: &[Drawop], page: PageId) -> Result<LastWords, AllocError>
@@ -36,4 +37,23 @@ pub fn order(alloc: Global, list: &[Drawop], page: PageId) -> Result<Vec<Drawop>
     }
     shown.sort_unstable_by(|a, b| display_order(a, b));
     Ok(shown)
+}
+
+/// Whether no name stands twice in a list, as `order` asks. Each name is sought among those before
+/// it, so the time grows with the square of the length; a layer takes a list of any names.
+pub fn is_history(list: &[Drawop]) -> bool
+    ensures { IsTrue result ↔ IsHistory list.now }
+{
+    for i in 0..list.len() {
+        if holds_name(&list[..i], list[i].name()) {
+            return false;
+        }
+    }
+    true
+}
+
+fn holds_name(list: &[Drawop], name: Name) -> bool
+    ensures { result ≡ holds_name_of list.now name }
+{
+    list.iter().any(|drawop| drawop.name() == name)
 }
