@@ -7,6 +7,8 @@ mod bytes;
 #[cfg(test)]
 mod datagrams;
 #[cfg(test)]
+mod faults;
+#[cfg(test)]
 mod longest;
 #[cfg(test)]
 mod memory;
