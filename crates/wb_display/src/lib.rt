@@ -19,8 +19,6 @@ mod layer;
 mod line_points;
 mod merging;
 mod strokes;
-#[cfg(test)]
-mod tests;
 mod view;
 
 pub use canvas::{Canvas, CanvasFault, Stopped};

@@ -19,8 +19,6 @@ mod merged;
 mod missing;
 mod page_list;
 mod page_report;
-#[cfg(test)]
-mod tests;
 
 pub use merged::{MergeFault, merge_marks};
 pub use missing::gaps;

@@ -1,8 +1,8 @@
 //! Canvases with values worked out by hand.
 
-use super::{drawn, frame, line, name, plain, text};
-use crate::{Canvas, CanvasFault, Stopped};
+use crate::samples::{drawn, frame, line, name, plain, text};
 use std::test::Fail;
+use wb_display::{Canvas, CanvasFault, Stopped};
 use wb_names::Sink;
 
 #[test]

@@ -1,8 +1,8 @@
 //! Want of memory. Each call is made again where it was refused: one refusal changes nothing.
 
-use super::{is_history, make_samples, page};
-use crate::{Canvas, CanvasFault, Layer, order};
+use crate::samples::{make_samples, page};
 use std::test::Fail;
+use wb_display::{Canvas, CanvasFault, Layer, is_history, order};
 use wb_names::Drawop;
 
 /// Whether a put is taken, and shows `after`; where memory is refused it shows `before` still, and is

@@ -1,30 +1,20 @@
-//! Worked pages and canvases, with values from outside.
-
-ghost use Rattle.std.specs.Prelude.{◌≡◌, IsTrue};
-ghost use Rattle.std.specs.List.{list_any};
-ghost use Rattle.wb_names.specs.Orders.{same_name};
-ghost use Rattle.wb_names.specs.History.{IsHistory};
-ghost use Rattle.std.specs.Bool.{OnTrue};
-
-mod canvases;
-mod layers;
-mod pages;
-mod refusals;
+//! Drawops and pages that the tests share.
 
 use std::alloc::Global;
 use std::test::Fail;
+use wb_display::{Canvas, is_history, order};
 use wb_names::{Drawop, FieldFault, Name, PageId, Shape};
 
 /// A page of creator 7.
-fn page(number: u32) -> PageId {
+pub(crate) fn page(number: u32) -> PageId {
     PageId { creator: 7, number }
 }
 
-fn name(source: u32, number: u32, seq: u32) -> Result<Name, FieldFault> {
+pub(crate) fn name(source: u32, number: u32, seq: u32) -> Result<Name, FieldFault> {
     Name::new(source, page(number), seq)
 }
 
-fn line(
+pub(crate) fn line(
     name: Name,
     time: u64,
     (x0, y0): (u16, u16),
@@ -44,7 +34,7 @@ fn line(
     )
 }
 
-fn frame(
+pub(crate) fn frame(
     name: Name,
     (x0, y0): (u16, u16),
     (x1, y1): (u16, u16),
@@ -63,60 +53,47 @@ fn frame(
     )
 }
 
-fn text(name: Name, time: u64, (x, y): (u16, u16), bytes: &[u8]) -> Result<Drawop, FieldFault> {
+pub(crate) fn text(
+    name: Name,
+    time: u64,
+    (x, y): (u16, u16),
+    bytes: &[u8],
+) -> Result<Drawop, FieldFault> {
     Drawop::new(name, time, Shape::Text { x, y, bytes })
 }
 
-fn delete(name: Name, time: u64, source: u32, seq: u32) -> Result<Drawop, FieldFault> {
+pub(crate) fn delete(name: Name, time: u64, source: u32, seq: u32) -> Result<Drawop, FieldFault> {
     Drawop::new(name, time, Shape::Delete { source, seq })
 }
 
-fn restore(name: Name, time: u64, source: u32, seq: u32) -> Result<Drawop, FieldFault> {
+pub(crate) fn restore(name: Name, time: u64, source: u32, seq: u32) -> Result<Drawop, FieldFault> {
     Drawop::new(name, time, Shape::Restore { source, seq })
-}
-
-fn holds_name(list: &[Drawop], name: Name) -> bool
-    ensures { result ≡ list_any (λ e. same_name e.name name) list.now }
-{
-    list.iter().any(|drawop| drawop.name() == name)
-}
-
-/// Whether no name stands twice, as `order` asks.
-fn is_history(list: &[Drawop]) -> bool
-    ensures { OnTrue result (IsHistory list.now) }
-{
-    for i in 0..list.len() {
-        if holds_name(&list[..i], list[i].name()) {
-            return false;
-        }
-    }
-    true
 }
 
 /// The drawops of the worked pages, all but the ones of page 7/4.
 #[derive(Clone, Copy)]
-struct Samples {
+pub(crate) struct Samples {
     /// (7, 1) at 10: a line of stars from (0,1) to (4,1).
-    a: Drawop,
+    pub a: Drawop,
     /// The name and time of `a`, with another glyph.
-    b: Drawop,
+    pub b: Drawop,
     /// (7, 2) at 5: deletes (7, 1).
-    c: Drawop,
+    pub c: Drawop,
     /// (8, 1) at 10: "ab" at (1,1).
-    d: Drawop,
+    pub d: Drawop,
     /// (9, 1) at 10: "cd" at (2,1).
-    e: Drawop,
+    pub e: Drawop,
     /// (8, 2) at 20: deletes (7, 2), which is a delete.
-    f: Drawop,
+    pub f: Drawop,
     /// (8, 3) at 20: deletes (9, 9), which nobody has.
-    g: Drawop,
+    pub g: Drawop,
     /// (8, 4) at 6: restores (7, 1).
-    x: Drawop,
+    pub x: Drawop,
     /// (9, 2) at 6: deletes (7, 1).
-    y: Drawop,
+    pub y: Drawop,
 }
 
-fn make_samples() -> Result<Samples, FieldFault> {
+pub(crate) fn make_samples() -> Result<Samples, FieldFault> {
     Ok(Samples {
         a: line(name(7, 1, 1)?, 10, (0, 1), (4, 1), b'*')?,
         b: line(name(7, 1, 1)?, 10, (0, 1), (4, 1), b'#')?,
@@ -131,7 +108,7 @@ fn make_samples() -> Result<Samples, FieldFault> {
 }
 
 /// The canvas of a page of the list, with `_` for a space and `/` for a line end.
-fn drawn(
+pub(crate) fn drawn(
     alloc: Global,
     list: &[Drawop],
     number: u32,
@@ -140,13 +117,17 @@ fn drawn(
     if !is_history(list) {
         return Err(Fail::from("a name stands twice"));
     }
-    let shown = crate::order(alloc, list, page(number))?;
+    let shown = order(alloc, list, page(number))?;
     plain(alloc, &shown, (width, height))
 }
 
 /// The canvas of a list, with `_` for a space and `/` for a line end.
-fn plain(alloc: Global, shown: &[Drawop], (width, height): (u32, u32)) -> Result<Vec<u8>, Fail> {
-    let canvas = crate::Canvas::paint(alloc, shown, width, height)?;
+pub(crate) fn plain(
+    alloc: Global,
+    shown: &[Drawop],
+    (width, height): (u32, u32),
+) -> Result<Vec<u8>, Fail> {
+    let canvas = Canvas::paint(alloc, shown, width, height)?;
     Ok(
         canvas
             .bytes()
@@ -161,7 +142,7 @@ fn plain(alloc: Global, shown: &[Drawop], (width, height): (u32, u32)) -> Result
 }
 
 /// The four drawops in the order of this number, of 24.
-fn in_order(four: [Drawop; 4], number: usize) -> [Drawop; 4] {
+pub(crate) fn in_order(four: [Drawop; 4], number: usize) -> [Drawop; 4] {
     let mut list = four;
     list.swap(0, number % 4);
     list.swap(1, 1 + number / 4 % 3);

@@ -1,8 +1,8 @@
 //! What pages show, by `order`.
 
-use super::{delete, drawn, in_order, is_history, make_samples, name, page};
-use crate::order;
+use crate::samples::{delete, drawn, in_order, make_samples, name, page};
 use std::test::Fail;
+use wb_display::{is_history, order};
 
 #[test]
 fn deletes_hide_and_ties_go_by_source(rt: HostRuntime) -> Result<(), Fail> {

@@ -1,9 +1,9 @@
 //! Values from outside, worked by hand, and that each call can succeed. An allocation may be refused
 //! anywhere: a call that answers so is made again, and then has to give what it would have given.
 
-use super::*;
 use std::alloc::{AllocError, Global};
 use std::test::Fail;
+use wb_gaps::{MergeFault, gaps, merge_marks, pages, report};
 use wb_names::{Drawop, FieldFault, Gap, Mark, Marks, Name, PageId, Shape};
 
 const PAGE: PageId = PageId {

@@ -1,9 +1,9 @@
 //! What layers show, while drawops come one by one.
 
-use super::{in_order, is_history, line, make_samples, name, page, text};
-use crate::{Layer, order};
+use crate::samples::{in_order, line, make_samples, name, page, text};
 use std::alloc::{AllocError, Global};
 use std::test::Fail;
+use wb_display::{Layer, is_history, order};
 use wb_names::{Drawop, Name, Shape};
 
 /// Page 7/1, after these were put on it in turn.

@@ -1,6 +1,0 @@
-use Rattle.std.proofs.Common.{take}
-use Rattle.wb_names.specs.History.{IsHistory}
-use Rattle.wb_display.proofs.tests.is_history.Given as goal
-
-abbrev pub invariant-loop-i : goal.invariant-loop-i
-invariant-loop-i l = IsHistory (take l.i l.list)

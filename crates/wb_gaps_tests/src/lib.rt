@@ -1,0 +1,5 @@
+//! Tests of wb_gaps over its public calls: lists with values from outside, and that each call succeeds.
+#![tactic(auto)]
+
+#[cfg(test)]
+mod lists;
