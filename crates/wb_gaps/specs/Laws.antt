@@ -10,6 +10,8 @@ use Rattle.wb_gaps.specs.Gaps.{AreGaps}
 use Rattle.wb_gaps.specs.Greatest.{IsGreatest}
 use Rattle.wb_gaps.specs.Merging.{source_count}
 use Rattle.wb_gaps.specs.Pages.{ArePages}
+use Rattle.wb_gaps.specs.PageReports.{AreReports}
+use Rattle.wb_gaps.specs.declared.page_reports.PageReport.{PageReport}
 
 -- there is one list of gaps
 abbrev pub OneGaps : Type 0
@@ -22,6 +24,10 @@ OneReport = (history : List DrawopValue) (page : PageId) (marks others : List Ma
 -- there is one list of pages
 abbrev pub OnePages : Type 0
 OnePages = (history : List DrawopValue) (pages others : List PageId) → ArePages history pages → ArePages history others → pages ≡ others
+
+-- there is one list of reports
+abbrev pub OneReports : Type 0
+OneReports = (history : List DrawopValue) (reports others : List PageReport) → AreReports history reports → AreReports history others → reports ≡ others
 
 -- there is one merge, whichever of the two comes first
 abbrev pub OneMerge : Type 0

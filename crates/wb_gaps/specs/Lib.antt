@@ -1,4 +1,6 @@
 pub mod Pages
+pub mod PageReports
+pub mod ByPage
 pub mod Gaps
 pub mod Greatest
 pub mod Merging

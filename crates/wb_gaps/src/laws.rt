@@ -1,17 +1,18 @@
 //! Laws of gaps, reports, page lists and merges, proved for all lists. The functions do nothing: each
 //! stands here for its clause.
 
-ghost use Rattle.wb_gaps.specs.Laws.{OneGaps, OneReport, OnePages, OneMerge};
+ghost use Rattle.wb_gaps.specs.Laws.{OneGaps, OneReport, OneReports, OnePages, OneMerge};
 ghost use Rattle.wb_gaps.specs.Laws.{GapsOfRearranged, ReportOfRearranged, PagesOfRearranged};
 ghost use Rattle.wb_gaps.specs.Laws.{ReportsGreatest, KnownIsReached, MergesGreater, MergesAllSources};
 ghost use Rattle.wb_gaps.specs.Laws.{HoldsUpToReport, HoldTheSame};
 
-/// There is one list of gaps, one report and one list of pages of a list of drawops, and one merge of
-/// two lists of marks, whichever of the two comes first.
+/// There is one list of gaps, one report, one list of pages and one list of the reports of all pages of
+/// a list of drawops, and one merge of two lists of marks, whichever of the two comes first.
 pub fn answers_are_one()
     ensures gaps { OneGaps }
     ensures report { OneReport }
     ensures pages { OnePages }
+    ensures reports { OneReports }
     ensures merge { OneMerge }
 {}
 

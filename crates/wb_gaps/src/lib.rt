@@ -2,9 +2,10 @@
 //!
 //! Members of a whiteboard find their losses by comparing what they hold with what others report. For a
 //! list of drawops this crate answers which pages it has (`page_list`), the greatest number of each
-//! source on a page (`page_report`) and which numbers are missing there (`missing`); and it merges what
-//! two members reported (`merged`). Each answer is a walk over the sorted numbers that the page holds
-//! (`held`), the last of each source (`highest`), or two lists of marks taken as one (`joined`).
+//! source on a page (`page_report`) and on every page (`page_reports`), and which numbers are missing on
+//! a page (`missing`); and it merges what two members reported (`merged`). Each answer is a walk over the
+//! sorted numbers that the page holds (`held`), the last of each source (`highest`), or two lists of
+//! marks taken as one (`joined`).
 //!
 //! It knows no board, no clock and no datagram, and it asks for nothing that is missing. It needs no
 //! order of the list, and a name may stand twice in it.
@@ -19,8 +20,10 @@ mod merged;
 mod missing;
 mod page_list;
 mod page_report;
+mod page_reports;
 
 pub use merged::{MergeFault, merge_marks};
 pub use missing::gaps;
 pub use page_list::pages;
 pub use page_report::report;
+pub use page_reports::{PageReport, all_reports};
