@@ -6,7 +6,8 @@ use Rattle.std.specs.Option.{option_or}
 use Rattle.std.specs.Ordering.{nat_cmp}
 use Rattle.std.specs.BTreeMap.{is_at}
 use Rattle.std.specs.Map.{lookup}
-use Rattle.wb_names.specs.Values.{NameValue, DrawopValue}
+use Rattle.wb_names.specs.Values.{NameValue, DrawopValue, MarkValue}
+use Rattle.wb_gaps.specs.Joining.{joined}
 use Rattle.wb_names.specs.Orders.{same_name}
 use Rattle.wb_names.specs.History.{HoldsName}
 use Rattle.wb_names.specs.declared.name.PageId.{PageId}
@@ -23,6 +24,7 @@ use Rattle.wb_recovery.specs.declared.tuning.Tuning.{Tuning}
 use Rattle.wb_recovery.specs.declared.come.Come.{Come}
 use Rattle.wb_recovery.specs.declared.missed.Missed.{Missed}
 use Rattle.wb_host.specs.Keeper.{KeeperCall, SetDelay, newest, moment_at, high_told, high_heard, delay_told, delay_to, session_told, senders_of, remember, told_by, last_heard, come_of, missed_of, events_of, holds}
+use Rattle.wb_host.specs.Hearing.{marks_told, marks_heard}
 use Rattle.wb_host.specs.Keeping.{KeeperValue, StandsFor, Keeps, delay_at}
 
 -- ---- calls that tell nothing of others
@@ -34,6 +36,7 @@ pub record IsInward (call : KeeperCall) : Type 0 where
   pub delays : (me source : ℕ) → delay_told me source call ≡ None
   pub sessions : (me : ℕ) → session_told me call ≡ None
   pub marks : (me : ℕ) (page : PageId) (source : ℕ) → high_told me page source call ≡ 0
+  pub merged : (me : ℕ) (page : PageId) → marks_told me page call ≡ []
 
 module _ (call : KeeperCall) (is : IsInward call) (me : ℕ) (calls : List KeeperCall) where
   pub same_delay : (source : ℕ) → delay_to me (call ∷ calls) source ≡ delay_to me calls source
@@ -50,6 +53,9 @@ module _ (call : KeeperCall) (is : IsInward call) (me : ℕ) (calls : List Keepe
   pub same_marks : (page : PageId) (source : ℕ) → high_heard me (call ∷ calls) page source ≡ high_heard me calls page source
   same_marks page source = ap (λ (n : ℕ). max n (high_heard me calls page source)) (is.marks me page source) ∙ max_none _
 
+  pub same_merged : (page : PageId) → marks_heard me (call ∷ calls) page ≡ marks_heard me calls page
+  same_merged page = ap (λ (ms : List MarkValue). joined ms (marks_heard me calls page)) (is.merged me page)
+
 -- such a call changes the timers and the moment alone
 pub keeps_inward : (call : KeeperCall) → IsInward call → (old new : KeeperValue) (recovery : RecoveryValue) (now : ℕ) → new ≡ record old { moment = now; recovery = recovery } → ((calls : List KeeperCall) → moment_at (call ∷ calls) ≡ now)
     → ((me : ℕ) (t : Tuning) (calls : List KeeperCall) → StandsFor me t calls old → timers.StandsFor t (events_of me (call ∷ calls)) recovery) → Keeps call old new
@@ -61,6 +67,7 @@ keeps_inward call inward old new recovery now is moment timed me t calls s = sub
   heard = λ source. s.heard source ∙ sym (same_heard call inward me calls source);
   senders = s.senders ∙ ap length (sym (same_senders call inward me calls));
   marks = λ page source. s.marks page source ∙ sym (same_marks call inward me calls page source);
+  merged = λ page. s.merged page ∙ sym (same_merged call inward me calls page);
 })
 
 -- ---- a delay is set
@@ -73,6 +80,7 @@ keeps_delay source micros old new delays is r me t calls s = subst (StandsFor me
   heard = s.heard;
   senders = s.senders;
   marks = λ page q. s.marks page q ∙ sym (max_none _);
+  merged = s.merged;
 }) where
   from : (q : ℕ) (b : Bool) → unwrap_or (cond b (Some micros) (lookup (is_at (nat_cmp q)) old.delays)) 100000 ≡ unwrap_or (option_or (cond b (Some micros) None) (newest (delay_told me q) calls)) 100000
   from q true = refl

@@ -4,3 +4,4 @@ pub mod Agreement
 pub mod KeptCalls
 pub mod SentEchoes
 pub mod FoundDrawops
+pub mod KeeperAnswers

@@ -12,6 +12,7 @@ use Rattle.wb_recovery.specs.Noticing.{IsAlike}
 use Rattle.wb_recovery.specs.Standing as timers
 use Rattle.wb_recovery.specs.declared.tuning.Tuning.{Tuning}
 use Rattle.wb_host.specs.Keeper.{KeeperCall, moment_at, high_heard, delay_to, senders_of, last_heard, events_of}
+use Rattle.wb_host.specs.Hearing.{marks_heard}
 use Rattle.wb_host.specs.declared.keeper.Heard.{Heard}
 
 -- its member's number, the moment of its last call, its timers, and by source or page the delays, the session messages
@@ -42,6 +43,7 @@ pub record StandsFor (me : ℕ) (tuning : Tuning) (calls : List KeeperCall) (val
   pub heard : (source : ℕ) → heard_at value.heard source ≡ last_heard me calls source
   pub senders : length value.heard ≡ length (senders_of me calls)
   pub marks : (page : PageId) (source : ℕ) → mark_of (marks_at value.marks page) source ≡ high_heard me calls page source
+  pub merged : (page : PageId) → marks_at value.marks page ≡ marks_heard me calls page
 
 -- the call is accepted: what stood for some calls stands for these and this one
 abbrev pub Keeps : KeeperCall → KeeperValue → KeeperValue → Type 0

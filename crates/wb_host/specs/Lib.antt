@@ -6,7 +6,9 @@ pub mod Desks
 pub mod Runs
 pub mod Laws
 pub mod Keeper
+pub mod Hearing
 pub mod Keeping
+pub mod Missing
 pub mod KeepFaults
 pub mod Sessions
 pub mod Ticks

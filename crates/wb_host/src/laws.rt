@@ -1,5 +1,7 @@
 //! Laws of the board. Each function does nothing: its contract is a law, for proofs to cite.
 
+ghost use Rattle.wb_host.specs.Hearing.{OneSent};
+ghost use Rattle.wb_host.specs.Missing.{OneWanted};
 ghost use Rattle.wb_host.specs.Laws.{AnswersConverge, CanvasesConverge, ReportsAgree};
 ghost use Rattle.wb_host.specs.Runs.{OneRun};
 
@@ -24,4 +26,11 @@ pub fn order_is_free()
 /// marks of a session message, and has no more, shows what its sender showed, who lacked nothing.
 pub fn reports_agree()
     ensures { ReportsAgree }
+{}
+
+/// There is one list that a keeper sends at once for what it hears, and one list of the names that it
+/// wants of a page.
+pub fn keepers_answer_alike()
+    ensures sent { OneSent }
+    ensures wanted { OneWanted }
 {}

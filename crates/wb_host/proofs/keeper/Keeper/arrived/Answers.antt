@@ -12,7 +12,7 @@ pub returns-clause-ok : goal.returns-clause-ok
 returns-clause-ok c =
     let held = filter (holds c.args.desk.now.seen) c.args.names.now in
     let new = c.come_all.new.self in
-    keeps_inward (Arrive c.args.now held) (record { delays = λ me source. refl; sessions = λ me. refl; marks = λ me page source. refl }) c.args.self.now new new.recovery c.args.now
+    keeps_inward (Arrive c.args.now held) (record { delays = λ me source. refl; sessions = λ me. refl; marks = λ me page source. refl; merged = λ me page. refl }) c.args.self.now new new.recovery c.args.now
     (c.come_all.ensures.rest ∙ ap (λ (v : KeeperValue). record v { moment = c.args.now; recovery = new.recovery }) c.self.view_is)
     (λ calls. refl)
     (λ me t calls s.

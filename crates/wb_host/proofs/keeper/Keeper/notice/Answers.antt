@@ -13,7 +13,7 @@ returns-clause-ok c =
     let a = c.args in
     let new = c.notice_all.new.self in
     let ok = on_no_err c.notice_all.result (sym c.is_err.ensures.value ∙ c.if-is_err.false) c.notice_all.ensures.ok in
-    keeps_inward (Miss a.now a.names.now a.words.now) (record { delays = λ me source. refl; sessions = λ me. refl; marks = λ me page source. refl }) a.self.now _ new a.now
+    keeps_inward (Miss a.now a.names.now a.words.now) (record { delays = λ me source. refl; sessions = λ me. refl; marks = λ me page source. refl; merged = λ me page. refl }) a.self.now _ new a.now
     (ap (λ (v : KeeperValue). record v { moment = a.now; recovery = new }) c.self.view_is)
     (λ calls. refl)
     (λ me t calls s.

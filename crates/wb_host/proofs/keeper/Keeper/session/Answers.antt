@@ -20,5 +20,5 @@ returns-clause-message c = λ me constants calls s. record {
 
 pub returns-clause-ok : goal.returns-clause-ok
 returns-clause-ok c =
-    keeps_inward (Report c.args.now) (record { delays = λ me source. refl; sessions = λ me. refl; marks = λ me page source. refl }) c.args.self.now _ c.args.self.now.recovery c.args.now
+    keeps_inward (Report c.args.now) (record { delays = λ me source. refl; sessions = λ me. refl; marks = λ me page source. refl; merged = λ me page. refl }) c.args.self.now _ c.args.self.now.recovery c.args.now
     (ap (λ (v : KeeperValue). record v { moment = c.args.now }) c.self.view_is) (λ calls. refl) (λ me t calls s. s.timed)

@@ -25,7 +25,7 @@ returns-clause-ok c =
     let stopped = stopped_in c.refresh.new.desk.seen a.self.now.recovery in
     let new = c.stop_and_tick.new.self in
     let ok = on_no_err c.stop_and_tick.result (sym c.is_err.ensures.value ∙ c.if-is_err.false) c.stop_and_tick.ensures.ok in
-    keeps_inward (GoOn a.now a.words.now stopped) (record { delays = λ me source. refl; sessions = λ me. refl; marks = λ me page source. refl }) a.self.now _ new a.now
+    keeps_inward (GoOn a.now a.words.now stopped) (record { delays = λ me source. refl; sessions = λ me. refl; marks = λ me page source. refl; merged = λ me page. refl }) a.self.now _ new a.now
     (ap (λ (v : KeeperValue). record v { moment = a.now; recovery = new }) c.self.view_is)
     (λ calls. refl)
     (λ me t calls s.
