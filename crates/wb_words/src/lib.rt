@@ -17,4 +17,5 @@ mod writing;
 
 pub use fault::{WordFault, WordsFault, WrongWord};
 pub use reading::read_words;
+pub use rest::parted;
 pub use writing::write_words;

@@ -16,7 +16,7 @@ pub(crate) enum Rest<'a> {
 }
 
 /// What stands before and after the first byte that is the mark.
-pub(crate) fn parted(bytes: &[u8], mark: u8) -> Option<(&[u8], &[u8])>
+pub fn parted(bytes: &[u8], mark: u8) -> Option<(&[u8], &[u8])>
     ensures { option_map (λ x. (x.0.now, x.1.now)) result ≡ parted mark bytes.now }
 {
     for (place, byte) in bytes.iter().enumerate() {

@@ -1,0 +1,24 @@
+-- What the bytes that a line carries say.
+use Rattle.std.proofs.Common.{◌≡◌, ℕ, true, false, List, Ok, Err, Some, refl, ap, ◌∙◌}
+use Rattle.wb_codec.specs.declared.datagram.Datagram.{Datagram}
+use Rattle.wb_codec.specs.Reading.{reading}
+use Rattle.wb_codec.specs.Grammar.{Spells}
+use Rattle.wb_codec.proofs.GrammarLaws.{reading_again}
+use Rattle.wb_words.specs.Words.{parted}
+use Rattle.wb_script.specs.Words.{is_hex}
+use Rattle.wb_script.proofs.Arrivals.{unhex-not_hex}
+use Rattle.wb_filters.specs.declared.carrier.Carrier.{Carrier}
+use Rattle.wb_filters.specs.declared.fault.LineFault.TheVariants as faults
+use Rattle.wb_filters.specs.Turning.{carrier_of, takes, words_behind, told, worded}
+
+pub read_so : (bytes : List ℕ) (v : Datagram) → Spells bytes v → reading bytes ≡ Ok v
+read_so bytes v s = ap reading s.1 ∙ reading_again v s.0
+
+pub told_kind : (carrier : Carrier) (bytes : List ℕ) (v : Datagram) → Spells bytes v → takes carrier v ≡ false → told carrier (reading bytes) ≡ Err faults.Kind
+told_kind carrier bytes v s e = ap (told carrier) (read_so bytes v s) ∙ rw e refl
+
+pub told_words : (carrier : Carrier) (bytes : List ℕ) (v : Datagram) → Spells bytes v → takes carrier v ≡ true → told carrier (reading bytes) ≡ Ok (words_behind carrier v)
+told_words carrier bytes v s e = ap (told carrier) (read_so bytes v s) ∙ rw e refl
+
+pub no_digits : (line word digits : List ℕ) (carrier : Carrier) → parted 32 line ≡ Some (word, digits) → carrier_of word ≡ Some carrier → is_hex digits ≡ false → worded line ≡ Ok line
+no_digits line word digits carrier e named no_hex = rw (e, named, unhex-not_hex digits no_hex) refl

@@ -1,0 +1,125 @@
+-- What becomes of one line, which stands without its end.
+use Rattle.std.specs.Prelude.{◌≡◌, ℕ, Bool, true, false, List, ◌++◌, Option, Some, None, Result, Ok, Err, nat_eq, codes, if◌then◌else◌}
+use Rattle.std.specs.Str.{bytes_eq}
+use Rattle.hex.specs.Hex.{encode_lower}
+use Rattle.wb_codec.specs.declared.datagram.Datagram.{Datagram}
+use Rattle.wb_codec.specs.declared.datagram.Datagram.TheVariants.{Draw, Session, Request, AskPages, PageState}
+use Rattle.wb_codec.specs.declared.fault.ReadFault.{ReadFault}
+use Rattle.wb_codec.specs.Spelling.{spelling}
+use Rattle.wb_codec.specs.Reading.{reading}
+use Rattle.wb_words.specs.declared.fault.WrongWord.{WrongWord}
+use Rattle.wb_words.specs.Words.{parted}
+use Rattle.wb_words.specs.Spelling.{spelled}
+use Rattle.wb_words.specs.Reading.{reading as reading_words}
+use Rattle.wb_script.specs.Words.{unhex}
+use Rattle.wb_filters.specs.declared.carrier.Carrier.{Carrier}
+use Rattle.wb_filters.specs.declared.carrier.Carrier.TheVariants.{Arrive, Hear, Send}
+use Rattle.wb_filters.specs.declared.fault.LineFault.{LineFault}
+use Rattle.wb_filters.specs.declared.fault.LineFault.TheVariants as faults
+use Rattle.wb_filters.specs.declared.fault.TurnFault.{TurnFault}
+use Rattle.wb_filters.specs.declared.fault.TurnFault.TheVariants as turn_faults
+
+-- ---- lines that carry bytes in hexadecimal
+
+abbrev pub carrier_of : List ℕ → Option Carrier
+carrier_of word =
+    if bytes_eq word (codes "arrive") then Some Arrive
+    else (if bytes_eq word (codes "hear") then Some Hear
+    else (if bytes_eq word (codes "send") then Some Send
+    else None))
+
+-- a drawop that comes in arrives, and every other datagram is heard
+abbrev pub carrier_for : Datagram → Carrier
+carrier_for (Draw d) = Arrive
+carrier_for (Session sender sent page marks echoes) = Hear
+carrier_for (Request asker name) = Hear
+carrier_for (AskPages asker) = Hear
+carrier_for (PageState sender page marks) = Hear
+
+abbrev pub front : Carrier → List ℕ
+front Arrive = codes "arrive "
+front Hear = codes "hear "
+front Send = codes "send "
+
+abbrev pub is_arrival : Datagram → Bool
+is_arrival (Draw d) = true
+is_arrival (Session sender sent page marks echoes) = false
+is_arrival (Request asker name) = false
+is_arrival (AskPages asker) = false
+is_arrival (PageState sender page marks) = false
+
+-- drawops alone arrive, what is heard is none, and each datagram may be sent
+abbrev pub takes : Carrier → Datagram → Bool
+takes Arrive v = is_arrival v
+takes Hear v = if is_arrival v then false else true
+takes Send v = true
+
+-- the line that carries a datagram
+abbrev pub digits_line : Carrier → Datagram → List ℕ
+digits_line carrier v = front carrier ++ encode_lower (spelling v)
+
+-- ---- lines in words
+
+-- the words of a datagram, behind `send` where it is sent
+abbrev pub words_behind : Carrier → Datagram → List ℕ
+words_behind Send v = codes "send " ++ spelled v
+words_behind Arrive v = spelled v
+words_behind Hear v = spelled v
+
+-- ---- from words to digits
+
+-- what follows the word `send`
+abbrev pub sent_part : Option (List ℕ × List ℕ) → Option (List ℕ)
+sent_part None = None
+sent_part (Some parts) = if bytes_eq parts.0 (codes "send") then Some parts.1 else None
+
+-- a line whose first word is no kind of datagram is none in words, and stays
+abbrev pub unless_other : List ℕ → WrongWord → Result (List ℕ) LineFault
+unless_other line wrong = if nat_eq wrong.place 1 then Ok line else Err (faults.Word wrong)
+
+abbrev pub hexed_in : List ℕ → Result Datagram WrongWord → Result (List ℕ) LineFault
+hexed_in line (Ok v) = Ok (digits_line (carrier_for v) v)
+hexed_in line (Err wrong) = unless_other line wrong
+
+abbrev pub hexed_sent : List ℕ → Result Datagram WrongWord → Result (List ℕ) LineFault
+hexed_sent line (Ok v) = Ok (digits_line Send v)
+hexed_sent line (Err wrong) = unless_other line wrong
+
+abbrev pub hexed_by : List ℕ → Option (List ℕ) → Result (List ℕ) LineFault
+hexed_by line None = hexed_in line (reading_words line)
+hexed_by line (Some rest) = hexed_sent line (reading_words rest)
+
+-- the line with the bytes of the datagram that a line says, or its first word that is wrong; a line that says none stays
+abbrev pub hexed : List ℕ → Result (List ℕ) LineFault
+hexed line = hexed_by line (sent_part (parted 32 line))
+
+-- ---- from digits to words
+
+-- what the bytes say
+abbrev pub told : Carrier → Result Datagram ReadFault → Result (List ℕ) LineFault
+told carrier (Ok v) = if takes carrier v then Ok (words_behind carrier v) else Err faults.Kind
+told carrier (Err e) = Err (faults.Datagram e)
+
+abbrev pub worded_digits : List ℕ → Carrier → Option (List ℕ) → Result (List ℕ) LineFault
+worded_digits line carrier None = Ok line
+worded_digits line carrier (Some bytes) = told carrier (reading bytes)
+
+abbrev pub worded_by : List ℕ → List ℕ → Option Carrier → Result (List ℕ) LineFault
+worded_by line digits None = Ok line
+worded_by line digits (Some carrier) = worded_digits line carrier (unhex digits)
+
+abbrev pub worded_at : List ℕ → Option (List ℕ × List ℕ) → Result (List ℕ) LineFault
+worded_at line None = Ok line
+worded_at line (Some parts) = worded_by line parts.1 (carrier_of parts.0)
+
+-- the words of the datagram that a line carries, or what is wrong with its bytes; a line that carries none stays
+abbrev pub worded : List ℕ → Result (List ℕ) LineFault
+worded line = worded_at line (parted 32 line)
+
+-- ---- what the code answers
+
+-- The answer of the code is this one, or memory ran out.
+abbrev pub MayTurn : {X : Type 0} → (X → List ℕ) → Result X TurnFault → Result (List ℕ) LineFault → Type 0
+MayTurn view (Ok x) turned = turned ≡ Ok (view x)
+MayTurn view (Err (turn_faults.Line e)) turned = turned ≡ Err e
+MayTurn view (Err turn_faults.Memory) turned = Unit {0}

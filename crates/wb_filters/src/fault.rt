@@ -1,0 +1,56 @@
+ghost use Rattle.std.specs.Prelude.{◌≡◌};
+ghost use Rattle.wb_filters.specs.declared.fault.TurnFault.TheVariants as turn_faults;
+
+use std::alloc::{AllocError, AllocFailed};
+use thiserror::Error;
+use wb_codec::ReadFault;
+use wb_words::WrongWord;
+
+/// Why a line can't be turned.
+#[derive(Clone, Copy, Debug, PartialEq, Eq, Error)]
+pub enum LineFault {
+    /// A word of a datagram in words is wrong, by its place among them.
+    #[error("{0}")]
+    Word(WrongWord),
+    /// The bytes are no datagram.
+    #[error("word 2: datagram {}", .0.code())]
+    Datagram(ReadFault),
+    /// The datagram is of a kind that the line does not take.
+    #[error("word 2: kind")]
+    Kind,
+}
+
+/// Why a line was not turned.
+#[derive(Clone, Copy, Debug, PartialEq, Eq, Error)]
+pub enum TurnFault {
+    /// It can't be.
+    #[error("{0}")]
+    Line(LineFault),
+    /// Memory ran out. This says nothing of the line.
+    #[error("memory")]
+    Memory,
+}
+
+impl From<LineFault> for TurnFault {
+    ghost from_gives = { λ e f. f ≡ turn_faults.Line e };
+
+    fn from(fault: LineFault) -> TurnFault {
+        TurnFault::Line(fault)
+    }
+}
+
+impl From<AllocError> for TurnFault {
+    ghost from_gives = { λ _ f. f ≡ turn_faults.Memory };
+
+    fn from(_error: AllocError) -> TurnFault {
+        TurnFault::Memory
+    }
+}
+
+impl<T: Drop> From<AllocFailed<T>> for TurnFault {
+    ghost from_gives = { λ _ f. f ≡ turn_faults.Memory };
+
+    fn from(_error: AllocFailed<T>) -> TurnFault {
+        TurnFault::Memory
+    }
+}

@@ -1,0 +1,61 @@
+ghost use Rattle.std.specs.Prelude.{◌≡◌, IfOk};
+ghost use Rattle.wb_codec.specs.Reading.{reading};
+ghost use Rattle.wb_filters.specs.Turning.{MayTurn, words_behind, told, worded};
+
+use crate::carrier::{Carrier, carrier_of, takes};
+use crate::fault::{LineFault, TurnFault};
+use crate::line::copy;
+use std::alloc::{AllocError, Global};
+use wb_codec::{Datagram, ReadFault, read};
+use wb_script::unhex;
+use wb_words::{parted, write_words};
+
+/// The words of a datagram, behind `send` where it is sent.
+fn words_behind(alloc: Global, carrier: Carrier, datagram: &Datagram) -> Result<Vec<u8>, AllocError>
+    ensures { IfOk result (λ line. line.items ≡ words_behind carrier datagram.now) }
+{
+    let words = write_words(alloc, datagram)?;
+    match carrier {
+        Carrier::Send => {
+            let mut line = Vec::new(alloc);
+            line.extend_from_slice(b"send ")?;
+            line.extend_from_slice(words.as_slice())?;
+            Ok(line)
+        }
+        _ => Ok(words),
+    }
+}
+
+/// What the bytes that a line carries say.
+fn told(alloc: Global, carrier: Carrier, bytes: &[u8]) -> Result<Vec<u8>, TurnFault>
+    ensures { MayTurn (λ text. text.items) result (told carrier (reading bytes.now)) }
+{
+    match read(alloc, bytes) {
+        Ok(datagram) => {
+            if !takes(carrier, &datagram) {
+                return Err(TurnFault::Line(LineFault::Kind));
+            }
+            Ok(words_behind(alloc, carrier, &datagram)?)
+        }
+        Err(ReadFault::Memory) => Err(TurnFault::Memory),
+        Err(fault) => Err(TurnFault::Line(LineFault::Datagram(fault))),
+    }
+}
+
+/// A line that a whiteboard takes or prints, which stands without its end, in words: `arrive`,
+/// `hear` or `send`, a space and an even number of hexadecimal digits are the words of the datagram,
+/// behind `send` where it is sent; any other line stays as it is. Or what is wrong with the bytes.
+pub fn words_line(alloc: Global, line: &[u8]) -> Result<Vec<u8>, TurnFault>
+    ensures { MayTurn (λ text. text.items) result (worded line.now) }
+{
+    let Some((word, digits)) = parted(line, b' ') else {
+        return Ok(copy(alloc, line)?);
+    };
+    let Some(carrier) = carrier_of(word) else {
+        return Ok(copy(alloc, line)?);
+    };
+    match unhex(alloc, digits)? {
+        Some(bytes) => told(alloc, carrier, &bytes),
+        None => Ok(copy(alloc, line)?),
+    }
+}
