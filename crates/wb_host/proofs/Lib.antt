@@ -5,3 +5,4 @@ pub mod KeptCalls
 pub mod SentEchoes
 pub mod FoundDrawops
 pub mod KeeperAnswers
+pub mod WantedNames

@@ -12,6 +12,7 @@ mod arrivals;
 mod notices;
 mod sessions;
 mod ticks;
+mod wants;
 
 use crate::keep_fault::KeepFault;
 use std::alloc::Global;
