@@ -1,18 +1,23 @@
 -- What the desk that owns all rows of a board is answered: p is the desk before the call, q the desk after it.
 use Rattle.std.proofs.Common.{◌≡◌, ℕ, ◌+◌, ◌<◌, ◌≤◌, List, [], ◌∷◌, length, take, sym, ap, ◌∙◌, subst, arith}
-use Rattle.std.specs.Prelude.{Some, None}
+use Rattle.std.specs.Prelude.{Some, None, Result, Ok, Err, IfOk}
 use Rattle.std.proofs.lemmas.List.{length-append, take-append-le, take_all}
-use Rattle.wb_names.specs.Values.{DrawopValue}
+use Rattle.wb_names.specs.Values.{DrawopValue, MarkValue}
+use Rattle.wb_names.specs.declared.name.PageId.{PageId}
 use Rattle.wb_names.specs.History.{HoldsName, IsAgainAt, IsClashAt}
 use Rattle.wb_names.specs.Arrivals.{Outcome, Fresh, Known, Clashed, Left, IsTaken, history_with, outcome_of}
 use Rattle.wb_names.proofs.Arrivals.{outcome_is}
 use Rattle.wb_history.specs.Passes.{HistoryValue, PassValue, IsSamePass, IsSound, KeepsRows}
+use Rattle.wb_host.specs.Board.{IsAnswer, AskReport, AskPages, AskView, Marks, Pages, Shown}
+use Rattle.wb_host.specs.Desks.{ReadsOn}
 use Rattle.wb_host.specs.Replies.{Accepted, NotAccepted}
 use Rattle.wb_host.specs.declared.reply.Reply.{Reply}
 use Rattle.wb_host.specs.declared.reply.Reply.TheVariants.{New, Again, Clash}
 use Rattle.wb_host.specs.declared.reply.BoardFault.TheVariants.{NoRow, Memory}
 use Rattle.wb_script.specs.Board.{Held, held_of, OwnsAll}
+use Rattle.wb_script.specs.Queries.{view_of, report_of, pages_of}
 use Rattle.wb_script.specs.Reply.{became}
+use Rattle.wb_script.proofs.Queries.{only_view, only_report, only_pages}
 
 -- one thread answers this outcome, and holds this then; the desk still owns all rows
 pub record Settles (b : HistoryValue) (p : PassValue) (d : DrawopValue) (q : PassValue) (o : Outcome) : Type 0 where
@@ -74,3 +79,27 @@ left_over b p q d owns same sound a =
 
 pub no_memory : (b : HistoryValue) (p q : PassValue) (d : DrawopValue) → OwnsAll b p → IsSamePass p q → IsSound q → NotAccepted p d q Memory → OwnsAll b q
 no_memory b p q d owns same sound a = kept b p q owns same sound a.0
+
+-- a question: the desk still owns all rows, and holds the same
+pub read_on : (b : HistoryValue) (p q : PassValue) → OwnsAll b p → ReadsOn p q → OwnsAll b q
+read_on b p q owns r = kept b p q owns r.same r.sound r.nothing.0
+
+seen_is : (b : HistoryValue) (p q : PassValue) (h : Held) → held_of p ≡ h → OwnsAll b p → ReadsOn p q → q.seen ≡ h.drawops
+seen_is b p q h view owns r = r.nothing.1 owns.whole ∙ ap (λ (k : Held). k.drawops) view
+
+few_seen : (q : PassValue) → IsSound q → length q.seen ≤ 65535
+few_seen q sound = let room = sound.room in let few = sound.few_cells in omega arith
+
+-- the answers of a board whose desk owns all rows
+pub view_here : (b : HistoryValue) (p q : PassValue) (h : Held) (page : PageId) (shown : List DrawopValue) → held_of p ≡ h → OwnsAll b p → ReadsOn p q → IsAnswer q.seen (AskView page) (Shown shown) → shown ≡ view_of h.drawops page
+view_here b p q h page shown view owns r answer = only_view q.seen page shown r.sound.history answer ∙ ap (λ (seen : List DrawopValue). view_of seen page) (seen_is b p q h view owns r)
+
+pub report_here : (b : HistoryValue) (p q : PassValue) (h : Held) (page : PageId) (marks : List MarkValue) → held_of p ≡ h → OwnsAll b p → ReadsOn p q → IsAnswer q.seen (AskReport page) (Marks marks) → marks ≡ report_of h.drawops page
+report_here b p q h page marks view owns r answer = only_report q.seen page marks (few_seen q r.sound) answer ∙ ap (λ (seen : List DrawopValue). report_of seen page) (seen_is b p q h view owns r)
+
+pub pages_here : (b : HistoryValue) (p q : PassValue) (h : Held) (pages : List PageId) → held_of p ≡ h → OwnsAll b p → ReadsOn p q → IsAnswer q.seen AskPages (Pages pages) → pages ≡ pages_of h.drawops
+pages_here b p q h pages view owns r answer = only_pages q.seen pages answer ∙ ap pages_of (seen_is b p q h view owns r)
+
+pub if_ok : {X E : Type 0} (P Q : X → Type 0) → ((x : X) → P x → Q x) → (r : Result X E) → IfOk r P → IfOk r Q
+if_ok P Q then (Ok x) p = then x p
+if_ok P Q then (Err e) p = tt

@@ -1,13 +1,14 @@
 -- What a line does, from what its parts do.
 use Rattle.std.proofs.Common.{◌≡◌, ℕ, false, List, [], ◌++◌, Result, Ok, Err, refl, sym, ap, ◌∙◌, subst, append_assoc}
-use Rattle.std.specs.Prelude.{Option, Some, None, is_none}
+use Rattle.std.specs.Prelude.{Option, Some, None, is_none, IsSome}
 use Rattle.std.proofs.lemmas.Bool.{true≢false}
 use Rattle.wb_script.specs.declared.fault.RunFault.{RunFault}
 use Rattle.wb_script.specs.declared.fault.RunFault.TheVariants as run_faults
 use Rattle.wb_script.specs.declared.query.Query.{Query}
 use Rattle.wb_script.specs.Board.{Held}
 use Rattle.wb_script.specs.Answers.{answer_text}
-use Rattle.wb_script.specs.Script.{State, Step, goes, refused, on_board, asked, after_batch, closing_text, drawops_of, PrintsAnswer, DoesStep}
+use Rattle.wb_names.specs.Values.{DrawopValue}
+use Rattle.wb_script.specs.Script.{State, Step, goes, refused, on_board, asked, board_after, after_batch, closing_text, drawops_of, PrintsAnswer, DoesStep}
 
 -- want of memory before a line has done anything
 pub out_of_memory : (number : ℕ) (s : State) (step : Step) → DoesStep {U = Unit {0}} number s s [] (Err run_faults.Memory) step
@@ -28,3 +29,8 @@ pub asked_text : (number : ℕ) (s t : State) (query : Query) (a b : List ℕ) (
 asked_text number s t query a b r is_open new closing p =
     rw (on_some s.board (goes (after_batch s) (closing_text s ++ answer_text (drawops_of (after_batch s).board) query)) is_open)
     (subst (λ (u : State). DoesStep number s t (a ++ b) r (goes u (closing_text s ++ answer_text (drawops_of u.board) query))) new (asked_goes number s t query a b r closing p))
+
+-- a board that is open stays so as a batch ends
+pub still_open : (b : Option Held) (waiting : List DrawopValue) → is_none b ≡ false → IsSome (board_after b waiting)
+still_open None waiting e = absurd (true≢false e)
+still_open (Some board) waiting e = refl

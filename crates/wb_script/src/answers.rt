@@ -1,19 +1,15 @@
-ghost use Rattle.std.specs.Prelude.{◌≡◌, ◌≤◌, ◌++◌, true, length, IfOk, IfErr, OnOk};
+ghost use Rattle.std.specs.Prelude.{◌≡◌, ◌++◌, IfOk, IfErr, OnOk};
 ghost use Rattle.std.specs.String.{string_bytes};
-ghost use Rattle.wb_names.specs.History.{IsHistory};
-ghost use Rattle.wb_display.specs.Canvas.{is_canvas_size};
 ghost use Rattle.wb_script.specs.Batches.{counts_in};
-ghost use Rattle.wb_script.specs.Queries.{report_of, pages_of};
 ghost use Rattle.wb_script.specs.Answers.{batch_line, pair_line, report_text, pages_text, answer_text, IsAnswerable};
 
 use crate::batch::Batch;
 use crate::fault::RunFault;
 use crate::output::Output;
 use crate::query::Query;
+use crate::whiteboard::Whiteboard;
 use std::alloc::{AllocError, Global};
-use wb_display::{Canvas, CanvasFault, order};
-use wb_gaps::{pages, report};
-use wb_names::{Drawop, Mark, PageId};
+use wb_names::{Mark, PageId};
 
 /// The line that ends a batch.
 pub fn batch_line(alloc: Global, batch: Batch) -> Result<String, AllocError>
@@ -56,36 +52,16 @@ fn pages_text(alloc: Global, pages: &[PageId]) -> Result<String, AllocError>
     Ok(text)
 }
 
-fn canvas_bytes(
-    alloc: Global,
-    drawops: &[Drawop],
-    page: PageId,
-    width: u32,
-    height: u32,
-) -> Result<Canvas, AllocError>
-    requires history { IsHistory drawops.now }
-    requires size { is_canvas_size width height ≡ true }
-    ensures { IfOk result (λ canvas. canvas ≡ answer_text drawops.now (Query.Canvas page width height)) }
-{
-    let shown = order(alloc, drawops, page)?;
-    match Canvas::paint(alloc, &shown, width, height) {
-        Ok(canvas) => Ok(canvas),
-        Err(CanvasFault::Memory) => Err(AllocError),
-        Err(CanvasFault::Size) => unreachable!(),
-    }
-}
-
-/// Prints what a board with these drawops answers to a question.
+/// Prints what a board answers to a question.
 pub fn print(
     alloc: Global,
-    drawops: &[Drawop],
+    board: &mut Whiteboard,
     query: Query,
     output: &mut Output,
 ) -> Result<(), RunFault>
-    requires history { IsHistory drawops.now }
-    requires few { length drawops.now ≤ 65535 }
-    requires query { IsAnswerable query }
-    ensures ok { OnOk result (output.new ≡ output.old ++ answer_text drawops.now query) }
+    requires { IsAnswerable query }
+    ensures same { board.new ≡ board.old }
+    ensures ok { OnOk result (output.new ≡ output.old ++ answer_text board.old.drawops query) }
     ensures err { IfErr result (λ e. (e ≡ RunFault.Memory) × (output.new ≡ output.old)) }
 {
     match query {
@@ -94,15 +70,15 @@ pub fn print(
             width,
             height,
         } => {
-            let canvas = canvas_bytes(alloc, drawops, page, width, height)?;
+            let canvas = board.paint(alloc, page, width, height)?;
             output.add(canvas.bytes())?;
         }
         Query::Report(page) => {
-            let marks = report(alloc, drawops, page)?;
+            let marks = board.report(alloc, page)?;
             output.add(report_text(alloc, marks.as_slice())?.as_bytes())?;
         }
         Query::Pages => {
-            let pages = pages(alloc, drawops)?;
+            let pages = board.pages(alloc)?;
             output.add(pages_text(alloc, &pages)?.as_bytes())?;
         }
     }

@@ -1,4 +1,4 @@
-ghost use Rattle.std.specs.Prelude.{◌≡◌, ◌≢◌, ◌<◌, ◌^◌, List, [], ℕ, length, ◌≤◌, ◌+◌, ◌++◌, Err, Result};
+ghost use Rattle.std.specs.Prelude.{◌≡◌, ◌≢◌, ◌<◌, ◌^◌, List, [], ℕ, length, IsSome, ◌≤◌, ◌+◌, ◌++◌, Err, Result};
 ghost use Rattle.wb_script.specs.Answers.{IsAnswerable};
 ghost use Rattle.wb_script.specs.Parsing.{IsWithin};
 ghost use Rattle.wb_script.specs.Script.{start, EndsBatch, PrintsAnswer, DoesStep, opened, asked, drawops_of, line_step, step_of, held_count};
@@ -70,14 +70,21 @@ impl Host {
     }
 
     /// Prints the answer to a question.
-    fn print_answer(&self, alloc: Global, query: Query, output: &mut Output) -> Result<(), RunFault>
-        requires { IsAnswerable query }
-        ensures text { (written : List ℕ) × (output.new ≡ output.old ++ written) × PrintsAnswer (drawops_of self.now.board) query written result }
+    fn print_answer(
+        &mut self,
+        alloc: Global,
+        query: Query,
+        output: &mut Output,
+    ) -> Result<(), RunFault>
+        requires board { IsSome self.old.board }
+        requires query { IsAnswerable query }
+        ensures same { self.new ≡ self.old }
+        ensures text { (written : List ℕ) × (output.new ≡ output.old ++ written) × PrintsAnswer (drawops_of self.old.board) query written result }
         ensures unwritten { result ≢ Err RunFault.Write }
     {
-        match &self.board {
-            None => print(alloc, &[], query, output),
-            Some(board) => print(alloc, board.drawops(), query, output),
+        match &mut self.board {
+            None => unreachable!(),
+            Some(board) => print(alloc, board, query, output),
         }
     }
 

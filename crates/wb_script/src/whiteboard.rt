@@ -1,13 +1,15 @@
 //! The board of a script, with the desk that owns all of its rows.
-ghost use Rattle.std.specs.Prelude.{◌≡◌, ◌≤◌, ◌<◌, [], length, IfOk, OnOk, OnErr};
+ghost use Rattle.std.specs.Prelude.{◌≡◌, ◌≤◌, ◌<◌, [], length, true, IfOk, OnOk, OnErr};
 ghost use Rattle.wb_names.specs.Arrivals.{history_with, outcome_of};
-ghost use Rattle.wb_names.specs.History.{IsHistory};
+ghost use Rattle.wb_display.specs.Canvas.{canvas_text, is_canvas_size};
+ghost use Rattle.wb_script.specs.Queries.{view_of, report_of, pages_of};
 ghost use Rattle.wb_script.specs.Reply.{became};
 
 use std::alloc::{AllocError, Global};
 use std::marker::Model;
+use wb_display::{Canvas, CanvasFault};
 use wb_host::{Board, BoardFault, Desk, OpenFault, Reply};
-use wb_names::Drawop;
+use wb_names::{Drawop, Marks, PageId};
 
 /// A board and the one desk that was ever made of it.
 #[derive(Drop)]
@@ -42,10 +44,44 @@ impl Whiteboard {
     /// The drawops that are held.
     pub fn drawops(&self) -> &[Drawop]
         ensures value { result.now ≡ self.now.drawops }
-        ensures history { IsHistory result.now }
         ensures few { length result.now ≤ 65535 }
     {
         self.desk.list()
+    }
+
+    /// The canvas of a page, so many cells wide and high. It is painted where the desk lends what the
+    /// page shows.
+    pub fn paint(
+        &mut self,
+        alloc: Global,
+        page: PageId,
+        width: u32,
+        height: u32,
+    ) -> Result<Canvas, AllocError>
+        requires { is_canvas_size width height ≡ true }
+        ensures same { self.new ≡ self.old }
+        ensures canvas { IfOk result (λ canvas. canvas ≡ canvas_text (view_of self.old.drawops page) width height) }
+    {
+        match self.desk.shown(alloc, &self.board, page) {
+            Ok(shown) => painted(alloc, shown, width, height),
+            Err(error) => Err(error),
+        }
+    }
+
+    /// The report of a page.
+    pub fn report(&mut self, alloc: Global, page: PageId) -> Result<Marks, AllocError>
+        ensures same { self.new ≡ self.old }
+        ensures report { IfOk result (λ marks. marks ≡ report_of self.old.drawops page) }
+    {
+        self.board.report(alloc, &mut self.desk, page)
+    }
+
+    /// The pages that have drawops.
+    pub fn pages(&mut self, alloc: Global) -> Result<Vec<PageId>, AllocError>
+        ensures same { self.new ≡ self.old }
+        ensures pages { IfOk result (λ pages. pages.items ≡ pages_of self.old.drawops) }
+    {
+        self.board.pages(alloc, &mut self.desk)
     }
 
     /// Accepts a drawop. No reply: it is left, since all cells are filled. Without memory nothing
@@ -61,5 +97,16 @@ impl Whiteboard {
             Err(BoardFault::NoRow) => Ok(None),
             Err(BoardFault::Memory) => Err(AllocError),
         }
+    }
+}
+
+fn painted(alloc: Global, shown: &[Drawop], width: u32, height: u32) -> Result<Canvas, AllocError>
+    requires { is_canvas_size width height ≡ true }
+    ensures { IfOk result (λ canvas. canvas ≡ canvas_text shown.now width height) }
+{
+    match Canvas::paint(alloc, shown, width, height) {
+        Ok(canvas) => Ok(canvas),
+        Err(CanvasFault::Memory) => Err(AllocError),
+        Err(CanvasFault::Size) => unreachable!(),
     }
 }

@@ -2,17 +2,16 @@ use Rattle.std.proofs.Common.{ap, ◌∙◌, ◌++◌, List, ℕ}
 use Rattle.wb_names.specs.Values.{MarkValue}
 use Rattle.wb_names.specs.declared.name.PageId.{PageId}
 use Rattle.wb_script.specs.Answers.{report_text, pages_text}
-use Rattle.wb_script.proofs.Queries.{only_report, only_pages}
 use Rattle.wb_script.proofs.answers.print.Goals as goal
 
 pub returns-in_ok-add-in-Report-clause-ok : goal.returns-in_ok-add-in-Report-clause-ok
 returns-in_ok-add-in-Report-clause-ok c =
-    let marks = c.as_slice.ensures.marks ∙ only_report c.args.drawops.now c.in-Report.page c.in_ok-marks-in-Report.marks c.requires.few c.in_ok-marks-in-Report.ensures in
+    let marks = c.as_slice.ensures.marks ∙ c.in_ok-marks-in-Report.ensures.report in
     let text = c.as_bytes.ensures.value ∙ c.in_ok-report_text-in-Report.ensures ∙ ap (λ (m : List MarkValue). report_text m) marks in
     rw c.in-Report.is (c.in_ok-add-in-Report.ensures.ok ∙ ap (λ (t : List ℕ). c.args.output.now ++ t) text)
 
 pub returns-in_ok-add-in-Pages-clause-ok : goal.returns-in_ok-add-in-Pages-clause-ok
 returns-in_ok-add-in-Pages-clause-ok c =
-    let pages = c.deref.ensures.value ∙ only_pages c.args.drawops.now c.in_ok-pages-in-Pages.pages.items c.in_ok-pages-in-Pages.ensures in
+    let pages = c.deref.ensures.value ∙ c.in_ok-pages-in-Pages.ensures.pages in
     let text = c.as_bytes-in-Pages.ensures.value ∙ c.in_ok-pages_text-in-Pages.ensures ∙ ap (λ (p : List PageId). pages_text p) pages in
     rw c.in-Pages.is (c.in_ok-add-in-Pages.ensures.ok ∙ ap (λ (t : List ℕ). c.args.output.now ++ t) text)
