@@ -8,15 +8,17 @@ use Rattle.wb_names.specs.History.{HoldsName, IsAgainAt, IsClashAt}
 use Rattle.wb_names.specs.Arrivals.{Outcome, Fresh, Known, Clashed, Left, IsTaken, history_with, outcome_of}
 use Rattle.wb_names.proofs.Arrivals.{outcome_is}
 use Rattle.wb_history.specs.Passes.{HistoryValue, PassValue, IsSamePass, IsSound, KeepsRows}
-use Rattle.wb_host.specs.Board.{IsAnswer, AskReport, AskPages, AskView, Marks, Pages, Shown}
+use Rattle.wb_names.specs.declared.gap.Gap.{Gap}
+use Rattle.wb_host.specs.Board.{IsAnswer, AskGaps, AskReport, AskPages, AskView, Gaps, Marks, Pages, Shown}
 use Rattle.wb_host.specs.Desks.{ReadsOn}
 use Rattle.wb_host.specs.Replies.{Accepted, NotAccepted}
 use Rattle.wb_host.specs.declared.reply.Reply.{Reply}
 use Rattle.wb_host.specs.declared.reply.Reply.TheVariants.{New, Again, Clash}
 use Rattle.wb_host.specs.declared.reply.BoardFault.TheVariants.{NoRow, Memory}
 use Rattle.wb_script.specs.Board.{Held, held_of, OwnsAll}
-use Rattle.wb_script.specs.Queries.{view_of, report_of, pages_of}
+use Rattle.wb_script.specs.Queries.{view_of, gaps_of, report_of, pages_of}
 use Rattle.wb_script.specs.Reply.{became}
+use Rattle.wb_script.proofs.MissingRanges.{only_gaps}
 use Rattle.wb_script.proofs.Queries.{only_view, only_report, only_pages}
 
 -- one thread answers this outcome, and holds this then; the desk still owns all rows
@@ -93,6 +95,10 @@ few_seen q sound = let room = sound.room in let few = sound.few_cells in omega a
 -- the answers of a board whose desk owns all rows
 pub view_here : (b : HistoryValue) (p q : PassValue) (h : Held) (page : PageId) (shown : List DrawopValue) → held_of p ≡ h → OwnsAll b p → ReadsOn p q → IsAnswer q.seen (AskView page) (Shown shown) → shown ≡ view_of h.drawops page
 view_here b p q h page shown view owns r answer = only_view q.seen page shown r.sound.history answer ∙ ap (λ (seen : List DrawopValue). view_of seen page) (seen_is b p q h view owns r)
+
+pub gaps_here : (b : HistoryValue) (p q : PassValue) (h : Held) (page : PageId) (marks none : List MarkValue) (gaps : List Gap) → held_of p ≡ h → OwnsAll b p → ReadsOn p q → none ≡ marks → IsAnswer q.seen (AskGaps page none) (Gaps gaps) → gaps ≡ gaps_of h.drawops page marks
+gaps_here b p q h page marks none gaps view owns r e answer =
+    only_gaps q.seen page none gaps answer ∙ ap (gaps_of q.seen page) e ∙ ap (λ (seen : List DrawopValue). gaps_of seen page marks) (seen_is b p q h view owns r)
 
 pub report_here : (b : HistoryValue) (p q : PassValue) (h : Held) (page : PageId) (marks : List MarkValue) → held_of p ≡ h → OwnsAll b p → ReadsOn p q → IsAnswer q.seen (AskReport page) (Marks marks) → marks ≡ report_of h.drawops page
 report_here b p q h page marks view owns r answer = only_report q.seen page marks (few_seen q r.sound) answer ∙ ap (λ (seen : List DrawopValue). report_of seen page) (seen_is b p q h view owns r)

@@ -11,6 +11,7 @@ pub mod Outcomes
 pub mod Endings
 pub mod Sorting
 pub mod Queries
+pub mod MissingRanges
 pub mod Steps
 pub mod LineCounts
 pub mod CountLaws

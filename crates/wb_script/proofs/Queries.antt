@@ -99,7 +99,7 @@ abbrev source_of : DrawopValue → ℕ
 source_of d = d.name.source
 
 -- a source that the page holds is among its sources
-has_source : (history : List DrawopValue) (page : PageId) (source n : ℕ) → IsHeld history page source n → Contains (sources_of history page) source
+pub has_source : (history : List DrawopValue) (page : PageId) (source n : ℕ) → IsHeld history page source n → Contains (sources_of history page) source
 has_source history page source n held =
     let d : DrawopValue = held.1 in
     let on : IsTrue (is_on page d) = same_page-here d.name.page page (ap (λ (m : NameValue). m.page) held.4) in

@@ -89,6 +89,7 @@ line_step s Skip = goes s []
 line_step s (Board member cells workers seed) = opened s.board cells
 line_step s (Arrive d) = on_board s.board (goes (record { board = s.board; waiting = s.waiting ++ d ∷ [] }) [])
 line_step s (Show page width height) = asked s (queries.Canvas page width height)
+line_step s (Gaps page) = asked s (queries.Gaps page)
 line_step s (Report page) = asked s (queries.Report page)
 line_step s Pages = asked s queries.Pages
 line_step s (Hear v) = refused faults.Unknown
@@ -96,7 +97,6 @@ line_step s (Distance source micros) = refused faults.Unknown
 line_step s (Tick moment) = refused faults.Unknown
 line_step s (Look page) = refused faults.Unknown
 line_step s (Session page) = refused faults.Unknown
-line_step s (Gaps page) = refused faults.Unknown
 
 abbrev pub said_step : State → Result Line LineFault → Step
 said_step s (Ok line) = line_step s line

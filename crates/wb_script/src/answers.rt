@@ -1,7 +1,7 @@
 ghost use Rattle.std.specs.Prelude.{◌≡◌, ◌++◌, IfOk, IfErr, OnOk};
 ghost use Rattle.std.specs.String.{string_bytes};
 ghost use Rattle.wb_script.specs.Batches.{counts_in};
-ghost use Rattle.wb_script.specs.Answers.{batch_line, pair_line, report_text, pages_text, answer_text, IsAnswerable};
+ghost use Rattle.wb_script.specs.Answers.{batch_line, pair_line, gap_line, gaps_text, report_text, pages_text, answer_text, IsAnswerable};
 
 use crate::batch::Batch;
 use crate::fault::RunFault;
@@ -9,7 +9,7 @@ use crate::output::Output;
 use crate::query::Query;
 use crate::whiteboard::Whiteboard;
 use std::alloc::{AllocError, Global};
-use wb_names::{Mark, PageId};
+use wb_names::{Gap, Mark, PageId};
 
 /// The line that ends a batch.
 pub fn batch_line(alloc: Global, batch: Batch) -> Result<String, AllocError>
@@ -28,6 +28,28 @@ fn pair_line(alloc: Global, a: u32, b: u32) -> Result<String, AllocError>
     ensures { IfOk result (λ text. string_bytes text ≡ pair_line a b) }
 {
     format!(in alloc; "{a} {b}\n")
+}
+
+fn gap_line(alloc: Global, gap: Gap) -> Result<String, AllocError>
+    ensures { IfOk result (λ text. string_bytes text ≡ gap_line gap) }
+{
+    let Gap {
+        source,
+        first,
+        last,
+    } = gap;
+    format!(in alloc; "{source} {first} {last}\n")
+}
+
+fn gaps_text(alloc: Global, gaps: &[Gap]) -> Result<String, AllocError>
+    ensures { IfOk result (λ text. string_bytes text ≡ gaps_text gaps.now) }
+{
+    let count = gaps.len();
+    let mut text = format!(in alloc; "gaps {count}\n")?;
+    for gap in gaps {
+        text.push_str(gap_line(alloc, *gap)?.as_str())?;
+    }
+    Ok(text)
 }
 
 fn report_text(alloc: Global, marks: &[Mark]) -> Result<String, AllocError>
@@ -72,6 +94,10 @@ pub fn print(
         } => {
             let canvas = board.paint(alloc, page, width, height)?;
             output.add(canvas.bytes())?;
+        }
+        Query::Gaps(page) => {
+            let gaps = board.gaps(alloc, page)?;
+            output.add(gaps_text(alloc, &gaps)?.as_bytes())?;
         }
         Query::Report(page) => {
             let marks = board.report(alloc, page)?;

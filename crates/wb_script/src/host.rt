@@ -164,6 +164,7 @@ impl Host {
                 };
                 self.ask(alloc, number, canvas, output)
             }
+            Line::Gaps(page) => self.ask(alloc, number, Query::Gaps(*page), output),
             Line::Report(page) => self.ask(alloc, number, Query::Report(*page), output),
             Line::Pages => self.ask(alloc, number, Query::Pages, output),
             _ => Err(RunFault::Line(number, LineFault::Unknown)),

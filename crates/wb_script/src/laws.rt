@@ -1,19 +1,22 @@
 //! Laws of what scripts print, proved for all scripts and histories. The functions do nothing: each
 //! stands here for its clauses.
 
-ghost use Rattle.wb_script.specs.Laws.{ViewOfPage, OnlyView, ReportOfPage, OnlyReport, PagesOfHistory, OnlyPages};
+ghost use Rattle.wb_script.specs.Laws.{ViewOfPage, OnlyView, GapsOfPage, OnlyGaps, ReportOfPage, OnlyReport, PagesOfHistory, OnlyPages};
 ghost use Rattle.wb_script.specs.ScriptLaws.{RefusedStays, PrintedStays, SkippedPrintsNothing, CountsAddUp, HeldStays};
 
-/// What is printed is the view of a page, its report, and the list of pages.
+/// What is printed is the view of a page, its missing ranges, its report, and the list of pages.
 pub fn queries_are_answered()
     ensures view { ViewOfPage }
+    ensures gaps { GapsOfPage }
     ensures report { ReportOfPage }
     ensures pages { PagesOfHistory }
 {}
 
-/// There is no other view of a page, no other report of it, and no other list of pages.
+/// There is no other view of a page, no other list of its missing ranges, no other report of it, and no
+/// other list of pages.
 pub fn answers_are_one()
     ensures view { OnlyView }
+    ensures gaps { OnlyGaps }
     ensures report { OnlyReport }
     ensures pages { OnlyPages }
 {}

@@ -9,6 +9,8 @@ pub enum Query {
         width: u32,
         height: u32,
     },
+    /// The missing ranges of a page.
+    Gaps(PageId),
     /// The report of a page.
     Report(PageId),
     /// The pages of the board.

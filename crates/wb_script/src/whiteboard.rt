@@ -2,14 +2,14 @@
 ghost use Rattle.std.specs.Prelude.{◌≡◌, ◌≤◌, ◌<◌, [], length, true, IfOk, OnOk, OnErr};
 ghost use Rattle.wb_names.specs.Arrivals.{history_with, outcome_of};
 ghost use Rattle.wb_display.specs.Canvas.{canvas_text, is_canvas_size};
-ghost use Rattle.wb_script.specs.Queries.{view_of, report_of, pages_of};
+ghost use Rattle.wb_script.specs.Queries.{view_of, gaps_of, report_of, pages_of};
 ghost use Rattle.wb_script.specs.Reply.{became};
 
 use std::alloc::{AllocError, Global};
 use std::marker::Model;
 use wb_display::{Canvas, CanvasFault};
 use wb_host::{Board, BoardFault, Desk, OpenFault, Reply};
-use wb_names::{Drawop, Marks, PageId};
+use wb_names::{Drawop, Gap, Marks, PageId};
 
 /// A board and the one desk that was ever made of it.
 #[derive(Drop)]
@@ -65,6 +65,17 @@ impl Whiteboard {
         match self.desk.shown(alloc, &self.board, page) {
             Ok(shown) => painted(alloc, shown, width, height),
             Err(error) => Err(error),
+        }
+    }
+
+    /// The missing ranges of a page, below the greatest numbers that are held.
+    pub fn gaps(&mut self, alloc: Global, page: PageId) -> Result<Vec<Gap>, AllocError>
+        ensures same { self.new ≡ self.old }
+        ensures gaps { IfOk result (λ gaps. gaps.items ≡ gaps_of self.old.drawops page []) }
+    {
+        match Marks::new(Vec::new(alloc)) {
+            Ok(none) => self.board.gaps(alloc, &mut self.desk, page, &none),
+            Err(_) => unreachable!(),
         }
     }
 

@@ -75,6 +75,25 @@ fn scripts_print_batches_and_canvases(rt: HostRuntime) -> Result<(), Fail> {
     Ok(())
 }
 
+#[test]
+fn missing_ranges_are_printed(rt: HostRuntime) -> Result<(), Fail> {
+    // source 7 on its page 4: numbers 2 and 5, and then the greatest that there is
+    for (script, want) in [
+        (
+            "board 1 16 1 42\narrive 57420101000000220000000700000007000000040000000200000000000000020100000000000000002e\narrive 57420101000000220000000700000007000000040000000500000000000000050100000000000000002e\ngaps 7 4\ngaps 7 1\nreport 7 4",
+            "batch 2 0 0 0\ngaps 2\n7 1 1\n7 3 4\ngaps 0\nreport 1\n7 5\n",
+        ),
+        (
+            "board 1 16 1 42\narrive 5742010100000022000000070000000700000004ffffffff00000000000000010100000000000000002e\ngaps 7 4\n",
+            "batch 1 0 0 0\ngaps 1\n7 1 4294967294\n",
+        ),
+    ] {
+        let (text, _) = outcome(rt.alloc(), script.as_bytes());
+        assert_eq!(rt; text.as_slice(), want.as_bytes(), "of {script}");
+    }
+    Ok(())
+}
+
 fn ends(
     rt: &(impl Abort + AllocGlobal),
     cases: &[(&str, Result<Summary, RunFault>)],

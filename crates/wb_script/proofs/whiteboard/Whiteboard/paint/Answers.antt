@@ -1,6 +1,3 @@
-use Rattle.std.proofs.Common.{◌≡◌, ap, ◌∙◌, List}
-use Rattle.wb_names.specs.Values.{DrawopValue}
-use Rattle.wb_display.specs.Canvas.{canvas_text}
 use Rattle.wb_script.proofs.Boards.{view_here}
 use Rattle.wb_script.proofs.whiteboard.Whiteboard.paint.Goals.{in-Ok, in-Err}
 use Rattle.wb_script.proofs.whiteboard.Whiteboard.paint.Goals as goal
