@@ -6,11 +6,12 @@ use Rattle.wb_names.specs.Values.{NameValue, DrawopValue}
 use Rattle.wb_names.specs.Orders.{same_name}
 use Rattle.wb_codec.specs.declared.datagram.Datagram.{Datagram}
 use Rattle.wb_codec.specs.declared.datagram.Datagram.TheVariants.{Draw, Request}
-use Rattle.wb_recovery.specs.Events.{asking}
+use Rattle.wb_recovery.specs.Events.{asking, names_of, timers_of}
 use Rattle.wb_recovery.specs.Values.{RecoveryValue, timers_in, names_in}
+use Rattle.wb_recovery.specs.declared.tuning.Tuning.{Tuning}
 use Rattle.wb_recovery.specs.declared.action.Action.{Action}
 use Rattle.wb_recovery.specs.declared.action.Action.TheVariants.{Ask, Answer}
-use Rattle.wb_host.specs.Keeper.{holds}
+use Rattle.wb_host.specs.Keeper.{KeeperCall, events_of, holds}
 
 -- the member of a name
 abbrev pub drawop_of : List DrawopValue → NameValue → Option DrawopValue
@@ -27,3 +28,7 @@ sends_for me history actions = filter_map (sent_for me history) actions
 -- the names with a request timer that are held
 abbrev pub stopped_in : List DrawopValue → RecoveryValue → List NameValue
 stopped_in history recovery = filter (holds history) (asking (names_in recovery) (timers_in recovery))
+
+-- the same, read off the accepted calls
+abbrev pub stopped_after : ℕ → Tuning → List KeeperCall → List DrawopValue → List NameValue
+stopped_after me constants calls history = filter (holds history) (asking (names_of (events_of me calls)) (timers_of constants (events_of me calls)))

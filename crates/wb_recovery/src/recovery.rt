@@ -1,4 +1,5 @@
 ghost use Rattle.std.specs.Prelude.{◌≡◌, ◌+◌, ◌*◌, ◌<◌, ◌≤◌, ◌^◌, ◌∷◌, [], ℕ, List, Option, false, true, if◌then◌else◌, IsTrue, IsOk, IfOk, OnOk, OnErr, IfSome, MatchOption, MatchResult, length};
+ghost use Rattle.std.specs.List.Sorted.{IsStrictlySortedBy};
 ghost use Rattle.wb_names.specs.Values.{NameValue};
 ghost use Rattle.wb_names.specs.Orders.{same_name, name_cmp};
 ghost use Rattle.wb_names.specs.Listing.{Lists};
@@ -181,6 +182,7 @@ impl Recovery {
     pub fn due_count(&self, now: u64) -> usize
         ensures count { result ≡ length (due_asks (names_in self.now) (timers_in self.now) now) }
         ensures events { (constants : Constants) (events : List Event) → StandsFor constants events self.now → result ≡ length (due_asks (names_of events) (timers_of constants events) now) }
+        ensures rising { IsStrictlySortedBy name_cmp (names_in self.now) }
     {
         self.asks.count_until(now)
     }
