@@ -12,6 +12,7 @@ pub mod Endings
 pub mod Sorting
 pub mod Queries
 pub mod MissingRanges
+pub mod FreeAnswers
 pub mod Steps
 pub mod LineCounts
 pub mod CountLaws

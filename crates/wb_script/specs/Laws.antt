@@ -1,5 +1,5 @@
 -- Laws of what a script's queries print: each is answered, and has no other answer.
-use Rattle.std.specs.Prelude.{◌≡◌, ◌≤◌, List, length}
+use Rattle.std.specs.Prelude.{◌≡◌, ◌≤◌, List, length, IsPermutation}
 use Rattle.wb_names.specs.Values.{DrawopValue, MarkValue}
 use Rattle.wb_names.specs.History.{IsHistory}
 use Rattle.wb_names.specs.Marks.{IsReport}
@@ -8,6 +8,8 @@ use Rattle.wb_names.specs.declared.gap.Gap.{Gap}
 use Rattle.wb_display.specs.Display.{IsView}
 use Rattle.wb_gaps.specs.Gaps.{AreGaps}
 use Rattle.wb_gaps.specs.Pages.{ArePages}
+use Rattle.wb_script.specs.declared.query.Query.{Query}
+use Rattle.wb_script.specs.Answers.{answer_text}
 use Rattle.wb_script.specs.Queries.{view_of, gaps_of, report_of, pages_of}
 
 -- the function gives the view of a page
@@ -41,3 +43,12 @@ PagesOfHistory = (history : List DrawopValue) → ArePages history (pages_of his
 -- and there is no other such list
 abbrev pub OnlyPages : Type 0
 OnlyPages = (history : List DrawopValue) (pages : List PageId) → ArePages history pages → pages ≡ pages_of history
+
+-- what a board can hold
+pub record IsBoardHistory (history : List DrawopValue) : Type 0 where
+  pub once : IsHistory history
+  pub few : length history ≤ 65535
+
+-- Boards that hold the same drawops, whatever the order in which they came, print the same for each question.
+abbrev pub AnswersAreFree : Type 0
+AnswersAreFree = (one other : List DrawopValue) (query : Query) → IsBoardHistory one → IsBoardHistory other → IsPermutation one other → answer_text one query ≡ answer_text other query

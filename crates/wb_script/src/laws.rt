@@ -1,7 +1,7 @@
 //! Laws of what scripts print, proved for all scripts and histories. The functions do nothing: each
 //! stands here for its clauses.
 
-ghost use Rattle.wb_script.specs.Laws.{ViewOfPage, OnlyView, GapsOfPage, OnlyGaps, ReportOfPage, OnlyReport, PagesOfHistory, OnlyPages};
+ghost use Rattle.wb_script.specs.Laws.{ViewOfPage, OnlyView, GapsOfPage, OnlyGaps, ReportOfPage, OnlyReport, PagesOfHistory, OnlyPages, AnswersAreFree};
 ghost use Rattle.wb_script.specs.ScriptLaws.{RefusedStays, PrintedStays, SkippedPrintsNothing, CountsAddUp, HeldStays};
 
 /// What is printed is the view of a page, its missing ranges, its report, and the list of pages.
@@ -19,6 +19,12 @@ pub fn answers_are_one()
     ensures gaps { OnlyGaps }
     ensures report { OnlyReport }
     ensures pages { OnlyPages }
+{}
+
+/// Boards that hold the same drawops, whatever the order in which they came, print the same for each
+/// question, character for character.
+pub fn order_is_free()
+    ensures { AnswersAreFree }
 {}
 
 /// What whole lines printed stays, whatever follows them: nothing of a refused script changes, and

@@ -1,0 +1,26 @@
+-- Boards that hold the same drawops print the same.
+use Rattle.std.proofs.Common.{◌≡◌, ap, sym, [], List}
+use Rattle.std.specs.Prelude.{IsPermutation}
+use Rattle.wb_names.specs.Values.{DrawopValue, MarkValue}
+use Rattle.wb_names.specs.declared.gap.Gap.{Gap}
+use Rattle.wb_names.specs.declared.name.PageId.{PageId}
+use Rattle.wb_display.specs.Canvas.{canvas_text}
+use Rattle.wb_display.proofs.Convergence.{converges}
+use Rattle.wb_gaps.proofs.Rearranged.{gaps_moved, report_moved, pages_moved}
+use Rattle.wb_script.specs.declared.query.Query.{Query}
+use Rattle.wb_script.specs.declared.query.Query.TheVariants.{Canvas, Gaps, Report, Pages}
+use Rattle.wb_script.specs.Answers.{gaps_text, report_text, pages_text, answer_text}
+use Rattle.wb_script.specs.Queries.{view_of, gaps_of, report_of, pages_of}
+use Rattle.wb_script.specs.Laws.{IsBoardHistory, AnswersAreFree}
+use Rattle.wb_script.proofs.MissingRanges.{gaps_of_page, only_gaps}
+use Rattle.wb_script.proofs.Queries.{view_of_page, report_of_page, only_report, pages_of_history, only_pages}
+
+pub answers_are_free : AnswersAreFree
+answers_are_free one other (Canvas page width height) a b moved =
+    ap (λ (shown : List DrawopValue). canvas_text shown width height) (converges one other page (view_of one page) (view_of other page) moved (view_of_page one page a.once) (view_of_page other page b.once))
+answers_are_free one other (Gaps page) a b moved =
+    ap (λ (gaps : List Gap). gaps_text gaps) (only_gaps other page [] (gaps_of one page []) (gaps_moved one other moved page [] (gaps_of one page []) (gaps_of_page one page [])))
+answers_are_free one other (Report page) a b moved =
+    ap (λ (marks : List MarkValue). report_text marks) (only_report other page (report_of one page) b.few (report_moved one other moved page (report_of one page) (report_of_page one page a.few)))
+answers_are_free one other Pages a b moved =
+    ap (λ (pages : List PageId). pages_text pages) (only_pages other (pages_of one) (pages_moved one other moved (pages_of one) (pages_of_history one)))
