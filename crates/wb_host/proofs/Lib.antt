@@ -6,3 +6,8 @@ pub mod SentEchoes
 pub mod FoundDrawops
 pub mod KeeperAnswers
 pub mod WantedNames
+pub mod OneMessage
+pub mod FreeArrivals
+pub mod TickSends
+pub mod FirstSenders
+pub mod HeardNumbers

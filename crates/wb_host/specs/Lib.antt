@@ -12,3 +12,4 @@ pub mod Missing
 pub mod KeepFaults
 pub mod Sessions
 pub mod Ticks
+pub mod KeeperLaws

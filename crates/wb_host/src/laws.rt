@@ -1,9 +1,19 @@
-//! Laws of the board. Each function does nothing: its contract is a law, for proofs to cite.
+//! Laws of the board and of its keeper. Each function does nothing that is seen: its contract is a law,
+//! for proofs to cite.
 
 ghost use Rattle.wb_host.specs.Hearing.{OneSent};
 ghost use Rattle.wb_host.specs.Missing.{OneWanted};
+ghost use Rattle.std.specs.Prelude.{◌≡◌, All, Ok};
+ghost use Rattle.wb_codec.specs.Ranges.{IsDatagram};
+ghost use Rattle.wb_codec.specs.Reading.{reading};
+ghost use Rattle.wb_codec.specs.Spelling.{spelling};
 ghost use Rattle.wb_host.specs.Laws.{AnswersConverge, CanvasesConverge, ReportsAgree};
 ghost use Rattle.wb_host.specs.Runs.{OneRun};
+ghost use Rattle.wb_host.specs.Sessions.{OneSession};
+ghost use Rattle.wb_host.specs.KeeperLaws.{AnswersWithHeld, AsksForNoneHeld, DrawopsOnlyMove, FirstSendersAreEchoed, MarksAreGreatest, OrderOfArrivalIsFree, OwnOnlyMoves};
+
+use wb_codec::Datagram;
+use wb_codec::laws::{datagrams_are_in_range, reading_undoes_spelling};
 
 /// What all callers of a board were told is one run of a whiteboard of one thread. Let each reply be
 /// the answer at its point of the history, let the points of a caller never fall, and rise after a new
@@ -28,9 +38,60 @@ pub fn reports_agree()
     ensures { ReportsAgree }
 {}
 
+// ---- the keeper
+
 /// There is one list that a keeper sends at once for what it hears, and one list of the names that it
 /// wants of a page.
 pub fn keepers_answer_alike()
     ensures sent { OneSent }
     ensures wanted { OneWanted }
 {}
+
+/// There is one session message of a moment: `session` has no choice in what it answers.
+pub fn one_session()
+    ensures { OneSession }
+{}
+
+/// A keeper that was told of names that arrived is one that was told of the same names in another
+/// order.
+pub fn order_of_arrival_is_free()
+    ensures { OrderOfArrivalIsFree }
+{}
+
+/// A tick asks, as this member, for just the names whose request timer is due and that the desk does
+/// not hold; and it answers with just those members of the history whose answer timer is due, where
+/// no request timer stands for their names.
+pub fn ticks_spare_what_is_held()
+    ensures asks { AsksForNoneHeld }
+    ensures answers { AnswersWithHeld }
+{}
+
+/// The mark of a source on a page is the greatest number that a datagram of another member told.
+pub fn marks_are_greatest()
+    ensures { MarksAreGreatest }
+{}
+
+/// A datagram that comes from this member itself, and a drawop of whomever, move the moment and
+/// nothing else.
+pub fn own_datagrams_only_move()
+    ensures own { OwnOnlyMoves }
+    ensures drawops { DrawopsOnlyMove }
+{}
+
+/// A session message echoes the first 65,535 members whose session messages were heard, each with the
+/// last that it sent.
+pub fn first_senders_are_echoed()
+    ensures { FirstSendersAreEchoed }
+{}
+
+/// Each datagram that a keeper gives out has all its fields in range: `write` spells it, and `read`
+/// gives it back.
+pub fn sent_is_read_back(sent: &[Datagram])
+    ensures ranges { All IsDatagram sent.now }
+    ensures read { All (λ v. reading (spelling v) ≡ Ok v) sent.now }
+{
+    for datagram in sent {
+        datagrams_are_in_range(datagram);
+    }
+    reading_undoes_spelling();
+}
