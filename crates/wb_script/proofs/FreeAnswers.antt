@@ -1,17 +1,15 @@
 -- Boards that hold the same drawops print the same.
-use Rattle.std.proofs.Common.{◌≡◌, ap, sym, [], List}
-use Rattle.std.specs.Prelude.{IsPermutation}
+use Rattle.std.proofs.Common.{ap, [], List}
 use Rattle.wb_names.specs.Values.{DrawopValue, MarkValue}
 use Rattle.wb_names.specs.declared.gap.Gap.{Gap}
 use Rattle.wb_names.specs.declared.name.PageId.{PageId}
 use Rattle.wb_display.specs.Canvas.{canvas_text}
 use Rattle.wb_display.proofs.Convergence.{converges}
 use Rattle.wb_gaps.proofs.Rearranged.{gaps_moved, report_moved, pages_moved}
-use Rattle.wb_script.specs.declared.query.Query.{Query}
 use Rattle.wb_script.specs.declared.query.Query.TheVariants.{Canvas, Gaps, Report, Pages}
-use Rattle.wb_script.specs.Answers.{gaps_text, report_text, pages_text, answer_text}
+use Rattle.wb_script.specs.Answers.{gaps_text, report_text, pages_text}
 use Rattle.wb_script.specs.Queries.{view_of, gaps_of, report_of, pages_of}
-use Rattle.wb_script.specs.Laws.{IsBoardHistory, AnswersAreFree}
+use Rattle.wb_script.specs.Laws.{AnswersAreFree}
 use Rattle.wb_script.proofs.MissingRanges.{gaps_of_page, only_gaps}
 use Rattle.wb_script.proofs.Queries.{view_of_page, report_of_page, only_report, pages_of_history, only_pages}
 

@@ -13,6 +13,7 @@ pub mod Sorting
 pub mod Queries
 pub mod MissingRanges
 pub mod FreeAnswers
+pub mod FreeArrivals
 pub mod Steps
 pub mod LineCounts
 pub mod CountLaws

@@ -1,7 +1,8 @@
 -- Laws of what a script's queries print: each is answered, and has no other answer.
-use Rattle.std.specs.Prelude.{◌≡◌, ◌≤◌, List, length, IsPermutation}
+use Rattle.std.specs.Prelude.{◌≡◌, ℕ, ◌≤◌, List, [], ◌++◌, length, Contains, IsPermutation}
 use Rattle.wb_names.specs.Values.{DrawopValue, MarkValue}
 use Rattle.wb_names.specs.History.{IsHistory}
+use Rattle.wb_names.specs.Arrivals.{history_after}
 use Rattle.wb_names.specs.Marks.{IsReport}
 use Rattle.wb_names.specs.declared.name.PageId.{PageId}
 use Rattle.wb_names.specs.declared.gap.Gap.{Gap}
@@ -52,3 +53,24 @@ pub record IsBoardHistory (history : List DrawopValue) : Type 0 where
 -- Boards that hold the same drawops, whatever the order in which they came, print the same for each question.
 abbrev pub AnswersAreFree : Type 0
 AnswersAreFree = (one other : List DrawopValue) (query : Query) → IsBoardHistory one → IsBoardHistory other → IsPermutation one other → answer_text one query ≡ answer_text other query
+
+-- no two of them are different drawops of one name
+abbrev pub NoneClash : List DrawopValue → Type 0
+NoneClash arrivals = (d e : DrawopValue) → Contains arrivals d → Contains arrivals e → d.name ≡ e.name → d ≡ e
+
+-- there is a cell for each of their names: each history of them fits
+abbrev pub HasCells : ℕ → List DrawopValue → Type 0
+HasCells cells arrivals = (history : List DrawopValue) → IsHistory history → ((d : DrawopValue) → Contains history d → Contains arrivals d) → length history ≤ cells
+
+-- It makes no difference where one batch ends and the next begins.
+abbrev pub BatchesAreOne : Type 0
+BatchesAreOne = (cells : ℕ) (held some more : List DrawopValue) → history_after cells held (some ++ more) ≡ history_after cells (history_after cells held some) more
+
+-- Arrivals that do not clash lead to the same drawops in every order, where there are cells for their names.
+abbrev pub ArrivalsAreFree : Type 0
+ArrivalsAreFree = (cells : ℕ) (arrivals others : List DrawopValue) → IsPermutation arrivals others → NoneClash arrivals → HasCells cells arrivals → IsPermutation (history_after cells [] arrivals) (history_after cells [] others)
+
+-- So what a board of at most 65,535 cells then prints for a question is the same.
+abbrev pub PrintsAreFree : Type 0
+PrintsAreFree = (cells : ℕ) (arrivals others : List DrawopValue) (query : Query) → cells ≤ 65535 → IsPermutation arrivals others → NoneClash arrivals → HasCells cells arrivals
+    → answer_text (history_after cells [] arrivals) query ≡ answer_text (history_after cells [] others) query

@@ -1,7 +1,7 @@
 //! Laws of what scripts print, proved for all scripts and histories. The functions do nothing: each
 //! stands here for its clauses.
 
-ghost use Rattle.wb_script.specs.Laws.{ViewOfPage, OnlyView, GapsOfPage, OnlyGaps, ReportOfPage, OnlyReport, PagesOfHistory, OnlyPages, AnswersAreFree};
+ghost use Rattle.wb_script.specs.Laws.{ViewOfPage, OnlyView, GapsOfPage, OnlyGaps, ReportOfPage, OnlyReport, PagesOfHistory, OnlyPages, AnswersAreFree, BatchesAreOne, ArrivalsAreFree, PrintsAreFree};
 ghost use Rattle.wb_script.specs.ScriptLaws.{RefusedStays, PrintedStays, SkippedPrintsNothing, CountsAddUp, HeldStays};
 
 /// What is printed is the view of a page, its missing ranges, its report, and the list of pages.
@@ -25,6 +25,14 @@ pub fn answers_are_one()
 /// question, character for character.
 pub fn order_is_free()
     ensures { AnswersAreFree }
+{}
+
+/// Arrivals that do not clash, with a cell for each of their names, lead to the same drawops in every
+/// order and in whatever batches, so that each question then prints the same, character for character.
+pub fn arrivals_are_free()
+    ensures batches { BatchesAreOne }
+    ensures held { ArrivalsAreFree }
+    ensures prints { PrintsAreFree }
 {}
 
 /// What whole lines printed stays, whatever follows them: nothing of a refused script changes, and
