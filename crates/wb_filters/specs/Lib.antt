@@ -1,1 +1,4 @@
 pub mod Turning
+pub mod Comments
+pub mod Filtering
+pub mod Steps
