@@ -116,19 +116,33 @@ fn texts_and_targets_are_refused_with_their_first_fault(rt: HostRuntime) -> Resu
 }
 
 #[test]
-fn drawops_are_the_same_where_kind_and_fields_are(rt: HostRuntime) -> Result<(), Fail> {
+fn lines_are_the_same_where_kind_and_fields_are(rt: HostRuntime) -> Result<(), Fail> {
     let own = name(7, 2)?;
     let drawn = Drawop::new(own, 5, line(1, b'*'))?;
-    let written = Drawop::new(own, 5, text(1, b"ab"))?;
-    let hidden = Drawop::new(own, 5, Shape::Delete { source: 7, seq: 1 })?;
     assert_eq!(rt; drawn, Drawop::new(own, 5, line(1, b'*'))?);
     assert_ne!(rt; drawn, Drawop::new(own, 5, frame(1, b'*'))?);
     assert_ne!(rt; drawn, Drawop::new(own, 5, line(1, b'#'))?);
     assert_ne!(rt; drawn, Drawop::new(own, 6, line(1, b'*'))?);
     assert_ne!(rt; drawn, Drawop::new(name(7, 3)?, 5, line(1, b'*'))?);
+    assert_eq!(rt; drawn.op().text().len(), 0);
+    Ok(())
+}
+
+#[test]
+fn texts_are_the_same_where_their_bytes_are(rt: HostRuntime) -> Result<(), Fail> {
+    let own = name(7, 2)?;
+    let written = Drawop::new(own, 5, text(1, b"ab"))?;
     assert_eq!(rt; written, Drawop::new(own, 5, text(1, b"ab"))?);
     assert_ne!(rt; written, Drawop::new(own, 5, text(1, b"ac"))?);
     assert_ne!(rt; written, Drawop::new(own, 5, text(1, b"abc"))?);
+    assert_eq!(rt; written.op().text(), b"ab".as_slice());
+    Ok(())
+}
+
+#[test]
+fn a_delete_is_no_restore(rt: HostRuntime) -> Result<(), Fail> {
+    let own = name(7, 2)?;
+    let hidden = Drawop::new(own, 5, Shape::Delete { source: 7, seq: 1 })?;
     assert_eq!(rt;
         hidden,
         Drawop::new(own, 5, Shape::Delete { source: 7, seq: 1 })?
@@ -137,8 +151,6 @@ fn drawops_are_the_same_where_kind_and_fields_are(rt: HostRuntime) -> Result<(),
         hidden,
         Drawop::new(own, 5, Shape::Restore { source: 7, seq: 1 })?
     );
-    assert_eq!(rt; written.op().text(), b"ab".as_slice());
-    assert_eq!(rt; drawn.op().text().len(), 0);
     assert_eq!(rt; hidden.time(), 5);
     assert_eq!(rt; hidden.name(), own);
     Ok(())
@@ -169,12 +181,18 @@ fn drawops_go_to_other_threads(rt: HostRuntime) -> Result<(), Fail> {
     Ok(())
 }
 
+/// Marks that fall by source, from `count` to 1.
 fn falling(alloc: Global, count: u32) -> Result<Vec<Mark>, Fail> {
     let mut marks = Vec::new(alloc);
     for step in 0..count {
         marks.push(Mark::new(count - step, 1)?)?;
     }
     Ok(marks)
+}
+
+/// The marks (9, 1) and (7, 3).
+fn two_marks() -> Result<[Mark; 2], FieldFault> {
+    Ok([Mark::new(9, 1)?, Mark::new(7, 3)?])
 }
 
 fn echo(source: u32) -> Echo {
@@ -186,44 +204,74 @@ fn echo(source: u32) -> Echo {
 }
 
 #[test]
-fn lists_are_refused_by_size_and_then_by_order(rt: HostRuntime) -> Result<(), Fail> {
+fn a_mark_of_no_number_is_refused(rt: HostRuntime) {
     assert_eq!(rt; Mark::new(7, 0), Err(FieldFault::SeqZero));
-    let two = vec![in rt.alloc(); Mark::new(9, 1)?, Mark::new(7, 3)?]?;
-    let Err((fault, back)) = Marks::new(two) else {
-        return Err(Fail::from("accepted"));
-    };
-    assert_eq!(rt; fault, ListFault::Order);
-    assert_eq!(rt;
-        back.as_slice(),
-        [Mark::new(9, 1)?, Mark::new(7, 3)?].as_slice()
-    );
+}
+
+#[test]
+fn marks_out_of_order_come_back(rt: HostRuntime) -> Result<(), Fail> {
+    let falling = two_marks()?;
+    match Marks::new(Vec::from_array(rt.alloc(), falling)?) {
+        Ok(_) => Err(Fail::from("accepted")),
+        Err((fault, back)) => {
+            assert_eq!(rt; fault, ListFault::Order);
+            assert_eq!(rt; back.as_slice(), falling.as_slice());
+            Ok(())
+        }
+    }
+}
+
+#[test]
+fn too_many_marks_are_refused_before_their_order(rt: HostRuntime) -> Result<(), Fail> {
     let most = Marks::new(falling(rt.alloc(), 65_536)?);
     assert!(rt;
         matches!(&most, Err((ListFault::TooMany, _))),
         "the size is looked at first"
     );
-    let order = Marks::new(falling(rt.alloc(), 65_535)?);
-    assert!(rt; matches!(&order, Err((ListFault::Order, _))));
-    let Ok(kept) = Marks::new(vec![in rt.alloc(); Mark::new(7, 3)?, Mark::new(9, 1)?]?) else {
-        return Err(Fail::from("refused"));
-    };
-    assert_eq!(rt; kept.as_slice().len(), 2);
-    assert_eq!(rt;
-        kept.into_vec().as_slice(),
-        [Mark::new(7, 3)?, Mark::new(9, 1)?].as_slice()
-    );
-    let twice = Echoes::new(vec![in rt.alloc(); echo(8), echo(8)]?);
-    assert!(rt; matches!(&twice, Err((ListFault::Order, _))));
-    let Ok(once) = Echoes::new(vec![in rt.alloc(); echo(8), echo(9)]?) else {
-        return Err(Fail::from("refused"));
-    };
-    assert_eq!(rt; once.as_slice(), [echo(8), echo(9)].as_slice());
-    assert_eq!(rt; once.into_vec().len(), 2);
     Ok(())
 }
 
 #[test]
-fn faults_have_numbers_and_texts(rt: HostRuntime) -> Result<(), Fail> {
+fn the_most_marks_are_refused_for_their_order(rt: HostRuntime) -> Result<(), Fail> {
+    let order = Marks::new(falling(rt.alloc(), 65_535)?);
+    assert!(rt; matches!(&order, Err((ListFault::Order, _))));
+    Ok(())
+}
+
+#[test]
+fn rising_marks_are_kept(rt: HostRuntime) -> Result<(), Fail> {
+    let [high, low] = two_marks()?;
+    match Marks::new(Vec::from_array(rt.alloc(), [low, high])?) {
+        Ok(kept) => {
+            assert_eq!(rt; kept.as_slice().len(), 2);
+            assert_eq!(rt; kept.into_vec().as_slice(), [low, high].as_slice());
+            Ok(())
+        }
+        Err(_) => Err(Fail::from("refused")),
+    }
+}
+
+#[test]
+fn echoes_of_one_source_are_refused(rt: HostRuntime) -> Result<(), Fail> {
+    let twice = Echoes::new(Vec::from_array(rt.alloc(), [echo(8), echo(8)])?);
+    assert!(rt; matches!(&twice, Err((ListFault::Order, _))));
+    Ok(())
+}
+
+#[test]
+fn rising_echoes_are_kept(rt: HostRuntime) -> Result<(), Fail> {
+    match Echoes::new(Vec::from_array(rt.alloc(), [echo(8), echo(9)])?) {
+        Ok(once) => {
+            assert_eq!(rt; once.as_slice(), [echo(8), echo(9)].as_slice());
+            assert_eq!(rt; once.into_vec().len(), 2);
+            Ok(())
+        }
+        Err(_) => Err(Fail::from("refused")),
+    }
+}
+
+#[test]
+fn faults_of_fields_have_numbers_and_texts(rt: HostRuntime) -> Result<(), Fail> {
     let fields = [
         (FieldFault::SeqZero, "1 sequence number 0"),
         (FieldFault::Coordinate, "2 coordinate over 4095"),
@@ -237,6 +285,11 @@ fn faults_have_numbers_and_texts(rt: HostRuntime) -> Result<(), Fail> {
         let code = fault.code();
         assert_eq!(rt; format!(in rt.alloc(); "{code} {fault}")?.as_str(), want);
     }
+    Ok(())
+}
+
+#[test]
+fn faults_of_lists_have_numbers_and_texts(rt: HostRuntime) -> Result<(), Fail> {
     let lists = [
         (ListFault::TooMany, "1 over 65535 members"),
         (ListFault::Order, "2 sources out of order"),
