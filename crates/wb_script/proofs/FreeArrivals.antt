@@ -132,14 +132,22 @@ from_arrivals ds x c = ⊎_elim (λ (a : Contains [] x). absurd (Contains-none x
 walked : (cells : ℕ) (all ds : List DrawopValue) (clash : NoneClash all) (room : HasCells cells all) → Among ds all → Walked cells all clash room [] ds (history_after cells [] ds)
 walked cells all ds clash room here = walk cells all clash room [] ds no_history (λ x c. absurd (Contains-none x c)) here
 
-pub arrivals_are_free : ArrivalsAreFree
-arrivals_are_free cells ds es moved clash room =
+-- also on boards with other numbers of cells
+pub free_on : (cells others : ℕ) (ds es : List DrawopValue) → IsPermutation ds es → NoneClash ds → HasCells cells ds → HasCells others ds → IsPermutation (history_after cells [] ds) (history_after others [] es)
+free_on cells others ds es moved clash room space =
     let back = IsPermutation-sym ds es moved in
     let a = walked cells ds ds clash room (λ x c. c) in
-    let b = walked cells ds es clash room (λ x c. Contains-permutation es ds x back c) in
-    same_members (history_after cells [] ds) (history_after cells [] es) a.once b.once
+    let b = walked others ds es clash space (λ x c. Contains-permutation es ds x back c) in
+    same_members (history_after cells [] ds) (history_after others [] es) a.once b.once
     (λ x c. b.has x (Contains-permutation ds es x moved (from_arrivals ds x (a.from x c))))
     (λ x c. a.has x (Contains-permutation es ds x back (from_arrivals es x (b.from x c))))
+
+pub arrivals_are_free : ArrivalsAreFree
+arrivals_are_free cells ds es moved clash room = free_on cells cells ds es moved clash room room
+
+-- what is held of them is a history
+pub once_held : (cells : ℕ) (ds es : List DrawopValue) → IsPermutation ds es → NoneClash ds → HasCells cells ds → IsHistory (history_after cells [] es)
+once_held cells ds es moved clash room = (walked cells ds es clash room (λ x c. Contains-permutation es ds x (IsPermutation-sym ds es moved) c)).once
 
 pub prints_are_free : PrintsAreFree
 prints_are_free cells ds es query few moved clash room =

@@ -19,3 +19,4 @@ pub mod LineCounts
 pub mod CountLaws
 pub mod BatchLaws
 pub mod ScriptLaws
+pub mod EndingShows

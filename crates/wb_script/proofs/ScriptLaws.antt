@@ -30,7 +30,7 @@ onto_ends : (b : ℕ) (lines : List InputLine) → EachEnds (onto_first b lines)
 onto_ends b [] all = tt
 onto_ends b (line ∷ lines) all = (all.0, all.1)
 
-input_lines-after : (front more : List ℕ) → EachEnds (input_lines front) → input_lines (front ++ more) ≡ input_lines front ++ input_lines more
+pub input_lines-after : (front more : List ℕ) → EachEnds (input_lines front) → input_lines (front ++ more) ≡ input_lines front ++ input_lines more
 input_lines-after [] more all = refl
 input_lines-after (b ∷ front) more all = at (nat_eq b 10) all (input_lines-after front more) where
   at : (feed : Bool) → EachEnds (cond feed (record { bytes = []; ended = true } ∷ input_lines front) (onto_first b (input_lines front)))
@@ -42,7 +42,7 @@ input_lines-after (b ∷ front) more all = at (nat_eq b 10) all (input_lines-aft
 
 -- ---- a step, and whether arrivals wait after it
 
-state_of : (s t : State) (x y : List ℕ) → goes s x ≡ goes t y → s ≡ t
+pub state_of : (s t : State) (x y : List ℕ) → goes s x ≡ goes t y → s ≡ t
 state_of s t x y e = cc
 
 no_text : (board : Option Held) → batch_text board [] ≡ []
@@ -93,10 +93,10 @@ record EndsWithin (n : ℕ) (s : State) (lines : List InputLine) : Type 0 where
 abbrev Course : ℕ → State → Bool → List InputLine → Type 0
 Course n s waits lines = GoesOn n s waits lines ⊎ EndsWithin n s lines
 
-abbrev fit : ℕ → InputLine → Bool
+abbrev pub fit : ℕ → InputLine → Bool
 fit n line = nat_lt n most_lines && nat_le (length line.bytes) most_bytes
 
-one_line : (cut : Bool) (n : ℕ) (s : State) (line : InputLine) (more : List InputLine) → line.ended ≡ true → fit n line ≡ true
+pub one_line : (cut : Bool) (n : ℕ) (s : State) (line : InputLine) (more : List InputLine) → line.ended ≡ true → fit n line ≡ true
     → outcome_from cut n s (line ∷ more) ≡ proceed s (n + 1) (step_of s (content line)) (λ t. outcome_from cut (n + 1) t more)
 one_line cut n s line more ended e = rw (e, ended) refl
 
@@ -147,7 +147,7 @@ course n s waits (line ∷ lines) quiet all =
 course_of : (front : List ℕ) → EachEnds (input_lines front) → Course 0 start false (input_lines front)
 course_of front all = course 0 start false (input_lines front) (λ calm. refl) all
 
-split : (front more : List ℕ) (cut : Bool) (o : Outcome) → EachEnds (input_lines front) → outcome_from cut 0 start (input_lines front ++ input_lines more) ≡ o → outcome cut (front ++ more) ≡ o
+pub split : (front more : List ℕ) (cut : Bool) (o : Outcome) → EachEnds (input_lines front) → outcome_from cut 0 start (input_lines front ++ input_lines more) ≡ o → outcome cut (front ++ more) ≡ o
 split front more cut o all e = ap (outcome_from cut 0 start) (input_lines-after front more all) ∙ e
 
 alone : (front : List ℕ) (o : Outcome) → outcome_from false 0 start (input_lines front ++ []) ≡ o → outcome false front ≡ o
@@ -155,10 +155,10 @@ alone front o e = ap (outcome_from false 0 start) (sym (append-nil (input_lines 
 
 -- ---- what was printed stays
 
-ok_end : (written text : List ℕ) (s : State) (n : ℕ) (fault : RunFault) → before written (finish s (summary n s)) ≡ prints text (Err fault) → ⊥
+pub ok_end : (written text : List ℕ) (s : State) (n : ℕ) (fault : RunFault) → before written (finish s (summary n s)) ≡ prints text (Err fault) → ⊥
 ok_end written text s n fault e = let ends = end_of (written ++ closing_text s) text (summary n s) (Err fault) e in absurd cc
 
-err_end : (written text : List ℕ) (s : State) (sum : Summary) (fault : RunFault) → before written (finish s (Err fault)) ≡ prints text (Ok sum) → ⊥
+pub err_end : (written text : List ℕ) (s : State) (sum : Summary) (fault : RunFault) → before written (finish s (Err fault)) ≡ prints text (Ok sum) → ⊥
 err_end written text s sum fault e = let ends = end_of (written ++ closing_text s) text (Err fault) (Ok sum) e in absurd cc
 
 pub refused_stays : RefusedStays

@@ -12,6 +12,7 @@ pub mod Ahead
 pub mod Running
 pub mod Laws
 pub mod ScriptLaws
+pub mod Shows
 pub mod Checking
 pub use Rattle.wb_names.specs.Values
 pub use Rattle.wb_names.specs.History

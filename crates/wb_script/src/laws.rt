@@ -2,6 +2,7 @@
 //! stands here for its clauses.
 
 ghost use Rattle.wb_script.specs.Laws.{ViewOfPage, OnlyView, GapsOfPage, OnlyGaps, ReportOfPage, OnlyReport, PagesOfHistory, OnlyPages, AnswersAreFree, BatchesAreOne, ArrivalsAreFree, PrintsAreFree};
+ghost use Rattle.wb_script.specs.Shows.{ShowsArrivals, ShowsAreFree};
 ghost use Rattle.wb_script.specs.ScriptLaws.{RefusedStays, PrintedStays, SkippedPrintsNothing, CountsAddUp, HeldStays};
 
 /// What is printed is the view of a page, its missing ranges, its report, and the list of pages.
@@ -33,6 +34,14 @@ pub fn arrivals_are_free()
     ensures batches { BatchesAreOne }
     ensures held { ArrivalsAreFree }
     ensures prints { PrintsAreFree }
+{}
+
+/// A script that shows a page at its end prints the canvas of all its arrivals, of whatever batches. Two
+/// such scripts whose arrivals are rearrangements of one another and do not clash, with cells for all
+/// names, end with the same canvas.
+pub fn shows_are_free()
+    ensures arrivals { ShowsArrivals }
+    ensures free { ShowsAreFree }
 {}
 
 /// What whole lines printed stays, whatever follows them: nothing of a refused script changes, and

@@ -1,0 +1,196 @@
+-- What a script shows at its end is the canvas of all its arrivals.
+use Rattle.std.proofs.Common.{◌≡◌, ℕ, ◌+◌, Bool, true, false, List, [], ◌∷◌, ◌++◌, Result, Ok, Err, refl, sym, ap, ◌∙◌, subst, append_assoc}
+use Rattle.std.specs.Prelude.{Option, Some, None, IsPermutation}
+use Rattle.std.specs.Str.Lines.{strip_carriage_return}
+use Rattle.std.proofs.lemmas.List.{append-nil}
+use Rattle.std.proofs.lemmas.List.Sorted.{IsPermutation-refl}
+use Rattle.wb_names.specs.Values.{DrawopValue}
+use Rattle.wb_names.specs.Arrivals.{history_after}
+use Rattle.wb_names.specs.declared.name.PageId.{PageId}
+use Rattle.wb_display.specs.Canvas.{canvas_text}
+use Rattle.wb_display.proofs.Convergence.{converges}
+use Rattle.wb_script.specs.declared.fault.LineFault.{LineFault}
+use Rattle.wb_script.specs.declared.fault.LineFault.TheVariants as faults
+use Rattle.wb_script.specs.declared.fault.RunFault.{RunFault}
+use Rattle.wb_script.specs.declared.fault.RunFault.TheVariants as run_faults
+use Rattle.wb_script.specs.declared.line.Line.{Line}
+use Rattle.wb_script.specs.declared.line.Line.TheVariants.{Skip, Board, Arrive, Hear, Distance, Tick, Look, Session, Show, Gaps, Report, Pages}
+use Rattle.wb_script.specs.declared.query.Query.{Query}
+use Rattle.wb_script.specs.declared.query.Query.TheVariants as queries
+use Rattle.wb_script.specs.declared.summary.Summary.{Summary}
+use Rattle.wb_script.specs.Board.{Held}
+use Rattle.wb_script.specs.Laws.{NoneClash, HasCells}
+use Rattle.wb_script.specs.Parsing.{line_of}
+use Rattle.wb_script.specs.Queries.{view_of}
+use Rattle.wb_script.specs.Script.{InputLine, input_lines, content, State, start, closing_text, after_batch, Step, goes, refused, asked, said_step, step_of, Outcome, prints, before, finish, summary, proceed, outcome_from}
+use Rattle.wb_script.specs.ScriptLaws.{EachEnds}
+use Rattle.wb_script.specs.Shows.{arrived_by, arrivals_of, cells_by, cells_of, EndsWith, canvas_after, ShowsArrivals, ShowsAreFree}
+use Rattle.wb_script.proofs.FreeArrivals.{batches_are_one, free_on, once_held}
+use Rattle.wb_script.proofs.InputLines.{input_lines-whole, whole_line}
+use Rattle.wb_script.proofs.Outcomes.{before-nil, before-before, too_many, text_of, end_of}
+use Rattle.wb_script.proofs.Queries.{view_of_page}
+use Rattle.wb_script.proofs.ScriptLaws.{state_of, one_line, split, fit}
+
+-- what was held when the batch began, with what waits since, is what all arrivals lead to
+abbrev Leads : Option Held → List DrawopValue → List DrawopValue → Type 0
+Leads None waiting ds = ds ≡ []
+Leads (Some b) waiting ds = history_after b.cells b.drawops waiting ≡ history_after b.cells [] ds
+
+-- the cells of the board, or of the one that the lines open
+abbrev cells_at : Option Held → ℕ → ℕ
+cells_at None later = later
+cells_at (Some b) later = b.cells
+
+-- what a step that is taken leaves
+record Kept (board : Option Held) (ds : List DrawopValue) (said : Result Line LineFault) (t : State) : Type 0 where
+  leads : Leads t.board t.waiting (ds ++ arrived_by said)
+  cells : (later : ℕ) → cells_at t.board later ≡ cells_at board (cells_by said later)
+
+abbrev state : Option Held → List DrawopValue → State
+state board waiting = record { board = board; waiting = waiting }
+
+kept_by : (board : Option Held) (ds : List DrawopValue) (said : Result Line LineFault) (u t : State) (x y : List ℕ) → Kept board ds said u → goes u x ≡ goes t y → Kept board ds said t
+kept_by board ds said u t x y k e = subst (Kept board ds said) (state_of u t x y e) k
+
+leads_on : (board : Option Held) (waiting ds : List DrawopValue) → Leads board waiting ds → Leads board waiting (ds ++ [])
+leads_on board waiting ds h = subst (Leads board waiting) (sym (append-nil ds)) h
+
+-- a question
+asks_kept : (board : Option Held) (waiting ds : List DrawopValue) (query : Query) (said : Result Line LineFault) (t : State) (y : List ℕ) → arrived_by said ≡ [] → ((later : ℕ) → cells_by said later ≡ later) → Leads board waiting ds → asked (state board waiting) query ≡ goes t y → Kept board ds said t
+asks_kept None waiting ds query said t y none same h e = absurd cc
+asks_kept (Some b) waiting ds query said t y none same h e =
+    kept_by (Some b) ds said (after_batch (state (Some b) waiting)) t _ y
+    (record { leads = h ∙ ap (history_after b.cells []) (sym (append-nil ds) ∙ ap (λ (l : List DrawopValue). ds ++ l) (sym none)); cells = λ later. refl }) e
+
+arrives_kept : (board : Option Held) (waiting ds : List DrawopValue) (d : DrawopValue) (t : State) (y : List ℕ) → Leads board waiting ds → said_step (state board waiting) (Ok (Arrive d)) ≡ goes t y → Kept board ds (Ok (Arrive d)) t
+arrives_kept None waiting ds d t y h e = absurd cc
+arrives_kept (Some b) waiting ds d t y h e =
+    kept_by (Some b) ds (Ok (Arrive d)) (state (Some b) (waiting ++ d ∷ [])) t [] y
+    (record {
+      leads = batches_are_one b.cells b.drawops waiting (d ∷ []) ∙ ap (λ (l : List DrawopValue). history_after b.cells l (d ∷ [])) h ∙ sym (batches_are_one b.cells [] ds (d ∷ []));
+      cells = λ later. refl;
+    }) e
+
+opens_kept : (board : Option Held) (waiting ds : List DrawopValue) (member cells workers seed : ℕ) (t : State) (y : List ℕ) → Leads board waiting ds → said_step (state board waiting) (Ok (Board member cells workers seed)) ≡ goes t y → Kept board ds (Ok (Board member cells workers seed)) t
+opens_kept None waiting ds member cells workers seed t y h e =
+    kept_by None ds (Ok (Board member cells workers seed)) (state (Some (record { cells = cells; drawops = [] })) []) t [] y
+    (record { leads = ap (history_after cells []) (sym (ap (λ (l : List DrawopValue). l ++ []) h)); cells = λ later. refl }) e
+opens_kept (Some b) waiting ds member cells workers seed t y h e = absurd cc
+
+step_kept : (board : Option Held) (waiting ds : List DrawopValue) (said : Result Line LineFault) (t : State) (y : List ℕ) → Leads board waiting ds → said_step (state board waiting) said ≡ goes t y → Kept board ds said t
+step_kept board waiting ds (Ok Skip) t y h e = kept_by board ds (Ok Skip) (state board waiting) t [] y (record { leads = leads_on board waiting ds h; cells = λ later. refl }) e
+step_kept board waiting ds (Ok (Arrive d)) t y h e = arrives_kept board waiting ds d t y h e
+step_kept board waiting ds (Ok (Board member cells workers seed)) t y h e = opens_kept board waiting ds member cells workers seed t y h e
+step_kept board waiting ds (Ok (Hear v)) t y h e = absurd cc
+step_kept board waiting ds (Ok (Distance source micros)) t y h e = absurd cc
+step_kept board waiting ds (Ok (Tick moment)) t y h e = absurd cc
+step_kept board waiting ds (Ok (Look page)) t y h e = absurd cc
+step_kept board waiting ds (Ok (Session page)) t y h e = absurd cc
+step_kept board waiting ds (Ok (Show page width height)) t y h e = asks_kept board waiting ds (queries.Canvas page width height) (Ok (Show page width height)) t y refl (λ later. refl) h e
+step_kept board waiting ds (Ok (Gaps page)) t y h e = asks_kept board waiting ds (queries.Gaps page) (Ok (Gaps page)) t y refl (λ later. refl) h e
+step_kept board waiting ds (Ok (Report page)) t y h e = asks_kept board waiting ds (queries.Report page) (Ok (Report page)) t y refl (λ later. refl) h e
+step_kept board waiting ds (Ok Pages) t y h e = asks_kept board waiting ds queries.Pages (Ok Pages) t y refl (λ later. refl) h e
+step_kept board waiting ds (Err f) t y h e = absurd cc
+
+-- ---- whole lines that are run through
+
+record RunsTo (n : ℕ) (s : State) (ds : List DrawopValue) (lines more : List InputLine) : Type 0 where
+  done : ℕ
+  last : State
+  written : List ℕ
+  on : outcome_from false n s (lines ++ more) ≡ before written (outcome_from false done last more)
+  leads : Leads last.board last.waiting (ds ++ arrivals_of lines)
+  cells : cells_at last.board 0 ≡ cells_at s.board (cells_of lines)
+
+-- an outcome behind a text
+record Behind (y text : List ℕ) (sum : Summary) (o : Outcome) : Type 0 where
+  later : List ℕ
+  is : o ≡ prints later (Ok sum)
+  whole : text ≡ y ++ later
+
+behind : (y text : List ℕ) (sum : Summary) (o : Outcome) → before y o ≡ prints text (Ok sum) → Behind y text sum o
+behind y text sum (prints u end) e = record { later = u; is = ap (λ (f : Result Summary RunFault). prints u f) (end_of (y ++ u) text end (Ok sum) e); whole = sym (text_of (y ++ u) text end (Ok sum) e) }
+
+no_fault : (s : State) (text : List ℕ) (sum : Summary) (fault : RunFault) → finish s (Err fault) ≡ prints text (Ok sum) → ⊥
+no_fault s text sum fault e = let ends = end_of (closing_text s) text (Err fault) (Ok sum) e in absurd cc
+
+runs_on : (n : ℕ) (s : State) (ds : List DrawopValue) (line : InputLine) (lines more : List InputLine) (text : List ℕ) (sum : Summary) (fits : Bool) (step : Step) → line.ended ≡ true → fit n line ≡ fits → step_of s (content line) ≡ step
+    → Leads s.board s.waiting ds → outcome_from false n s (line ∷ (lines ++ more)) ≡ prints text (Ok sum)
+    → ((t : State) (ds' : List DrawopValue) (u : List ℕ) → Leads t.board t.waiting ds' → outcome_from false (n + 1) t (lines ++ more) ≡ prints u (Ok sum) → RunsTo (n + 1) t ds' lines more)
+    → RunsTo n s ds (line ∷ lines) more
+runs_on n s ds line lines more text sum false step ended f g h e rest = absurd (no_fault s text sum run_faults.Endless (sym (too_many false n s line (lines ++ more) f) ∙ e))
+runs_on n s ds line lines more text sum true (refused fault) ended f g h e rest =
+    absurd (no_fault s text sum (run_faults.Line (n + 1) fault)
+    (sym (one_line false n s line (lines ++ more) ended f ∙ ap (λ (step : Step). proceed s (n + 1) step (λ t. outcome_from false (n + 1) t (lines ++ more))) g) ∙ e))
+runs_on n s ds line lines more text sum true (goes t y) ended f g h e rest =
+    let said : Result Line LineFault = line_of (content line) in
+    let first : outcome_from false n s (line ∷ (lines ++ more)) ≡ before y (outcome_from false (n + 1) t (lines ++ more)) =
+    one_line false n s line (lines ++ more) ended f ∙ ap (λ (step : Step). proceed s (n + 1) step (λ t. outcome_from false (n + 1) t (lines ++ more))) g in
+    let k : Kept s.board ds said t = step_kept s.board s.waiting ds said t y h g in
+    let b = behind y text sum (outcome_from false (n + 1) t (lines ++ more)) (sym first ∙ e) in
+    let r = rest t (ds ++ arrived_by said) b.later k.leads b.is in
+    record {
+      done = r.done;
+      last = r.last;
+      written = y ++ r.written;
+      on = first ∙ ap (before y) r.on ∙ before-before y r.written (outcome_from false r.done r.last more);
+      leads = subst (Leads r.last.board r.last.waiting) (append_assoc ds (arrived_by said) (arrivals_of lines)) r.leads;
+      cells = r.cells ∙ k.cells (cells_of lines);
+    }
+
+runs : (n : ℕ) (s : State) (ds : List DrawopValue) (lines more : List InputLine) (text : List ℕ) (sum : Summary) → EachEnds lines → Leads s.board s.waiting ds → outcome_from false n s (lines ++ more) ≡ prints text (Ok sum) → RunsTo n s ds lines more
+runs n s ds [] more text sum all h e = record { done = n; last = s; written = []; on = sym (before-nil (outcome_from false n s more)); leads = leads_on s.board s.waiting ds h; cells = refl }
+runs n s ds (line ∷ lines) more text sum all h e =
+    runs_on n s ds line lines more text sum (fit n line) (step_of s (content line)) all.0 refl refl h e (λ t ds' u k g. runs (n + 1) t ds' lines more u sum all.1 k g)
+
+-- ---- the question at the end
+
+shown_on : (n : ℕ) (board : Option Held) (waiting ds : List DrawopValue) (page : PageId) (width height : ℕ) (text : List ℕ) (sum : Summary) → Leads board waiting ds
+    → proceed (state board waiting) (n + 1) (asked (state board waiting) (queries.Canvas page width height)) (λ t. outcome_from false (n + 1) t []) ≡ prints text (Ok sum)
+    → EndsWith text (canvas_text (view_of (history_after (cells_at board 0) [] ds) page) width height)
+shown_on n None waiting ds page width height text sum h e = absurd (no_fault (state None waiting) text sum (run_faults.Line (n + 1) faults.NoBoard) e)
+shown_on n (Some b) waiting ds page width height text sum h e =
+    let s : State = state (Some b) waiting in
+    let answer : List ℕ = canvas_text (view_of (history_after b.cells b.drawops waiting) page) width height in (
+      closing_text s,
+      sym (text_of ((closing_text s ++ answer) ++ []) text (summary (n + 1) (after_batch s)) (Ok sum) e) ∙ append-nil (closing_text s ++ answer)
+          ∙ ap (λ (l : List DrawopValue). closing_text s ++ canvas_text (view_of l page) width height) h,
+    )
+
+shown_at : (n : ℕ) (s : State) (ds : List DrawopValue) (question : List ℕ) (page : PageId) (width height : ℕ) (text : List ℕ) (sum : Summary) (fits : Bool) → fit n (whole_line question) ≡ fits → line_of (strip_carriage_return question) ≡ Ok (Show page width height)
+    → Leads s.board s.waiting ds → outcome_from false n s (whole_line question ∷ []) ≡ prints text (Ok sum)
+    → EndsWith text (canvas_text (view_of (history_after (cells_at s.board 0) [] ds) page) width height)
+shown_at n s ds question page width height text sum false f said h e = absurd (no_fault s text sum run_faults.Endless (sym (too_many false n s (whole_line question) [] f) ∙ e))
+shown_at n s ds question page width height text sum true f said h e =
+    shown_on n s.board s.waiting ds page width height text sum h
+    (sym (one_line false n s (whole_line question) [] refl f ∙ ap (λ (l : Result Line LineFault). proceed s (n + 1) (said_step s l) (λ t. outcome_from false (n + 1) t [])) said) ∙ e)
+
+later_end : (written u text canvas : List ℕ) → text ≡ written ++ u → EndsWith u canvas → EndsWith text canvas
+later_end written u text canvas e (front, is) = (written ++ front, e ∙ ap (λ (t : List ℕ). written ++ t) is ∙ sym (append_assoc written front canvas))
+
+pub shows_arrivals : ShowsArrivals
+shows_arrivals front question text page width height sum all is said e =
+    let lines : List InputLine = input_lines front in
+    let last : List InputLine = whole_line question ∷ [] in
+    let whole : outcome_from false 0 start (lines ++ last) ≡ prints text (Ok sum) =
+    ap (λ (l : List InputLine). outcome_from false 0 start (lines ++ l)) (sym (input_lines-whole question [] is.no_line_feed)) ∙ sym (split front (question ++ 10 ∷ []) false _ all refl) ∙ e in
+    let r = runs 0 start [] lines last text sum all refl whole in
+    let b = behind r.written text sum (outcome_from false r.done r.last last) (sym r.on ∙ whole) in
+    later_end r.written b.later text (canvas_after front page width height) b.whole
+    (subst (λ (cells : ℕ). EndsWith b.later (canvas_text (view_of (history_after cells [] (arrivals_of lines)) page) width height)) r.cells
+    (shown_at r.done r.last (arrivals_of lines) question page width height b.later sum (fit r.done (whole_line question)) refl said r.leads b.is))
+
+same_canvas : (cells others : ℕ) (ds es : List DrawopValue) (page : PageId) (width height : ℕ) → IsPermutation ds es → NoneClash ds → HasCells cells ds → HasCells others ds
+    → canvas_text (view_of (history_after cells [] ds) page) width height ≡ canvas_text (view_of (history_after others [] es) page) width height
+same_canvas cells others ds es page width height moved clash room space =
+    ap (λ (shown : List DrawopValue). canvas_text shown width height)
+    (converges (history_after cells [] ds) (history_after others [] es) page (view_of (history_after cells [] ds) page) (view_of (history_after others [] es) page) (free_on cells others ds es moved clash room space)
+    (view_of_page (history_after cells [] ds) page (once_held cells ds ds (IsPermutation-refl ds) clash room))
+    (view_of_page (history_after others [] es) page (once_held others ds es moved clash space)))
+
+pub shows_are_free : ShowsAreFree
+shows_are_free front other question text again page width height sum sum' all all' is said e e' moved clash room space = (
+  shows_arrivals front question text page width height sum all is said e,
+  subst (EndsWith again) (sym (same_canvas (cells_of (input_lines front)) (cells_of (input_lines other)) (arrivals_of (input_lines front)) (arrivals_of (input_lines other)) page width height moved clash room space))
+      (shows_arrivals other question again page width height sum' all' is said e'),
+)

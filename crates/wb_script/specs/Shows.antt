@@ -1,0 +1,81 @@
+-- What a script shows at its end, said of the bytes that go in and the characters that come out.
+use Rattle.std.specs.Prelude.{◌≡◌, ℕ, List, [], ◌∷◌, ◌++◌, false, Result, Ok, Err, IsPermutation}
+use Rattle.std.specs.Str.Lines.{strip_carriage_return}
+use Rattle.wb_names.specs.Values.{DrawopValue}
+use Rattle.wb_names.specs.Arrivals.{history_after}
+use Rattle.wb_names.specs.declared.name.PageId.{PageId}
+use Rattle.wb_display.specs.Canvas.{canvas_text}
+use Rattle.wb_script.specs.declared.fault.LineFault.{LineFault}
+use Rattle.wb_script.specs.declared.line.Line.{Line}
+use Rattle.wb_script.specs.declared.line.Line.TheVariants.{Skip, Board, Arrive, Hear, Distance, Tick, Look, Session, Show, Gaps, Report, Pages}
+use Rattle.wb_script.specs.declared.summary.Summary.{Summary}
+use Rattle.wb_script.specs.Ahead.{IsLine}
+use Rattle.wb_script.specs.Laws.{NoneClash, HasCells}
+use Rattle.wb_script.specs.Parsing.{line_of}
+use Rattle.wb_script.specs.Queries.{view_of}
+use Rattle.wb_script.specs.Script.{InputLine, input_lines, content, prints, outcome}
+use Rattle.wb_script.specs.ScriptLaws.{EachEnds}
+
+-- the drawop that a line hands in
+abbrev pub arrived_by : Result Line LineFault → List DrawopValue
+arrived_by (Ok Skip) = []
+arrived_by (Ok (Arrive d)) = d ∷ []
+arrived_by (Ok (Board member cells workers seed)) = []
+arrived_by (Ok (Hear v)) = []
+arrived_by (Ok (Distance source micros)) = []
+arrived_by (Ok (Tick moment)) = []
+arrived_by (Ok (Look page)) = []
+arrived_by (Ok (Session page)) = []
+arrived_by (Ok (Show page width height)) = []
+arrived_by (Ok (Gaps page)) = []
+arrived_by (Ok (Report page)) = []
+arrived_by (Ok Pages) = []
+arrived_by (Err e) = []
+
+-- the arrivals of some lines, of whatever batches
+abbrev pub arrivals_of : List InputLine → List DrawopValue
+arrivals_of [] = []
+arrivals_of (line ∷ lines) = arrived_by (line_of (content line)) ++ arrivals_of lines
+
+-- the cells that a line opens a board with; else those of what follows
+abbrev pub cells_by : Result Line LineFault → ℕ → ℕ
+cells_by (Ok Skip) later = later
+cells_by (Ok (Arrive d)) later = later
+cells_by (Ok (Board member cells workers seed)) later = cells
+cells_by (Ok (Hear v)) later = later
+cells_by (Ok (Distance source micros)) later = later
+cells_by (Ok (Tick moment)) later = later
+cells_by (Ok (Look page)) later = later
+cells_by (Ok (Session page)) later = later
+cells_by (Ok (Show page width height)) later = later
+cells_by (Ok (Gaps page)) later = later
+cells_by (Ok (Report page)) later = later
+cells_by (Ok Pages) later = later
+cells_by (Err e) later = later
+
+-- the cells of the first board that is opened, or 0
+abbrev pub cells_of : List InputLine → ℕ
+cells_of [] = 0
+cells_of (line ∷ lines) = cells_by (line_of (content line)) (cells_of lines)
+
+-- a text ends with some characters
+abbrev pub EndsWith : List ℕ → List ℕ → Type 0
+EndsWith text end = (front : List ℕ) × (text ≡ front ++ end)
+
+-- the canvas of a page that shows all arrivals of some whole lines
+abbrev pub canvas_after : List ℕ → PageId → ℕ → ℕ → List ℕ
+canvas_after lines page width height = canvas_text (view_of (history_after (cells_of (input_lines lines)) [] (arrivals_of (input_lines lines))) page) width height
+
+-- A script that ends by showing a page, and is run to its end, ends with the canvas of all its arrivals, of whatever batches.
+abbrev pub ShowsArrivals : Type 0
+ShowsArrivals = (front question text : List ℕ) (page : PageId) (width height : ℕ) (summary : Summary) → EachEnds (input_lines front) → IsLine question → line_of (strip_carriage_return question) ≡ Ok (Show page width height)
+    → outcome false (front ++ (question ++ 10 ∷ [])) ≡ prints text (Ok summary) → EndsWith text (canvas_after front page width height)
+
+-- Two such scripts whose arrivals are rearrangements of one another and do not clash, with cells for all names, end with the same canvas.
+abbrev pub ShowsAreFree : Type 0
+ShowsAreFree = (front other question text again : List ℕ) (page : PageId) (width height : ℕ) (summary summary' : Summary) → EachEnds (input_lines front) → EachEnds (input_lines other)
+    → IsLine question → line_of (strip_carriage_return question) ≡ Ok (Show page width height)
+    → outcome false (front ++ (question ++ 10 ∷ [])) ≡ prints text (Ok summary) → outcome false (other ++ (question ++ 10 ∷ [])) ≡ prints again (Ok summary')
+    → IsPermutation (arrivals_of (input_lines front)) (arrivals_of (input_lines other)) → NoneClash (arrivals_of (input_lines front))
+    → HasCells (cells_of (input_lines front)) (arrivals_of (input_lines front)) → HasCells (cells_of (input_lines other)) (arrivals_of (input_lines front))
+    → EndsWith text (canvas_after front page width height) × EndsWith again (canvas_after front page width height)
