@@ -14,6 +14,7 @@ pub mod MergeSteps
 pub mod ShowingAll
 pub mod Putting
 pub mod Holding
+pub mod NameIndex
 pub mod Layers
 pub mod PuttingAll
 pub mod Convergence

@@ -179,14 +179,14 @@ impl LastWords {
 
     /// Whether a drawop is shown on the page, by the last word on it.
     #[inline(always)]
-    pub fn show(&self, drawop: &Drawop) -> bool
+    pub fn is_shown(&self, drawop: &Drawop) -> bool
         ensures { result ≡ is_shown_by self.now.page drawop.now (word_on self.now (label_of drawop.now)) }
     {
-        self.is_on_page(drawop) && is_drawing(drawop.op()) && !self.hide(Label::of(drawop))
+        self.is_on_page(drawop) && is_drawing(drawop.op()) && !self.is_hidden(Label::of(drawop))
     }
 
     #[inline(always)]
-    fn hide(&self, label: Label) -> bool
+    fn is_hidden(&self, label: Label) -> bool
         ensures { result ≡ hides (word_on self.now label) }
     {
         match self.latest.get(&label) {

@@ -162,7 +162,7 @@ fn take_in(
     ensures kept { TakesIn words.old drawops.old.entries shown.old.items drawop.now words.new drawops.new.entries shown.new.items }
 {
     if let Some(at_stake) = hold(words, drawops, drawop) {
-        settle(shown, &at_stake, words.show(&at_stake));
+        settle(shown, &at_stake, words.is_shown(&at_stake));
     }
 }
 

@@ -55,16 +55,16 @@ fn hide(words: &LastWords, shown: &mut Vec<Drawop>, touched: &[Drawop])
     ensures len { vec_len shown.new ≤ vec_len shown.old }
     ensures capacity { vec_capacity shown.new ≡ vec_capacity shown.old }
 {
-    if !show_each(words, touched) {
-        shown.retain(|drawop| words.show(drawop));
+    if !all_shown(words, touched) {
+        shown.retain(|drawop| words.is_shown(drawop));
     }
 }
 
 /// Whether the last words show each drawop of a list.
-fn show_each(words: &LastWords, list: &[Drawop]) -> bool
+fn all_shown(words: &LastWords, list: &[Drawop]) -> bool
     ensures { IsTrue result ↔ All (λ d. is_shown_now words.now d ≡ true) list.now }
 {
-    list.iter().all(|drawop| words.show(drawop))
+    list.iter().all(|drawop| words.is_shown(drawop))
 }
 
 /// Of the drawops that were touched those that are shown now and are not in the list, each once, in
@@ -74,7 +74,7 @@ fn entering(words: &LastWords, shown: &[Drawop], mut touched: Vec<Drawop>) -> Ve
     ensures len { vec_len result ≤ vec_len touched }
     ensures enters { Enters (is_shown_now words.now) shown.now touched.items result.items }
 {
-    touched.retain(|drawop| words.show(drawop) && !is_placed(shown, drawop));
+    touched.retain(|drawop| words.is_shown(drawop) && !is_placed(shown, drawop));
     touched.sort_unstable_by(|a, b| display_order(a, b));
     touched.dedup_by(|a, b| display_order(a, b).is_eq());
     touched

@@ -4,11 +4,11 @@ ghost use Rattle.std.specs.Prelude.{◌≡◌, ◌↔◌, IfOk, IsTrue, take};
 ghost use Rattle.wb_names.specs.History.{IsHistory};
 ghost use Rattle.wb_display.specs.Display.{IsView};
 ghost use Rattle.wb_display.specs.LastWords.{AreLastWords};
-ghost use Rattle.wb_display.specs.Layer.{holds_name as holds_name_of};
 
 use crate::last_words::LastWords;
+use indexmap::IndexSet;
 use std::alloc::{AllocError, Global};
-use wb_names::{Drawop, Name, PageId, display_order};
+use wb_names::{Drawop, PageId, display_order};
 
 /// The last words of a list on a page.
 fn hear_all(alloc: Global, list: &[Drawop], page: PageId) -> Result<LastWords, AllocError>
@@ -31,7 +31,7 @@ pub fn order(alloc: Global, list: &[Drawop], page: PageId) -> Result<Vec<Drawop>
     let words = hear_all(alloc, list, page)?;
     let mut shown = Vec::new(alloc);
     for drawop in list {
-        if words.show(drawop) {
+        if words.is_shown(drawop) {
             shown.push(*drawop)?;
         }
     }
@@ -39,21 +39,16 @@ pub fn order(alloc: Global, list: &[Drawop], page: PageId) -> Result<Vec<Drawop>
     Ok(shown)
 }
 
-/// Whether no name stands twice in a list, as `order` asks. Each name is sought among those before
-/// it, so the time grows with the square of the length; a layer takes a list of any names.
-pub fn is_history(list: &[Drawop]) -> bool
-    ensures { IsTrue result ↔ IsHistory list.now }
+/// Whether no name stands twice in a list, as `order` asks. It takes an index of the names; a layer
+/// takes a list of any names.
+pub fn is_history(alloc: Global, list: &[Drawop]) -> Result<bool, AllocError>
+    ensures { IfOk result (λ once. IsTrue once ↔ IsHistory list.now) }
 {
-    for i in 0..list.len() {
-        if holds_name(&list[..i], list[i].name()) {
-            return false;
+    let mut names = IndexSet::with_capacity(alloc, list.len())?;
+    for drawop in list {
+        if !names.insert(drawop.name())? {
+            return Ok(false);
         }
     }
-    true
-}
-
-fn holds_name(list: &[Drawop], name: Name) -> bool
-    ensures { result ≡ holds_name_of list.now name }
-{
-    list.iter().any(|drawop| drawop.name() == name)
+    Ok(true)
 }

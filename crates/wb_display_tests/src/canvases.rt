@@ -135,6 +135,20 @@ fn sizes(rt: HostRuntime) {
     assert_eq!(rt; CanvasFault::Memory.code(), 2);
 }
 
+#[test]
+fn faults_have_texts(rt: HostRuntime) -> Result<(), Fail> {
+    for (fault, want) in [
+        (CanvasFault::Size, "canvas size"),
+        (CanvasFault::Memory, "memory"),
+    ] {
+        assert_eq!(rt; format!(in rt.alloc(); "{fault}")?.as_str(), want);
+    }
+    let stopped = Stopped { sent: 7 };
+    let shown = format!(in rt.alloc(); "{stopped}")?;
+    assert_eq!(rt; shown.as_str(), "stopped after 7 bytes");
+    Ok(())
+}
+
 /// Takes so many bytes more, at most three at a time, and then fails.
 #[derive(Drop)]
 struct Narrow {

@@ -1,9 +1,9 @@
 //! What layers show, while drawops come one by one.
 
-use crate::samples::{in_order, line, make_samples, name, page, text};
+use crate::samples::{in_order, line, make_samples, name, page, shown_of, text};
 use std::alloc::{AllocError, Global};
 use std::test::Fail;
-use wb_display::{Layer, is_history, order};
+use wb_display::Layer;
 use wb_names::{Drawop, Name, Shape};
 
 /// Page 7/1, after these were put on it in turn.
@@ -91,28 +91,55 @@ fn chance(number: u32) -> Result<Drawop, Fail> {
     }
 }
 
-#[test]
-fn order_and_layer_agree(rt: HostRuntime) -> Result<(), Fail> {
-    let mut list = Vec::new(rt.alloc());
+/// Twelve hundred of these, in no order.
+fn chances(alloc: Global) -> Result<Vec<Drawop>, Fail> {
+    let mut list = Vec::new(alloc);
     for number in 0..1200 {
         list.push(chance(number)?)?;
     }
     list.as_mut_slice()
         .sort_unstable_by_key(|drawop| scrambled(u64::from(drawop.name().seq())));
-    assert!(rt; is_history(&list));
+    Ok(list)
+}
+
+/// A page, after each drawop of the list was put on it twice.
+fn put_twice(alloc: Global, list: &[Drawop], number: u32) -> Result<Layer, AllocError> {
+    let mut layer = Layer::new(alloc, page(number));
+    for drawop in list {
+        layer.put(drawop)?;
+        layer.put(drawop)?;
+    }
+    Ok(layer)
+}
+
+/// A page, after the list was put on it twice.
+fn put_all_twice(alloc: Global, list: &[Drawop], number: u32) -> Result<Layer, AllocError> {
+    let mut layer = Layer::new(alloc, page(number));
+    layer.put_all(list)?;
+    layer.put_all(list)?;
+    Ok(layer)
+}
+
+/// Whether `order` and both layers show the same of a page, and whether that is nothing.
+fn agree(alloc: Global, list: &[Drawop], number: u32) -> Result<(bool, bool, bool), Fail> {
+    let shown = shown_of(alloc, list, number)?;
+    let one_by_one = put_twice(alloc, list, number)?;
+    let at_once = put_all_twice(alloc, list, number)?;
+    Ok((
+        one_by_one.shown() == shown.as_slice(),
+        at_once.shown() == shown.as_slice(),
+        shown.is_empty(),
+    ))
+}
+
+#[test]
+fn order_and_layer_agree(rt: HostRuntime) -> Result<(), Fail> {
+    let list = chances(rt.alloc())?;
     for number in [1, 2, 3] {
-        let mut layer = Layer::new(rt.alloc(), page(number));
-        for drawop in &list {
-            layer.put(drawop)?;
-            layer.put(drawop)?;
-        }
-        let shown = order(rt.alloc(), &list, page(number))?;
-        assert!(rt; layer.shown() == shown.as_slice());
-        let mut layer = Layer::new(rt.alloc(), page(number));
-        layer.put_all(&list)?;
-        layer.put_all(&list)?;
-        assert!(rt; layer.shown() == shown.as_slice());
-        assert_eq!(rt; shown.is_empty(), number == 3);
+        assert_eq!(rt;
+            agree(rt.alloc(), &list, number)?,
+            (true, true, number == 3)
+        );
     }
     Ok(())
 }

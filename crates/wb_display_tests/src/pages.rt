@@ -34,7 +34,7 @@ fn deletes_hide_and_ties_go_by_source(rt: HostRuntime) -> Result<(), Fail> {
 fn order_gives_drawops_by_time_then_source(rt: HostRuntime) -> Result<(), Fail> {
     let s = make_samples()?;
     let list = [s.e, s.d];
-    assert!(rt; is_history(&list));
+    assert!(rt; is_history(rt.alloc(), &list)?);
     let shown = order(rt.alloc(), &list, page(1))?;
     assert!(rt; shown.as_slice() == [s.d, s.e].as_slice());
     Ok(())

@@ -35,7 +35,11 @@ fn refused_views_and_canvases(rt: HostRuntime) -> Result<(), Fail> {
         Some(CanvasFault::Size)
     );
     let list = [s.a, s.c, s.x];
-    assert!(rt; is_history(&list));
+    let once = match is_history(rt.alloc(), &list) {
+        Ok(once) => once,
+        Err(_) => is_history(rt.alloc(), &list)?,
+    };
+    assert!(rt; once);
     let shown = match order(rt.alloc(), &list, page(1)) {
         Ok(shown) => shown,
         Err(_) => order(rt.alloc(), &list, page(1))?,

@@ -107,6 +107,14 @@ pub(crate) fn make_samples() -> Result<Samples, FieldFault> {
     })
 }
 
+/// What a page of the list shows, where no name stands twice in it.
+pub(crate) fn shown_of(alloc: Global, list: &[Drawop], number: u32) -> Result<Vec<Drawop>, Fail> {
+    if !is_history(alloc, list)? {
+        return Err(Fail::from("a name stands twice"));
+    }
+    Ok(order(alloc, list, page(number))?)
+}
+
 /// The canvas of a page of the list, with `_` for a space and `/` for a line end.
 pub(crate) fn drawn(
     alloc: Global,
@@ -114,10 +122,7 @@ pub(crate) fn drawn(
     number: u32,
     (width, height): (u32, u32),
 ) -> Result<Vec<u8>, Fail> {
-    if !is_history(list) {
-        return Err(Fail::from("a name stands twice"));
-    }
-    let shown = order(alloc, list, page(number))?;
+    let shown = shown_of(alloc, list, number)?;
     plain(alloc, &shown, (width, height))
 }
 

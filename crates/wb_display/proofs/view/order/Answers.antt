@@ -10,15 +10,15 @@ use Rattle.wb_display.specs.Display.{is_shown}
 use Rattle.wb_display.proofs.Deciding.{display_total, shown_apart}
 use Rattle.wb_display.proofs.Views.{shown_here, picked, passed_over}
 use Rattle.wb_display.proofs.view.order.Goals as goal
-use Rattle.wb_display.proofs.view.order.Goals.{then-show+in_ok-push, else-show}
+use Rattle.wb_display.proofs.view.order.Goals.{then-is_shown+in_ok-push, else-is_shown}
 
 pub loop-drawop-preserved : goal.loop-drawop-preserved
 loop-drawop-preserved c =
-    let here = shown_here c.args.list.now c.args.page c.in_ok-words.words c.drawop-item.result c.requires c.in_ok-words.ensures.page c.in_ok-words.ensures.words ∙ sym c.show.ensures in
+    let here = shown_here c.args.list.now c.args.page c.in_ok-words.words c.drawop-item.result c.requires c.in_ok-words.ensures.page c.in_ok-words.ensures.words ∙ sym c.is_shown.ensures in
     let test : DrawopValue → Bool = is_shown c.args.list.now c.args.page in
-    elim c.if-show.branch [
-      | then-show+in_ok-push w ↦ rw w.shown-is (picked test c.args.list.now c.loop-drawop.drawop-index c.drawop-item.result c.loop-drawop-test.true c.drawop-item.is _ _ (here ∙ w.if-show.true) c.loop-drawop.invariant w.in_ok-push.ensures.items)
-      | else-show w ↦ rw w.shown-is (passed_over test c.args.list.now c.loop-drawop.drawop-index c.drawop-item.result c.loop-drawop-test.true c.drawop-item.is _ (here ∙ w.if-show.false) c.loop-drawop.invariant)
+    elim c.if-is_shown.branch [
+      | then-is_shown+in_ok-push w ↦ rw w.shown-is (picked test c.args.list.now c.loop-drawop.drawop-index c.drawop-item.result c.loop-drawop-test.true c.drawop-item.is _ _ (here ∙ w.if-is_shown.true) c.loop-drawop.invariant w.in_ok-push.ensures.items)
+      | else-is_shown w ↦ rw w.shown-is (passed_over test c.args.list.now c.loop-drawop.drawop-index c.drawop-item.result c.loop-drawop-test.true c.drawop-item.is _ (here ∙ w.if-is_shown.false) c.loop-drawop.invariant)
     ]
 
 pub returns : goal.returns
