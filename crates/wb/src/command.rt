@@ -31,6 +31,10 @@ creator 7 and number 1 on a canvas 5 cells wide and 3 high:
     *****
          
 
+The line `gaps 7 1` prints the numbers that are missing below the greatest of each
+source on that page, as ranges; `report 7 1` prints those greatest numbers, and
+`pages` the pages that were drawn on.
+
 Lines that are blank or begin with # are skipped.";
 
 fn run_command<'a>(alloc: Global) -> Result<Command<'a>, AllocError> {
