@@ -1,0 +1,114 @@
+//! Batches of which a growth or the start of a thread is refused, and those after them.
+
+ghost use Rattle.std.specs.Prelude.{IfSome};
+ghost use Rattle.wb_history.specs.Passes.{IsPassOf, IsSamePass};
+
+use crate::samples::{first_text, second_text, stars};
+use crate::sources::Listed;
+use std::alloc::{AllocError, Global};
+use std::sync::Wait;
+use std::test::Fail;
+use std::thread::Threads;
+use wb_feed::{FeedFault, NoGate, run_batch};
+use wb_host::{Board, Desk};
+use wb_names::Drawop;
+
+/// Eight arrivals of three drawops.
+fn eight(alloc: Global, drawops: [Drawop; 3]) -> Result<Vec<Drawop>, AllocError> {
+    let [a, d, e] = drawops;
+    [a, d, e, a, d, e, a, d].to_vec(alloc)
+}
+
+/// The same, by a second call where the first is refused.
+fn eight_again(alloc: Global, drawops: [Drawop; 3]) -> Option<Vec<Drawop>> {
+    match eight(alloc, drawops) {
+        Ok(all) => Some(all),
+        Err(_) => eight(alloc, drawops).ok(),
+    }
+}
+
+/// A board of 16 cells, by a second call where the first is refused.
+fn open_again(alloc: Global) -> Option<(Board, Desk)>
+    ensures { IfSome result (λ t. IsPassOf t.0 t.1) }
+{
+    match Board::open(alloc, 16) {
+        Ok(opened) => Some(opened),
+        Err(_) => Board::open(alloc, 16).ok(),
+    }
+}
+
+/// Whether the desk lost no more rows than one of so many workers has.
+fn keeps_rows(desk: &Desk, workers: u32) -> bool {
+    let owned = desk.list().len().saturating_add(desk.rows_left() as usize);
+    let lost = 16usize.saturating_sub(owned);
+    lost <= 16 / workers.max(1) as usize && (lost == 0 || !desk.is_whole())
+}
+
+/// Whether eight arrivals are taken, or None where the batch is refused memory or a thread.
+fn takes_eight<R: Threads + Wait + Sync>(
+    rt: &R,
+    alloc: Global,
+    board: &Board,
+    desk: &mut Desk,
+    workers: u32,
+    drawops: [Drawop; 3],
+) -> Option<bool>
+    requires { IsPassOf board.now desk.old }
+    ensures { IsSamePass desk.old desk.new }
+{
+    let Some(arrivals) = eight_again(alloc, drawops) else {
+        return Some(false);
+    };
+    let mut source = Listed::new(arrivals);
+    match run_batch(rt, alloc, board, desk, workers, &mut source, &NoGate) {
+        Ok(batch) => Some(
+            batch.clash == 0 && batch.left == 0 && batch.fresh.saturating_add(batch.again) == 8,
+        ),
+        Err(FeedFault::Workers) => Some(false),
+        Err(FeedFault::Start | FeedFault::Memory) => None,
+    }
+}
+
+/// Whether the batch takes eight arrivals, by a second call where the first is refused.
+fn takes_again<R: Threads + Wait + Sync>(
+    rt: &R,
+    alloc: Global,
+    board: &Board,
+    desk: &mut Desk,
+    workers: u32,
+    drawops: [Drawop; 3],
+) -> bool
+    requires { IsPassOf board.now desk.old }
+    ensures { IsSamePass desk.old desk.new }
+{
+    let taken = match takes_eight(rt, alloc, board, desk, workers, drawops) {
+        Some(taken) => taken,
+        None => {
+            keeps_rows(desk, workers)
+                && takes_eight(rt, alloc, board, desk, workers, drawops) == Some(true)
+        }
+    };
+    taken && desk.list().len() == 3 && keeps_rows(desk, workers)
+}
+
+/// Whether two batches with one desk take their arrivals, each by a second call where the first is refused.
+fn goes_on<R: Threads + Wait + Sync>(
+    rt: &R,
+    alloc: Global,
+    workers: u32,
+    drawops: [Drawop; 3],
+) -> Option<bool> {
+    let (board, mut root) = open_again(alloc)?;
+    let first = takes_again(rt, alloc, &board, &mut root, workers, drawops);
+    let second = takes_again(rt, alloc, &board, &mut root, workers, drawops);
+    Some(first && second)
+}
+
+#[test]
+fn each_growth_and_start_may_be_refused(rt: HostRuntime) -> Result<(), Fail> {
+    let drawops = [stars()?, first_text()?, second_text()?];
+    for workers in [2, 4] {
+        assert!(rt; goes_on(&rt, rt.alloc(), workers, drawops) == Some(true));
+    }
+    Ok(())
+}
