@@ -2,6 +2,7 @@
 
 use clap::{Arg, ArgAction, Command, Error, value_parser};
 use std::alloc::{AllocError, Global};
+use wb_filters::{Direction, Filter};
 
 /// What the program is asked to do.
 #[derive(Clone, Copy, Debug, PartialEq, Eq)]
@@ -10,6 +11,8 @@ pub enum Task {
     Run { workers: Option<u32> },
     /// Say whether each line of a script parses.
     Check,
+    /// Turn the lines of a script.
+    Turn(Filter),
 }
 
 const ABOUT: &str = "Runs scripts of wb, a shared whiteboard";
@@ -52,6 +55,44 @@ fn run_command<'a>(alloc: Global) -> Result<Command<'a>, AllocError> {
         .arg(workers)
 }
 
+const HEX_HELP: &str = "\
+A datagram in words is a line such as
+
+    draw 7 7/1 1 10 line 0 1 4 1 *
+    draw 8 7/1 1 20 text 1 1 \"say \\\"hi\\\"\"
+    draw 8 7/1 2 30 delete 7 1
+    request 8 7 7/4 2
+
+The first is: source 7 draws, on page 1 of creator 7, its drawop number 1, at time 10,
+a line from (0, 1) to (4, 1) of stars. All other lines stay as they are, so that
+
+    wb hex < board.txt | wb run | wb words
+
+runs a board that is written in words. Where a word is wrong, the fault tells its line
+and its place, and with --keep-going a comment with the fault stands for that line.";
+
+const WORDS_HELP: &str = "\
+Lines of `arrive`, `hear` or `send` with a datagram in hexadecimal become the datagram in
+words, as `wb hex --help` shows them; what was sent stays behind the word `send`. All other
+lines stay as they are. With --keep-going a comment with the fault stands for a line whose
+bytes are no datagram.";
+
+fn filter_command<'a>(
+    alloc: Global,
+    name: &'static str,
+    about: &'static str,
+    help: &'static str,
+) -> Result<Command<'a>, AllocError> {
+    let keeps_going = Arg::new(alloc, "keep-going")
+        .long("keep-going")
+        .help("Writes a comment with the fault for a line that can't be turned, and goes on")
+        .action(ArgAction::SetTrue);
+    Command::new(alloc, name)
+        .about(about)
+        .after_help(help)
+        .arg(keeps_going)
+}
+
 fn command<'a>(alloc: Global) -> Result<Command<'a>, AllocError> {
     let check = Command::new(alloc, "check").about(
         "Says `ok` and the number of lines, where each line parses",
@@ -62,7 +103,19 @@ fn command<'a>(alloc: Global) -> Result<Command<'a>, AllocError> {
         .no_binary_name(true)
         .subcommand_required(true)
         .subcommand(run_command(alloc)?)?
-        .subcommand(check)
+        .subcommand(check)?
+        .subcommand(filter_command(
+            alloc,
+            "hex",
+            "Copies a script, with its datagrams in words turned into hexadecimal",
+            HEX_HELP,
+        )?)?
+        .subcommand(filter_command(
+            alloc,
+            "words",
+            "Copies lines, with their datagrams in hexadecimal turned into words",
+            WORDS_HELP,
+        )?)
 }
 
 /// The task that the words after the program's name ask for. The error has the parser's text: of
@@ -73,6 +126,14 @@ pub fn task_of<'a>(alloc: Global, words: &'a [&'a str]) -> Result<Task, Error> {
         Some(("run", options)) => Ok(Task::Run {
             workers: options.get_one::<u32>("workers"),
         }),
+        Some(("hex", options)) => Ok(Task::Turn(Filter {
+            direction: Direction::Hex,
+            keeps_going: options.get_flag("keep-going"),
+        })),
+        Some(("words", options)) => Ok(Task::Turn(Filter {
+            direction: Direction::Words,
+            keeps_going: options.get_flag("keep-going"),
+        })),
         _ => Ok(Task::Check),
     }
 }

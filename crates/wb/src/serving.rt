@@ -1,7 +1,8 @@
 use crate::command::{Task, task_of};
 use clap::Error;
 use clap::error::ErrorKind;
-use std::alloc::Global;
+use std::alloc::{AllocError, Global};
+use wb_filters::{FilterFault, run_filter};
 use wb_names::{Sink, Source};
 use wb_script::{RunFault, check, run};
 
@@ -19,11 +20,40 @@ const DISCONNECTED: u8 = 3;
 /// Memory or a thread was refused.
 pub const NO_MEMORY: u8 = 4;
 
-fn status_of(fault: RunFault) -> u8 {
-    match fault {
-        RunFault::Line(_, _) | RunFault::Endless => REFUSED,
-        RunFault::Read | RunFault::Write => DISCONNECTED,
-        RunFault::Memory | RunFault::Start => NO_MEMORY,
+/// Why a task was not done.
+#[derive(Clone, Copy, Drop)]
+enum Failure {
+    Run(RunFault),
+    Filter(FilterFault),
+}
+
+impl From<RunFault> for Failure {
+    fn from(fault: RunFault) -> Failure {
+        Failure::Run(fault)
+    }
+}
+
+impl From<FilterFault> for Failure {
+    fn from(fault: FilterFault) -> Failure {
+        Failure::Filter(fault)
+    }
+}
+
+fn status_of(failure: Failure) -> u8 {
+    match failure {
+        Failure::Run(RunFault::Line(_, _) | RunFault::Endless) => REFUSED,
+        Failure::Run(RunFault::Read | RunFault::Write) => DISCONNECTED,
+        Failure::Run(RunFault::Memory | RunFault::Start) => NO_MEMORY,
+        Failure::Filter(FilterFault::Line(_, _) | FilterFault::Endless) => REFUSED,
+        Failure::Filter(FilterFault::Read | FilterFault::Write) => DISCONNECTED,
+        Failure::Filter(FilterFault::Memory) => NO_MEMORY,
+    }
+}
+
+fn text_of(alloc: Global, failure: Failure) -> Result<String, AllocError> {
+    match failure {
+        Failure::Run(fault) => format!(in alloc; "wb: {fault}\n"),
+        Failure::Filter(fault) => format!(in alloc; "wb: {fault}\n"),
     }
 }
 
@@ -41,24 +71,24 @@ fn push_all<S: Sink>(sink: &mut S, bytes: &[u8]) -> bool {
 
 /// Writes a line about a fault, and answers the status for it. A failure to write it changes
 /// nothing.
-fn report<E: Sink>(alloc: Global, errors: &mut E, fault: RunFault) -> u8 {
-    if let Ok(text) = format!(in alloc; "wb: {fault}\n") {
+fn report<E: Sink>(alloc: Global, errors: &mut E, failure: Failure) -> u8 {
+    if let Ok(text) = text_of(alloc, failure) {
         push_all(errors, text.as_bytes());
     }
-    status_of(fault)
+    status_of(failure)
 }
 
 /// Writes the parser's text about the words, and answers the status for it.
 fn misuse<E: Sink>(alloc: Global, errors: &mut E, error: Error) -> u8 {
     if error.kind() == ErrorKind::OutOfMemory {
-        return report(alloc, errors, RunFault::Memory);
+        return report(alloc, errors, Failure::Run(RunFault::Memory));
     }
     match error.to_string(alloc) {
         Ok(text) => {
             push_all(errors, text.as_bytes());
             MISUSED
         }
-        Err(_) => report(alloc, errors, RunFault::Memory),
+        Err(_) => report(alloc, errors, Failure::Run(RunFault::Memory)),
     }
 }
 
@@ -77,7 +107,7 @@ fn perform<R: Source, W: Sink>(
     task: Task,
     source: &mut R,
     sink: &mut W,
-) -> Result<(), RunFault> {
+) -> Result<(), Failure> {
     match task {
         Task::Run { .. } => {
             run(alloc, source, sink)?;
@@ -85,6 +115,9 @@ fn perform<R: Source, W: Sink>(
         Task::Check => {
             let lines = check(alloc, source)?;
             approve(alloc, sink, lines)?;
+        }
+        Task::Turn(filter) => {
+            run_filter(alloc, filter, source, sink)?;
         }
     }
     Ok(())
@@ -107,6 +140,6 @@ pub fn serve<T: AllocGlobal, R: Source, W: Sink, E: Sink>(
     };
     match perform(alloc, task, source, sink) {
         Ok(()) => DONE,
-        Err(fault) => report(alloc, errors, fault),
+        Err(failure) => report(alloc, errors, failure),
     }
 }

@@ -9,6 +9,7 @@ mod comment;
 mod fault;
 mod filtering;
 mod hexing;
+pub mod laws;
 mod line;
 mod wording;
 

@@ -1,0 +1,64 @@
+-- Words become digits, and digits words.
+use Rattle.std.proofs.Common.{◌≡◌, ℕ, true, false, List, [], ◌∷◌, ◌++◌, Some, None, Result, Ok, Err, refl, sym, ap, ◌∙◌}
+use Rattle.std.specs.Result.{result_ok}
+use Rattle.hex.specs.Hex.{encode_lower}
+use Rattle.hex.proofs.HexLemmas.{decode_of-encode_lower}
+use Rattle.wb_codec.specs.declared.datagram.Datagram.{Datagram}
+use Rattle.wb_codec.specs.declared.datagram.Datagram.TheVariants.{Draw, Session, Request, AskPages, PageState}
+use Rattle.wb_codec.specs.Ranges.{IsDatagram}
+use Rattle.wb_codec.specs.Spelling.{spelling}
+use Rattle.wb_codec.proofs.GrammarLaws.{reading_again}
+use Rattle.wb_words.specs.Words.{parted}
+use Rattle.wb_words.specs.Spelling.{spelled}
+use Rattle.wb_words.proofs.SpellingLaws.{read_again}
+use Rattle.wb_script.specs.Words.{unhex}
+use Rattle.wb_filters.specs.declared.carrier.Carrier.{Carrier}
+use Rattle.wb_filters.specs.declared.carrier.Carrier.TheVariants.{Arrive, Hear, Send}
+use Rattle.wb_filters.specs.Turning.{takes, carrier_for, front, digits_line, words_behind, sent_part, hexed_in, hexed_sent, hexed_by, hexed, told, worded_digits, worded}
+use Rattle.wb_filters.specs.Laws.{WordsAreTurned, DigitsAreTurned}
+use Rattle.wb_filters.proofs.SpelledBytes.{spelled_bytes}
+
+-- ---- words to digits
+
+not_sent : (v : Datagram) → sent_part (parted 32 (spelled v)) ≡ None
+not_sent (Draw d) = refl
+not_sent (Session sender sent page marks echoes) = refl
+not_sent (Request asker name) = refl
+not_sent (AskPages asker) = refl
+not_sent (PageState sender page marks) = refl
+
+comes_in : (v : Datagram) → IsDatagram v → hexed (spelled v) ≡ Ok (digits_line (carrier_for v) v)
+comes_in v fits = ap (hexed_by (spelled v)) (not_sent v) ∙ ap (hexed_in (spelled v)) (read_again (spelled v) v (fits, refl))
+
+is_sent : (v : Datagram) → IsDatagram v → hexed (words_behind Send v) ≡ Ok (digits_line Send v)
+is_sent v fits = ap (hexed_sent (words_behind Send v)) (read_again (spelled v) v (fits, refl))
+
+pub words_are_turned : WordsAreTurned
+words_are_turned Arrive (Draw d) fits takes = comes_in (Draw d) fits
+words_are_turned Arrive (Session sender sent page marks echoes) fits takes = absurd cc
+words_are_turned Arrive (Request asker name) fits takes = absurd cc
+words_are_turned Arrive (AskPages asker) fits takes = absurd cc
+words_are_turned Arrive (PageState sender page marks) fits takes = absurd cc
+words_are_turned Hear (Draw d) fits takes = absurd cc
+words_are_turned Hear (Session sender sent page marks echoes) fits takes = comes_in (Session sender sent page marks echoes) fits
+words_are_turned Hear (Request asker name) fits takes = comes_in (Request asker name) fits
+words_are_turned Hear (AskPages asker) fits takes = comes_in (AskPages asker) fits
+words_are_turned Hear (PageState sender page marks) fits takes = comes_in (PageState sender page marks) fits
+words_are_turned Send v fits takes = is_sent v fits
+
+-- ---- digits to words
+
+digits_read : (v : Datagram) → IsDatagram v → unhex (encode_lower (spelling v)) ≡ Some (spelling v)
+digits_read v fits = ap result_ok (decode_of-encode_lower (spelling v) (spelled_bytes v fits))
+
+told_again : (carrier : Carrier) (v : Datagram) → IsDatagram v → takes carrier v ≡ true → told carrier (Ok v) ≡ Ok (words_behind carrier v)
+told_again carrier v fits e = rw e refl
+
+carried : (carrier : Carrier) (v : Datagram) (line : List ℕ) → IsDatagram v → takes carrier v ≡ true → worded_digits line carrier (unhex (encode_lower (spelling v))) ≡ Ok (words_behind carrier v)
+carried carrier v line fits e =
+    ap (worded_digits line carrier) (digits_read v fits) ∙ ap (told carrier) (reading_again v fits) ∙ told_again carrier v fits e
+
+pub digits_are_turned : DigitsAreTurned
+digits_are_turned Arrive v fits e = carried Arrive v (digits_line Arrive v) fits e
+digits_are_turned Hear v fits e = carried Hear v (digits_line Hear v) fits e
+digits_are_turned Send v fits e = carried Send v (digits_line Send v) fits e
