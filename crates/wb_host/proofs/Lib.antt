@@ -11,3 +11,5 @@ pub mod FreeArrivals
 pub mod TickSends
 pub mod FirstSenders
 pub mod HeardNumbers
+pub mod MapEdits
+pub mod HeardCalls

@@ -9,6 +9,7 @@ pub mod Keeper
 pub mod Hearing
 pub mod Keeping
 pub mod Missing
+pub mod TakingIn
 pub mod KeepFaults
 pub mod Sessions
 pub mod Ticks

@@ -11,8 +11,10 @@ ghost use Rattle.wb_host.specs.KeepFaults.{moment_fault, delay_fault, IsKeptBy};
 ghost use Rattle.wb_host.specs.Ticks.{stopped_in, stopped_after};
 
 mod arrivals;
+mod hearing;
 mod notices;
 mod sessions;
+mod taking_in;
 mod ticks;
 mod wants;
 

@@ -1,0 +1,202 @@
+//! What is heard of others, and answered at once.
+
+ghost use Rattle.std.specs.Prelude.{◌≡◌, ◌<◌, ◌≤◌, ◌^◌, ◌⊎◌, ◌∷◌, [], ℕ, None as none, Some as some, IsTrue, IfOk, OnOk, OnErr, IsOk, IsSome, false, nat_eq, nat_le, if◌then◌else◌};
+ghost use Rattle.std.specs.List.{find};
+ghost use Rattle.wb_history.specs.Passes.{IsPassOf, IsCaughtUp, IsSound as IsSoundDesk};
+ghost use Rattle.wb_names.specs.Ascending.{AreMarks};
+ghost use Rattle.wb_names.specs.Marks.{IsMerge};
+ghost use Rattle.wb_names.specs.Faults.{first_of, fault_unless};
+ghost use Rattle.wb_gaps.specs.Merging.{source_count};
+ghost use Rattle.wb_codec.specs.declared.datagram.Datagram.TheVariants.{Session, PageState, Request};
+ghost use Rattle.wb_host.specs.Desks.{ReadsOn};
+ghost use Rattle.wb_host.specs.Hearing.{IsSent, ArePageStates, asks_for_held, hear_fault, has_room};
+ghost use Rattle.wb_host.specs.Keeper.{Hear, distance_by, is_own};
+ghost use Rattle.wb_host.specs.Keeping.{Keeps, marks_at};
+ghost use Rattle.wb_host.specs.KeepFaults.{IsKeptBy};
+ghost use Rattle.wb_host.specs.TakingIn.{AreMerged};
+ghost use Rattle.wb_host.specs.declared.keep_fault.KeepFault.TheVariants.{TooMany};
+
+use crate::board::Board;
+use crate::desk::Desk;
+use crate::keep_fault::KeepFault;
+use crate::keeper::Keeper;
+use std::alloc::{AllocError, Global};
+use wb_codec::Datagram;
+use wb_gaps::{MergeFault, all_reports, merge_marks};
+use wb_names::{Echo, Echoes, Marks, PageId};
+use wb_recovery::distance;
+
+impl Keeper {
+    /// Hears a datagram, and answers what is to be sent at once: the page states where another member
+    /// asks which pages there are, and else nothing. It reads the history to its end first.
+    ///
+    /// The marks of a session message or page state are merged with those heard of its page. Of a
+    /// session message its sender is remembered, up to 65,535 senders, and its echo of this member, if it
+    /// has one, may tell the delay to the sender. A request is told to the timers, with the word. A drawop,
+    /// and what this member sent itself, changes nothing but the moment.
+    ///
+    /// Refused with `BackInTime`, `Range`, `TooMany` (of the marks of its page) or `Memory`, in this order.
+    /// A refused call leaves the keeper as it was; the desk may have seen more.
+    pub fn hear(
+        &mut self,
+        alloc: Global,
+        board: &Board,
+        desk: &mut Desk,
+        now: u64,
+        datagram: &Datagram,
+        word: u64,
+    ) -> Result<Vec<Datagram>, KeepFault>
+        requires desk { IsPassOf board.now desk.old }
+        ensures fault { IsKeptBy (hear_fault self.old.me self.old.moment (marks_at self.old.marks) now datagram.now) result }
+        ensures desk { (desk.new ≡ desk.old) ⊎ ReadsOn desk.old desk.new }
+        ensures end { OnOk result (ReadsOn desk.old desk.new × IsCaughtUp desk.old desk.new) }
+        ensures sent { IfOk result (λ sent. IsSent self.old.me desk.new.seen datagram.now sent.items) }
+        ensures ok { OnOk result (Keeps (Hear now datagram.now word (asks_for_held desk.new.seen datagram.now)) self.old self.new) }
+        ensures err { OnErr result (self.new ≡ self.old) }
+    {
+        self.check(now)?;
+        if self.is_own(datagram) {
+            board.refresh(desk)?;
+            self.moment = now;
+            return Ok(Vec::new(alloc));
+        }
+        let merged = self.merged(alloc, datagram)?;
+        board.refresh(desk)?;
+        let sent = self.answers(alloc, desk, datagram)?;
+        self.take_in(desk, now, datagram, word, merged)?;
+        Ok(sent)
+    }
+
+    /// Whether this member sent it.
+    fn is_own(&self, datagram: &Datagram) -> bool
+        ensures { result ≡ is_own self.now.me datagram.now }
+    {
+        match datagram {
+            Datagram::Draw(_) => false,
+            Datagram::Session { sender, .. } => *sender == self.me,
+            Datagram::Request { asker, .. } => *asker == self.me,
+            Datagram::AskPages { asker } => *asker == self.me,
+            Datagram::PageState { sender, .. } => *sender == self.me,
+        }
+    }
+
+    /// The marks of its page once those that it tells are merged with what was heard, where it tells any.
+    fn merged(&self, alloc: Global, datagram: &Datagram) -> Result<Option<Marks>, KeepFault>
+        ensures fault { IsKeptBy (first_of (fault_unless (has_room (marks_at self.now.marks) datagram.now) TooMany ∷ [])) result }
+        ensures merged { IfOk result (AreMerged (marks_at self.now.marks) datagram.now) }
+    {
+        match datagram {
+            Datagram::Session { page, marks, .. } => {
+                Ok(Some(merge(alloc, self.marks(*page), marks)?))
+            }
+            Datagram::PageState { page, marks, .. } => {
+                Ok(Some(merge(alloc, self.marks(*page), marks)?))
+            }
+            Datagram::Draw(_) | Datagram::Request { .. } | Datagram::AskPages { .. } => Ok(None),
+        }
+    }
+
+    /// What is sent at once for a datagram of another member.
+    fn answers(
+        &self,
+        alloc: Global,
+        desk: &Desk,
+        datagram: &Datagram,
+    ) -> Result<Vec<Datagram>, AllocError>
+        requires desk { IsSoundDesk desk.now }
+        requires other { is_own self.now.me datagram.now ≡ false }
+        ensures { IfOk result (λ sent. IsSent self.now.me desk.now.seen datagram.now sent.items) }
+    {
+        match datagram {
+            Datagram::AskPages { .. } => self.page_states(alloc, desk),
+            Datagram::Draw(_)
+            | Datagram::Session { .. }
+            | Datagram::Request { .. }
+            | Datagram::PageState { .. } => Ok(Vec::new(alloc)),
+        }
+    }
+
+    /// A page state for each page that the desk holds, ascending.
+    fn page_states(&self, alloc: Global, desk: &Desk) -> Result<Vec<Datagram>, AllocError>
+        requires { IsSoundDesk desk.now }
+        ensures { IfOk result (λ sent. ArePageStates self.now.me desk.now.seen sent.items) }
+    {
+        let reports = all_reports(alloc, desk.list())?;
+        let sent = reports.into_iter().map(|report| Datagram::PageState {
+            sender: self.me,
+            page: report.page,
+            marks: report.marks,
+        });
+        sent.collect(alloc)
+    }
+
+    /// Takes in a datagram of another member. All growth comes before what a caller sees.
+    fn take_in(
+        &mut self,
+        desk: &Desk,
+        now: u64,
+        datagram: &Datagram,
+        word: u64,
+        merged: Option<Marks>,
+    ) -> Result<(), AllocError>
+        requires after { self.old.moment ≤ now }
+        requires moment { now < 2 ^ 48 }
+        requires other { is_own self.old.me datagram.now ≡ false }
+        requires merged { AreMerged (marks_at self.old.marks) datagram.now merged }
+        ensures ok { OnOk result (Keeps (Hear now datagram.now word (asks_for_held desk.now.seen datagram.now)) self.old self.new) }
+        ensures err { OnErr result (self.new ≡ self.old) }
+    {
+        match datagram {
+            Datagram::Session {
+                sender,
+                sent,
+                page,
+                echoes,
+                ..
+            } => {
+                let delay = self.delay_told(echoes, now);
+                self.note_session(now, *sender, *sent, delay, *page, merged.unwrap())
+            }
+            Datagram::PageState { page, .. } => self.note_marks(now, *page, merged.unwrap()),
+            Datagram::Request { asker, name } => {
+                self.note_request(desk, now, *asker, *name, word)
+            }
+            Datagram::AskPages { .. } => Ok(self.go_on(now)),
+            Datagram::Draw(_) => Ok(self.go_on(now)),
+        }
+    }
+
+    /// The delay that the echo of this member tells, where there is one and it tells a delay.
+    fn delay_told(&self, echoes: &Echoes, now: u64) -> Option<u64>
+        ensures { result ≡ distance_by now (find (λ e. nat_eq e.source self.now.me) echoes.now) }
+    {
+        let echo = self.echo_of_me(echoes)?;
+        distance(echo.sent, echo.held, now)
+    }
+
+    /// The echo of this member.
+    fn echo_of_me(&self, echoes: &Echoes) -> Option<Echo>
+        ensures { result ≡ find (λ e. nat_eq e.source self.now.me) echoes.now }
+    {
+        for echo in echoes.as_slice() {
+            if echo.source == self.me {
+                return Some(*echo);
+            }
+        }
+        None
+    }
+}
+
+/// Both lists of marks as one.
+fn merge(alloc: Global, heard: &Marks, told: &Marks) -> Result<Marks, KeepFault>
+    ensures fault { IsKeptBy (first_of (fault_unless (nat_le (source_count heard.now told.now) 65535) TooMany ∷ [])) result }
+    ensures merged { IfOk result (λ merged. AreMarks heard.now × AreMarks told.now × IsMerge heard.now told.now merged) }
+{
+    let _heard = heard.as_slice();
+    let _told = told.as_slice();
+    match merge_marks(alloc, heard, told) {
+        Ok(marks) => Ok(marks),
+        Err(MergeFault::TooMany) => Err(KeepFault::TooMany),
+        Err(MergeFault::Memory) => Err(KeepFault::Memory),
+    }
+}

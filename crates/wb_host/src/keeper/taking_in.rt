@@ -1,0 +1,158 @@
+//! What is kept of a datagram. A call that is refused puts back what it changed.
+
+ghost use Rattle.std.specs.Prelude.{◌≡◌, ◌<◌, ◌≤◌, ◌^◌, IsSome, OnOk, OnErr, IfSome, false, length, nat_eq};
+ghost use Rattle.std.specs.BTreeMap.{get, insert_entry};
+ghost use Rattle.std.specs.Ordering.{nat_cmp};
+ghost use Rattle.wb_names.specs.Orders.{page_cmp};
+ghost use Rattle.wb_codec.specs.declared.datagram.Datagram.TheVariants.{Request};
+ghost use Rattle.wb_host.specs.Keeper.{Hear, holds};
+ghost use Rattle.wb_host.specs.Keeping.{Keeps};
+ghost use Rattle.wb_host.specs.TakingIn.{count_with, delays_with, has_place, heard_with, restored};
+
+use crate::desk::Desk;
+use crate::keeper::arrivals::is_held;
+use crate::keeper::{Heard, Keeper};
+use std::alloc::AllocError;
+use std::collections::BTreeMap;
+use wb_names::{Marks, Name, PageId};
+
+impl Keeper {
+    /// The most members whose session messages are remembered.
+    const MOST_HEARD: usize = 65_535;
+
+    /// Keeps what a session message tells: the delay to its sender, where it tells one, when it was heard,
+    /// and the marks of its page.
+    pub(super) fn note_session(
+        &mut self,
+        now: u64,
+        sender: u32,
+        sent: u64,
+        delay: Option<u64>,
+        page: PageId,
+        marks: Marks,
+    ) -> Result<(), AllocError>
+        requires after { self.old.moment ≤ now }
+        requires moment { now < 2 ^ 48 }
+        requires near { IfSome delay (λ d. d < 2 ^ 24) }
+        ensures ok { OnOk result (self.new ≡ record self.old { moment = now; delays = delays_with sender delay self.old.delays; heard = heard_with sender (record { sent = sent; at = now }) self.old.heard; marks = insert_entry page_cmp self.old.marks page marks }) }
+        ensures counted { OnOk result (length self.new.heard ≡ count_with sender self.old.heard) }
+        ensures err { OnErr result (self.new ≡ self.old) }
+    {
+        let Some(delay) = delay else {
+            return self.note_sender(now, sender, sent, page, marks);
+        };
+        let Ok(before) = self.delays.insert(sender, delay) else {
+            return Err(AllocError);
+        };
+        if self.note_sender(now, sender, sent, page, marks).is_err() {
+            restore(&mut self.delays, sender, before);
+            return Err(AllocError);
+        }
+        Ok(())
+    }
+
+    /// Keeps when the session message of a sender was heard, where the sender has a place, and the marks
+    /// of its page.
+    fn note_sender(
+        &mut self,
+        now: u64,
+        sender: u32,
+        sent: u64,
+        page: PageId,
+        marks: Marks,
+    ) -> Result<(), AllocError>
+        requires after { self.old.moment ≤ now }
+        requires moment { now < 2 ^ 48 }
+        ensures ok { OnOk result (self.new ≡ record self.old { moment = now; heard = heard_with sender (record { sent = sent; at = now }) self.old.heard; marks = insert_entry page_cmp self.old.marks page marks }) }
+        ensures counted { OnOk result (length self.new.heard ≡ count_with sender self.old.heard) }
+        ensures err { OnErr result (self.new ≡ self.old) }
+    {
+        if !self.has_place(sender) {
+            return self.note_marks(now, page, marks);
+        }
+        let Ok(before) = self.heard.insert(sender, Heard { sent, at: now }) else {
+            return Err(AllocError);
+        };
+        if self.note_marks(now, page, marks).is_err() {
+            restore(&mut self.heard, sender, before);
+            return Err(AllocError);
+        }
+        Ok(())
+    }
+
+    /// Whether a sender is remembered, or there is room for it.
+    fn has_place(&self, sender: u32) -> bool
+        ensures { result ≡ has_place sender self.now.heard }
+    {
+        self.heard.contains_key(&sender) || self.heard.len() < Keeper::MOST_HEARD
+    }
+
+    /// Tells the timers of a request: the delay that counts is that to the asker where the desk holds the
+    /// name, and else that to its source.
+    pub(super) fn note_request(
+        &mut self,
+        desk: &Desk,
+        now: u64,
+        asker: u32,
+        name: Name,
+        word: u64,
+    ) -> Result<(), AllocError>
+        requires after { self.old.moment ≤ now }
+        requires moment { now < 2 ^ 48 }
+        requires other { nat_eq asker self.old.me ≡ false }
+        ensures ok { OnOk result (Keeps (Hear now (Request asker name) word (holds desk.now.seen name)) self.old self.new) }
+        ensures err { OnErr result (self.new ≡ self.old) }
+    {
+        let held = is_held(desk, &name);
+        let delay = self.delay(if held { asker } else { name.source() });
+        if self.recovery.asked(name, held, now, delay, word).is_err() {
+            return Err(AllocError);
+        }
+        self.moment = now;
+        Ok(())
+    }
+
+    /// The moment alone changes.
+    pub(super) fn go_on(&mut self, now: u64)
+        requires after { self.old.moment ≤ now }
+        requires moment { now < 2 ^ 48 }
+        ensures { self.new ≡ record self.old { moment = now } }
+    {
+        self.moment = now;
+    }
+
+    /// Keeps the marks of a page.
+    pub(super) fn note_marks(
+        &mut self,
+        now: u64,
+        page: PageId,
+        marks: Marks,
+    ) -> Result<(), AllocError>
+        requires after { self.old.moment ≤ now }
+        requires moment { now < 2 ^ 48 }
+        ensures ok { OnOk result (self.new ≡ record self.old { moment = now; marks = insert_entry page_cmp self.old.marks page marks }) }
+        ensures err { OnErr result (self.new ≡ self.old) }
+    {
+        if self.marks.insert(page, marks).is_err() {
+            return Err(AllocError);
+        }
+        self.moment = now;
+        Ok(())
+    }
+}
+
+/// Puts back what stood at a key, at which something stands.
+fn restore<V: Drop>(map: &mut BTreeMap<u32, V>, key: u32, before: Option<V>)
+    requires { IsSome (get nat_cmp map.old key) }
+    ensures { map.new.entries ≡ restored key before map.old.entries }
+{
+    match before {
+        Some(value) => match map.insert(key, value) {
+            Ok(_) => {}
+            Err(_) => unreachable!(),
+        },
+        None => {
+            map.remove(&key);
+        }
+    }
+}
