@@ -28,7 +28,7 @@ use Rattle.wb_recovery.specs.Events.{Event, Asked}
 use Rattle.wb_recovery.specs.Standing as timers
 use Rattle.wb_recovery.specs.Values.{RecoveryValue}
 use Rattle.wb_recovery.specs.declared.tuning.Tuning.{Tuning}
-use Rattle.wb_host.specs.Keeper.{KeeperCall, Hear, newest, moment_at, is_own, high_in, high_told, high_heard, delay_in, delay_told, delay_to, session_in, session_told, senders_of, remember, told_by, last_heard, distance_by, asked_by, events_of}
+use Rattle.wb_host.specs.Keeper.{KeeperCall, Hear, newest, is_own, high_in, high_told, high_heard, delay_in, delay_told, delay_to, session_in, session_told, senders_of, remember, told_by, last_heard, distance_by, asked_by, events_of}
 use Rattle.wb_host.specs.Hearing.{marks_in, marks_told, marks_heard}
 use Rattle.wb_host.specs.Keeping.{KeeperValue, StandsFor, Keeps, delay_at, heard_at, marks_at}
 use Rattle.wb_host.specs.declared.keeper.Heard.{Heard}

@@ -1,5 +1,5 @@
 -- What stands in a map once a value was put at a key, and once it was put back.
-use Rattle.std.proofs.Common.{◌≡◌, ℕ, ◌+◌, Bool, true, false, cond, Option, Some, None, List, [], ◌∷◌, length, refl, ap, ◌∙◌, sym, subst, arith, eqb-true, eq-eqb}
+use Rattle.std.proofs.Common.{◌≡◌, ℕ, Bool, true, false, cond, Option, Some, None, List, [], ◌∷◌, length, refl, ap, ◌∙◌, sym, arith, eqb-true, eq-eqb}
 use Rattle.std.specs.Prelude.{IsSome, is_some, is_err, OnErr, OnOk, Result, Ok, Err}
 use Rattle.wb_host.specs.Keeping.{KeeperValue}
 use Rattle.wb_host.specs.declared.keeper.Heard.{Heard}

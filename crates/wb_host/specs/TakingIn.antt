@@ -1,10 +1,9 @@
 -- What a keeper's maps are, once it has taken in a datagram.
-use Rattle.std.specs.Prelude.{◌≡◌, ℕ, Bool, ◌||◌, List, [], length, is_some, nat_le, nat_lt, ◌+◌, Option, Some, None, if◌then◌else◌}
+use Rattle.std.specs.Prelude.{ℕ, Bool, ◌||◌, List, length, is_some, nat_le, nat_lt, ◌+◌, Option, Some, None, if◌then◌else◌}
 use Rattle.std.specs.BTreeMap.{is_at, insert_entry}
 use Rattle.std.specs.Map.{remove_entry}
 use Rattle.std.specs.Ordering.{nat_cmp}
 use Rattle.wb_names.specs.Values.{MarkValue}
-use Rattle.wb_names.specs.Orders.{page_cmp}
 use Rattle.wb_names.specs.Marks.{IsMerge}
 use Rattle.wb_names.specs.Ascending.{AreMarks}
 use Rattle.wb_names.specs.declared.name.PageId.{PageId}

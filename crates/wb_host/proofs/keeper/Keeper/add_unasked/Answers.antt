@@ -1,4 +1,4 @@
-use Rattle.std.proofs.Common.{◌≡◌, ℕ, ◌+◌, ◌-◌, ◌++◌, ◌≤◌, ◌∙◌, ap, arith, sym, filter, take}
+use Rattle.std.proofs.Common.{◌≡◌, ℕ, ◌+◌, ◌-◌, ◌++◌, ◌∙◌, ap, arith, sym, filter, take}
 use Rattle.wb_recovery.specs.Values.{timers_in}
 use Rattle.wb_host.specs.Missing.{is_unasked}
 use Rattle.wb_host.proofs.WantedNames.{name_more, no_room, part, value_is}

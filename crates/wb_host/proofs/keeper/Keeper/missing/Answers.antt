@@ -1,12 +1,10 @@
-use Rattle.std.proofs.Common.{ℕ, ◌-◌, ◌≤◌, ◌∙◌, ap, sym, subst, List, filter, take}
+use Rattle.std.proofs.Common.{◌≤◌, ◌∙◌, ap, sym, subst, List, filter, take}
 use Rattle.std.specs.Prelude.{All}
-use Rattle.wb_names.specs.Values.{NameValue, MarkValue}
+use Rattle.wb_names.specs.Values.{MarkValue}
 use Rattle.wb_names.specs.declared.gap.Gap.{Gap}
 use Rattle.wb_gaps.specs.Gaps.{AreGaps}
-use Rattle.wb_recovery.specs.Events.{timers_of}
 use Rattle.wb_recovery.specs.Standing as timers
 use Rattle.wb_recovery.specs.Values.{timers_in}
-use Rattle.wb_recovery.specs.declared.timers.Timers.{Timers}
 use Rattle.wb_host.specs.Keeper.{events_of}
 use Rattle.wb_host.specs.Keeping.{KeeperValue}
 use Rattle.wb_host.specs.Missing.{is_unasked, names_in_gaps}

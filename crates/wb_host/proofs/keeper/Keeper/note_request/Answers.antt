@@ -1,4 +1,4 @@
-use Rattle.std.proofs.Common.{ℕ, Bool, cond, ◌≡◌, ◌∙◌, ap, sym, subst}
+use Rattle.std.proofs.Common.{Bool, cond, ◌≡◌, ◌∙◌, ap, sym, subst}
 use Rattle.wb_recovery.proofs.Outcomes.{on_no_err}
 use Rattle.wb_recovery.specs.Events.{Asked}
 use Rattle.wb_recovery.specs.Standing as timers

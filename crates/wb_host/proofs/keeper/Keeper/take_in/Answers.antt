@@ -1,12 +1,12 @@
-use Rattle.std.proofs.Common.{Bool, false, Option, Some, List, ap, ◌∙◌, sym, subst}
+use Rattle.std.proofs.Common.{false, Option, List, ap, ◌∙◌, sym, subst}
 use Rattle.wb_names.specs.Values.{MarkValue}
 use Rattle.wb_codec.specs.declared.datagram.Datagram.{Datagram}
 use Rattle.wb_codec.specs.declared.datagram.Datagram.TheVariants.{Session, PageState}
 use Rattle.wb_host.specs.Hearing.{asks_for_held}
-use Rattle.wb_host.specs.Keeper.{Hear, holds, is_own}
+use Rattle.wb_host.specs.Keeper.{Hear, is_own}
 use Rattle.wb_host.specs.Keeping.{Keeps, marks_at}
 use Rattle.wb_host.specs.TakingIn.{AreMerged}
-use Rattle.wb_host.proofs.HeardCalls.{keeps_ask_pages, keeps_draw, keeps_state, keeps_session}
+use Rattle.wb_host.proofs.HeardCalls.{keeps_state, keeps_session}
 use Rattle.wb_host.proofs.MapEdits.{on_ok_so, on_ok_both}
 use Rattle.wb_host.proofs.keeper.Keeper.take_in.Goals as goal
 

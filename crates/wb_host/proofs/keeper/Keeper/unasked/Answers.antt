@@ -1,8 +1,6 @@
-use Rattle.std.proofs.Common.{◌∙◌, ap, take, filter}
-use Rattle.std.proofs.lemmas.List.{take_all}
 use Rattle.wb_recovery.specs.Values.{timers_in}
-use Rattle.wb_host.specs.Missing.{is_unasked, names_in_gaps}
-use Rattle.wb_host.proofs.WantedNames.{gap_added, few_taken}
+use Rattle.wb_host.specs.Missing.{is_unasked}
+use Rattle.wb_host.proofs.WantedNames.{gap_added}
 use Rattle.wb_host.proofs.keeper.Keeper.unasked.Goals as goal
 
 pub loop-gap-preserved : goal.loop-gap-preserved

@@ -1,4 +1,4 @@
-use Rattle.std.proofs.Common.{◌≡◌, ◌≤◌, filter, length, take}
+use Rattle.std.proofs.Common.{◌≡◌, filter, take}
 use Rattle.wb_recovery.specs.Values.{timers_in}
 use Rattle.wb_host.specs.Missing.{is_unasked, names_in_gaps}
 use Rattle.wb_host.proofs.keeper.Keeper.unasked.Given as goal
