@@ -1,0 +1,15 @@
+//! Tests of the keeper of wb_host over its public calls: values worked by hand, and any growth refused.
+#![tactic(auto)]
+
+#[cfg(test)]
+mod arrivals;
+#[cfg(test)]
+mod refusals;
+#[cfg(test)]
+mod rigs;
+#[cfg(test)]
+mod sessions;
+#[cfg(test)]
+mod ticks;
+#[cfg(test)]
+mod timers;
