@@ -67,12 +67,12 @@ fn is_spared(
     k: &mut Keeper,
     alloc: Global,
     board: &Board,
-    desks: (&mut Desk, &mut Desk),
+    desk: &mut Desk,
+    other: &mut Desk,
     two: &Drawop,
 ) -> bool
-    requires { IsPassOf board.now desks.0.old × IsPassOf board.now desks.1.old }
+    requires { IsPassOf board.now desk.old × IsPassOf board.now other.old }
 {
-    let (desk, other) = desks;
     let missed = k.notice(alloc, 0, &[two.name()], &[0]) == Ok(());
     let added = board.accept(other, two) == Ok(Reply::New(0)) && desk.list().is_empty();
     let silent = is_silent(k, alloc, board, desk, 200_000);
@@ -85,7 +85,7 @@ fn what_came_by_another_desk_is_not_asked_for(rt: HostRuntime) -> Result<(), Fai
     let mut k = keeper(rt.alloc()).ok_or("keeper")?;
     let (board, mut desk) = Board::open(rt.alloc(), 4)?;
     let mut other = board.split(rt.alloc(), &mut desk, 1)?;
-    let spared = is_spared(&mut k, rt.alloc(), &board, (&mut desk, &mut other), &two);
+    let spared = is_spared(&mut k, rt.alloc(), &board, &mut desk, &mut other, &two);
     assert!(rt; spared);
     Ok(())
 }
