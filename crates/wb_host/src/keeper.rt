@@ -107,6 +107,14 @@ impl Keeper {
         Ok(())
     }
 
+    /// The moment of the last accepted call that has one, in microseconds, and 0 before there is one.
+    pub fn moment(&self) -> u64
+        ensures moment { result ≡ self.now.moment }
+        ensures range { result < 2 ^ 48 }
+    {
+        self.moment
+    }
+
     /// The delay to a source, in microseconds.
     pub fn delay(&self, source: u32) -> u64
         ensures delay { result ≡ delay_at self.now.delays source }
