@@ -20,3 +20,4 @@ pub mod CountLaws
 pub mod BatchLaws
 pub mod ScriptLaws
 pub mod EndingShows
+pub mod DrawnWords

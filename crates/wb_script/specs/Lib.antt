@@ -14,6 +14,7 @@ pub mod Laws
 pub mod ScriptLaws
 pub mod Shows
 pub mod Checking
+pub mod Random
 pub use Rattle.wb_names.specs.Values
 pub use Rattle.wb_names.specs.History
 pub use Rattle.wb_names.specs.Arrivals

@@ -1,5 +1,5 @@
 //! Tests of wb_script over its public calls: whole scripts with values from outside, ends that fail in
-//! mid-stream or are fed slowly, limits, and want of memory.
+//! mid-stream or are fed slowly, limits, random words, and want of memory.
 #![tactic(auto)]
 
 #[cfg(test)]
@@ -8,6 +8,8 @@ mod ends;
 mod limits;
 #[cfg(test)]
 mod memory;
+#[cfg(test)]
+mod random;
 #[cfg(test)]
 mod scripts;
 #[cfg(test)]
