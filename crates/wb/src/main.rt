@@ -5,8 +5,6 @@
 
 mod command;
 mod serving;
-#[cfg(test)]
-mod tests;
 
 use serving::{NO_MEMORY, serve};
 use std::env;
