@@ -3,3 +3,6 @@ pub mod Outcomes
 pub mod Endings
 pub mod SpelledBytes
 pub mod TurningLaws
+pub mod Visible
+pub mod InputText
+pub mod WholeScripts

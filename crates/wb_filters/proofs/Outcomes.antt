@@ -48,7 +48,7 @@ Begins-then (writes t e) (writes u f) x y p q =
 
 -- ---- one line
 
-fits : (n : ℕ) (line : List ℕ) → n < most_lines → length line ≤ most_bytes → nat_lt n most_lines && nat_le (length line) most_bytes ≡ true
+pub fits : (n : ℕ) (line : List ℕ) → n < most_lines → length line ≤ most_bytes → nat_lt n most_lines && nat_le (length line) most_bytes ≡ true
 fits n line few short = grind (arith, nat_tests)
 
 past_count : (n : ℕ) (b : Bool) → most_lines ≤ n → nat_lt n most_lines && b ≡ false

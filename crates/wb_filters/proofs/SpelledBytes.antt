@@ -1,6 +1,6 @@
 -- A datagram is spelled in bytes.
-use Rattle.std.proofs.Common.{◌≡◌, ℕ, zero, suc, ◌%◌, ◌<◌, ◌≤◌, ◌^◌, true, false, refl, List, [], ◌∷◌, ◌++◌, length, get_or, arith}
-use Rattle.std.specs.Prelude.{slice_index, None, All, nat_le}
+use Rattle.std.proofs.Common.{◌≡◌, ℕ, zero, suc, ◌<◌, true, false, refl, List, [], ◌∷◌, ◌++◌, length, get_or, arith}
+use Rattle.std.specs.Prelude.{slice_index, nat_le}
 use Rattle.std.specs.List.{flat_map}
 use Rattle.std.specs.Int.{w16, w32, w64, to_be_bytes}
 use Rattle.hex.specs.Hex.{IsBytes}
@@ -13,7 +13,7 @@ use Rattle.wb_names.specs.Drawing.{IsLawful}
 use Rattle.wb_codec.specs.declared.datagram.Datagram.{Datagram}
 use Rattle.wb_codec.specs.declared.datagram.Datagram.TheVariants.{Draw, Session, Request, AskPages, PageState}
 use Rattle.wb_codec.specs.Ranges.{IsDatagram}
-use Rattle.wb_codec.specs.Spelling.{page_bytes, name_bytes, stroke_bytes, text_bytes, target_bytes, op_bytes, drawop_bytes, mark_bytes, echo_bytes, marks_bytes, echoes_bytes, body, kind_code, op_version, version_of, version_code, spelling}
+use Rattle.wb_codec.specs.Spelling.{page_bytes, name_bytes, stroke_bytes, target_bytes, op_bytes, mark_bytes, echo_bytes, body, kind_code, op_version, version_of, version_code, spelling}
 use Rattle.wb_codec.proofs.Lawful.{lawful_stroke, lawful_text}
 
 abbrev Below : List ℕ → Type 0

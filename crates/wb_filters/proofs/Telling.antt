@@ -9,7 +9,7 @@ use Rattle.wb_script.specs.Words.{is_hex}
 use Rattle.wb_script.proofs.Arrivals.{unhex-not_hex}
 use Rattle.wb_filters.specs.declared.carrier.Carrier.{Carrier}
 use Rattle.wb_filters.specs.declared.fault.LineFault.TheVariants as faults
-use Rattle.wb_filters.specs.Turning.{carrier_of, takes, words_behind, told, worded}
+use Rattle.wb_filters.specs.Turning.{carrier_of, takes, words_behind, told, without_digits, worded}
 
 pub read_so : (bytes : List ℕ) (v : Datagram) → Spells bytes v → reading bytes ≡ Ok v
 read_so bytes v s = ap reading s.1 ∙ reading_again v s.0
@@ -20,5 +20,5 @@ told_kind carrier bytes v s e = ap (told carrier) (read_so bytes v s) ∙ rw e r
 pub told_words : (carrier : Carrier) (bytes : List ℕ) (v : Datagram) → Spells bytes v → takes carrier v ≡ true → told carrier (reading bytes) ≡ Ok (words_behind carrier v)
 told_words carrier bytes v s e = ap (told carrier) (read_so bytes v s) ∙ rw e refl
 
-pub no_digits : (line word digits : List ℕ) (carrier : Carrier) → parted 32 line ≡ Some (word, digits) → carrier_of word ≡ Some carrier → is_hex digits ≡ false → worded line ≡ Ok line
-no_digits line word digits carrier e named no_hex = rw (e, named, unhex-not_hex digits no_hex) refl
+pub no_digits : (line word rest : List ℕ) (carrier : Carrier) → parted 32 line ≡ Some (word, rest) → carrier_of word ≡ Some carrier → is_hex rest ≡ false → worded line ≡ without_digits line rest
+no_digits line word rest carrier e named no_hex = rw (e, named, unhex-not_hex rest no_hex) refl

@@ -1,5 +1,5 @@
 -- Words become digits, and digits words.
-use Rattle.std.proofs.Common.{◌≡◌, ℕ, true, false, List, [], ◌∷◌, ◌++◌, Some, None, Result, Ok, Err, refl, sym, ap, ◌∙◌}
+use Rattle.std.proofs.Common.{◌≡◌, ℕ, true, List, Some, None, Ok, refl, ap, ◌∙◌}
 use Rattle.std.specs.Result.{result_ok}
 use Rattle.hex.specs.Hex.{encode_lower}
 use Rattle.hex.proofs.HexLemmas.{decode_of-encode_lower}
@@ -14,7 +14,7 @@ use Rattle.wb_words.proofs.SpellingLaws.{read_again}
 use Rattle.wb_script.specs.Words.{unhex}
 use Rattle.wb_filters.specs.declared.carrier.Carrier.{Carrier}
 use Rattle.wb_filters.specs.declared.carrier.Carrier.TheVariants.{Arrive, Hear, Send}
-use Rattle.wb_filters.specs.Turning.{takes, carrier_for, front, digits_line, words_behind, sent_part, hexed_in, hexed_sent, hexed_by, hexed, told, worded_digits, worded}
+use Rattle.wb_filters.specs.Turning.{takes, carrier_for, digits_line, words_behind, sent_part, hexed_in, hexed_sent, hexed_by, hexed, told, worded_digits}
 use Rattle.wb_filters.specs.Laws.{WordsAreTurned, DigitsAreTurned}
 use Rattle.wb_filters.proofs.SpelledBytes.{spelled_bytes}
 
@@ -54,9 +54,9 @@ digits_read v fits = ap result_ok (decode_of-encode_lower (spelling v) (spelled_
 told_again : (carrier : Carrier) (v : Datagram) → IsDatagram v → takes carrier v ≡ true → told carrier (Ok v) ≡ Ok (words_behind carrier v)
 told_again carrier v fits e = rw e refl
 
-carried : (carrier : Carrier) (v : Datagram) (line : List ℕ) → IsDatagram v → takes carrier v ≡ true → worded_digits line carrier (unhex (encode_lower (spelling v))) ≡ Ok (words_behind carrier v)
+carried : (carrier : Carrier) (v : Datagram) (line : List ℕ) → IsDatagram v → takes carrier v ≡ true → worded_digits line (encode_lower (spelling v)) carrier (unhex (encode_lower (spelling v))) ≡ Ok (words_behind carrier v)
 carried carrier v line fits e =
-    ap (worded_digits line carrier) (digits_read v fits) ∙ ap (told carrier) (reading_again v fits) ∙ told_again carrier v fits e
+    ap (worded_digits line (encode_lower (spelling v)) carrier) (digits_read v fits) ∙ ap (told carrier) (reading_again v fits) ∙ told_again carrier v fits e
 
 pub digits_are_turned : DigitsAreTurned
 digits_are_turned Arrive v fits e = carried Arrive v (digits_line Arrive v) fits e

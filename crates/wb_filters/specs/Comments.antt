@@ -34,6 +34,7 @@ word_text (words.Field fault) = field_text fault
 
 abbrev pub fault_text : LineFault → List ℕ
 fault_text (faults.Word wrong) = codes "word " ++ (decimal wrong.place ++ (codes ": " ++ word_text wrong.fault))
+fault_text faults.Hex = codes "word 2: hex"
 fault_text (faults.Datagram fault) = codes "word 2: datagram " ++ decimal (read_code fault)
 fault_text faults.Kind = codes "word 2: kind"
 

@@ -1,9 +1,13 @@
 -- Laws of the two filters.
-use Rattle.std.specs.Prelude.{◌≡◌, ℕ, List, true, Ok}
+use Rattle.std.specs.Prelude.{◌≡◌, ◌≤◌, ◌⊎◌, ℕ, List, length, All, Bool, true, false, Ok}
 use Rattle.wb_codec.specs.declared.datagram.Datagram.{Datagram}
 use Rattle.wb_codec.specs.Ranges.{IsDatagram}
+use Rattle.wb_script.specs.Script.{InputLine, input_lines, content, most_bytes}
 use Rattle.wb_filters.specs.declared.carrier.Carrier.{Carrier}
+use Rattle.wb_filters.specs.declared.filtering.Direction.{Direction}
+use Rattle.wb_filters.specs.declared.filtering.Direction.TheVariants.{Hex, Words}
 use Rattle.wb_filters.specs.Turning.{takes, digits_line, words_behind, hexed, worded}
+use Rattle.wb_filters.specs.Filtering.{writes, most_lines, outcome}
 
 -- the words of a datagram that comes in or is sent become the line that carries it
 abbrev pub WordsAreTurned : Type 0
@@ -12,3 +16,43 @@ WordsAreTurned = (carrier : Carrier) (v : Datagram) → IsDatagram v → takes c
 -- and that line becomes the words again
 abbrev pub DigitsAreTurned : Type 0
 DigitsAreTurned = (carrier : Carrier) (v : Datagram) → IsDatagram v → takes carrier v ≡ true → worded (digits_line carrier v) ≡ Ok (words_behind carrier v)
+
+-- ---- whole scripts
+
+-- a datagram in words, which comes in or is sent
+abbrev pub IsInWords : List ℕ → Type 0
+IsInWords line = (carrier : Carrier) × (v : Datagram) × IsDatagram v × (takes carrier v ≡ true) × (line ≡ words_behind carrier v)
+
+-- one in digits, in lower case, as `wb` prints it
+abbrev pub IsInDigits : List ℕ → Type 0
+IsInDigits line = (carrier : Carrier) × (v : Datagram) × IsDatagram v × (takes carrier v ≡ true) × (line ≡ digits_line carrier v)
+
+-- no line of a datagram: each filter leaves it as it is
+abbrev pub IsOther : List ℕ → Type 0
+IsOther line = (hexed line ≡ Ok line) × (worded line ≡ Ok line)
+
+-- a script as people write it: each line is a datagram in words, or no line of a datagram
+abbrev pub IsWritten : List ℕ → Type 0
+IsWritten script = All (λ (line : InputLine). IsInWords (content line) ⊎ IsOther (content line)) (input_lines script)
+
+-- a script as `wb` prints it: each line is a datagram in digits, or no line of a datagram
+abbrev pub IsPrinted : List ℕ → Type 0
+IsPrinted script = All (λ (line : InputLine). IsInDigits (content line) ⊎ IsOther (content line)) (input_lines script)
+
+-- no more lines, and no longer ones, than a filter takes
+abbrev pub IsWithinLimits : List ℕ → Type 0
+IsWithinLimits script = (length (input_lines script) ≤ most_lines) × All (λ (line : InputLine). length line.bytes ≤ most_bytes) (input_lines script)
+
+-- A filter comes to the end of a script, and what it writes is this text.
+abbrev pub Turns : Direction → Bool → List ℕ → List ℕ → Type 0
+Turns direction keeps script text = outcome (record { direction = direction; keeps_going = keeps }) false script ≡ writes text (Ok (length (input_lines script)))
+
+-- `wb words` of `wb hex` of a script in words is the script, byte for byte.
+abbrev pub WordsComeBack : Type 0
+WordsComeBack = (keeps keeps' : Bool) (script : List ℕ) → IsWritten script → IsWithinLimits script
+    → (text : List ℕ) × Turns Hex keeps script text × IsPrinted text × (IsWithinLimits text → Turns Words keeps' text script)
+
+-- `wb hex` of `wb words` of a script as `wb` prints it is the script, byte for byte.
+abbrev pub DigitsComeBack : Type 0
+DigitsComeBack = (keeps keeps' : Bool) (script : List ℕ) → IsPrinted script → IsWithinLimits script
+    → (text : List ℕ) × Turns Words keeps script text × IsWritten text × (IsWithinLimits text → Turns Hex keeps' text script)

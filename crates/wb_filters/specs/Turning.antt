@@ -1,5 +1,5 @@
 -- What becomes of one line, which stands without its end.
-use Rattle.std.specs.Prelude.{◌≡◌, ℕ, Bool, true, false, List, ◌++◌, Option, Some, None, Result, Ok, Err, nat_eq, codes, if◌then◌else◌}
+use Rattle.std.specs.Prelude.{◌≡◌, ℕ, Bool, true, false, List, ◌++◌, Option, Some, None, Result, Ok, Err, nat_eq, codes, is_some, if◌then◌else◌}
 use Rattle.std.specs.Str.{bytes_eq}
 use Rattle.hex.specs.Hex.{encode_lower}
 use Rattle.wb_codec.specs.declared.datagram.Datagram.{Datagram}
@@ -100,19 +100,23 @@ abbrev pub told : Carrier → Result Datagram ReadFault → Result (List ℕ) Li
 told carrier (Ok v) = if takes carrier v then Ok (words_behind carrier v) else Err faults.Kind
 told carrier (Err e) = Err (faults.Datagram e)
 
-abbrev pub worded_digits : List ℕ → Carrier → Option (List ℕ) → Result (List ℕ) LineFault
-worded_digits line carrier None = Ok line
-worded_digits line carrier (Some bytes) = told carrier (reading bytes)
+-- One word that is no even number of digits is wrong. A line of more words carries nothing, and stays.
+abbrev pub without_digits : List ℕ → List ℕ → Result (List ℕ) LineFault
+without_digits line rest = if is_some (parted 32 rest) then Ok line else Err faults.Hex
+
+abbrev pub worded_digits : List ℕ → List ℕ → Carrier → Option (List ℕ) → Result (List ℕ) LineFault
+worded_digits line rest carrier None = without_digits line rest
+worded_digits line rest carrier (Some bytes) = told carrier (reading bytes)
 
 abbrev pub worded_by : List ℕ → List ℕ → Option Carrier → Result (List ℕ) LineFault
-worded_by line digits None = Ok line
-worded_by line digits (Some carrier) = worded_digits line carrier (unhex digits)
+worded_by line rest None = Ok line
+worded_by line rest (Some carrier) = worded_digits line rest carrier (unhex rest)
 
 abbrev pub worded_at : List ℕ → Option (List ℕ × List ℕ) → Result (List ℕ) LineFault
 worded_at line None = Ok line
 worded_at line (Some parts) = worded_by line parts.1 (carrier_of parts.0)
 
--- the words of the datagram that a line carries, or what is wrong with its bytes; a line that carries none stays
+-- the words of the datagram that a line carries, or what is wrong with its digits or bytes; a line that carries none stays
 abbrev pub worded : List ℕ → Result (List ℕ) LineFault
 worded line = worded_at line (parted 32 line)
 

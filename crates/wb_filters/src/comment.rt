@@ -50,6 +50,7 @@ fn fault_text(alloc: Global, fault: LineFault) -> Result<String, AllocError>
             let text = word_text(wrong.fault);
             format!(in alloc; "word {place}: {text}")
         }
+        LineFault::Hex => format!(in alloc; "word 2: hex"),
         LineFault::Datagram(fault) => {
             let code = fault.code();
             format!(in alloc; "word 2: datagram {code}")

@@ -14,6 +14,9 @@ pub enum LineFault {
     /// A word of a datagram in words is wrong, by its place among them.
     #[error("{0}")]
     Word(WrongWord),
+    /// The word after `arrive`, `hear` or `send` is no even number of hexadecimal digits.
+    #[error("word 2: hex")]
+    Hex,
     /// The bytes are no datagram.
     #[error("word 2: datagram {}", .0.code())]
     Datagram(ReadFault),

@@ -1,6 +1,6 @@
 ghost use Rattle.std.specs.Prelude.{◌≡◌, IfOk};
 ghost use Rattle.wb_codec.specs.Reading.{reading};
-ghost use Rattle.wb_filters.specs.Turning.{MayTurn, words_behind, told, worded};
+ghost use Rattle.wb_filters.specs.Turning.{MayTurn, words_behind, told, without_digits, worded};
 
 use crate::carrier::{Carrier, carrier_of, takes};
 use crate::fault::{LineFault, TurnFault};
@@ -42,20 +42,32 @@ fn told(alloc: Global, carrier: Carrier, bytes: &[u8]) -> Result<Vec<u8>, TurnFa
     }
 }
 
+/// A line of `arrive`, `hear` or `send`, whose rest after the space is no even number of digits: where
+/// that is one word, it is wrong; a line of more words stays as it is.
+fn without_digits(alloc: Global, line: &[u8], rest: &[u8]) -> Result<Vec<u8>, TurnFault>
+    ensures { MayTurn (λ text. text.items) result (without_digits line.now rest.now) }
+{
+    if parted(rest, b' ').is_none() {
+        return Err(TurnFault::Line(LineFault::Hex));
+    }
+    Ok(copy(alloc, line)?)
+}
+
 /// A line that a whiteboard takes or prints, which stands without its end, in words: `arrive`,
 /// `hear` or `send`, a space and an even number of hexadecimal digits are the words of the datagram,
-/// behind `send` where it is sent; any other line stays as it is. Or what is wrong with the bytes.
+/// behind `send` where it is sent. Or what is wrong with the digits or the bytes: one word after the
+/// space has to be digits. Any other line stays as it is.
 pub fn words_line(alloc: Global, line: &[u8]) -> Result<Vec<u8>, TurnFault>
     ensures { MayTurn (λ text. text.items) result (worded line.now) }
 {
-    let Some((word, digits)) = parted(line, b' ') else {
+    let Some((word, rest)) = parted(line, b' ') else {
         return Ok(copy(alloc, line)?);
     };
     let Some(carrier) = carrier_of(word) else {
         return Ok(copy(alloc, line)?);
     };
-    match unhex(alloc, digits)? {
+    match unhex(alloc, rest)? {
         Some(bytes) => told(alloc, carrier, &bytes),
-        None => Ok(copy(alloc, line)?),
+        None => without_digits(alloc, line, rest),
     }
 }
