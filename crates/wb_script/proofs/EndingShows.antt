@@ -15,82 +15,113 @@ use Rattle.wb_script.specs.declared.fault.RunFault.{RunFault}
 use Rattle.wb_script.specs.declared.fault.RunFault.TheVariants as run_faults
 use Rattle.wb_script.specs.declared.line.Line.{Line}
 use Rattle.wb_script.specs.declared.line.Line.TheVariants.{Skip, Board, Arrive, Hear, Distance, Tick, Look, Session, Show, Gaps, Report, Pages}
-use Rattle.wb_script.specs.declared.query.Query.{Query}
-use Rattle.wb_script.specs.declared.query.Query.TheVariants as queries
 use Rattle.wb_script.specs.declared.summary.Summary.{Summary}
 use Rattle.wb_script.specs.Board.{Held}
+use Rattle.wb_script.specs.Hosts.{Opened, opened, board_after, host_after, batch_text, Act, does, fails, act}
 use Rattle.wb_script.specs.Laws.{NoneClash, HasCells}
 use Rattle.wb_script.specs.Parsing.{line_of}
 use Rattle.wb_script.specs.Queries.{view_of}
-use Rattle.wb_script.specs.Script.{InputLine, input_lines, content, State, start, closing_text, after_batch, Step, goes, refused, asked, said_step, step_of, Outcome, prints, before, finish, summary, proceed, outcome_from}
+use Rattle.wb_script.specs.Script.{InputLine, input_lines, content, State, start, closing_text, after_batch, Step, goes, refused, step_by, acts, line_step, said_step, step_of, Outcome, prints, before, finish, summary, proceed, outcome_from}
 use Rattle.wb_script.specs.ScriptLaws.{EachEnds}
 use Rattle.wb_script.specs.Shows.{arrived_by, arrivals_of, cells_by, cells_of, EndsWith, canvas_after, ShowsArrivals, ShowsAreFree}
 use Rattle.wb_script.proofs.FreeArrivals.{batches_are_one, free_on, once_held}
 use Rattle.wb_script.proofs.InputLines.{input_lines-whole, whole_line}
 use Rattle.wb_script.proofs.Outcomes.{before-nil, before-before, too_many, text_of, end_of}
 use Rattle.wb_script.proofs.Queries.{view_of_page}
-use Rattle.wb_script.proofs.ScriptLaws.{state_of, one_line, split, fit}
+use Rattle.wb_script.proofs.ScriptLaws.{state_of, one_line, split, fit, err_end}
 
 -- what was held when the batch began, with what waits since, is what all arrivals lead to
-abbrev Leads : Option Held → List DrawopValue → List DrawopValue → Type 0
+abbrev Leads : Option Opened → List DrawopValue → List DrawopValue → Type 0
 Leads None waiting ds = ds ≡ []
-Leads (Some b) waiting ds = history_after b.cells b.drawops waiting ≡ history_after b.cells [] ds
+Leads (Some host) waiting ds = history_after host.board.cells host.board.drawops waiting ≡ history_after host.board.cells [] ds
 
 -- the cells of the board, or of the one that the lines open
-abbrev cells_at : Option Held → ℕ → ℕ
+abbrev cells_at : Option Opened → ℕ → ℕ
 cells_at None later = later
-cells_at (Some b) later = b.cells
+cells_at (Some host) later = host.board.cells
 
 -- what a step that is taken leaves
-record Kept (board : Option Held) (ds : List DrawopValue) (said : Result Line LineFault) (t : State) : Type 0 where
-  leads : Leads t.board t.waiting (ds ++ arrived_by said)
-  cells : (later : ℕ) → cells_at t.board later ≡ cells_at board (cells_by said later)
+record Kept (host : Option Opened) (ds : List DrawopValue) (said : Result Line LineFault) (t : State) : Type 0 where
+  leads : Leads t.host t.waiting (ds ++ arrived_by said)
+  cells : (later : ℕ) → cells_at t.host later ≡ cells_at host (cells_by said later)
 
-abbrev state : Option Held → List DrawopValue → State
-state board waiting = record { board = board; waiting = waiting }
+abbrev state : Option Opened → List DrawopValue → State
+state host waiting = record { host = host; waiting = waiting }
 
-kept_by : (board : Option Held) (ds : List DrawopValue) (said : Result Line LineFault) (u t : State) (x y : List ℕ) → Kept board ds said u → goes u x ≡ goes t y → Kept board ds said t
-kept_by board ds said u t x y k e = subst (Kept board ds said) (state_of u t x y e) k
+kept_by : (host : Option Opened) (ds : List DrawopValue) (said : Result Line LineFault) (u t : State) (x y : List ℕ) → Kept host ds said u → goes u x ≡ goes t y → Kept host ds said t
+kept_by host ds said u t x y k e = subst (Kept host ds said) (state_of u t x y e) k
 
-leads_on : (board : Option Held) (waiting ds : List DrawopValue) → Leads board waiting ds → Leads board waiting (ds ++ [])
-leads_on board waiting ds h = subst (Leads board waiting) (sym (append-nil ds)) h
+leads_on : (host : Option Opened) (waiting ds : List DrawopValue) → Leads host waiting ds → Leads host waiting (ds ++ [])
+leads_on host waiting ds h = subst (Leads host waiting) (sym (append-nil ds)) h
 
--- a question
-asks_kept : (board : Option Held) (waiting ds : List DrawopValue) (query : Query) (said : Result Line LineFault) (t : State) (y : List ℕ) → arrived_by said ≡ [] → ((later : ℕ) → cells_by said later ≡ later) → Leads board waiting ds → asked (state board waiting) query ≡ goes t y → Kept board ds said t
-asks_kept None waiting ds query said t y none same h e = absurd cc
-asks_kept (Some b) waiting ds query said t y none same h e =
-    kept_by (Some b) ds said (after_batch (state (Some b) waiting)) t _ y
-    (record { leads = h ∙ ap (history_after b.cells []) (sym (append-nil ds) ∙ ap (λ (l : List DrawopValue). ds ++ l) (sym none)); cells = λ later. refl }) e
+-- no line changes the board of a host whose batch has ended
+same_host : (host next : Opened) (text printed : List ℕ) → does host text ≡ does next printed → host ≡ next
+same_host host next text printed e = cc
 
-arrives_kept : (board : Option Held) (waiting ds : List DrawopValue) (d : DrawopValue) (t : State) (y : List ℕ) → Leads board waiting ds → said_step (state board waiting) (Ok (Arrive d)) ≡ goes t y → Kept board ds (Ok (Arrive d)) t
+pub act_board : (line : Line) (host next : Opened) (printed : List ℕ) → act line host ≡ does next printed → next.board ≡ host.board
+act_board Skip host next printed e = ap (λ (h : Opened). h.board) (sym (same_host host next _ printed e))
+act_board (Arrive d) host next printed e = ap (λ (h : Opened). h.board) (sym (same_host host next _ printed e))
+act_board (Board member cells workers seed) host next printed e = ap (λ (h : Opened). h.board) (sym (same_host host next _ printed e))
+act_board (Show page width height) host next printed e = ap (λ (h : Opened). h.board) (sym (same_host host next _ printed e))
+act_board (Gaps page) host next printed e = ap (λ (h : Opened). h.board) (sym (same_host host next _ printed e))
+act_board (Report page) host next printed e = ap (λ (h : Opened). h.board) (sym (same_host host next _ printed e))
+act_board Pages host next printed e = ap (λ (h : Opened). h.board) (sym (same_host host next _ printed e))
+act_board (Hear v) host next printed e = absurd cc
+act_board (Distance source micros) host next printed e = absurd cc
+act_board (Tick moment) host next printed e = absurd cc
+act_board (Look page) host next printed e = absurd cc
+act_board (Session page) host next printed e = absurd cc
+
+-- the same board, once a batch was taken
+act_kept : (first host : Opened) (waiting ds : List DrawopValue) (line : Line) (text : List ℕ) (t : State) (y : List ℕ) → arrived_by (Ok line) ≡ [] → ((later : ℕ) → cells_by (Ok line) later ≡ later) → Leads (Some first) waiting ds → host.board ≡ board_after first.board waiting
+    → (a : Act) → act line host ≡ a → step_by text a host ≡ goes t y → Kept (Some first) ds (Ok line) t
+act_kept first host waiting ds line text t y none same h is (fails f) acted e = absurd cc
+act_kept first host waiting ds line text t y none same h is (does next printed) acted e =
+    let board : next.board ≡ board_after first.board waiting = act_board line host next printed acted ∙ is in
+    let after : history_after first.board.cells first.board.drawops waiting ≡ history_after first.board.cells [] (ds ++ arrived_by (Ok line)) =
+    h ∙ ap (history_after first.board.cells []) (sym (append-nil ds) ∙ ap (λ (l : List DrawopValue). ds ++ l) (sym none)) in
+    kept_by (Some first) ds (Ok line) (state (Some next) []) t (text ++ printed) y
+    (record {
+      leads = subst (λ (b : Held). b.drawops ≡ history_after b.cells [] (ds ++ arrived_by (Ok line))) (sym board) after;
+      cells = λ later. ap (λ (b : Held). b.cells) board;
+    }) e
+
+acts_kept : (host : Option Opened) (waiting ds : List DrawopValue) (line : Line) (t : State) (y : List ℕ) → arrived_by (Ok line) ≡ [] → ((later : ℕ) → cells_by (Ok line) later ≡ later) → Leads host waiting ds
+    → acts (after_batch (state host waiting)) (closing_text (state host waiting)) line ≡ goes t y → Kept host ds (Ok line) t
+acts_kept None waiting ds line t y none same h e = absurd cc
+acts_kept (Some host) waiting ds line t y none same h e =
+    act_kept host (host_after host waiting) waiting ds line (batch_text host.board waiting) t y none same h refl (act line (host_after host waiting)) refl e
+
+arrives_kept : (host : Option Opened) (waiting ds : List DrawopValue) (d : DrawopValue) (t : State) (y : List ℕ) → Leads host waiting ds → said_step (state host waiting) (Ok (Arrive d)) ≡ goes t y → Kept host ds (Ok (Arrive d)) t
 arrives_kept None waiting ds d t y h e = absurd cc
-arrives_kept (Some b) waiting ds d t y h e =
-    kept_by (Some b) ds (Ok (Arrive d)) (state (Some b) (waiting ++ d ∷ [])) t [] y
+arrives_kept (Some host) waiting ds d t y h e =
+    let b : Held = host.board in
+    kept_by (Some host) ds (Ok (Arrive d)) (state (Some host) (waiting ++ d ∷ [])) t [] y
     (record {
       leads = batches_are_one b.cells b.drawops waiting (d ∷ []) ∙ ap (λ (l : List DrawopValue). history_after b.cells l (d ∷ [])) h ∙ sym (batches_are_one b.cells [] ds (d ∷ []));
       cells = λ later. refl;
     }) e
 
-opens_kept : (board : Option Held) (waiting ds : List DrawopValue) (member cells workers seed : ℕ) (t : State) (y : List ℕ) → Leads board waiting ds → said_step (state board waiting) (Ok (Board member cells workers seed)) ≡ goes t y → Kept board ds (Ok (Board member cells workers seed)) t
+opens_kept : (host : Option Opened) (waiting ds : List DrawopValue) (member cells workers seed : ℕ) (t : State) (y : List ℕ) → Leads host waiting ds → said_step (state host waiting) (Ok (Board member cells workers seed)) ≡ goes t y → Kept host ds (Ok (Board member cells workers seed)) t
 opens_kept None waiting ds member cells workers seed t y h e =
-    kept_by None ds (Ok (Board member cells workers seed)) (state (Some (record { cells = cells; drawops = [] })) []) t [] y
+    kept_by None ds (Ok (Board member cells workers seed)) (state (Some (opened member cells)) []) t [] y
     (record { leads = ap (history_after cells []) (sym (ap (λ (l : List DrawopValue). l ++ []) h)); cells = λ later. refl }) e
-opens_kept (Some b) waiting ds member cells workers seed t y h e = absurd cc
+opens_kept (Some host) waiting ds member cells workers seed t y h e = absurd cc
 
-step_kept : (board : Option Held) (waiting ds : List DrawopValue) (said : Result Line LineFault) (t : State) (y : List ℕ) → Leads board waiting ds → said_step (state board waiting) said ≡ goes t y → Kept board ds said t
-step_kept board waiting ds (Ok Skip) t y h e = kept_by board ds (Ok Skip) (state board waiting) t [] y (record { leads = leads_on board waiting ds h; cells = λ later. refl }) e
-step_kept board waiting ds (Ok (Arrive d)) t y h e = arrives_kept board waiting ds d t y h e
-step_kept board waiting ds (Ok (Board member cells workers seed)) t y h e = opens_kept board waiting ds member cells workers seed t y h e
-step_kept board waiting ds (Ok (Hear v)) t y h e = absurd cc
-step_kept board waiting ds (Ok (Distance source micros)) t y h e = absurd cc
-step_kept board waiting ds (Ok (Tick moment)) t y h e = absurd cc
-step_kept board waiting ds (Ok (Look page)) t y h e = absurd cc
-step_kept board waiting ds (Ok (Session page)) t y h e = absurd cc
-step_kept board waiting ds (Ok (Show page width height)) t y h e = asks_kept board waiting ds (queries.Canvas page width height) (Ok (Show page width height)) t y refl (λ later. refl) h e
-step_kept board waiting ds (Ok (Gaps page)) t y h e = asks_kept board waiting ds (queries.Gaps page) (Ok (Gaps page)) t y refl (λ later. refl) h e
-step_kept board waiting ds (Ok (Report page)) t y h e = asks_kept board waiting ds (queries.Report page) (Ok (Report page)) t y refl (λ later. refl) h e
-step_kept board waiting ds (Ok Pages) t y h e = asks_kept board waiting ds queries.Pages (Ok Pages) t y refl (λ later. refl) h e
-step_kept board waiting ds (Err f) t y h e = absurd cc
+step_kept : (host : Option Opened) (waiting ds : List DrawopValue) (said : Result Line LineFault) (t : State) (y : List ℕ) → Leads host waiting ds → said_step (state host waiting) said ≡ goes t y → Kept host ds said t
+step_kept host waiting ds (Ok Skip) t y h e = kept_by host ds (Ok Skip) (state host waiting) t [] y (record { leads = leads_on host waiting ds h; cells = λ later. refl }) e
+step_kept host waiting ds (Ok (Arrive d)) t y h e = arrives_kept host waiting ds d t y h e
+step_kept host waiting ds (Ok (Board member cells workers seed)) t y h e = opens_kept host waiting ds member cells workers seed t y h e
+step_kept host waiting ds (Ok (Hear v)) t y h e = acts_kept host waiting ds (Hear v) t y refl (λ later. refl) h e
+step_kept host waiting ds (Ok (Distance source micros)) t y h e = acts_kept host waiting ds (Distance source micros) t y refl (λ later. refl) h e
+step_kept host waiting ds (Ok (Tick moment)) t y h e = acts_kept host waiting ds (Tick moment) t y refl (λ later. refl) h e
+step_kept host waiting ds (Ok (Look page)) t y h e = acts_kept host waiting ds (Look page) t y refl (λ later. refl) h e
+step_kept host waiting ds (Ok (Session page)) t y h e = acts_kept host waiting ds (Session page) t y refl (λ later. refl) h e
+step_kept host waiting ds (Ok (Show page width height)) t y h e = acts_kept host waiting ds (Show page width height) t y refl (λ later. refl) h e
+step_kept host waiting ds (Ok (Gaps page)) t y h e = acts_kept host waiting ds (Gaps page) t y refl (λ later. refl) h e
+step_kept host waiting ds (Ok (Report page)) t y h e = acts_kept host waiting ds (Report page) t y refl (λ later. refl) h e
+step_kept host waiting ds (Ok Pages) t y h e = acts_kept host waiting ds Pages t y refl (λ later. refl) h e
+step_kept host waiting ds (Err f) t y h e = absurd cc
 
 -- ---- whole lines that are run through
 
@@ -99,8 +130,8 @@ record RunsTo (n : ℕ) (s : State) (ds : List DrawopValue) (lines more : List I
   last : State
   written : List ℕ
   on : outcome_from false n s (lines ++ more) ≡ before written (outcome_from false done last more)
-  leads : Leads last.board last.waiting (ds ++ arrivals_of lines)
-  cells : cells_at last.board 0 ≡ cells_at s.board (cells_of lines)
+  leads : Leads last.host last.waiting (ds ++ arrivals_of lines)
+  cells : cells_at last.host 0 ≡ cells_at s.host (cells_of lines)
 
 -- an outcome behind a text
 record Behind (y text : List ℕ) (sum : Summary) (o : Outcome) : Type 0 where
@@ -115,18 +146,18 @@ no_fault : (s : State) (text : List ℕ) (sum : Summary) (fault : RunFault) → 
 no_fault s text sum fault e = let ends = end_of (closing_text s) text (Err fault) (Ok sum) e in absurd cc
 
 runs_on : (n : ℕ) (s : State) (ds : List DrawopValue) (line : InputLine) (lines more : List InputLine) (text : List ℕ) (sum : Summary) (fits : Bool) (step : Step) → line.ended ≡ true → fit n line ≡ fits → step_of s (content line) ≡ step
-    → Leads s.board s.waiting ds → outcome_from false n s (line ∷ (lines ++ more)) ≡ prints text (Ok sum)
-    → ((t : State) (ds' : List DrawopValue) (u : List ℕ) → Leads t.board t.waiting ds' → outcome_from false (n + 1) t (lines ++ more) ≡ prints u (Ok sum) → RunsTo (n + 1) t ds' lines more)
+    → Leads s.host s.waiting ds → outcome_from false n s (line ∷ (lines ++ more)) ≡ prints text (Ok sum)
+    → ((t : State) (ds' : List DrawopValue) (u : List ℕ) → Leads t.host t.waiting ds' → outcome_from false (n + 1) t (lines ++ more) ≡ prints u (Ok sum) → RunsTo (n + 1) t ds' lines more)
     → RunsTo n s ds (line ∷ lines) more
 runs_on n s ds line lines more text sum false step ended f g h e rest = absurd (no_fault s text sum run_faults.Endless (sym (too_many false n s line (lines ++ more) f) ∙ e))
-runs_on n s ds line lines more text sum true (refused fault) ended f g h e rest =
-    absurd (no_fault s text sum (run_faults.Line (n + 1) fault)
+runs_on n s ds line lines more text sum true (refused t y fault) ended f g h e rest =
+    absurd (err_end y text t sum (run_faults.Line (n + 1) fault)
     (sym (one_line false n s line (lines ++ more) ended f ∙ ap (λ (step : Step). proceed s (n + 1) step (λ t. outcome_from false (n + 1) t (lines ++ more))) g) ∙ e))
 runs_on n s ds line lines more text sum true (goes t y) ended f g h e rest =
     let said : Result Line LineFault = line_of (content line) in
     let first : outcome_from false n s (line ∷ (lines ++ more)) ≡ before y (outcome_from false (n + 1) t (lines ++ more)) =
     one_line false n s line (lines ++ more) ended f ∙ ap (λ (step : Step). proceed s (n + 1) step (λ t. outcome_from false (n + 1) t (lines ++ more))) g in
-    let k : Kept s.board ds said t = step_kept s.board s.waiting ds said t y h g in
+    let k : Kept s.host ds said t = step_kept s.host s.waiting ds said t y h g in
     let b = behind y text sum (outcome_from false (n + 1) t (lines ++ more)) (sym first ∙ e) in
     let r = rest t (ds ++ arrived_by said) b.later k.leads b.is in
     record {
@@ -134,35 +165,35 @@ runs_on n s ds line lines more text sum true (goes t y) ended f g h e rest =
       last = r.last;
       written = y ++ r.written;
       on = first ∙ ap (before y) r.on ∙ before-before y r.written (outcome_from false r.done r.last more);
-      leads = subst (Leads r.last.board r.last.waiting) (append_assoc ds (arrived_by said) (arrivals_of lines)) r.leads;
+      leads = subst (Leads r.last.host r.last.waiting) (append_assoc ds (arrived_by said) (arrivals_of lines)) r.leads;
       cells = r.cells ∙ k.cells (cells_of lines);
     }
 
-runs : (n : ℕ) (s : State) (ds : List DrawopValue) (lines more : List InputLine) (text : List ℕ) (sum : Summary) → EachEnds lines → Leads s.board s.waiting ds → outcome_from false n s (lines ++ more) ≡ prints text (Ok sum) → RunsTo n s ds lines more
-runs n s ds [] more text sum all h e = record { done = n; last = s; written = []; on = sym (before-nil (outcome_from false n s more)); leads = leads_on s.board s.waiting ds h; cells = refl }
+runs : (n : ℕ) (s : State) (ds : List DrawopValue) (lines more : List InputLine) (text : List ℕ) (sum : Summary) → EachEnds lines → Leads s.host s.waiting ds → outcome_from false n s (lines ++ more) ≡ prints text (Ok sum) → RunsTo n s ds lines more
+runs n s ds [] more text sum all h e = record { done = n; last = s; written = []; on = sym (before-nil (outcome_from false n s more)); leads = leads_on s.host s.waiting ds h; cells = refl }
 runs n s ds (line ∷ lines) more text sum all h e =
     runs_on n s ds line lines more text sum (fit n line) (step_of s (content line)) all.0 refl refl h e (λ t ds' u k g. runs (n + 1) t ds' lines more u sum all.1 k g)
 
 -- ---- the question at the end
 
-shown_on : (n : ℕ) (board : Option Held) (waiting ds : List DrawopValue) (page : PageId) (width height : ℕ) (text : List ℕ) (sum : Summary) → Leads board waiting ds
-    → proceed (state board waiting) (n + 1) (asked (state board waiting) (queries.Canvas page width height)) (λ t. outcome_from false (n + 1) t []) ≡ prints text (Ok sum)
-    → EndsWith text (canvas_text (view_of (history_after (cells_at board 0) [] ds) page) width height)
-shown_on n None waiting ds page width height text sum h e = absurd (no_fault (state None waiting) text sum (run_faults.Line (n + 1) faults.NoBoard) e)
-shown_on n (Some b) waiting ds page width height text sum h e =
-    let s : State = state (Some b) waiting in
-    let answer : List ℕ = canvas_text (view_of (history_after b.cells b.drawops waiting) page) width height in (
-      closing_text s,
-      sym (text_of ((closing_text s ++ answer) ++ []) text (summary (n + 1) (after_batch s)) (Ok sum) e) ∙ append-nil (closing_text s ++ answer)
-          ∙ ap (λ (l : List DrawopValue). closing_text s ++ canvas_text (view_of l page) width height) h,
+shown_on : (n : ℕ) (host : Option Opened) (waiting ds : List DrawopValue) (page : PageId) (width height : ℕ) (text : List ℕ) (sum : Summary) → Leads host waiting ds
+    → proceed (state host waiting) (n + 1) (line_step (state host waiting) (Show page width height)) (λ t. outcome_from false (n + 1) t []) ≡ prints text (Ok sum)
+    → EndsWith text (canvas_text (view_of (history_after (cells_at host 0) [] ds) page) width height)
+shown_on n None waiting ds page width height text sum h e = absurd (err_end [] text (after_batch (state None waiting)) sum (run_faults.Line (n + 1) faults.NoBoard) e)
+shown_on n (Some host) waiting ds page width height text sum h e =
+    let closing : List ℕ = batch_text host.board waiting in
+    let answer : List ℕ = canvas_text (view_of (history_after host.board.cells host.board.drawops waiting) page) width height in (
+      closing,
+      sym (text_of ((closing ++ answer) ++ []) text (summary (n + 1) (after_batch (state (Some host) waiting))) (Ok sum) e) ∙ append-nil (closing ++ answer)
+          ∙ ap (λ (l : List DrawopValue). closing ++ canvas_text (view_of l page) width height) h,
     )
 
 shown_at : (n : ℕ) (s : State) (ds : List DrawopValue) (question : List ℕ) (page : PageId) (width height : ℕ) (text : List ℕ) (sum : Summary) (fits : Bool) → fit n (whole_line question) ≡ fits → line_of (strip_carriage_return question) ≡ Ok (Show page width height)
-    → Leads s.board s.waiting ds → outcome_from false n s (whole_line question ∷ []) ≡ prints text (Ok sum)
-    → EndsWith text (canvas_text (view_of (history_after (cells_at s.board 0) [] ds) page) width height)
+    → Leads s.host s.waiting ds → outcome_from false n s (whole_line question ∷ []) ≡ prints text (Ok sum)
+    → EndsWith text (canvas_text (view_of (history_after (cells_at s.host 0) [] ds) page) width height)
 shown_at n s ds question page width height text sum false f said h e = absurd (no_fault s text sum run_faults.Endless (sym (too_many false n s (whole_line question) [] f) ∙ e))
 shown_at n s ds question page width height text sum true f said h e =
-    shown_on n s.board s.waiting ds page width height text sum h
+    shown_on n s.host s.waiting ds page width height text sum h
     (sym (one_line false n s (whole_line question) [] refl f ∙ ap (λ (l : Result Line LineFault). proceed s (n + 1) (said_step s l) (λ t. outcome_from false (n + 1) t [])) said) ∙ e)
 
 later_end : (written u text canvas : List ℕ) → text ≡ written ++ u → EndsWith u canvas → EndsWith text canvas

@@ -1,14 +1,15 @@
 -- What a script does, one line after the other.
-use Rattle.std.proofs.Common.{◌≡◌, ◌≢◌, ℕ, ◌+◌, ◌<◌, ◌≤◌, Bool, true, false, List, [], ◌∷◌, ◌++◌, length, Result, Ok, Err, refl, sym, ap, subst, ◌∙◌, append_assoc, arith}
+use Rattle.std.proofs.Common.{◌≡◌, ◌≢◌, ℕ, ◌+◌, ◌<◌, ◌≤◌, Bool, true, false, List, [], ◌∷◌, ◌++◌, length, Result, Ok, Err, inl, inr, refl, sym, ap, subst, ◌∙◌, append_assoc, arith}
 use Rattle.std.specs.Prelude.{nat_eq, nat_le, nat_lt, ◌&&◌}
-use Rattle.std.proofs.lemmas.Bool.{false≢true}
+use Rattle.std.proofs.lemmas.Bool.{false≢true, true≢false}
 use Rattle.std.proofs.lemmas.List.{append-nil}
 use Rattle.wb_script.specs.declared.fault.LineFault.{LineFault}
 use Rattle.wb_script.specs.declared.fault.RunFault.{RunFault}
 use Rattle.wb_script.specs.declared.fault.RunFault.TheVariants as run_faults
 use Rattle.wb_script.specs.declared.summary.Summary.{Summary}
 use Rattle.wb_script.specs.Ahead.{Ahead, NoLineFeed, IsLine}
-use Rattle.wb_script.specs.Script.{InputLine, input_lines, content, State, Step, goes, refused, step_of, Outcome, prints, before, finish, summary, proceed, most_lines, most_bytes, outcome_from, BeginsWith, IsStop, IsMemoryOr, DoesStep}
+use Rattle.wb_script.specs.Script.{InputLine, input_lines, content, State, Step, goes, refused, step_of, Outcome, prints, before, finish, summary, proceed, most_lines, most_bytes, outcome_from, BeginsWith, IsStop}
+use Rattle.wb_script.specs.Stations.{HostValue, IsAt, IsLeftAt, DoesStep}
 use Rattle.wb_script.specs.Running.{MayFollow, Leads, Begins, ahead_of, Passes, Stops, Ends}
 use Rattle.wb_script.proofs.InputLines.{input_lines-whole, input_lines-last, starts_line, whole_line, last_line, regrouped, fits, past_length, has_line, past_count}
 
@@ -64,9 +65,11 @@ Leads-before (prints rest end) next text written e is = rw is (ap (before text) 
 Begins-before : (o : Outcome) (text written : List ℕ) → BeginsWith text written → Begins (before text o) written
 Begins-before (prints rest end) text written b = (b.0 ++ rest, ap (λ (t : List ℕ). t ++ rest) b.1 ∙ append_assoc written b.0 rest)
 
-proceed_ok : (number : ℕ) (s t : State) (written : List ℕ) (u : Unit {0}) (step : Step) (rest : State → Outcome) → DoesStep number s t written (Ok u) step → Leads (proceed s number step rest) written (rest t)
-proceed_ok number s t written u (goes r text) rest d = Leads-before (rest r) (rest t) text written (ap rest (sym d.0)) d.1
-proceed_ok number s t written u (refused e) rest d = absurd d
+-- where a line led, and what it printed, whatever follows
+proceed_ok : (number : ℕ) (s : State) (new : HostValue) (written : List ℕ) (u : Unit {0}) (step : Step) → DoesStep number new written (Ok u) step
+    → (t : State) × IsAt new t × ((rest : State → Outcome) → Leads (proceed s number step rest) written (rest t))
+proceed_ok number s new written u (goes t text) d = (t, d.0, λ rest. Leads-before (rest t) (rest t) text written refl d.1)
+proceed_ok number s new written u (refused t text e) d = absurd d
 
 -- what is known after a line that stopped a run
 abbrev AfterFault : Outcome → List ℕ → State → RunFault → Type 0
@@ -85,32 +88,47 @@ after_stop o written t run_faults.Read stop b = absurd stop
 after_stop o written t run_faults.Start stop b = absurd stop
 after_stop o written t run_faults.Endless stop b = absurd stop
 
-after_refusal : (number : ℕ) (e : LineFault) (s t : State) (written : List ℕ) (f : RunFault) → IsMemoryOr (run_faults.Line number e) f → t ≡ s → written ≡ [] → AfterFault (finish s (Err (run_faults.Line number e))) written t f
-after_refusal number e s t written run_faults.Memory m same none = Begins-nil (finish s (Err (run_faults.Line number e))) written none
-after_refusal number e s t written (run_faults.Line n f) m same none = Leads-is (finish s (Err (run_faults.Line number e))) (finish t (Err (run_faults.Line n f))) written (ap (λ (g : RunFault). finish s (Err g)) (sym m) ∙ ap (λ (r : State). finish r (Err (run_faults.Line n f))) (sym same)) none
-after_refusal number e s t written run_faults.Read m same none = absurd m
-after_refusal number e s t written run_faults.Write m same none = absurd m
-after_refusal number e s t written run_faults.Endless m same none = absurd m
-after_refusal number e s t written run_faults.Start m same none = absurd m
+after_refusal : (number : ℕ) (e : LineFault) (t : State) (text written : List ℕ) (f : RunFault) → f ≡ run_faults.Line number e → written ≡ text → AfterFault (before text (finish t (Err (run_faults.Line number e)))) written t f
+after_refusal number e t text written f is same = rw is (Leads-before (finish t (Err (run_faults.Line number e))) (finish t (Err (run_faults.Line number e))) text written refl same)
 
-proceed_err : (number : ℕ) (s t : State) (written : List ℕ) (f : RunFault) (step : Step) (rest : State → Outcome) → DoesStep {U = Unit {0}} number s t written (Err f) step → AfterFault (proceed s number step rest) written t f
-proceed_err number s t written f (goes r text) rest d = after_stop (before text (rest r)) written t f d.0 (Begins-before (rest r) text written d.1)
-proceed_err number s t written f (refused e) rest d = after_refusal number e s t written f d.0 d.1 d.2
+never_left : (new : HostValue) (t : State) (f : RunFault) → IsStop f → IsLeftAt {X = Unit {0}} new (Err f) t
+never_left new t run_faults.Memory stop = λ e. absurd (true≢false e)
+never_left new t run_faults.Write stop = λ e. absurd (true≢false e)
+never_left new t (run_faults.Line n e) stop = absurd stop
+never_left new t run_faults.Read stop = absurd stop
+never_left new t run_faults.Start stop = absurd stop
+never_left new t run_faults.Endless stop = absurd stop
 
-pub whole_passes : (n : ℕ) (s t : State) (reader reader' : Ahead) (given written line : List ℕ) (u : Unit {0}) → n < most_lines → IsLine line → reader.bytes ++ given ≡ line ++ 10 ∷ reader'.bytes
-    → DoesStep (n + 1) s t written (Ok u) (step_of s (content (whole_line line))) → Passes n s reader given written (n + 1) t reader'
-whole_passes n s t reader reader' given written line u few is e d = λ more cut may.
-    subst (λ (o : Outcome). Leads o written (ahead_of cut (n + 1) t reader' more)) (sym (whole_ahead cut n s reader reader' given line more few is e))
-    (proceed_ok (n + 1) s t written u (step_of s (content (whole_line line))) (λ r. ahead_of cut (n + 1) r reader' more) d)
+proceed_err : (number : ℕ) (s : State) (new : HostValue) (written : List ℕ) (f : RunFault) (step : Step) → DoesStep {U = Unit {0}} number new written (Err f) step
+    → (t : State) × IsLeftAt {X = Unit {0}} new (Err f) t × ((rest : State → Outcome) → AfterFault (proceed s number step rest) written t f)
+proceed_err number s new written f (goes t text) d = (t, never_left new t f d.0, λ rest. after_stop (before text (rest t)) written t f d.0 (Begins-before (rest t) text written d.1))
+proceed_err number s new written f (refused t text e) (inl d) = (t, never_left new t f d.0, λ rest. after_stop (before text (finish t (Err (run_faults.Line number e)))) written t f d.0 (Begins-before (finish t (Err (run_faults.Line number e))) text written d.1))
+proceed_err number s new written f (refused t text e) (inr d) = (t, λ going. d.1, λ rest. after_refusal number e t text written f d.0 d.2)
 
-pub last_passes : (n : ℕ) (s t : State) (reader reader' : Ahead) (given written line : List ℕ) (u : Unit {0}) → n < most_lines → IsLine line → line ≢ [] → reader.bytes ++ given ≡ line → reader'.bytes ≡ [] → reader'.ended ≡ true
-    → DoesStep (n + 1) s t written (Ok u) (step_of s line) → Passes n s reader given written (n + 1) t reader'
-last_passes n s t reader reader' given written line u few is some e none ended d = λ more cut may.
-    let follows = may ended in
-    let at_end : Leads (ahead_of false n s reader (given ++ [])) written (ahead_of false (n + 1) t reader' []) =
-    subst (λ (o : Outcome). Leads o written (ahead_of false (n + 1) t reader' [])) (sym (last_ahead n s reader reader' given line few is some e none))
-    (proceed_ok (n + 1) s t written u (step_of s line) (λ r. ahead_of false (n + 1) r reader' []) d) in
-    rw (follows.0, follows.1) at_end
+pub whole_passes : (n : ℕ) (s : State) (new : HostValue) (reader reader' : Ahead) (given written line : List ℕ) (u : Unit {0}) → n < most_lines → IsLine line → reader.bytes ++ given ≡ line ++ 10 ∷ reader'.bytes
+    → DoesStep (n + 1) new written (Ok u) (step_of s (content (whole_line line))) → (t : State) × IsAt new t × Passes n s reader given written (n + 1) t reader'
+whole_passes n s new reader reader' given written line u few is e d =
+    let on = proceed_ok (n + 1) s new written u (step_of s (content (whole_line line))) d in (
+      on.0,
+      on.1,
+      λ more cut may.
+          subst (λ (o : Outcome). Leads o written (ahead_of cut (n + 1) on.0 reader' more)) (sym (whole_ahead cut n s reader reader' given line more few is e))
+          (on.2 (λ r. ahead_of cut (n + 1) r reader' more)),
+    )
+
+pub last_passes : (n : ℕ) (s : State) (new : HostValue) (reader reader' : Ahead) (given written line : List ℕ) (u : Unit {0}) → n < most_lines → IsLine line → line ≢ [] → reader.bytes ++ given ≡ line → reader'.bytes ≡ [] → reader'.ended ≡ true
+    → DoesStep (n + 1) new written (Ok u) (step_of s line) → (t : State) × IsAt new t × Passes n s reader given written (n + 1) t reader'
+last_passes n s new reader reader' given written line u few is some e none ended d =
+    let on = proceed_ok (n + 1) s new written u (step_of s line) d in (
+      on.0,
+      on.1,
+      λ more cut may.
+          let follows = may ended in
+          let at_end : Leads (ahead_of false n s reader (given ++ [])) written (ahead_of false (n + 1) on.0 reader' []) =
+          subst (λ (o : Outcome). Leads o written (ahead_of false (n + 1) on.0 reader' [])) (sym (last_ahead n s reader reader' given line few is some e none))
+          (on.2 (λ r. ahead_of false (n + 1) r reader' [])) in
+          rw (follows.0, follows.1) at_end,
+    )
 
 -- a fault of a line stops the run, whatever follows
 stops_by : (n : ℕ) (s t : State) (reader reader' : Ahead) (given written : List ℕ) (failed : Bool) (f : RunFault)
@@ -122,20 +140,30 @@ stops_by n s t reader reader' given written failed run_faults.Endless h = λ mor
 stops_by n s t reader reader' given written failed run_faults.Start h = absurd (h [] false (λ e. (refl, refl)))
 stops_by n s t reader reader' given written failed run_faults.Read h = absurd (h [] false (λ e. (refl, refl)))
 
-pub whole_stops : (n : ℕ) (s t : State) (reader reader' : Ahead) (given written line : List ℕ) (failed : Bool) (f : RunFault) → n < most_lines → IsLine line → reader.bytes ++ given ≡ line ++ 10 ∷ reader'.bytes
-    → DoesStep {U = Unit {0}} (n + 1) s t written (Err f) (step_of s (content (whole_line line))) → Stops n s reader given written t reader' failed f
-whole_stops n s t reader reader' given written line failed f few is e d = stops_by n s t reader reader' given written failed f (λ more cut may.
-    subst (λ (o : Outcome). AfterFault o written t f) (sym (whole_ahead cut n s reader reader' given line more few is e))
-    (proceed_err (n + 1) s t written f (step_of s (content (whole_line line))) (λ r. ahead_of cut (n + 1) r reader' more) d))
+pub whole_stops : (n : ℕ) (s : State) (new : HostValue) (reader reader' : Ahead) (given written line : List ℕ) (failed : Bool) (f : RunFault) → n < most_lines → IsLine line → reader.bytes ++ given ≡ line ++ 10 ∷ reader'.bytes
+    → DoesStep {U = Unit {0}} (n + 1) new written (Err f) (step_of s (content (whole_line line))) → (t : State) × IsLeftAt {X = Unit {0}} new (Err f) t × Stops n s reader given written t reader' failed f
+whole_stops n s new reader reader' given written line failed f few is e d =
+    let on = proceed_err (n + 1) s new written f (step_of s (content (whole_line line))) d in (
+      on.0,
+      on.1,
+      stops_by n s on.0 reader reader' given written failed f (λ more cut may.
+          subst (λ (o : Outcome). AfterFault o written on.0 f) (sym (whole_ahead cut n s reader reader' given line more few is e))
+          (on.2 (λ r. ahead_of cut (n + 1) r reader' more))),
+    )
 
-pub last_stops : (n : ℕ) (s t : State) (reader reader' : Ahead) (given written line : List ℕ) (failed : Bool) (f : RunFault) → n < most_lines → IsLine line → line ≢ [] → reader.bytes ++ given ≡ line → reader'.bytes ≡ [] → reader'.ended ≡ true
-    → DoesStep {U = Unit {0}} (n + 1) s t written (Err f) (step_of s line) → Stops n s reader given written t reader' failed f
-last_stops n s t reader reader' given written line failed f few is some e none ended d = stops_by n s t reader reader' given written failed f (λ more cut may.
-    let follows = may ended in
-    let at_end : AfterFault (ahead_of false n s reader (given ++ [])) written t f =
-    subst (λ (o : Outcome). AfterFault o written t f) (sym (last_ahead n s reader reader' given line few is some e none))
-    (proceed_err (n + 1) s t written f (step_of s line) (λ r. ahead_of false (n + 1) r reader' []) d) in
-    rw (follows.0, follows.1) at_end)
+pub last_stops : (n : ℕ) (s : State) (new : HostValue) (reader reader' : Ahead) (given written line : List ℕ) (failed : Bool) (f : RunFault) → n < most_lines → IsLine line → line ≢ [] → reader.bytes ++ given ≡ line → reader'.bytes ≡ [] → reader'.ended ≡ true
+    → DoesStep {U = Unit {0}} (n + 1) new written (Err f) (step_of s line) → (t : State) × IsLeftAt {X = Unit {0}} new (Err f) t × Stops n s reader given written t reader' failed f
+last_stops n s new reader reader' given written line failed f few is some e none ended d =
+    let on = proceed_err (n + 1) s new written f (step_of s line) d in (
+      on.0,
+      on.1,
+      stops_by n s on.0 reader reader' given written failed f (λ more cut may.
+          let follows = may ended in
+          let at_end : AfterFault (ahead_of false n s reader (given ++ [])) written on.0 f =
+          subst (λ (o : Outcome). AfterFault o written on.0 f) (sym (last_ahead n s reader reader' given line few is some e none))
+          (on.2 (λ r. ahead_of false (n + 1) r reader' [])) in
+          rw (follows.0, follows.1) at_end),
+    )
 
 pub memory_stops : (n : ℕ) (s t : State) (reader reader' : Ahead) (given : List ℕ) (failed : Bool) → Stops n s reader given [] t reader' failed run_faults.Memory
 memory_stops n s t reader reader' given failed = λ more cut may. Begins-nil (ahead_of cut n s reader (given ++ more)) [] refl

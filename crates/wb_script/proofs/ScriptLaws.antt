@@ -6,16 +6,17 @@ use Rattle.std.proofs.lemmas.Bool.{true≢false}
 use Rattle.std.proofs.lemmas.Bool.Decides.{nat_tests}
 use Rattle.std.proofs.lemmas.List.{append-nil, length-append}
 use Rattle.wb_script.specs.declared.fault.LineFault.{LineFault}
+use Rattle.wb_script.specs.declared.fault.LineFault.TheVariants as faults
 use Rattle.wb_script.specs.declared.fault.RunFault.{RunFault}
 use Rattle.wb_script.specs.declared.fault.RunFault.TheVariants as run_faults
 use Rattle.wb_script.specs.declared.line.Line.{Line}
 use Rattle.wb_script.specs.declared.line.Line.TheVariants.{Skip, Board, Arrive, Hear, Distance, Tick, Look, Session, Show, Gaps, Report, Pages}
 use Rattle.wb_script.specs.declared.summary.Summary.{Summary}
 use Rattle.wb_script.specs.Ahead.{IsLine}
-use Rattle.wb_script.specs.Board.{Held}
+use Rattle.wb_script.specs.Hosts.{Opened, opened, Act, does, fails, act}
 use Rattle.wb_script.specs.Parsing.{line_of}
 use Rattle.wb_script.specs.Running.{Begins}
-use Rattle.wb_script.specs.Script.{InputLine, onto_first, input_lines, content, State, start, batch_text, closing_text, Step, goes, refused, on_board, opened, said_step, step_of, Outcome, prints, before, finish, summary, proceed, most_lines, most_bytes, outcome_from, outcome}
+use Rattle.wb_script.specs.Script.{InputLine, onto_first, input_lines, content, State, start, by_host, closing_text, after_batch, Step, goes, refused, step_by, acts, said_step, step_of, Outcome, prints, before, finish, summary, proceed, most_lines, most_bytes, outcome_from, outcome}
 use Rattle.wb_script.specs.ScriptLaws.{EachEnds, waits_after, waits_at_end, text_of, RefusedStays, PrintedStays, SkippedPrintsNothing}
 use Rattle.wb_script.proofs.InputLines.{input_lines-whole, whole_line, fits}
 use Rattle.wb_script.proofs.Outcomes.{before-nil, before-before, too_many, text_of as same_text, end_of}
@@ -45,33 +46,34 @@ input_lines-after (b ∷ front) more all = at (nat_eq b 10) all (input_lines-aft
 pub state_of : (s t : State) (x y : List ℕ) → goes s x ≡ goes t y → s ≡ t
 state_of s t x y e = cc
 
-no_text : (board : Option Held) → batch_text board [] ≡ []
-no_text None = refl
-no_text (Some board) = refl
+-- nothing waits after a line that ended the batch
+quiet_act : (text : List ℕ) (a : Act) (host : Opened) (t : State) (y : List ℕ) → step_by text a host ≡ goes t y → closing_text t ≡ []
+quiet_act text (does next printed) host t y e = let u : State = record { host = Some next; waiting = [] } in ap closing_text (sym (state_of u t (text ++ printed) y e))
+quiet_act text (fails f) host t y e = absurd cc
 
--- the state after a step has no batch text
-quiet_after : (board : Option Held) (t u : State) (x y : List ℕ) → u.waiting ≡ [] → on_board board (goes u x) ≡ goes t y → closing_text t ≡ []
-quiet_after None t u x y none e = absurd cc
-quiet_after (Some board) t u x y none e =
-    ap closing_text (sym (state_of u t x y e)) ∙ ap (batch_text u.board) none ∙ no_text u.board
+quiet_after : (u : State) (text : List ℕ) (line : Line) (t : State) (y : List ℕ) → acts u text line ≡ goes t y → closing_text t ≡ []
+quiet_after u text line t y e = at u.host e where
+  at : (host : Option Opened) → by_host host (refused u text faults.NoBoard) (λ host. step_by text (act line host) host) ≡ goes t y → closing_text t ≡ []
+  at None e = absurd cc
+  at (Some host) e = quiet_act text (act line host) host t y e
 
-quiet_opened : (board : Option Held) (cells : ℕ) (t : State) (y : List ℕ) → opened board cells ≡ goes t y → closing_text t ≡ []
-quiet_opened None cells t y e = let u : State = record { board = Some (record { cells = cells; drawops = [] }); waiting = [] } in ap closing_text (sym (state_of u t [] y e))
-quiet_opened (Some board) cells t y e = absurd cc
+quiet_opened : (s : State) (host : Option Opened) (member cells : ℕ) (t : State) (y : List ℕ) → by_host host (goes (record { host = Some (opened member cells); waiting = [] }) []) (λ host. refused s [] faults.SecondBoard) ≡ goes t y → closing_text t ≡ []
+quiet_opened s None member cells t y e = let u : State = record { host = Some (opened member cells); waiting = [] } in ap closing_text (sym (state_of u t [] y e))
+quiet_opened s (Some host) member cells t y e = absurd cc
 
 quiet_line : (s t : State) (said : Result Line LineFault) (y : List ℕ) (waits : Bool) → (waits ≡ false → closing_text s ≡ []) → said_step s said ≡ goes t y → waits_after waits said ≡ false → closing_text t ≡ []
 quiet_line s t (Ok Skip) y waits quiet e calm = ap closing_text (sym (state_of s t [] y e)) ∙ quiet calm
 quiet_line s t (Ok (Arrive d)) y waits quiet e calm = absurd (true≢false calm)
-quiet_line s t (Ok (Board member cells workers seed)) y waits quiet e calm = quiet_opened s.board cells t y e
-quiet_line s t (Ok (Hear v)) y waits quiet e calm = absurd cc
-quiet_line s t (Ok (Distance source micros)) y waits quiet e calm = absurd cc
-quiet_line s t (Ok (Tick moment)) y waits quiet e calm = absurd cc
-quiet_line s t (Ok (Look page)) y waits quiet e calm = absurd cc
-quiet_line s t (Ok (Session page)) y waits quiet e calm = absurd cc
-quiet_line s t (Ok (Gaps page)) y waits quiet e calm = quiet_after s.board t _ _ y refl e
-quiet_line s t (Ok (Show page width height)) y waits quiet e calm = quiet_after s.board t _ _ y refl e
-quiet_line s t (Ok (Report page)) y waits quiet e calm = quiet_after s.board t _ _ y refl e
-quiet_line s t (Ok Pages) y waits quiet e calm = quiet_after s.board t _ _ y refl e
+quiet_line s t (Ok (Board member cells workers seed)) y waits quiet e calm = quiet_opened s s.host member cells t y e
+quiet_line s t (Ok (Hear v)) y waits quiet e calm = quiet_after (after_batch s) (closing_text s) (Hear v) t y e
+quiet_line s t (Ok (Distance source micros)) y waits quiet e calm = quiet_after (after_batch s) (closing_text s) (Distance source micros) t y e
+quiet_line s t (Ok (Tick moment)) y waits quiet e calm = quiet_after (after_batch s) (closing_text s) (Tick moment) t y e
+quiet_line s t (Ok (Look page)) y waits quiet e calm = quiet_after (after_batch s) (closing_text s) (Look page) t y e
+quiet_line s t (Ok (Session page)) y waits quiet e calm = quiet_after (after_batch s) (closing_text s) (Session page) t y e
+quiet_line s t (Ok (Gaps page)) y waits quiet e calm = quiet_after (after_batch s) (closing_text s) (Gaps page) t y e
+quiet_line s t (Ok (Show page width height)) y waits quiet e calm = quiet_after (after_batch s) (closing_text s) (Show page width height) t y e
+quiet_line s t (Ok (Report page)) y waits quiet e calm = quiet_after (after_batch s) (closing_text s) (Report page) t y e
+quiet_line s t (Ok Pages) y waits quiet e calm = quiet_after (after_batch s) (closing_text s) Pages t y e
 quiet_line s t (Err f) y waits quiet e calm = absurd cc
 
 -- ---- the course of whole lines: they are run through, or end with a fault, whatever follows
@@ -127,11 +129,11 @@ course_line n s waits line lines false step ended e is rest = inr (record {
   written = [];
   is = λ cut more. too_many cut n s line (lines ++ more) e ∙ sym (before-nil (finish s (Err run_faults.Endless)));
 })
-course_line n s waits line lines true (refused f) ended e is rest = inr (record {
-  last = s;
+course_line n s waits line lines true (refused t text f) ended e is rest = inr (record {
+  last = t;
   fault = run_faults.Line (n + 1) f;
-  written = [];
-  is = λ cut more. one_line cut n s line (lines ++ more) ended e ∙ ap (λ (step : Step). proceed s (n + 1) step (λ t. outcome_from cut (n + 1) t (lines ++ more))) is ∙ sym (before-nil (finish s (Err (run_faults.Line (n + 1) f))));
+  written = text;
+  is = λ cut more. one_line cut n s line (lines ++ more) ended e ∙ ap (λ (step : Step). proceed s (n + 1) step (λ t. outcome_from cut (n + 1) t (lines ++ more))) is;
 })
 course_line n s waits line lines true (goes t text) ended e is rest =
     course_after n s t text waits (waits_after waits (line_of (content line))) line lines
@@ -189,7 +191,7 @@ text_before text (prints t e) (prints u f) same = ap (λ (w : List ℕ). text ++
 
 text_proceed : (s : State) (n m : ℕ) (step : Step) (a b : State → Outcome) → ((t : State) → text_of (a t) ≡ text_of (b t)) → text_of (proceed s n step a) ≡ text_of (proceed s m step b)
 text_proceed s n m (goes t text) a b same = text_before text (a t) (b t) (same t)
-text_proceed s n m (refused f) a b same = refl
+text_proceed s n m (refused t text f) a b same = refl
 
 text_cond : (test : Bool) (o p r : Outcome) → text_of o ≡ text_of p → text_of (cond test o r) ≡ text_of (cond test p r)
 text_cond true o p r same = same

@@ -1,36 +1,113 @@
 -- What a line does, from what its parts do.
-use Rattle.std.proofs.Common.{◌≡◌, ℕ, false, List, [], ◌++◌, Result, Ok, Err, refl, sym, ap, ◌∙◌, subst, append_assoc}
-use Rattle.std.specs.Prelude.{Option, Some, None, is_none, IsSome}
-use Rattle.std.proofs.lemmas.Bool.{true≢false}
+use Rattle.std.proofs.Common.{◌≡◌, ℕ, ◌<◌, List, [], ◌∷◌, ◌++◌, length, Result, Ok, Err, inl, inr, refl, sym, ap, subst, ◌∙◌, append_assoc, arith}
+use Rattle.std.specs.Prelude.{Option, Some, None, filter}
+use Rattle.std.proofs.lemmas.List.{append-nil}
+use Rattle.wb_names.specs.Values.{NameValue, DrawopValue}
+use Rattle.wb_names.specs.Arrivals.{Counts, counts_of, outcomes_of, history_after}
+use Rattle.wb_host.specs.Keeper.{KeeperCall, Arrive, holds}
+use Rattle.wb_host.specs.Keeping.{KeeperValue, StandsFor, Keeps}
+use Rattle.wb_script.specs.declared.fault.LineFault.TheVariants as faults
 use Rattle.wb_script.specs.declared.fault.RunFault.{RunFault}
 use Rattle.wb_script.specs.declared.fault.RunFault.TheVariants as run_faults
-use Rattle.wb_script.specs.declared.query.Query.{Query}
+use Rattle.wb_script.specs.declared.line.Line.{Line}
 use Rattle.wb_script.specs.Board.{Held}
-use Rattle.wb_script.specs.Answers.{answer_text}
-use Rattle.wb_names.specs.Values.{DrawopValue}
-use Rattle.wb_script.specs.Script.{State, Step, goes, refused, on_board, asked, board_after, after_batch, closing_text, drawops_of, PrintsAnswer, DoesStep}
+use Rattle.wb_script.specs.Answers.{batch_line}
+use Rattle.wb_script.specs.Hosts.{Opened, constants, present, board_after, names_of, host_after, batch_text, Act, does, fails, act}
+use Rattle.wb_script.specs.Script.{State, Step, goes, refused, by_host, closing_text, after_batch, step_by, acts, held_count, StopsWithin}
+use Rattle.wb_script.specs.Stations.{StationValue, IsOpenAt, MayBeOpenAt, HostValue, IsAt, DoesAct, DoesStep, IsLeftAt}
+use Rattle.wb_script.specs.Running.{Closes}
+
+-- ---- stops
+
+-- before a text has begun
+pub at_once : (text : List ℕ) → StopsWithin text [] run_faults.Memory
+at_once text = (tt, (text, refl))
+
+-- within the first of two texts, and within the second
+pub stops_before : (text more written : List ℕ) (f : RunFault) → StopsWithin text written f → StopsWithin (text ++ more) written f
+stops_before text more written f d = (d.0, (d.1.0 ++ more, ap (λ (x : List ℕ). x ++ more) d.1.1 ∙ append_assoc written d.1.0 more))
+
+pub stops_behind : (text more written : List ℕ) (f : RunFault) → StopsWithin more written f → StopsWithin (text ++ more) (text ++ written) f
+stops_behind text more written f d = (d.0, (d.1.0, ap (λ (x : List ℕ). text ++ x) d.1.1 ∙ sym (append_assoc text written d.1.0)))
+
+stops_after : (text written : List ℕ) (f : RunFault) → StopsWithin [] written f → StopsWithin text (text ++ written) f
+stops_after text written f d = (d.0, (d.1.0, sym (append-nil text) ∙ ap (λ (x : List ℕ). text ++ x) d.1.1 ∙ sym (append_assoc text written d.1.0)))
 
 -- want of memory before a line has done anything
-pub out_of_memory : (number : ℕ) (s : State) (step : Step) → DoesStep {U = Unit {0}} number s s [] (Err run_faults.Memory) step
-out_of_memory number s (goes t text) = (tt, (text, refl))
-out_of_memory number s (refused e) = (tt, refl, refl)
+pub out_of_memory : (number : ℕ) (new : HostValue) (step : Step) → DoesStep {U = Unit {0}} number new [] (Err run_faults.Memory) step
+out_of_memory number new (goes t text) = at_once text
+out_of_memory number new (refused t text e) = inl (at_once text)
 
-on_some : (b : Option Held) (step : Step) → is_none b ≡ false → on_board b step ≡ step
-on_some None step e = absurd (true≢false e)
-on_some (Some board) step e = refl
+-- ---- what follows the end of a batch
 
--- the end of the batch, and then the answer at what is held then
-asked_goes : (number : ℕ) (s t : State) (query : Query) (a b : List ℕ) (r : Result (Unit {0}) RunFault) → a ≡ closing_text s → PrintsAnswer (drawops_of t.board) query b r → DoesStep number s t (a ++ b) r (goes t (closing_text s ++ answer_text (drawops_of t.board) query))
-asked_goes number s t query a b (Ok u) closing p = (refl, ap (λ (x : List ℕ). x ++ b) closing ∙ ap (λ (y : List ℕ). closing_text s ++ y) p)
-asked_goes number s t query a b (Err e) closing p =
-    (p.0, (p.1.0, ap (λ (y : List ℕ). closing_text s ++ y) p.1.1 ∙ sym (append_assoc (closing_text s) b p.1.0) ∙ ap (λ (x : List ℕ). (x ++ b) ++ p.1.0) (sym closing)))
+-- the batch could not be ended
+act_stopped : (number : ℕ) (new : HostValue) (text written : List ℕ) (f : RunFault) (a : Act) (host : Opened) → StopsWithin text written f → DoesStep {U = Unit {0}} number new written (Err f) (step_by text a host)
+act_stopped number new text written f (does next printed) host d = stops_before text printed written f d
+act_stopped number new text written f (fails e) host d = inl d
 
-pub asked_text : (number : ℕ) (s t : State) (query : Query) (a b : List ℕ) (r : Result (Unit {0}) RunFault) → is_none s.board ≡ false → t ≡ after_batch s → a ≡ closing_text s → PrintsAnswer (drawops_of t.board) query b r → DoesStep number s t (a ++ b) r (asked s query)
-asked_text number s t query a b r is_open new closing p =
-    rw (on_some s.board (goes (after_batch s) (closing_text s ++ answer_text (drawops_of (after_batch s).board) query)) is_open)
-    (subst (λ (u : State). DoesStep number s t (a ++ b) r (goes u (closing_text s ++ answer_text (drawops_of u.board) query))) new (asked_goes number s t query a b r closing p))
+pub acts_stopped : (number : ℕ) (new : HostValue) (t : State) (text written : List ℕ) (line : Line) (f : RunFault) → StopsWithin text written f → DoesStep {U = Unit {0}} number new written (Err f) (acts t text line)
+acts_stopped number new t text written line f d = at t.host where
+  at : (host : Option Opened) → DoesStep {U = Unit {0}} number new written (Err f) (by_host host (refused t text faults.NoBoard) (λ host. step_by text (act line host) host))
+  at None = inl d
+  at (Some host) = act_stopped number new text written f (act line host) host d
 
--- a board that is open stays so as a batch ends
-pub still_open : (b : Option Held) (waiting : List DrawopValue) → is_none b ≡ false → IsSome (board_after b waiting)
-still_open None waiting e = absurd (true≢false e)
-still_open (Some board) waiting e = refl
+-- no board is open
+pub acts_nowhere : (number : ℕ) (waiting : List DrawopValue) (t : State) (text : List ℕ) (line : Line) → IsAt (record { station = None; waiting = waiting }) t → DoesStep {U = Unit {0}} number (record { station = None; waiting = waiting }) text (Err (run_faults.Line number faults.NoBoard)) (acts t text line)
+acts_nowhere number waiting t text line is = at t.host is.station where
+  at : (host : Option Opened) → MayBeOpenAt None host → DoesStep {U = Unit {0}} number (record { station = None; waiting = waiting }) text (Err (run_faults.Line number faults.NoBoard)) (by_host host (refused t text faults.NoBoard) (λ host. step_by text (act line host) host))
+  at None o = inr (refl, is, refl)
+  at (Some host) o = absurd o
+
+-- the line was done
+act_done : (number : ℕ) (host : Opened) (w : StationValue) (waiting : List DrawopValue) (text b : List ℕ) (r : Result (Unit {0}) RunFault) (a : Act) → waiting ≡ [] → DoesAct number host w b r a → DoesStep number (record { station = Some w; waiting = waiting }) (text ++ b) r (step_by text a host)
+act_done number host w waiting text b (Ok u) (does next printed) none d = (record { station = d.0; waiting = none }, ap (λ (x : List ℕ). text ++ x) d.1)
+act_done number host w waiting text b (Ok u) (fails e) none d = absurd d
+act_done number host w waiting text b (Err f) (does next printed) none d = stops_behind text printed b f d
+act_done number host w waiting text b (Err f) (fails e) none (inl d) = inl (stops_after text b f d)
+act_done number host w waiting text b (Err f) (fails e) none (inr d) = inr (d.0, record { station = d.1; waiting = none }, ap (λ (x : List ℕ). text ++ x) d.2 ∙ append-nil text)
+
+pub acts_done : (number : ℕ) (t : State) (v w : StationValue) (waiting : List DrawopValue) (text b : List ℕ) (line : Line) (r : Result (Unit {0}) RunFault) → IsAt (record { station = Some v; waiting = waiting }) t → t.waiting ≡ []
+    → ((host : Opened) → IsOpenAt v host → DoesAct number host w b r (act line host)) → DoesStep number (record { station = Some w; waiting = waiting }) (text ++ b) r (acts t text line)
+acts_done number t v w waiting text b line r is none d = at t.host is.station where
+  at : (host : Option Opened) → MayBeOpenAt (Some v) host → DoesStep number (record { station = Some w; waiting = waiting }) (text ++ b) r (by_host host (refused t text faults.NoBoard) (λ host. step_by text (act line host) host))
+  at None o = absurd o
+  at (Some host) o = act_done number host w waiting text b r (act line host) (is.waiting ∙ none) (d host o)
+
+-- ---- the same, once a host has ended its batch
+
+pub ends_nowhere : (number : ℕ) (s : State) (mid : HostValue) (v : Option StationValue) (waiting : List DrawopValue) (a : List ℕ) (line : Line) → record { station = v; waiting = waiting } ≡ mid → v ≡ None → IsAt mid (after_batch s) → a ≡ closing_text s
+    → DoesStep {U = Unit {0}} number (record { station = v; waiting = waiting }) a (Err (run_faults.Line number faults.NoBoard)) (acts (after_batch s) (closing_text s) line)
+ends_nowhere number s mid (Some v) waiting a line view none is text = absurd cc
+ends_nowhere number s mid None waiting a line view none is text =
+    subst (λ (x : List ℕ). DoesStep {U = Unit {0}} number (record { station = None; waiting = waiting }) x (Err (run_faults.Line number faults.NoBoard)) (acts (after_batch s) (closing_text s) line)) (sym text)
+    (acts_nowhere number waiting (after_batch s) (closing_text s) line (subst (λ (h : HostValue). IsAt h (after_batch s)) (sym view) is))
+
+pub ends_then : (number : ℕ) (s : State) (mid : HostValue) (o : Option StationValue) (v w : StationValue) (waiting : List DrawopValue) (a b : List ℕ) (line : Line) (r : Result (Unit {0}) RunFault) → record { station = o; waiting = waiting } ≡ mid → o ≡ Some v → IsAt mid (after_batch s) → a ≡ closing_text s
+    → ((host : Opened) → IsOpenAt v host → DoesAct number host w b r (act line host)) → DoesStep number (record { station = Some w; waiting = waiting }) (a ++ b) r (acts (after_batch s) (closing_text s) line)
+ends_then number s mid o v w waiting a b line r view some is text d =
+    let there : IsAt (record { station = o; waiting = waiting }) (after_batch s) = subst (λ (h : HostValue). IsAt h (after_batch s)) (sym view) is in
+    let known : IsAt (record { station = Some v; waiting = waiting }) (after_batch s) = subst (λ (p : Option StationValue). IsAt (record { station = p; waiting = waiting }) (after_batch s)) some there in
+    subst (λ (x : List ℕ). DoesStep number (record { station = Some w; waiting = waiting }) (x ++ b) r (acts (after_batch s) (closing_text s) line)) (sym text)
+    (acts_done number (after_batch s) v w waiting (closing_text s) b line r known refl d)
+
+-- ---- the end of a batch, and of a run
+
+-- a batch that has arrivals
+pub taken : (b b' : Held) (k k' : KeeperValue) (batch : List DrawopValue) (names : List NameValue) (text : List ℕ) (n : Counts) (host : Opened) → 0 < length batch → IsOpenAt (record { board = b; keeper = k }) host → names ≡ names_of batch
+    → n ≡ counts_of (outcomes_of b.cells b.drawops batch) → b' ≡ record { cells = b.cells; drawops = history_after b.cells b.drawops batch } → text ≡ batch_line n → Keeps (Arrive k.moment (filter (holds b'.drawops) names)) k k'
+    → IsOpenAt (record { board = b'; keeper = k' }) (host_after host batch) × (text ≡ batch_text host.board batch)
+taken b b' k k' [] names text n host some at same counts held spelled keeps = absurd (omega arith)
+taken b b' k k' (d ∷ ds) names text n host some at same counts held spelled keeps =
+    let batch : List DrawopValue = d ∷ ds in
+    let board : b' ≡ board_after host.board batch = held ∙ ap (λ (h : Held). board_after h batch) at.board in
+    let call : Arrive k.moment (filter (holds b'.drawops) names) ≡ Arrive (present host) (filter (holds (board_after host.board batch).drawops) (names_of batch)) =
+    ap (λ (m : ℕ). Arrive m (filter (holds b'.drawops) names)) at.keeper.moment
+    ∙ ap (λ (h : Held). Arrive (present host) (filter (holds h.drawops) names)) board
+    ∙ ap (λ (ns : List NameValue). Arrive (present host) (filter (holds (board_after host.board batch).drawops) ns)) same in (
+      record { board = board; keeper = subst (λ (c : KeeperCall). StandsFor host.me constants (c ∷ host.calls) k') call (keeps host.me constants host.calls at.keeper) },
+      spelled ∙ ap batch_line counts ∙ ap (λ (h : Held). batch_line (counts_of (outcomes_of h.cells h.drawops batch))) at.board,
+    )
+
+pub closes : (s : State) (old new : HostValue) (m held : ℕ) (ending : Result ℕ RunFault) (x waiting : List ℕ) → ending ≡ Ok m → waiting ≡ [] → (IsAt old s → IsAt new (after_batch s) × (x ≡ closing_text s)) → (IsAt new (after_batch s) → held ≡ held_count (after_batch s))
+    → IsLeftAt old ending s → Closes s ending (x ++ []) waiting (Ok (record { lines = m; held = held }))
+closes s old new m held ending x waiting e none ends count = rw e (λ at. let b = ends at in inl (append-nil x ∙ b.1, none, ap (λ (h : ℕ). Ok (record { lines = m; held = h })) (count b.0)))

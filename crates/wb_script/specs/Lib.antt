@@ -6,7 +6,9 @@ pub mod Reply
 pub mod Batches
 pub mod Queries
 pub mod Answers
+pub mod Hosts
 pub mod Script
+pub mod Stations
 pub mod Output
 pub mod Ahead
 pub mod Running

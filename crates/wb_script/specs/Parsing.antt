@@ -166,15 +166,16 @@ line_of_words (word ∷ arguments) = if begins_comment word then Ok Skip else co
 abbrev pub line_of : List ℕ → Result Line LineFault
 line_of bytes = line_of_words (words bytes)
 
--- What a line carries is in its range: a board has 1 to 65,535 cells, and a canvas is not too large.
+-- What a line carries is in its range: a board has 1 to 65,535 cells, a canvas is not too large, moments are microseconds below
+-- 2^48, and delays below 2^24.
 abbrev pub IsWithin : Line → Type 0
 IsWithin (Board member cells workers seed) = (0 < cells) × (cells ≤ 65535)
 IsWithin (Show page width height) = is_canvas_size width height ≡ true
 IsWithin Skip = Unit {0}
 IsWithin (Arrive d) = Unit {0}
 IsWithin (Hear v) = Unit {0}
-IsWithin (Distance source micros) = Unit {0}
-IsWithin (Tick moment) = Unit {0}
+IsWithin (Distance source micros) = micros < 2 ^ 24
+IsWithin (Tick moment) = moment < 2 ^ 48
 IsWithin (Look page) = Unit {0}
 IsWithin (Session page) = Unit {0}
 IsWithin (Gaps page) = Unit {0}

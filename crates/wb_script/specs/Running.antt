@@ -4,7 +4,7 @@ use Rattle.wb_script.specs.declared.fault.RunFault.{RunFault}
 use Rattle.wb_script.specs.declared.fault.RunFault.TheVariants as run_faults
 use Rattle.wb_script.specs.declared.summary.Summary.{Summary}
 use Rattle.wb_script.specs.Ahead.{Ahead}
-use Rattle.wb_script.specs.Script.{State, Outcome, prints, before, finish, summary, input_lines, outcome_from, outcome, BeginsWith, IsStop}
+use Rattle.wb_script.specs.Script.{State, Outcome, prints, before, finish, summary, input_lines, outcome_from, outcome, BeginsWith, is_stop, IsStop}
 
 -- What may still be pulled, and whether reading fails after it: nothing and no failure after the end.
 abbrev pub MayFollow : Bool → List ℕ → Bool → Type 0
@@ -61,14 +61,6 @@ RunsLines old reader given written new reader' failed (Err e) = Stops 0 old read
 abbrev pub IsStopped : Result Summary RunFault → Type 0
 IsStopped (Ok s) = ⊥
 IsStopped (Err e) = IsStop e
-
-abbrev pub is_stop : RunFault → Bool
-is_stop run_faults.Memory = true
-is_stop run_faults.Write = true
-is_stop run_faults.Read = false
-is_stop run_faults.Start = false
-is_stop run_faults.Endless = false
-is_stop (run_faults.Line n e) = false
 
 -- A run meets an outcome: it wrote its text and answers its end; or it stops for want of memory or at a failing sink, and wrote a front of its text.
 abbrev pub Meets : Outcome → List ℕ → Result Summary RunFault → Type 0

@@ -2,7 +2,6 @@
 use Rattle.std.specs.Prelude.{◌≡◌, ℕ, ◌+◌, ◌^◌, List, [], ◌∷◌, ◌++◌, length, Bool, true, false, nat_eq, nat_le, nat_lt, ◌&&◌, ◌||◌, not, Option, Some, None, Result, Ok, Err, if◌then◌else◌}
 use Rattle.std.specs.Str.Lines.{strip_carriage_return}
 use Rattle.wb_names.specs.Values.{DrawopValue}
-use Rattle.wb_names.specs.Arrivals.{outcomes_of, counts_of, history_after}
 use Rattle.wb_script.specs.declared.fault.LineFault.{LineFault}
 use Rattle.wb_script.specs.declared.fault.LineFault.TheVariants as faults
 use Rattle.wb_script.specs.declared.fault.RunFault.{RunFault}
@@ -10,11 +9,8 @@ use Rattle.wb_script.specs.declared.fault.RunFault.TheVariants as run_faults
 use Rattle.wb_script.specs.declared.summary.Summary.{Summary}
 use Rattle.wb_script.specs.declared.line.Line.{Line}
 use Rattle.wb_script.specs.declared.line.Line.TheVariants.{Skip, Board, Arrive, Hear, Distance, Tick, Look, Session, Show, Gaps, Report, Pages}
-use Rattle.wb_script.specs.Board.{Held}
+use Rattle.wb_script.specs.Hosts.{Opened, opened, host_after, batch_text, Act, does, fails, act}
 use Rattle.wb_script.specs.Parsing.{line_of}
-use Rattle.wb_script.specs.Answers.{batch_line, answer_text}
-use Rattle.wb_script.specs.declared.query.Query.{Query}
-use Rattle.wb_script.specs.declared.query.Query.TheVariants as queries
 
 -- a line as it stands in the input: the bytes before its end, and whether a line feed ends it
 pub record InputLine : Type 0 where
@@ -36,71 +32,57 @@ input_lines (b ∷ bytes) =
 abbrev pub content : InputLine → List ℕ
 content line = if line.ended then strip_carriage_return line.bytes else line.bytes
 
--- the board, once it is open, and the arrivals of the present batch
+-- the host, once it is open, and the arrivals of the present batch
 pub record State : Type 0 where
-  pub board : Option Held
+  pub host : Option Opened
   pub waiting : List DrawopValue
 
 abbrev pub start : State
-start = record { board = None; waiting = [] }
+start = record { host = None; waiting = [] }
 
--- the board after the present batch
-abbrev pub board_after : Option Held → List DrawopValue → Option Held
-board_after None waiting = None
-board_after (Some board) waiting = Some (record { cells = board.cells; drawops = history_after board.cells board.drawops waiting })
+-- by whether a host is open
+abbrev pub by_host : {X : Type 0} → Option Opened → X → (Opened → X) → X
+by_host None none some = none
+by_host (Some host) none some = some host
 
--- What the end of a batch prints. A batch with no arrivals prints nothing.
-abbrev pub batch_text : Option Held → List DrawopValue → List ℕ
-batch_text None waiting = []
-batch_text (Some board) [] = []
-batch_text (Some board) (d ∷ ds) = batch_line (counts_of (outcomes_of board.cells board.drawops (d ∷ ds)))
+-- what the end of the present batch prints, and what it leads to
+abbrev pub closing_text : State → List ℕ
+closing_text s = by_host s.host [] (λ host. batch_text host.board s.waiting)
 
 abbrev pub after_batch : State → State
-after_batch s = record { board = board_after s.board s.waiting; waiting = [] }
+after_batch s = record { host = by_host s.host None (λ host. Some (host_after host s.waiting)); waiting = [] }
 
-abbrev pub closing_text : State → List ℕ
-closing_text s = batch_text s.board s.waiting
-
--- What a line does: it prints a text and leads to a state, or it is refused.
+-- What a line does: it prints a text and leads to a state; or it is refused there.
 pub data Step : Type 0 where
   goes : State → List ℕ → Step
-  refused : LineFault → Step
+  refused : State → List ℕ → LineFault → Step
 
-abbrev pub on_board : Option Held → Step → Step
-on_board None step = refused faults.NoBoard
-on_board (Some board) step = step
+-- What a line does behind the text of a batch, at the state after it. Where no board is open, it is refused.
+abbrev pub step_by : List ℕ → Act → Opened → Step
+step_by text (does next printed) host = goes (record { host = Some next; waiting = [] }) (text ++ printed)
+step_by text (fails e) host = refused (record { host = Some host; waiting = [] }) text e
 
-abbrev pub opened : Option Held → ℕ → Step
-opened None cells = goes (record { board = Some (record { cells = cells; drawops = [] }); waiting = [] }) []
-opened (Some board) cells = refused faults.SecondBoard
+abbrev pub acts : State → List ℕ → Line → Step
+acts t text line = by_host t.host (refused t text faults.NoBoard) (λ host. step_by text (act line host) host)
 
--- the drawops that a board holds
-abbrev pub drawops_of : Option Held → List DrawopValue
-drawops_of None = []
-drawops_of (Some board) = board.drawops
-
--- A question ends the present batch, and is answered after it.
-abbrev pub asked : State → Query → Step
-asked s query = on_board s.board (goes (after_batch s) (closing_text s ++ answer_text (drawops_of (after_batch s).board) query))
-
--- The lines that a script may have and that are not run yet are refused as unknown words are.
+-- A board is opened once. Arrivals wait for the end of their batch, which each line that is neither skipped nor an arrival ends first.
 abbrev pub line_step : State → Line → Step
 line_step s Skip = goes s []
-line_step s (Board member cells workers seed) = opened s.board cells
-line_step s (Arrive d) = on_board s.board (goes (record { board = s.board; waiting = s.waiting ++ d ∷ [] }) [])
-line_step s (Show page width height) = asked s (queries.Canvas page width height)
-line_step s (Gaps page) = asked s (queries.Gaps page)
-line_step s (Report page) = asked s (queries.Report page)
-line_step s Pages = asked s queries.Pages
-line_step s (Hear v) = refused faults.Unknown
-line_step s (Distance source micros) = refused faults.Unknown
-line_step s (Tick moment) = refused faults.Unknown
-line_step s (Look page) = refused faults.Unknown
-line_step s (Session page) = refused faults.Unknown
+line_step s (Board member cells workers seed) = by_host s.host (goes (record { host = Some (opened member cells); waiting = [] }) []) (λ host. refused s [] faults.SecondBoard)
+line_step s (Arrive d) = by_host s.host (refused s [] faults.NoBoard) (λ host. goes (record { host = s.host; waiting = s.waiting ++ d ∷ [] }) [])
+line_step s (Hear v) = acts (after_batch s) (closing_text s) (Hear v)
+line_step s (Distance source micros) = acts (after_batch s) (closing_text s) (Distance source micros)
+line_step s (Tick moment) = acts (after_batch s) (closing_text s) (Tick moment)
+line_step s (Look page) = acts (after_batch s) (closing_text s) (Look page)
+line_step s (Session page) = acts (after_batch s) (closing_text s) (Session page)
+line_step s (Show page width height) = acts (after_batch s) (closing_text s) (Show page width height)
+line_step s (Gaps page) = acts (after_batch s) (closing_text s) (Gaps page)
+line_step s (Report page) = acts (after_batch s) (closing_text s) (Report page)
+line_step s Pages = acts (after_batch s) (closing_text s) Pages
 
 abbrev pub said_step : State → Result Line LineFault → Step
 said_step s (Ok line) = line_step s line
-said_step s (Err e) = refused e
+said_step s (Err e) = refused s [] e
 
 abbrev pub step_of : State → List ℕ → Step
 step_of s bytes = said_step s (line_of bytes)
@@ -117,16 +99,16 @@ before text (prints rest end) = prints (text ++ rest) end
 abbrev pub finish : State → Result Summary RunFault → Outcome
 finish s end = prints (closing_text s) end
 
-abbrev pub held_count : Option Held → ℕ
-held_count None = 0
-held_count (Some board) = length board.drawops
+-- how many drawops are held
+abbrev pub held_count : State → ℕ
+held_count s = by_host s.host 0 (λ host. length host.board.drawops)
 
 abbrev pub summary : ℕ → State → Result Summary RunFault
-summary lines s = Ok (record { lines = lines; held = held_count (after_batch s).board })
+summary lines s = Ok (record { lines = lines; held = held_count (after_batch s) })
 
 abbrev pub proceed : State → ℕ → Step → (State → Outcome) → Outcome
 proceed s number (goes t text) rest = before text (rest t)
-proceed s number (refused e) rest = finish s (Err (run_faults.Line number e))
+proceed s number (refused t text e) rest = before text (finish t (Err (run_faults.Line number e)))
 
 -- at most so many lines, and so many bytes in each
 abbrev pub most_lines : ℕ
@@ -149,11 +131,21 @@ outcome_from cut n s (line ∷ lines) =
 abbrev pub outcome : Bool → List ℕ → Outcome
 outcome cut input = outcome_from cut 0 start (input_lines input)
 
+-- ---- a run that stops
+
 -- a text begins with some bytes
 abbrev pub BeginsWith : List ℕ → List ℕ → Type 0
 BeginsWith text bytes = (rest : List ℕ) × (text ≡ bytes ++ rest)
 
 -- want of memory or a failing sink, at which the text may stop anywhere
+abbrev pub is_stop : RunFault → Bool
+is_stop run_faults.Memory = true
+is_stop run_faults.Write = true
+is_stop run_faults.Read = false
+is_stop run_faults.Start = false
+is_stop run_faults.Endless = false
+is_stop (run_faults.Line n e) = false
+
 abbrev pub IsStop : RunFault → Type 0
 IsStop run_faults.Memory = Unit {0}
 IsStop run_faults.Write = Unit {0}
@@ -162,28 +154,6 @@ IsStop run_faults.Read = ⊥
 IsStop run_faults.Endless = ⊥
 IsStop (run_faults.Line n e) = ⊥
 
--- what the end of a batch does
-abbrev pub EndsBatch : {U : Type 0} → State → State → List ℕ → Result U RunFault → Type 0
-EndsBatch old new written (Ok u) = (new ≡ after_batch old) × (written ≡ closing_text old)
-EndsBatch old new written (Err e) = IsStop e × BeginsWith (closing_text old) written
-
--- what an answer to a question prints: all of it, or a front where memory runs out
-abbrev pub PrintsAnswer : {U : Type 0} → List DrawopValue → Query → List ℕ → Result U RunFault → Type 0
-PrintsAnswer history query written (Ok u) = written ≡ answer_text history query
-PrintsAnswer history query written (Err e) = IsStop e × BeginsWith (answer_text history query) written
-
--- a fault is want of memory, or this one
-abbrev pub IsMemoryOr : RunFault → RunFault → Type 0
-IsMemoryOr e run_faults.Memory = Unit {0}
-IsMemoryOr e (run_faults.Line n f) = run_faults.Line n f ≡ e
-IsMemoryOr e run_faults.Read = ⊥
-IsMemoryOr e run_faults.Write = ⊥
-IsMemoryOr e run_faults.Start = ⊥
-IsMemoryOr e run_faults.Endless = ⊥
-
--- What a line does.
-abbrev pub DoesStep : {U : Type 0} → ℕ → State → State → List ℕ → Result U RunFault → Step → Type 0
-DoesStep number old new written (Ok u) (goes t text) = (new ≡ t) × (written ≡ text)
-DoesStep number old new written (Ok u) (refused e) = ⊥
-DoesStep number old new written (Err f) (goes t text) = IsStop f × BeginsWith text written
-DoesStep number old new written (Err f) (refused e) = IsMemoryOr (run_faults.Line number e) f × (new ≡ old) × (written ≡ [])
+-- the run stops within a text
+abbrev pub StopsWithin : List ℕ → List ℕ → RunFault → Type 0
+StopsWithin text written e = IsStop e × BeginsWith text written

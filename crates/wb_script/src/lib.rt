@@ -22,6 +22,7 @@ mod parsing;
 mod query;
 mod random;
 mod running;
+mod station;
 mod summary;
 mod whiteboard;
 mod words;

@@ -2,8 +2,9 @@ ghost use Rattle.std.specs.Prelude.{◌≡◌, ◌≤◌, ◌<◌, ◌+◌, ◌^
 ghost use Rattle.std.specs.Str.Lines.{strip_carriage_return};
 ghost use Rattle.wb_script.specs.Output.{Sends};
 ghost use Rattle.wb_script.specs.Ahead.{Pulls};
-ghost use Rattle.wb_script.specs.Script.{most_lines};
-ghost use Rattle.wb_script.specs.Running.{RunsLine, RunsLines, is_stop, Closes, Runs};
+ghost use Rattle.wb_script.specs.Script.{State, most_lines, is_stop};
+ghost use Rattle.wb_script.specs.Stations.{IsLeftAt, Moves};
+ghost use Rattle.wb_script.specs.Running.{RunsLine, RunsLines, Closes, Runs};
 
 use crate::fault::RunFault;
 use crate::host::Host;
@@ -42,7 +43,7 @@ fn run_line<R: Source, W: Sink>(
     ensures text { (given : List ℕ) × (written : List ℕ)
         × Pulls reader.old reader.new (R.left source.old) (R.left source.new) (R.has_failed source.old) (R.has_failed source.new) given
         × Sends (W.taken sink.old) output.old (W.taken sink.new) output.new written
-        × RunsLine done host.old reader.old given written host.new reader.new (R.has_failed source.new) result }
+        × Moves host.old host.new result (λ s t. RunsLine done s reader.old given written t reader.new (R.has_failed source.new) result) }
     ensures waiting { length host.new.waiting ≤ done + 1 }
     ensures failed { result ≡ Err RunFault.Write → W.has_failed sink.new ≡ true }
 {
@@ -75,7 +76,7 @@ fn run_lines<R: Source, W: Sink>(
     ensures text { (given : List ℕ) × (written : List ℕ)
         × Pulls reader.old reader.new (R.left source.old) (R.left source.new) (R.has_failed source.old) (R.has_failed source.new) given
         × Sends (W.taken sink.old) output.old (W.taken sink.new) output.new written
-        × RunsLines host.old reader.old given written host.new reader.new (R.has_failed source.new) result }
+        × Moves host.old host.new result (λ s t. RunsLines s reader.old given written t reader.new (R.has_failed source.new) result) }
     ensures waiting { length host.new.waiting < 2 ^ 32 }
     ensures failed { result ≡ Err RunFault.Write → W.has_failed sink.new ≡ true }
 {
@@ -111,7 +112,7 @@ fn close<W: Sink>(
 ) -> Result<Summary, RunFault>
     requires { length host.old.waiting < 2 ^ 32 }
     ensures text { (written : List ℕ) × Sends (W.taken sink.old) output.old (W.taken sink.new) output.new written
-        × Closes host.old ending written output.new result }
+        × ((s : State) → IsLeftAt host.old ending s → Closes s ending written output.new result) }
     ensures read { result ≡ Err RunFault.Read → ending ≡ Err RunFault.Read }
     ensures failed { (ending ≡ Err RunFault.Write → W.has_failed sink.old ≡ true) → result ≡ Err RunFault.Write → W.has_failed sink.new ≡ true }
 {

@@ -2,8 +2,19 @@ use Rattle.std.proofs.Common.{◌≡◌, [], ap, ◌∙◌}
 use Rattle.std.specs.Str.Lines.{strip_carriage_return}
 use Rattle.std.proofs.lemmas.Result.{err_from_is_err_and}
 use Rattle.wb_script.proofs.KnownBytes.{Sends-more, Sends-then}
-use Rattle.wb_script.proofs.Outcomes.{whole_passes, whole_stops, last_passes, last_stops, failure_stops, length_stops}
+use Rattle.wb_script.proofs.Outcomes.{whole_passes, whole_stops, last_passes, last_stops, failure_stops, length_stops, memory_stops}
 use Rattle.wb_script.proofs.running.run_line.Goals as goal
+
+pub returns-in_err-next_line-clause-text : goal.returns-in_err-next_line-clause-text
+returns-in_err-next_line-clause-text g c =
+    let l = c.in_err-next_line.ensures.read in
+    let p = err_from_is_err_and c.from_residual.result c.from_residual.ensures.1 in (
+      l.0,
+      [],
+      l.1,
+      c.in_err-next_line.ensures.sends,
+      rw (p.1, p.2) (λ s at. (s, λ going. at, memory_stops c.args.done s s c.args.reader.now c.next_line.new.self l.0 (g.R.Source.has_failed c.next_line.new.source))),
+    )
 
 pub returns-in-Failed-clause-text : goal.returns-in-Failed-clause-text
 returns-in-Failed-clause-text g c =
@@ -12,7 +23,7 @@ returns-in-Failed-clause-text g c =
       [],
       l.1,
       c.in_ok-next_line.ensures.sends,
-      failure_stops c.args.done c.args.host.now c.args.reader.now c.next_line.new.self l.0 c.next_line.new.line.items (g.R.Source.has_failed c.next_line.new.source) c.requires.few l.2.0 l.2.1 l.2.2 l.2.3,
+      λ s at. (s, λ going. at, failure_stops c.args.done s c.args.reader.now c.next_line.new.self l.0 c.next_line.new.line.items (g.R.Source.has_failed c.next_line.new.source) c.requires.few l.2.0 l.2.1 l.2.2 l.2.3),
     )
 
 pub returns-in-TooLong-clause-text : goal.returns-in-TooLong-clause-text
@@ -22,7 +33,7 @@ returns-in-TooLong-clause-text g c =
       [],
       l.1,
       c.in_ok-next_line.ensures.sends,
-      length_stops c.args.done c.args.host.now c.args.reader.now c.next_line.new.self l.0 c.next_line.new.line.items (g.R.Source.has_failed c.next_line.new.source) l.2.0 l.2.1 l.2.2,
+      λ s at. (s, λ going. at, length_stops c.args.done s c.args.reader.now c.next_line.new.self l.0 c.next_line.new.line.items (g.R.Source.has_failed c.next_line.new.source) l.2.0 l.2.1 l.2.2),
     )
 
 pub returns-in_err-take_line-in-Last-clause-text : goal.returns-in_err-take_line-in-Last-clause-text
@@ -35,7 +46,7 @@ returns-in_err-take_line-in-Last-clause-text g c =
       l.1,
       Sends-then (g.W.Sink.taken c.args.sink.now) (g.W.Sink.taken c.next_line.new.sink) (g.W.Sink.taken c.next_line.new.sink) c.args.output.now c.next_line.new.output c.take_line.new.output [] t.0 c.in_ok-next_line.ensures.sends (Sends-more (g.W.Sink.taken c.next_line.new.sink) c.next_line.new.output c.take_line.new.output t.0 t.1),
       rw (p.1, p.2)
-          (last_stops c.args.done c.args.host.now c.take_line.new.self c.args.reader.now c.next_line.new.self l.0 t.0 c.next_line.new.line.items (g.R.Source.has_failed c.next_line.new.source) c.in_err-take_line-in-Last.field-0.0 c.requires.few l.2.0 l.2.2 l.2.1 l.2.3 l.2.4 t.2),
+          (λ s at. last_stops c.args.done s c.take_line.new.self c.args.reader.now c.next_line.new.self l.0 t.0 c.next_line.new.line.items (g.R.Source.has_failed c.next_line.new.source) c.in_err-take_line-in-Last.field-0.0 c.requires.few l.2.0 l.2.2 l.2.1 l.2.3 l.2.4 (t.2 s at)),
     )
 
 pub returns-in_ok-take_line-in-Last-clause-text : goal.returns-in_ok-take_line-in-Last-clause-text
@@ -46,7 +57,7 @@ returns-in_ok-take_line-in-Last-clause-text g c =
       t.0,
       l.1,
       Sends-then (g.W.Sink.taken c.args.sink.now) (g.W.Sink.taken c.next_line.new.sink) (g.W.Sink.taken c.next_line.new.sink) c.args.output.now c.next_line.new.output c.take_line.new.output [] t.0 c.in_ok-next_line.ensures.sends (Sends-more (g.W.Sink.taken c.next_line.new.sink) c.next_line.new.output c.take_line.new.output t.0 t.1),
-      last_passes c.args.done c.args.host.now c.take_line.new.self c.args.reader.now c.next_line.new.self l.0 t.0 c.next_line.new.line.items tt c.requires.few l.2.0 l.2.2 l.2.1 l.2.3 l.2.4 t.2,
+      λ s at. last_passes c.args.done s c.take_line.new.self c.args.reader.now c.next_line.new.self l.0 t.0 c.next_line.new.line.items tt c.requires.few l.2.0 l.2.2 l.2.1 l.2.3 l.2.4 (t.2 s at),
     )
 
 pub returns-in_err-take_line-in-Whole-clause-text : goal.returns-in_err-take_line-in-Whole-clause-text
@@ -60,7 +71,7 @@ returns-in_err-take_line-in-Whole-clause-text g c =
       l.1,
       Sends-then (g.W.Sink.taken c.args.sink.now) (g.W.Sink.taken c.next_line.new.sink) (g.W.Sink.taken c.next_line.new.sink) c.args.output.now c.next_line.new.output c.take_line-in-Whole.new.output [] t.0 c.in_ok-next_line.ensures.sends (Sends-more (g.W.Sink.taken c.next_line.new.sink) c.next_line.new.output c.take_line-in-Whole.new.output t.0 t.1),
       rw (p.1, p.2)
-          (whole_stops c.args.done c.args.host.now c.take_line-in-Whole.new.self c.args.reader.now c.next_line.new.self l.0 t.0 c.next_line.new.line.items (g.R.Source.has_failed c.next_line.new.source) c.in_err-take_line-in-Whole.field-0.0 c.requires.few l.2.0 l.2.1 t.2),
+          (λ s at. whole_stops c.args.done s c.take_line-in-Whole.new.self c.args.reader.now c.next_line.new.self l.0 t.0 c.next_line.new.line.items (g.R.Source.has_failed c.next_line.new.source) c.in_err-take_line-in-Whole.field-0.0 c.requires.few l.2.0 l.2.1 (t.2 s at)),
     )
 
 pub returns-in_ok-take_line-in-Whole-clause-text : goal.returns-in_ok-take_line-in-Whole-clause-text
@@ -72,5 +83,5 @@ returns-in_ok-take_line-in-Whole-clause-text g c =
       t.0,
       l.1,
       Sends-then (g.W.Sink.taken c.args.sink.now) (g.W.Sink.taken c.next_line.new.sink) (g.W.Sink.taken c.next_line.new.sink) c.args.output.now c.next_line.new.output c.take_line-in-Whole.new.output [] t.0 c.in_ok-next_line.ensures.sends (Sends-more (g.W.Sink.taken c.next_line.new.sink) c.next_line.new.output c.take_line-in-Whole.new.output t.0 t.1),
-      whole_passes c.args.done c.args.host.now c.take_line-in-Whole.new.self c.args.reader.now c.next_line.new.self l.0 t.0 c.next_line.new.line.items tt c.requires.few l.2.0 l.2.1 t.2,
+      λ s at. whole_passes c.args.done s c.take_line-in-Whole.new.self c.args.reader.now c.next_line.new.self l.0 t.0 c.next_line.new.line.items tt c.requires.few l.2.0 l.2.1 (t.2 s at),
     )

@@ -9,7 +9,7 @@ use Rattle.wb_script.proofs.running.run_lines.Goals as goal
 
 pub loop-done-init : goal.loop-done-init
 loop-done-init g c =
-    (omega arith, ([], [], Pulls-none c.args.reader.now (g.R.Source.left c.args.source.now) (g.R.Source.has_failed c.args.source.now), Sends-none (g.W.Sink.taken c.args.sink.now) c.args.output.now, Passes-none 0 c.args.host.now c.args.reader.now))
+    (omega arith, ([], [], Pulls-none c.args.reader.now (g.R.Source.left c.args.source.now) (g.R.Source.has_failed c.args.source.now), Sends-none (g.W.Sink.taken c.args.sink.now) c.args.output.now, λ s at. (s, at, Passes-none 0 s c.args.reader.now)))
 
 pub returns-in_err-goes_on-clause-text : goal.returns-in_err-goes_on-clause-text
 returns-in_err-goes_on-clause-text g c =
@@ -20,7 +20,7 @@ returns-in_err-goes_on-clause-text g c =
       so_far.1 ++ one.1,
       Pulls-then c.args.reader.now c.loop-done.reader c.run_line.new.reader (g.R.Source.left c.args.source.now) (g.R.Source.left c.loop-done.source) (g.R.Source.left c.run_line.new.source) (g.R.Source.has_failed c.args.source.now) (g.R.Source.has_failed c.loop-done.source) (g.R.Source.has_failed c.run_line.new.source) so_far.0 one.0 so_far.2 one.2,
       Sends-then (g.W.Sink.taken c.args.sink.now) (g.W.Sink.taken c.loop-done.sink) (g.W.Sink.taken c.run_line.new.sink) c.args.output.now c.loop-done.output c.run_line.new.output so_far.1 one.1 so_far.3 one.3,
-      rw (p.1, p.2) (Passes-stops 0 c.loop-done.done c.args.host.now c.loop-done.host c.run_line.new.host c.args.reader.now c.loop-done.reader c.run_line.new.reader so_far.0 one.0 so_far.1 one.1 (g.R.Source.has_failed c.run_line.new.source) c.in_err-goes_on.field-0.0 one.2.none_after_end one.2.end_stays so_far.4 one.4),
+      rw (p.1, p.2) (λ s at. let m = so_far.4 s at in let o = one.4 m.0 m.1 in (o.0, o.1, Passes-stops 0 c.loop-done.done s m.0 o.0 c.args.reader.now c.loop-done.reader c.run_line.new.reader so_far.0 one.0 so_far.1 one.1 (g.R.Source.has_failed c.run_line.new.source) c.in_err-goes_on.field-0.0 one.2.none_after_end one.2.end_stays m.2 o.2)),
     )
 
 pub returns-then-not-goes_on-clause-text : goal.returns-then-not-goes_on-clause-text
@@ -31,7 +31,7 @@ returns-then-not-goes_on-clause-text g c =
       so_far.1 ++ one.1,
       Pulls-then c.args.reader.now c.loop-done.reader c.run_line.new.reader (g.R.Source.left c.args.source.now) (g.R.Source.left c.loop-done.source) (g.R.Source.left c.run_line.new.source) (g.R.Source.has_failed c.args.source.now) (g.R.Source.has_failed c.loop-done.source) (g.R.Source.has_failed c.run_line.new.source) so_far.0 one.0 so_far.2 one.2,
       Sends-then (g.W.Sink.taken c.args.sink.now) (g.W.Sink.taken c.loop-done.sink) (g.W.Sink.taken c.run_line.new.sink) c.args.output.now c.loop-done.output c.run_line.new.output so_far.1 one.1 so_far.3 one.3,
-      Passes-ends 0 c.loop-done.done c.loop-done.done c.args.host.now c.loop-done.host c.run_line.new.host c.args.reader.now c.loop-done.reader c.run_line.new.reader so_far.0 one.0 so_far.1 one.1 one.2.none_after_end so_far.4 one.4,
+      λ s at. let m = so_far.4 s at in let o = one.4 m.0 m.1 in (o.0, o.1, Passes-ends 0 c.loop-done.done c.loop-done.done s m.0 o.0 c.args.reader.now c.loop-done.reader c.run_line.new.reader so_far.0 one.0 so_far.1 one.1 one.2.none_after_end m.2 o.2),
     )
 
 pub loop-done-preserved : goal.loop-done-preserved
@@ -44,7 +44,7 @@ loop-done-preserved g c =
         so_far.1 ++ one.1,
         Pulls-then c.args.reader.now c.loop-done.reader c.run_line.new.reader (g.R.Source.left c.args.source.now) (g.R.Source.left c.loop-done.source) (g.R.Source.left c.run_line.new.source) (g.R.Source.has_failed c.args.source.now) (g.R.Source.has_failed c.loop-done.source) (g.R.Source.has_failed c.run_line.new.source) so_far.0 one.0 so_far.2 one.2,
         Sends-then (g.W.Sink.taken c.args.sink.now) (g.W.Sink.taken c.loop-done.sink) (g.W.Sink.taken c.run_line.new.sink) c.args.output.now c.loop-done.output c.run_line.new.output so_far.1 one.1 so_far.3 one.3,
-        Passes-then 0 c.loop-done.done (c.loop-done.done + 1) c.args.host.now c.loop-done.host c.run_line.new.host c.args.reader.now c.loop-done.reader c.run_line.new.reader so_far.0 one.0 so_far.1 one.1 one.2.none_after_end one.2.end_stays so_far.4 one.4,
+        λ s at. let m = so_far.4 s at in let o = one.4 m.0 m.1 in (o.0, o.1, Passes-then 0 c.loop-done.done (c.loop-done.done + 1) s m.0 o.0 c.args.reader.now c.loop-done.reader c.run_line.new.reader so_far.0 one.0 so_far.1 one.1 one.2.none_after_end one.2.end_stays m.2 o.2),
       ),
     )
 
@@ -52,47 +52,43 @@ pub returns-in-End-clause-text : goal.returns-in-End-clause-text
 returns-in-End-clause-text g c =
     let so_far = c.loop-done.invariant.1 in
     let one = c.in-End.ensures.read in
-    let all : c.loop-done.done ≡ 1048576 = omega arith in
-    let ends = Passes-ends 0 c.loop-done.done c.loop-done.done c.args.host.now c.loop-done.host c.loop-done.host c.args.reader.now c.loop-done.reader c.next_byte.new.self so_far.0 one.0 so_far.1 [] one.1.none_after_end so_far.4 (ends_here c.loop-done.done c.loop-done.host c.loop-done.reader c.next_byte.new.self one.0 one.2.0 one.2.2) in (
+    let all : c.loop-done.done ≡ 1048576 = omega arith in (
       so_far.0 ++ one.0,
       so_far.1 ++ [],
       Pulls-then c.args.reader.now c.loop-done.reader c.next_byte.new.self (g.R.Source.left c.args.source.now) (g.R.Source.left c.loop-done.source) (g.R.Source.left c.next_byte.new.source) (g.R.Source.has_failed c.args.source.now) (g.R.Source.has_failed c.loop-done.source) (g.R.Source.has_failed c.next_byte.new.source) so_far.0 one.0 so_far.2 one.1,
       Sends-then (g.W.Sink.taken c.args.sink.now) (g.W.Sink.taken c.loop-done.sink) (g.W.Sink.taken c.next_byte.new.sink) c.args.output.now c.loop-done.output c.next_byte.new.output so_far.1 [] so_far.3 c.in-End.ensures.sends,
-      subst (λ (m : ℕ). Ends 0 c.args.host.now c.args.reader.now (so_far.0 ++ one.0) (so_far.1 ++ []) m c.loop-done.host c.next_byte.new.self) all ends,
+      λ s at. let m = so_far.4 s at in (m.0, m.1, subst (λ (k : ℕ). Ends 0 s c.args.reader.now (so_far.0 ++ one.0) (so_far.1 ++ []) k m.0 c.next_byte.new.self) all (Passes-ends 0 c.loop-done.done c.loop-done.done s m.0 m.0 c.args.reader.now c.loop-done.reader c.next_byte.new.self so_far.0 one.0 so_far.1 [] one.1.none_after_end m.2 (ends_here c.loop-done.done m.0 c.loop-done.reader c.next_byte.new.self one.0 one.2.0 one.2.2))),
     )
 
 pub returns-in-Failed-clause-text : goal.returns-in-Failed-clause-text
 returns-in-Failed-clause-text g c =
     let so_far = c.loop-done.invariant.1 in
-    let one = c.in-Failed.ensures.read in
-    let stops = failure_at_end c.loop-done.done c.loop-done.host c.loop-done.reader c.next_byte.new.self one.0 (g.R.Source.has_failed c.next_byte.new.source) one.2.0 one.2.1 one.2.2 in (
+    let one = c.in-Failed.ensures.read in (
       so_far.0 ++ one.0,
       so_far.1 ++ [],
       Pulls-then c.args.reader.now c.loop-done.reader c.next_byte.new.self (g.R.Source.left c.args.source.now) (g.R.Source.left c.loop-done.source) (g.R.Source.left c.next_byte.new.source) (g.R.Source.has_failed c.args.source.now) (g.R.Source.has_failed c.loop-done.source) (g.R.Source.has_failed c.next_byte.new.source) so_far.0 one.0 so_far.2 one.1,
       Sends-then (g.W.Sink.taken c.args.sink.now) (g.W.Sink.taken c.loop-done.sink) (g.W.Sink.taken c.next_byte.new.sink) c.args.output.now c.loop-done.output c.next_byte.new.output so_far.1 [] so_far.3 c.in-Failed.ensures.sends,
-      Passes-stops 0 c.loop-done.done c.args.host.now c.loop-done.host c.loop-done.host c.args.reader.now c.loop-done.reader c.next_byte.new.self so_far.0 one.0 so_far.1 [] (g.R.Source.has_failed c.next_byte.new.source) run_faults.Read one.1.none_after_end one.1.end_stays so_far.4 stops,
+      λ s at. let m = so_far.4 s at in let stops = failure_at_end c.loop-done.done m.0 c.loop-done.reader c.next_byte.new.self one.0 (g.R.Source.has_failed c.next_byte.new.source) one.2.0 one.2.1 one.2.2 in (m.0, λ going. m.1, Passes-stops 0 c.loop-done.done s m.0 m.0 c.args.reader.now c.loop-done.reader c.next_byte.new.self so_far.0 one.0 so_far.1 [] (g.R.Source.has_failed c.next_byte.new.source) run_faults.Read one.1.none_after_end one.1.end_stays m.2 stops),
     )
 
 pub returns-clause-text : goal.returns-clause-text
 returns-clause-text g c =
     let so_far = c.loop-done.invariant.1 in
-    let one = c.in-Byte.ensures.read in
-    let stops = count_stops c.loop-done.done c.loop-done.host c.loop-done.reader c.next_byte.new.self one.0 c.in-Byte.field-0 (g.R.Source.has_failed c.next_byte.new.source) c.loop-done-test.false one.2 in (
+    let one = c.in-Byte.ensures.read in (
       so_far.0 ++ one.0,
       so_far.1 ++ [],
       Pulls-then c.args.reader.now c.loop-done.reader c.next_byte.new.self (g.R.Source.left c.args.source.now) (g.R.Source.left c.loop-done.source) (g.R.Source.left c.next_byte.new.source) (g.R.Source.has_failed c.args.source.now) (g.R.Source.has_failed c.loop-done.source) (g.R.Source.has_failed c.next_byte.new.source) so_far.0 one.0 so_far.2 one.1,
       Sends-then (g.W.Sink.taken c.args.sink.now) (g.W.Sink.taken c.loop-done.sink) (g.W.Sink.taken c.next_byte.new.sink) c.args.output.now c.loop-done.output c.next_byte.new.output so_far.1 [] so_far.3 c.in-Byte.ensures.sends,
-      Passes-stops 0 c.loop-done.done c.args.host.now c.loop-done.host c.loop-done.host c.args.reader.now c.loop-done.reader c.next_byte.new.self so_far.0 one.0 so_far.1 [] (g.R.Source.has_failed c.next_byte.new.source) run_faults.Endless one.1.none_after_end one.1.end_stays so_far.4 stops,
+      λ s at. let m = so_far.4 s at in let stops = count_stops c.loop-done.done m.0 c.loop-done.reader c.next_byte.new.self one.0 c.in-Byte.field-0 (g.R.Source.has_failed c.next_byte.new.source) c.loop-done-test.false one.2 in (m.0, λ going. m.1, Passes-stops 0 c.loop-done.done s m.0 m.0 c.args.reader.now c.loop-done.reader c.next_byte.new.self so_far.0 one.0 so_far.1 [] (g.R.Source.has_failed c.next_byte.new.source) run_faults.Endless one.1.none_after_end one.1.end_stays m.2 stops),
     )
 
 pub returns-in-Unwritten-clause-text : goal.returns-in-Unwritten-clause-text
 returns-in-Unwritten-clause-text g c =
     let so_far = c.loop-done.invariant.1 in
-    let one = c.in-Unwritten.ensures.read in
-    let stops = unwritten_stops c.loop-done.done c.loop-done.host c.loop-done.host c.loop-done.reader c.next_byte.new.self one.0 (g.R.Source.has_failed c.next_byte.new.source) in (
+    let one = c.in-Unwritten.ensures.read in (
       so_far.0 ++ one.0,
       so_far.1 ++ [],
       Pulls-then c.args.reader.now c.loop-done.reader c.next_byte.new.self (g.R.Source.left c.args.source.now) (g.R.Source.left c.loop-done.source) (g.R.Source.left c.next_byte.new.source) (g.R.Source.has_failed c.args.source.now) (g.R.Source.has_failed c.loop-done.source) (g.R.Source.has_failed c.next_byte.new.source) so_far.0 one.0 so_far.2 one.1,
       Sends-then (g.W.Sink.taken c.args.sink.now) (g.W.Sink.taken c.loop-done.sink) (g.W.Sink.taken c.next_byte.new.sink) c.args.output.now c.loop-done.output c.next_byte.new.output so_far.1 [] so_far.3 c.in-Unwritten.ensures.sends,
-      Passes-stops 0 c.loop-done.done c.args.host.now c.loop-done.host c.loop-done.host c.args.reader.now c.loop-done.reader c.next_byte.new.self so_far.0 one.0 so_far.1 [] (g.R.Source.has_failed c.next_byte.new.source) run_faults.Write one.1.none_after_end one.1.end_stays so_far.4 stops,
+      λ s at. let m = so_far.4 s at in let stops = unwritten_stops c.loop-done.done m.0 m.0 c.loop-done.reader c.next_byte.new.self one.0 (g.R.Source.has_failed c.next_byte.new.source) in (m.0, λ going. m.1, Passes-stops 0 c.loop-done.done s m.0 m.0 c.args.reader.now c.loop-done.reader c.next_byte.new.self so_far.0 one.0 so_far.1 [] (g.R.Source.has_failed c.next_byte.new.source) run_faults.Write one.1.none_after_end one.1.end_stays m.2 stops),
     )

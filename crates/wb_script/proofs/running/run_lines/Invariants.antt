@@ -2,6 +2,8 @@ use Rattle.std.proofs.Common.{◌≤◌, List, ℕ, length}
 use Rattle.wb_script.specs.Output.{Sends}
 use Rattle.wb_script.specs.Ahead.{Pulls}
 use Rattle.wb_script.specs.Running.{Passes}
+use Rattle.wb_script.specs.Script.{State}
+use Rattle.wb_script.specs.Stations.{IsAt}
 use Rattle.wb_script.proofs.running.run_lines.Given as goal
 
 abbrev pub invariant-loop-done : goal.invariant-loop-done
@@ -9,4 +11,4 @@ invariant-loop-done g l =
     (length l.host.waiting ≤ l.done) × ((given : List ℕ) × (written : List ℕ)
     × Pulls l.fn.reader l.reader (g.R.Source.left l.fn.source) (g.R.Source.left l.source) (g.R.Source.has_failed l.fn.source) (g.R.Source.has_failed l.source) given
     × Sends (g.W.Sink.taken l.fn.sink) l.fn.output (g.W.Sink.taken l.sink) l.output written
-    × Passes 0 l.fn.host l.fn.reader given written l.done l.host l.reader)
+    × ((s : State) → IsAt l.fn.host s → (t : State) × IsAt l.host t × Passes 0 s l.fn.reader given written l.done t l.reader))

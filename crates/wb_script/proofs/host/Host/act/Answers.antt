@@ -1,0 +1,18 @@
+use Rattle.std.proofs.Common.{◌∙◌, ap, ◌++◌, List, ℕ, append_assoc}
+use Rattle.wb_script.proofs.Steps.{ends_nowhere, ends_then}
+use Rattle.wb_script.proofs.host.Host.act.Goals.{in-None, in-Some}
+use Rattle.wb_script.proofs.host.Host.act.Goals as goal
+
+pub returns-clause-text : goal.returns-clause-text
+returns-clause-text c = let a = c.in_ok-end_batch.ensures.text in elim c.match-self.branch [
+  | in-None w ↦
+      rw (w.output-is, w.result-is, w.self-inside-is)
+      (a.0, a.1, λ s at. let e = a.2 s at in ends_nowhere c.args.number s c.end_batch.new.self c.self.inside.station c.self.inside.waiting.items a.0 c.args.line.now c.self.view_is w.in-None.is e.0 e.1)
+  | in-Some w ↦
+      let b = w.act.ensures.text in
+      rw (w.output-is, w.result-is, w.self-inside-is) (
+        a.0 ++ b.0,
+        b.1 ∙ ap (λ (x : List ℕ). x ++ b.0) a.1 ∙ append_assoc c.args.output.now a.0 b.0,
+        λ s at. let e = a.2 s at in ends_then c.args.number s c.end_batch.new.self c.self.inside.station w.in-Some.station w.act.new.self c.self.inside.waiting.items a.0 b.0 c.args.line.now w.act.result c.self.view_is w.in-Some.is e.0 e.1 b.2,
+      )
+]

@@ -1,0 +1,68 @@
+-- At which state of a script a host is, and how it gets from one to the next.
+use Rattle.std.specs.Prelude.{◌≡◌, ℕ, List, [], Option, Some, None, Result, Ok, Err, ◌⊎◌, false}
+use Rattle.wb_names.specs.Values.{DrawopValue}
+use Rattle.wb_host.specs.Keeping.{KeeperValue, StandsFor}
+use Rattle.wb_script.specs.declared.fault.RunFault.{RunFault}
+use Rattle.wb_script.specs.declared.fault.RunFault.TheVariants as run_faults
+use Rattle.wb_script.specs.Board.{Held}
+use Rattle.wb_script.specs.Hosts.{Opened, constants, host_after, batch_text, Act, does, fails}
+use Rattle.wb_script.specs.Script.{State, Step, goes, refused, closing_text, after_batch, is_stop, StopsWithin}
+
+-- a board, and the keeper at it
+pub record StationValue : Type 0 where
+  pub board : Held
+  pub keeper : KeeperValue
+
+-- The board holds the same, and the keeper stands for the calls.
+pub record IsOpenAt (v : StationValue) (host : Opened) : Type 0 where
+  pub board : v.board ≡ host.board
+  pub keeper : StandsFor host.me constants host.calls v.keeper
+
+abbrev pub MayBeOpenAt : Option StationValue → Option Opened → Type 0
+MayBeOpenAt None None = Unit {0}
+MayBeOpenAt (Some v) (Some host) = IsOpenAt v host
+MayBeOpenAt None (Some host) = ⊥
+MayBeOpenAt (Some v) None = ⊥
+
+pub record HostValue : Type 0 where
+  pub station : Option StationValue
+  pub waiting : List DrawopValue
+
+pub record IsAt (h : HostValue) (s : State) : Type 0 where
+  pub station : MayBeOpenAt h.station s.host
+  pub waiting : h.waiting ≡ s.waiting
+
+-- ---- from one state to the next
+
+-- A host that was at this state takes its batch.
+abbrev pub TakesBatch : {U : Type 0} → Opened → List DrawopValue → StationValue → List ℕ → Result U RunFault → Type 0
+TakesBatch host batch new written (Ok u) = IsOpenAt new (host_after host batch) × (written ≡ batch_text host.board batch)
+TakesBatch host batch new written (Err e) = StopsWithin (batch_text host.board batch) written e
+
+abbrev pub EndsBatch : {U : Type 0} → State → HostValue → List ℕ → Result U RunFault → Type 0
+EndsBatch s new written (Ok u) = IsAt new (after_batch s) × (written ≡ closing_text s)
+EndsBatch s new written (Err e) = StopsWithin (closing_text s) written e
+
+-- It does what a line is to do there, and prints its text; or it refuses the line of this number.
+abbrev pub DoesAct : {U : Type 0} → ℕ → Opened → StationValue → List ℕ → Result U RunFault → Act → Type 0
+DoesAct number host new written (Ok u) (does next text) = IsOpenAt new next × (written ≡ text)
+DoesAct number host new written (Ok u) (fails e) = ⊥
+DoesAct number host new written (Err f) (does next text) = StopsWithin text written f
+DoesAct number host new written (Err f) (fails e) = StopsWithin [] written f ⊎ ((f ≡ run_faults.Line number e) × IsOpenAt new host × (written ≡ []))
+
+abbrev pub DoesStep : {U : Type 0} → ℕ → HostValue → List ℕ → Result U RunFault → Step → Type 0
+DoesStep number new written (Ok u) (goes t text) = IsAt new t × (written ≡ text)
+DoesStep number new written (Ok u) (refused t text e) = ⊥
+DoesStep number new written (Err f) (goes t text) = StopsWithin text written f
+DoesStep number new written (Err f) (refused t text e) = StopsWithin text written f ⊎ ((f ≡ run_faults.Line number e) × IsAt new t × (written ≡ text))
+
+-- ---- while a run goes on
+
+-- a host is at a state, unless it had to stop
+abbrev pub IsLeftAt : {X : Type 0} → HostValue → Result X RunFault → State → Type 0
+IsLeftAt new (Ok x) t = IsAt new t
+IsLeftAt new (Err e) t = is_stop e ≡ false → IsAt new t
+
+-- Wherever a host was, it is at some state then, with this between the two.
+abbrev pub Moves : {X : Type 0} → HostValue → HostValue → Result X RunFault → (State → State → Type 0) → Type 0
+Moves old new result Between = (s : State) → IsAt old s → (t : State) × IsLeftAt new result t × Between s t
