@@ -16,8 +16,9 @@ use Rattle.wb_script.specs.declared.fault.RunFault.TheVariants as run_faults
 use Rattle.wb_script.specs.declared.line.Line.{Line}
 use Rattle.wb_script.specs.declared.line.Line.TheVariants.{Skip, Board, Arrive, Hear, Distance, Tick, Look, Session, Show, Gaps, Report, Pages}
 use Rattle.wb_script.specs.declared.summary.Summary.{Summary}
+use Rattle.wb_host.specs.Keeper.{SetDelay}
 use Rattle.wb_script.specs.Board.{Held}
-use Rattle.wb_script.specs.Hosts.{Opened, opened, board_after, host_after, batch_text, Act, does, fails, act}
+use Rattle.wb_script.specs.Hosts.{Opened, opened, board_after, host_after, batch_text, calling, Act, does, fails, act}
 use Rattle.wb_script.specs.Laws.{NoneClash, HasCells}
 use Rattle.wb_script.specs.Parsing.{line_of}
 use Rattle.wb_script.specs.Queries.{view_of}
@@ -67,7 +68,7 @@ act_board (Gaps page) host next printed e = ap (λ (h : Opened). h.board) (sym (
 act_board (Report page) host next printed e = ap (λ (h : Opened). h.board) (sym (same_host host next _ printed e))
 act_board Pages host next printed e = ap (λ (h : Opened). h.board) (sym (same_host host next _ printed e))
 act_board (Hear v) host next printed e = absurd cc
-act_board (Distance source micros) host next printed e = absurd cc
+act_board (Distance source micros) host next printed e = ap (λ (h : Opened). h.board) (sym (same_host (calling (SetDelay source micros) 0 host) next _ printed e))
 act_board (Tick moment) host next printed e = absurd cc
 act_board (Look page) host next printed e = absurd cc
 act_board (Session page) host next printed e = absurd cc
@@ -104,7 +105,7 @@ arrives_kept (Some host) waiting ds d t y h e =
 
 opens_kept : (host : Option Opened) (waiting ds : List DrawopValue) (member cells workers seed : ℕ) (t : State) (y : List ℕ) → Leads host waiting ds → said_step (state host waiting) (Ok (Board member cells workers seed)) ≡ goes t y → Kept host ds (Ok (Board member cells workers seed)) t
 opens_kept None waiting ds member cells workers seed t y h e =
-    kept_by None ds (Ok (Board member cells workers seed)) (state (Some (opened member cells)) []) t [] y
+    kept_by None ds (Ok (Board member cells workers seed)) (state (Some (opened member cells seed)) []) t [] y
     (record { leads = ap (history_after cells []) (sym (ap (λ (l : List DrawopValue). l ++ []) h)); cells = λ later. refl }) e
 opens_kept (Some host) waiting ds member cells workers seed t y h e = absurd cc
 

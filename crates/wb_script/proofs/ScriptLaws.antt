@@ -57,14 +57,14 @@ quiet_after u text line t y e = at u.host e where
   at None e = absurd cc
   at (Some host) e = quiet_act text (act line host) host t y e
 
-quiet_opened : (s : State) (host : Option Opened) (member cells : ℕ) (t : State) (y : List ℕ) → by_host host (goes (record { host = Some (opened member cells); waiting = [] }) []) (λ host. refused s [] faults.SecondBoard) ≡ goes t y → closing_text t ≡ []
-quiet_opened s None member cells t y e = let u : State = record { host = Some (opened member cells); waiting = [] } in ap closing_text (sym (state_of u t [] y e))
-quiet_opened s (Some host) member cells t y e = absurd cc
+quiet_opened : (s : State) (host : Option Opened) (member cells seed : ℕ) (t : State) (y : List ℕ) → by_host host (goes (record { host = Some (opened member cells seed); waiting = [] }) []) (λ host. refused s [] faults.SecondBoard) ≡ goes t y → closing_text t ≡ []
+quiet_opened s None member cells seed t y e = let u : State = record { host = Some (opened member cells seed); waiting = [] } in ap closing_text (sym (state_of u t [] y e))
+quiet_opened s (Some host) member cells seed t y e = absurd cc
 
 quiet_line : (s t : State) (said : Result Line LineFault) (y : List ℕ) (waits : Bool) → (waits ≡ false → closing_text s ≡ []) → said_step s said ≡ goes t y → waits_after waits said ≡ false → closing_text t ≡ []
 quiet_line s t (Ok Skip) y waits quiet e calm = ap closing_text (sym (state_of s t [] y e)) ∙ quiet calm
 quiet_line s t (Ok (Arrive d)) y waits quiet e calm = absurd (true≢false calm)
-quiet_line s t (Ok (Board member cells workers seed)) y waits quiet e calm = quiet_opened s s.host member cells t y e
+quiet_line s t (Ok (Board member cells workers seed)) y waits quiet e calm = quiet_opened s s.host member cells seed t y e
 quiet_line s t (Ok (Hear v)) y waits quiet e calm = quiet_after (after_batch s) (closing_text s) (Hear v) t y e
 quiet_line s t (Ok (Distance source micros)) y waits quiet e calm = quiet_after (after_batch s) (closing_text s) (Distance source micros) t y e
 quiet_line s t (Ok (Tick moment)) y waits quiet e calm = quiet_after (after_batch s) (closing_text s) (Tick moment) t y e

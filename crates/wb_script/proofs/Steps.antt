@@ -4,6 +4,7 @@ use Rattle.std.specs.Prelude.{Option, Some, None, filter}
 use Rattle.std.proofs.lemmas.List.{append-nil}
 use Rattle.wb_names.specs.Values.{NameValue, DrawopValue}
 use Rattle.wb_names.specs.Arrivals.{Counts, counts_of, outcomes_of, history_after}
+use Rattle.rand_pcg.specs.Lcg.{Lcg}
 use Rattle.wb_host.specs.Keeper.{KeeperCall, Arrive, holds}
 use Rattle.wb_host.specs.Keeping.{KeeperValue, StandsFor, Keeps}
 use Rattle.wb_script.specs.declared.fault.LineFault.TheVariants as faults
@@ -93,18 +94,18 @@ ends_then number s mid o v w waiting a b line r view some is text d =
 -- ---- the end of a batch, and of a run
 
 -- a batch that has arrivals
-pub taken : (b b' : Held) (k k' : KeeperValue) (batch : List DrawopValue) (names : List NameValue) (text : List ℕ) (n : Counts) (host : Opened) → 0 < length batch → IsOpenAt (record { board = b; keeper = k }) host → names ≡ names_of batch
+pub taken : (b b' : Held) (k k' : KeeperValue) (g : Lcg) (batch : List DrawopValue) (names : List NameValue) (text : List ℕ) (n : Counts) (host : Opened) → 0 < length batch → IsOpenAt (record { board = b; keeper = k; words = g }) host → names ≡ names_of batch
     → n ≡ counts_of (outcomes_of b.cells b.drawops batch) → b' ≡ record { cells = b.cells; drawops = history_after b.cells b.drawops batch } → text ≡ batch_line n → Keeps (Arrive k.moment (filter (holds b'.drawops) names)) k k'
-    → IsOpenAt (record { board = b'; keeper = k' }) (host_after host batch) × (text ≡ batch_text host.board batch)
-taken b b' k k' [] names text n host some at same counts held spelled keeps = absurd (omega arith)
-taken b b' k k' (d ∷ ds) names text n host some at same counts held spelled keeps =
+    → IsOpenAt (record { board = b'; keeper = k'; words = g }) (host_after host batch) × (text ≡ batch_text host.board batch)
+taken b b' k k' g [] names text n host some at same counts held spelled keeps = absurd (omega arith)
+taken b b' k k' g (d ∷ ds) names text n host some at same counts held spelled keeps =
     let batch : List DrawopValue = d ∷ ds in
     let board : b' ≡ board_after host.board batch = held ∙ ap (λ (h : Held). board_after h batch) at.board in
     let call : Arrive k.moment (filter (holds b'.drawops) names) ≡ Arrive (present host) (filter (holds (board_after host.board batch).drawops) (names_of batch)) =
     ap (λ (m : ℕ). Arrive m (filter (holds b'.drawops) names)) at.keeper.moment
     ∙ ap (λ (h : Held). Arrive (present host) (filter (holds h.drawops) names)) board
     ∙ ap (λ (ns : List NameValue). Arrive (present host) (filter (holds (board_after host.board batch).drawops) ns)) same in (
-      record { board = board; keeper = subst (λ (c : KeeperCall). StandsFor host.me constants (c ∷ host.calls) k') call (keeps host.me constants host.calls at.keeper) },
+      record { board = board; keeper = subst (λ (c : KeeperCall). StandsFor host.me constants (c ∷ host.calls) k') call (keeps host.me constants host.calls at.keeper); words = at.words },
       spelled ∙ ap batch_line counts ∙ ap (λ (h : Held). batch_line (counts_of (outcomes_of h.cells h.drawops batch))) at.board,
     )
 

@@ -3,7 +3,8 @@ use Rattle.std.specs.Prelude.{ℕ, List, [], ◌∷◌, map, filter}
 use Rattle.wb_names.specs.Values.{NameValue, DrawopValue}
 use Rattle.wb_names.specs.Arrivals.{outcomes_of, counts_of, history_after}
 use Rattle.wb_recovery.specs.declared.tuning.Tuning.{Tuning}
-use Rattle.wb_host.specs.Keeper.{KeeperCall, Arrive, moment_at, holds}
+use Rattle.rand_pcg.specs.Lcg.{Lcg}
+use Rattle.wb_host.specs.Keeper.{KeeperCall, SetDelay, Arrive, moment_at, holds}
 use Rattle.wb_script.specs.declared.fault.LineFault.{LineFault}
 use Rattle.wb_script.specs.declared.fault.LineFault.TheVariants as faults
 use Rattle.wb_script.specs.declared.line.Line.{Line}
@@ -11,21 +12,23 @@ use Rattle.wb_script.specs.declared.line.Line.TheVariants as lines
 use Rattle.wb_script.specs.declared.query.Query.{Query}
 use Rattle.wb_script.specs.declared.query.Query.TheVariants as queries
 use Rattle.wb_script.specs.Board.{Held}
+use Rattle.wb_script.specs.Random.{started, after_words}
 use Rattle.wb_script.specs.Answers.{batch_line, answer_text}
 
--- the number of its member, its board, and the calls that its keeper accepted, the newest first
+-- the number of its member, its board, the calls that its keeper accepted, the newest first, and the generator of its random words
 pub record Opened : Type 0 where
   pub me : ℕ
   pub board : Held
   pub calls : List KeeperCall
+  pub random : Lcg
 
 -- the constants of its timers
 abbrev pub constants : Tuning
 constants = record { c1 = 2; c2 = 2; d1 = 1; d2 = 1 }
 
 -- just opened: an empty board, and a keeper that has heard nothing
-abbrev pub opened : ℕ → ℕ → Opened
-opened member cells = record { me = member; board = record { cells = cells; drawops = [] }; calls = [] }
+abbrev pub opened : ℕ → ℕ → ℕ → Opened
+opened member cells seed = record { me = member; board = record { cells = cells; drawops = [] }; calls = []; random = started seed }
 
 -- the present moment, at first 0
 abbrev pub present : Opened → ℕ
@@ -45,7 +48,7 @@ calls_after host [] = host.calls
 calls_after host (d ∷ ds) = Arrive (present host) (filter (holds (board_after host.board (d ∷ ds)).drawops) (names_of (d ∷ ds))) ∷ host.calls
 
 abbrev pub host_after : Opened → List DrawopValue → Opened
-host_after host batch = record { me = host.me; board = board_after host.board batch; calls = calls_after host batch }
+host_after host batch = record { me = host.me; board = board_after host.board batch; calls = calls_after host batch; random = host.random }
 
 -- What is printed. A batch with no arrivals prints nothing.
 abbrev pub batch_text : Held → List DrawopValue → List ℕ
@@ -59,6 +62,10 @@ pub data Act : Type 0 where
   does : Opened → List ℕ → Act
   fails : LineFault → Act
 
+-- once the keeper accepted a call, for which so many random words were drawn
+abbrev pub calling : KeeperCall → ℕ → Opened → Opened
+calling call words host = record { me = host.me; board = host.board; calls = call ∷ host.calls; random = after_words host.random words }
+
 abbrev pub asked : Query → Opened → Act
 asked query host = does host (answer_text host.board.drawops query)
 
@@ -70,7 +77,7 @@ act (lines.Gaps page) host = asked (queries.Gaps page) host
 act (lines.Report page) host = asked (queries.Report page) host
 act lines.Pages host = asked queries.Pages host
 act (lines.Hear v) host = fails faults.Unknown
-act (lines.Distance source micros) host = fails faults.Unknown
+act (lines.Distance source micros) host = does (calling (SetDelay source micros) 0 host) []
 act (lines.Tick moment) host = fails faults.Unknown
 act (lines.Look page) host = fails faults.Unknown
 act (lines.Session page) host = fails faults.Unknown

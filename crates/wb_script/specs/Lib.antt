@@ -6,6 +6,7 @@ pub mod Reply
 pub mod Batches
 pub mod Queries
 pub mod Answers
+pub mod Random
 pub mod Hosts
 pub mod Script
 pub mod Stations
@@ -16,7 +17,6 @@ pub mod Laws
 pub mod ScriptLaws
 pub mod Shows
 pub mod Checking
-pub mod Random
 pub use Rattle.wb_names.specs.Values
 pub use Rattle.wb_names.specs.History
 pub use Rattle.wb_names.specs.Arrivals

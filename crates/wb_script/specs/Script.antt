@@ -68,7 +68,7 @@ acts t text line = by_host t.host (refused t text faults.NoBoard) (λ host. step
 -- A board is opened once. Arrivals wait for the end of their batch, which each line that is neither skipped nor an arrival ends first.
 abbrev pub line_step : State → Line → Step
 line_step s Skip = goes s []
-line_step s (Board member cells workers seed) = by_host s.host (goes (record { host = Some (opened member cells); waiting = [] }) []) (λ host. refused s [] faults.SecondBoard)
+line_step s (Board member cells workers seed) = by_host s.host (goes (record { host = Some (opened member cells seed); waiting = [] }) []) (λ host. refused s [] faults.SecondBoard)
 line_step s (Arrive d) = by_host s.host (refused s [] faults.NoBoard) (λ host. goes (record { host = s.host; waiting = s.waiting ++ d ∷ [] }) [])
 line_step s (Hear v) = acts (after_batch s) (closing_text s) (Hear v)
 line_step s (Distance source micros) = acts (after_batch s) (closing_text s) (Distance source micros)

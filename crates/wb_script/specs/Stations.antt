@@ -1,6 +1,7 @@
 -- At which state of a script a host is, and how it gets from one to the next.
 use Rattle.std.specs.Prelude.{◌≡◌, ℕ, List, [], Option, Some, None, Result, Ok, Err, ◌⊎◌, false}
 use Rattle.wb_names.specs.Values.{DrawopValue}
+use Rattle.rand_pcg.specs.Lcg.{Lcg}
 use Rattle.wb_host.specs.Keeping.{KeeperValue, StandsFor}
 use Rattle.wb_script.specs.declared.fault.RunFault.{RunFault}
 use Rattle.wb_script.specs.declared.fault.RunFault.TheVariants as run_faults
@@ -8,15 +9,17 @@ use Rattle.wb_script.specs.Board.{Held}
 use Rattle.wb_script.specs.Hosts.{Opened, constants, host_after, batch_text, Act, does, fails}
 use Rattle.wb_script.specs.Script.{State, Step, goes, refused, closing_text, after_batch, is_stop, StopsWithin}
 
--- a board, and the keeper at it
+-- a board, the keeper at it, and the random words that were not drawn yet
 pub record StationValue : Type 0 where
   pub board : Held
   pub keeper : KeeperValue
+  pub words : Lcg
 
--- The board holds the same, and the keeper stands for the calls.
+-- The board holds the same, the keeper stands for the calls, and the words are those that come next.
 pub record IsOpenAt (v : StationValue) (host : Opened) : Type 0 where
   pub board : v.board ≡ host.board
   pub keeper : StandsFor host.me constants host.calls v.keeper
+  pub words : v.words ≡ host.random
 
 abbrev pub MayBeOpenAt : Option StationValue → Option Opened → Type 0
 MayBeOpenAt None None = Unit {0}

@@ -74,16 +74,17 @@ impl Host {
         number: u32,
         member: u32,
         cells: u32,
+        seed: u64,
     ) -> Result<(), RunFault>
         requires { (0 < cells) × (cells ≤ 65535) }
-        ensures step { (s : State) → IsAt self.old s → (workers seed : ℕ) → DoesStep number self.new [] result (line_step s (Line.Board member cells workers seed)) }
+        ensures step { (s : State) → IsAt self.old s → (workers : ℕ) → DoesStep number self.new [] result (line_step s (Line.Board member cells workers seed)) }
         ensures unwritten { result ≢ Err RunFault.Write }
         ensures waiting { length self.new.waiting ≤ length self.old.waiting }
     {
         if self.station.is_some() {
             return Err(RunFault::Line(number, LineFault::SecondBoard));
         }
-        self.station = Some(Station::open(alloc, member, cells)?);
+        self.station = Some(Station::open(alloc, member, cells, seed)?);
         self.waiting.clear();
         Ok(())
     }
@@ -136,7 +137,12 @@ impl Host {
     {
         match line {
             Line::Skip => Ok(()),
-            Line::Board { member, cells, .. } => self.open_board(alloc, number, *member, *cells),
+            Line::Board {
+                member,
+                cells,
+                seed,
+                ..
+            } => self.open_board(alloc, number, *member, *cells, *seed),
             Line::Arrive(drawop) => self.arrive(number, *drawop),
             _ => self.act(alloc, number, line, output),
         }

@@ -1,5 +1,5 @@
 //! The board of a script with the keeper at it, and what lines do to them.
-ghost use Rattle.std.specs.Prelude.{◌≡◌, ◌≢◌, ◌<◌, ◌≤◌, ◌^◌, ◌++◌, List, ℕ, length, Err, IfOk};
+ghost use Rattle.std.specs.Prelude.{◌≡◌, ◌≢◌, ◌<◌, ◌≤◌, ◌^◌, ◌++◌, List, [], ℕ, length, Err, IfOk};
 ghost use Rattle.wb_script.specs.Answers.{IsAnswerable};
 ghost use Rattle.wb_script.specs.Hosts.{Opened, opened, names_of, asked, act};
 ghost use Rattle.wb_script.specs.Parsing.{IsWithin};
@@ -11,18 +11,20 @@ use crate::fault::{LineFault, RunFault};
 use crate::line::Line;
 use crate::output::Output;
 use crate::query::Query;
+use crate::random::RandomWords;
 use crate::whiteboard::Whiteboard;
 use std::alloc::{AllocError, Global};
 use std::marker::Model;
-use wb_host::Keeper;
+use wb_host::{KeepFault, Keeper};
 use wb_names::{Drawop, Name};
 use wb_recovery::Tuning;
 
-/// A board, and what its member keeps of the session.
+/// A board, what its member keeps of the session, and the random words that were not drawn yet.
 #[derive(Drop)]
 pub struct Station {
     board: Whiteboard,
     keeper: Keeper,
+    words: RandomWords,
 }
 
 impl Model for Station {
@@ -30,18 +32,23 @@ impl Model for Station {
 
     ghost Value = { StationValue };
 
-    ghost view = { λ s. record { board = s.board; keeper = s.keeper } };
+    ghost view = { λ s. record { board = s.board; keeper = s.keeper; words = s.words } };
 }
 
 impl Station {
-    /// An empty board of so many cells, and a keeper of the member that has heard nothing.
-    pub fn open(alloc: Global, member: u32, cells: u32) -> Result<Self, AllocError>
+    /// An empty board of so many cells, a keeper of the member that has heard nothing, and the random
+    /// words of a seed.
+    pub fn open(alloc: Global, member: u32, cells: u32, seed: u64) -> Result<Self, AllocError>
         requires { (0 < cells) × (cells ≤ 65535) }
-        ensures { IfOk result (λ s. IsOpenAt s (opened member cells)) }
+        ensures { IfOk result (λ s. IsOpenAt s (opened member cells seed)) }
     {
         let board = Whiteboard::open(alloc, cells)?;
         match Keeper::new(alloc, member, Tuning::default()) {
-            Ok(keeper) => Ok(Station { board, keeper }),
+            Ok(keeper) => Ok(Station {
+                board,
+                keeper,
+                words: RandomWords::new(seed),
+            }),
             Err(_) => unreachable!(),
         }
     }
@@ -83,6 +90,19 @@ impl Station {
         print(alloc, &mut self.board, query, output)
     }
 
+    /// Sets the delay to a source, in microseconds.
+    fn set_delay(&mut self, source: u32, micros: u64) -> Result<(), RunFault>
+        requires { micros < 2 ^ 24 }
+        ensures act { (host : Opened) → IsOpenAt self.old host → (number : ℕ) → DoesAct number host self.new [] result (act (Line.Distance source micros) host) }
+        ensures unwritten { result ≢ Err RunFault.Write }
+    {
+        match self.keeper.set_delay(source, micros) {
+            Ok(()) => Ok(()),
+            Err(KeepFault::Memory) => Err(RunFault::Memory),
+            Err(_) => unreachable!(),
+        }
+    }
+
     /// Does what the line of this number says, once its batch has ended.
     pub fn act(
         &mut self,
@@ -111,6 +131,7 @@ impl Station {
             Line::Gaps(page) => self.ask(alloc, Query::Gaps(*page), output),
             Line::Report(page) => self.ask(alloc, Query::Report(*page), output),
             Line::Pages => self.ask(alloc, Query::Pages, output),
+            Line::Distance { source, micros } => self.set_delay(*source, *micros),
             Line::Skip | Line::Board { .. } | Line::Arrive(_) => Ok(()),
             _ => Err(RunFault::Line(number, LineFault::Unknown)),
         }
