@@ -21,3 +21,5 @@ pub mod BatchLaws
 pub mod ScriptLaws
 pub mod EndingShows
 pub mod DrawnWords
+pub mod SpelledBytes
+pub mod SentDigits

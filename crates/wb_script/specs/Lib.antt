@@ -7,6 +7,7 @@ pub mod Batches
 pub mod Queries
 pub mod Answers
 pub mod Random
+pub mod SentLines
 pub mod Hosts
 pub mod Script
 pub mod Stations

@@ -1,5 +1,5 @@
 //! Tests of wb_script over its public calls: whole scripts with values from outside, ends that fail in
-//! mid-stream or are fed slowly, limits, random words, and want of memory.
+//! mid-stream or are fed slowly, limits, random words, lines of what is sent, and want of memory.
 #![tactic(auto)]
 
 #[cfg(test)]
@@ -12,5 +12,7 @@ mod memory;
 mod random;
 #[cfg(test)]
 mod scripts;
+#[cfg(test)]
+mod sent_lines;
 #[cfg(test)]
 mod watched;

@@ -1,0 +1,123 @@
+-- A datagram is spelled in bytes.
+use Rattle.std.proofs.Common.{◌≡◌, ℕ, zero, suc, ◌<◌, true, false, refl, List, [], ◌∷◌, ◌++◌, length, get_or, arith}
+use Rattle.std.specs.Prelude.{slice_index, nat_le}
+use Rattle.std.specs.List.{flat_map}
+use Rattle.std.specs.Int.{w16, w32, w64, to_be_bytes}
+use Rattle.hex.specs.Hex.{IsBytes}
+use Rattle.wb_names.specs.Values.{NameValue, MarkValue}
+use Rattle.wb_names.specs.declared.name.PageId.{PageId}
+use Rattle.wb_names.specs.declared.echo.Echo.{Echo}
+use Rattle.wb_names.specs.declared.drawop.Op.{Op}
+use Rattle.wb_names.specs.declared.drawop.Op.TheVariants.{Line, Frame, Text, Delete, Restore}
+use Rattle.wb_names.specs.Drawing.{IsLawful}
+use Rattle.wb_codec.specs.declared.datagram.Datagram.{Datagram}
+use Rattle.wb_codec.specs.declared.datagram.Datagram.TheVariants.{Draw, Session, Request, AskPages, PageState}
+use Rattle.wb_codec.specs.Ranges.{IsDatagram}
+use Rattle.wb_codec.specs.Spelling.{page_bytes, name_bytes, stroke_bytes, target_bytes, op_bytes, mark_bytes, echo_bytes, body, kind_code, op_version, version_of, version_code, spelling}
+use Rattle.wb_codec.proofs.Lawful.{lawful_stroke, lawful_text}
+
+abbrev Below : List ℕ → Type 0
+Below [] = Unit {0}
+Below (b ∷ bytes) = (b < 256) × Below bytes
+
+record AreBytes (bytes : List ℕ) : Type 0 where
+  each : Below bytes
+
+below_append : (xs ys : List ℕ) → Below xs → Below ys → Below (xs ++ ys)
+below_append [] ys p q = q
+below_append (x ∷ xs) ys p q = (p.0, below_append xs ys p.1 q)
+
+cat : (xs ys : List ℕ) → AreBytes xs → AreBytes ys → AreBytes (xs ++ ys)
+cat xs ys p q = record { each = below_append xs ys p.each q.each }
+
+one : (b : ℕ) → b < 256 → AreBytes (b ∷ [])
+one b lt = record { each = (lt, tt) }
+
+put : (b : ℕ) (xs : List ℕ) → b < 256 → AreBytes xs → AreBytes (b ∷ xs)
+put b xs lt p = record { each = (lt, p.each) }
+
+be16 : (n : ℕ) → AreBytes (to_be_bytes w16 n)
+be16 n = record { each = (omega arith, (omega arith, tt)) }
+
+be32 : (n : ℕ) → AreBytes (to_be_bytes w32 n)
+be32 n = record { each = (omega arith, (omega arith, (omega arith, (omega arith, tt)))) }
+
+be64 : (n : ℕ) → AreBytes (to_be_bytes w64 n)
+be64 n = record { each = (omega arith, (omega arith, (omega arith, (omega arith, (omega arith, (omega arith, (omega arith, (omega arith, tt)))))))) }
+
+text_below : (text : List ℕ) → ((i : ℕ) → get_or text i 0 < 256) → Below text
+text_below [] h = tt
+text_below (b ∷ text) h = (h 0, text_below text (λ i. h (suc i)))
+
+page_are : (p : PageId) → AreBytes (page_bytes p)
+page_are p = cat _ _ (be32 p.creator) (be32 p.number)
+
+name_are : (n : NameValue) → AreBytes (name_bytes n)
+name_are n = cat _ _ (cat _ _ (be32 n.source) (page_are n.page)) (be32 n.seq)
+
+stroke_are : (x0 y0 x1 y1 glyph : ℕ) → glyph < 256 → AreBytes (stroke_bytes x0 y0 x1 y1 glyph)
+stroke_are x0 y0 x1 y1 glyph lt = cat _ _ (cat _ _ (cat _ _ (cat _ _ (be16 x0) (be16 y0)) (be16 x1)) (be16 y1)) (one glyph lt)
+
+target_are : (source seq : ℕ) → AreBytes (target_bytes source seq)
+target_are source seq = cat _ _ (be32 source) (be32 seq)
+
+op_are : (name : NameValue) (op : Op) → IsLawful name op → AreBytes (op_bytes op)
+op_are name (Line x0 y0 x1 y1 glyph) e = put 1 _ (omega arith) (stroke_are x0 y0 x1 y1 glyph (lawful_stroke x0 y0 x1 y1 glyph e).glyph-fits)
+op_are name (Frame x0 y0 x1 y1 glyph) e = put 2 _ (omega arith) (stroke_are x0 y0 x1 y1 glyph (lawful_stroke x0 y0 x1 y1 glyph e).glyph-fits)
+op_are name (Text x y text) e =
+    let t = lawful_text x y text e in
+    put 3 _ (omega arith) (cat _ _ (cat _ _ (cat _ _ (be16 x) (be16 y)) (one (length text) (omega (arith, t.few_bytes)))) (record { each = text_below text t.bytes }))
+op_are name (Delete source seq) e = put 4 _ (omega arith) (target_are source seq)
+op_are name (Restore source seq) e = put 5 _ (omega arith) (target_are source seq)
+
+marks_are : (marks : List MarkValue) → AreBytes (flat_map mark_bytes marks)
+marks_are [] = record { each = tt }
+marks_are (m ∷ marks) = cat _ _ (cat _ _ (be32 m.source) (be32 m.high)) (marks_are marks)
+
+echoes_are : (echoes : List Echo) → AreBytes (flat_map echo_bytes echoes)
+echoes_are [] = record { each = tt }
+echoes_are (e ∷ echoes) = cat _ _ (cat _ _ (cat _ _ (be32 e.source) (be64 e.sent)) (be64 e.held)) (echoes_are echoes)
+
+body_are : (v : Datagram) → IsDatagram v → AreBytes (body v)
+body_are (Draw d) fits = cat _ _ (cat _ _ (name_are d.name) (be64 d.time)) (op_are d.name d.op fits.lawful)
+body_are (Session sender sent page marks echoes) fits =
+    cat _ _ (cat _ _ (cat _ _ (cat _ _ (be32 sender) (be64 sent)) (page_are page)) (cat _ _ (be16 (length marks)) (marks_are marks))) (cat _ _ (be16 (length echoes)) (echoes_are echoes))
+body_are (Request asker name) fits = cat _ _ (be32 asker) (name_are name)
+body_are (AskPages asker) fits = be32 asker
+body_are (PageState sender page marks) fits = cat _ _ (cat _ _ (be32 sender) (page_are page)) (cat _ _ (be16 (length marks)) (marks_are marks))
+
+op_version_below : (op : Op) → version_code (op_version op) < 256
+op_version_below (Line x0 y0 x1 y1 glyph) = omega arith
+op_version_below (Frame x0 y0 x1 y1 glyph) = omega arith
+op_version_below (Text x y text) =
+    elim (nat_le (length text) 40) as (λ b. nat_le (length text) 40 ≡ b → version_code (op_version (Text x y text)) < 256) [
+      | true ↦ λ e. rw e (omega arith)
+      | false ↦ λ e. rw e (omega arith)
+    ] refl
+op_version_below (Delete source seq) = omega arith
+op_version_below (Restore source seq) = omega arith
+
+version_below : (v : Datagram) → version_code (version_of v) < 256
+version_below (Draw d) = op_version_below d.op
+version_below (Session sender sent page marks echoes) = omega arith
+version_below (Request asker name) = omega arith
+version_below (AskPages asker) = omega arith
+version_below (PageState sender page marks) = omega arith
+
+kind_below : (v : Datagram) → kind_code v < 256
+kind_below (Draw d) = omega arith
+kind_below (Session sender sent page marks echoes) = omega arith
+kind_below (Request asker name) = omega arith
+kind_below (AskPages asker) = omega arith
+kind_below (PageState sender page marks) = omega arith
+
+spelling_are : (v : Datagram) → IsDatagram v → AreBytes (spelling v)
+spelling_are v fits = put 0x57 _ (omega arith) (put 0x42 _ (omega arith) (put (version_code (version_of v)) _ (version_below v) (put (kind_code v) _ (kind_below v) (cat _ _ (be32 (length (body v))) (body_are v fits)))))
+
+below_at : (bytes : List ℕ) → Below bytes → (i : ℕ) → slice_index bytes i < 256
+below_at [] p i = omega arith
+below_at (b ∷ bytes) p zero = p.0
+below_at (b ∷ bytes) p (suc i) = below_at bytes p.1 i
+
+pub spelled_bytes : (v : Datagram) → IsDatagram v → IsBytes (spelling v)
+spelled_bytes v fits = below_at (spelling v) (spelling_are v fits).each
