@@ -6,3 +6,4 @@ pub mod TurningLaws
 pub mod Visible
 pub mod InputText
 pub mod WholeScripts
+pub mod OtherLines

@@ -1,7 +1,8 @@
 -- Laws of the two filters.
-use Rattle.std.specs.Prelude.{◌≡◌, ◌≤◌, ◌⊎◌, ℕ, List, length, All, Bool, true, false, Ok}
+use Rattle.std.specs.Prelude.{◌≡◌, ◌≢◌, ◌≤◌, ◌⊎◌, ℕ, List, [], ◌∷◌, length, All, codes, Bool, true, false, Ok}
 use Rattle.wb_codec.specs.declared.datagram.Datagram.{Datagram}
 use Rattle.wb_codec.specs.Ranges.{IsDatagram}
+use Rattle.wb_words.specs.Words.{words}
 use Rattle.wb_script.specs.Script.{InputLine, input_lines, content, most_bytes}
 use Rattle.wb_filters.specs.declared.carrier.Carrier.{Carrier}
 use Rattle.wb_filters.specs.declared.filtering.Direction.{Direction}
@@ -30,6 +31,14 @@ IsInDigits line = (carrier : Carrier) × (v : Datagram) × IsDatagram v × (take
 -- no line of a datagram: each filter leaves it as it is
 abbrev pub IsOther : List ℕ → Type 0
 IsOther line = (hexed line ≡ Ok line) × (worded line ≡ Ok line)
+
+-- the words that begin a line of a datagram, in words or in digits
+abbrev pub openers : List (List ℕ)
+openers = codes "draw" ∷ codes "session-message" ∷ codes "request" ∷ codes "ask-pages" ∷ codes "page-state" ∷ codes "arrive" ∷ codes "hear" ∷ codes "send" ∷ []
+
+-- A line that begins with another word is no line of a datagram.
+abbrev pub OtherLinesStay : Type 0
+OtherLinesStay = (line word : List ℕ) (others : List (List ℕ)) → words line ≡ word ∷ others → All (λ opener. word ≢ opener) openers → IsOther line
 
 -- a script as people write it: each line is a datagram in words, or no line of a datagram
 abbrev pub IsWritten : List ℕ → Type 0

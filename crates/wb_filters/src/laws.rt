@@ -1,13 +1,18 @@
 //! Laws of the two filters, proved for all datagrams and scripts. The functions do nothing: each stands here for
 //! its clauses.
 
-ghost use Rattle.wb_filters.specs.Laws.{WordsAreTurned, DigitsAreTurned, WordsComeBack, DigitsComeBack};
+ghost use Rattle.wb_filters.specs.Laws.{WordsAreTurned, DigitsAreTurned, OtherLinesStay, WordsComeBack, DigitsComeBack};
 
 /// Each datagram that comes in or is sent has one line in words and one in digits, and each filter
 /// turns the one into the other.
 pub fn filters_undo_one_another()
     ensures hex { WordsAreTurned }
     ensures words { DigitsAreTurned }
+{}
+
+/// A line whose first word begins no datagram, in words or in digits, is left by both filters.
+pub fn other_lines_stay()
+    ensures { OtherLinesStay }
 {}
 
 /// A script in words comes back from `wb hex` and then `wb words`, byte for byte, and one as `wb` prints
