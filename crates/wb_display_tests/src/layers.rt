@@ -6,49 +6,53 @@ use std::test::Fail;
 use wb_display::Layer;
 use wb_names::{Drawop, Name, Shape};
 
-/// Page 7/1, after these were put on it in turn.
-fn layer_of(alloc: Global, list: &[Drawop]) -> Result<Layer, AllocError> {
-    let mut layer = Layer::new(alloc, page(1));
+/// Drawops to put, and what is then shown.
+type Turn<'a> = (&'a [Drawop], &'a [Drawop]);
+
+/// Whether the layer shows this after these are put on it in turn.
+fn shows(layer: &mut Layer, (list, wanted): Turn<'_>) -> Result<bool, AllocError> {
     for drawop in list {
         layer.put(drawop)?;
     }
-    Ok(layer)
+    Ok(layer.shown() == wanted)
+}
+
+/// Whether page 7/1 shows so after each of the turns.
+fn shows_in_turn(alloc: Global, turns: &[Turn<'_>]) -> Result<bool, AllocError> {
+    let mut layer = Layer::new(alloc, page(1));
+    let mut all = true;
+    for turn in turns {
+        all = shows(&mut layer, *turn)? && all;
+    }
+    Ok(all)
 }
 
 #[test]
 fn a_delete_waits_for_its_target(rt: HostRuntime) -> Result<(), Fail> {
     let s = make_samples()?;
     let other = line(name(7, 2, 1)?, 1, (0, 0), (2, 1), b'a')?;
-    let mut layer = Layer::new(rt.alloc(), page(1));
-    for drawop in [s.c, s.a, s.d] {
-        layer.put(&drawop)?;
-    }
-    assert!(rt; layer.shown() == [s.d].as_slice());
-    layer.put(&s.e)?;
-    assert!(rt; layer.shown() == [s.d, s.e].as_slice());
-    for drawop in [s.f, other, s.b] {
-        layer.put(&drawop)?;
-    }
-    assert!(rt; layer.shown() == [s.d, s.e].as_slice());
+    let turns = [
+        (&[s.c, s.a, s.d][..], &[s.d][..]),
+        (&[s.e][..], &[s.d, s.e][..]),
+        (&[s.f, other, s.b][..], &[s.d, s.e][..]),
+    ];
+    assert!(rt; shows_in_turn(rt.alloc(), &turns)?);
     Ok(())
 }
 
 #[test]
 fn the_first_put_of_a_name_stands(rt: HostRuntime) -> Result<(), Fail> {
     let s = make_samples()?;
-    let mut layer = Layer::new(rt.alloc(), page(1));
-    for drawop in [s.a, s.b] {
-        layer.put(&drawop)?;
-        assert!(rt; layer.shown() == [s.a].as_slice());
-    }
-    for drawop in [s.c, s.a, s.b] {
-        layer.put(&drawop)?;
-        assert!(rt; layer.shown().is_empty());
-    }
-    layer.put(&s.x)?;
-    assert!(rt; layer.shown() == [s.a].as_slice());
-    layer.put(&s.y)?;
-    assert!(rt; layer.shown().is_empty());
+    let turns = [
+        (&[s.a][..], &[s.a][..]),
+        (&[s.b][..], &[s.a][..]),
+        (&[s.c][..], &[][..]),
+        (&[s.a][..], &[][..]),
+        (&[s.b][..], &[][..]),
+        (&[s.x][..], &[s.a][..]),
+        (&[s.y][..], &[][..]),
+    ];
+    assert!(rt; shows_in_turn(rt.alloc(), &turns)?);
     Ok(())
 }
 
@@ -56,8 +60,11 @@ fn the_first_put_of_a_name_stands(rt: HostRuntime) -> Result<(), Fail> {
 fn all_orders_of_four_end_alike(rt: HostRuntime) -> Result<(), Fail> {
     let s = make_samples()?;
     for number in 0..24 {
-        let layer = layer_of(rt.alloc(), &in_order([s.a, s.c, s.x, s.y], number))?;
-        assert!(rt; layer.shown().is_empty(), "order {number}");
+        let list = in_order([s.a, s.c, s.x, s.y], number);
+        assert!(rt;
+            shows_in_turn(rt.alloc(), &[(&list, &[])])?,
+            "order {number}"
+        );
     }
     Ok(())
 }

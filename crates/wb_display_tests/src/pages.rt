@@ -1,6 +1,6 @@
 //! What pages show, by `order`.
 
-use crate::samples::{delete, drawn, in_order, make_samples, name, page};
+use crate::samples::{delete, in_order, is_drawn, make_samples, name, page};
 use std::test::Fail;
 use wb_display::{is_history, order};
 
@@ -18,15 +18,9 @@ fn deletes_hide_and_ties_go_by_source(rt: HostRuntime) -> Result<(), Fail> {
         (&[s.d, s.e][..], both),
         (&[s.e, s.d][..], both),
     ] {
-        assert_eq!(rt;
-            drawn(rt.alloc(), list, 1, (5, 3))?.as_slice(),
-            want.as_slice()
-        );
+        assert!(rt; is_drawn(rt.alloc(), list, 1, (5, 3), want)?);
     }
-    assert_eq!(rt;
-        drawn(rt.alloc(), &[s.a, s.d], 2, (2, 1))?.as_slice(),
-        b"__/".as_slice()
-    );
+    assert!(rt; is_drawn(rt.alloc(), &[s.a, s.d], 2, (2, 1), b"__/")?);
     Ok(())
 }
 
@@ -57,10 +51,7 @@ fn the_latest_word_decides(rt: HostRuntime) -> Result<(), Fail> {
         (&[s.a, s.x, same][..], none),
         (&[same, s.a, s.x][..], none),
     ] {
-        assert_eq!(rt;
-            drawn(rt.alloc(), list, 1, (5, 3))?.as_slice(),
-            want.as_slice()
-        );
+        assert!(rt; is_drawn(rt.alloc(), list, 1, (5, 3), want)?);
     }
     Ok(())
 }
@@ -70,9 +61,8 @@ fn all_orders_of_four_end_alike(rt: HostRuntime) -> Result<(), Fail> {
     let s = make_samples()?;
     for number in 0..24 {
         let list = in_order([s.a, s.c, s.x, s.y], number);
-        assert_eq!(rt;
-            drawn(rt.alloc(), &list, 1, (5, 3))?.as_slice(),
-            b"_____/_____/_____/".as_slice(),
+        assert!(rt;
+            is_drawn(rt.alloc(), &list, 1, (5, 3), b"_____/_____/_____/")?,
             "order {number}"
         );
     }

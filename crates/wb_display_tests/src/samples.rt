@@ -115,35 +115,44 @@ pub(crate) fn shown_of(alloc: Global, list: &[Drawop], number: u32) -> Result<Ve
     Ok(order(alloc, list, page(number))?)
 }
 
-/// The canvas of a page of the list, with `_` for a space and `/` for a line end.
-pub(crate) fn drawn(
+/// Whether the canvas of a page of the list is this, with `_` for a space and `/` for a line end.
+pub(crate) fn is_drawn(
     alloc: Global,
     list: &[Drawop],
     number: u32,
-    (width, height): (u32, u32),
-) -> Result<Vec<u8>, Fail> {
+    size: (u32, u32),
+    want: &[u8],
+) -> Result<bool, Fail> {
     let shown = shown_of(alloc, list, number)?;
-    plain(alloc, &shown, (width, height))
+    is_plain(alloc, &shown, size, want)
 }
 
-/// The canvas of a list, with `_` for a space and `/` for a line end.
-pub(crate) fn plain(
+/// Whether the canvas of a list is this, with `_` for a space and `/` for a line end.
+pub(crate) fn is_plain(
     alloc: Global,
     shown: &[Drawop],
     (width, height): (u32, u32),
-) -> Result<Vec<u8>, Fail> {
+    want: &[u8],
+) -> Result<bool, Fail> {
     let canvas = Canvas::paint(alloc, shown, width, height)?;
-    Ok(
-        canvas
-            .bytes()
+    Ok(spells(canvas.bytes(), want))
+}
+
+/// Whether the bytes are these, of which `_` stands for a space and `/` for a line end.
+fn spells(bytes: &[u8], want: &[u8]) -> bool {
+    bytes.len() == want.len()
+        && bytes
             .iter()
-            .map(|byte| match *byte {
-                b' ' => b'_',
-                b'\n' => b'/',
-                other => other,
-            })
-            .collect(alloc)?,
-    )
+            .zip(want)
+            .all(|(byte, want)| *byte == meant(*want))
+}
+
+fn meant(byte: u8) -> u8 {
+    match byte {
+        b'_' => b' ',
+        b'/' => b'\n',
+        other => other,
+    }
 }
 
 /// The four drawops in the order of this number, of 24.
