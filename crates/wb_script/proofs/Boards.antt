@@ -1,5 +1,5 @@
 -- What the desk that owns all rows of a board is answered: p is the desk before the call, q the desk after it.
-use Rattle.std.proofs.Common.{◌≡◌, ℕ, ◌+◌, ◌<◌, ◌≤◌, List, [], ◌∷◌, length, take, sym, ap, ◌∙◌, subst, arith}
+use Rattle.std.proofs.Common.{◌≡◌, ℕ, ◌+◌, ◌<◌, ◌≤◌, List, [], ◌∷◌, length, take, sym, ap, ◌∙◌, subst, arith, ◌⊎◌, inl, inr}
 use Rattle.std.specs.Prelude.{Some, None, Result, Ok, Err, IfOk}
 use Rattle.std.proofs.lemmas.List.{length-append, take-append-le, take_all}
 use Rattle.wb_names.specs.Values.{DrawopValue, MarkValue}
@@ -89,7 +89,7 @@ read_on b p q owns r = kept b p q owns r.same r.sound r.nothing.0
 seen_is : (b : HistoryValue) (p q : PassValue) (h : Held) → held_of p ≡ h → OwnsAll b p → ReadsOn p q → q.seen ≡ h.drawops
 seen_is b p q h view owns r = r.nothing.1 owns.whole ∙ ap (λ (k : Held). k.drawops) view
 
-few_seen : (q : PassValue) → IsSound q → length q.seen ≤ 65535
+pub few_seen : (q : PassValue) → IsSound q → length q.seen ≤ 65535
 few_seen q sound = let room = sound.room in let few = sound.few_cells in omega arith
 
 -- the answers of a board whose desk owns all rows
@@ -109,3 +109,16 @@ pages_here b p q h pages view owns r answer = only_pages q.seen pages answer ∙
 pub if_ok : {X E : Type 0} (P Q : X → Type 0) → ((x : X) → P x → Q x) → (r : Result X E) → IfOk r P → IfOk r Q
 if_ok P Q then (Ok x) p = then x p
 if_ok P Q then (Err e) p = tt
+
+-- a call that read on, or was refused before
+pub owns_still : (b : HistoryValue) (p q : PassValue) → OwnsAll b p → (q ≡ p) ⊎ ReadsOn p q → OwnsAll b q
+owns_still b p q owns (inl e) = subst (OwnsAll b) (sym e) owns
+owns_still b p q owns (inr r) = read_on b p q owns r
+
+pub same_still : (b : HistoryValue) (p q : PassValue) (h : Held) → held_of p ≡ h → OwnsAll b p → (q ≡ p) ⊎ ReadsOn p q → held_of q ≡ h
+same_still b p q h view owns (inl e) = ap held_of e ∙ view
+same_still b p q h view owns (inr r) =
+    ap (λ (n : ℕ). let k : Held = record { cells = n; drawops = q.seen } in k) r.same.1 ∙ ap (λ (ds : List DrawopValue). let k : Held = record { cells = p.cells; drawops = ds } in k) (r.nothing.1 owns.whole) ∙ view
+
+pub seen_still : (b : HistoryValue) (p q : PassValue) (h : Held) → held_of p ≡ h → OwnsAll b p → (q ≡ p) ⊎ ReadsOn p q → q.seen ≡ h.drawops
+seen_still b p q h view owns r = ap (λ (k : Held). k.drawops) (same_still b p q h view owns r)

@@ -1,6 +1,6 @@
 -- What a script shows at its end is the canvas of all its arrivals.
-use Rattle.std.proofs.Common.{◌≡◌, ℕ, ◌+◌, Bool, true, false, List, [], ◌∷◌, ◌++◌, Result, Ok, Err, refl, sym, ap, ◌∙◌, subst, append_assoc}
-use Rattle.std.specs.Prelude.{Option, Some, None, IsPermutation}
+use Rattle.std.proofs.Common.{◌≡◌, ℕ, ◌+◌, Bool, true, false, cond, List, [], ◌∷◌, ◌++◌, length, Result, Ok, Err, refl, sym, ap, ◌∙◌, subst, append_assoc}
+use Rattle.std.specs.Prelude.{Option, Some, None, IsPermutation, nat_lt, ◌||◌}
 use Rattle.std.specs.Str.Lines.{strip_carriage_return}
 use Rattle.std.proofs.lemmas.List.{append-nil}
 use Rattle.std.proofs.lemmas.List.Sorted.{IsPermutation-refl}
@@ -16,9 +16,12 @@ use Rattle.wb_script.specs.declared.fault.RunFault.TheVariants as run_faults
 use Rattle.wb_script.specs.declared.line.Line.{Line}
 use Rattle.wb_script.specs.declared.line.Line.TheVariants.{Skip, Board, Arrive, Hear, Distance, Tick, Look, Session, Show, Gaps, Report, Pages}
 use Rattle.wb_script.specs.declared.summary.Summary.{Summary}
-use Rattle.wb_host.specs.Keeper.{SetDelay}
+use Rattle.wb_host.specs.Keeper.{SetDelay, Hear, Miss, GoOn, is_own}
+use Rattle.wb_host.specs.Hearing.{marks_heard, has_room, asks_for_held}
+use Rattle.wb_script.specs.Random.{words_of}
+use Rattle.wb_script.specs.SentLines.{sends_text}
 use Rattle.wb_script.specs.Board.{Held}
-use Rattle.wb_script.specs.Hosts.{Opened, opened, board_after, host_after, batch_text, calling, Act, does, fails, act}
+use Rattle.wb_script.specs.Hosts.{Opened, opened, present, board_after, host_after, batch_text, calling, Act, does, fails, due_count, stopped, sent_by, wanted_of, answers_to, words_for, word_at, act}
 use Rattle.wb_script.specs.Laws.{NoneClash, HasCells}
 use Rattle.wb_script.specs.Parsing.{line_of}
 use Rattle.wb_script.specs.Queries.{view_of}
@@ -67,10 +70,16 @@ act_board (Show page width height) host next printed e = ap (λ (h : Opened). h.
 act_board (Gaps page) host next printed e = ap (λ (h : Opened). h.board) (sym (same_host host next _ printed e))
 act_board (Report page) host next printed e = ap (λ (h : Opened). h.board) (sym (same_host host next _ printed e))
 act_board Pages host next printed e = ap (λ (h : Opened). h.board) (sym (same_host host next _ printed e))
-act_board (Hear v) host next printed e = absurd cc
+act_board (Hear v) host next printed e = at (is_own host.me v || has_room (marks_heard host.me host.calls) v) e where
+  at : (room : Bool) → cond room (does (calling (Hear (present host) v (word_at v host.random) (asks_for_held host.board.drawops v)) (words_for v) host) (sends_text (answers_to v host))) (fails faults.TooMany) ≡ does next printed → next.board ≡ host.board
+  at true f = ap (λ (h : Opened). h.board) (sym (same_host (calling (Hear (present host) v (word_at v host.random) (asks_for_held host.board.drawops v)) (words_for v) host) next _ printed f))
+  at false f = absurd cc
 act_board (Distance source micros) host next printed e = ap (λ (h : Opened). h.board) (sym (same_host (calling (SetDelay source micros) 0 host) next _ printed e))
-act_board (Tick moment) host next printed e = absurd cc
-act_board (Look page) host next printed e = absurd cc
+act_board (Tick moment) host next printed e = at (nat_lt moment (present host)) e where
+  at : (early : Bool) → cond early (fails faults.BackInTime) (does (calling (GoOn moment (words_of host.random (due_count moment host)) (stopped host)) (due_count moment host) host) (sends_text (sent_by moment host))) ≡ does next printed → next.board ≡ host.board
+  at true f = absurd cc
+  at false f = ap (λ (h : Opened). h.board) (sym (same_host (calling (GoOn moment (words_of host.random (due_count moment host)) (stopped host)) (due_count moment host) host) next _ printed f))
+act_board (Look page) host next printed e = ap (λ (h : Opened). h.board) (sym (same_host (calling (Miss (present host) (wanted_of page host) (words_of host.random (length (wanted_of page host)))) (length (wanted_of page host)) host) next _ printed e))
 act_board (Session page) host next printed e = absurd cc
 
 -- the same board, once a batch was taken

@@ -15,6 +15,8 @@ pub mod MissingRanges
 pub mod FreeAnswers
 pub mod FreeArrivals
 pub mod Steps
+pub mod Acts
+pub mod HeardActs
 pub mod LineCounts
 pub mod CountLaws
 pub mod BatchLaws

@@ -1,10 +1,18 @@
 -- A host that is open, and what the lines of a script do to it.
-use Rattle.std.specs.Prelude.{ℕ, List, [], ◌∷◌, map, filter}
+use Rattle.std.specs.Prelude.{ℕ, List, [], ◌∷◌, length, map, filter, nat_lt, ◌||◌, if◌then◌else◌}
 use Rattle.wb_names.specs.Values.{NameValue, DrawopValue}
 use Rattle.wb_names.specs.Arrivals.{outcomes_of, counts_of, history_after}
 use Rattle.wb_recovery.specs.declared.tuning.Tuning.{Tuning}
+use Rattle.wb_names.specs.declared.name.PageId.{PageId}
+use Rattle.wb_codec.specs.declared.datagram.Datagram.{Datagram}
+use Rattle.wb_codec.specs.declared.datagram.Datagram.TheVariants.{Draw, Session, Request, AskPages, PageState}
+use Rattle.wb_recovery.specs.Events.{Event, asking, due_asks, actions_of, timers_of, names_of as timed_names}
+use Rattle.wb_recovery.specs.Stopping.{gots}
 use Rattle.rand_pcg.specs.Lcg.{Lcg}
-use Rattle.wb_host.specs.Keeper.{KeeperCall, SetDelay, Arrive, moment_at, holds}
+use Rattle.wb_host.specs.Keeper.{KeeperCall, SetDelay, Hear, Arrive, Miss, GoOn, moment_at, is_own, delay_to, come_of, events_of, holds}
+use Rattle.wb_host.specs.Hearing.{marks_heard, has_room, asks_for_held, asks_for_pages}
+use Rattle.wb_host.specs.Missing.{wanted, names_in_gaps}
+use Rattle.wb_host.specs.Ticks.{sends_for, stopped_after}
 use Rattle.wb_script.specs.declared.fault.LineFault.{LineFault}
 use Rattle.wb_script.specs.declared.fault.LineFault.TheVariants as faults
 use Rattle.wb_script.specs.declared.line.Line.{Line}
@@ -12,7 +20,9 @@ use Rattle.wb_script.specs.declared.line.Line.TheVariants as lines
 use Rattle.wb_script.specs.declared.query.Query.{Query}
 use Rattle.wb_script.specs.declared.query.Query.TheVariants as queries
 use Rattle.wb_script.specs.Board.{Held}
-use Rattle.wb_script.specs.Random.{started, after_words}
+use Rattle.wb_script.specs.Random.{started, word_of, words_of, after_words}
+use Rattle.wb_script.specs.SentLines.{sends_text, look_line}
+use Rattle.wb_script.specs.Queries.{gaps_of, report_of, pages_of}
 use Rattle.wb_script.specs.Answers.{batch_line, answer_text}
 
 -- the number of its member, its board, the calls that its keeper accepted, the newest first, and the generator of its random words
@@ -69,6 +79,68 @@ calling call words host = record { me = host.me; board = host.board; calls = cal
 abbrev pub asked : Query → Opened → Act
 asked query host = does host (answer_text host.board.drawops query)
 
+-- ---- what it sends, asks for and hears
+
+-- the calls of its timers
+abbrev pub events : Opened → List Event
+events host = events_of host.me host.calls
+
+-- how many of its request timers are due at a moment
+abbrev pub due_count : ℕ → Opened → ℕ
+due_count now host = length (due_asks (timed_names (events host)) (timers_of constants (events host)) now)
+
+-- the names with a request timer that are held
+abbrev pub stopped : Opened → List NameValue
+stopped host = stopped_after host.me constants host.calls host.board.drawops
+
+-- what it sends as time goes on to a moment
+abbrev pub sent_by : ℕ → Opened → List Datagram
+sent_by now host = sends_for host.me host.board.drawops (actions_of constants (gots now (events host) (come_of (delay_to host.me host.calls) (stopped host))) now)
+
+-- Time goes on to a moment. A random word is drawn for each request timer that is due.
+abbrev pub ticked : ℕ → Opened → Act
+ticked now host =
+    if nat_lt now (present host) then fails faults.BackInTime
+    else does (calling (GoOn now (words_of host.random (due_count now host)) (stopped host)) (due_count now host) host) (sends_text (sent_by now host))
+
+-- the names that it wants of a page
+abbrev pub wanted_of : PageId → Opened → List NameValue
+wanted_of page host = wanted (timers_of constants (events host)) (length (asking (timed_names (events host)) (timers_of constants (events host)))) (names_in_gaps page (gaps_of host.board.drawops page (marks_heard host.me host.calls page)))
+
+-- It begins to miss them, with a random word for each.
+abbrev pub looked : PageId → Opened → Act
+looked page host = does (calling (Miss (present host) (wanted_of page host) (words_of host.random (length (wanted_of page host)))) (length (wanted_of page host)) host) (look_line (length (wanted_of page host)))
+
+-- a page state for each page, ascending, with its report
+abbrev pub page_states : Opened → List Datagram
+page_states host = map (λ page. PageState host.me page (report_of host.board.drawops page)) (pages_of host.board.drawops)
+
+-- what it sends at once for a datagram
+abbrev pub answers_to : Datagram → Opened → List Datagram
+answers_to v host = if asks_for_pages host.me v then page_states host else []
+
+-- A request draws a random word, and no other datagram does.
+abbrev pub words_for : Datagram → ℕ
+words_for (Request asker name) = 1
+words_for (Draw d) = 0
+words_for (Session sender sent page marks echoes) = 0
+words_for (AskPages asker) = 0
+words_for (PageState sender page marks) = 0
+
+abbrev pub word_at : Datagram → Lcg → ℕ
+word_at (Request asker name) random = word_of random
+word_at (Draw d) random = 0
+word_at (Session sender sent page marks echoes) random = 0
+word_at (AskPages asker) random = 0
+word_at (PageState sender page marks) random = 0
+
+-- A datagram is heard, unless the marks of its page would be too many.
+abbrev pub heard : Datagram → Opened → Act
+heard v host =
+    if is_own host.me v || has_room (marks_heard host.me host.calls) v
+    then does (calling (Hear (present host) v (word_at v host.random) (asks_for_held host.board.drawops v)) (words_for v) host) (sends_text (answers_to v host))
+    else fails faults.TooMany
+
 -- The lines that a script may have and that are not run yet are refused as unknown words are. A line that is skipped, that
 -- opens a board or that hands in an arrival does nothing here.
 abbrev pub act : Line → Opened → Act
@@ -76,10 +148,10 @@ act (lines.Show page width height) host = asked (queries.Canvas page width heigh
 act (lines.Gaps page) host = asked (queries.Gaps page) host
 act (lines.Report page) host = asked (queries.Report page) host
 act lines.Pages host = asked queries.Pages host
-act (lines.Hear v) host = fails faults.Unknown
+act (lines.Hear v) host = heard v host
 act (lines.Distance source micros) host = does (calling (SetDelay source micros) 0 host) []
-act (lines.Tick moment) host = fails faults.Unknown
-act (lines.Look page) host = fails faults.Unknown
+act (lines.Tick moment) host = ticked moment host
+act (lines.Look page) host = looked page host
 act (lines.Session page) host = fails faults.Unknown
 act lines.Skip host = does host []
 act (lines.Board member cells workers seed) host = does host []

@@ -1,8 +1,9 @@
 //! The board of a script with the keeper at it, and what lines do to them.
 ghost use Rattle.std.specs.Prelude.{◌≡◌, ◌≢◌, ◌<◌, ◌≤◌, ◌^◌, ◌++◌, List, [], ℕ, length, Err, IfOk};
 ghost use Rattle.wb_script.specs.Answers.{IsAnswerable};
-ghost use Rattle.wb_script.specs.Hosts.{Opened, opened, names_of, asked, act};
+ghost use Rattle.wb_script.specs.Hosts.{Opened, opened, names_of, asked, ticked, looked, words_for, word_at, heard, act};
 ghost use Rattle.wb_script.specs.Parsing.{IsWithin};
+ghost use Rattle.wb_script.specs.Random.{after_words};
 ghost use Rattle.wb_script.specs.Stations.{IsOpenAt, TakesBatch, DoesAct};
 
 use crate::answers::{batch_line, print};
@@ -12,11 +13,13 @@ use crate::line::Line;
 use crate::output::Output;
 use crate::query::Query;
 use crate::random::RandomWords;
+use crate::sent_lines::{look_line, print_sends};
 use crate::whiteboard::Whiteboard;
 use std::alloc::{AllocError, Global};
 use std::marker::Model;
+use wb_codec::Datagram;
 use wb_host::{KeepFault, Keeper};
-use wb_names::{Drawop, Name};
+use wb_names::{Drawop, Name, PageId};
 use wb_recovery::Tuning;
 
 /// A board, what its member keeps of the session, and the random words that were not drawn yet.
@@ -28,6 +31,7 @@ pub struct Station {
 }
 
 impl Model for Station {
+    ghost use Rattle.wb_script.specs.Random.{after_words};
     ghost use Rattle.wb_script.specs.Stations.{StationValue};
 
     ghost Value = { StationValue };
@@ -103,6 +107,84 @@ impl Station {
         }
     }
 
+    /// Time goes on to a moment: what is sent is printed.
+    fn tick(
+        &mut self,
+        alloc: Global,
+        number: u32,
+        now: u64,
+        output: &mut Output,
+    ) -> Result<(), RunFault>
+        requires { now < 2 ^ 48 }
+        ensures text { (written : List ℕ) × (output.new ≡ output.old ++ written) × ((host : Opened) → IsOpenAt self.old host → DoesAct number host self.new written result (ticked now host)) }
+        ensures unwritten { result ≢ Err RunFault.Write }
+    {
+        if now < self.keeper.moment() {
+            return Err(RunFault::Line(number, LineFault::BackInTime));
+        }
+        let count = self.keeper.due_count(now);
+        let words = self.words.take(alloc, count)?;
+        let sent = self.board.tick(alloc, &mut self.keeper, now, &words)?;
+        print_sends(alloc, &sent, output)?;
+        Ok(())
+    }
+
+    /// Looks for what is missing of a page, and begins to miss it.
+    fn look(&mut self, alloc: Global, page: PageId, output: &mut Output) -> Result<(), RunFault>
+        ensures text { (written : List ℕ) × (output.new ≡ output.old ++ written) × ((host : Opened) → IsOpenAt self.old host → (number : ℕ) → DoesAct number host self.new written result (looked page host)) }
+        ensures unwritten { result ≢ Err RunFault.Write }
+    {
+        let names = self.board.missing(alloc, &self.keeper, page)?;
+        let words = self.words.take(alloc, names.len())?;
+        let text = look_line(alloc, names.len())?;
+        let now = self.keeper.moment();
+        match self.keeper.notice(alloc, now, &names, &words) {
+            Ok(()) => {
+                output.add(text.as_bytes())?;
+                Ok(())
+            }
+            Err(KeepFault::Memory) => Err(RunFault::Memory),
+            Err(_) => unreachable!(),
+        }
+    }
+
+    /// The random word that a datagram draws, or 0 where it draws none.
+    fn word_for(&mut self, datagram: &Datagram) -> u64
+        ensures kept { self.new ≡ record self.old { words = after_words self.old.words (words_for datagram.now) } }
+        ensures word { result ≡ word_at datagram.now self.old.words }
+    {
+        match datagram {
+            Datagram::Request { .. } => self.words.next(),
+            Datagram::Draw(_)
+            | Datagram::Session { .. }
+            | Datagram::AskPages { .. }
+            | Datagram::PageState { .. } => 0,
+        }
+    }
+
+    /// Hears a datagram at the present moment: what is sent at once is printed.
+    fn hear(
+        &mut self,
+        alloc: Global,
+        number: u32,
+        datagram: &Datagram,
+        output: &mut Output,
+    ) -> Result<(), RunFault>
+        ensures text { (written : List ℕ) × (output.new ≡ output.old ++ written) × ((host : Opened) → IsOpenAt self.old host → DoesAct number host self.new written result (heard datagram.now host)) }
+        ensures unwritten { result ≢ Err RunFault.Write }
+    {
+        let word = self.word_for(datagram);
+        match self.board.hear(alloc, &mut self.keeper, datagram, word) {
+            Ok(sent) => {
+                print_sends(alloc, &sent, output)?;
+                Ok(())
+            }
+            Err(KeepFault::TooMany) => Err(RunFault::Line(number, LineFault::TooMany)),
+            Err(KeepFault::Memory) => Err(RunFault::Memory),
+            Err(_) => unreachable!(),
+        }
+    }
+
     /// Does what the line of this number says, once its batch has ended.
     pub fn act(
         &mut self,
@@ -131,7 +213,10 @@ impl Station {
             Line::Gaps(page) => self.ask(alloc, Query::Gaps(*page), output),
             Line::Report(page) => self.ask(alloc, Query::Report(*page), output),
             Line::Pages => self.ask(alloc, Query::Pages, output),
+            Line::Hear(datagram) => self.hear(alloc, number, datagram, output),
             Line::Distance { source, micros } => self.set_delay(*source, *micros),
+            Line::Tick { moment } => self.tick(alloc, number, *moment, output),
+            Line::Look(page) => self.look(alloc, *page, output),
             Line::Skip | Line::Board { .. } | Line::Arrive(_) => Ok(()),
             _ => Err(RunFault::Line(number, LineFault::Unknown)),
         }

@@ -1,17 +1,17 @@
 //! The board of a script, with the desk that owns all of its rows.
-ghost use Rattle.std.specs.Prelude.{◌≡◌, ◌≤◌, ◌<◌, [], filter, length, true, IfOk, OnOk, OnErr};
+ghost use Rattle.std.specs.Prelude.{◌≡◌, ◌≤◌, ◌<◌, [], length, true, IfOk, OnOk, OnErr};
 ghost use Rattle.wb_names.specs.Arrivals.{history_with, outcome_of};
-ghost use Rattle.wb_host.specs.Keeper.{Arrive, holds};
-ghost use Rattle.wb_host.specs.Keeping.{Keeps};
 ghost use Rattle.wb_display.specs.Canvas.{canvas_text, is_canvas_size};
 ghost use Rattle.wb_script.specs.Queries.{view_of, gaps_of, report_of, pages_of};
 ghost use Rattle.wb_script.specs.Reply.{became};
 
+mod keeping;
+
 use std::alloc::{AllocError, Global};
 use std::marker::Model;
 use wb_display::{Canvas, CanvasFault};
-use wb_host::{Board, BoardFault, Desk, Keeper, OpenFault, Reply};
-use wb_names::{Drawop, Gap, Marks, Name, PageId};
+use wb_host::{Board, BoardFault, Desk, OpenFault, Reply};
+use wb_names::{Drawop, Gap, Marks, PageId};
 
 /// A board and the one desk that was ever made of it.
 #[derive(Drop)]
@@ -95,17 +95,6 @@ impl Whiteboard {
         ensures pages { IfOk result (λ pages. pages.items ≡ pages_of self.old.drawops) }
     {
         self.board.pages(alloc, &mut self.desk)
-    }
-
-    /// Tells a keeper at this board, at the moment of its last call, that these names arrived.
-    pub fn tell_arrived(&self, keeper: &mut Keeper, names: &[Name])
-        ensures { Keeps (Arrive keeper.old.moment (filter (holds self.now.drawops) names.now)) keeper.old keeper.new }
-    {
-        let now = keeper.moment();
-        match keeper.arrived(&self.desk, now, names) {
-            Ok(()) => {}
-            Err(_) => unreachable!(),
-        }
     }
 
     /// Accepts a drawop. No reply: it is left, since all cells are filled. Without memory nothing

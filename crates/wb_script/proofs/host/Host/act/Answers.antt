@@ -1,7 +1,15 @@
 use Rattle.std.proofs.Common.{◌∙◌, ap, ◌++◌, List, ℕ, append_assoc}
-use Rattle.wb_script.proofs.Steps.{ends_nowhere, ends_then}
+use Rattle.std.proofs.lemmas.Result.{err_from_is_err_and}
+use Rattle.wb_script.specs.Script.{after_batch, closing_text}
+use Rattle.wb_script.proofs.Steps.{acts_stopped, ends_nowhere, ends_then}
 use Rattle.wb_script.proofs.host.Host.act.Goals.{in-None, in-Some}
 use Rattle.wb_script.proofs.host.Host.act.Goals as goal
+
+pub returns-in_err-end_batch-clause-text : goal.returns-in_err-end_batch-clause-text
+returns-in_err-end_batch-clause-text c =
+    let a = c.in_err-end_batch.ensures.text in
+    let p = err_from_is_err_and c.from_residual.result c.from_residual.ensures.1 in
+    (a.0, a.1, rw (p.1, p.2) (λ s at. acts_stopped c.args.number c.end_batch.new.self (after_batch s) (closing_text s) a.0 c.args.line.now c.in_err-end_batch.field-0.0 (a.2 s at)))
 
 pub returns-clause-text : goal.returns-clause-text
 returns-clause-text c = let a = c.in_ok-end_batch.ensures.text in elim c.match-self.branch [

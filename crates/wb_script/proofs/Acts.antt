@@ -1,0 +1,88 @@
+-- What a host does and then is, from what its keeper did.
+use Rattle.std.proofs.Common.{◌≡◌, ℕ, ◌<◌, ◌≤◌, Bool, true, false, List, [], ◌∷◌, length, Result, Ok, Err, inl, inr, refl, sym, ap, subst, ◌∙◌, arith}
+use Rattle.std.specs.Prelude.{Option, Some, None, nat_le, nat_lt, ◌||◌}
+use Rattle.std.proofs.lemmas.Bool.Decides.{nat_tests}
+use Rattle.wb_names.specs.Values.{NameValue, DrawopValue}
+use Rattle.wb_names.specs.declared.gap.Gap.{Gap}
+use Rattle.wb_names.specs.declared.name.PageId.{PageId}
+use Rattle.wb_codec.specs.declared.datagram.Datagram.{Datagram}
+use Rattle.wb_recovery.specs.Events.{asking, actions_of, timers_of, names_of as timed_names}
+use Rattle.wb_recovery.specs.Stopping.{gots}
+use Rattle.rand_pcg.specs.Lcg.{Lcg}
+use Rattle.wb_host.specs.Hearing.{marks_heard}
+use Rattle.wb_host.specs.Keeper.{KeeperCall, Miss, GoOn, come_of, delay_to}
+use Rattle.wb_host.specs.Keeping.{KeeperValue, StandsFor, Keeps}
+use Rattle.wb_host.specs.Missing.{AreWanted, wanted, names_in_gaps}
+use Rattle.wb_host.specs.Ticks.{sends_for, stopped_in}
+use Rattle.wb_script.specs.declared.fault.LineFault.TheVariants as faults
+use Rattle.wb_script.specs.declared.fault.RunFault.{RunFault}
+use Rattle.wb_script.specs.declared.fault.RunFault.TheVariants as run_faults
+use Rattle.wb_script.specs.Board.{Held}
+use Rattle.wb_script.specs.Hosts.{Opened, constants, present, calling, Act, does, fails, events, due_count, stopped, sent_by, ticked, wanted_of, looked}
+use Rattle.wb_script.specs.Queries.{gaps_of}
+use Rattle.wb_script.specs.Random.{words_of, after_words}
+use Rattle.wb_script.specs.SentLines.{sends_text, look_line}
+use Rattle.wb_script.specs.Stations.{IsOpenAt, StationValue, DoesAct}
+use Rattle.wb_script.proofs.MissingRanges.{only_gaps}
+use Rattle.wb_script.proofs.Steps.{at_once}
+
+abbrev pub station : Held → KeeperValue → Lcg → StationValue
+station b k g = record { board = b; keeper = k; words = g }
+
+-- the history that a board and a host hold
+pub same_history : (b : Held) (k : KeeperValue) (g : Lcg) (host : Opened) → IsOpenAt (station b k g) host → b.drawops ≡ host.board.drawops
+same_history b k g host at = ap (λ (h : Held). h.drawops) at.board
+
+-- want of memory before anything was printed
+pub act_at_once : (number : ℕ) (host : Opened) (new : StationValue) (a : Act) → DoesAct {U = Unit {0}} number host new [] (Err run_faults.Memory) a
+act_at_once number host new (does next text) = at_once text
+act_at_once number host new (fails e) = inl (at_once [])
+
+-- a call was accepted
+pub called : (b : Held) (k k' : KeeperValue) (g g' : Lcg) (host : Opened) (call call' : KeeperCall) (count : ℕ) → IsOpenAt (station b k g) host → Keeps call k k' → call ≡ call' → g' ≡ after_words g count → IsOpenAt (station b k' g') (calling call' count host)
+called b k k' g g' host call call' count at keeps e words = record {
+  board = at.board;
+  keeper = subst (λ (c : KeeperCall). StandsFor host.me constants (c ∷ host.calls) k') e (keeps host.me constants host.calls at.keeper);
+  words = words ∙ ap (λ (x : Lcg). after_words x count) at.words;
+}
+
+-- ---- time goes on
+
+pub tick_early : (number : ℕ) (v : StationValue) (host : Opened) (now : ℕ) → IsOpenAt v host → now < v.keeper.moment → DoesAct {U = Unit {0}} number host v [] (Err (run_faults.Line number faults.BackInTime)) (ticked now host)
+tick_early number v host now at early =
+    let same = at.keeper.moment in
+    let test : nat_lt now (present host) ≡ true = grind (arith, nat_tests, same, early) in
+    rw test (inr (refl, at, refl))
+
+pub tick_done : (number : ℕ) (b : Held) (k k' : KeeperValue) (g g' : Lcg) (host : Opened) (now count : ℕ) (words text : List ℕ) (sent : List Datagram) → IsOpenAt (station b k g) host → k.moment ≤ now
+    → count ≡ due_count now host → stopped_in host.board.drawops k.recovery ≡ stopped host → words ≡ words_of g count → g' ≡ after_words g count
+    → sent ≡ sends_for host.me b.drawops (actions_of constants (gots now (events host) (come_of (delay_to host.me host.calls) (stopped_in b.drawops k.recovery))) now) → Keeps (GoOn now words (stopped_in b.drawops k.recovery)) k k' → text ≡ sends_text sent
+    → DoesAct {U = Unit {0}} number host (station b k' g') text (Ok tt) (ticked now host)
+tick_done number b k k' g g' host now count words text sent at late due stop drawn left told keeps printed =
+    let same = at.keeper.moment in
+    let test : nat_lt now (present host) ≡ false = grind (arith, nat_tests, same, late) in
+    let ds = same_history b k g host at in
+    let halted : stopped_in b.drawops k.recovery ≡ stopped host = ap (λ (l : List DrawopValue). stopped_in l k.recovery) ds ∙ stop in
+    let ws : words ≡ words_of host.random (due_count now host) = drawn ∙ ap (words_of g) due ∙ ap (λ (x : Lcg). words_of x (due_count now host)) at.words in
+    let call : GoOn now words (stopped_in b.drawops k.recovery) ≡ GoOn now (words_of host.random (due_count now host)) (stopped host) =
+    ap (λ (w : List ℕ). GoOn now w (stopped_in b.drawops k.recovery)) ws ∙ ap (GoOn now (words_of host.random (due_count now host))) halted in
+    let is : sent ≡ sent_by now host = told
+    ∙ ap (λ (l : List DrawopValue). sends_for host.me l (actions_of constants (gots now (events host) (come_of (delay_to host.me host.calls) (stopped_in b.drawops k.recovery))) now)) ds
+    ∙ ap (λ (names : List NameValue). sends_for host.me host.board.drawops (actions_of constants (gots now (events host) (come_of (delay_to host.me host.calls) names)) now)) halted in
+    rw test (called b k k' g g' host (GoOn now words (stopped_in b.drawops k.recovery)) (GoOn now (words_of host.random (due_count now host)) (stopped host)) (due_count now host) at keeps call (left ∙ ap (after_words g) due), printed ∙ ap sends_text is)
+
+-- ---- a look at a page
+
+pub look_done : (number : ℕ) (b : Held) (k k' : KeeperValue) (g g' : Lcg) (host : Opened) (page : PageId) (names : List NameValue) (words text : List ℕ) (now : ℕ) → IsOpenAt (station b k g) host
+    → AreWanted constants (events host) b.drawops page (marks_heard host.me host.calls page) names → words ≡ words_of g (length names) → g' ≡ after_words g (length names) → now ≡ k.moment → Keeps (Miss now names words) k k' → text ≡ look_line (length names)
+    → DoesAct {U = Unit {0}} number host (station b k' g') text (Ok tt) (looked page host)
+look_done number b k k' g g' host page names words text now at (gaps, are, is) drawn left moment keeps printed =
+    let ds = same_history b k g host at in
+    let want : names ≡ wanted_of page host = is
+    ∙ ap (λ (gs : List Gap). wanted (timers_of constants (events host)) (length (asking (timed_names (events host)) (timers_of constants (events host)))) (names_in_gaps page gs))
+    (only_gaps b.drawops page (marks_heard host.me host.calls page) gaps are ∙ ap (λ (l : List DrawopValue). gaps_of l page (marks_heard host.me host.calls page)) ds) in
+    let count : length names ≡ length (wanted_of page host) = ap (λ (l : List NameValue). length l) want in
+    let ws : words ≡ words_of host.random (length (wanted_of page host)) = drawn ∙ ap (words_of g) count ∙ ap (λ (x : Lcg). words_of x (length (wanted_of page host))) at.words in
+    let call : Miss now names words ≡ Miss (present host) (wanted_of page host) (words_of host.random (length (wanted_of page host))) =
+    ap (λ (m : ℕ). Miss m names words) (moment ∙ at.keeper.moment) ∙ ap (λ (l : List NameValue). Miss (present host) l words) want ∙ ap (Miss (present host) (wanted_of page host)) ws in
+    (called b k k' g g' host (Miss now names words) (Miss (present host) (wanted_of page host) (words_of host.random (length (wanted_of page host)))) (length (wanted_of page host)) at keeps call (left ∙ ap (after_words g) count), printed ∙ ap look_line count)

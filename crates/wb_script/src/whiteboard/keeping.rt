@@ -1,0 +1,91 @@
+//! What a keeper does at the board of a script. Nobody else adds to it, so it stays as it is.
+ghost use Rattle.std.specs.Prelude.{◌≡◌, ◌<◌, ◌≤◌, ◌^◌, ℕ, List, filter, length, IfOk, OnOk, OnErr};
+ghost use Rattle.wb_recovery.specs.Events.{actions_of, due_asks};
+ghost use Rattle.wb_recovery.specs.Stopping.{gots};
+ghost use Rattle.wb_recovery.specs.Values.{timers_in, names_in};
+ghost use Rattle.wb_recovery.specs.declared.tuning.Tuning.{Tuning as Constants};
+ghost use Rattle.wb_host.specs.Hearing.{IsSent, asks_for_held, hear_fault, marks_heard};
+ghost use Rattle.wb_host.specs.Keeper.{KeeperCall, Arrive, GoOn, Hear, come_of, delay_to, events_of, holds};
+ghost use Rattle.wb_host.specs.Keeping.{Keeps, StandsFor, marks_at};
+ghost use Rattle.wb_host.specs.KeepFaults.{IsKeptBy};
+ghost use Rattle.wb_host.specs.Missing.{AreWanted};
+ghost use Rattle.wb_host.specs.Ticks.{sends_for, stopped_in};
+
+use crate::whiteboard::Whiteboard;
+use std::alloc::{AllocError, Global};
+use wb_codec::Datagram;
+use wb_host::{KeepFault, Keeper};
+use wb_names::{Name, PageId};
+
+impl Whiteboard {
+    /// Tells a keeper at this board, at the moment of its last call, that these names arrived.
+    pub fn tell_arrived(&self, keeper: &mut Keeper, names: &[Name])
+        ensures { Keeps (Arrive keeper.old.moment (filter (holds self.now.drawops) names.now)) keeper.old keeper.new }
+    {
+        let now = keeper.moment();
+        match keeper.arrived(&self.desk, now, names) {
+            Ok(()) => {}
+            Err(_) => unreachable!(),
+        }
+    }
+
+    /// Time goes on to a moment for a keeper at this board: what is to be sent.
+    pub fn tick(
+        &mut self,
+        alloc: Global,
+        keeper: &mut Keeper,
+        now: u64,
+        words: &[u64],
+    ) -> Result<Vec<Datagram>, AllocError>
+        requires after { keeper.old.moment ≤ now }
+        requires moment { now < 2 ^ 48 }
+        requires words { length (due_asks (names_in keeper.old.recovery) (timers_in keeper.old.recovery) now) ≤ length words.now }
+        ensures same { self.new ≡ self.old }
+        ensures sent { IfOk result (λ sent. (me : ℕ) (constants : Constants) (calls : List KeeperCall) → StandsFor me constants calls keeper.old → sent.items ≡ sends_for me self.old.drawops (actions_of constants (gots now (events_of me calls) (come_of (delay_to me calls) (stopped_in self.old.drawops keeper.old.recovery))) now)) }
+        ensures ok { OnOk result (Keeps (GoOn now words.now (stopped_in self.old.drawops keeper.old.recovery)) keeper.old keeper.new) }
+    {
+        match keeper.tick(alloc, &self.board, &mut self.desk, now, words) {
+            Ok(sent) => Ok(sent),
+            Err(KeepFault::Memory) => Err(AllocError),
+            Err(_) => unreachable!(),
+        }
+    }
+
+    /// The names of a page that a keeper at this board wants.
+    pub fn missing(
+        &mut self,
+        alloc: Global,
+        keeper: &Keeper,
+        page: PageId,
+    ) -> Result<Vec<Name>, AllocError>
+        ensures same { self.new ≡ self.old }
+        ensures wanted { IfOk result (λ names. (me : ℕ) (constants : Constants) (calls : List KeeperCall) → StandsFor me constants calls keeper.now → AreWanted constants (events_of me calls) self.old.drawops page (marks_heard me calls page) names.items) }
+    {
+        match keeper.missing(alloc, &self.board, &mut self.desk, page) {
+            Ok(names) => Ok(names),
+            Err(KeepFault::Memory) => Err(AllocError),
+            Err(_) => unreachable!(),
+        }
+    }
+
+    /// A keeper at this board hears a datagram, at the moment of its last call: what is to be sent at
+    /// once. Refused with `TooMany` or `Memory`.
+    pub fn hear(
+        &mut self,
+        alloc: Global,
+        keeper: &mut Keeper,
+        datagram: &Datagram,
+        word: u64,
+    ) -> Result<Vec<Datagram>, KeepFault>
+        ensures same { self.new ≡ self.old }
+        ensures fault { IsKeptBy (hear_fault keeper.old.me keeper.old.moment (marks_at keeper.old.marks) keeper.old.moment datagram.now) result }
+        ensures sent { IfOk result (λ sent. IsSent keeper.old.me self.old.drawops datagram.now sent.items) }
+        ensures ok { OnOk result (Keeps (Hear keeper.old.moment datagram.now word (asks_for_held self.old.drawops datagram.now)) keeper.old keeper.new) }
+        ensures err { OnErr result (keeper.new ≡ keeper.old) }
+        ensures range { keeper.old.moment < 2 ^ 48 }
+        ensures few { length self.old.drawops ≤ 65535 }
+    {
+        let now = keeper.moment();
+        keeper.hear(alloc, &self.board, &mut self.desk, now, datagram, word)
+    }
+}
