@@ -2,6 +2,7 @@ pub mod PageOrder
 pub mod HeldNumbers
 pub mod GreatestNumbers
 pub mod Reports
+pub mod WordOrder
 pub mod MarkFaults
 pub mod JoinedMarks
 pub mod OneGaps

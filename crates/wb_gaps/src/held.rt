@@ -1,16 +1,39 @@
 //! The sequence numbers that a page holds.
 
-ghost use Rattle.std.specs.Prelude.{◌≤◌, All, IfOk, length};
-ghost use Rattle.wb_gaps.specs.Numbers.{AreNumbers};
+ghost use Rattle.std.specs.Prelude.{◌≡◌, ◌+◌, ◌*◌, ◌<◌, ◌≤◌, All, IfOk, length};
+ghost use Rattle.wb_gaps.specs.Numbers.{AreNumbers, number_cmp};
 
 use std::alloc::{AllocError, Global};
+use std::cmp::Ordering;
 use wb_names::{Drawop, PageId};
 
 /// A number that a source has used on some page. Numbers are ordered by source, then by number.
-#[derive(Clone, Copy, PartialEq, Eq, PartialOrd, Ord)]
+#[derive(Clone, Copy, PartialEq, Eq)]
 pub(crate) struct Number {
     pub(crate) source: u32,
     pub(crate) seq: u32,
+}
+
+/// How many sequence numbers there are, with 0.
+const SPAN: u64 = 1 << 32;
+
+impl Number {
+    /// Source and number in one word, which compares in one step.
+    #[inline(always)]
+    fn word(&self) -> u64
+        ensures value { result ≡ self.now.source * 4294967296 + self.now.seq }
+        ensures low { self.now.seq < 4294967296 }
+    {
+        u64::from(self.source) * SPAN + u64::from(self.seq)
+    }
+
+    /// The order of numbers, which is that of their words.
+    #[inline(always)]
+    fn order(&self, other: &Number) -> Ordering
+        ensures { result ≡ number_cmp self.now other.now }
+    {
+        self.word().cmp(&other.word())
+    }
 }
 
 /// The numbers of the drawops on a page, ascending by source and number, each once.
@@ -33,7 +56,7 @@ pub(crate) fn numbers(
             })?;
         }
     }
-    held.sort_unstable();
+    held.sort_unstable_by(|one, other| one.order(other));
     held.dedup();
     Ok(held)
 }
