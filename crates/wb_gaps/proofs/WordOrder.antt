@@ -1,4 +1,4 @@
--- Numbers in one word, the source above: the order of the words is that of the sources, then of the numbers.
+-- Two numbers in one word, the first above: the order of the words is that of the first numbers, then of the second.
 use Rattle.std.proofs.Common.{◌≡◌, ℕ, ◌+◌, ◌*◌, ◌<◌, ◌≤◌, ⊎_elim, arith}
 use Rattle.std.proofs.lemmas.Bool.{cases_lt}
 use Rattle.std.proofs.lemmas.Bool.Decides.{nat_tests}

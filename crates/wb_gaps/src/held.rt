@@ -14,8 +14,8 @@ pub(crate) struct Number {
     pub(crate) seq: u32,
 }
 
-/// How many sequence numbers there are, with 0.
-const SPAN: u64 = 1 << 32;
+/// How many numbers of 32 bits there are.
+pub(crate) const SPAN: u64 = 1 << 32;
 
 impl Number {
     /// Source and number in one word, which compares in one step.
