@@ -1,6 +1,7 @@
 pub mod Digits
 pub mod DigitPairs
 pub mod WordEnds
+pub mod FirstWords
 pub mod Arrivals
 pub mod KnownBytes
 pub mod LineBytes

@@ -65,12 +65,8 @@ fn four_words(rest: &[u8]) -> Option<(&[u8], &[u8], &[u8], &[u8])>
 {
     let (first, rest) = next_word(rest)?;
     let (second, rest) = next_word(rest)?;
-    let (third, rest) = next_word(rest)?;
-    let (fourth, rest) = next_word(rest)?;
-    match next_word(rest) {
-        Some(_) => None,
-        None => Some((first, second, third, fourth)),
-    }
+    let (third, fourth) = two_words(rest)?;
+    Some((first, second, third, fourth))
 }
 
 fn number_word(word: &[u8], low: u64, high: u64) -> Result<u64, LineFault>
