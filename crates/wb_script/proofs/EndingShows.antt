@@ -16,7 +16,7 @@ use Rattle.wb_script.specs.declared.fault.RunFault.TheVariants as run_faults
 use Rattle.wb_script.specs.declared.line.Line.{Line}
 use Rattle.wb_script.specs.declared.line.Line.TheVariants.{Skip, Board, Arrive, Hear, Distance, Tick, Look, Session, Show, Gaps, Report, Pages}
 use Rattle.wb_script.specs.declared.summary.Summary.{Summary}
-use Rattle.wb_host.specs.Keeper.{SetDelay, Hear, Miss, GoOn, is_own}
+use Rattle.wb_host.specs.Keeper.{SetDelay, Hear, Miss, GoOn, Report as Reported, is_own}
 use Rattle.wb_host.specs.Hearing.{marks_heard, has_room, asks_for_held}
 use Rattle.wb_script.specs.Random.{words_of}
 use Rattle.wb_script.specs.SentLines.{sends_text}
@@ -80,7 +80,7 @@ act_board (Tick moment) host next printed e = at (nat_lt moment (present host)) 
   at true f = absurd cc
   at false f = ap (λ (h : Opened). h.board) (sym (same_host (calling (GoOn moment (words_of host.random (due_count moment host)) (stopped host)) (due_count moment host) host) next _ printed f))
 act_board (Look page) host next printed e = ap (λ (h : Opened). h.board) (sym (same_host (calling (Miss (present host) (wanted_of page host) (words_of host.random (length (wanted_of page host)))) (length (wanted_of page host)) host) next _ printed e))
-act_board (Session page) host next printed e = absurd cc
+act_board (Session page) host next printed e = ap (λ (h : Opened). h.board) (sym (same_host (calling (Reported (present host)) 0 host) next _ printed e))
 
 -- the same board, once a batch was taken
 act_kept : (first host : Opened) (waiting ds : List DrawopValue) (line : Line) (text : List ℕ) (t : State) (y : List ℕ) → arrived_by (Ok line) ≡ [] → ((later : ℕ) → cells_by (Ok line) later ≡ later) → Leads (Some first) waiting ds → host.board ≡ board_after first.board waiting

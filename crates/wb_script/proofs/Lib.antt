@@ -18,6 +18,7 @@ pub mod FreeArrivals
 pub mod Steps
 pub mod Acts
 pub mod HeardActs
+pub mod Echoed
 pub mod LineCounts
 pub mod CountLaws
 pub mod BatchLaws

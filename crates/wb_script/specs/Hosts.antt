@@ -1,17 +1,21 @@
 -- A host that is open, and what the lines of a script do to it.
-use Rattle.std.specs.Prelude.{ℕ, List, [], ◌∷◌, length, map, filter, nat_lt, ◌||◌, if◌then◌else◌}
+use Rattle.std.specs.Prelude.{ℕ, List, [], ◌∷◌, length, map, filter, nat_lt, ◌||◌, ◌-◌, Option, if◌then◌else◌}
+use Rattle.std.specs.List.{filter_map}
+use Rattle.std.specs.Option.{option_map}
 use Rattle.wb_names.specs.Values.{NameValue, DrawopValue}
 use Rattle.wb_names.specs.Arrivals.{outcomes_of, counts_of, history_after}
 use Rattle.wb_recovery.specs.declared.tuning.Tuning.{Tuning}
 use Rattle.wb_names.specs.declared.name.PageId.{PageId}
+use Rattle.wb_names.specs.declared.echo.Echo.{Echo}
 use Rattle.wb_codec.specs.declared.datagram.Datagram.{Datagram}
 use Rattle.wb_codec.specs.declared.datagram.Datagram.TheVariants.{Draw, Session, Request, AskPages, PageState}
 use Rattle.wb_recovery.specs.Events.{Event, asking, due_asks, actions_of, timers_of, names_of as timed_names}
 use Rattle.wb_recovery.specs.Stopping.{gots}
 use Rattle.rand_pcg.specs.Lcg.{Lcg}
-use Rattle.wb_host.specs.Keeper.{KeeperCall, SetDelay, Hear, Arrive, Miss, GoOn, moment_at, is_own, delay_to, come_of, events_of, holds}
+use Rattle.wb_host.specs.Keeper.{KeeperCall, SetDelay, Hear, Arrive, Miss, GoOn, moment_at, Report, is_own, delay_to, senders_of, last_heard, come_of, events_of, holds}
 use Rattle.wb_host.specs.Hearing.{marks_heard, has_room, asks_for_held, asks_for_pages}
 use Rattle.wb_host.specs.Missing.{wanted, names_in_gaps}
+use Rattle.wb_host.specs.Sessions.{echo_cmp}
 use Rattle.wb_host.specs.Ticks.{sends_for, stopped_after}
 use Rattle.wb_script.specs.declared.fault.LineFault.{LineFault}
 use Rattle.wb_script.specs.declared.fault.LineFault.TheVariants as faults
@@ -22,7 +26,7 @@ use Rattle.wb_script.specs.declared.query.Query.TheVariants as queries
 use Rattle.wb_script.specs.Board.{Held}
 use Rattle.wb_script.specs.Random.{started, word_of, words_of, after_words}
 use Rattle.wb_script.specs.SentLines.{sends_text, look_line}
-use Rattle.wb_script.specs.Queries.{gaps_of, report_of, pages_of}
+use Rattle.wb_script.specs.Queries.{sorted, gaps_of, report_of, pages_of}
 use Rattle.wb_script.specs.Answers.{batch_line, answer_text}
 
 -- the number of its member, its board, the calls that its keeper accepted, the newest first, and the generator of its random words
@@ -141,8 +145,22 @@ heard v host =
     then does (calling (Hear (present host) v (word_at v host.random) (asks_for_held host.board.drawops v)) (words_for v) host) (sends_text (answers_to v host))
     else fails faults.TooMany
 
--- The lines that a script may have and that are not run yet are refused as unknown words are. A line that is skipped, that
--- opens a board or that hands in an arrival does nothing here.
+-- what it tells a sender that it remembers: the moment that its last session message named, and how long ago that was heard
+abbrev pub echo_to : ℕ → List KeeperCall → ℕ → ℕ → Option Echo
+echo_to me calls now source = option_map (λ h. record { source = source; sent = h.sent; held = now - h.at }) (last_heard me calls source)
+
+-- an echo to each of them, ascending
+abbrev pub echoes_of : ℕ → List KeeperCall → ℕ → List Echo
+echoes_of me calls now = sorted echo_cmp (filter_map (echo_to me calls now) (senders_of me calls))
+
+-- its session message of a page
+abbrev pub message_of : PageId → Opened → Datagram
+message_of page host = Session host.me (present host) page (report_of host.board.drawops page) (echoes_of host.me host.calls (present host))
+
+abbrev pub reported : PageId → Opened → Act
+reported page host = does (calling (Report (present host)) 0 host) (sends_text (message_of page host ∷ []))
+
+-- What a line does here. One that is skipped, that opens a board or that hands in an arrival does nothing here.
 abbrev pub act : Line → Opened → Act
 act (lines.Show page width height) host = asked (queries.Canvas page width height) host
 act (lines.Gaps page) host = asked (queries.Gaps page) host
@@ -152,7 +170,7 @@ act (lines.Hear v) host = heard v host
 act (lines.Distance source micros) host = does (calling (SetDelay source micros) 0 host) []
 act (lines.Tick moment) host = ticked moment host
 act (lines.Look page) host = looked page host
-act (lines.Session page) host = fails faults.Unknown
+act (lines.Session page) host = reported page host
 act lines.Skip host = does host []
 act (lines.Board member cells workers seed) host = does host []
 act (lines.Arrive d) host = does host []

@@ -1,7 +1,7 @@
 //! The board of a script with the keeper at it, and what lines do to them.
 ghost use Rattle.std.specs.Prelude.{◌≡◌, ◌≢◌, ◌<◌, ◌≤◌, ◌^◌, ◌++◌, List, [], ℕ, length, Err, IfOk};
 ghost use Rattle.wb_script.specs.Answers.{IsAnswerable};
-ghost use Rattle.wb_script.specs.Hosts.{Opened, opened, names_of, asked, ticked, looked, words_for, word_at, heard, act};
+ghost use Rattle.wb_script.specs.Hosts.{Opened, opened, names_of, asked, ticked, looked, words_for, word_at, heard, reported, act};
 ghost use Rattle.wb_script.specs.Parsing.{IsWithin};
 ghost use Rattle.wb_script.specs.Random.{after_words};
 ghost use Rattle.wb_script.specs.Stations.{IsOpenAt, TakesBatch, DoesAct};
@@ -185,6 +185,16 @@ impl Station {
         }
     }
 
+    /// Prints the session message of a page.
+    fn session(&mut self, alloc: Global, page: PageId, output: &mut Output) -> Result<(), RunFault>
+        ensures text { (written : List ℕ) × (output.new ≡ output.old ++ written) × ((host : Opened) → IsOpenAt self.old host → (number : ℕ) → DoesAct number host self.new written result (reported page host)) }
+        ensures unwritten { result ≢ Err RunFault.Write }
+    {
+        let sent = [self.board.session(alloc, &mut self.keeper, page)?];
+        print_sends(alloc, &sent, output)?;
+        Ok(())
+    }
+
     /// Does what the line of this number says, once its batch has ended.
     pub fn act(
         &mut self,
@@ -218,7 +228,7 @@ impl Station {
             Line::Tick { moment } => self.tick(alloc, number, *moment, output),
             Line::Look(page) => self.look(alloc, *page, output),
             Line::Skip | Line::Board { .. } | Line::Arrive(_) => Ok(()),
-            _ => Err(RunFault::Line(number, LineFault::Unknown)),
+            Line::Session(page) => self.session(alloc, *page, output),
         }
     }
 }

@@ -5,10 +5,11 @@ ghost use Rattle.wb_recovery.specs.Stopping.{gots};
 ghost use Rattle.wb_recovery.specs.Values.{timers_in, names_in};
 ghost use Rattle.wb_recovery.specs.declared.tuning.Tuning.{Tuning as Constants};
 ghost use Rattle.wb_host.specs.Hearing.{IsSent, asks_for_held, hear_fault, marks_heard};
-ghost use Rattle.wb_host.specs.Keeper.{KeeperCall, Arrive, GoOn, Hear, come_of, delay_to, events_of, holds};
+ghost use Rattle.wb_host.specs.Keeper.{KeeperCall, Arrive, GoOn, Hear, Report, come_of, delay_to, events_of, holds};
 ghost use Rattle.wb_host.specs.Keeping.{Keeps, StandsFor, marks_at};
 ghost use Rattle.wb_host.specs.KeepFaults.{IsKeptBy};
 ghost use Rattle.wb_host.specs.Missing.{AreWanted};
+ghost use Rattle.wb_host.specs.Sessions.{IsSession};
 ghost use Rattle.wb_host.specs.Ticks.{sends_for, stopped_in};
 
 use crate::whiteboard::Whiteboard;
@@ -87,5 +88,25 @@ impl Whiteboard {
     {
         let now = keeper.moment();
         keeper.hear(alloc, &self.board, &mut self.desk, now, datagram, word)
+    }
+
+    /// The session message of a page, of a keeper at this board, at the moment of its last call.
+    pub fn session(
+        &mut self,
+        alloc: Global,
+        keeper: &mut Keeper,
+        page: PageId,
+    ) -> Result<Datagram, AllocError>
+        ensures same { self.new ≡ self.old }
+        ensures message { IfOk result (λ message. (me : ℕ) (constants : Constants) (calls : List KeeperCall) → StandsFor me constants calls keeper.old → IsSession me calls keeper.old.moment self.old.drawops page message) }
+        ensures ok { OnOk result (Keeps (Report keeper.old.moment) keeper.old keeper.new) }
+        ensures few { length self.old.drawops ≤ 65535 }
+    {
+        let now = keeper.moment();
+        match keeper.session(alloc, &self.board, &mut self.desk, now, page) {
+            Ok(message) => Ok(message),
+            Err(KeepFault::Memory) => Err(AllocError),
+            Err(_) => unreachable!(),
+        }
     }
 }
