@@ -4,11 +4,23 @@
 #[cfg(test)]
 mod arrivals;
 #[cfg(test)]
+mod echoes;
+#[cfg(test)]
+mod heard;
+#[cfg(test)]
+mod hosts;
+#[cfg(test)]
+mod limits;
+#[cfg(test)]
+mod missing;
+#[cfg(test)]
 mod refusals;
 #[cfg(test)]
 mod rigs;
 #[cfg(test)]
 mod sessions;
+#[cfg(test)]
+mod spellings;
 #[cfg(test)]
 mod ticks;
 #[cfg(test)]

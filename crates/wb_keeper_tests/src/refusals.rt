@@ -1,126 +1,234 @@
 //! Any one growth may be refused: a keeper is then as it was, and the same call answers right afterwards.
 
-ghost use Rattle.wb_history.specs.Passes.{IsPassOf, IsSamePass};
-
-use crate::rigs::{PAGE, dot, has_bytes, request};
+use crate::hosts::{Host, Told};
+use crate::rigs::dot;
+use crate::spellings::{
+    ASKED_BY_1, ASKED_BY_8, ECHOING, PAGE_STATE, PAGES_BY_8, SESSION, TWO, are_spelled, is_spelled,
+    said,
+};
 use std::alloc::Global;
 use std::process::Abort;
 use std::test::Fail;
-use wb_host::{Board, Desk, KeepFault, Keeper};
+use wb_codec::Datagram;
+use wb_host::KeepFault;
 use wb_names::{Drawop, Name};
-use wb_recovery::Tuning;
 
-/// What a keeper tells: a delay, how many requests stand and are due, and when the next is.
-fn told(k: &Keeper) -> (u64, usize, usize, Option<u64>) {
-    (k.delay(7), k.asks(), k.due_count(1 << 40), k.next_due())
+/// `SESSION` with an echo of member 1, of which nothing was held: it tells that member 8 is near.
+const ECHO_OF_1: &str =
+    "574201020000003400000008000000000000000000000007000000040001000000070000000700010000000100000000000000000000000000000000";
+
+/// Whether memory was refused, and the keeper tells what it told before and has nothing to send.
+fn is_unchanged(host: &mut Host, before: Told, fault: KeepFault, now: u64) -> bool {
+    let same = fault == KeepFault::Memory && host.told() == before;
+    match host.tick(now, 0) {
+        Ok(sent) => same && sent.is_empty(),
+        Err(_) => false,
+    }
+}
+
+/// How many members are echoed.
+fn echoed(host: &mut Host, now: u64) -> Option<usize> {
+    match host.session(now) {
+        Ok(Datagram::Session { echoes, .. }) => Some(echoes.as_slice().len()),
+        Ok(_) | Err(_) => None,
+    }
+}
+
+/// What is sent for a datagram, by a second call where the first is refused. So many members are remembered.
+fn hear_again(
+    host: &mut Host,
+    now: u64,
+    datagram: &Datagram,
+    senders: usize,
+) -> Option<Vec<Datagram>> {
+    let before = host.told();
+    match host.hear(now, datagram, 9) {
+        Ok(sent) => Some(sent),
+        Err(fault) => {
+            if !is_unchanged(host, before, fault, now) || echoed(host, now) != Some(senders) {
+                return None;
+            }
+            host.hear(now, datagram, 9).ok()
+        }
+    }
+}
+
+fn tick_again(host: &mut Host, now: u64, word: u64) -> Option<Vec<Datagram>> {
+    let before = host.told();
+    match host.tick(now, word) {
+        Ok(sent) => Some(sent),
+        Err(fault) => {
+            if fault != KeepFault::Memory || host.told() != before {
+                return None;
+            }
+            host.tick(now, word).ok()
+        }
+    }
+}
+
+fn session_again(host: &mut Host, now: u64) -> Option<Datagram> {
+    let before = host.told();
+    match host.session(now) {
+        Ok(message) => Some(message),
+        Err(fault) => {
+            if !is_unchanged(host, before, fault, now) {
+                return None;
+            }
+            host.session(now).ok()
+        }
+    }
+}
+
+fn missing_again(host: &mut Host, now: u64) -> Option<Vec<Name>> {
+    let before = host.told();
+    match host.missing() {
+        Ok(names) => Some(names),
+        Err(fault) => {
+            if !is_unchanged(host, before, fault, now) {
+                return None;
+            }
+            host.missing().ok()
+        }
+    }
+}
+
+/// Whether the name is missed, by a second call where the first is refused.
+fn notice_again(host: &mut Host, now: u64, name: Name, word: u64) -> bool {
+    let before = host.told();
+    match host.notice(now, &[name], word) {
+        Ok(()) => true,
+        Err(fault) => {
+            is_unchanged(host, before, fault, now) && host.notice(now, &[name], word) == Ok(())
+        }
+    }
 }
 
 /// Whether the delay is set, by a second call where the first is refused.
-fn set_again(k: &mut Keeper) -> bool {
-    let before = told(k);
-    match k.set_delay(7, 100) {
+fn set_again(host: &mut Host, source: u32, micros: u64) -> bool {
+    let before = host.told();
+    match host.keeper.set_delay(source, micros) {
         Ok(()) => true,
         Err(fault) => {
-            fault == KeepFault::Memory && told(k) == before && k.set_delay(7, 100) == Ok(())
+            is_unchanged(host, before, fault, 0) && host.keeper.set_delay(source, micros) == Ok(())
         }
     }
 }
 
-fn notice_again(k: &mut Keeper, alloc: Global, names: &[Name; 2]) -> bool {
-    let before = told(k);
-    match k.notice(alloc, 0, names, &[0, 0]) {
-        Ok(()) => true,
-        Err(fault) => {
-            fault == KeepFault::Memory
-                && told(k) == before
-                && k.notice(alloc, 0, names, &[0, 0]) == Ok(())
-        }
-    }
+/// Whether the drawop is taken, by a second call where the first is refused, and told to the keeper.
+fn takes_again(host: &mut Host, now: u64, drawop: &Drawop) -> bool {
+    let added = host.accept(drawop) || host.accept(drawop);
+    added && host.arrived(now, &[drawop.name()]) == Ok(())
 }
 
-/// Whether a tick at 200 asks for number 2 alone, unless memory is refused.
-fn ticks(k: &mut Keeper, alloc: Global, board: &Board, desk: &mut Desk) -> Option<bool>
-    requires { IsPassOf board.now desk.old }
-    ensures { IsSamePass desk.old desk.new }
-{
-    if k.due_count(200) > 2 {
-        return Some(false);
-    }
-    let sent = match k.tick(alloc, board, desk, 200, &[0, 0]) {
-        Ok(sent) => sent,
-        Err(_) => return None,
+/// Whether this is sent, spelled a second time where memory is refused.
+fn are_spelled_again(alloc: Global, sent: Option<Vec<Datagram>>, wanted: &str) -> bool {
+    let Some(sent) = sent else {
+        return false;
     };
-    match sent.as_slice() {
-        [one] => Some(has_bytes(alloc, one, &request(2)) || has_bytes(alloc, one, &request(2))),
-        _ => Some(false),
-    }
-}
-
-fn tick_again(k: &mut Keeper, alloc: Global, board: &Board, desk: &mut Desk) -> bool
-    requires { IsPassOf board.now desk.old }
-    ensures { IsSamePass desk.old desk.new }
-{
-    let before = told(k);
-    match ticks(k, alloc, board, desk) {
+    match are_spelled(alloc, sent.as_slice(), wanted) {
         Some(same) => same,
-        None => told(k) == before && ticks(k, alloc, board, desk) == Some(true),
+        None => are_spelled(alloc, sent.as_slice(), wanted) == Some(true),
     }
 }
 
-fn session_again(k: &mut Keeper, alloc: Global, board: &Board, desk: &mut Desk) -> bool
-    requires { IsPassOf board.now desk.old }
-    ensures { IsSamePass desk.old desk.new }
-{
-    let before = told(k);
-    if k.session(alloc, board, desk, 300, PAGE).is_ok() {
-        return true;
+fn hears_again(host: &mut Host, now: u64, hex: &str, senders: usize, wanted: &str) -> bool {
+    let datagram = match said(host.alloc, hex) {
+        Some(datagram) => datagram,
+        None => match said(host.alloc, hex) {
+            Some(datagram) => datagram,
+            None => return false,
+        },
+    };
+    let sent = hear_again(host, now, &datagram, senders);
+    are_spelled_again(host.alloc, sent, wanted)
+}
+
+fn ticks_again(host: &mut Host, now: u64, word: u64, wanted: &str) -> bool {
+    let sent = tick_again(host, now, word);
+    are_spelled_again(host.alloc, sent, wanted)
+}
+
+fn tells_again(host: &mut Host, now: u64, wanted: &str) -> bool {
+    let Some(message) = session_again(host, now) else {
+        return false;
+    };
+    match is_spelled(host.alloc, &message, wanted) {
+        Some(same) => same,
+        None => is_spelled(host.alloc, &message, wanted) == Some(true),
     }
-    told(k) == before && k.session(alloc, board, desk, 300, PAGE).is_ok()
 }
 
-fn accept_again(board: &Board, desk: &mut Desk, drawop: &Drawop) -> bool
-    requires { IsPassOf board.now desk.old }
-    ensures { IsSamePass desk.old desk.new }
-{
-    board.accept(desk, drawop).is_ok() || board.accept(desk, drawop).is_ok()
-}
-
-/// Whether a keeper goes through its calls, each made again where a growth is refused. Numbers 2 and 3
-/// are missed, and 3 comes.
-fn goes_through(
-    k: &mut Keeper,
-    alloc: Global,
-    board: &Board,
-    desk: &mut Desk,
-    names: &[Name; 2],
-    three: &Drawop,
-) -> bool
-    requires { IsPassOf board.now desk.old }
-{
-    let missed = set_again(k) && notice_again(k, alloc, names);
-    let added = accept_again(board, desk, three);
-    let ticked = tick_again(k, alloc, board, desk);
-    let told = session_again(k, alloc, board, desk);
-    missed && added && ticked && told && k.asks() == 1 && k.next_due() == Some(600)
-}
-
-fn keeper_again(alloc: Global) -> Option<Keeper> {
-    match Keeper::new(alloc, 1, Tuning::default()) {
-        Ok(k) => Some(k),
-        Err(_) => Keeper::new(alloc, 1, Tuning::default()).ok(),
+fn open_again(alloc: Global) -> Option<Host> {
+    match Host::open(alloc) {
+        Some(host) => Some(host),
+        None => Host::open(alloc),
     }
+}
+
+/// Numbers 1 and 3 are held, and 2 is missed: its request is due at 2 * 100 + 200.
+fn misses(host: &mut Host, drawops: &[Drawop; 3]) -> bool {
+    let [one, two, three] = drawops;
+    let near = set_again(host, 7, 100) && set_again(host, 8, 0);
+    let held = takes_again(host, 0, one) && takes_again(host, 0, three);
+    let wanted = match missing_again(host, 0) {
+        Some(names) => names.as_slice() == [two.name()].as_slice(),
+        None => false,
+    };
+    near && held && wanted && notice_again(host, 0, two.name(), 200)
+}
+
+/// It is asked for twice.
+fn asks(host: &mut Host) -> bool {
+    let first = ticks_again(host, 199, 0, "") && ticks_again(host, 400, 400, ASKED_BY_1);
+    let second = ticks_again(host, 799, 0, "") && ticks_again(host, 1200, 0, ASKED_BY_1);
+    first && second && host.keeper.next_due() == Some(2000)
+}
+
+/// It comes, and is sent where it is asked for once it is quiet no more.
+fn answers(host: &mut Host, two: &Drawop) -> bool {
+    let come = takes_again(host, 1200, two);
+    let quiet = hears_again(host, 1200, ASKED_BY_8, 0, "") && ticks_again(host, 1499, 0, "");
+    let still = hears_again(host, 1499, ASKED_BY_8, 0, "") && host.keeper.next_due() == None;
+    let heard = ticks_again(host, 1500, 0, "") && hears_again(host, 1500, ASKED_BY_8, 0, "");
+    come && quiet && still && heard && ticks_again(host, 1500, 0, TWO)
 }
 
 #[test]
-fn each_growth_may_be_refused(rt: HostRuntime) -> Result<(), Fail> {
-    let three = dot(3)?;
-    let names = [three.name(), dot(2)?.name()];
-    let mut k = keeper_again(rt.alloc()).ok_or("keeper")?;
-    let (board, mut desk) = match Board::open(rt.alloc(), 4) {
-        Ok(opened) => opened,
-        Err(_) => Board::open(rt.alloc(), 4)?,
-    };
-    let went = goes_through(&mut k, rt.alloc(), &board, &mut desk, &names, &three);
-    assert!(rt; went);
+fn each_growth_of_a_repair_may_be_refused(rt: HostRuntime) -> Result<(), Fail> {
+    let two = dot(2)?;
+    let drawops = [dot(1)?, two, dot(3)?];
+    let mut host = open_again(rt.alloc()).ok_or("host")?;
+    let repaired = misses(&mut host, &drawops) && asks(&mut host) && answers(&mut host, &two);
+    assert!(rt; repaired);
+    Ok(())
+}
+
+/// A session message is heard and echoed, and a question for pages answered.
+fn exchanges(host: &mut Host, one: &Drawop) -> bool {
+    let heard = hears_again(host, 0, SESSION, 0, "") && takes_again(host, 0, one);
+    let told = ticks_again(host, 50, 0, "") && tells_again(host, 50, ECHOING);
+    heard && told && hears_again(host, 50, PAGES_BY_8, 1, PAGE_STATE)
+}
+
+#[test]
+fn each_growth_of_a_session_may_be_refused(rt: HostRuntime) -> Result<(), Fail> {
+    let one = dot(1)?;
+    let mut host = open_again(rt.alloc()).ok_or("host")?;
+    let exchanged = exchanges(&mut host, &one);
+    assert!(rt; exchanged);
+    Ok(())
+}
+
+fn hears_an_echo(host: &mut Host, one: &Drawop) -> bool {
+    let near = hears_again(host, 0, ECHO_OF_1, 0, "") && host.keeper.delay(8) == 0;
+    near && takes_again(host, 0, one) && tells_again(host, 50, ECHOING)
+}
+
+#[test]
+fn each_growth_of_an_echo_may_be_refused(rt: HostRuntime) -> Result<(), Fail> {
+    let one = dot(1)?;
+    let mut host = open_again(rt.alloc()).ok_or("host")?;
+    let heard = hears_an_echo(&mut host, &one);
+    assert!(rt; heard);
     Ok(())
 }
