@@ -69,13 +69,15 @@ a line from (0, 1) to (4, 1) of stars. All other lines stay as they are, so that
     wb hex < board.txt | wb run | wb words
 
 runs a board that is written in words. Where a word is wrong, the fault tells its line
-and its place, and with --keep-going a comment with the fault stands for that line.";
+and its place, and with --keep-going a comment with the fault stands for that line.
+A line of over 65,536 bytes ends the filter in any case: `endless`.";
 
 const WORDS_HELP: &str = "\
 Lines of `arrive`, `hear` or `send` with a datagram in hexadecimal become the datagram in
 words, as `wb hex --help` shows them; what was sent stays behind the word `send`. All other
 lines stay as they are. With --keep-going a comment with the fault stands for a line whose
-bytes are no datagram.";
+word after `arrive`, `hear` or `send` is no datagram in hexadecimal. A line of over 65,536
+bytes ends the filter in any case: `endless`.";
 
 fn filter_command<'a>(
     alloc: Global,
