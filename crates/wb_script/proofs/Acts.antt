@@ -1,8 +1,9 @@
 -- What a host does and then is, from what its keeper did.
-use Rattle.std.proofs.Common.{◌≡◌, ℕ, ◌<◌, ◌≤◌, Bool, true, false, List, [], ◌∷◌, length, Result, Ok, Err, inl, inr, refl, sym, ap, subst, ◌∙◌, arith}
-use Rattle.std.specs.Prelude.{Option, Some, None, nat_le, nat_lt, ◌||◌}
+use Rattle.std.proofs.Common.{◌≡◌, ℕ, ◌<◌, ◌≤◌, true, false, List, [], ◌∷◌, ◌++◌, length, Result, Ok, Err, inl, inr, refl, sym, ap, subst, ◌∙◌, arith}
+use Rattle.std.specs.Prelude.{OnOk, IfErr, nat_lt}
 use Rattle.std.proofs.lemmas.Bool.Decides.{nat_tests}
-use Rattle.wb_names.specs.Values.{NameValue, DrawopValue}
+use Rattle.std.proofs.lemmas.List.{append-nil}
+use Rattle.wb_names.specs.Values.{NameValue, DrawopValue, MarkValue}
 use Rattle.wb_names.specs.declared.gap.Gap.{Gap}
 use Rattle.wb_names.specs.declared.name.PageId.{PageId}
 use Rattle.wb_codec.specs.declared.datagram.Datagram.{Datagram}
@@ -11,14 +12,18 @@ use Rattle.wb_recovery.specs.Stopping.{gots}
 use Rattle.rand_pcg.specs.Lcg.{Lcg}
 use Rattle.wb_host.specs.Hearing.{marks_heard}
 use Rattle.wb_host.specs.Keeper.{KeeperCall, Miss, GoOn, come_of, delay_to}
-use Rattle.wb_host.specs.Keeping.{KeeperValue, StandsFor, Keeps}
+use Rattle.wb_host.specs.Keeping.{KeeperValue, StandsFor, Keeps, marks_at}
 use Rattle.wb_host.specs.Missing.{AreWanted, wanted, names_in_gaps}
 use Rattle.wb_host.specs.Ticks.{sends_for, stopped_in}
 use Rattle.wb_script.specs.declared.fault.LineFault.TheVariants as faults
 use Rattle.wb_script.specs.declared.fault.RunFault.{RunFault}
 use Rattle.wb_script.specs.declared.fault.RunFault.TheVariants as run_faults
+use Rattle.wb_script.specs.declared.query.Query.{Query}
+use Rattle.wb_script.specs.declared.query.Query.TheVariants as queries
+use Rattle.wb_script.specs.Answers.{gaps_text, answer_text}
 use Rattle.wb_script.specs.Board.{Held}
-use Rattle.wb_script.specs.Hosts.{Opened, constants, present, calling, Act, does, fails, events, due_count, stopped, sent_by, ticked, wanted_of, looked}
+use Rattle.wb_script.specs.Script.{StopsWithin}
+use Rattle.wb_script.specs.Hosts.{Opened, constants, present, calling, Act, does, fails, asked, events, due_count, stopped, sent_by, ticked, wanted_of, looked}
 use Rattle.wb_script.specs.Queries.{gaps_of}
 use Rattle.wb_script.specs.Random.{words_of, after_words}
 use Rattle.wb_script.specs.SentLines.{sends_text, look_line}
@@ -45,6 +50,31 @@ called b k k' g g' host call call' count at keeps e words = record {
   keeper = subst (λ (c : KeeperCall). StandsFor host.me constants (c ∷ host.calls) k') e (keeps host.me constants host.calls at.keeper);
   words = words ∙ ap (λ (x : Lcg). after_words x count) at.words;
 }
+
+-- ---- a question
+
+same_answer : (one other : PageId → List MarkValue) (history : List DrawopValue) (query : Query) → ((page : PageId) → one page ≡ other page) → answer_text one history query ≡ answer_text other history query
+same_answer one other history (queries.Canvas page width height) same = refl
+same_answer one other history (queries.Gaps page) same = ap (λ (marks : List MarkValue). gaps_text (gaps_of history page marks)) (same page)
+same_answer one other history (queries.Report page) same = refl
+same_answer one other history queries.Pages same = refl
+
+pub asked_done : (r : Result (Unit {0}) RunFault) (b b' : Held) (k : KeeperValue) (g : Lcg) (query : Query) (old new : List ℕ) → b' ≡ b → OnOk r (new ≡ old ++ answer_text (marks_at k.marks) b.drawops query) → IfErr r (λ e. (e ≡ run_faults.Memory) × (new ≡ old))
+    → (x : List ℕ) × (new ≡ old ++ x) × ((host : Opened) → IsOpenAt (station b k g) host → (number : ℕ) → DoesAct number host (station b' k g) x r (asked query host))
+asked_done (Ok u) b b' k g query old new same ok err = (
+  answer_text (marks_at k.marks) b.drawops query,
+  ok,
+  λ host at number. (
+    record { board = same ∙ at.board; keeper = at.keeper; words = at.words },
+    same_answer (marks_at k.marks) (marks_heard host.me host.calls) b.drawops query at.keeper.merged ∙ ap (λ (l : List DrawopValue). answer_text (marks_heard host.me host.calls) l query) (same_history b k g host at),
+  ),
+)
+asked_done (Err f) b b' k g query old new same ok err = (
+  [],
+  err.1 ∙ sym (append-nil old),
+  λ host at number.
+      subst (λ (e : RunFault). StopsWithin (answer_text (marks_heard host.me host.calls) host.board.drawops query) [] e) (sym err.0) (at_once (answer_text (marks_heard host.me host.calls) host.board.drawops query)),
+)
 
 -- ---- time goes on
 

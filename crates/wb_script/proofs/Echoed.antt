@@ -1,12 +1,11 @@
 -- The session message that a host sends.
-use Rattle.std.proofs.Common.{◌≡◌, ℕ, ◌-◌, ◌≤◌, Bool, true, false, cond, List, [], ◌∷◌, length, Result, Ok, Option, Some, None, refl, sym, ap, subst, ◌∙◌, eqb-true}
+use Rattle.std.proofs.Common.{◌≡◌, ℕ, ◌-◌, ◌≤◌, Bool, true, false, cond, List, [], ◌∷◌, length, Ok, Option, Some, None, refl, sym, ap, subst, ◌∙◌, eqb-true}
 use Rattle.std.specs.Prelude.{Contains, nat_eq}
 use Rattle.std.specs.List.{filter_map, list_any}
 use Rattle.std.specs.Option.{option_map}
 use Rattle.std.specs.Ordering.{is_eq}
-use Rattle.std.specs.declared.cmp.Ordering.TheVariants.{Equal}
 use Rattle.std.specs.Cmp.{IsTotalOrder, nat_cmp_total}
-use Rattle.std.proofs.lemmas.Cmp.{on_total, nat_eq_equiv}
+use Rattle.std.proofs.lemmas.Cmp.{on_total}
 use Rattle.std.proofs.lemmas.Map.Views.{Contains-from_any}
 use Rattle.wb_names.specs.Values.{DrawopValue}
 use Rattle.wb_names.specs.Listing.{Lists}
@@ -23,8 +22,8 @@ use Rattle.wb_host.specs.declared.keeper.Heard.{Heard}
 use Rattle.wb_host.proofs.OneMessage.{one_session}
 use Rattle.wb_host.proofs.TickSends.{sent_by, sent_from}
 use Rattle.wb_script.specs.Board.{Held}
-use Rattle.wb_script.specs.Hosts.{Opened, present, calling, echo_to, echoes_of, message_of, reported}
-use Rattle.wb_script.specs.Queries.{sorted, report_of}
+use Rattle.wb_script.specs.Hosts.{Opened, present, echo_to, echoes_of, message_of, reported}
+use Rattle.wb_script.specs.Queries.{report_of}
 use Rattle.wb_script.specs.SentLines.{sends_text}
 use Rattle.wb_script.specs.Stations.{IsOpenAt, DoesAct}
 use Rattle.wb_script.proofs.Acts.{station, same_history, called}

@@ -1,5 +1,5 @@
 -- Boards that hold the same drawops print the same.
-use Rattle.std.proofs.Common.{ap, [], List}
+use Rattle.std.proofs.Common.{ap, List}
 use Rattle.wb_names.specs.Values.{DrawopValue, MarkValue}
 use Rattle.wb_names.specs.declared.gap.Gap.{Gap}
 use Rattle.wb_names.specs.declared.name.PageId.{PageId}
@@ -14,11 +14,11 @@ use Rattle.wb_script.proofs.MissingRanges.{gaps_of_page, only_gaps}
 use Rattle.wb_script.proofs.Queries.{view_of_page, report_of_page, only_report, pages_of_history, only_pages}
 
 pub answers_are_free : AnswersAreFree
-answers_are_free one other (Canvas page width height) a b moved =
+answers_are_free marks one other (Canvas page width height) a b moved =
     ap (λ (shown : List DrawopValue). canvas_text shown width height) (converges one other page (view_of one page) (view_of other page) moved (view_of_page one page a.once) (view_of_page other page b.once))
-answers_are_free one other (Gaps page) a b moved =
-    ap (λ (gaps : List Gap). gaps_text gaps) (only_gaps other page [] (gaps_of one page []) (gaps_moved one other moved page [] (gaps_of one page []) (gaps_of_page one page [])))
-answers_are_free one other (Report page) a b moved =
-    ap (λ (marks : List MarkValue). report_text marks) (only_report other page (report_of one page) b.few (report_moved one other moved page (report_of one page) (report_of_page one page a.few)))
-answers_are_free one other Pages a b moved =
+answers_are_free marks one other (Gaps page) a b moved =
+    ap (λ (gaps : List Gap). gaps_text gaps) (only_gaps other page (marks page) (gaps_of one page (marks page)) (gaps_moved one other moved page (marks page) (gaps_of one page (marks page)) (gaps_of_page one page (marks page))))
+answers_are_free marks one other (Report page) a b moved =
+    ap (λ (m : List MarkValue). report_text m) (only_report other page (report_of one page) b.few (report_moved one other moved page (report_of one page) (report_of_page one page a.few)))
+answers_are_free marks one other Pages a b moved =
     ap (λ (pages : List PageId). pages_text pages) (only_pages other (pages_of one) (pages_moved one other moved (pages_of one) (pages_of_history one)))

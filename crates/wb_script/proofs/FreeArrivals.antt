@@ -150,13 +150,13 @@ pub once_held : (cells : ℕ) (ds es : List DrawopValue) → IsPermutation ds es
 once_held cells ds es moved clash room = (walked cells ds es clash room (λ x c. Contains-permutation es ds x (IsPermutation-sym ds es moved) c)).once
 
 pub prints_are_free : PrintsAreFree
-prints_are_free cells ds es query few moved clash room =
+prints_are_free marks cells ds es query few moved clash room =
     let back = IsPermutation-sym ds es moved in
     let a = walked cells ds ds clash room (λ x c. c) in
     let b = walked cells ds es clash room (λ x c. Contains-permutation es ds x back c) in
     let fits_a = room (history_after cells [] ds) a.once (λ x c. from_arrivals ds x (a.from x c)) in
     let fits_b = room (history_after cells [] es) b.once (λ x c. Contains-permutation es ds x back (from_arrivals es x (b.from x c))) in
-    answers_are_free (history_after cells [] ds) (history_after cells [] es) query
+    answers_are_free marks (history_after cells [] ds) (history_after cells [] es) query
     (record { once = a.once; few = omega (arith, fits_a) })
     (record { once = b.once; few = omega (arith, fits_b) })
     (arrivals_are_free cells ds es moved clash room)

@@ -1,6 +1,6 @@
 -- What a host sends at once for a datagram, and when it refuses one.
-use Rattle.std.proofs.Common.{◌≡◌, ℕ, ◌<◌, ◌≤◌, ◌^◌, Bool, true, false, cond, List, [], ◌∷◌, length, Result, Ok, Err, inl, inr, refl, sym, ap, subst, ◌∙◌, arith}
-use Rattle.std.specs.Prelude.{Option, Some, None, All, map, nat_le, nat_lt, ◌||◌}
+use Rattle.std.proofs.Common.{◌≡◌, ℕ, ◌<◌, ◌≤◌, ◌^◌, Bool, true, false, cond, List, [], ◌∷◌, length, Result, Ok, Err, inr, refl, sym, ap, ◌∙◌, arith}
+use Rattle.std.specs.Prelude.{Option, All, map, nat_le, nat_lt, ◌||◌}
 use Rattle.std.proofs.lemmas.Bool.Decides.{nat_tests}
 use Rattle.std.proofs.lemmas.List.Elements.{All-head, All-tail}
 use Rattle.wb_names.specs.Values.{DrawopValue, MarkValue}
@@ -13,7 +13,7 @@ use Rattle.wb_gaps.specs.Merging.{source_count}
 use Rattle.wb_gaps.specs.declared.page_reports.PageReport.{PageReport}
 use Rattle.rand_pcg.specs.Lcg.{Lcg}
 use Rattle.wb_host.specs.Hearing.{AreAnswers, IsSent, asks_for_held, asks_for_pages, has_room, hear_fault, marks_heard}
-use Rattle.wb_host.specs.Keeper.{KeeperCall, Hear, is_own}
+use Rattle.wb_host.specs.Keeper.{Hear, is_own}
 use Rattle.wb_host.specs.Keeping.{KeeperValue, Keeps, marks_at}
 use Rattle.wb_host.specs.KeepFaults.{IsKeptBy}
 use Rattle.wb_host.specs.declared.keep_fault.KeepFault.{KeepFault}
@@ -21,11 +21,11 @@ use Rattle.wb_host.specs.declared.keep_fault.KeepFault.TheVariants as keeping
 use Rattle.wb_script.specs.declared.fault.LineFault.TheVariants as faults
 use Rattle.wb_script.specs.declared.fault.RunFault.TheVariants as run_faults
 use Rattle.wb_script.specs.Board.{Held}
-use Rattle.wb_script.specs.Hosts.{Opened, present, calling, words_for, word_at, answers_to, heard}
+use Rattle.wb_script.specs.Hosts.{Opened, present, words_for, word_at, answers_to, heard}
 use Rattle.wb_script.specs.Queries.{report_of, pages_of}
 use Rattle.wb_script.specs.Random.{after_words}
 use Rattle.wb_script.specs.SentLines.{sends_text}
-use Rattle.wb_script.specs.Stations.{IsOpenAt, StationValue, DoesAct}
+use Rattle.wb_script.specs.Stations.{IsOpenAt, DoesAct}
 use Rattle.wb_script.proofs.Acts.{station, same_history, called}
 use Rattle.wb_script.proofs.Queries.{only_report, only_pages}
 

@@ -1,5 +1,5 @@
 -- What a script prints for its batches and its questions.
-use Rattle.std.specs.Prelude.{◌≡◌, ℕ, true, List, [], ◌++◌, length, codes}
+use Rattle.std.specs.Prelude.{◌≡◌, ℕ, true, List, ◌++◌, length, codes}
 use Rattle.std.specs.List.{flat_map}
 use Rattle.std.specs.Fmt.{decimal}
 use Rattle.wb_names.specs.Values.{DrawopValue, MarkValue}
@@ -33,13 +33,12 @@ report_text marks = codes "report " ++ (decimal (length marks) ++ codes "\n") ++
 abbrev pub pages_text : List PageId → List ℕ
 pages_text pages = codes "pages " ++ (decimal (length pages) ++ codes "\n") ++ flat_map (λ p. pair_line p.creator p.number) pages
 
--- what is printed for a question, at a history
-abbrev pub answer_text : List DrawopValue → Query → List ℕ
-answer_text history (Canvas page width height) = canvas_text (view_of history page) width height
--- of what others have there nothing is heard yet
-answer_text history (Gaps page) = gaps_text (gaps_of history page [])
-answer_text history (Report page) = report_text (report_of history page)
-answer_text history Pages = pages_text (pages_of history)
+-- what is printed for a question, where these marks of each page were heard, at a history
+abbrev pub answer_text : (PageId → List MarkValue) → List DrawopValue → Query → List ℕ
+answer_text marks history (Canvas page width height) = canvas_text (view_of history page) width height
+answer_text marks history (Gaps page) = gaps_text (gaps_of history page (marks page))
+answer_text marks history (Report page) = report_text (report_of history page)
+answer_text marks history Pages = pages_text (pages_of history)
 
 -- a canvas that is asked for is not too large
 abbrev pub IsAnswerable : Query → Type 0

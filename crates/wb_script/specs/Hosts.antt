@@ -81,7 +81,7 @@ abbrev pub calling : KeeperCall → ℕ → Opened → Opened
 calling call words host = record { me = host.me; board = host.board; calls = call ∷ host.calls; random = after_words host.random words }
 
 abbrev pub asked : Query → Opened → Act
-asked query host = does host (answer_text host.board.drawops query)
+asked query host = does host (answer_text (marks_heard host.me host.calls) host.board.drawops query)
 
 -- ---- what it sends, asks for and hears
 

@@ -50,9 +50,10 @@ pub record IsBoardHistory (history : List DrawopValue) : Type 0 where
   pub once : IsHistory history
   pub few : length history ≤ 65535
 
--- Boards that hold the same drawops, whatever the order in which they came, print the same for each question.
+-- Boards that hold the same drawops, whatever the order in which they came, print the same for each question, where the same marks
+-- were heard.
 abbrev pub AnswersAreFree : Type 0
-AnswersAreFree = (one other : List DrawopValue) (query : Query) → IsBoardHistory one → IsBoardHistory other → IsPermutation one other → answer_text one query ≡ answer_text other query
+AnswersAreFree = (marks : PageId → List MarkValue) (one other : List DrawopValue) (query : Query) → IsBoardHistory one → IsBoardHistory other → IsPermutation one other → answer_text marks one query ≡ answer_text marks other query
 
 -- no two of them are different drawops of one name
 abbrev pub NoneClash : List DrawopValue → Type 0
@@ -72,5 +73,5 @@ ArrivalsAreFree = (cells : ℕ) (arrivals others : List DrawopValue) → IsPermu
 
 -- So what a board of at most 65,535 cells then prints for a question is the same.
 abbrev pub PrintsAreFree : Type 0
-PrintsAreFree = (cells : ℕ) (arrivals others : List DrawopValue) (query : Query) → cells ≤ 65535 → IsPermutation arrivals others → NoneClash arrivals → HasCells cells arrivals
-    → answer_text (history_after cells [] arrivals) query ≡ answer_text (history_after cells [] others) query
+PrintsAreFree = (marks : PageId → List MarkValue) (cells : ℕ) (arrivals others : List DrawopValue) (query : Query) → cells ≤ 65535 → IsPermutation arrivals others → NoneClash arrivals → HasCells cells arrivals
+    → answer_text marks (history_after cells [] arrivals) query ≡ answer_text marks (history_after cells [] others) query

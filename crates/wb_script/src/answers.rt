@@ -1,5 +1,6 @@
 ghost use Rattle.std.specs.Prelude.{◌≡◌, ◌++◌, IfOk, IfErr, OnOk};
 ghost use Rattle.std.specs.String.{string_bytes};
+ghost use Rattle.wb_host.specs.Keeping.{marks_at};
 ghost use Rattle.wb_script.specs.Batches.{counts_in};
 ghost use Rattle.wb_script.specs.Answers.{batch_line, pair_line, gap_line, gaps_text, report_text, pages_text, answer_text, IsAnswerable};
 
@@ -9,6 +10,7 @@ use crate::output::Output;
 use crate::query::Query;
 use crate::whiteboard::Whiteboard;
 use std::alloc::{AllocError, Global};
+use wb_host::Keeper;
 use wb_names::{Gap, Mark, PageId};
 
 /// The line that ends a batch.
@@ -74,16 +76,17 @@ fn pages_text(alloc: Global, pages: &[PageId]) -> Result<String, AllocError>
     Ok(text)
 }
 
-/// Prints what a board answers to a question.
+/// Prints what a board answers to a question, with the marks that a keeper at it heard.
 pub fn print(
     alloc: Global,
     board: &mut Whiteboard,
+    keeper: &Keeper,
     query: Query,
     output: &mut Output,
 ) -> Result<(), RunFault>
     requires { IsAnswerable query }
     ensures same { board.new ≡ board.old }
-    ensures ok { OnOk result (output.new ≡ output.old ++ answer_text board.old.drawops query) }
+    ensures ok { OnOk result (output.new ≡ output.old ++ answer_text (marks_at keeper.now.marks) board.old.drawops query) }
     ensures err { IfErr result (λ e. (e ≡ RunFault.Memory) × (output.new ≡ output.old)) }
 {
     match query {
@@ -96,7 +99,7 @@ pub fn print(
             output.add(canvas.bytes())?;
         }
         Query::Gaps(page) => {
-            let gaps = board.gaps(alloc, page)?;
+            let gaps = board.gaps(alloc, keeper, page)?;
             output.add(gaps_text(alloc, &gaps)?.as_bytes())?;
         }
         Query::Report(page) => {

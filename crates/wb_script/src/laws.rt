@@ -23,7 +23,7 @@ pub fn answers_are_one()
 {}
 
 /// Boards that hold the same drawops, whatever the order in which they came, print the same for each
-/// question, character for character.
+/// question, character for character, where the same marks were heard.
 pub fn order_is_free()
     ensures { AnswersAreFree }
 {}

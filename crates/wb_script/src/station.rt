@@ -91,7 +91,7 @@ impl Station {
         ensures text { (written : List ℕ) × (output.new ≡ output.old ++ written) × ((host : Opened) → IsOpenAt self.old host → (number : ℕ) → DoesAct number host self.new written result (asked query host)) }
         ensures unwritten { result ≢ Err RunFault.Write }
     {
-        print(alloc, &mut self.board, query, output)
+        print(alloc, &mut self.board, &self.keeper, query, output)
     }
 
     /// Sets the delay to a source, in microseconds.

@@ -1,6 +1,7 @@
 //! The board of a script, with the desk that owns all of its rows.
 ghost use Rattle.std.specs.Prelude.{◌≡◌, ◌≤◌, ◌<◌, [], length, true, IfOk, OnOk, OnErr};
 ghost use Rattle.wb_names.specs.Arrivals.{history_with, outcome_of};
+ghost use Rattle.wb_host.specs.Keeping.{marks_at};
 ghost use Rattle.wb_display.specs.Canvas.{canvas_text, is_canvas_size};
 ghost use Rattle.wb_script.specs.Queries.{view_of, gaps_of, report_of, pages_of};
 ghost use Rattle.wb_script.specs.Reply.{became};
@@ -10,7 +11,7 @@ mod keeping;
 use std::alloc::{AllocError, Global};
 use std::marker::Model;
 use wb_display::{Canvas, CanvasFault};
-use wb_host::{Board, BoardFault, Desk, OpenFault, Reply};
+use wb_host::{Board, BoardFault, Desk, Keeper, OpenFault, Reply};
 use wb_names::{Drawop, Gap, Marks, PageId};
 
 /// A board and the one desk that was ever made of it.
@@ -70,15 +71,18 @@ impl Whiteboard {
         }
     }
 
-    /// The missing ranges of a page, below the greatest numbers that are held.
-    pub fn gaps(&mut self, alloc: Global, page: PageId) -> Result<Vec<Gap>, AllocError>
+    /// The missing ranges of a page, up to the greatest numbers that are held or that a keeper heard.
+    pub fn gaps(
+        &mut self,
+        alloc: Global,
+        keeper: &Keeper,
+        page: PageId,
+    ) -> Result<Vec<Gap>, AllocError>
         ensures same { self.new ≡ self.old }
-        ensures gaps { IfOk result (λ gaps. gaps.items ≡ gaps_of self.old.drawops page []) }
+        ensures gaps { IfOk result (λ gaps. gaps.items ≡ gaps_of self.old.drawops page (marks_at keeper.now.marks page)) }
     {
-        match Marks::new(Vec::new(alloc)) {
-            Ok(none) => self.board.gaps(alloc, &mut self.desk, page, &none),
-            Err(_) => unreachable!(),
-        }
+        self.board
+            .gaps(alloc, &mut self.desk, page, keeper.marks(page))
     }
 
     /// The report of a page.

@@ -1,6 +1,5 @@
-use Rattle.std.proofs.Common.{[], ◌∙◌, ap, sym, subst, refl, Ok, Err}
+use Rattle.std.proofs.Common.{[], ◌∙◌, ap, sym, subst, Ok, Err}
 use Rattle.std.proofs.lemmas.List.{append-nil}
-use Rattle.rand_pcg.specs.Lcg.{Lcg}
 use Rattle.wb_host.specs.Keeping.{KeeperValue}
 use Rattle.wb_host.specs.declared.keep_fault.KeepFault.{KeepFault}
 use Rattle.wb_script.specs.declared.fault.LineFault.TheVariants as faults
