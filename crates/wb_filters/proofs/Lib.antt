@@ -1,7 +1,6 @@
 pub mod Telling
 pub mod Outcomes
 pub mod Endings
-pub mod SpelledBytes
 pub mod TurningLaws
 pub mod Visible
 pub mod InputText

@@ -28,7 +28,7 @@ use Rattle.wb_script.specs.Ahead.{NoLineFeed}
 use Rattle.wb_filters.specs.declared.carrier.Carrier.{Carrier}
 use Rattle.wb_filters.specs.declared.carrier.Carrier.TheVariants.{Arrive, Hear, Send}
 use Rattle.wb_filters.specs.Turning.{front, digits_line, words_behind}
-use Rattle.wb_filters.proofs.SpelledBytes.{spelled_bytes}
+use Rattle.wb_script.proofs.SpelledBytes.{spelled_bytes}
 
 abbrev AllSeen : List ℕ → Type 0
 AllSeen [] = Unit {0}
