@@ -17,13 +17,20 @@ pub trait Arrivals {
     /// What `most` answers.
     ghost most_to_come: { Self → ℕ };
 
+    /// What stays the same whatever is drawn, as the list that the drawops come from. By it the caller
+    /// knows its source again after a batch.
+    ghost Kept: { Type 0 } = { Unit {0} };
+
+    ghost kept: { Self → Self.Kept };
+
     /// The next drawop, or None at the end or earlier.
     fn next(&mut self) -> Option<Drawop>
         ensures first { IfSome result (λ d. given self.new ≡ given self.old ++ d ∷ []) }
         ensures nearer { IfSome result (λ d. most_to_come self.new < most_to_come self.old) }
         ensures rest { IfNone result (given self.new ≡ given self.old) }
         ensures no_more { IfNone result (most_to_come self.new ≤ most_to_come self.old) }
-        ensures ended { IfNone result (has_ended self.new ≡ true) };
+        ensures ended { IfNone result (has_ended self.new ≡ true) }
+        ensures kept { Self.kept self.new ≡ Self.kept self.old };
 
     /// A bound on how many drawops are still given. It falls with each of them.
     fn most(&self) -> u32

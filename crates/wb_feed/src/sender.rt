@@ -19,7 +19,8 @@ fn draw_one<S: Arrivals>(
     drawn: &mut Vec<Drawop>,
 ) -> Result<Option<Message>, AllocError>
     requires { length drawn.old.items + S.most_to_come arrivals.old < 2 ^ 32 }
-    ensures { Draws (S.given arrivals.old) (S.most_to_come arrivals.old) drawn.old.items (S.given arrivals.new) (S.most_to_come arrivals.new) drawn.new.items (S.has_ended arrivals.new) result }
+    ensures draws { Draws (S.given arrivals.old) (S.most_to_come arrivals.old) drawn.old.items (S.given arrivals.new) (S.most_to_come arrivals.new) drawn.new.items (S.has_ended arrivals.new) result }
+    ensures source { S.kept arrivals.new ≡ S.kept arrivals.old }
 {
     drawn.reserve(1)?;
     let position = drawn.len() as u32;
@@ -71,6 +72,7 @@ pub(crate) fn feed<R: Wait, S: Arrivals>(
     ensures same { ((view pass.new).parts ≡ (view pass.old).parts) × ((view pass.new).got ≡ (view pass.old).got) }
     ensures drawn { IsDrawn (S.given arrivals.old) (S.most_to_come arrivals.old) drawn.old.items (S.given arrivals.new) (S.most_to_come arrivals.new) drawn.new.items }
     ensures ended { OnOk result (S.has_ended arrivals.new ≡ true) }
+    ensures source { S.kept arrivals.new ≡ S.kept arrivals.old }
 {
     while let Some(message) = draw_one(arrivals, drawn)? {
         *going = send_one(rt, line, pass, *going, message);

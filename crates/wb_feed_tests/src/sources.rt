@@ -36,6 +36,8 @@ impl Arrivals for Listed {
 
     ghost most_to_come = { λ s. s.end - s.next };
 
+    ghost kept = { λ _. tt };
+
     fn next(&mut self) -> Option<Drawop> {
         let at = self.next as usize;
         if self.next < self.end && at < self.all.len() {
@@ -66,6 +68,8 @@ impl Arrivals for Waits {
     ghost has_ended = { λ s. s.ended };
 
     ghost most_to_come = { λ s. 3 - s.next };
+
+    ghost kept = { λ _. tt };
 
     fn next(&mut self) -> Option<Drawop> {
         if self.next >= 3 {

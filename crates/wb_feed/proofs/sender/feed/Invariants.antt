@@ -12,6 +12,7 @@ invariant-loop-message g l =
       sent : IsSent (view l.pass) l.drawn.items l.going;
       stays : Stays (view l.initial.pass) (view l.pass);
       drawn : IsDrawn (g.S.Arrivals.given l.initial.arrivals) (g.S.Arrivals.most_to_come l.initial.arrivals) l.initial.drawn.items (g.S.Arrivals.given l.arrivals) (g.S.Arrivals.most_to_come l.arrivals) l.drawn.items;
+      source : g.S.Arrivals.kept l.arrivals ≡ g.S.Arrivals.kept l.initial.arrivals;
     }
 
 abbrev pub decreases-loop-message : goal.decreases-loop-message
