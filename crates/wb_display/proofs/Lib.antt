@@ -2,8 +2,10 @@ pub mod RunningError
 pub mod Overlaying
 pub mod Spans
 pub mod LineSteps
-pub mod LinePassing
-pub mod LineEntering
+pub mod LevelLines
+pub mod RowFilling
+pub mod LineSpan
+pub mod LineInside
 pub mod CanvasRows
 pub mod Sent
 pub mod Hearing

@@ -33,7 +33,7 @@ pub line_more : (w h x0 y0 x1 y1 m n px py g : ℕ) (old mid new : List ℕ) →
 line_more w h x0 y0 x1 y1 m n px py g old mid new ex ey a b =
     drawn_over w h _ _ _ _ _ _ old mid new a b (λ x y. line_one_more x0 y0 x1 y1 m n x y ∙ ap (λ (t : ℕ). line_upto x0 y0 x1 y1 m n x y || is_at t (line_at y0 y1 m n) x y) (sym ex) ∙ ap (λ (t : ℕ). line_upto x0 y0 x1 y1 m n x y || is_at px t x y) (sym ey)) (λ x y p q. refl) (λ x y p. refl)
 
-own_share : (d k : ℕ) → 0 < d → share d k d ≡ k
+pub own_share : (d k : ℕ) → 0 < d → share d k d ≡ k
 own_share d k pos = ap (λ (n : ℕ). n / (2 * d)) (let e : 2 * k * d + d ≡ k * (2 * d) + d = omega arith in e) ∙ div-mul-add k (2 * d) d (omega arith)
 
 no_distance : (a : ℕ) → distance a a ≡ 0

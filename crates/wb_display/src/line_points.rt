@@ -1,9 +1,10 @@
-//! The points of a line, one after another, by a running error: an addition and a test for each
-//! point, and no division but those that find where a line from outside comes in. Each is proved to
-//! be the point that the division gives.
+//! The points of a line, one after another. Along its longer distance a line goes on by one each
+//! step; along the other by a running error, an addition and a test for each point. No division but
+//! those that find the steps at which the line is on the canvas. Each point is proved to be the one
+//! that the division gives.
 
-ghost use Rattle.std.specs.Prelude.{◌≡◌, ℕ, ◌<◌, ◌≤◌, ◌+◌, ◌&&◌, nat_le};
-ghost use Rattle.wb_display.specs.Canvas.{distance as distance_of, line_at};
+ghost use Rattle.std.specs.Prelude.{◌≡◌, ℕ, ◌<◌, ◌≤◌, ◌+◌};
+ghost use Rattle.wb_display.specs.Canvas.{distance as distance_of, line_at, share};
 
 use std::marker::Model;
 
@@ -85,14 +86,6 @@ impl Walk {
         self.at
     }
 
-    /// Whether it is on its way up and at `end` or beyond, in cells, where it then stays.
-    #[inline(always)]
-    pub fn has_passed(&self, end: usize) -> bool
-        ensures { result ≡ (nat_le self.now.from self.now.to && nat_le end (line_at self.now.from self.now.to self.now.steps self.now.gone)) }
-    {
-        self.from <= self.to && end <= usize::from(self.at)
-    }
-
     /// Goes one step. The position moves where the error has grown to a whole.
     #[inline(always)]
     pub fn step(&mut self)
@@ -113,24 +106,63 @@ impl Walk {
     }
 }
 
-/// How many steps from `from` to `to` a coordinate that comes down from `end` or beyond, in cells,
-/// is still there: all of them where it never comes below, and else that many or one less. 0 where it
-/// does not come so.
-pub(crate) fn steps_outside(from: u16, to: u16, steps: u16, end: usize) -> u16
-    requires { distance_of from to ≤ steps }
-    ensures outside { (k : ℕ) → k < result → end ≤ line_at from to steps k }
-    ensures within { result ≤ steps }
-    ensures up { from ≤ to → result ≡ 0 }
-    ensures never { to < from → end ≤ to → result ≡ steps }
-    ensures soon { to < from → to < end → line_at from to steps (result + 1) < end }
+/// Where a coordinate is that moves by one each step.
+#[inline(always)]
+pub(crate) fn along(from: u16, to: u16, gone: usize) -> usize
+    requires { gone ≤ distance_of from to }
+    ensures { result ≡ line_at from to (distance_of from to) gone }
 {
-    if from <= to || usize::from(from) < end {
-        return 0;
+    if from <= to {
+        usize::from(from) + gone
+    } else {
+        usize::from(from) - gone
     }
-    if end <= usize::from(to) {
-        return steps;
+}
+
+/// Steps of a line: from the first one up to the end, which is none of them.
+#[derive(Clone, Copy)]
+pub(crate) struct Steps {
+    pub first: usize,
+    pub end: usize,
+}
+
+/// The step at which a coordinate has moved so far, of those that take it over the distance.
+fn step_moved(distance: u16, steps: u16, moved: usize) -> usize
+    requires some { 0 < moved }
+    requires fits { moved ≤ distance }
+    requires reach { distance ≤ steps }
+    ensures before { (k : ℕ) → k < result → share distance k steps < moved }
+    ensures after { (k : ℕ) → result ≤ k → moved ≤ share distance k steps }
+    ensures within { result ≤ steps }
+{
+    ((2 * moved - 1) * usize::from(steps)).div_ceil(2 * usize::from(distance))
+}
+
+/// The steps at which a coordinate on its way from `from` to `to` is before `end`, in cells.
+pub(crate) fn steps_inside(from: u16, to: u16, steps: u16, end: usize) -> Steps
+    requires { distance_of from to ≤ steps }
+    ensures before { (k : ℕ) → k < result.first → end ≤ line_at from to steps k }
+    ensures inside { (k : ℕ) → result.first ≤ k → k < result.end → line_at from to steps k < end }
+    ensures after { (k : ℕ) → result.end ≤ k → k ≤ steps → end ≤ line_at from to steps k }
+    ensures within { result.end ≤ steps + 1 }
+{
+    let all = usize::from(steps) + 1;
+    if usize::from(from.max(to)) < end {
+        return Steps { first: 0, end: all };
     }
-    let distance = usize::from(from - to);
-    let outside = usize::from(from) - end + 1;
-    ((2 * outside - 1) * usize::from(steps) / (2 * distance)) as u16
+    if end <= usize::from(from.min(to)) {
+        return Steps { first: 0, end: 0 };
+    }
+    if from < to {
+        let gone = step_moved(to - from, steps, end - usize::from(from));
+        return Steps {
+            first: 0,
+            end: gone,
+        };
+    }
+    let gone = step_moved(from - to, steps, usize::from(from) - end + 1);
+    Steps {
+        first: gone,
+        end: all,
+    }
 }

@@ -1,0 +1,11 @@
+use Rattle.std.proofs.Common.{◌≡◌, ◌+◌}
+use Rattle.wb_display.specs.Canvas.{distance}
+use Rattle.wb_display.specs.Cells.{Overlays}
+use Rattle.wb_display.proofs.LineSteps.{line_upto}
+use Rattle.wb_display.proofs.strokes.draw_down.Given as goal
+
+abbrev pub invariant-loop-k : goal.invariant-loop-k
+invariant-loop-k l = record {
+  walk : l.x ≡ record { from = l.fn.from.x; to = l.fn.to.x; steps = distance l.fn.from.y l.fn.to.y; gone = l.k };
+  drawn : Overlays l.size.width l.size.height (line_upto l.fn.from.x l.fn.from.y l.fn.to.x l.fn.to.y (distance l.fn.from.y l.fn.to.y) (l.k + 1)) (λ _. l.glyph) l.fn.cells l.cells;
+}
