@@ -1,4 +1,4 @@
--- The running error of a coordinate on its way along a line, against the division.
+-- The running error of a coordinate on its way along a line, against the division, and the steps at which a line is on a canvas.
 use Rattle.std.specs.Prelude.{◌≡◌, ℕ, ◌+◌, ◌*◌, ◌%◌, ◌<◌, ◌≤◌, ◌⊎◌}
 use Rattle.wb_display.specs.Canvas.{distance, line_at}
 use Rattle.wb_display.specs.declared.line_points.Steps.{Steps}
