@@ -18,25 +18,38 @@ pub enum Task {
 const ABOUT: &str = "Runs scripts of wb, a shared whiteboard";
 
 const SCRIPT_HELP: &str = "\
-A script is lines of words, read from standard input. The first opens a board for
-one member, with room for so many drawops; others hand in datagrams in hexadecimal,
-and ask for what a page shows:
+A script is lines of words, read from standard input. This one, lost.txt, opens a board
+for member 1, with room for 16 drawops, and loses the second of three drawops that
+source 7 made on page 1 of creator 7:
 
     board 1 16 1 42
-    arrive 574201010000002200000007000000070000000100000001000000000000000a0100000001000400012a
+    draw 7 7/1 1 10 line 0 0 4 0 *
+    draw 7 7/1 3 12 line 0 2 4 2 *
+    look 7 1
+    tick 400000
+    draw 7 7/1 2 11 text 0 1 \"found\"
     show 7 1 5 3
 
-prints the counts of the batch (new, known, clashing and left over), and the page of
-creator 7 and number 1 on a canvas 5 cells wide and 3 high:
+The look finds a number missing and sets its timer; at 0.4 seconds the timer is due, and
+the host asks all others; one of them repairs. So `wb hex < lost.txt | wb run | wb words`
+prints the counts of the first batch (new, known, clashing and left over), the look, what
+is sent, the second batch, and the page on a canvas 5 cells wide and 3 high:
 
+    batch 2 0 0 0
+    look 1
+    send request 1 7 7/1 2
     batch 1 0 0 0
-         
     *****
-         
+    found
+    *****
 
-The line `gaps 7 1` prints the numbers that are missing below the greatest of each
-source on that page, as ranges; `report 7 1` prints those greatest numbers, and
-`pages` the pages that were drawn on.
+`wb run` takes and prints datagrams in hexadecimal, as `arrive`, `hear` and `send`; `wb hex`
+and `wb words` turn them from and into words.
+
+The line `gaps 7 1` prints the numbers that are missing on that page, as ranges; `report 7 1`
+prints the greatest number of each source there, `pages` the pages that were drawn on, and
+`session 7 1` the session message of the page. `distance 7 5000` says that source 7 is 5,000
+microseconds away.
 
 Lines that are blank or begin with # are skipped.";
 
@@ -95,29 +108,50 @@ fn filter_command<'a>(
         .arg(keeps_going)
 }
 
-fn command<'a>(alloc: Global) -> Result<Command<'a>, AllocError> {
-    let check = Command::new(alloc, "check").about(
-        "Says `ok` and the number of lines, where each line parses",
-    );
+fn check_command<'a>(alloc: Global) -> Command<'a> {
+    Command::new(alloc, "check").about("Says `ok` and the number of lines, where each line parses")
+}
+
+fn hex_command<'a>(alloc: Global) -> Result<Command<'a>, AllocError> {
+    filter_command(
+        alloc,
+        "hex",
+        "Copies a script, with its datagrams in words turned into hexadecimal",
+        HEX_HELP,
+    )
+}
+
+fn words_command<'a>(alloc: Global) -> Result<Command<'a>, AllocError> {
+    filter_command(
+        alloc,
+        "words",
+        "Copies lines, with their datagrams in hexadecimal turned into words",
+        WORDS_HELP,
+    )
+}
+
+fn bare_command<'a>(alloc: Global) -> Command<'a> {
     Command::new(alloc, "wb")
         .about(ABOUT)
         .after_help(SCRIPT_HELP)
         .no_binary_name(true)
         .subcommand_required(true)
-        .subcommand(run_command(alloc)?)?
-        .subcommand(check)?
-        .subcommand(filter_command(
-            alloc,
-            "hex",
-            "Copies a script, with its datagrams in words turned into hexadecimal",
-            HEX_HELP,
-        )?)?
-        .subcommand(filter_command(
-            alloc,
-            "words",
-            "Copies lines, with their datagrams in hexadecimal turned into words",
-            WORDS_HELP,
-        )?)
+}
+
+/// Adds a subcommand. One that could not be made is answered here, so that nobody holds two commands
+/// where he stops.
+fn with_subcommand<'a>(
+    program: Command<'a>,
+    subcommand: Result<Command<'a>, AllocError>,
+) -> Result<Command<'a>, AllocError> {
+    program.subcommand(subcommand?)
+}
+
+fn command<'a>(alloc: Global) -> Result<Command<'a>, AllocError> {
+    let program = with_subcommand(bare_command(alloc), run_command(alloc))?;
+    let program = with_subcommand(program, Ok(check_command(alloc)))?;
+    let program = with_subcommand(program, hex_command(alloc))?;
+    with_subcommand(program, words_command(alloc))
 }
 
 /// The task that the words after the program's name ask for. The error has the parser's text: of
