@@ -11,6 +11,7 @@ use Rattle.std.proofs.lemmas.List.Filters.{All-dedup}
 use Rattle.std.proofs.lemmas.List.Sorted.{All-permutation}
 use Rattle.std.proofs.lemmas.Cmp.{on_total, then_total}
 use Rattle.wb_names.specs.Values.{NameValue, DrawopValue}
+use Rattle.wb_names.specs.Listing.{Lists}
 use Rattle.wb_names.specs.Orders.{same_page}
 use Rattle.wb_names.specs.History.{IsHeld, name_of}
 use Rattle.wb_names.specs.declared.name.PageId.{PageId}
@@ -60,12 +61,17 @@ pushed_from_held history page n h =
     let c = Contains-filter (is_on page) history d (h.0, h.2, h.3) on in
     Contains-map number_of (filter (is_on page) history) n (c.0, d, c.1, c.2, number_parts _ _ _ _ (ap (λ (m : NameValue). m.source) h.4) (ap (λ (m : NameValue). m.seq) h.4))
 
+-- what was sorted, each kept once, has the members that it had
+pub left_listed : (pushed sorted left : List Number) → IsPermutation pushed sorted → IsSorted number_cmp sorted → left ≡ dedup same_number sorted → Lists number_cmp (Contains pushed) left
+left_listed pushed sorted left moved rises once =
+    subst (Lists number_cmp (Contains pushed)) (sym once)
+    (lists_from_dedup number_total (equality number_total same_number number_ties) same_number-is number_ties pushed sorted moved rises)
+
 pub numbers_listed : (history : List DrawopValue) (page : PageId) (pushed sorted left : List Number) → pushed ≡ map number_of (filter (is_on page) history) → IsPermutation pushed sorted → IsSorted number_cmp sorted → left ≡ dedup same_number sorted → AreNumbers history page left
 numbers_listed history page pushed sorted left is moved rises once =
     let all : List Number = map number_of (filter (is_on page) history) in
-    subst (AreNumbers history page) (sym once)
-    (lists_same number_total (Contains all) (λ (n : Number). IsHeld history page n.source n.seq) _ (held_from_pushed history page) (pushed_from_held history page)
-    (lists_from_dedup number_total (equality number_total same_number number_ties) same_number-is number_ties all sorted (subst (λ (xs : List Number). IsPermutation xs sorted) is moved) rises))
+    lists_same number_total (Contains all) (λ (n : Number). IsHeld history page n.source n.seq) left (held_from_pushed history page) (pushed_from_held history page)
+    (left_listed all sorted left (subst (λ (xs : List Number). IsPermutation xs sorted) is moved) rises once)
 
 pub positive_left : (pushed sorted left : List Number) → All (λ n. 1 ≤ n.seq) pushed → IsPermutation pushed sorted → left ≡ dedup same_number sorted → All (λ n. 1 ≤ n.seq) left
 positive_left pushed sorted left all moved once =

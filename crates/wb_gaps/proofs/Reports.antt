@@ -9,6 +9,7 @@ use Rattle.wb_names.specs.Marks.{mark_of, IsReport}
 use Rattle.wb_names.specs.declared.name.PageId.{PageId}
 use Rattle.wb_names.proofs.Orders.{and_both, same_page-is, name_parts}
 use Rattle.wb_gaps.specs.Numbers.{AreNumbers}
+use Rattle.wb_gaps.specs.Candidates.{HasGreatest}
 use Rattle.wb_gaps.specs.Greatest.{IsGreatest}
 use Rattle.wb_gaps.specs.LastNumbers.{HasNumber, AreGreatest}
 use Rattle.wb_gaps.proofs.HeldNumbers.{same_page-here}
@@ -76,8 +77,8 @@ highest_from_marks history page numbers marks held tops source =
     (λ n h. (held.members (record { source = source; seq = n })).0 h)
     (λ n h. (held.members (record { source = source; seq = n })).1 h)
 
--- and so they are the report, since there are no more of them than members
-pub is_report : (history : List DrawopValue) (page : PageId) (numbers : List Number) (marks : List MarkValue) → AreNumbers history page numbers → AreGreatest numbers marks → length numbers ≤ length history → length history ≤ 65535 → IsReport history page marks
-is_report history page numbers marks held tops short few =
+-- where the greatest of each source's numbers is the greatest that is held, their marks are the report
+pub is_report : (history : List DrawopValue) (page : PageId) (numbers : List Number) (marks : List MarkValue) → HasGreatest history page numbers → AreGreatest numbers marks → length numbers ≤ length history → length history ≤ 65535 → IsReport history page marks
+is_report history page numbers marks has tops short few =
     let fewer = tops.few in
-    (record { ascending = tops.ascending; positive = tops.positive; few = omega arith }, highest_from_marks history page numbers marks held tops)
+    (record { ascending = tops.ascending; positive = tops.positive; few = omega arith }, λ source. one_greatest (HasNumber numbers source) (HasNumber numbers source) _ _ (tops.greatest source) (has source) (λ n h. h) (λ n h. h))

@@ -9,4 +9,5 @@ pub mod Laws
 pub mod Numbers
 pub mod LastNumbers
 pub mod Joining
+pub mod Candidates
 pub mod Ranges

@@ -29,7 +29,7 @@ impl Number {
 
     /// The order of numbers, which is that of their words.
     #[inline(always)]
-    fn order(&self, other: &Number) -> Ordering
+    pub(crate) fn order(&self, other: &Number) -> Ordering
         ensures { result ≡ number_cmp self.now other.now }
     {
         self.word().cmp(&other.word())

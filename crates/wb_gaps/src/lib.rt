@@ -3,14 +3,16 @@
 //! Members of a whiteboard find their losses by comparing what they hold with what others report. For a
 //! list of drawops this crate answers which pages it has (`page_list`), the greatest number of each
 //! source on a page (`page_report`) and on every page (`page_reports`), and which numbers are missing on
-//! a page (`missing`); and it merges what two members reported (`merged`). Each answer is a walk over the
-//! sorted numbers that the page holds (`held`), the last of each source (`highest`), or two lists of
-//! marks taken as one (`joined`).
+//! a page (`missing`); and it merges what two members reported (`merged`). Each answer is a walk over
+//! sorted numbers, of which gaps want all that the page holds (`held`) and a report those that may be the
+//! greatest of their source (`candidates`), the last of each source (`highest`), or two lists of marks
+//! taken as one (`joined`).
 //!
 //! It knows no board, no clock and no datagram, and it asks for nothing that is missing. It needs no
 //! order of the list, and a name may stand twice in it.
 #![tactic(auto)]
 
+mod candidates;
 mod held;
 mod highest;
 mod joined;

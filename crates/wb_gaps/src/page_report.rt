@@ -3,7 +3,7 @@
 ghost use Rattle.std.specs.Prelude.{◌≤◌, IfOk, length};
 ghost use Rattle.wb_names.specs.Marks.{IsReport};
 
-use crate::held::numbers;
+use crate::candidates::candidates;
 use crate::highest::highs;
 use crate::mark_list::as_marks;
 use std::alloc::{AllocError, Global};
@@ -16,7 +16,7 @@ pub fn report(alloc: Global, list: &[Drawop], page: PageId) -> Result<Marks, All
     requires { length list.now ≤ 65535 }
     ensures { IfOk result (λ marks. IsReport list.now page marks) }
 {
-    let held = numbers(alloc, list, page)?;
-    let marks = highs(alloc, held.as_slice())?;
+    let numbers = candidates(alloc, list, page)?;
+    let marks = highs(alloc, numbers.as_slice())?;
     Ok(as_marks(marks))
 }
