@@ -1,0 +1,143 @@
+#!/usr/bin/env python3
+"""Times whole runs of the program over scripts that are the same each time: wb.py TOP [WORDS OF `wb run` ..]
+
+Forty sources draw 60,000 drawops on four pages in turn: lines, frames and texts, at random places. A script is
+
+    arrivals   a board, and the drawops
+    repeated   the same, and then all drawops once more
+    shows      the same as arrivals, with a page shown after each 1,000 drawops
+    losses     the same as arrivals, of which each tenth is lost and comes 5,000 drawops later. After each 100 the clock
+               goes on, and others ask for drawops and tell what they have; after each 1,000 a page is looked through
+
+Each script is run so often, and the least and the median are printed, in nanoseconds a line: by the clock, and of
+processors. The start of the program is in them.
+"""
+
+import os
+import subprocess
+import sys
+import tempfile
+import time
+
+ROUNDS = 25
+COUNT = 60_000
+LATER = 5_000
+
+
+class Numbers:
+    """Random numbers of a multiplicative generator with a fixed seed."""
+
+    def __init__(self):
+        self.state = 20260101
+
+    def below(self, bound):
+        self.state = self.state * 16807 % 2147483647
+        return self.state % bound
+
+
+def name(place):
+    """Source, page and number of a drawop."""
+    return f"{100 + place % 40} 7/{1 + place // 40 % 4} {1 + place // 160}"
+
+
+def shape(numbers):
+    kind, x, y = numbers.below(10), numbers.below(160), numbers.below(80)
+    if kind < 6:
+        return f"line {x} {y} {numbers.below(160)} {numbers.below(80)} *"
+    if kind < 8:
+        return f"frame {x} {y} {x + numbers.below(20)} {y + numbers.below(10)} #"
+    return f'text {x} {y} "meet at noon, room {1 + numbers.below(9)}"'
+
+
+def drawops(numbers):
+    return [f"draw {name(place)} {1000 + numbers.below(1_000_000)} {shape(numbers)}" for place in range(COUNT)]
+
+
+def shows(lines):
+    """The lines, with a page shown after each 1,000."""
+    for place, line in enumerate(lines):
+        yield line
+        if place % 1_000 == 999:
+            yield f"show 7 {1 + place // 1_000 % 4} 160 80"
+
+
+def others(numbers, place, moment):
+    """What others send: requests for a drawop that most likely is held and for one that is lost, and what one has."""
+    yield f"request 90 {name(numbers.below(place))}"
+    yield f"request 91 {name(place - place % 10)}"
+    mark = f"{100 + numbers.below(40)}={1 + place // 160}"
+    yield f"session-message 92 {moment} 7/{1 + numbers.below(4)} {mark}"
+
+
+def losses(numbers, lines):
+    for source in range(100, 140):
+        yield f"distance {source} {10_000 + numbers.below(90_000)}"
+    moment = 0
+    for place, line in enumerate(lines):
+        if place % 10 != 0:
+            yield line
+        elif place >= LATER:
+            yield lines[place - LATER]
+        if place % 100 == 99:
+            moment += 20_000
+            yield f"tick {moment}"
+            yield from others(numbers, place, moment)
+        if place % 1_000 == 999:
+            yield f"look 7 {1 + numbers.below(4)}"
+
+
+def script(kind):
+    """The lines of a script, its datagrams in words."""
+    numbers = Numbers()
+    lines = drawops(numbers)
+    made = {
+        "arrivals": lambda: lines,
+        "repeated": lambda: lines + lines,
+        "shows": lambda: shows(lines),
+        "losses": lambda: losses(numbers, lines),
+    }[kind]()
+    return "".join(f"{line}\n" for line in ["board 1 65535 1 42", *made]).encode()
+
+
+def time_once(command, given):
+    """Nanoseconds of one run over these bytes, by the clock and of processors."""
+    with tempfile.TemporaryFile() as standing:
+        standing.write(given)
+        standing.flush()
+        standing.seek(0)
+        start = time.perf_counter_ns()
+        running = subprocess.Popen(command, stdin=standing, stdout=subprocess.DEVNULL)
+        _, status, usage = os.wait4(running.pid, 0)
+        taken = time.perf_counter_ns() - start
+    if status != 0:
+        sys.exit(f"{' '.join(command)}: status {os.waitstatus_to_exitcode(status)}")
+    return taken, int((usage.ru_utime + usage.ru_stime) * 1_000_000_000)
+
+
+def print_row(label, command, given):
+    lines = given.count(b"\n")
+    rounds = [time_once(command, given) for _ in range(ROUNDS)]
+    cells = []
+    for times in zip(*rounds):
+        ordered = sorted(times)
+        cells += [ordered[0] // lines, ordered[len(ordered) // 2] // lines]
+    print(f"{label:<20}{lines:>8}" + "".join(f"{cell:>10}" for cell in cells), flush=True)
+
+
+def main():
+    top, words = sys.argv[1], sys.argv[2:]
+    subprocess.run([f"{top}/wb", "hex"], stdin=subprocess.DEVNULL, check=True)
+    program = f"{top}/crates/wb/out/wb"
+    print("nanoseconds a line: by the clock, least and median, and of processors, least and median")
+    for kind in ["arrivals", "repeated", "shows", "losses"]:
+        told = script(kind)
+        given = subprocess.run([program, "hex"], input=told, stdout=subprocess.PIPE, check=True).stdout
+        print_row(f"run, {kind}", [program, "run", *words], given)
+        if kind == "arrivals":
+            print_row("check, arrivals", [program, "check"], given)
+            print_row("hex, arrivals", [program, "hex"], told)
+            print_row("words, arrivals", [program, "words"], given)
+
+
+if __name__ == "__main__":
+    main()
