@@ -58,7 +58,7 @@ fn run_command<'a>(alloc: Global) -> Result<Command<'a>, AllocError> {
         .long("workers")
         .value_name("N")
         .help(
-            "Takes arrivals by N workers, 1 to 8, whatever the script says: without effect yet, since scripts run on one thread",
+            "Takes each batch of arrivals by N workers, 1 to 8, in place of those that the script's board names",
         )
         .value_parser(value_parser!(u32).range(1..=8))
         .action(ArgAction::Set);

@@ -2,9 +2,11 @@ use crate::command::{Task, task_of};
 use clap::Error;
 use clap::error::ErrorKind;
 use std::alloc::{AllocError, Global};
+use std::sync::Wait;
+use std::thread::Threads;
 use wb_filters::{FilterFault, run_filter};
 use wb_names::{Sink, Source};
-use wb_script::{RunFault, check, run};
+use wb_script::{NoGate, RunFault, check, run};
 
 const DONE: u8 = 0;
 
@@ -102,15 +104,16 @@ fn approve<W: Sink>(alloc: Global, sink: &mut W, lines: u32) -> Result<(), RunFa
     }
 }
 
-fn perform<R: Source, W: Sink>(
+fn perform<T: Threads + Wait + Sync, R: Source, W: Sink>(
+    rt: &T,
     alloc: Global,
     task: Task,
     source: &mut R,
     sink: &mut W,
 ) -> Result<(), Failure> {
     match task {
-        Task::Run { .. } => {
-            run(alloc, source, sink)?;
+        Task::Run { workers } => {
+            run(rt, alloc, source, sink, workers, &NoGate)?;
         }
         Task::Check => {
             let lines = check(alloc, source)?;
@@ -125,8 +128,9 @@ fn perform<R: Source, W: Sink>(
 
 /// Does what the words after the program's name ask for, and answers the status of the program: 0;
 /// 1 where a line is refused or a limit is passed; 2 where the words are not understood, or ask for
-/// help, and then nothing is read; 3 where reading or writing fails; 4 where memory is refused.
-pub fn serve<T: AllocGlobal, R: Source, W: Sink, E: Sink>(
+/// help, and then nothing is read; 3 where reading or writing fails; 4 where memory or a thread is
+/// refused. Only a script may wait for other threads: those of its own workers.
+pub fn serve<T: AllocGlobal + Threads + Wait + Sync, R: Source, W: Sink, E: Sink>(
     rt: &T,
     words: &[&str],
     source: &mut R,
@@ -138,7 +142,7 @@ pub fn serve<T: AllocGlobal, R: Source, W: Sink, E: Sink>(
         Ok(task) => task,
         Err(error) => return misuse(alloc, errors, error),
     };
-    match perform(alloc, task, source, sink) {
+    match perform(rt, alloc, task, source, sink) {
         Ok(()) => DONE,
         Err(failure) => report(alloc, errors, failure),
     }

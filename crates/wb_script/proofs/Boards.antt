@@ -1,43 +1,27 @@
 -- What the desk that owns all rows of a board is answered: p is the desk before the call, q the desk after it.
-use Rattle.std.proofs.Common.{◌≡◌, ℕ, ◌+◌, ◌<◌, ◌≤◌, List, [], ◌∷◌, length, take, sym, ap, ◌∙◌, subst, arith, ◌⊎◌, inl, inr}
-use Rattle.std.specs.Prelude.{Some, None, Result, Ok, Err, IfOk}
-use Rattle.std.proofs.lemmas.List.{length-append, take-append-le, take_all}
+use Rattle.std.proofs.Common.{◌≡◌, ℕ, ◌+◌, ◌<◌, ◌≤◌, ◌^◌, Bool, true, false, List, [], ◌∷◌, length, take, refl, sym, ap, ◌∙◌, subst, arith, ◌⊎◌, inl, inr}
+use Rattle.std.specs.Prelude.{Some, None, Result, Ok, Err, IfOk, IsPermutation, nat_le, ◌||◌}
+use Rattle.std.proofs.lemmas.Bool.{false≢true}
+use Rattle.std.proofs.lemmas.Bool.Decides.{nat_tests}
+use Rattle.std.proofs.lemmas.List.{take_all}
+use Rattle.std.proofs.lemmas.List.Sorted.{IsPermutation-refl}
 use Rattle.wb_names.specs.Values.{DrawopValue, MarkValue}
 use Rattle.wb_names.specs.declared.name.PageId.{PageId}
-use Rattle.wb_names.specs.History.{HoldsName, IsAgainAt, IsClashAt}
-use Rattle.wb_names.specs.Arrivals.{Outcome, Fresh, Known, Clashed, Left, IsTaken, history_with, outcome_of}
-use Rattle.wb_names.proofs.Arrivals.{outcome_is}
+use Rattle.wb_names.specs.Arrivals.{counts_of, outcomes_of}
+use Rattle.wb_names.proofs.Arrivals.{batch_is}
 use Rattle.wb_history.specs.Passes.{HistoryValue, PassValue, IsSamePass, IsSound, KeepsRows}
 use Rattle.wb_names.specs.declared.gap.Gap.{Gap}
 use Rattle.wb_host.specs.Board.{IsAnswer, AskGaps, AskReport, AskPages, AskView, Gaps, Marks, Pages, Shown}
 use Rattle.wb_host.specs.Desks.{ReadsOn}
-use Rattle.wb_host.specs.Replies.{Accepted, NotAccepted}
-use Rattle.wb_host.specs.declared.reply.Reply.{Reply}
-use Rattle.wb_host.specs.declared.reply.Reply.TheVariants.{New, Again, Clash}
-use Rattle.wb_host.specs.declared.reply.BoardFault.TheVariants.{NoRow, Memory}
+use Rattle.wb_feed.specs.declared.batch.Batch.{Batch}
+use Rattle.wb_feed.specs.Accepts.{Keeps as DeskKeeps}
+use Rattle.wb_feed.specs.Batches.{counts_in, IsInOrder, TakesMore}
 use Rattle.wb_script.specs.Board.{Held, held_of, OwnsAll}
+use Rattle.wb_script.specs.Hosts.{board_after}
 use Rattle.wb_script.specs.Queries.{view_of, gaps_of, report_of, pages_of}
-use Rattle.wb_script.specs.Reply.{became}
+use Rattle.wb_script.specs.Stations.{TakesAll}
 use Rattle.wb_script.proofs.MissingRanges.{only_gaps}
 use Rattle.wb_script.proofs.Queries.{only_view, only_report, only_pages}
-
--- one thread answers this outcome, and holds this then; the desk still owns all rows
-pub record Settles (b : HistoryValue) (p : PassValue) (d : DrawopValue) (q : PassValue) (o : Outcome) : Type 0 where
-  pub outcome : o ≡ outcome_of p.cells p.seen d
-  pub held : q.seen ≡ history_with p.seen d (outcome_of p.cells p.seen d)
-  pub owns : OwnsAll b q
-
--- the same, of the board as a script sees it
-pub outcome_at : (b : HistoryValue) (p q : PassValue) (d : DrawopValue) (o : Outcome) (h : Held) → held_of p ≡ h → Settles b p d q o → o ≡ outcome_of h.cells h.drawops d
-outcome_at b p q d o h view s = subst (λ (k : Held). o ≡ outcome_of k.cells k.drawops d) view s.outcome
-
-pub held_at : (b : HistoryValue) (p q : PassValue) (d : DrawopValue) (o : Outcome) (h : Held) → held_of p ≡ h → Settles b p d q o → q.seen ≡ history_with h.drawops d (outcome_of h.cells h.drawops d)
-held_at b p q d o h view s = subst (λ (k : Held). q.seen ≡ history_with k.drawops d (outcome_of k.cells k.drawops d)) view s.held
-
-settles : (b : HistoryValue) (p q : PassValue) (d : DrawopValue) (o : Outcome) → IsSound p → OwnsAll b q → IsTaken p.cells p.seen d o → q.seen ≡ history_with p.seen d o → Settles b p d q o
-settles b p q d o sound owns taken seen =
-    let is = outcome_is p.cells p.seen d o sound.history taken in
-    record { outcome = is; held = seen ∙ ap (history_with p.seen d) is; owns = owns }
 
 kept : (b : HistoryValue) (p q : PassValue) → OwnsAll b p → IsSamePass p q → IsSound q → KeepsRows p q → OwnsAll b q
 kept b p q owns same sound rows = record {
@@ -46,41 +30,46 @@ kept b p q owns same sound rows = record {
   whole = ap (λ (n : ℕ). n + length q.mine) rows.1 ∙ ap (λ (m : List ℕ). p.free + length m) rows.0 ∙ owns.whole ∙ sym same.1;
 }
 
-pub accepted : (b : HistoryValue) (p q : PassValue) (d : DrawopValue) (r : Reply) → OwnsAll b p → IsSamePass p q → IsSound q → Accepted p d q r → Settles b p d q (became (Some r))
-accepted b p q d (New i) owns same sound a =
-    let seen = a.alone owns.whole in
-    let long : length q.seen ≡ length p.seen + 1 = ap length seen ∙ length-append p.seen (d ∷ []) in
-    let last = a.last in
-    let place : i ≡ length p.seen = omega arith in
-    let front : take i q.seen ≡ p.seen = ap (λ (n : ℕ). take n q.seen) place ∙ ap (take (length p.seen)) seen ∙ take-append-le (length p.seen) p.seen (d ∷ []) (omega arith) ∙ take_all (length p.seen) p.seen (omega arith) in
-    let absent : HoldsName p.seen d.name → ⊥ = λ h. a.new.1 (subst (λ (l : List DrawopValue). HoldsName l d.name) (sym front) h) in
-    let row = a.row in
-    let room = owns.sound.room in
-    let cell : length p.seen < p.cells = omega arith in
-    let mine : length q.mine ≡ length p.mine + 1 = ap length a.gains ∙ length-append p.mine (i ∷ []) in
-    let whole = owns.whole in
-    let cells = same.1 in
-    let all : q.free + length q.mine ≡ q.cells = omega arith in
-    settles b p q d (Fresh i) owns.sound (record { from = same.0 ∙ owns.from; whole = all; sound = sound }) ((place, absent), cell) seen
-accepted b p q d (Again i) owns same sound a =
-    let seen = a.1.1 owns.whole in
-    settles b p q d (Known i) owns.sound (kept b p q owns same sound a.1.0) (subst (λ (l : List DrawopValue). IsAgainAt l d i) seen a.0) seen
-accepted b p q d (Clash i) owns same sound a =
-    let seen = a.1.1 owns.whole in
-    settles b p q d (Clashed i) owns.sound (kept b p q owns same sound a.1.0) (subst (λ (l : List DrawopValue). IsClashAt l d i) seen a.0) seen
+-- ---- a batch
 
-pub left_over : (b : HistoryValue) (p q : PassValue) (d : DrawopValue) → OwnsAll b p → IsSamePass p q → IsSound q → NotAccepted p d q NoRow → Settles b p d q (became None)
-left_over b p q d owns same sound a =
-    let seen = a.kept.1 owns.whole in
-    let none = a.none_left in
-    let free = a.kept.0.1 in
-    let whole = owns.whole in
-    let many = owns.sound.as_many owns.whole in
-    let full : p.cells ≤ length p.seen = omega arith in
-    settles b p q d Left owns.sound (kept b p q owns same sound a.kept.0) (full, subst (λ (l : List DrawopValue). HoldsName l d.name → ⊥) seen a.absent) seen
+-- a desk that took a batch still owns all rows
+pub owns_after : (b : HistoryValue) (p q : PassValue) (given given' : List DrawopValue) (workers : ℕ) (n : Batch) → OwnsAll b p → DeskKeeps p q → IsSound q → TakesMore p given workers q given' n → OwnsAll b q
+owns_after b p q given given' workers n owns keeps sound takes = record { from = keeps.same.0 ∙ owns.from; whole = takes.takes.whole owns.whole; sound = sound }
 
-pub no_memory : (b : HistoryValue) (p q : PassValue) (d : DrawopValue) → OwnsAll b p → IsSamePass p q → IsSound q → NotAccepted p d q Memory → OwnsAll b q
-no_memory b p q d owns same sound a = kept b p q owns same sound a.0
+-- a source that is at its end has given its list
+all_given : (all : List DrawopValue) (given : ℕ) → length all < 2 ^ 32 → nat_le (length all) given || nat_le 4294967295 given ≡ true → take given all ≡ all
+all_given all given few e = take_all given all (long (nat_le (length all) given) (nat_le 4294967295 given) refl refl e) where
+  long : (a b : Bool) → nat_le (length all) given ≡ a → nat_le 4294967295 given ≡ b → a || b ≡ true → length all ≤ given
+  long true b x y f = grind (arith, nat_tests, x)
+  long false true x y f = let z : 4294967295 ≤ given = grind (arith, nat_tests, y) in omega (arith, few, z)
+  long false false x y f = absurd (false≢true f)
+
+-- one thread that takes it in this order
+in_order : (p q : PassValue) (h : Held) (workers : ℕ) (batch order : List DrawopValue) (n : Batch) → held_of p ≡ h → IsSound p → q.cells ≡ p.cells → IsPermutation batch order → (workers ≤ 1 → order ≡ batch) → IsInOrder p order q n → TakesAll h workers batch (held_of q) (counts_in n)
+in_order p q h workers batch order n view sound cells moved alone taken =
+    let r = batch_is p.cells p.seen order q.seen (counts_in n) sound.history taken in
+    record {
+      order = order;
+      may = record { moved = moved; alone = alone };
+      held = ap (λ (c : ℕ). let k : Held = record { cells = c; drawops = q.seen } in k) cells ∙ ap (λ (ds : List DrawopValue). let k : Held = record { cells = p.cells; drawops = ds } in k) r.0 ∙ ap (λ (k : Held). board_after k order) view;
+      counts = r.1 ∙ ap (λ (k : Held). counts_of (outcomes_of k.cells k.drawops order)) view;
+    }
+
+-- what a batch leads to that was given whole
+pub taken_all : (b : HistoryValue) (p q : PassValue) (h : Held) (workers : ℕ) (batch all : List DrawopValue) (given : ℕ) (n : Batch) → held_of p ≡ h → OwnsAll b p → 0 < workers → length batch < 2 ^ 32 → all ≡ batch → nat_le (length all) given || nat_le 4294967295 given ≡ true
+    → DeskKeeps p q → TakesMore p [] workers q (take given all) n → TakesAll h workers batch (held_of q) (counts_in n)
+taken_all b p q h workers batch all given n view owns some few same ended keeps takes = at (nat_le workers 1) refl where
+  more : takes.more ≡ batch
+  more = sym takes.next ∙ all_given all given (subst (λ (l : List DrawopValue). length l < 2 ^ 32) (sym same) few) ended ∙ same
+  at : (alone : Bool) → nat_le workers 1 ≡ alone → TakesAll h workers batch (held_of q) (counts_in n)
+  at true e =
+      let low : workers ≤ 1 = grind (arith, nat_tests, e) in
+      let one : workers ≡ 1 = omega (arith, low, some) in
+      in_order p q h workers batch batch n view owns.sound keeps.same.1 (IsPermutation-refl batch) (λ a. refl) (subst (λ (l : List DrawopValue). IsInOrder p l q n) more (takes.takes.in_order one owns.whole))
+  at false e =
+      let high : 1 < workers = grind (arith, nat_tests, e) in
+      let settled = takes.takes.settled owns.whole in
+      in_order p q h workers batch settled.order n view owns.sound keeps.same.1 (subst (λ (l : List DrawopValue). IsPermutation l settled.order) more settled.moved) (λ a. absurd (omega (arith, a, high))) settled.taken
 
 -- a question: the desk still owns all rows, and holds the same
 pub read_on : (b : HistoryValue) (p q : PassValue) → OwnsAll b p → ReadsOn p q → OwnsAll b q

@@ -4,6 +4,7 @@ use Rattle.std.specs.Prelude.{Option, Some, None, IsPermutation, nat_lt, ◌||�
 use Rattle.std.specs.Str.Lines.{strip_carriage_return}
 use Rattle.std.proofs.lemmas.List.{append-nil}
 use Rattle.std.proofs.lemmas.List.Sorted.{IsPermutation-refl}
+use Rattle.std.specs.Prelude.{unwrap_or}
 use Rattle.wb_names.specs.Values.{DrawopValue}
 use Rattle.wb_names.specs.Arrivals.{history_after}
 use Rattle.wb_names.specs.declared.name.PageId.{PageId}
@@ -25,7 +26,7 @@ use Rattle.wb_script.specs.Hosts.{Opened, opened, present, board_after, host_aft
 use Rattle.wb_script.specs.Laws.{NoneClash, HasCells}
 use Rattle.wb_script.specs.Parsing.{line_of}
 use Rattle.wb_script.specs.Queries.{view_of}
-use Rattle.wb_script.specs.Script.{InputLine, input_lines, content, State, start, closing_text, after_batch, Step, goes, refused, step_by, acts, line_step, said_step, step_of, Outcome, prints, before, finish, summary, proceed, outcome_from}
+use Rattle.wb_script.specs.Script.{InputLine, input_lines, content, State, start, closing_text, after_batch, Step, goes, refused, step_by, acts, line_step, said_step, step_of, Outcome, prints, before, answer, finish, proceed, outcome_from}
 use Rattle.wb_script.specs.ScriptLaws.{EachEnds}
 use Rattle.wb_script.specs.Shows.{arrived_by, arrivals_of, cells_by, cells_of, EndsWith, canvas_after, ShowsArrivals, ShowsAreFree}
 use Rattle.wb_script.proofs.FreeArrivals.{batches_are_one, free_on, once_held}
@@ -49,8 +50,8 @@ record Kept (host : Option Opened) (ds : List DrawopValue) (said : Result Line L
   leads : Leads t.host t.waiting (ds ++ arrived_by said)
   cells : (later : ℕ) → cells_at t.host later ≡ cells_at host (cells_by said later)
 
-abbrev state : Option Opened → List DrawopValue → State
-state host waiting = record { host = host; waiting = waiting }
+abbrev state : Option ℕ → Option Opened → List DrawopValue → State
+state k host waiting = record { host = host; workers = k; waiting = waiting }
 
 kept_by : (host : Option Opened) (ds : List DrawopValue) (said : Result Line LineFault) (u t : State) (x y : List ℕ) → Kept host ds said u → goes u x ≡ goes t y → Kept host ds said t
 kept_by host ds said u t x y k e = subst (Kept host ds said) (state_of u t x y e) k
@@ -83,55 +84,55 @@ act_board (Look page) host next printed e = ap (λ (h : Opened). h.board) (sym (
 act_board (Session page) host next printed e = ap (λ (h : Opened). h.board) (sym (same_host (calling (Reported (present host)) 0 host) next _ printed e))
 
 -- the same board, once a batch was taken
-act_kept : (first host : Opened) (waiting ds : List DrawopValue) (line : Line) (text : List ℕ) (t : State) (y : List ℕ) → arrived_by (Ok line) ≡ [] → ((later : ℕ) → cells_by (Ok line) later ≡ later) → Leads (Some first) waiting ds → host.board ≡ board_after first.board waiting
-    → (a : Act) → act line host ≡ a → step_by text a host ≡ goes t y → Kept (Some first) ds (Ok line) t
-act_kept first host waiting ds line text t y none same h is (fails f) acted e = absurd cc
-act_kept first host waiting ds line text t y none same h is (does next printed) acted e =
+act_kept : (k : Option ℕ) (first host : Opened) (waiting ds : List DrawopValue) (line : Line) (text : List ℕ) (t : State) (y : List ℕ) → arrived_by (Ok line) ≡ [] → ((later : ℕ) → cells_by (Ok line) later ≡ later) → Leads (Some first) waiting ds → host.board ≡ board_after first.board waiting
+    → (a : Act) → act line host ≡ a → step_by k text a host ≡ goes t y → Kept (Some first) ds (Ok line) t
+act_kept k first host waiting ds line text t y none same h is (fails f) acted e = absurd cc
+act_kept k first host waiting ds line text t y none same h is (does next printed) acted e =
     let board : next.board ≡ board_after first.board waiting = act_board line host next printed acted ∙ is in
     let after : history_after first.board.cells first.board.drawops waiting ≡ history_after first.board.cells [] (ds ++ arrived_by (Ok line)) =
     h ∙ ap (history_after first.board.cells []) (sym (append-nil ds) ∙ ap (λ (l : List DrawopValue). ds ++ l) (sym none)) in
-    kept_by (Some first) ds (Ok line) (state (Some next) []) t (text ++ printed) y
+    kept_by (Some first) ds (Ok line) (state k (Some next) []) t (text ++ printed) y
     (record {
       leads = subst (λ (b : Held). b.drawops ≡ history_after b.cells [] (ds ++ arrived_by (Ok line))) (sym board) after;
       cells = λ later. ap (λ (b : Held). b.cells) board;
     }) e
 
-acts_kept : (host : Option Opened) (waiting ds : List DrawopValue) (line : Line) (t : State) (y : List ℕ) → arrived_by (Ok line) ≡ [] → ((later : ℕ) → cells_by (Ok line) later ≡ later) → Leads host waiting ds
-    → acts (after_batch (state host waiting)) (closing_text (state host waiting)) line ≡ goes t y → Kept host ds (Ok line) t
-acts_kept None waiting ds line t y none same h e = absurd cc
-acts_kept (Some host) waiting ds line t y none same h e =
-    act_kept host (host_after host waiting) waiting ds line (batch_text host.board waiting) t y none same h refl (act line (host_after host waiting)) refl e
+acts_kept : (k : Option ℕ) (host : Option Opened) (waiting ds : List DrawopValue) (line : Line) (t : State) (y : List ℕ) → arrived_by (Ok line) ≡ [] → ((later : ℕ) → cells_by (Ok line) later ≡ later) → Leads host waiting ds
+    → acts (after_batch (state k host waiting) waiting) (closing_text (state k host waiting) waiting) line ≡ goes t y → Kept host ds (Ok line) t
+acts_kept k None waiting ds line t y none same h e = absurd cc
+acts_kept k (Some host) waiting ds line t y none same h e =
+    act_kept k host (host_after host waiting waiting) waiting ds line (batch_text host.board waiting) t y none same h refl (act line (host_after host waiting waiting)) refl e
 
-arrives_kept : (host : Option Opened) (waiting ds : List DrawopValue) (d : DrawopValue) (t : State) (y : List ℕ) → Leads host waiting ds → said_step (state host waiting) (Ok (Arrive d)) ≡ goes t y → Kept host ds (Ok (Arrive d)) t
-arrives_kept None waiting ds d t y h e = absurd cc
-arrives_kept (Some host) waiting ds d t y h e =
+arrives_kept : (k : Option ℕ) (host : Option Opened) (waiting ds : List DrawopValue) (d : DrawopValue) (t : State) (y : List ℕ) → Leads host waiting ds → said_step (state k host waiting) waiting (Ok (Arrive d)) ≡ goes t y → Kept host ds (Ok (Arrive d)) t
+arrives_kept k None waiting ds d t y h e = absurd cc
+arrives_kept k (Some host) waiting ds d t y h e =
     let b : Held = host.board in
-    kept_by (Some host) ds (Ok (Arrive d)) (state (Some host) (waiting ++ d ∷ [])) t [] y
+    kept_by (Some host) ds (Ok (Arrive d)) (state k (Some host) (waiting ++ d ∷ [])) t [] y
     (record {
       leads = batches_are_one b.cells b.drawops waiting (d ∷ []) ∙ ap (λ (l : List DrawopValue). history_after b.cells l (d ∷ [])) h ∙ sym (batches_are_one b.cells [] ds (d ∷ []));
       cells = λ later. refl;
     }) e
 
-opens_kept : (host : Option Opened) (waiting ds : List DrawopValue) (member cells workers seed : ℕ) (t : State) (y : List ℕ) → Leads host waiting ds → said_step (state host waiting) (Ok (Board member cells workers seed)) ≡ goes t y → Kept host ds (Ok (Board member cells workers seed)) t
-opens_kept None waiting ds member cells workers seed t y h e =
-    kept_by None ds (Ok (Board member cells workers seed)) (state (Some (opened member cells seed)) []) t [] y
+opens_kept : (k : Option ℕ) (host : Option Opened) (waiting ds : List DrawopValue) (member cells workers seed : ℕ) (t : State) (y : List ℕ) → Leads host waiting ds → said_step (state k host waiting) waiting (Ok (Board member cells workers seed)) ≡ goes t y → Kept host ds (Ok (Board member cells workers seed)) t
+opens_kept k None waiting ds member cells workers seed t y h e =
+    kept_by None ds (Ok (Board member cells workers seed)) (state (Some (unwrap_or k workers)) (Some (opened member cells seed)) []) t [] y
     (record { leads = ap (history_after cells []) (sym (ap (λ (l : List DrawopValue). l ++ []) h)); cells = λ later. refl }) e
-opens_kept (Some host) waiting ds member cells workers seed t y h e = absurd cc
+opens_kept k (Some host) waiting ds member cells workers seed t y h e = absurd cc
 
-step_kept : (host : Option Opened) (waiting ds : List DrawopValue) (said : Result Line LineFault) (t : State) (y : List ℕ) → Leads host waiting ds → said_step (state host waiting) said ≡ goes t y → Kept host ds said t
-step_kept host waiting ds (Ok Skip) t y h e = kept_by host ds (Ok Skip) (state host waiting) t [] y (record { leads = leads_on host waiting ds h; cells = λ later. refl }) e
-step_kept host waiting ds (Ok (Arrive d)) t y h e = arrives_kept host waiting ds d t y h e
-step_kept host waiting ds (Ok (Board member cells workers seed)) t y h e = opens_kept host waiting ds member cells workers seed t y h e
-step_kept host waiting ds (Ok (Hear v)) t y h e = acts_kept host waiting ds (Hear v) t y refl (λ later. refl) h e
-step_kept host waiting ds (Ok (Distance source micros)) t y h e = acts_kept host waiting ds (Distance source micros) t y refl (λ later. refl) h e
-step_kept host waiting ds (Ok (Tick moment)) t y h e = acts_kept host waiting ds (Tick moment) t y refl (λ later. refl) h e
-step_kept host waiting ds (Ok (Look page)) t y h e = acts_kept host waiting ds (Look page) t y refl (λ later. refl) h e
-step_kept host waiting ds (Ok (Session page)) t y h e = acts_kept host waiting ds (Session page) t y refl (λ later. refl) h e
-step_kept host waiting ds (Ok (Show page width height)) t y h e = acts_kept host waiting ds (Show page width height) t y refl (λ later. refl) h e
-step_kept host waiting ds (Ok (Gaps page)) t y h e = acts_kept host waiting ds (Gaps page) t y refl (λ later. refl) h e
-step_kept host waiting ds (Ok (Report page)) t y h e = acts_kept host waiting ds (Report page) t y refl (λ later. refl) h e
-step_kept host waiting ds (Ok Pages) t y h e = acts_kept host waiting ds Pages t y refl (λ later. refl) h e
-step_kept host waiting ds (Err f) t y h e = absurd cc
+step_kept : (k : Option ℕ) (host : Option Opened) (waiting ds : List DrawopValue) (said : Result Line LineFault) (t : State) (y : List ℕ) → Leads host waiting ds → said_step (state k host waiting) waiting said ≡ goes t y → Kept host ds said t
+step_kept k host waiting ds (Ok Skip) t y h e = kept_by host ds (Ok Skip) (state k host waiting) t [] y (record { leads = leads_on host waiting ds h; cells = λ later. refl }) e
+step_kept k host waiting ds (Ok (Arrive d)) t y h e = arrives_kept k host waiting ds d t y h e
+step_kept k host waiting ds (Ok (Board member cells workers seed)) t y h e = opens_kept k host waiting ds member cells workers seed t y h e
+step_kept k host waiting ds (Ok (Hear v)) t y h e = acts_kept k host waiting ds (Hear v) t y refl (λ later. refl) h e
+step_kept k host waiting ds (Ok (Distance source micros)) t y h e = acts_kept k host waiting ds (Distance source micros) t y refl (λ later. refl) h e
+step_kept k host waiting ds (Ok (Tick moment)) t y h e = acts_kept k host waiting ds (Tick moment) t y refl (λ later. refl) h e
+step_kept k host waiting ds (Ok (Look page)) t y h e = acts_kept k host waiting ds (Look page) t y refl (λ later. refl) h e
+step_kept k host waiting ds (Ok (Session page)) t y h e = acts_kept k host waiting ds (Session page) t y refl (λ later. refl) h e
+step_kept k host waiting ds (Ok (Show page width height)) t y h e = acts_kept k host waiting ds (Show page width height) t y refl (λ later. refl) h e
+step_kept k host waiting ds (Ok (Gaps page)) t y h e = acts_kept k host waiting ds (Gaps page) t y refl (λ later. refl) h e
+step_kept k host waiting ds (Ok (Report page)) t y h e = acts_kept k host waiting ds (Report page) t y refl (λ later. refl) h e
+step_kept k host waiting ds (Ok Pages) t y h e = acts_kept k host waiting ds Pages t y refl (λ later. refl) h e
+step_kept k host waiting ds (Err f) t y h e = absurd cc
 
 -- ---- whole lines that are run through
 
@@ -152,22 +153,22 @@ record Behind (y text : List ℕ) (sum : Summary) (o : Outcome) : Type 0 where
 behind : (y text : List ℕ) (sum : Summary) (o : Outcome) → before y o ≡ prints text (Ok sum) → Behind y text sum o
 behind y text sum (prints u end) e = record { later = u; is = ap (λ (f : Result Summary RunFault). prints u f) (end_of (y ++ u) text end (Ok sum) e); whole = sym (text_of (y ++ u) text end (Ok sum) e) }
 
-no_fault : (s : State) (text : List ℕ) (sum : Summary) (fault : RunFault) → finish s (Err fault) ≡ prints text (Ok sum) → ⊥
-no_fault s text sum fault e = let ends = end_of (closing_text s) text (Err fault) (Ok sum) e in absurd cc
+no_fault : (s : State) (text : List ℕ) (sum : Summary) (fault : RunFault) → finish s s.waiting (Err fault) ≡ prints text (Ok sum) → ⊥
+no_fault s text sum fault e = let ends = end_of (closing_text s s.waiting) text (Err fault) (Ok sum) e in absurd cc
 
-runs_on : (n : ℕ) (s : State) (ds : List DrawopValue) (line : InputLine) (lines more : List InputLine) (text : List ℕ) (sum : Summary) (fits : Bool) (step : Step) → line.ended ≡ true → fit n line ≡ fits → step_of s (content line) ≡ step
+runs_on : (n : ℕ) (s : State) (ds : List DrawopValue) (line : InputLine) (lines more : List InputLine) (text : List ℕ) (sum : Summary) (fits : Bool) (step : Step) → line.ended ≡ true → fit n line ≡ fits → step_of s s.waiting (content line) ≡ step
     → Leads s.host s.waiting ds → outcome_from false n s (line ∷ (lines ++ more)) ≡ prints text (Ok sum)
     → ((t : State) (ds' : List DrawopValue) (u : List ℕ) → Leads t.host t.waiting ds' → outcome_from false (n + 1) t (lines ++ more) ≡ prints u (Ok sum) → RunsTo (n + 1) t ds' lines more)
     → RunsTo n s ds (line ∷ lines) more
 runs_on n s ds line lines more text sum false step ended f g h e rest = absurd (no_fault s text sum run_faults.Endless (sym (too_many false n s line (lines ++ more) f) ∙ e))
 runs_on n s ds line lines more text sum true (refused t y fault) ended f g h e rest =
     absurd (err_end y text t sum (run_faults.Line (n + 1) fault)
-    (sym (one_line false n s line (lines ++ more) ended f ∙ ap (λ (step : Step). proceed s (n + 1) step (λ t. outcome_from false (n + 1) t (lines ++ more))) g) ∙ e))
+    (sym (one_line false n s line (lines ++ more) ended f ∙ ap (λ (step : Step). proceed (n + 1) step (λ t. outcome_from false (n + 1) t (lines ++ more))) g) ∙ e))
 runs_on n s ds line lines more text sum true (goes t y) ended f g h e rest =
     let said : Result Line LineFault = line_of (content line) in
     let first : outcome_from false n s (line ∷ (lines ++ more)) ≡ before y (outcome_from false (n + 1) t (lines ++ more)) =
-    one_line false n s line (lines ++ more) ended f ∙ ap (λ (step : Step). proceed s (n + 1) step (λ t. outcome_from false (n + 1) t (lines ++ more))) g in
-    let k : Kept s.host ds said t = step_kept s.host s.waiting ds said t y h g in
+    one_line false n s line (lines ++ more) ended f ∙ ap (λ (step : Step). proceed (n + 1) step (λ t. outcome_from false (n + 1) t (lines ++ more))) g in
+    let k : Kept s.host ds said t = step_kept s.workers s.host s.waiting ds said t y h g in
     let b = behind y text sum (outcome_from false (n + 1) t (lines ++ more)) (sym first ∙ e) in
     let r = rest t (ds ++ arrived_by said) b.later k.leads b.is in
     record {
@@ -182,19 +183,20 @@ runs_on n s ds line lines more text sum true (goes t y) ended f g h e rest =
 runs : (n : ℕ) (s : State) (ds : List DrawopValue) (lines more : List InputLine) (text : List ℕ) (sum : Summary) → EachEnds lines → Leads s.host s.waiting ds → outcome_from false n s (lines ++ more) ≡ prints text (Ok sum) → RunsTo n s ds lines more
 runs n s ds [] more text sum all h e = record { done = n; last = s; written = []; on = sym (before-nil (outcome_from false n s more)); leads = leads_on s.host s.waiting ds h; cells = refl }
 runs n s ds (line ∷ lines) more text sum all h e =
-    runs_on n s ds line lines more text sum (fit n line) (step_of s (content line)) all.0 refl refl h e (λ t ds' u k g. runs (n + 1) t ds' lines more u sum all.1 k g)
+    runs_on n s ds line lines more text sum (fit n line) (step_of s s.waiting (content line)) all.0 refl refl h e (λ t ds' u k g. runs (n + 1) t ds' lines more u sum all.1 k g)
 
 -- ---- the question at the end
 
-shown_on : (n : ℕ) (host : Option Opened) (waiting ds : List DrawopValue) (page : PageId) (width height : ℕ) (text : List ℕ) (sum : Summary) → Leads host waiting ds
-    → proceed (state host waiting) (n + 1) (line_step (state host waiting) (Show page width height)) (λ t. outcome_from false (n + 1) t []) ≡ prints text (Ok sum)
+shown_on : (n : ℕ) (k : Option ℕ) (host : Option Opened) (waiting ds : List DrawopValue) (page : PageId) (width height : ℕ) (text : List ℕ) (sum : Summary) → Leads host waiting ds
+    → proceed (n + 1) (line_step (state k host waiting) waiting (Show page width height)) (λ t. outcome_from false (n + 1) t []) ≡ prints text (Ok sum)
     → EndsWith text (canvas_text (view_of (history_after (cells_at host 0) [] ds) page) width height)
-shown_on n None waiting ds page width height text sum h e = absurd (err_end [] text (after_batch (state None waiting)) sum (run_faults.Line (n + 1) faults.NoBoard) e)
-shown_on n (Some host) waiting ds page width height text sum h e =
+shown_on n k None waiting ds page width height text sum h e = absurd (err_end [] text (after_batch (state k None waiting) waiting) sum (run_faults.Line (n + 1) faults.NoBoard) e)
+shown_on n k (Some host) waiting ds page width height text sum h e =
     let closing : List ℕ = batch_text host.board waiting in
-    let answer : List ℕ = canvas_text (view_of (history_after host.board.cells host.board.drawops waiting) page) width height in (
+    let canvas : List ℕ = canvas_text (view_of (history_after host.board.cells host.board.drawops waiting) page) width height in
+    let after : State = after_batch (state k (Some host) waiting) waiting in (
       closing,
-      sym (text_of ((closing ++ answer) ++ []) text (summary (n + 1) (after_batch (state (Some host) waiting))) (Ok sum) e) ∙ append-nil (closing ++ answer)
+      sym (text_of ((closing ++ canvas) ++ []) text (answer (after_batch after []) (Ok (n + 1))) (Ok sum) e) ∙ append-nil (closing ++ canvas)
           ∙ ap (λ (l : List DrawopValue). closing ++ canvas_text (view_of l page) width height) h,
     )
 
@@ -203,19 +205,19 @@ shown_at : (n : ℕ) (s : State) (ds : List DrawopValue) (question : List ℕ) (
     → EndsWith text (canvas_text (view_of (history_after (cells_at s.host 0) [] ds) page) width height)
 shown_at n s ds question page width height text sum false f said h e = absurd (no_fault s text sum run_faults.Endless (sym (too_many false n s (whole_line question) [] f) ∙ e))
 shown_at n s ds question page width height text sum true f said h e =
-    shown_on n s.host s.waiting ds page width height text sum h
-    (sym (one_line false n s (whole_line question) [] refl f ∙ ap (λ (l : Result Line LineFault). proceed s (n + 1) (said_step s l) (λ t. outcome_from false (n + 1) t [])) said) ∙ e)
+    shown_on n s.workers s.host s.waiting ds page width height text sum h
+    (sym (one_line false n s (whole_line question) [] refl f ∙ ap (λ (l : Result Line LineFault). proceed (n + 1) (said_step s s.waiting l) (λ t. outcome_from false (n + 1) t [])) said) ∙ e)
 
 later_end : (written u text canvas : List ℕ) → text ≡ written ++ u → EndsWith u canvas → EndsWith text canvas
 later_end written u text canvas e (front, is) = (written ++ front, e ∙ ap (λ (t : List ℕ). written ++ t) is ∙ sym (append_assoc written front canvas))
 
 pub shows_arrivals : ShowsArrivals
-shows_arrivals front question text page width height sum all is said e =
+shows_arrivals k front question text page width height sum all is said e =
     let lines : List InputLine = input_lines front in
     let last : List InputLine = whole_line question ∷ [] in
-    let whole : outcome_from false 0 start (lines ++ last) ≡ prints text (Ok sum) =
-    ap (λ (l : List InputLine). outcome_from false 0 start (lines ++ l)) (sym (input_lines-whole question [] is.no_line_feed)) ∙ sym (split front (question ++ 10 ∷ []) false _ all refl) ∙ e in
-    let r = runs 0 start [] lines last text sum all refl whole in
+    let whole : outcome_from false 0 (start k) (lines ++ last) ≡ prints text (Ok sum) =
+    ap (λ (l : List InputLine). outcome_from false 0 (start k) (lines ++ l)) (sym (input_lines-whole question [] is.no_line_feed)) ∙ sym (split k front (question ++ 10 ∷ []) false _ all refl) ∙ e in
+    let r = runs 0 (start k) [] lines last text sum all refl whole in
     let b = behind r.written text sum (outcome_from false r.done r.last last) (sym r.on ∙ whole) in
     later_end r.written b.later text (canvas_after front page width height) b.whole
     (subst (λ (cells : ℕ). EndsWith b.later (canvas_text (view_of (history_after cells [] (arrivals_of lines)) page) width height)) r.cells
@@ -230,8 +232,8 @@ same_canvas cells others ds es page width height moved clash room space =
     (view_of_page (history_after others [] es) page (once_held others ds es moved clash space)))
 
 pub shows_are_free : ShowsAreFree
-shows_are_free front other question text again page width height sum sum' all all' is said e e' moved clash room space = (
-  shows_arrivals front question text page width height sum all is said e,
+shows_are_free k front other question text again page width height sum sum' all all' is said e e' moved clash room space = (
+  shows_arrivals k front question text page width height sum all is said e,
   subst (EndsWith again) (sym (same_canvas (cells_of (input_lines front)) (cells_of (input_lines other)) (arrivals_of (input_lines front)) (arrivals_of (input_lines other)) page width height moved clash room space))
-      (shows_arrivals other question again page width height sum' all' is said e'),
+      (shows_arrivals k other question again page width height sum' all' is said e'),
 )

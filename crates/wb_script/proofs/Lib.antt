@@ -6,7 +6,6 @@ pub mod Arrivals
 pub mod KnownBytes
 pub mod LineBytes
 pub mod Boards
-pub mod Batches
 pub mod InputLines
 pub mod Outcomes
 pub mod Endings
@@ -24,6 +23,7 @@ pub mod CountLaws
 pub mod BatchLaws
 pub mod ScriptLaws
 pub mod EndingShows
+pub mod OneWorker
 pub mod DrawnWords
 pub mod SpelledBytes
 pub mod SentDigits

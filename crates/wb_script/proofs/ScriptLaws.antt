@@ -5,6 +5,7 @@ use Rattle.std.specs.Str.Lines.{strip_carriage_return}
 use Rattle.std.proofs.lemmas.Bool.{true≢false}
 use Rattle.std.proofs.lemmas.Bool.Decides.{nat_tests}
 use Rattle.std.proofs.lemmas.List.{append-nil, length-append}
+use Rattle.std.specs.Prelude.{unwrap_or}
 use Rattle.wb_script.specs.declared.fault.LineFault.{LineFault}
 use Rattle.wb_script.specs.declared.fault.LineFault.TheVariants as faults
 use Rattle.wb_script.specs.declared.fault.RunFault.{RunFault}
@@ -16,7 +17,7 @@ use Rattle.wb_script.specs.Ahead.{IsLine}
 use Rattle.wb_script.specs.Hosts.{Opened, opened, Act, does, fails, act}
 use Rattle.wb_script.specs.Parsing.{line_of}
 use Rattle.wb_script.specs.Running.{Begins}
-use Rattle.wb_script.specs.Script.{InputLine, onto_first, input_lines, content, State, start, by_host, closing_text, after_batch, Step, goes, refused, step_by, acts, said_step, step_of, Outcome, prints, before, finish, summary, proceed, most_lines, most_bytes, outcome_from, outcome}
+use Rattle.wb_script.specs.Script.{InputLine, onto_first, input_lines, content, State, start, by_host, closing_text, after_batch, Step, goes, refused, step_by, acts, said_step, step_of, Outcome, prints, before, answer, finish, proceed, most_lines, most_bytes, outcome_from, outcome}
 use Rattle.wb_script.specs.ScriptLaws.{EachEnds, waits_after, waits_at_end, text_of, RefusedStays, PrintedStays, SkippedPrintsNothing}
 use Rattle.wb_script.proofs.InputLines.{input_lines-whole, whole_line, fits}
 use Rattle.wb_script.proofs.Outcomes.{before-nil, before-before, too_many, text_of as same_text, end_of}
@@ -46,34 +47,39 @@ input_lines-after (b ∷ front) more all = at (nat_eq b 10) all (input_lines-aft
 pub state_of : (s t : State) (x y : List ℕ) → goes s x ≡ goes t y → s ≡ t
 state_of s t x y e = cc
 
+-- what the end of the present batch prints, taken as it came
+abbrev pub closing : State → List ℕ
+closing s = closing_text s s.waiting
+
 -- nothing waits after a line that ended the batch
-quiet_act : (text : List ℕ) (a : Act) (host : Opened) (t : State) (y : List ℕ) → step_by text a host ≡ goes t y → closing_text t ≡ []
-quiet_act text (does next printed) host t y e = let u : State = record { host = Some next; waiting = [] } in ap closing_text (sym (state_of u t (text ++ printed) y e))
-quiet_act text (fails f) host t y e = absurd cc
+quiet_act : (k : Option ℕ) (text : List ℕ) (a : Act) (host : Opened) (t : State) (y : List ℕ) → step_by k text a host ≡ goes t y → closing t ≡ []
+quiet_act k text (does next printed) host t y e = let u : State = record { host = Some next; workers = k; waiting = [] } in ap closing (sym (state_of u t (text ++ printed) y e))
+quiet_act k text (fails f) host t y e = absurd cc
 
-quiet_after : (u : State) (text : List ℕ) (line : Line) (t : State) (y : List ℕ) → acts u text line ≡ goes t y → closing_text t ≡ []
+quiet_after : (u : State) (text : List ℕ) (line : Line) (t : State) (y : List ℕ) → acts u text line ≡ goes t y → closing t ≡ []
 quiet_after u text line t y e = at u.host e where
-  at : (host : Option Opened) → by_host host (refused u text faults.NoBoard) (λ host. step_by text (act line host) host) ≡ goes t y → closing_text t ≡ []
+  at : (host : Option Opened) → by_host host (refused u text faults.NoBoard) (λ host. step_by u.workers text (act line host) host) ≡ goes t y → closing t ≡ []
   at None e = absurd cc
-  at (Some host) e = quiet_act text (act line host) host t y e
+  at (Some host) e = quiet_act u.workers text (act line host) host t y e
 
-quiet_opened : (s : State) (host : Option Opened) (member cells seed : ℕ) (t : State) (y : List ℕ) → by_host host (goes (record { host = Some (opened member cells seed); waiting = [] }) []) (λ host. refused s [] faults.SecondBoard) ≡ goes t y → closing_text t ≡ []
-quiet_opened s None member cells seed t y e = let u : State = record { host = Some (opened member cells seed); waiting = [] } in ap closing_text (sym (state_of u t [] y e))
-quiet_opened s (Some host) member cells seed t y e = absurd cc
+quiet_opened : (s : State) (host : Option Opened) (member cells workers seed : ℕ) (t : State) (y : List ℕ)
+    → by_host host (goes (record { host = Some (opened member cells seed); workers = Some (unwrap_or s.workers workers); waiting = [] }) []) (λ host. refused s [] faults.SecondBoard) ≡ goes t y → closing t ≡ []
+quiet_opened s None member cells workers seed t y e = let u : State = record { host = Some (opened member cells seed); workers = Some (unwrap_or s.workers workers); waiting = [] } in ap closing (sym (state_of u t [] y e))
+quiet_opened s (Some host) member cells workers seed t y e = absurd cc
 
-quiet_line : (s t : State) (said : Result Line LineFault) (y : List ℕ) (waits : Bool) → (waits ≡ false → closing_text s ≡ []) → said_step s said ≡ goes t y → waits_after waits said ≡ false → closing_text t ≡ []
-quiet_line s t (Ok Skip) y waits quiet e calm = ap closing_text (sym (state_of s t [] y e)) ∙ quiet calm
+quiet_line : (s t : State) (said : Result Line LineFault) (y : List ℕ) (waits : Bool) → (waits ≡ false → closing s ≡ []) → said_step s s.waiting said ≡ goes t y → waits_after waits said ≡ false → closing t ≡ []
+quiet_line s t (Ok Skip) y waits quiet e calm = ap closing (sym (state_of s t [] y e)) ∙ quiet calm
 quiet_line s t (Ok (Arrive d)) y waits quiet e calm = absurd (true≢false calm)
-quiet_line s t (Ok (Board member cells workers seed)) y waits quiet e calm = quiet_opened s s.host member cells seed t y e
-quiet_line s t (Ok (Hear v)) y waits quiet e calm = quiet_after (after_batch s) (closing_text s) (Hear v) t y e
-quiet_line s t (Ok (Distance source micros)) y waits quiet e calm = quiet_after (after_batch s) (closing_text s) (Distance source micros) t y e
-quiet_line s t (Ok (Tick moment)) y waits quiet e calm = quiet_after (after_batch s) (closing_text s) (Tick moment) t y e
-quiet_line s t (Ok (Look page)) y waits quiet e calm = quiet_after (after_batch s) (closing_text s) (Look page) t y e
-quiet_line s t (Ok (Session page)) y waits quiet e calm = quiet_after (after_batch s) (closing_text s) (Session page) t y e
-quiet_line s t (Ok (Gaps page)) y waits quiet e calm = quiet_after (after_batch s) (closing_text s) (Gaps page) t y e
-quiet_line s t (Ok (Show page width height)) y waits quiet e calm = quiet_after (after_batch s) (closing_text s) (Show page width height) t y e
-quiet_line s t (Ok (Report page)) y waits quiet e calm = quiet_after (after_batch s) (closing_text s) (Report page) t y e
-quiet_line s t (Ok Pages) y waits quiet e calm = quiet_after (after_batch s) (closing_text s) Pages t y e
+quiet_line s t (Ok (Board member cells workers seed)) y waits quiet e calm = quiet_opened s s.host member cells workers seed t y e
+quiet_line s t (Ok (Hear v)) y waits quiet e calm = quiet_after (after_batch s s.waiting) (closing s) (Hear v) t y e
+quiet_line s t (Ok (Distance source micros)) y waits quiet e calm = quiet_after (after_batch s s.waiting) (closing s) (Distance source micros) t y e
+quiet_line s t (Ok (Tick moment)) y waits quiet e calm = quiet_after (after_batch s s.waiting) (closing s) (Tick moment) t y e
+quiet_line s t (Ok (Look page)) y waits quiet e calm = quiet_after (after_batch s s.waiting) (closing s) (Look page) t y e
+quiet_line s t (Ok (Session page)) y waits quiet e calm = quiet_after (after_batch s s.waiting) (closing s) (Session page) t y e
+quiet_line s t (Ok (Gaps page)) y waits quiet e calm = quiet_after (after_batch s s.waiting) (closing s) (Gaps page) t y e
+quiet_line s t (Ok (Show page width height)) y waits quiet e calm = quiet_after (after_batch s s.waiting) (closing s) (Show page width height) t y e
+quiet_line s t (Ok (Report page)) y waits quiet e calm = quiet_after (after_batch s s.waiting) (closing s) (Report page) t y e
+quiet_line s t (Ok Pages) y waits quiet e calm = quiet_after (after_batch s s.waiting) (closing s) Pages t y e
 quiet_line s t (Err f) y waits quiet e calm = absurd cc
 
 -- ---- the course of whole lines: they are run through, or end with a fault, whatever follows
@@ -84,13 +90,13 @@ record GoesOn (n : ℕ) (s : State) (waits : Bool) (lines : List InputLine) : Ty
   state : State
   written : List ℕ
   on : (cut : Bool) (more : List InputLine) → outcome_from cut n s (lines ++ more) ≡ before written (outcome_from cut done state more)
-  quiet : waits_at_end waits lines ≡ false → closing_text state ≡ []
+  quiet : waits_at_end waits lines ≡ false → closing state ≡ []
 
 record EndsWithin (n : ℕ) (s : State) (lines : List InputLine) : Type 0 where
   last : State
   fault : RunFault
   written : List ℕ
-  is : (cut : Bool) (more : List InputLine) → outcome_from cut n s (lines ++ more) ≡ before written (finish last (Err fault))
+  is : (cut : Bool) (more : List InputLine) → outcome_from cut n s (lines ++ more) ≡ before written (finish last last.waiting (Err fault))
 
 abbrev Course : ℕ → State → Bool → List InputLine → Type 0
 Course n s waits lines = GoesOn n s waits lines ⊎ EndsWithin n s lines
@@ -99,7 +105,7 @@ abbrev pub fit : ℕ → InputLine → Bool
 fit n line = nat_lt n most_lines && nat_le (length line.bytes) most_bytes
 
 pub one_line : (cut : Bool) (n : ℕ) (s : State) (line : InputLine) (more : List InputLine) → line.ended ≡ true → fit n line ≡ true
-    → outcome_from cut n s (line ∷ more) ≡ proceed s (n + 1) (step_of s (content line)) (λ t. outcome_from cut (n + 1) t more)
+    → outcome_from cut n s (line ∷ more) ≡ proceed (n + 1) (step_of s s.waiting (content line)) (λ t. outcome_from cut (n + 1) t more)
 one_line cut n s line more ended e = rw (e, ended) refl
 
 -- a line that is taken, before the course of the others
@@ -118,80 +124,80 @@ course_after n s t text waits waits' line lines first same (inr g) = inr (record
   last = g.last;
   fault = g.fault;
   written = text ++ g.written;
-  is = λ cut more. first cut (lines ++ more) ∙ ap (before text) (g.is cut more) ∙ before-before text g.written (finish g.last (Err g.fault));
+  is = λ cut more. first cut (lines ++ more) ∙ ap (before text) (g.is cut more) ∙ before-before text g.written (finish g.last g.last.waiting (Err g.fault));
 })
 
-course_line : (n : ℕ) (s : State) (waits : Bool) (line : InputLine) (lines : List InputLine) (fits' : Bool) (step : Step) → line.ended ≡ true → fit n line ≡ fits' → step_of s (content line) ≡ step
-    → ((t : State) (text : List ℕ) → step_of s (content line) ≡ goes t text → Course (n + 1) t (waits_after waits (line_of (content line))) lines) → Course n s waits (line ∷ lines)
+course_line : (n : ℕ) (s : State) (waits : Bool) (line : InputLine) (lines : List InputLine) (fits' : Bool) (step : Step) → line.ended ≡ true → fit n line ≡ fits' → step_of s s.waiting (content line) ≡ step
+    → ((t : State) (text : List ℕ) → step_of s s.waiting (content line) ≡ goes t text → Course (n + 1) t (waits_after waits (line_of (content line))) lines) → Course n s waits (line ∷ lines)
 course_line n s waits line lines false step ended e is rest = inr (record {
   last = s;
   fault = run_faults.Endless;
   written = [];
-  is = λ cut more. too_many cut n s line (lines ++ more) e ∙ sym (before-nil (finish s (Err run_faults.Endless)));
+  is = λ cut more. too_many cut n s line (lines ++ more) e ∙ sym (before-nil (finish s s.waiting (Err run_faults.Endless)));
 })
 course_line n s waits line lines true (refused t text f) ended e is rest = inr (record {
   last = t;
   fault = run_faults.Line (n + 1) f;
   written = text;
-  is = λ cut more. one_line cut n s line (lines ++ more) ended e ∙ ap (λ (step : Step). proceed s (n + 1) step (λ t. outcome_from cut (n + 1) t (lines ++ more))) is;
+  is = λ cut more. one_line cut n s line (lines ++ more) ended e ∙ ap (λ (step : Step). proceed (n + 1) step (λ t. outcome_from cut (n + 1) t (lines ++ more))) is;
 })
 course_line n s waits line lines true (goes t text) ended e is rest =
     course_after n s t text waits (waits_after waits (line_of (content line))) line lines
-    (λ cut more. one_line cut n s line more ended e ∙ ap (λ (step : Step). proceed s (n + 1) step (λ t. outcome_from cut (n + 1) t more)) is)
+    (λ cut more. one_line cut n s line more ended e ∙ ap (λ (step : Step). proceed (n + 1) step (λ t. outcome_from cut (n + 1) t more)) is)
     refl (rest t text is)
 
-course : (n : ℕ) (s : State) (waits : Bool) (lines : List InputLine) → (waits ≡ false → closing_text s ≡ []) → EachEnds lines → Course n s waits lines
+course : (n : ℕ) (s : State) (waits : Bool) (lines : List InputLine) → (waits ≡ false → closing s ≡ []) → EachEnds lines → Course n s waits lines
 course n s waits [] quiet all = inl (record { done = n; count = omega arith; state = s; written = []; on = λ cut more. sym (before-nil (outcome_from cut n s more)); quiet = quiet })
 course n s waits (line ∷ lines) quiet all =
-    course_line n s waits line lines (fit n line) (step_of s (content line)) all.0 refl refl
+    course_line n s waits line lines (fit n line) (step_of s s.waiting (content line)) all.0 refl refl
     (λ t text is. course (n + 1) t (waits_after waits (line_of (content line))) lines (quiet_line s t (line_of (content line)) text waits quiet is) all.1)
 
-course_of : (front : List ℕ) → EachEnds (input_lines front) → Course 0 start false (input_lines front)
-course_of front all = course 0 start false (input_lines front) (λ calm. refl) all
+course_of : (k : Option ℕ) (front : List ℕ) → EachEnds (input_lines front) → Course 0 (start k) false (input_lines front)
+course_of k front all = course 0 (start k) false (input_lines front) (λ calm. refl) all
 
-pub split : (front more : List ℕ) (cut : Bool) (o : Outcome) → EachEnds (input_lines front) → outcome_from cut 0 start (input_lines front ++ input_lines more) ≡ o → outcome cut (front ++ more) ≡ o
-split front more cut o all e = ap (outcome_from cut 0 start) (input_lines-after front more all) ∙ e
+pub split : (k : Option ℕ) (front more : List ℕ) (cut : Bool) (o : Outcome) → EachEnds (input_lines front) → outcome_from cut 0 (start k) (input_lines front ++ input_lines more) ≡ o → outcome k cut (front ++ more) ≡ o
+split k front more cut o all e = ap (outcome_from cut 0 (start k)) (input_lines-after front more all) ∙ e
 
-alone : (front : List ℕ) (o : Outcome) → outcome_from false 0 start (input_lines front ++ []) ≡ o → outcome false front ≡ o
-alone front o e = ap (outcome_from false 0 start) (sym (append-nil (input_lines front))) ∙ e
+alone : (k : Option ℕ) (front : List ℕ) (o : Outcome) → outcome_from false 0 (start k) (input_lines front ++ []) ≡ o → outcome k false front ≡ o
+alone k front o e = ap (outcome_from false 0 (start k)) (sym (append-nil (input_lines front))) ∙ e
 
 -- ---- what was printed stays
 
-pub ok_end : (written text : List ℕ) (s : State) (n : ℕ) (fault : RunFault) → before written (finish s (summary n s)) ≡ prints text (Err fault) → ⊥
-ok_end written text s n fault e = let ends = end_of (written ++ closing_text s) text (summary n s) (Err fault) e in absurd cc
+pub ok_end : (written text : List ℕ) (s : State) (n : ℕ) (fault : RunFault) → before written (finish s s.waiting (Ok n)) ≡ prints text (Err fault) → ⊥
+ok_end written text s n fault e = let ends = end_of (written ++ closing s) text (answer (after_batch s s.waiting) (Ok n)) (Err fault) e in absurd cc
 
-pub err_end : (written text : List ℕ) (s : State) (sum : Summary) (fault : RunFault) → before written (finish s (Err fault)) ≡ prints text (Ok sum) → ⊥
-err_end written text s sum fault e = let ends = end_of (written ++ closing_text s) text (Err fault) (Ok sum) e in absurd cc
+pub err_end : (written text : List ℕ) (s : State) (sum : Summary) (fault : RunFault) → before written (finish s s.waiting (Err fault)) ≡ prints text (Ok sum) → ⊥
+err_end written text s sum fault e = let ends = end_of (written ++ closing s) text (Err fault) (Ok sum) e in absurd cc
 
 pub refused_stays : RefusedStays
-refused_stays front more text cut fault all e = ⊎_elim
-    (λ (g : GoesOn 0 start false (input_lines front)). absurd (ok_end g.written text g.state g.done fault (sym (alone front (before g.written (finish g.state (summary g.done g.state))) (g.on false [])) ∙ e)))
-    (λ (g : EndsWithin 0 start (input_lines front)).
-    let o : Outcome = before g.written (finish g.last (Err g.fault)) in
-    split front more cut o all (g.is cut (input_lines more)) ∙ sym (alone front o (g.is false [])) ∙ e)
-    (course_of front all)
+refused_stays k front more text cut fault all e = ⊎_elim
+    (λ (g : GoesOn 0 (start k) false (input_lines front)). absurd (ok_end g.written text g.state g.done fault (sym (alone k front (before g.written (finish g.state g.state.waiting (Ok g.done))) (g.on false [])) ∙ e)))
+    (λ (g : EndsWithin 0 (start k) (input_lines front)).
+    let o : Outcome = before g.written (finish g.last g.last.waiting (Err g.fault)) in
+    split k front more cut o all (g.is cut (input_lines more)) ∙ sym (alone k front o (g.is false [])) ∙ e)
+    (course_of k front all)
 
 begins_before : (o rest : Outcome) (written text : List ℕ) → o ≡ before written rest → written ≡ text → Begins o text
 begins_before o (prints t end) written text e is = subst (λ (p : Outcome). Begins p text) (sym e) (t, ap (λ (w : List ℕ). w ++ t) is)
 
 pub printed_stays : PrintedStays
-printed_stays front more text cut sum all calm e = ⊎_elim
-    (λ (g : GoesOn 0 start false (input_lines front)).
-    let whole : before g.written (finish g.state (summary g.done g.state)) ≡ prints text (Ok sum) = sym (alone front (before g.written (finish g.state (summary g.done g.state))) (g.on false [])) ∙ e in
-    let is : g.written ≡ text = sym (append-nil g.written) ∙ ap (λ (w : List ℕ). g.written ++ w) (sym (g.quiet calm)) ∙ same_text (g.written ++ closing_text g.state) text (summary g.done g.state) (Ok sum) whole in
-    begins_before (outcome cut (front ++ more)) (outcome_from cut g.done g.state (input_lines more)) g.written text
-    (split front more cut (before g.written (outcome_from cut g.done g.state (input_lines more))) all (g.on cut (input_lines more))) is)
-    (λ (g : EndsWithin 0 start (input_lines front)). absurd (err_end g.written text g.last sum g.fault (sym (alone front (before g.written (finish g.last (Err g.fault))) (g.is false [])) ∙ e)))
-    (course_of front all)
+printed_stays k front more text cut sum all calm e = ⊎_elim
+    (λ (g : GoesOn 0 (start k) false (input_lines front)).
+    let whole : before g.written (finish g.state g.state.waiting (Ok g.done)) ≡ prints text (Ok sum) = sym (alone k front (before g.written (finish g.state g.state.waiting (Ok g.done))) (g.on false [])) ∙ e in
+    let is : g.written ≡ text = sym (append-nil g.written) ∙ ap (λ (w : List ℕ). g.written ++ w) (sym (g.quiet calm)) ∙ same_text (g.written ++ closing g.state) text (answer (after_batch g.state g.state.waiting) (Ok g.done)) (Ok sum) whole in
+    begins_before (outcome k cut (front ++ more)) (outcome_from cut g.done g.state (input_lines more)) g.written text
+    (split k front more cut (before g.written (outcome_from cut g.done g.state (input_lines more))) all (g.on cut (input_lines more))) is)
+    (λ (g : EndsWithin 0 (start k) (input_lines front)). absurd (err_end g.written text g.last sum g.fault (sym (alone k front (before g.written (finish g.last g.last.waiting (Err g.fault))) (g.is false [])) ∙ e)))
+    (course_of k front all)
 
 -- ---- a skipped line
 
 text_before : (text : List ℕ) (o p : Outcome) → text_of o ≡ text_of p → text_of (before text o) ≡ text_of (before text p)
 text_before text (prints t e) (prints u f) same = ap (λ (w : List ℕ). text ++ w) same
 
-text_proceed : (s : State) (n m : ℕ) (step : Step) (a b : State → Outcome) → ((t : State) → text_of (a t) ≡ text_of (b t)) → text_of (proceed s n step a) ≡ text_of (proceed s m step b)
-text_proceed s n m (goes t text) a b same = text_before text (a t) (b t) (same t)
-text_proceed s n m (refused t text f) a b same = refl
+text_proceed : (n m : ℕ) (step : Step) (a b : State → Outcome) → ((t : State) → text_of (a t) ≡ text_of (b t)) → text_of (proceed n step a) ≡ text_of (proceed m step b)
+text_proceed n m (goes t text) a b same = text_before text (a t) (b t) (same t)
+text_proceed n m (refused t text f) a b same = refl
 
 text_cond : (test : Bool) (o p r : Outcome) → text_of o ≡ text_of p → text_of (cond test o r) ≡ text_of (cond test p r)
 text_cond true o p r same = same
@@ -206,32 +212,32 @@ text_later cut n s [] few = refl
 text_later cut n s (line ∷ lines) few =
     let later : nat_lt (n + 1) most_lines ≡ true = few_enough (n + 1) (omega arith) in
     let now : nat_lt n most_lines ≡ true = few_enough n (omega arith) in
-    let inside : text_of (proceed s (n + 1 + 1) (step_of s (content line)) (λ t. outcome_from cut (n + 1 + 1) t lines)) ≡ text_of (proceed s (n + 1) (step_of s (content line)) (λ t. outcome_from cut (n + 1) t lines)) =
-    text_proceed s (n + 1 + 1) (n + 1) (step_of s (content line)) (λ t. outcome_from cut (n + 1 + 1) t lines) (λ t. outcome_from cut (n + 1) t lines) (λ t. text_later cut (n + 1) t lines (omega arith)) in
+    let inside : text_of (proceed (n + 1 + 1) (step_of s s.waiting (content line)) (λ t. outcome_from cut (n + 1 + 1) t lines)) ≡ text_of (proceed (n + 1) (step_of s s.waiting (content line)) (λ t. outcome_from cut (n + 1) t lines)) =
+    text_proceed (n + 1 + 1) (n + 1) (step_of s s.waiting (content line)) (λ t. outcome_from cut (n + 1 + 1) t lines) (λ t. outcome_from cut (n + 1) t lines) (λ t. text_later cut (n + 1) t lines (omega arith)) in
     rw (later, now) (text_cond (nat_le (length line.bytes) most_bytes) _ _ _ (text_cond (line.ended || not cut) _ _ _ inside))
 
 -- a skipped line, and then the others
 skips : (cut : Bool) (n : ℕ) (s : State) (line : List ℕ) (lines : List InputLine) → IsLine line → line_of (strip_carriage_return line) ≡ Ok Skip → n + length lines < most_lines
     → text_of (outcome_from cut n s (whole_line line ∷ lines)) ≡ text_of (outcome_from cut n s lines)
 skips cut n s line lines is skip few =
-    let first : outcome_from cut n s (whole_line line ∷ lines) ≡ proceed s (n + 1) (step_of s (strip_carriage_return line)) (λ t. outcome_from cut (n + 1) t lines) =
+    let first : outcome_from cut n s (whole_line line ∷ lines) ≡ proceed (n + 1) (step_of s s.waiting (strip_carriage_return line)) (λ t. outcome_from cut (n + 1) t lines) =
     one_line cut n s (whole_line line) lines refl (fits n line (omega arith) is.short) in
-    let none : proceed s (n + 1) (step_of s (strip_carriage_return line)) (λ t. outcome_from cut (n + 1) t lines) ≡ outcome_from cut (n + 1) s lines =
-    ap (λ (said : Result Line LineFault). proceed s (n + 1) (said_step s said) (λ t. outcome_from cut (n + 1) t lines)) skip ∙ before-nil (outcome_from cut (n + 1) s lines) in
+    let none : proceed (n + 1) (step_of s s.waiting (strip_carriage_return line)) (λ t. outcome_from cut (n + 1) t lines) ≡ outcome_from cut (n + 1) s lines =
+    ap (λ (said : Result Line LineFault). proceed (n + 1) (said_step s s.waiting said) (λ t. outcome_from cut (n + 1) t lines)) skip ∙ before-nil (outcome_from cut (n + 1) s lines) in
     ap text_of (first ∙ none) ∙ text_later cut n s lines few
 
 pub skipped_prints_nothing : SkippedPrintsNothing
-skipped_prints_nothing front line more cut all is skip few =
+skipped_prints_nothing k front line more cut all is skip few =
     let lines : List InputLine = input_lines front in
     let rest : List InputLine = input_lines more in
     let many : length (input_lines (front ++ more)) ≡ length lines + length rest = ap (λ (l : List InputLine). length l) (input_lines-after front more all) ∙ length-append lines rest in
-    let longer : outcome cut (front ++ (line ++ 10 ∷ more)) ≡ outcome_from cut 0 start (lines ++ (whole_line line ∷ rest)) =
-    split front (line ++ 10 ∷ more) cut _ all (ap (λ (l : List InputLine). outcome_from cut 0 start (lines ++ l)) (input_lines-whole line more is.no_line_feed)) in
-    let shorter : outcome cut (front ++ more) ≡ outcome_from cut 0 start (lines ++ rest) = split front more cut _ all refl in
+    let longer : outcome k cut (front ++ (line ++ 10 ∷ more)) ≡ outcome_from cut 0 (start k) (lines ++ (whole_line line ∷ rest)) =
+    split k front (line ++ 10 ∷ more) cut _ all (ap (λ (l : List InputLine). outcome_from cut 0 (start k) (lines ++ l)) (input_lines-whole line more is.no_line_feed)) in
+    let shorter : outcome k cut (front ++ more) ≡ outcome_from cut 0 (start k) (lines ++ rest) = split k front more cut _ all refl in
     ap text_of longer ∙ ⊎_elim
-    (λ (g : GoesOn 0 start false lines).
+    (λ (g : GoesOn 0 (start k) false lines).
     ap text_of (g.on cut (whole_line line ∷ rest))
     ∙ text_before g.written _ _ (skips cut g.done g.state line rest is skip (omega (arith, g.count, many, few)))
     ∙ sym (ap text_of (g.on cut rest)))
-    (λ (g : EndsWithin 0 start lines). ap text_of (g.is cut (whole_line line ∷ rest) ∙ sym (g.is cut rest)))
-    (course_of front all) ∙ sym (ap text_of shorter)
+    (λ (g : EndsWithin 0 (start k) lines). ap text_of (g.is cut (whole_line line ∷ rest) ∙ sym (g.is cut rest)))
+    (course_of k front all) ∙ sym (ap text_of shorter)

@@ -48,21 +48,21 @@ opened member cells seed = record { me = member; board = record { cells = cells;
 abbrev pub present : Opened → ℕ
 present host = moment_at host.calls
 
--- ---- the end of a batch
+-- ---- the end of a batch, which is taken in some order
 
 abbrev pub board_after : Held → List DrawopValue → Held
-board_after board batch = record { cells = board.cells; drawops = history_after board.cells board.drawops batch }
+board_after board order = record { cells = board.cells; drawops = history_after board.cells board.drawops order }
 
 abbrev pub names_of : List DrawopValue → List NameValue
 names_of batch = map (λ d. d.name) batch
 
--- The keeper is told the names that arrived, in the order of the script.
-abbrev pub calls_after : Opened → List DrawopValue → List KeeperCall
-calls_after host [] = host.calls
-calls_after host (d ∷ ds) = Arrive (present host) (filter (holds (board_after host.board (d ∷ ds)).drawops) (names_of (d ∷ ds))) ∷ host.calls
+-- The keeper is told the names that arrived, in the order of the script, whatever the order in which they were taken.
+abbrev pub calls_after : Opened → List DrawopValue → List DrawopValue → List KeeperCall
+calls_after host [] order = host.calls
+calls_after host (d ∷ ds) order = Arrive (present host) (filter (holds (board_after host.board order).drawops) (names_of (d ∷ ds))) ∷ host.calls
 
-abbrev pub host_after : Opened → List DrawopValue → Opened
-host_after host batch = record { me = host.me; board = board_after host.board batch; calls = calls_after host batch; random = host.random }
+abbrev pub host_after : Opened → List DrawopValue → List DrawopValue → Opened
+host_after host batch order = record { me = host.me; board = board_after host.board order; calls = calls_after host batch order; random = host.random }
 
 -- What is printed. A batch with no arrivals prints nothing.
 abbrev pub batch_text : Held → List DrawopValue → List ℕ

@@ -2,8 +2,6 @@ pub mod Words
 pub mod Parsing
 pub mod Faults
 pub mod Board
-pub mod Reply
-pub mod Batches
 pub mod Queries
 pub mod Answers
 pub mod Random

@@ -4,48 +4,53 @@ use Rattle.wb_script.specs.declared.fault.RunFault.{RunFault}
 use Rattle.wb_script.specs.declared.fault.RunFault.TheVariants as run_faults
 use Rattle.wb_script.specs.declared.summary.Summary.{Summary}
 use Rattle.wb_script.specs.Ahead.{Ahead}
-use Rattle.wb_script.specs.Script.{State, Outcome, prints, before, finish, summary, input_lines, outcome_from, outcome, BeginsWith, is_stop, IsStop}
+use Rattle.wb_script.specs.Script.{State, Outcome, prints, before, input_lines, Finishes, IsOutcomeFrom, IsOutcome, BeginsWith, is_stop, IsStop}
 
 -- What may still be pulled, and whether reading fails after it: nothing and no failure after the end.
 abbrev pub MayFollow : Bool → List ℕ → Bool → Type 0
 MayFollow ended more cut = ended ≡ true → (more ≡ []) × (cut ≡ false)
 
--- The text of an outcome begins with what was written, and the rest is another outcome.
-abbrev pub Leads : Outcome → List ℕ → Outcome → Type 0
-Leads (prints text end) written next = prints text end ≡ before written next
-
 -- The text of an outcome begins with what was written.
 abbrev pub Begins : Outcome → List ℕ → Type 0
 Begins (prints text end) written = BeginsWith text written
 
--- From a state after n lines, with bytes at hand and others pulled: what the script does from here on.
-abbrev pub ahead_of : Bool → ℕ → State → Ahead → List ℕ → Outcome
-ahead_of cut n s reader pulled = outcome_from cut n s (input_lines (reader.bytes ++ pulled))
+-- Each outcome of what is left is, behind what was written, one of the whole.
+abbrev pub Leads : (Outcome → Type 0) → List ℕ → (Outcome → Type 0) → Type 0
+Leads Whole written Rest = (o : Outcome) → Rest o → Whole (before written o)
+
+-- The text of some outcome begins with what was written.
+abbrev pub MayBegin : (Outcome → Type 0) → List ℕ → Type 0
+MayBegin Whole written = (o : Outcome) × Whole o × Begins o written
+
+-- From a state after n lines, with bytes at hand and others pulled: an outcome of the script from here on.
+abbrev pub IsAhead : Bool → ℕ → State → Ahead → List ℕ → Outcome → Type 0
+IsAhead cut n s reader pulled o = IsOutcomeFrom cut n s (input_lines (reader.bytes ++ pulled)) o
 
 -- From one moment to a later one.
 abbrev pub Passes : ℕ → State → Ahead → List ℕ → List ℕ → ℕ → State → Ahead → Type 0
 Passes n old reader given written m new reader' =
     (more : List ℕ) (cut : Bool) → MayFollow reader'.ended more cut
-    → Leads (ahead_of cut n old reader (given ++ more)) written (ahead_of cut m new reader' more)
+    → Leads (IsAhead cut n old reader (given ++ more)) written (IsAhead cut m new reader' more)
 
 -- A run stops with a fault, before the end of the present batch.
 abbrev pub Stops : ℕ → State → Ahead → List ℕ → List ℕ → State → Ahead → Bool → RunFault → Type 0
 Stops n old reader given written new reader' failed run_faults.Read =
-    (failed ≡ true) × (reader'.ended ≡ false) × Leads (ahead_of true n old reader given) written (finish new (Err run_faults.Read))
+    (failed ≡ true) × (reader'.ended ≡ false) × Leads (IsAhead true n old reader given) written (Finishes new (Err run_faults.Read))
 Stops n old reader given written new reader' failed run_faults.Memory =
-    (more : List ℕ) (cut : Bool) → MayFollow reader'.ended more cut → Begins (ahead_of cut n old reader (given ++ more)) written
+    (more : List ℕ) (cut : Bool) → MayFollow reader'.ended more cut → MayBegin (IsAhead cut n old reader (given ++ more)) written
 Stops n old reader given written new reader' failed run_faults.Write =
-    (more : List ℕ) (cut : Bool) → MayFollow reader'.ended more cut → Begins (ahead_of cut n old reader (given ++ more)) written
-Stops n old reader given written new reader' failed run_faults.Start = ⊥
+    (more : List ℕ) (cut : Bool) → MayFollow reader'.ended more cut → MayBegin (IsAhead cut n old reader (given ++ more)) written
+Stops n old reader given written new reader' failed run_faults.Start =
+    (more : List ℕ) (cut : Bool) → MayFollow reader'.ended more cut → MayBegin (IsAhead cut n old reader (given ++ more)) written
 Stops n old reader given written new reader' failed run_faults.Endless =
-    (more : List ℕ) (cut : Bool) → MayFollow reader'.ended more cut → Leads (ahead_of cut n old reader (given ++ more)) written (finish new (Err run_faults.Endless))
+    (more : List ℕ) (cut : Bool) → MayFollow reader'.ended more cut → Leads (IsAhead cut n old reader (given ++ more)) written (Finishes new (Err run_faults.Endless))
 Stops n old reader given written new reader' failed (run_faults.Line number e) =
-    (more : List ℕ) (cut : Bool) → MayFollow reader'.ended more cut → Leads (ahead_of cut n old reader (given ++ more)) written (finish new (Err (run_faults.Line number e)))
+    (more : List ℕ) (cut : Bool) → MayFollow reader'.ended more cut → Leads (IsAhead cut n old reader (given ++ more)) written (Finishes new (Err (run_faults.Line number e)))
 
 -- The end of the input, before the end of the present batch.
 abbrev pub Ends : ℕ → State → Ahead → List ℕ → List ℕ → ℕ → State → Ahead → Type 0
 Ends n old reader given written m new reader' =
-    (reader'.ended ≡ true) × Leads (ahead_of false n old reader given) written (finish new (summary m new))
+    (reader'.ended ≡ true) × Leads (IsAhead false n old reader given) written (Finishes new (Ok m))
 
 -- One line, or the end.
 abbrev pub RunsLine : ℕ → State → Ahead → List ℕ → List ℕ → State → Ahead → Bool → Result Bool RunFault → Type 0
@@ -62,7 +67,7 @@ abbrev pub IsStopped : Result Summary RunFault → Type 0
 IsStopped (Ok s) = ⊥
 IsStopped (Err e) = IsStop e
 
--- A run meets an outcome: it wrote its text and answers its end; or it stops for want of memory or at a failing sink, and wrote a front of its text.
+-- A run meets an outcome: it wrote its text and answers its end; or it stops for want of memory or of a thread, or at a failing sink, and wrote a front of its text.
 abbrev pub Meets : Outcome → List ℕ → Result Summary RunFault → Type 0
 Meets (prints text end) written result = ((written ≡ text) × (result ≡ end)) ⊎ (IsStopped result × BeginsWith text written)
 
@@ -75,27 +80,29 @@ pub record MayRemain (ended failed : Bool) (more : List ℕ) : Type 0 where
 abbrev pub Settles : Outcome → List ℕ → List ℕ → Result Summary RunFault → Type 0
 Settles (prints text end) written waiting result = ((written ≡ text) × (waiting ≡ []) × (result ≡ end)) ⊎ (IsStopped result × BeginsWith text written)
 
--- A run of all that was given, whatever remains.
-abbrev pub RunsAll : Bool → Bool → List ℕ → List ℕ → List ℕ → Result Summary RunFault → Type 0
-RunsAll ended failed given written waiting result = (more : List ℕ) → MayRemain ended failed more → Settles (outcome failed (given ++ more)) written waiting result
+-- A run of all that was given, whatever remains, by so many workers where a number is given.
+abbrev pub RunsAll : Option ℕ → Bool → Bool → List ℕ → List ℕ → List ℕ → Result Summary RunFault → Type 0
+RunsAll workers ended failed given written waiting result = (more : List ℕ) → MayRemain ended failed more → (o : Outcome) × IsOutcome workers failed (given ++ more) o × Settles o written waiting result
 
--- The outcome of what a source has to give. Where it has failed, that is what it gave, cut off there.
-abbrev pub outcome_of : List ℕ → List ℕ → Bool → Outcome
-outcome_of input left failed = if failed then outcome true (take (length input - length left) input) else outcome false input
+-- What a source had to give. Where it has failed, that is what it gave, and it is cut off there.
+abbrev pub given_of : List ℕ → List ℕ → Bool → List ℕ
+given_of input left failed = if failed then take (length input - length left) input else input
 
--- A run of the script that a source has left, where its bytes are known, and those that the sink takes.
-abbrev pub Runs : Option (List ℕ) → Option (List ℕ) → Bool → Option (List ℕ) → Option (List ℕ) → Result Summary RunFault → Type 0
-Runs (Some input) (Some left) failed (Some taken) (Some taken') result = (written : List ℕ) × (taken' ≡ taken ++ written) × Meets (outcome_of input left failed) written result
-Runs (Some input) (Some left) failed (Some taken) None result = ⊥
-Runs (Some input) (Some left) failed None taken' result = Unit {0}
-Runs (Some input) None failed taken taken' result = ⊥
-Runs None left failed taken taken' result = Unit {0}
+-- A run of the script that a source has left, where its bytes are known, and those that the sink takes: it meets an outcome of the
+-- script by so many workers, where a number is given, and else by those of the board.
+abbrev pub Runs : Option ℕ → Option (List ℕ) → Option (List ℕ) → Bool → Option (List ℕ) → Option (List ℕ) → Result Summary RunFault → Type 0
+Runs workers (Some input) (Some left) failed (Some taken) (Some taken') result =
+    (written : List ℕ) × (taken' ≡ taken ++ written) × ((o : Outcome) × IsOutcome workers failed (given_of input left failed) o × Meets o written result)
+Runs workers (Some input) (Some left) failed (Some taken) None result = ⊥
+Runs workers (Some input) (Some left) failed None taken' result = Unit {0}
+Runs workers (Some input) None failed taken taken' result = ⊥
+Runs workers None left failed taken taken' result = Unit {0}
 
 -- The end of a run: of the present batch, unless the run had to stop.
 abbrev pub ClosesAfter : Bool → State → RunFault → List ℕ → List ℕ → Result Summary RunFault → Type 0
 ClosesAfter true s e written waiting result = (written ≡ []) × (result ≡ Err e)
-ClosesAfter false s e written waiting result = Settles (finish s (Err e)) written waiting result
+ClosesAfter false s e written waiting result = (o : Outcome) × Finishes s (Err e) o × Settles o written waiting result
 
 abbrev pub Closes : State → Result ℕ RunFault → List ℕ → List ℕ → Result Summary RunFault → Type 0
-Closes s (Ok m) written waiting result = Settles (finish s (summary m s)) written waiting result
+Closes s (Ok m) written waiting result = (o : Outcome) × Finishes s (Ok m) o × Settles o written waiting result
 Closes s (Err e) written waiting result = ClosesAfter (is_stop e) s e written waiting result

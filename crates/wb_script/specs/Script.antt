@@ -1,5 +1,6 @@
 -- What a script prints, and how it ends.
-use Rattle.std.specs.Prelude.{◌≡◌, ℕ, ◌+◌, ◌^◌, List, [], ◌∷◌, ◌++◌, length, Bool, true, false, nat_eq, nat_le, nat_lt, ◌&&◌, ◌||◌, not, Option, Some, None, Result, Ok, Err, if◌then◌else◌}
+use Rattle.std.specs.Prelude.{◌≡◌, ℕ, ◌+◌, ◌≤◌, ◌^◌, List, [], ◌∷◌, ◌++◌, length, Bool, true, false, nat_eq, nat_le, nat_lt, ◌&&◌, ◌||◌, not, Option, Some, None, Result, Ok, Err, if◌then◌else◌, IsPermutation}
+use Rattle.std.specs.Prelude.{unwrap_or}
 use Rattle.std.specs.Str.Lines.{strip_carriage_return}
 use Rattle.wb_names.specs.Values.{DrawopValue}
 use Rattle.wb_script.specs.declared.fault.LineFault.{LineFault}
@@ -32,25 +33,41 @@ input_lines (b ∷ bytes) =
 abbrev pub content : InputLine → List ℕ
 content line = if line.ended then strip_carriage_return line.bytes else line.bytes
 
--- the host, once it is open, and the arrivals of the present batch
+-- the host, once it is open; how many workers take its batches, once that is known; and the arrivals of the present batch
 pub record State : Type 0 where
   pub host : Option Opened
+  pub workers : Option ℕ
   pub waiting : List DrawopValue
 
-abbrev pub start : State
-start = record { host = None; waiting = [] }
+-- the number of workers may be known from the start
+abbrev pub start : Option ℕ → State
+start workers = record { host = None; workers = workers; waiting = [] }
+
+-- no more than one, as far as is known
+abbrev pub IsAlone : Option ℕ → Type 0
+IsAlone None = Unit {0}
+IsAlone (Some workers) = workers ≤ 1
+
+-- Workers take a batch in any order, and one worker as it came.
+pub record MayBeTaken (workers : Option ℕ) (batch order : List DrawopValue) : Type 0 where
+  pub moved : IsPermutation batch order
+  pub alone : IsAlone workers → order ≡ batch
+
+-- something holds for some order in which the present batch may be taken
+abbrev pub InSomeOrder : State → (List DrawopValue → Type 0) → Type 0
+InSomeOrder s Holds = (order : List DrawopValue) × MayBeTaken s.workers s.waiting order × Holds order
 
 -- by whether a host is open
 abbrev pub by_host : {X : Type 0} → Option Opened → X → (Opened → X) → X
 by_host None none some = none
 by_host (Some host) none some = some host
 
--- what the end of the present batch prints, and what it leads to
-abbrev pub closing_text : State → List ℕ
-closing_text s = by_host s.host [] (λ host. batch_text host.board s.waiting)
+-- what the end of the present batch prints, taken in this order, and what it leads to
+abbrev pub closing_text : State → List DrawopValue → List ℕ
+closing_text s order = by_host s.host [] (λ host. batch_text host.board order)
 
-abbrev pub after_batch : State → State
-after_batch s = record { host = by_host s.host None (λ host. Some (host_after host s.waiting)); waiting = [] }
+abbrev pub after_batch : State → List DrawopValue → State
+after_batch s order = record { host = by_host s.host None (λ host. Some (host_after host s.waiting order)); workers = s.workers; waiting = [] }
 
 -- What a line does: it prints a text and leads to a state; or it is refused there.
 pub data Step : Type 0 where
@@ -58,34 +75,36 @@ pub data Step : Type 0 where
   refused : State → List ℕ → LineFault → Step
 
 -- What a line does behind the text of a batch, at the state after it. Where no board is open, it is refused.
-abbrev pub step_by : List ℕ → Act → Opened → Step
-step_by text (does next printed) host = goes (record { host = Some next; waiting = [] }) (text ++ printed)
-step_by text (fails e) host = refused (record { host = Some host; waiting = [] }) text e
+abbrev pub step_by : Option ℕ → List ℕ → Act → Opened → Step
+step_by workers text (does next printed) host = goes (record { host = Some next; workers = workers; waiting = [] }) (text ++ printed)
+step_by workers text (fails e) host = refused (record { host = Some host; workers = workers; waiting = [] }) text e
 
 abbrev pub acts : State → List ℕ → Line → Step
-acts t text line = by_host t.host (refused t text faults.NoBoard) (λ host. step_by text (act line host) host)
+acts t text line = by_host t.host (refused t text faults.NoBoard) (λ host. step_by t.workers text (act line host) host)
 
--- A board is opened once. Arrivals wait for the end of their batch, which each line that is neither skipped nor an arrival ends first.
-abbrev pub line_step : State → Line → Step
-line_step s Skip = goes s []
-line_step s (Board member cells workers seed) = by_host s.host (goes (record { host = Some (opened member cells seed); waiting = [] }) []) (λ host. refused s [] faults.SecondBoard)
-line_step s (Arrive d) = by_host s.host (refused s [] faults.NoBoard) (λ host. goes (record { host = s.host; waiting = s.waiting ++ d ∷ [] }) [])
-line_step s (Hear v) = acts (after_batch s) (closing_text s) (Hear v)
-line_step s (Distance source micros) = acts (after_batch s) (closing_text s) (Distance source micros)
-line_step s (Tick moment) = acts (after_batch s) (closing_text s) (Tick moment)
-line_step s (Look page) = acts (after_batch s) (closing_text s) (Look page)
-line_step s (Session page) = acts (after_batch s) (closing_text s) (Session page)
-line_step s (Show page width height) = acts (after_batch s) (closing_text s) (Show page width height)
-line_step s (Gaps page) = acts (after_batch s) (closing_text s) (Gaps page)
-line_step s (Report page) = acts (after_batch s) (closing_text s) (Report page)
-line_step s Pages = acts (after_batch s) (closing_text s) Pages
+-- A board is opened once; a number of workers that was known before goes before that of the board. Arrivals wait for the end of their batch, which each line that is neither skipped nor an arrival ends first;
+-- it is taken in this order.
+abbrev pub line_step : State → List DrawopValue → Line → Step
+line_step s order Skip = goes s []
+line_step s order (Board member cells workers seed) =
+    by_host s.host (goes (record { host = Some (opened member cells seed); workers = Some (unwrap_or s.workers workers); waiting = [] }) []) (λ host. refused s [] faults.SecondBoard)
+line_step s order (Arrive d) = by_host s.host (refused s [] faults.NoBoard) (λ host. goes (record { host = s.host; workers = s.workers; waiting = s.waiting ++ d ∷ [] }) [])
+line_step s order (Hear v) = acts (after_batch s order) (closing_text s order) (Hear v)
+line_step s order (Distance source micros) = acts (after_batch s order) (closing_text s order) (Distance source micros)
+line_step s order (Tick moment) = acts (after_batch s order) (closing_text s order) (Tick moment)
+line_step s order (Look page) = acts (after_batch s order) (closing_text s order) (Look page)
+line_step s order (Session page) = acts (after_batch s order) (closing_text s order) (Session page)
+line_step s order (Show page width height) = acts (after_batch s order) (closing_text s order) (Show page width height)
+line_step s order (Gaps page) = acts (after_batch s order) (closing_text s order) (Gaps page)
+line_step s order (Report page) = acts (after_batch s order) (closing_text s order) (Report page)
+line_step s order Pages = acts (after_batch s order) (closing_text s order) Pages
 
-abbrev pub said_step : State → Result Line LineFault → Step
-said_step s (Ok line) = line_step s line
-said_step s (Err e) = refused s [] e
+abbrev pub said_step : State → List DrawopValue → Result Line LineFault → Step
+said_step s order (Ok line) = line_step s order line
+said_step s order (Err e) = refused s [] e
 
-abbrev pub step_of : State → List ℕ → Step
-step_of s bytes = said_step s (line_of bytes)
+abbrev pub step_of : State → List DrawopValue → List ℕ → Step
+step_of s order bytes = said_step s order (line_of bytes)
 
 -- what a script prints in all, and its end
 pub data Outcome : Type 0 where
@@ -95,20 +114,18 @@ pub data Outcome : Type 0 where
 abbrev pub before : List ℕ → Outcome → Outcome
 before text (prints rest end) = prints (text ++ rest) end
 
--- at the end the present batch ends
-abbrev pub finish : State → Result Summary RunFault → Outcome
-finish s end = prints (closing_text s) end
-
 -- how many drawops are held
 abbrev pub held_count : State → ℕ
 held_count s = by_host s.host 0 (λ host. length host.board.drawops)
 
-abbrev pub summary : ℕ → State → Result Summary RunFault
-summary lines s = Ok (record { lines = lines; held = held_count (after_batch s) })
+-- the answer of a script that had so many lines, or ended with a fault
+abbrev pub answer : State → Result ℕ RunFault → Result Summary RunFault
+answer s (Ok lines) = Ok (record { lines = lines; held = held_count s })
+answer s (Err e) = Err e
 
-abbrev pub proceed : State → ℕ → Step → (State → Outcome) → Outcome
-proceed s number (goes t text) rest = before text (rest t)
-proceed s number (refused t text e) rest = before text (finish t (Err (run_faults.Line number e)))
+-- at the end the present batch ends
+abbrev pub finish : State → List DrawopValue → Result ℕ RunFault → Outcome
+finish s order ending = prints (closing_text s order) (answer (after_batch s order) ending)
 
 -- at most so many lines, and so many bytes in each
 abbrev pub most_lines : ℕ
@@ -117,19 +134,56 @@ most_lines = 2 ^ 20
 abbrev pub most_bytes : ℕ
 most_bytes = 65536
 
+-- ---- by one thread, which takes each batch as it came
+
+abbrev pub proceed : ℕ → Step → (State → Outcome) → Outcome
+proceed number (goes t text) rest = before text (rest t)
+proceed number (refused t text e) rest = before text (finish t t.waiting (Err (run_faults.Line number e)))
+
 -- From a state, after so many lines, the outcome of the lines that are left. Where the input is cut off, reading fails after them.
 abbrev pub outcome_from : Bool → ℕ → State → List InputLine → Outcome
-outcome_from cut n s [] = finish s (if cut then Err run_faults.Read else summary n s)
+outcome_from cut n s [] = finish s s.waiting (if cut then Err run_faults.Read else Ok n)
 outcome_from cut n s (line ∷ lines) =
     if nat_lt n most_lines && nat_le (length line.bytes) most_bytes
     then (if line.ended || not cut
-    then proceed s (n + 1) (step_of s (content line)) (λ t. outcome_from cut (n + 1) t lines)
-    else finish s (Err run_faults.Read))
-    else finish s (Err run_faults.Endless)
+    then proceed (n + 1) (step_of s s.waiting (content line)) (λ t. outcome_from cut (n + 1) t lines)
+    else finish s s.waiting (Err run_faults.Read))
+    else finish s s.waiting (Err run_faults.Endless)
 
 -- the outcome of an input, which is cut off where reading fails after it
-abbrev pub outcome : Bool → List ℕ → Outcome
-outcome cut input = outcome_from cut 0 start (input_lines input)
+abbrev pub outcome : Option ℕ → Bool → List ℕ → Outcome
+outcome workers cut input = outcome_from cut 0 (start workers) (input_lines input)
+
+-- ---- by workers, which take each batch in some order
+
+-- it ends so, once the present batch is taken
+abbrev pub Finishes : State → Result ℕ RunFault → Outcome → Type 0
+Finishes s ending o = InSomeOrder s (λ order. o ≡ finish s order ending)
+
+-- it is an outcome of what follows a step, behind the text of the step
+abbrev pub Proceeds : ℕ → (State → Outcome → Type 0) → Outcome → Step → Type 0
+Proceeds number Rest o (goes t text) = (next : Outcome) × Rest t next × (o ≡ before text next)
+Proceeds number Rest o (refused t text e) = (next : Outcome) × Finishes t (Err (run_faults.Line number e)) next × (o ≡ before text next)
+
+-- a limit that a line passes, or that it is cut off
+abbrev pub fault_at : Bool → ℕ → InputLine → Option RunFault
+fault_at cut n line =
+    if nat_lt n most_lines && nat_le (length line.bytes) most_bytes
+    then (if line.ended || not cut then None else Some run_faults.Read)
+    else Some run_faults.Endless
+
+abbrev pub Continues : Option RunFault → ℕ → State → List ℕ → (State → Outcome → Type 0) → Outcome → Type 0
+Continues None number s bytes Rest o = InSomeOrder s (λ order. Proceeds number Rest o (step_of s order bytes))
+Continues (Some e) number s bytes Rest o = Finishes s (Err e) o
+
+-- It is an outcome of the lines that are left.
+abbrev pub IsOutcomeFrom : Bool → ℕ → State → List InputLine → Outcome → Type 0
+IsOutcomeFrom cut n s [] o = Finishes s (if cut then Err run_faults.Read else Ok n) o
+IsOutcomeFrom cut n s (line ∷ lines) o = Continues (fault_at cut n line) (n + 1) s (content line) (λ t next. IsOutcomeFrom cut (n + 1) t lines next) o
+
+-- It is an outcome of an input, by so many workers where a number is given, and else by those of the board.
+abbrev pub IsOutcome : Option ℕ → Bool → List ℕ → Outcome → Type 0
+IsOutcome workers cut input o = IsOutcomeFrom cut 0 (start workers) (input_lines input) o
 
 -- ---- a run that stops
 
@@ -137,19 +191,19 @@ outcome cut input = outcome_from cut 0 start (input_lines input)
 abbrev pub BeginsWith : List ℕ → List ℕ → Type 0
 BeginsWith text bytes = (rest : List ℕ) × (text ≡ bytes ++ rest)
 
--- want of memory or a failing sink, at which the text may stop anywhere
+-- want of memory or of a thread, or a failing sink, at which the text may stop anywhere
 abbrev pub is_stop : RunFault → Bool
 is_stop run_faults.Memory = true
 is_stop run_faults.Write = true
+is_stop run_faults.Start = true
 is_stop run_faults.Read = false
-is_stop run_faults.Start = false
 is_stop run_faults.Endless = false
 is_stop (run_faults.Line n e) = false
 
 abbrev pub IsStop : RunFault → Type 0
 IsStop run_faults.Memory = Unit {0}
 IsStop run_faults.Write = Unit {0}
-IsStop run_faults.Start = ⊥
+IsStop run_faults.Start = Unit {0}
 IsStop run_faults.Read = ⊥
 IsStop run_faults.Endless = ⊥
 IsStop (run_faults.Line n e) = ⊥

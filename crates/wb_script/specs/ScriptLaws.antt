@@ -1,5 +1,5 @@
 -- Laws of what scripts print: what was printed stays, skipped lines print nothing, and the counts of a batch add up.
-use Rattle.std.specs.Prelude.{◌≡◌, ℕ, ◌+◌, ◌<◌, List, [], ◌∷◌, ◌++◌, length, Bool, true, false, Result, Ok, Err}
+use Rattle.std.specs.Prelude.{◌≡◌, ℕ, ◌+◌, ◌<◌, List, [], ◌∷◌, ◌++◌, length, Bool, true, false, Option, Some, None, Result, Ok, Err}
 use Rattle.std.specs.Str.Lines.{strip_carriage_return}
 use Rattle.wb_names.specs.Values.{DrawopValue}
 use Rattle.wb_names.specs.Arrivals.{Counts, counts_of, outcomes_of, history_after}
@@ -11,7 +11,7 @@ use Rattle.wb_script.specs.declared.summary.Summary.{Summary}
 use Rattle.wb_script.specs.Ahead.{IsLine}
 use Rattle.wb_script.specs.Parsing.{line_of}
 use Rattle.wb_script.specs.Running.{Begins}
-use Rattle.wb_script.specs.Script.{InputLine, input_lines, content, most_lines, Outcome, prints, outcome}
+use Rattle.wb_script.specs.Script.{InputLine, input_lines, content, IsAlone, most_lines, Outcome, prints, outcome, IsOutcome}
 
 -- a line feed ends each line
 abbrev pub EachEnds : List InputLine → Type 0
@@ -45,18 +45,18 @@ text_of (prints text end) = text
 
 -- Whole lines that end with a fault have this outcome whatever follows them.
 abbrev pub RefusedStays : Type 0
-RefusedStays = (front more text : List ℕ) (cut : Bool) (fault : RunFault) → EachEnds (input_lines front)
-    → outcome false front ≡ prints text (Err fault) → outcome cut (front ++ more) ≡ prints text (Err fault)
+RefusedStays = (workers : Option ℕ) (front more text : List ℕ) (cut : Bool) (fault : RunFault) → EachEnds (input_lines front)
+    → outcome workers false front ≡ prints text (Err fault) → outcome workers cut (front ++ more) ≡ prints text (Err fault)
 
 -- Where no arrival waits after whole lines, the text of each longer script begins with their text.
 abbrev pub PrintedStays : Type 0
-PrintedStays = (front more text : List ℕ) (cut : Bool) (summary : Summary) → EachEnds (input_lines front) → waits_at_end false (input_lines front) ≡ false
-    → outcome false front ≡ prints text (Ok summary) → Begins (outcome cut (front ++ more)) text
+PrintedStays = (workers : Option ℕ) (front more text : List ℕ) (cut : Bool) (summary : Summary) → EachEnds (input_lines front) → waits_at_end false (input_lines front) ≡ false
+    → outcome workers false front ≡ prints text (Ok summary) → Begins (outcome workers cut (front ++ more)) text
 
 -- A skipped line that a line feed ends changes nothing of the text, wherever it stands, while the lines are not too many.
 abbrev pub SkippedPrintsNothing : Type 0
-SkippedPrintsNothing = (front line more : List ℕ) (cut : Bool) → EachEnds (input_lines front) → IsLine line → line_of (strip_carriage_return line) ≡ Ok Skip
-    → length (input_lines (front ++ more)) < most_lines → text_of (outcome cut (front ++ (line ++ 10 ∷ more))) ≡ text_of (outcome cut (front ++ more))
+SkippedPrintsNothing = (workers : Option ℕ) (front line more : List ℕ) (cut : Bool) → EachEnds (input_lines front) → IsLine line → line_of (strip_carriage_return line) ≡ Ok Skip
+    → length (input_lines (front ++ more)) < most_lines → text_of (outcome workers cut (front ++ (line ++ 10 ∷ more))) ≡ text_of (outcome workers cut (front ++ more))
 
 -- all that a batch has counted
 abbrev pub total : Counts → ℕ
@@ -70,3 +70,43 @@ CountsAddUp = (cells : ℕ) (held arrivals : List DrawopValue) → total (counts
 abbrev pub HeldStays : Type 0
 HeldStays = (cells : ℕ) (held arrivals : List DrawopValue) → (added : List DrawopValue)
     × (history_after cells held arrivals ≡ held ++ added) × (length added ≡ (counts_of (outcomes_of cells held arrivals)).fresh)
+
+-- ---- by how many workers
+
+-- the number of workers that a line names
+abbrev pub workers_on : Result Line LineFault → Option ℕ
+workers_on (Ok Skip) = None
+workers_on (Ok (Arrive d)) = None
+workers_on (Ok (Board member cells workers seed)) = Some workers
+workers_on (Ok (Hear v)) = None
+workers_on (Ok (Distance source micros)) = None
+workers_on (Ok (Tick moment)) = None
+workers_on (Ok (Look page)) = None
+workers_on (Ok (Session page)) = None
+workers_on (Ok (Show page width height)) = None
+workers_on (Ok (Gaps page)) = None
+workers_on (Ok (Report page)) = None
+workers_on (Ok Pages) = None
+workers_on (Err e) = None
+
+-- the first of two numbers that is known
+abbrev pub first_of : Option ℕ → Option ℕ → Option ℕ
+first_of None later = later
+first_of (Some before) later = Some before
+
+-- the number of workers that is known at the end of some lines: that of the start, or else of the first board
+abbrev pub workers_at_end : Option ℕ → List InputLine → Option ℕ
+workers_at_end workers [] = workers
+workers_at_end workers (line ∷ lines) = workers_at_end (first_of workers (workers_on (line_of (content line)))) lines
+
+-- What one thread prints is an outcome by any number of workers.
+abbrev pub OneThreadIsOutcome : Type 0
+OneThreadIsOutcome = (workers : Option ℕ) (cut : Bool) (input : List ℕ) → IsOutcome workers cut input (outcome workers cut input)
+
+-- By one worker there is no other outcome.
+abbrev pub OneWorkerIsOneThread : Type 0
+OneWorkerIsOneThread = (workers : Option ℕ) (cut : Bool) (input : List ℕ) (o : Outcome) → IsAlone (workers_at_end workers (input_lines input)) → IsOutcome workers cut input o → o ≡ outcome workers cut input
+
+-- What one thread prints does not depend on the number that is handed in.
+abbrev pub OneThreadIsFree : Type 0
+OneThreadIsFree = (workers others : Option ℕ) (cut : Bool) (input : List ℕ) → outcome workers cut input ≡ outcome others cut input

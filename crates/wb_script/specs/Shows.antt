@@ -1,5 +1,5 @@
 -- What a script shows at its end, said of the bytes that go in and the characters that come out.
-use Rattle.std.specs.Prelude.{◌≡◌, ℕ, List, [], ◌∷◌, ◌++◌, false, Result, Ok, Err, IsPermutation}
+use Rattle.std.specs.Prelude.{◌≡◌, ℕ, List, [], ◌∷◌, ◌++◌, false, Option, Result, Ok, Err, IsPermutation}
 use Rattle.std.specs.Str.Lines.{strip_carriage_return}
 use Rattle.wb_names.specs.Values.{DrawopValue}
 use Rattle.wb_names.specs.Arrivals.{history_after}
@@ -68,14 +68,14 @@ canvas_after lines page width height = canvas_text (view_of (history_after (cell
 
 -- A script that ends by showing a page, and is run to its end, ends with the canvas of all its arrivals, of whatever batches.
 abbrev pub ShowsArrivals : Type 0
-ShowsArrivals = (front question text : List ℕ) (page : PageId) (width height : ℕ) (summary : Summary) → EachEnds (input_lines front) → IsLine question → line_of (strip_carriage_return question) ≡ Ok (Show page width height)
-    → outcome false (front ++ (question ++ 10 ∷ [])) ≡ prints text (Ok summary) → EndsWith text (canvas_after front page width height)
+ShowsArrivals = (workers : Option ℕ) (front question text : List ℕ) (page : PageId) (width height : ℕ) (summary : Summary) → EachEnds (input_lines front) → IsLine question → line_of (strip_carriage_return question) ≡ Ok (Show page width height)
+    → outcome workers false (front ++ (question ++ 10 ∷ [])) ≡ prints text (Ok summary) → EndsWith text (canvas_after front page width height)
 
 -- Two such scripts whose arrivals are rearrangements of one another and do not clash, with cells for all names, end with the same canvas.
 abbrev pub ShowsAreFree : Type 0
-ShowsAreFree = (front other question text again : List ℕ) (page : PageId) (width height : ℕ) (summary summary' : Summary) → EachEnds (input_lines front) → EachEnds (input_lines other)
+ShowsAreFree = (workers : Option ℕ) (front other question text again : List ℕ) (page : PageId) (width height : ℕ) (summary summary' : Summary) → EachEnds (input_lines front) → EachEnds (input_lines other)
     → IsLine question → line_of (strip_carriage_return question) ≡ Ok (Show page width height)
-    → outcome false (front ++ (question ++ 10 ∷ [])) ≡ prints text (Ok summary) → outcome false (other ++ (question ++ 10 ∷ [])) ≡ prints again (Ok summary')
+    → outcome workers false (front ++ (question ++ 10 ∷ [])) ≡ prints text (Ok summary) → outcome workers false (other ++ (question ++ 10 ∷ [])) ≡ prints again (Ok summary')
     → IsPermutation (arrivals_of (input_lines front)) (arrivals_of (input_lines other)) → NoneClash (arrivals_of (input_lines front))
     → HasCells (cells_of (input_lines front)) (arrivals_of (input_lines front)) → HasCells (cells_of (input_lines other)) (arrivals_of (input_lines front))
     → EndsWith text (canvas_after front page width height) × EndsWith again (canvas_after front page width height)

@@ -1,13 +1,14 @@
 -- At which state of a script a host is, and how it gets from one to the next.
 use Rattle.std.specs.Prelude.{◌≡◌, ℕ, List, [], Option, Some, None, Result, Ok, Err, ◌⊎◌, false}
 use Rattle.wb_names.specs.Values.{DrawopValue}
+use Rattle.wb_names.specs.Arrivals.{Counts, counts_of, outcomes_of}
 use Rattle.rand_pcg.specs.Lcg.{Lcg}
 use Rattle.wb_host.specs.Keeping.{KeeperValue, StandsFor}
 use Rattle.wb_script.specs.declared.fault.RunFault.{RunFault}
 use Rattle.wb_script.specs.declared.fault.RunFault.TheVariants as run_faults
 use Rattle.wb_script.specs.Board.{Held}
-use Rattle.wb_script.specs.Hosts.{Opened, constants, host_after, batch_text, Act, does, fails}
-use Rattle.wb_script.specs.Script.{State, Step, goes, refused, closing_text, after_batch, is_stop, StopsWithin}
+use Rattle.wb_script.specs.Hosts.{Opened, constants, board_after, host_after, batch_text, Act, does, fails}
+use Rattle.wb_script.specs.Script.{State, MayBeTaken, InSomeOrder, Step, goes, refused, closing_text, after_batch, is_stop, StopsWithin}
 
 -- a board, the keeper at it, and the random words that were not drawn yet
 pub record StationValue : Type 0 where
@@ -29,22 +30,32 @@ MayBeOpenAt (Some v) None = ⊥
 
 pub record HostValue : Type 0 where
   pub station : Option StationValue
+  pub workers : Option ℕ
   pub waiting : List DrawopValue
 
 pub record IsAt (h : HostValue) (s : State) : Type 0 where
   pub station : MayBeOpenAt h.station s.host
+  pub workers : h.workers ≡ s.workers
   pub waiting : h.waiting ≡ s.waiting
 
 -- ---- from one state to the next
 
--- A host that was at this state takes its batch.
-abbrev pub TakesBatch : {U : Type 0} → Opened → List DrawopValue → StationValue → List ℕ → Result U RunFault → Type 0
-TakesBatch host batch new written (Ok u) = IsOpenAt new (host_after host batch) × (written ≡ batch_text host.board batch)
-TakesBatch host batch new written (Err e) = StopsWithin (batch_text host.board batch) written e
+-- A board has taken a batch by so many workers: it holds and counted what one thread makes of the batch in this order.
+pub record TakesAll (board : Held) (workers : ℕ) (batch : List DrawopValue) (after : Held) (counted : Counts) : Type 0 where
+  pub order : List DrawopValue
+  pub may : MayBeTaken (Some workers) batch order
+  pub held : after ≡ board_after board order
+  pub counts : counted ≡ counts_of (outcomes_of board.cells board.drawops order)
 
-abbrev pub EndsBatch : {U : Type 0} → State → HostValue → List ℕ → Result U RunFault → Type 0
-EndsBatch s new written (Ok u) = IsAt new (after_batch s) × (written ≡ closing_text s)
-EndsBatch s new written (Err e) = StopsWithin (closing_text s) written e
+-- A station that was at this host has taken a batch, in this order, and printed a text.
+pub record TakesBatch (host : Opened) (batch order : List DrawopValue) (new : StationValue) (written : List ℕ) : Type 0 where
+  pub leads : IsOpenAt new (host_after host batch order)
+  pub text : written ≡ batch_text host.board order
+
+-- A host that was at this state takes its batch, in this order.
+abbrev pub EndsBatch : {U : Type 0} → State → List DrawopValue → HostValue → List ℕ → Result U RunFault → Type 0
+EndsBatch s order new written (Ok u) = IsAt new (after_batch s order) × (written ≡ closing_text s order)
+EndsBatch s order new written (Err e) = StopsWithin (closing_text s order) written e
 
 -- It does what a line is to do there, and prints its text; or it refuses the line of this number.
 abbrev pub DoesAct : {U : Type 0} → ℕ → Opened → StationValue → List ℕ → Result U RunFault → Act → Type 0
@@ -58,6 +69,10 @@ DoesStep number new written (Ok u) (goes t text) = IsAt new t × (written ≡ te
 DoesStep number new written (Ok u) (refused t text e) = ⊥
 DoesStep number new written (Err f) (goes t text) = StopsWithin text written f
 DoesStep number new written (Err f) (refused t text e) = StopsWithin text written f ⊎ ((f ≡ run_faults.Line number e) × IsAt new t × (written ≡ text))
+
+-- The same, for some order in which the present batch may be taken.
+abbrev pub MayDoStep : {U : Type 0} → State → ℕ → HostValue → List ℕ → Result U RunFault → (List DrawopValue → Step) → Type 0
+MayDoStep s number new written result step = InSomeOrder s (λ order. DoesStep number new written result (step order))
 
 -- ---- while a run goes on
 

@@ -1,15 +1,15 @@
 ghost use Rattle.std.specs.Prelude.{◌≡◌, ◌++◌, IfOk, IfErr, OnOk};
 ghost use Rattle.std.specs.String.{string_bytes};
 ghost use Rattle.wb_host.specs.Keeping.{marks_at};
-ghost use Rattle.wb_script.specs.Batches.{counts_in};
+ghost use Rattle.wb_feed.specs.Batches.{counts_in};
 ghost use Rattle.wb_script.specs.Answers.{batch_line, pair_line, gap_line, gaps_text, report_text, pages_text, answer_text, IsAnswerable};
 
-use crate::batch::Batch;
 use crate::fault::RunFault;
 use crate::output::Output;
 use crate::query::Query;
 use crate::whiteboard::Whiteboard;
 use std::alloc::{AllocError, Global};
+use wb_feed::Batch;
 use wb_host::Keeper;
 use wb_names::{Gap, Mark, PageId};
 

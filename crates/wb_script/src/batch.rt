@@ -1,42 +1,39 @@
-ghost use Rattle.std.specs.Prelude.{◌≡◌, ◌<◌, ◌^◌, length, IfOk, OnOk};
-ghost use Rattle.wb_names.specs.Arrivals.{counts_of, outcomes_of, history_after};
-ghost use Rattle.wb_script.specs.Batches.{counts_in};
+//! The arrivals of a batch, as workers draw them: in the order of the script.
+ghost use Rattle.std.specs.Prelude.{◌-◌, ◌||◌, List, length, nat_le, take};
+ghost use Rattle.wb_names.specs.Values.{DrawopValue};
 
-use crate::whiteboard::Whiteboard;
-use std::alloc::AllocError;
-use wb_host::Reply;
+use wb_feed::Arrivals;
 use wb_names::Drawop;
 
-/// How many arrivals were new, were held already, met another of their name, or found no cell.
-#[derive(Clone, Copy, Debug, PartialEq, Eq)]
-pub struct Batch {
-    pub fresh: u32,
-    pub again: u32,
-    pub clash: u32,
-    pub left: u32,
+/// Gives the drawops of a list, in order.
+#[derive(Drop)]
+pub struct Waiting<'a> {
+    pub all: &'a [Drawop],
+    /// How many were given.
+    pub given: u32,
 }
 
-const NOTHING: Batch = Batch {
-    fresh: 0,
-    again: 0,
-    clash: 0,
-    left: 0,
-};
+impl Arrivals for Waiting<'_> {
+    ghost given = { λ s. take s.given s.all.now };
 
-/// Takes drawops in order, and counts the replies.
-pub fn accept_all(board: &mut Whiteboard, drawops: &[Drawop]) -> Result<Batch, AllocError>
-    requires { length drawops.now < 2 ^ 32 }
-    ensures counts { IfOk result (λ n. counts_in n ≡ counts_of (outcomes_of board.old.cells board.old.drawops drawops.now)) }
-    ensures held { OnOk result (board.new ≡ record { cells = board.old.cells; drawops = history_after board.old.cells board.old.drawops drawops.now }) }
-{
-    let mut batch = NOTHING;
-    for drawop in drawops {
-        match board.accept(drawop)? {
-            Some(Reply::New(_)) => batch.fresh += 1,
-            Some(Reply::Again(_)) => batch.again += 1,
-            Some(Reply::Clash(_)) => batch.clash += 1,
-            None => batch.left += 1,
+    ghost has_ended = { λ s. nat_le (length s.all.now) s.given || nat_le 4294967295 s.given };
+
+    ghost most_to_come = { λ s. 4294967295 - s.given };
+
+    ghost Kept = { List DrawopValue };
+
+    ghost kept = { λ s. s.all.now };
+
+    fn next(&mut self) -> Option<Drawop> {
+        let at = self.given as usize;
+        if at >= self.all.len() || self.given == u32::MAX {
+            return None;
         }
+        self.given += 1;
+        Some(self.all[at])
     }
-    Ok(batch)
+
+    fn most(&self) -> u32 {
+        u32::MAX - self.given
+    }
 }

@@ -3,7 +3,7 @@
 
 ghost use Rattle.wb_script.specs.Laws.{ViewOfPage, OnlyView, GapsOfPage, OnlyGaps, ReportOfPage, OnlyReport, PagesOfHistory, OnlyPages, AnswersAreFree, BatchesAreOne, ArrivalsAreFree, PrintsAreFree};
 ghost use Rattle.wb_script.specs.Shows.{ShowsArrivals, ShowsAreFree};
-ghost use Rattle.wb_script.specs.ScriptLaws.{RefusedStays, PrintedStays, SkippedPrintsNothing, CountsAddUp, HeldStays};
+ghost use Rattle.wb_script.specs.ScriptLaws.{RefusedStays, PrintedStays, SkippedPrintsNothing, CountsAddUp, HeldStays, OneThreadIsOutcome, OneWorkerIsOneThread, OneThreadIsFree};
 
 /// What is printed is the view of a page, its missing ranges, its report, and the list of pages.
 pub fn queries_are_answered()
@@ -60,4 +60,12 @@ pub fn skipped_lines_print_nothing()
 pub fn batches_add_up()
     ensures counts { CountsAddUp }
     ensures held { HeldStays }
+{}
+
+/// What one thread prints for a script, which takes each batch as it came, is an outcome by any number of
+/// workers, and by one worker the only one. It does not depend on the number that is handed in.
+pub fn one_worker_is_one_thread()
+    ensures some { OneThreadIsOutcome }
+    ensures only { OneWorkerIsOneThread }
+    ensures free { OneThreadIsFree }
 {}

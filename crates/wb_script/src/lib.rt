@@ -2,7 +2,8 @@
 //!
 //! A script stands in for the network and the clock of a host: its lines hand in the datagrams that
 //! arrive, set the moment, and ask for what a page shows. This crate reads lines, runs them, and
-//! writes exactly what one thread prints for them. What reads text (lines, words, numbers,
+//! writes exactly what one thread prints for them, each batch taken in some order: as it came, where one
+//! worker takes it. What reads text (lines, words, numbers,
 //! hexadecimal) stands in modules of its own, apart from what runs, and serves other programs that
 //! read line by line.
 #![tactic(auto)]
@@ -39,4 +40,5 @@ pub use random::{RandomWords, words_follow_words};
 pub use running::{run, without_carriage_return};
 pub use sent_lines::{look_line, print_sends, sent_is_taken};
 pub use summary::Summary;
+pub use wb_feed::{Gate, NoGate};
 pub use words::next_word;

@@ -1,13 +1,14 @@
 //! The board of a script with the keeper at it, and what lines do to them.
-ghost use Rattle.std.specs.Prelude.{◌≡◌, ◌≢◌, ◌<◌, ◌≤◌, ◌^◌, ◌++◌, List, [], ℕ, length, Err, IfOk};
+ghost use Rattle.std.specs.Prelude.{◌≡◌, ◌≢◌, ◌<◌, ◌≤◌, ◌^◌, ◌++◌, List, [], ℕ, length, Some, Err, IfOk, IfErr};
+ghost use Rattle.wb_names.specs.Values.{DrawopValue};
 ghost use Rattle.wb_script.specs.Answers.{IsAnswerable};
 ghost use Rattle.wb_script.specs.Hosts.{Opened, opened, names_of, asked, ticked, looked, words_for, word_at, heard, reported, act};
 ghost use Rattle.wb_script.specs.Parsing.{IsWithin};
 ghost use Rattle.wb_script.specs.Random.{after_words};
+ghost use Rattle.wb_script.specs.Script.{MayBeTaken, IsStop};
 ghost use Rattle.wb_script.specs.Stations.{IsOpenAt, TakesBatch, DoesAct};
 
 use crate::answers::{batch_line, print};
-use crate::batch::accept_all;
 use crate::fault::{LineFault, RunFault};
 use crate::line::Line;
 use crate::output::Output;
@@ -17,7 +18,10 @@ use crate::sent_lines::{look_line, print_sends};
 use crate::whiteboard::Whiteboard;
 use std::alloc::{AllocError, Global};
 use std::marker::Model;
+use std::sync::Wait;
+use std::thread::Threads;
 use wb_codec::Datagram;
+use wb_feed::Gate;
 use wb_host::{KeepFault, Keeper};
 use wb_names::{Drawop, Name, PageId};
 use wb_recovery::Tuning;
@@ -64,25 +68,40 @@ impl Station {
         self.board.drawops().len() as u32
     }
 
-    /// Takes a batch that has arrivals, prints its counts, and tells the keeper what arrived.
-    pub fn take_batch(
-        &mut self,
+    /// Takes a batch that has arrivals by so many workers, prints its counts, and tells the keeper what
+    /// arrived. Where that is refused nothing is printed, and the station is gone.
+    pub fn take_batch<R: Threads + Wait + Sync, G: Gate + Sync>(
+        self,
+        rt: &R,
         alloc: Global,
+        workers: u32,
         drawops: &[Drawop],
         output: &mut Output,
-    ) -> Result<(), RunFault>
+        gate: &G,
+    ) -> Result<Station, RunFault>
         requires few { length drawops.now < 2 ^ 32 }
         requires some { 0 < length drawops.now }
-        ensures text { (written : List ℕ) × (output.new ≡ output.old ++ written) × ((host : Opened) → IsOpenAt self.old host → TakesBatch host drawops.now self.new written result) }
+        requires workers { (0 < workers) × (workers ≤ 8) }
+        ensures taken { IfOk result (λ station. (order : List DrawopValue) × (written : List ℕ) × MayBeTaken (Some workers) drawops.now order × (output.new ≡ output.old ++ written) × ((host : Opened) → IsOpenAt self host → TakesBatch host drawops.now order station written)) }
+        ensures refused { IfErr result (λ e. IsStop e × (output.new ≡ output.old)) }
         ensures unread { result ≢ Err RunFault.Read }
         ensures unwritten { result ≢ Err RunFault.Write }
     {
+        let Station {
+            board,
+            mut keeper,
+            words,
+        } = self;
         let names = names_of(alloc, drawops)?;
-        let batch = accept_all(&mut self.board, drawops)?;
+        let (board, batch) = board.take_all(rt, alloc, workers, drawops, gate)?;
         let text = batch_line(alloc, batch)?;
         output.add(text.as_bytes())?;
-        self.board.tell_arrived(&mut self.keeper, &names);
-        Ok(())
+        board.tell_arrived(&mut keeper, &names);
+        Ok(Station {
+            board,
+            keeper,
+            words,
+        })
     }
 
     /// Answers a question.

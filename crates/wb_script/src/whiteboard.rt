@@ -1,17 +1,23 @@
 //! The board of a script, with the desk that owns all of its rows.
-ghost use Rattle.std.specs.Prelude.{◌≡◌, ◌≤◌, ◌<◌, [], length, true, IfOk, OnOk, OnErr};
-ghost use Rattle.wb_names.specs.Arrivals.{history_with, outcome_of};
+ghost use Rattle.std.specs.Prelude.{◌≡◌, ◌≢◌, ◌≤◌, ◌<◌, ◌^◌, [], length, true, Err, IfOk, IfErr};
+ghost use Rattle.wb_feed.specs.Batches.{counts_in};
 ghost use Rattle.wb_host.specs.Keeping.{marks_at};
 ghost use Rattle.wb_display.specs.Canvas.{canvas_text, is_canvas_size};
 ghost use Rattle.wb_script.specs.Queries.{view_of, gaps_of, report_of, pages_of};
-ghost use Rattle.wb_script.specs.Reply.{became};
+ghost use Rattle.wb_script.specs.Script.{IsStop};
+ghost use Rattle.wb_script.specs.Stations.{TakesAll};
 
 mod keeping;
 
+use crate::batch::Waiting;
+use crate::fault::RunFault;
 use std::alloc::{AllocError, Global};
 use std::marker::Model;
+use std::sync::Wait;
+use std::thread::Threads;
 use wb_display::{Canvas, CanvasFault};
-use wb_host::{Board, BoardFault, Desk, Keeper, OpenFault, Reply};
+use wb_feed::{Batch, FeedFault, Gate, run_batch};
+use wb_host::{Board, Desk, Keeper, OpenFault};
 use wb_names::{Drawop, Gap, Marks, PageId};
 
 /// A board and the one desk that was ever made of it.
@@ -101,18 +107,36 @@ impl Whiteboard {
         self.board.pages(alloc, &mut self.desk)
     }
 
-    /// Accepts a drawop. No reply: it is left, since all cells are filled. Without memory nothing
-    /// changes.
-    pub fn accept(&mut self, drawop: &Drawop) -> Result<Option<Reply>, AllocError>
-        ensures reply { IfOk result (λ r. became r ≡ outcome_of self.old.cells self.old.drawops drawop.now) }
-        ensures held { OnOk result (self.new.drawops ≡ history_with self.old.drawops drawop.now (outcome_of self.old.cells self.old.drawops drawop.now)) }
-        ensures cells { self.new.cells ≡ self.old.cells }
-        ensures err { OnErr result (self.new ≡ self.old) }
+    /// Takes drawops by so many workers, which call the gate round each accept, and counts what became of
+    /// them. The board holds then what one thread makes of them in some order, and one worker takes them as
+    /// they came. Where a thread or memory is refused, rows may be lost, so the board is gone.
+    pub fn take_all<R: Threads + Wait + Sync, G: Gate + Sync>(
+        self,
+        rt: &R,
+        alloc: Global,
+        workers: u32,
+        drawops: &[Drawop],
+        gate: &G,
+    ) -> Result<(Whiteboard, Batch), RunFault>
+        requires workers { (0 < workers) × (workers ≤ 8) }
+        requires few { length drawops.now < 2 ^ 32 }
+        ensures taken { IfOk result (λ r. TakesAll self workers drawops.now r.0 (counts_in r.1)) }
+        ensures stopped { IfErr result IsStop }
+        ensures unread { result ≢ Err RunFault.Read }
+        ensures unwritten { result ≢ Err RunFault.Write }
     {
-        match self.board.accept(&mut self.desk, drawop) {
-            Ok(reply) => Ok(Some(reply)),
-            Err(BoardFault::NoRow) => Ok(None),
-            Err(BoardFault::Memory) => Err(AllocError),
+        let Whiteboard { board, mut desk } = self;
+        let mut arrivals = Waiting {
+            all: drawops,
+            given: 0,
+        };
+        let taken = run_batch(rt, alloc, &board, &mut desk, workers, &mut arrivals, gate);
+        let _sound = desk.rows_left();
+        match taken {
+            Ok(batch) => Ok((Whiteboard { board, desk }, batch)),
+            Err(FeedFault::Start) => Err(RunFault::Start),
+            Err(FeedFault::Memory) => Err(RunFault::Memory),
+            Err(FeedFault::Workers) => unreachable!(),
         }
     }
 }

@@ -6,7 +6,7 @@ use std::cell::Cell;
 use std::process::Abort;
 use std::test::Fail;
 use wb_names::{FromRead, Sink, Source, ToWrite};
-use wb_script::{RunFault, Summary, check, run};
+use wb_script::{NoGate, RunFault, Summary, check, run};
 
 const SCRIPT: &str =
     "board 1 16 1 42\narrive 574201010000002200000007000000070000000100000001000000000000000a0100000001000400012a\nshow 7 1 5 3\n";
@@ -70,7 +70,7 @@ fn a_failing_sink_has_taken_a_front_of_the_text(rt: HostRuntime) {
             room,
             failed: false,
         };
-        let end = run(rt.alloc(), &mut source, &mut sink);
+        let end = run(&rt, rt.alloc(), &mut source, &mut sink, None, &NoGate);
         let want = if room == 32 {
             Ok(Summary { lines: 3, held: 1 })
         } else {
@@ -93,7 +93,7 @@ fn a_failing_source_ends_the_batch(rt: HostRuntime) {
     };
     let mut sink = ToWrite::new(Vec::new(rt.alloc()));
     assert_eq!(rt;
-        run(rt.alloc(), &mut source, &mut sink),
+        run(&rt, rt.alloc(), &mut source, &mut sink, None, &NoGate),
         Err(RunFault::Read)
     );
     assert_eq!(rt; sink.into_inner().as_slice(), b"batch 1 0 0 0\n".as_slice());
@@ -158,7 +158,7 @@ fn answers_are_written_before_more_is_read(rt: HostRuntime) -> Result<(), Fail> 
         seen: Vec::new(rt.alloc()),
     };
     let mut sink = Counted { written: &written };
-    run(rt.alloc(), &mut source, &mut sink)?;
+    run(&rt, rt.alloc(), &mut source, &mut sink, None, &NoGate)?;
     // The board and the arrival have no answer; what `show` prints is there before the next read.
     assert_eq!(rt; source.seen.as_slice(), [0, 0, 0, 32].as_slice());
     Ok(())
@@ -174,7 +174,7 @@ fn a_pause_between_arrivals_ends_no_batch(rt: HostRuntime) -> Result<(), Fail> {
     };
     let mut sink = Counted { written: &written };
     assert_eq!(rt;
-        run(rt.alloc(), &mut source, &mut sink),
+        run(&rt, rt.alloc(), &mut source, &mut sink, None, &NoGate),
         Ok(Summary { lines: 3, held: 2 })
     );
     assert_eq!(rt; source.seen.as_slice(), [0, 0, 0, 0].as_slice());
@@ -206,7 +206,7 @@ fn long_answers_are_written_while_one_block_is_read(rt: HostRuntime) -> Result<(
         script.push_str("show 7 1 200 100\n")?;
     }
     let mut sink = Widest { most: 0 };
-    run(rt.alloc(), &mut FromRead::new(script.as_bytes()), &mut sink)?;
+    run(&rt, rt.alloc(), &mut FromRead::new(script.as_bytes()), &mut sink, None, &NoGate)?;
     // A canvas has 20,100 bytes: four of them pass 65,536.
     assert_eq!(rt; sink.most, 80_400);
     Ok(())

@@ -4,7 +4,7 @@
 use std::process::Abort;
 use std::test::Fail;
 use wb_names::{FromRead, ToWrite};
-use wb_script::{Summary, run};
+use wb_script::{NoGate, Summary, run};
 
 /// Number 2 of source 7 is lost: it is asked for when its timer is due, twice, until it comes; a request
 /// for it is not answered while it is quiet, and then is.
@@ -57,7 +57,7 @@ fn hosts_ask_answer_and_report(rt: HostRuntime) -> Result<(), Fail> {
     for (script, want, lines, held) in [(LOST, ASKED_AND_ANSWERED, 17, 3), (TOLD, REPORTED, 7, 1)] {
         let mut source = FromRead::new(script.as_bytes());
         let mut sink = ToWrite::new(Vec::new(rt.alloc()));
-        let end = run(rt.alloc(), &mut source, &mut sink);
+        let end = run(&rt, rt.alloc(), &mut source, &mut sink, None, &NoGate);
         assert_eq!(rt; sink.into_inner().as_slice(), want.as_bytes());
         assert_eq!(rt; end, Ok(Summary { lines, held }));
     }

@@ -18,3 +18,5 @@ mod scripts;
 mod sent_lines;
 #[cfg(test)]
 mod watched;
+#[cfg(test)]
+mod workers;

@@ -4,7 +4,7 @@ use crate::watched::Watched;
 use std::process::Abort;
 use std::test::Fail;
 use wb_names::FromRead;
-use wb_script::{RunFault, Summary, check, run};
+use wb_script::{NoGate, RunFault, Summary, check, run};
 
 #[test]
 fn lines_are_limited(rt: HostRuntime) -> Result<(), Fail> {
@@ -24,7 +24,7 @@ fn lines_are_limited(rt: HostRuntime) -> Result<(), Fail> {
         wanted: b"",
         strayed: false,
     };
-    let end = run(rt.alloc(), &mut FromRead::new(script.as_slice()), &mut sink);
+    let end = run(&rt, rt.alloc(), &mut FromRead::new(script.as_slice()), &mut sink, None, &NoGate);
     assert_eq!(rt;
         end,
         Ok(Summary {
@@ -33,7 +33,7 @@ fn lines_are_limited(rt: HostRuntime) -> Result<(), Fail> {
         })
     );
     script.push(b'#')?;
-    let end = run(rt.alloc(), &mut FromRead::new(script.as_slice()), &mut sink);
+    let end = run(&rt, rt.alloc(), &mut FromRead::new(script.as_slice()), &mut sink, None, &NoGate);
     assert_eq!(rt; end, Err(RunFault::Endless));
     Ok(())
 }

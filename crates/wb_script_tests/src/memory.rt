@@ -2,8 +2,10 @@
 
 use crate::watched::Watched;
 use std::process::Abort;
+use std::sync::Wait;
+use std::thread::Threads;
 use wb_names::FromRead;
-use wb_script::{LineFault, ParseFault, RunFault, Summary, check, parse_line, run};
+use wb_script::{LineFault, NoGate, ParseFault, RunFault, Summary, check, parse_line, run};
 
 /// Three sources draw on one page at one time; the three drawops come eight times in all.
 const THREE: &str =
@@ -12,12 +14,12 @@ const THREE: &str =
 const THREE_TEXT: &str = "batch 3 5 0 0\n     \n*acd*\n     \n";
 
 /// Runs that script. A front of its text is written, and all of it where the run ends well.
-fn run_three(rt: &(impl Abort + AllocGlobal)) -> Result<Summary, RunFault> {
+fn run_three(rt: &(impl Abort + AllocGlobal + Threads + Wait + Sync)) -> Result<Summary, RunFault> {
     let mut sink = Watched {
         wanted: THREE_TEXT.as_bytes(),
         strayed: false,
     };
-    let end = run(rt.alloc(), &mut FromRead::new(THREE.as_bytes()), &mut sink);
+    let end = run(rt, rt.alloc(), &mut FromRead::new(THREE.as_bytes()), &mut sink, None, &NoGate);
     assert!(rt; !sink.strayed);
     assert!(rt; end.is_err() || sink.wanted.is_empty());
     end

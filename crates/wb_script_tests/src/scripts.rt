@@ -2,10 +2,12 @@
 
 use std::alloc::Global;
 use std::process::Abort;
+use std::sync::Wait;
 use std::test::Fail;
+use std::thread::Threads;
 use wb_codec::ReadFault;
 use wb_names::{FromRead, ToWrite};
-use wb_script::{Line, LineFault, ParseFault, RunFault, Summary, check, parse_line, run};
+use wb_script::{Line, LineFault, NoGate, ParseFault, RunFault, Summary, check, parse_line, run};
 
 const BOARD: &str = "board 1 16 1 42\n";
 
@@ -25,10 +27,15 @@ const M: &str =
 const ASKED: &str = "hear 574201040000000400000009";
 
 /// What a script over memory prints, and its end.
-fn outcome(alloc: Global, script: &[u8]) -> (Vec<u8>, Result<Summary, RunFault>) {
+fn outcome<R: Threads + Wait + Sync>(
+    rt: &R,
+    alloc: Global,
+    workers: Option<u32>,
+    script: &[u8],
+) -> (Vec<u8>, Result<Summary, RunFault>) {
     let mut source = FromRead::new(script);
     let mut sink = ToWrite::new(Vec::new(alloc));
-    let end = run(alloc, &mut source, &mut sink);
+    let end = run(rt, alloc, &mut source, &mut sink, workers, &NoGate);
     (sink.into_inner(), end)
 }
 
@@ -69,7 +76,7 @@ fn scripts_print_batches_and_canvases(rt: HostRuntime) -> Result<(), Fail> {
         for part in parts {
             script.push_str(part)?;
         }
-        let (text, _) = outcome(rt.alloc(), script.as_bytes());
+        let (text, _) = outcome(&rt, rt.alloc(), None, script.as_bytes());
         assert_eq!(rt; text.as_slice(), want.as_bytes(), "of {script}");
     }
     Ok(())
@@ -88,19 +95,19 @@ fn missing_ranges_are_printed(rt: HostRuntime) -> Result<(), Fail> {
             "batch 1 0 0 0\ngaps 1\n7 1 4294967294\n",
         ),
     ] {
-        let (text, _) = outcome(rt.alloc(), script.as_bytes());
+        let (text, _) = outcome(&rt, rt.alloc(), None, script.as_bytes());
         assert_eq!(rt; text.as_slice(), want.as_bytes(), "of {script}");
     }
     Ok(())
 }
 
 fn ends(
-    rt: &(impl Abort + AllocGlobal),
+    rt: &(impl Abort + AllocGlobal + Threads + Wait + Sync),
     cases: &[(&str, Result<Summary, RunFault>)],
 ) -> Result<(), Fail> {
     for (rest, want) in cases {
         let script = format!(in rt.alloc(); "{BOARD}{rest}")?;
-        let (_, end) = outcome(rt.alloc(), script.as_bytes());
+        let (_, end) = outcome(rt, rt.alloc(), None, script.as_bytes());
         assert_eq!(rt; end, *want, "of {rest}");
     }
     Ok(())
@@ -108,9 +115,9 @@ fn ends(
 
 #[test]
 fn scripts_end_with_a_summary_or_a_fault(rt: HostRuntime) -> Result<(), Fail> {
-    let (_, end) = outcome(rt.alloc(), b"");
+    let (_, end) = outcome(&rt, rt.alloc(), None, b"");
     assert_eq!(rt; end, Ok(Summary { lines: 0, held: 0 }));
-    let (_, end) = outcome(rt.alloc(), b"show 7 1 5 3");
+    let (_, end) = outcome(&rt, rt.alloc(), None, b"show 7 1 5 3");
     assert_eq!(rt; end, Err(RunFault::Line(1, LineFault::NoBoard)));
     ends(
         &rt,

@@ -7,8 +7,8 @@ pub returns-clause-script : goal.returns-clause-script
 returns-clause-script g c =
     let lines = rw (c.in_ok-reader.ensures, c.new-host.ensures, c.new-output.ensures) at c.run_lines-ending.ensures.text in
     let end = c.close.ensures.text in
-    let last = lines.4 start (record { station = tt; waiting = refl }) in
-    runs (g.R.Source.left c.args.source.now) (g.R.Source.left c.run_lines-ending.new.source) (g.R.Source.has_failed c.args.source.now) (g.R.Source.has_failed c.run_lines-ending.new.source) (g.W.Sink.taken c.args.sink.now) (g.W.Sink.taken c.run_lines-ending.new.sink) (g.W.Sink.taken c.close.new.sink)
+    let last = lines.4 (start c.args.workers) (record { station = tt; workers = refl; waiting = refl }) in
+    runs c.args.workers (g.R.Source.left c.args.source.now) (g.R.Source.left c.run_lines-ending.new.source) (g.R.Source.has_failed c.args.source.now) (g.R.Source.has_failed c.run_lines-ending.new.source) (g.W.Sink.taken c.args.sink.now) (g.W.Sink.taken c.run_lines-ending.new.sink) (g.W.Sink.taken c.close.new.sink)
     last.0 c.run_lines-ending.new.reader lines.0 lines.1 end.0 c.run_lines-ending.new.output c.close.new.output c.run_lines-ending.result c.close.result lines.2 lines.3 end.1 last.2 (end.2 last.0 last.1)
 
 pub returns-clause-write : goal.returns-clause-write
@@ -17,5 +17,5 @@ returns-clause-write g c = c.close.ensures.failed c.run_lines-ending.ensures.fai
 pub returns-clause-read : goal.returns-clause-read
 returns-clause-read g c = λ e.
     let lines = rw c.new-host.ensures at c.run_lines-ending.ensures.text in
-    let last = lines.4 start (record { station = tt; waiting = refl }) in
-    read_failed start last.0 c.in_ok-reader.reader c.run_lines-ending.new.reader lines.0 lines.1 (g.R.Source.has_failed c.run_lines-ending.new.source) c.run_lines-ending.result last.2 (c.close.ensures.read e)
+    let last = lines.4 (start c.args.workers) (record { station = tt; workers = refl; waiting = refl }) in
+    read_failed (start c.args.workers) last.0 c.in_ok-reader.reader c.run_lines-ending.new.reader lines.0 lines.1 (g.R.Source.has_failed c.run_lines-ending.new.source) c.run_lines-ending.result last.2 (c.close.ensures.read e)

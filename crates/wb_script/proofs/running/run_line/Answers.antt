@@ -2,7 +2,7 @@ use Rattle.std.proofs.Common.{◌≡◌, [], ap, ◌∙◌}
 use Rattle.std.specs.Str.Lines.{strip_carriage_return}
 use Rattle.std.proofs.lemmas.Result.{err_from_is_err_and}
 use Rattle.wb_script.proofs.KnownBytes.{Sends-more, Sends-then}
-use Rattle.wb_script.proofs.Outcomes.{whole_passes, whole_stops, last_passes, last_stops, failure_stops, length_stops, memory_stops}
+use Rattle.wb_script.proofs.Outcomes.{whole_passes, whole_stops, last_passes, last_stops, failure_stops, length_stops, memory_stops, unwritten_stops, ends_here}
 use Rattle.wb_script.proofs.running.run_line.Goals as goal
 
 pub returns-in_err-next_line-clause-text : goal.returns-in_err-next_line-clause-text
@@ -14,6 +14,26 @@ returns-in_err-next_line-clause-text g c =
       l.1,
       c.in_err-next_line.ensures.sends,
       rw (p.1, p.2) (λ s at. (s, λ going. at, memory_stops c.args.done s s c.args.reader.now c.next_line.new.self l.0 (g.R.Source.has_failed c.next_line.new.source))),
+    )
+
+pub returns-in-Unwritten-clause-text : goal.returns-in-Unwritten-clause-text
+returns-in-Unwritten-clause-text g c =
+    let l = c.in_ok-next_line.ensures.read in (
+      l.0,
+      [],
+      l.1,
+      c.in_ok-next_line.ensures.sends,
+      λ s at. (s, λ going. at, unwritten_stops c.args.done s s c.args.reader.now c.next_line.new.self l.0 (g.R.Source.has_failed c.next_line.new.source)),
+    )
+
+pub returns-in-End-clause-text : goal.returns-in-End-clause-text
+returns-in-End-clause-text g c =
+    let l = rw c.in-End.is at c.in_ok-next_line.ensures.read in (
+      l.0,
+      [],
+      l.1,
+      c.in_ok-next_line.ensures.sends,
+      λ s at. (s, at, ends_here c.args.done s c.args.reader.now c.next_line.new.self l.0 l.2.0 l.2.2),
     )
 
 pub returns-in-Failed-clause-text : goal.returns-in-Failed-clause-text

@@ -1,0 +1,114 @@
+//! Scripts whose batches are taken by workers: the same text whatever their number, and all of them at work.
+
+use std::alloc::{AllocError, Global};
+use std::sync::Wait;
+use std::sync::atomic::{AtomicU64, Ordering};
+use std::test::Fail;
+use std::thread;
+use std::thread::Threads;
+use wb_names::{FromRead, ToWrite};
+use wb_script::{Gate, NoGate, run};
+
+/// Source 7 draws on its page 1, at time 10, a line of `*` from (0, 1) to (4, 1).
+const A: &str =
+    "arrive 574201010000002200000007000000070000000100000001000000000000000a0100000001000400012a\n";
+
+/// Source 8 draws there at the same time, the text "ab" at (1, 1).
+const D: &str =
+    "arrive 574201010000002000000008000000070000000100000001000000000000000a0300010001026162\n";
+
+/// Source 9 draws there at the same time, the text "cd" at (2, 1).
+const E: &str =
+    "arrive 574201010000002000000009000000070000000100000001000000000000000a0300020001026364\n";
+
+const TEXT: &[u8] = b"batch 3 5 0 0\n     \n*acd*\n     \n";
+
+/// How many turns a worker waits at most.
+const TURNS: u64 = 10_000_000;
+
+/// Eight arrivals of three drawops, for a board that names so many workers.
+fn eight(alloc: Global, workers: u32) -> Result<String, AllocError> {
+    format!(in alloc; "board 1 16 {workers} 42\n{A}{D}{E}{A}{D}{E}{A}{D}show 7 1 5 3\n")
+}
+
+/// Whether a script prints these bytes.
+fn prints<R: Threads + Wait + Sync, G: Gate + Sync>(
+    rt: &R,
+    alloc: Global,
+    script: &str,
+    workers: Option<u32>,
+    gate: &G,
+    want: &[u8],
+) -> bool {
+    let mut sink = ToWrite::new(Vec::new(alloc));
+    let mut source = FromRead::new(script.as_bytes());
+    let end = run(rt, alloc, &mut source, &mut sink, workers, gate);
+    end.is_ok() && sink.into_inner().as_slice() == want
+}
+
+#[test]
+fn the_workers_of_a_board_print_what_one_thread_prints(rt: HostRuntime) -> Result<(), Fail> {
+    for workers in [1, 2, 4, 8] {
+        let script = eight(rt.alloc(), workers)?;
+        assert!(rt; prints(&rt, rt.alloc(), script.as_str(), None, &NoGate, TEXT), "by {workers}");
+    }
+    Ok(())
+}
+
+/// Holds each worker's first accept until all workers have come to theirs.
+#[derive(Drop)]
+struct AllTogether {
+    workers: u64,
+    came: AtomicU64,
+    late: AtomicU64,
+}
+
+impl Gate for AllTogether {
+    fn before(&self, _worker: u32, nth: u32) {
+        if nth != 0 {
+            return;
+        }
+        self.came.fetch_add(1, Ordering::SeqCst);
+        for _ in 0..TURNS {
+            if self.came.load(Ordering::SeqCst) >= self.workers {
+                return;
+            }
+            thread::yield_now();
+        }
+        self.late.fetch_add(1, Ordering::SeqCst);
+    }
+
+    fn after(&self, _worker: u32, _nth: u32) {}
+}
+
+#[test]
+fn so_many_workers_are_at_work_at_once(rt: HostRuntime) -> Result<(), Fail> {
+    for workers in [2, 4, 8] {
+        let script = eight(rt.alloc(), 1)?;
+        let gate = AllTogether {
+            workers: u64::from(workers),
+            came: AtomicU64::new(0),
+            late: AtomicU64::new(0),
+        };
+        assert!(rt; prints(&rt, rt.alloc(), script.as_str(), Some(workers), &gate, TEXT), "by {workers}");
+        assert!(rt; gate.late.load(Ordering::SeqCst) == 0, "by {workers}");
+        assert!(rt; gate.came.load(Ordering::SeqCst) >= u64::from(workers), "by {workers}");
+    }
+    Ok(())
+}
+
+#[test]
+fn workers_without_rows_leave_all_to_the_board(rt: HostRuntime) -> Result<(), Fail> {
+    let script = format!(in rt.alloc(); "board 1 3 8 42\n{A}{D}{E}")?;
+    assert!(rt; prints(&rt, rt.alloc(), script.as_str(), None, &NoGate, b"batch 3 0 0 0\n"));
+    Ok(())
+}
+
+#[test]
+fn what_finds_no_cell_is_left(rt: HostRuntime) -> Result<(), Fail> {
+    for workers in [1, 2] {
+        let script = format!(in rt.alloc(); "board 1 1 {workers} 42\n{A}{D}{A}")?;
+        assert!(rt; prints(&rt, rt.alloc(), script.as_str(), None, &NoGate, b"batch 1 1 0 1\n"));
+    }
+    Ok(())
+}
