@@ -1,6 +1,6 @@
 -- What the desk that owns all rows of a board is answered: p is the desk before the call, q the desk after it.
-use Rattle.std.proofs.Common.{◌≡◌, ℕ, ◌+◌, ◌<◌, ◌≤◌, ◌^◌, Bool, true, false, List, [], ◌∷◌, length, take, refl, sym, ap, ◌∙◌, subst, arith, ◌⊎◌, inl, inr}
-use Rattle.std.specs.Prelude.{Some, None, Result, Ok, Err, IfOk, IsPermutation, nat_le, ◌||◌}
+use Rattle.std.proofs.Common.{◌≡◌, ℕ, ◌+◌, ◌<◌, ◌≤◌, ◌^◌, Bool, true, false, List, [], length, take, refl, sym, ap, ◌∙◌, subst, arith, ◌⊎◌, inl, inr}
+use Rattle.std.specs.Prelude.{Result, Ok, Err, IfOk, IsPermutation, nat_le, ◌||◌}
 use Rattle.std.proofs.lemmas.Bool.{false≢true}
 use Rattle.std.proofs.lemmas.Bool.Decides.{nat_tests}
 use Rattle.std.proofs.lemmas.List.{take_all}
@@ -61,6 +61,7 @@ pub taken_all : (b : HistoryValue) (p q : PassValue) (h : Held) (workers : ℕ) 
 taken_all b p q h workers batch all given n view owns some few same ended keeps takes = at (nat_le workers 1) refl where
   more : takes.more ≡ batch
   more = sym takes.next ∙ all_given all given (subst (λ (l : List DrawopValue). length l < 2 ^ 32) (sym same) few) ended ∙ same
+
   at : (alone : Bool) → nat_le workers 1 ≡ alone → TakesAll h workers batch (held_of q) (counts_in n)
   at true e =
       let low : workers ≤ 1 = grind (arith, nat_tests, e) in

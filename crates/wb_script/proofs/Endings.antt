@@ -8,10 +8,11 @@ use Rattle.wb_script.specs.declared.fault.RunFault.{RunFault}
 use Rattle.wb_script.specs.declared.fault.RunFault.TheVariants as run_faults
 use Rattle.wb_script.specs.declared.summary.Summary.{Summary}
 use Rattle.wb_script.specs.Ahead.{Ahead, Pulls}
-use Rattle.wb_script.specs.Script.{State, start, Outcome, prints, before, Finishes, IsOutcome, IsStop}
+use Rattle.wb_script.specs.Script.{State, start, Outcome, prints, before, input_lines, outcome, Finishes, IsOutcome, IsStop}
 use Rattle.wb_script.specs.Output.{Sends}
 use Rattle.wb_script.specs.Running.{Leads, Begins, MayBegin, MayFollow, MayRemain, RunsLines, RunsAll, Meets, Settles, Closes, given_of, Runs}
 use Rattle.wb_script.proofs.KnownBytes.{Sends-then}
+use Rattle.wb_script.proofs.Outcomes.{one_thread}
 
 abbrev fresh : Ahead
 fresh = record { bytes = []; ended = false }
@@ -95,3 +96,15 @@ runs k rest rest' failed failed' taken taken' taken'' s r given w w1 x y ending 
 -- reading failed only where the source has
 pub read_failed : (s t : State) (r r' : Ahead) (given w : List ℕ) (failed : Bool) (ending : Result ℕ RunFault) → RunsLines s r given w t r' failed ending → ending ≡ Err run_faults.Read → failed ≡ true
 read_failed s t r r' given w failed ending p e = (subst (λ (x : Result ℕ RunFault). RunsLines s r given w t r' failed x) e p).0
+
+-- before anything was read, memory may have run out
+meets_nothing : (o : Outcome) → Meets o [] (Err run_faults.Memory)
+meets_nothing (prints text end) = inr (tt, (text, refl))
+
+pub runs_nothing : (k : Option ℕ) (rest : Option (List ℕ)) (failed : Bool) (taken : Option (List ℕ)) → Runs k rest rest failed taken taken (Err run_faults.Memory)
+runs_nothing k None failed taken = tt
+runs_nothing k (Some input) failed None = tt
+runs_nothing k (Some input) failed (Some taken) =
+    let given : List ℕ = given_of input input failed in
+    let o : Outcome = outcome k failed given in
+    ([], sym (append-nil taken), (o, one_thread failed 0 (start k) (input_lines given), meets_nothing o))

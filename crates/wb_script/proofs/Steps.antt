@@ -141,8 +141,7 @@ ends_empty h s written at none blank =
     let there : IsAt h (after_waiting s [] []) = record { station = empty_station h.station s.host at.station; workers = at.workers; waiting = none } in (
       s.waiting,
       as_it_came s.workers s.waiting,
-      subst (λ (l : List DrawopValue). IsAt h (after_waiting s l l)) (sym empty) there,
-      blank ∙ subst (λ (l : List DrawopValue). [] ≡ by_host s.host [] (λ host. batch_text host.board l)) (sym empty) (empty_text s.host),
+      (subst (λ (l : List DrawopValue). IsAt h (after_waiting s l l)) (sym empty) there, blank ∙ subst (λ (l : List DrawopValue). [] ≡ by_host s.host [] (λ host. batch_text host.board l)) (sym empty) (empty_text s.host)),
     )
 
 -- with no board
@@ -165,13 +164,13 @@ pub ends_taken : (old new : HostValue) (s : State) (v w : StationValue) (crew : 
     → InSomeOrder s (λ order. EndsBatch {U = Unit {0}} s order new written (Ok tt))
 ends_taken old new s v w crew order written few at open_before open_after same empty may took =
     (order, crew_may old.workers s.workers crew old.waiting s.waiting order few at.workers at.waiting may, go s.host (subst (λ (x : Option StationValue). MayBeOpenAt x s.host) open_before at.station)) where
-  go : (host : Option Opened) → MayBeOpenAt (Some v) host
-      → IsAt new (record { host = by_host host None (λ host. Some (host_after host s.waiting order)); workers = s.workers; waiting = [] }) × (written ≡ by_host host [] (λ host. batch_text host.board order))
-  go None o = absurd o
-  go (Some host) o =
-      let t = took host o in
-      let there : IsOpenAt w (host_after host s.waiting order) = subst (λ (l : List DrawopValue). IsOpenAt w (host_after host l order)) at.waiting t.leads in
-      (record { station = subst (λ (x : Option StationValue). MayBeOpenAt x (Some (host_after host s.waiting order))) (sym open_after) there; workers = same ∙ at.workers; waiting = empty }, t.text)
+      go : (host : Option Opened) → MayBeOpenAt (Some v) host
+          → IsAt new (record { host = by_host host None (λ host. Some (host_after host s.waiting order)); workers = s.workers; waiting = [] }) × (written ≡ by_host host [] (λ host. batch_text host.board order))
+      go None o = absurd o
+      go (Some host) o =
+          let t = took host o in
+          let there : IsOpenAt w (host_after host s.waiting order) = subst (λ (l : List DrawopValue). IsOpenAt w (host_after host l order)) at.waiting t.leads in
+          (record { station = subst (λ (x : Option StationValue). MayBeOpenAt x (Some (host_after host s.waiting order))) (sym open_after) there; workers = same ∙ at.workers; waiting = empty }, t.text)
 
 -- a batch that was refused
 pub ends_refused : (h : HostValue) (s : State) (written : List ℕ) (f : RunFault) → IsStop f → written ≡ [] → InSomeOrder s (λ order. EndsBatch {U = Unit {0}} s order h written (Err f))

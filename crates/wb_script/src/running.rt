@@ -62,7 +62,14 @@ fn run_line<T: Threads + Wait + Sync, R: Source, W: Sink, G: Gate + Sync>(
             Ok(true)
         }
         Found::Whole => {
-            host.take_line(rt, alloc, done + 1, without_carriage_return(line), output, gate)?;
+            host.take_line(
+                rt,
+                alloc,
+                done + 1,
+                without_carriage_return(line),
+                output,
+                gate,
+            )?;
             Ok(true)
         }
     }
@@ -168,7 +175,14 @@ pub fn run<T: Threads + Wait + Sync, R: Source, W: Sink, G: Gate + Sync>(
     let mut host = Host::new(alloc, workers);
     let mut output = Output::new(alloc);
     let ending = run_lines(
-        rt, alloc, &mut reader, &mut host, source, &mut output, sink, gate,
+        rt,
+        alloc,
+        &mut reader,
+        &mut host,
+        source,
+        &mut output,
+        sink,
+        gate,
     );
     close(rt, alloc, &mut host, ending, &mut output, sink, gate)
 }

@@ -206,7 +206,14 @@ fn long_answers_are_written_while_one_block_is_read(rt: HostRuntime) -> Result<(
         script.push_str("show 7 1 200 100\n")?;
     }
     let mut sink = Widest { most: 0 };
-    run(&rt, rt.alloc(), &mut FromRead::new(script.as_bytes()), &mut sink, None, &NoGate)?;
+    run(
+        &rt,
+        rt.alloc(),
+        &mut FromRead::new(script.as_bytes()),
+        &mut sink,
+        None,
+        &NoGate,
+    )?;
     // A canvas has 20,100 bytes: four of them pass 65,536.
     assert_eq!(rt; sink.most, 80_400);
     Ok(())

@@ -24,7 +24,14 @@ fn lines_are_limited(rt: HostRuntime) -> Result<(), Fail> {
         wanted: b"",
         strayed: false,
     };
-    let end = run(&rt, rt.alloc(), &mut FromRead::new(script.as_slice()), &mut sink, None, &NoGate);
+    let end = run(
+        &rt,
+        rt.alloc(),
+        &mut FromRead::new(script.as_slice()),
+        &mut sink,
+        None,
+        &NoGate,
+    );
     assert_eq!(rt;
         end,
         Ok(Summary {
@@ -33,7 +40,14 @@ fn lines_are_limited(rt: HostRuntime) -> Result<(), Fail> {
         })
     );
     script.push(b'#')?;
-    let end = run(&rt, rt.alloc(), &mut FromRead::new(script.as_slice()), &mut sink, None, &NoGate);
+    let end = run(
+        &rt,
+        rt.alloc(),
+        &mut FromRead::new(script.as_slice()),
+        &mut sink,
+        None,
+        &NoGate,
+    );
     assert_eq!(rt; end, Err(RunFault::Endless));
     Ok(())
 }

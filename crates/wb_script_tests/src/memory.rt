@@ -19,7 +19,14 @@ fn run_three(rt: &(impl Abort + AllocGlobal + Threads + Wait + Sync)) -> Result<
         wanted: THREE_TEXT.as_bytes(),
         strayed: false,
     };
-    let end = run(rt, rt.alloc(), &mut FromRead::new(THREE.as_bytes()), &mut sink, None, &NoGate);
+    let end = run(
+        rt,
+        rt.alloc(),
+        &mut FromRead::new(THREE.as_bytes()),
+        &mut sink,
+        None,
+        &NoGate,
+    );
     assert!(rt; !sink.strayed);
     assert!(rt; end.is_err() || sink.wanted.is_empty());
     end

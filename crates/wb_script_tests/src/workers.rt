@@ -50,7 +50,10 @@ fn prints<R: Threads + Wait + Sync, G: Gate + Sync>(
 fn the_workers_of_a_board_print_what_one_thread_prints(rt: HostRuntime) -> Result<(), Fail> {
     for workers in [1, 2, 4, 8] {
         let script = eight(rt.alloc(), workers)?;
-        assert!(rt; prints(&rt, rt.alloc(), script.as_str(), None, &NoGate, TEXT), "by {workers}");
+        assert!(rt;
+            prints(&rt, rt.alloc(), script.as_str(), None, &NoGate, TEXT),
+            "by {workers}"
+        );
     }
     Ok(())
 }
@@ -90,9 +93,15 @@ fn so_many_workers_are_at_work_at_once(rt: HostRuntime) -> Result<(), Fail> {
             came: AtomicU64::new(0),
             late: AtomicU64::new(0),
         };
-        assert!(rt; prints(&rt, rt.alloc(), script.as_str(), Some(workers), &gate, TEXT), "by {workers}");
+        assert!(rt;
+            prints(&rt, rt.alloc(), script.as_str(), Some(workers), &gate, TEXT),
+            "by {workers}"
+        );
         assert!(rt; gate.late.load(Ordering::SeqCst) == 0, "by {workers}");
-        assert!(rt; gate.came.load(Ordering::SeqCst) >= u64::from(workers), "by {workers}");
+        assert!(rt;
+            gate.came.load(Ordering::SeqCst) >= u64::from(workers),
+            "by {workers}"
+        );
     }
     Ok(())
 }
@@ -100,7 +109,16 @@ fn so_many_workers_are_at_work_at_once(rt: HostRuntime) -> Result<(), Fail> {
 #[test]
 fn workers_without_rows_leave_all_to_the_board(rt: HostRuntime) -> Result<(), Fail> {
     let script = format!(in rt.alloc(); "board 1 3 8 42\n{A}{D}{E}")?;
-    assert!(rt; prints(&rt, rt.alloc(), script.as_str(), None, &NoGate, b"batch 3 0 0 0\n"));
+    assert!(rt;
+        prints(
+            &rt,
+            rt.alloc(),
+            script.as_str(),
+            None,
+            &NoGate,
+            b"batch 3 0 0 0\n"
+        )
+    );
     Ok(())
 }
 
@@ -108,7 +126,16 @@ fn workers_without_rows_leave_all_to_the_board(rt: HostRuntime) -> Result<(), Fa
 fn what_finds_no_cell_is_left(rt: HostRuntime) -> Result<(), Fail> {
     for workers in [1, 2] {
         let script = format!(in rt.alloc(); "board 1 1 {workers} 42\n{A}{D}{A}")?;
-        assert!(rt; prints(&rt, rt.alloc(), script.as_str(), None, &NoGate, b"batch 1 1 0 1\n"));
+        assert!(rt;
+            prints(
+                &rt,
+                rt.alloc(),
+                script.as_str(),
+                None,
+                &NoGate,
+                b"batch 1 1 0 1\n"
+            )
+        );
     }
     Ok(())
 }

@@ -1,7 +1,13 @@
 use Rattle.std.proofs.Common.{refl}
+use Rattle.std.proofs.lemmas.Result.{err_from_is_err_and}
 use Rattle.wb_script.specs.Script.{start}
-use Rattle.wb_script.proofs.Endings.{runs, read_failed}
+use Rattle.wb_script.proofs.Endings.{runs, runs_nothing, read_failed}
 use Rattle.wb_script.proofs.running.run.Goals as goal
+
+pub returns-in_err-reader-clause-script : goal.returns-in_err-reader-clause-script
+returns-in_err-reader-clause-script g c =
+    let p = err_from_is_err_and c.from_residual.result c.from_residual.ensures.1 in
+    rw (p.1, p.2) (runs_nothing c.args.workers (g.R.Source.left c.args.source.now) (g.R.Source.has_failed c.args.source.now) (g.W.Sink.taken c.args.sink.now))
 
 pub returns-clause-script : goal.returns-clause-script
 returns-clause-script g c =

@@ -1,4 +1,5 @@
-use Rattle.std.proofs.Common.{sym, subst, ◌∙◌}
+use Rattle.std.proofs.Common.{refl, sym, subst, ◌∙◌}
+use Rattle.std.proofs.lemmas.Result.{err_from_is_err_and}
 use Rattle.wb_feed.specs.Batches.{counts_in}
 use Rattle.wb_script.specs.Stations.{StationValue, IsOpenAt}
 use Rattle.wb_script.proofs.Steps.{taken}
@@ -20,3 +21,13 @@ returns-clause-taken g c =
           (c.as_bytes.ensures.value ∙ c.in_ok-text.ensures)
           c.tell_arrived.ensures,
     )
+
+pub returns-in_err-text-clause-refused : goal.returns-in_err-text-clause-refused
+returns-in_err-text-clause-refused g c =
+    let p = err_from_is_err_and c.from_residual-in_err-text.result c.from_residual-in_err-text.ensures.1 in
+    rw (p.1, p.2) (tt, refl)
+
+pub returns-in_err-add-clause-refused : goal.returns-in_err-add-clause-refused
+returns-in_err-add-clause-refused g c =
+    let p = err_from_is_err_and c.from_residual-in_err-add.result c.from_residual-in_err-add.ensures.1 in
+    rw (p.1, p.2) (tt, c.in_err-add.ensures.err)

@@ -1,5 +1,4 @@
-use Rattle.std.proofs.Common.{refl, sym, ap, ◌∙◌}
-use Rattle.wb_script.proofs.Boards.{taken_all, owns_after}
+use Rattle.wb_script.proofs.Boards.{taken_all}
 use Rattle.wb_script.proofs.whiteboard.Whiteboard.take_all.Goals as goal
 
 pub returns-in-Ok-clause-taken : goal.returns-in-Ok-clause-taken
