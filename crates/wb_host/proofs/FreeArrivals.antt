@@ -10,12 +10,13 @@ use Rattle.wb_recovery.specs.Timing.{is_standing, got}
 use Rattle.wb_recovery.specs.Events.{Event, Got, moment_of, timers_of}
 use Rattle.wb_recovery.specs.Stopping.{gots, got_each}
 use Rattle.wb_recovery.specs.declared.timers.Timers.{Timers}
+use Rattle.wb_recovery.specs.declared.tuning.Tuning.{Tuning}
 use Rattle.wb_recovery.proofs.StoppedNames.{timers_gots}
 use Rattle.wb_host.specs.Keeper.{come_of, events_of, delay_to}
 use Rattle.wb_host.specs.KeeperLaws.{OrderOfArrivalIsFree}
 
 -- ---- the timers of a name: they end by the delay to its source, if it is among those that come
-abbrev comes : List NameValue → NameValue → Bool
+abbrev pub comes : List NameValue → NameValue → Bool
 comes names n = list_any (λ m. same_name m n) names
 
 got_stays : (now delay e : ℕ) (s : Timers) → got now e (got now delay s) ≡ got now delay s
@@ -50,6 +51,14 @@ moment_moved delays now events [] (m ∷ other) e = absurd (omega arith)
 moment_moved delays now events (n ∷ names) [] e = absurd (omega arith)
 moment_moved delays now events (n ∷ names) (m ∷ other) e = moment_gots delays now events n names ∙ sym (moment_gots delays now events m other)
 
+-- It makes no difference which names come more than once, nor in which order.
+pub timers_alike : (t : Tuning) (delays : ℕ → ℕ) (now : ℕ) (events : List Event) (names other : List NameValue) → ((n : NameValue) → comes names n ≡ comes other n)
+    → (n : NameValue) → timers_of t (gots now events (come_of delays names)) n ≡ timers_of t (gots now events (come_of delays other)) n
+timers_alike t delays now events names other same n =
+    timers_gots t now events (come_of delays names) n ∙ got_among delays now n (timers_of t events n) names
+    ∙ ap (λ (b : Bool). cond b (got now (delays n.source) (timers_of t events n)) (timers_of t events n)) (same n)
+    ∙ sym (got_among delays now n (timers_of t events n) other) ∙ sym (timers_gots t now events (come_of delays other) n)
+
 pub order_of_arrival_is_free : OrderOfArrivalIsFree
 order_of_arrival_is_free me t calls value now names other moved s =
     let delays = delay_to me calls in
@@ -60,9 +69,7 @@ order_of_arrival_is_free me t calls value now names other moved s =
       timed = record {
         tuning = s.timed.tuning;
         moment = s.timed.moment ∙ moment_moved delays now events names other (length_permutation names other moved);
-        timers = λ n. s.timed.timers n ∙ timers_gots t now events (come_of delays names) n ∙ got_among delays now n (timers_of t events n) names
-            ∙ ap (λ (b : Bool). cond b (got now (delays n.source) (timers_of t events n)) (timers_of t events n)) (list_any-IsPermutation (λ (m : NameValue). same_name m n) names other moved)
-            ∙ sym (got_among delays now n (timers_of t events n) other) ∙ sym (timers_gots t now events (come_of delays other) n);
+        timers = λ n. s.timed.timers n ∙ timers_alike t delays now events names other (λ m. list_any-IsPermutation (λ (k : NameValue). same_name k m) names other moved) n;
       };
       delays = s.delays;
       heard = s.heard;
