@@ -24,6 +24,13 @@ pub mod BatchLaws
 pub mod ScriptLaws
 pub mod EndingShows
 pub mod OneWorker
+pub mod AlikeCalls
+pub mod AlikeHosts
+pub mod Lifted
+pub mod ReorderedLines
+pub mod Reordered
+pub mod ReorderedScripts
+pub mod EachReordering
 pub mod DrawnWords
 pub mod SpelledBytes
 pub mod SentDigits

@@ -15,6 +15,7 @@ pub mod Running
 pub mod Laws
 pub mod ScriptLaws
 pub mod Shows
+pub mod Reordering
 pub mod Checking
 pub use Rattle.wb_names.specs.Values
 pub use Rattle.wb_names.specs.History

@@ -2,6 +2,7 @@
 //! stands here for its clauses.
 
 ghost use Rattle.wb_script.specs.Laws.{ViewOfPage, OnlyView, GapsOfPage, OnlyGaps, ReportOfPage, OnlyReport, PagesOfHistory, OnlyPages, AnswersAreFree, BatchesAreOne, ArrivalsAreFree, PrintsAreFree};
+ghost use Rattle.wb_script.specs.Reordering.{WorkersAreOneThread, WorkersRunAnother, EachReorderingIsOutcome};
 ghost use Rattle.wb_script.specs.Shows.{ShowsArrivals, ShowsAreFree};
 ghost use Rattle.wb_script.specs.ScriptLaws.{RefusedStays, PrintedStays, SkippedPrintsNothing, CountsAddUp, HeldStays, OneThreadIsOutcome, OneWorkerIsOneThread, OneThreadIsFree};
 
@@ -68,4 +69,14 @@ pub fn one_worker_is_one_thread()
     ensures some { OneThreadIsOutcome }
     ensures only { OneWorkerIsOneThread }
     ensures free { OneThreadIsFree }
+{}
+
+/// Whatever workers print for a script, one thread prints for the script with its arrivals reordered inside
+/// their batches: arrivals of one batch change places, as whole lines, and all other lines stay. Where a
+/// line feed ends each line, the reordered lines are a script too. What one thread prints for each script that is
+/// reordered so is an outcome by two workers or more.
+pub fn workers_are_one_thread()
+    ensures lines { WorkersAreOneThread }
+    ensures scripts { WorkersRunAnother }
+    ensures each { EachReorderingIsOutcome }
 {}

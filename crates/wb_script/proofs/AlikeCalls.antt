@@ -1,0 +1,147 @@
+-- Calls that tell a keeper the same: an arrival of names may be told in any order.
+use Rattle.std.proofs.Common.{◌≡◌, ℕ, Bool, true, false, cond, Option, None, List, [], ◌∷◌, refl, ap, ap₂, ◌∙◌, sym, subst}
+use Rattle.std.proofs.Math.Path.{fun_ext}
+use Rattle.std.specs.Prelude.{nat_eq, unwrap_or}
+use Rattle.std.specs.BTreeSet.{insert_key}
+use Rattle.std.specs.List.{list_any}
+use Rattle.std.specs.Option.{option_or}
+use Rattle.wb_names.specs.Values.{NameValue, MarkValue}
+use Rattle.wb_names.specs.Orders.{same_name, name_cmp}
+use Rattle.wb_names.specs.declared.name.PageId.{PageId}
+use Rattle.wb_codec.specs.declared.datagram.Datagram.{Datagram}
+use Rattle.wb_codec.specs.declared.datagram.Datagram.TheVariants.{Draw, Session, Request, AskPages, PageState}
+use Rattle.wb_gaps.specs.Joining.{joined}
+use Rattle.wb_recovery.specs.Timing.{noticed, asked, got, ticked}
+use Rattle.wb_recovery.specs.Events.{Event, Notice, Asked, Got, Tick, names_of, word_for, due_asks, timers_of}
+use Rattle.wb_recovery.specs.Noticing.{notices}
+use Rattle.wb_recovery.specs.Stopping.{gots}
+use Rattle.wb_recovery.specs.declared.come.Come.{Come}
+use Rattle.wb_recovery.specs.declared.missed.Missed.{Missed}
+use Rattle.wb_recovery.specs.declared.timers.Timers.{Timers}
+use Rattle.wb_recovery.proofs.StoppedNames.{names_gots}
+use Rattle.wb_host.specs.Hearing.{marks_told, marks_heard}
+use Rattle.wb_host.specs.Keeper.{KeeperCall, SetDelay, Hear, Arrive, Miss, GoOn, Report, newest, now_of, delay_told, delay_to, session_told, senders_of, remember, told_by, last_heard, come_of, missed_of, asked_by, timed, events_of}
+use Rattle.wb_host.specs.declared.keeper.Heard.{Heard}
+use Rattle.wb_host.proofs.FreeArrivals.{comes, timers_alike}
+use Rattle.wb_script.specs.Hosts.{constants}
+
+-- ---- calls of the timers
+
+-- the same names, with the same timers
+pub record TimeAlike (a b : List Event) : Type 0 where
+  pub names : names_of a ≡ names_of b
+  pub timers : timers_of constants a ≡ timers_of constants b
+
+time_same : (a : List Event) → TimeAlike a a
+time_same a = record { names = refl; timers = refl }
+
+time_then : (a b c : List Event) → TimeAlike a b → TimeAlike b c → TimeAlike a c
+time_then a b c p q = record { names = p.names ∙ q.names; timers = p.timers ∙ q.timers }
+
+asked_names : (name : NameValue) (held : Bool) (now delay word : ℕ) (a b : List Event) → names_of a ≡ names_of b → names_of (Asked name held now delay word ∷ a) ≡ names_of (Asked name held now delay word ∷ b)
+asked_names name true now delay word a b e = ap (λ (l : List NameValue). insert_key name_cmp l name) e
+asked_names name false now delay word a b e = e
+
+time_more : (event : Event) (a b : List Event) → TimeAlike a b → TimeAlike (event ∷ a) (event ∷ b)
+time_more (Notice name now delay word) a b p = record {
+  names = ap (λ (l : List NameValue). insert_key name_cmp l name) p.names;
+  timers = fun_ext (λ n. ap (λ (f : NameValue → Timers). cond (same_name name n) (noticed constants now delay word (f n)) (f n)) p.timers);
+}
+time_more (Asked name held now delay word) a b p = record {
+  names = asked_names name held now delay word a b p.names;
+  timers = fun_ext (λ n. ap (λ (f : NameValue → Timers). cond (same_name name n) (asked constants held now delay word (f n)) (f n)) p.timers);
+}
+time_more (Got name now delay) a b p = record {
+  names = p.names;
+  timers = fun_ext (λ n. ap (λ (f : NameValue → Timers). cond (same_name name n) (got now delay (f n)) (f n)) p.timers);
+}
+time_more (Tick now words) a b p = record {
+  names = p.names;
+  timers = fun_ext (λ n. ap₂ (λ (l : List NameValue) (f : NameValue → Timers). ticked constants now (word_for words (due_asks l f now) n) (f n)) p.names p.timers);
+}
+
+pub time_gots : (now : ℕ) (come : List Come) (a b : List Event) → TimeAlike a b → TimeAlike (gots now a come) (gots now b come)
+time_gots now [] a b p = p
+time_gots now (c ∷ come) a b p = time_gots now come (Got c.name now c.delay ∷ a) (Got c.name now c.delay ∷ b) (time_more (Got c.name now c.delay) a b p)
+
+time_notices : (now : ℕ) (missed : List Missed) (a b : List Event) → TimeAlike a b → TimeAlike (notices now a missed) (notices now b missed)
+time_notices now [] a b p = p
+time_notices now (m ∷ missed) a b p = time_notices now missed (Notice m.name now m.delay m.word ∷ a) (Notice m.name now m.delay m.word ∷ b) (time_more (Notice m.name now m.delay m.word) a b p)
+
+-- names that come may come in any order
+time_moved : (delays : ℕ → ℕ) (now : ℕ) (events : List Event) (names other : List NameValue) → ((n : NameValue) → comes names n ≡ comes other n) → TimeAlike (gots now events (come_of delays names)) (gots now events (come_of delays other))
+time_moved delays now events names other same = record {
+  names = names_gots now events (come_of delays names) ∙ sym (names_gots now events (come_of delays other));
+  timers = fun_ext (λ n. timers_alike constants delays now events names other same n);
+}
+
+-- what a call adds
+asked_alike : (me : ℕ) (delays : ℕ → ℕ) (now : ℕ) (datagram : Datagram) (word : ℕ) (held : Bool) (a b : List Event) → TimeAlike a b → TimeAlike (asked_by me delays now datagram word held a) (asked_by me delays now datagram word held b)
+asked_alike me delays now (Request asker name) word held a b p = from (nat_eq asker me) where
+  event : Event
+  event = Asked name held now (delays (cond held asker name.source)) word
+
+  from : (own : Bool) → TimeAlike (cond own a (event ∷ a)) (cond own b (event ∷ b))
+  from true = p
+  from false = time_more event a b p
+asked_alike me delays now (Draw d) word held a b p = p
+asked_alike me delays now (Session sender sent page marks echoes) word held a b p = p
+asked_alike me delays now (AskPages asker) word held a b p = p
+asked_alike me delays now (PageState sender page marks) word held a b p = p
+
+timed_alike : (me : ℕ) (delays : ℕ → ℕ) (call : KeeperCall) (a b : List Event) → TimeAlike a b → TimeAlike (timed me delays call a) (timed me delays call b)
+timed_alike me delays (SetDelay source micros) a b p = p
+timed_alike me delays (Hear now datagram word held) a b p = asked_alike me delays now datagram word held a b p
+timed_alike me delays (Arrive now held) a b p = time_gots now (come_of delays held) a b p
+timed_alike me delays (Miss now names words) a b p = time_notices now (missed_of delays names words) a b p
+timed_alike me delays (GoOn now words stopped) a b p = time_more (Tick now words) (gots now a (come_of delays stopped)) (gots now b (come_of delays stopped)) (time_gots now (come_of delays stopped) a b p)
+timed_alike me delays (Report now) a b p = p
+
+-- ---- calls of a keeper
+
+-- They tell the same: the moment, the marks, the delays, the senders with what was heard last of each, and the timers.
+pub record TellAlike (me : ℕ) (a b : List KeeperCall) : Type 0 where
+  pub moment : newest now_of a ≡ newest now_of b
+  pub marks : marks_heard me a ≡ marks_heard me b
+  pub delays : (source : ℕ) → newest (delay_told me source) a ≡ newest (delay_told me source) b
+  pub senders : senders_of me a ≡ senders_of me b
+  pub heard : (source : ℕ) → newest (λ call. told_by source (session_told me call)) a ≡ newest (λ call. told_by source (session_told me call)) b
+  pub time : TimeAlike (events_of me a) (events_of me b)
+
+pub tell_same : (me : ℕ) (a : List KeeperCall) → TellAlike me a a
+tell_same me a = record { moment = refl; marks = refl; delays = λ source. refl; senders = refl; heard = λ source. refl; time = time_same (events_of me a) }
+
+tell_then : (me : ℕ) (a b c : List KeeperCall) → TellAlike me a b → TellAlike me b c → TellAlike me a c
+tell_then me a b c p q = record {
+  moment = p.moment ∙ q.moment;
+  marks = p.marks ∙ q.marks;
+  delays = λ source. p.delays source ∙ q.delays source;
+  senders = p.senders ∙ q.senders;
+  heard = λ source. p.heard source ∙ q.heard source;
+  time = time_then (events_of me a) (events_of me b) (events_of me c) p.time q.time;
+}
+
+pub same_delays : (me : ℕ) (a b : List KeeperCall) → TellAlike me a b → delay_to me a ≡ delay_to me b
+same_delays me a b p = fun_ext (λ source. ap (λ (o : Option ℕ). unwrap_or o 100000) (p.delays source))
+
+-- and so with one more call
+pub tell_more : (me : ℕ) (call : KeeperCall) (a b : List KeeperCall) → TellAlike me a b → TellAlike me (call ∷ a) (call ∷ b)
+tell_more me call a b p = record {
+  moment = ap (option_or (now_of call)) p.moment;
+  marks = fun_ext (λ page. ap (λ (f : PageId → List MarkValue). joined (marks_told me page call) (f page)) p.marks);
+  delays = λ source. ap (option_or (delay_told me source call)) (p.delays source);
+  senders = ap (remember (session_told me call)) p.senders;
+  heard = λ source. ap (option_or (told_by source (session_told me call))) (p.heard source);
+  time = subst (λ (delays : ℕ → ℕ). TimeAlike (timed me (delay_to me a) call (events_of me a)) (timed me delays call (events_of me b))) (same_delays me a b p)
+      (timed_alike me (delay_to me a) call (events_of me a) (events_of me b) p.time);
+}
+
+-- names that arrive may arrive in any order
+pub arrive_alike : (me now : ℕ) (names other : List NameValue) (a b : List KeeperCall) → ((n : NameValue) → comes names n ≡ comes other n) → TellAlike me a b → TellAlike me (Arrive now names ∷ a) (Arrive now other ∷ b)
+arrive_alike me now names other a b same p =
+    tell_then me (Arrive now names ∷ a) (Arrive now names ∷ b) (Arrive now other ∷ b) (tell_more me (Arrive now names) a b p)
+    (record { moment = refl; marks = refl; delays = λ source. refl; senders = refl; heard = λ source. refl; time = time_moved (delay_to me b) now (events_of me b) names other same })
+
+-- what was last heard of a source
+pub same_heard : (me : ℕ) (a b : List KeeperCall) → TellAlike me a b → (source : ℕ) → last_heard me a source ≡ last_heard me b source
+same_heard me a b p source = ap₂ (λ (senders : List ℕ) (h : Option Heard). cond (list_any (nat_eq source) senders) h None) p.senders (p.heard source)

@@ -1,0 +1,143 @@
+-- Batches, arrivals that may change places, and one line by one thread.
+use Rattle.std.proofs.Common.{◌≡◌, ℕ, ◌+◌, Bool, true, false, cond, List, [], ◌∷◌, ◌++◌, length, map, Result, Ok, Err, refl, sym, ap, subst, ◌∙◌, append_assoc, arith}
+use Rattle.std.specs.Prelude.{Option, Some, None, IsPermutation, filter, nat_le, nat_lt, unwrap_or, ◌&&◌, ◌||◌, not}
+use Rattle.std.specs.List.{list_any}
+use Rattle.std.proofs.lemmas.List.Sorted.{IsPermutation-refl, IsPermutation-map, IsPermutation-append_left, length_permutation, list_any-IsPermutation}
+use Rattle.wb_names.specs.Values.{NameValue, DrawopValue}
+use Rattle.wb_names.specs.Orders.{same_name}
+use Rattle.wb_host.specs.Keeper.{KeeperCall, Arrive as arrives, holds}
+use Rattle.wb_host.proofs.FreeArrivals.{comes}
+use Rattle.wb_script.specs.declared.fault.LineFault.{LineFault}
+use Rattle.wb_script.specs.declared.fault.RunFault.{RunFault}
+use Rattle.wb_script.specs.declared.fault.RunFault.TheVariants as run_faults
+use Rattle.wb_script.specs.declared.line.Line.{Line}
+use Rattle.wb_script.specs.declared.line.Line.TheVariants.{Arrive}
+use Rattle.wb_script.specs.Hosts.{Opened, present, names_of, board_after, calls_after}
+use Rattle.wb_script.specs.Parsing.{line_of}
+use Rattle.wb_script.specs.Reordering.{part_said, part_unless, part_of, onto_batch, AreRearranged}
+use Rattle.wb_script.specs.Script.{InputLine, content, State, by_host, said_step, step_of, Outcome, finish, proceed, most_lines, most_bytes, outcome_from, fault_at}
+use Rattle.wb_script.proofs.AlikeCalls.{TellAlike, arrive_alike}
+use Rattle.wb_script.proofs.AlikeHosts.{told}
+
+-- ---- batches
+
+pub rearranged_same : (batches : List (List InputLine)) → AreRearranged batches batches
+rearranged_same [] = tt
+rearranged_same (batch ∷ batches) = (IsPermutation-refl batch, rearranged_same batches)
+
+pub onto_same : (xs ys : List InputLine) (batches : List (List InputLine)) → IsPermutation xs ys → AreRearranged (onto_batch xs batches) (onto_batch ys batches)
+onto_same xs ys [] p = tt
+onto_same xs ys (batch ∷ batches) p = (IsPermutation-append_left batch xs ys p, rearranged_same batches)
+
+pub onto_none : (one other : List (List InputLine)) → AreRearranged (onto_batch [] one) (onto_batch [] other) → AreRearranged one other
+onto_none [] [] p = p
+onto_none [] (c ∷ other) p = p
+onto_none (b ∷ one) [] p = p
+onto_none (b ∷ one) (c ∷ other) p = p
+
+pub onto_onto : (xs : List InputLine) (line : InputLine) (batches : List (List InputLine)) → onto_batch xs (onto_batch (line ∷ []) batches) ≡ onto_batch (xs ++ line ∷ []) batches
+onto_onto xs line [] = refl
+onto_onto xs line (batch ∷ batches) = ap (λ (l : List InputLine). l ∷ batches) (sym (append_assoc xs (line ∷ []) batch))
+
+-- ---- arrivals that are taken, wherever they stand below the limit of lines
+
+pub record Taken (cut : Bool) : Type 0 where
+  pub line : InputLine
+  pub drawop : DrawopValue
+  pub short : nat_le (length line.bytes) most_bytes ≡ true
+  pub whole : line.ended || not cut ≡ true
+  pub said : line_of (content line) ≡ Ok (Arrive drawop)
+
+abbrev pub lines_in : {cut : Bool} → List (Taken cut) → List InputLine
+lines_in ws = map (λ w. w.line) ws
+
+abbrev pub drawops_in : {cut : Bool} → List (Taken cut) → List DrawopValue
+drawops_in ws = map (λ w. w.drawop) ws
+
+pub record NoFault (cut : Bool) (n : ℕ) (line : InputLine) : Type 0 where
+  pub few : nat_lt n most_lines ≡ true
+  pub short : nat_le (length line.bytes) most_bytes ≡ true
+  pub whole : line.ended || not cut ≡ true
+
+pub no_fault : (cut : Bool) (n : ℕ) (line : InputLine) → fault_at cut n line ≡ None → NoFault cut n line
+no_fault cut n line e = from (nat_lt n most_lines) (nat_le (length line.bytes) most_bytes) (line.ended || not cut) refl refl refl e where
+  from : (few short whole : Bool) → nat_lt n most_lines ≡ few → nat_le (length line.bytes) most_bytes ≡ short → line.ended || not cut ≡ whole
+      → cond (few && short) (cond whole None (Some run_faults.Read)) (Some run_faults.Endless) ≡ None → NoFault cut n line
+  from true true true f s w e = record { few = f; short = s; whole = w }
+  from true true false f s w e = absurd cc
+  from true false whole f s w e = absurd cc
+  from false short whole f s w e = absurd cc
+
+pub arrives_at : (cut : Bool) (n : ℕ) (w : Taken cut) → nat_lt n most_lines ≡ true → fault_at cut n w.line ≡ None
+arrives_at cut n w few = rw (few, w.short, w.whole) refl
+
+pub part_at : (cut : Bool) (n : ℕ) (line : InputLine) (said : Result Line LineFault) → fault_at cut n line ≡ None → line_of (content line) ≡ said → part_of cut n line ≡ part_said said
+part_at cut n line said e g = ap (λ (f : Option RunFault). part_unless f line) e ∙ ap part_said g
+
+-- ---- one line, by one thread
+
+abbrev pub course : Option RunFault → ℕ → State → List ℕ → (State → Outcome) → Outcome
+course None number s bytes rest = proceed number (step_of s s.waiting bytes) rest
+course (Some e) number s bytes rest = finish s s.waiting (Err e)
+
+pub course_is : (cut : Bool) (n : ℕ) (s : State) (line : InputLine) (lines : List InputLine) → outcome_from cut n s (line ∷ lines) ≡ course (fault_at cut n line) (n + 1) s (content line) (λ t. outcome_from cut (n + 1) t lines)
+course_is cut n s line lines = from (nat_lt n most_lines && nat_le (length line.bytes) most_bytes) (line.ended || not cut) where
+  rest : State → Outcome
+  rest t = outcome_from cut (n + 1) t lines
+
+  from : (within whole : Bool) → cond within (cond whole (proceed (n + 1) (step_of s s.waiting (content line)) rest) (finish s s.waiting (Err run_faults.Read))) (finish s s.waiting (Err run_faults.Endless))
+      ≡ course (cond within (cond whole None (Some run_faults.Read)) (Some run_faults.Endless)) (n + 1) s (content line) rest
+  from true true = refl
+  from true false = refl
+  from false whole = refl
+
+pub line_course : (cut : Bool) (n : ℕ) (s : State) (line : InputLine) (lines : List InputLine) (said : Result Line LineFault) → fault_at cut n line ≡ None → line_of (content line) ≡ said
+    → outcome_from cut n s (line ∷ lines) ≡ proceed (n + 1) (said_step s s.waiting said) (λ t. outcome_from cut (n + 1) t lines)
+line_course cut n s line lines said e g =
+    course_is cut n s line lines
+    ∙ ap (λ (f : Option RunFault). course f (n + 1) s (content line) (λ t. outcome_from cut (n + 1) t lines)) e
+    ∙ ap (λ (r : Result Line LineFault). proceed (n + 1) (said_step s s.waiting r) (λ t. outcome_from cut (n + 1) t lines)) g
+
+-- ---- the state of one thread: the batches may have come in another order
+
+abbrev pub alone : State → List KeeperCall → List DrawopValue → State
+alone s calls waiting = record { host = by_host s.host None (λ host. Some (told calls host)); workers = s.workers; waiting = waiting }
+
+abbrev pub ToldAlike : Option Opened → List KeeperCall → Type 0
+ToldAlike None calls = Unit {0}
+ToldAlike (Some host) calls = TellAlike host.me host.calls calls
+
+abbrev pub state : Option ℕ → Option Opened → List DrawopValue → State
+state k host waiting = record { host = host; workers = k; waiting = waiting }
+
+pub finish_alike : (k : Option ℕ) (host : Option Opened) (waiting order : List DrawopValue) (calls : List KeeperCall) (ending : Result ℕ RunFault)
+    → finish (state k host waiting) order ending ≡ finish (alone (state k host waiting) calls order) order ending
+finish_alike k None waiting order calls (Ok n) = refl
+finish_alike k None waiting order calls (Err e) = refl
+finish_alike k (Some host) waiting order calls (Ok n) = refl
+finish_alike k (Some host) waiting order calls (Err e) = refl
+
+-- ---- the keeper after a batch
+
+any_kept : (p q : NameValue → Bool) (names : List NameValue) → list_any q (filter p names) ≡ list_any (λ n. p n && q n) names
+any_kept p q [] = refl
+any_kept p q (n ∷ names) = from (p n) (any_kept p q names) where
+  from : (b : Bool) → list_any q (filter p names) ≡ list_any (λ n. p n && q n) names → list_any q (cond b (n ∷ filter p names) (filter p names)) ≡ ((b && q n) || list_any (λ n. p n && q n) names)
+  from true e = ap (λ (r : Bool). q n || r) e
+  from false e = e
+
+comes_alike : (p : NameValue → Bool) (batch order : List DrawopValue) → IsPermutation batch order → (n : NameValue) → comes (filter p (names_of batch)) n ≡ comes (filter p (names_of order)) n
+comes_alike p batch order moved n =
+    any_kept p (λ m. same_name m n) (names_of batch)
+    ∙ list_any-IsPermutation (λ (m : NameValue). p m && same_name m n) (names_of batch) (names_of order) (IsPermutation-map (λ (d : DrawopValue). d.name) batch order moved)
+    ∙ sym (any_kept p (λ m. same_name m n) (names_of order))
+
+pub after_alike : (host : Opened) (calls : List KeeperCall) (batch order : List DrawopValue) → TellAlike host.me host.calls calls → IsPermutation batch order
+    → TellAlike host.me (calls_after host batch order) (calls_after (told calls host) order order)
+after_alike host calls [] [] alike moved = alike
+after_alike host calls [] (e ∷ order) alike moved = let l = length_permutation [] (e ∷ order) moved in absurd (omega arith)
+after_alike host calls (d ∷ batch) [] alike moved = let l = length_permutation (d ∷ batch) [] moved in absurd (omega arith)
+after_alike host calls (d ∷ batch) (e ∷ order) alike moved =
+    let kept : List DrawopValue → List NameValue = λ batch. filter (holds (board_after host.board (e ∷ order)).drawops) (names_of batch) in
+    subst (λ (now : ℕ). TellAlike host.me (calls_after host (d ∷ batch) (e ∷ order)) (arrives now (kept (e ∷ order)) ∷ calls)) (ap (λ (o : Option ℕ). unwrap_or o 0) alike.moment)
+    (arrive_alike host.me (present host) (kept (d ∷ batch)) (kept (e ∷ order)) host.calls calls (comes_alike (holds (board_after host.board (e ∷ order)).drawops) (d ∷ batch) (e ∷ order) moved) alike)
