@@ -1,8 +1,13 @@
 //! Tests of the keeper of wb_host over its public calls: values worked by hand, and any growth refused.
+//!
+//! Most are tables: `calls` has a member's calls with what they answer, `hosts` the member, and `steps` what
+//! is wanted of them.
 #![tactic(auto)]
 
 #[cfg(test)]
 mod arrivals;
+#[cfg(test)]
+mod calls;
 #[cfg(test)]
 mod echoes;
 #[cfg(test)]
@@ -16,11 +21,13 @@ mod missing;
 #[cfg(test)]
 mod refusals;
 #[cfg(test)]
-mod rigs;
+mod samples;
 #[cfg(test)]
 mod sessions;
 #[cfg(test)]
 mod spellings;
+#[cfg(test)]
+mod steps;
 #[cfg(test)]
 mod ticks;
 #[cfg(test)]

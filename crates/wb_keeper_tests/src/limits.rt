@@ -1,27 +1,12 @@
 //! As many pages, marks and senders as there can be, and one more.
 
 use crate::hosts::Host;
-use crate::rigs::PAGE;
+use crate::samples::{PAGE, session};
 use std::alloc::Global;
 use std::process::Abort;
-use std::test::Fail;
 use wb_codec::Datagram;
 use wb_host::KeepFault;
-use wb_names::{Drawop, Echo, Echoes, Mark, Marks, Name, PageId, Shape};
-
-/// The session message of a member at the moment 3 of its clock.
-fn session(sender: u32, marks: Vec<Mark>, echoes: Vec<Echo>) -> Option<Datagram> {
-    match (Marks::new(marks), Echoes::new(echoes)) {
-        (Ok(marks), Ok(echoes)) => Some(Datagram::Session {
-            sender,
-            sent: 3,
-            page: PAGE,
-            marks,
-            echoes,
-        }),
-        _ => None,
-    }
-}
+use wb_names::{Drawop, Echo, Mark, Name, PageId, Shape};
 
 /// One mark of each source from 1 to 65,535.
 fn longest_marks(alloc: Global) -> Option<Vec<Mark>> {
@@ -37,28 +22,26 @@ fn longest_marks(alloc: Global) -> Option<Vec<Mark>> {
 fn both_messages(alloc: Global) -> Option<(Datagram, Datagram)> {
     let marks = longest_marks(alloc)?;
     let one = vec![in alloc; Mark::new(65_536, 1).ok()?].ok()?;
-    let most = session(8, marks, Vec::new(alloc))?;
-    let more = session(8, one, Vec::new(alloc))?;
+    let most = session(8, 3, marks, Vec::new(alloc))?;
+    let more = session(8, 3, one, Vec::new(alloc))?;
     Some((most, more))
 }
 
 /// The refused message leaves the marks, and the moment.
-fn refuses_one_more(host: &mut Host, most: &Datagram, more: &Datagram) -> bool {
-    let heard = host.hear(0, most, 0).is_ok();
-    let refused = host.hear(5, more, 0).err() == Some(KeepFault::TooMany);
+fn refuses_one_more(alloc: Global) -> Option<bool> {
+    let (most, more) = both_messages(alloc)?;
+    let mut host = Host::open(alloc)?;
+    let heard = host.hear(0, &most, 0).is_ok();
+    let refused = host.hear(5, &more, 0).err() == Some(KeepFault::TooMany);
     let marks = host.keeper.marks(PAGE).as_slice();
     let last = marks.last().copied() == Mark::new(65_535, 1).ok();
     let same = last && marks.len() == 65_535;
-    heard && refused && same && host.arrived(4, &[]) == Ok(())
+    Some(heard && refused && same && host.arrived(4, &[]) == Ok(()))
 }
 
 #[test]
-fn marks_of_one_source_more_are_refused(rt: HostRuntime) -> Result<(), Fail> {
-    let (most, more) = both_messages(rt.alloc()).ok_or("messages")?;
-    let mut host = Host::open(rt.alloc()).ok_or("host")?;
-    let refused = refuses_one_more(&mut host, &most, &more);
-    assert!(rt; refused);
-    Ok(())
+fn marks_of_one_source_more_are_refused(rt: HostRuntime) {
+    assert!(rt; refuses_one_more(rt.alloc()) == Some(true));
 }
 
 /// A drawop of source 7 on its page of this number, with the same number.
@@ -73,13 +56,20 @@ fn word_on(number: u32) -> Option<Drawop> {
     Drawop::new(name, 0, text).ok()
 }
 
-/// Takes such a drawop on each of the pages 40 to 1.
+/// Whether such a drawop is new, and the keeper told of it.
+fn draws_on(host: &mut Host, number: u32) -> bool {
+    match word_on(number) {
+        Some(drawop) => {
+            host.accept(&drawop).is_ok() && host.arrived(0, &[drawop.name()]) == Ok(())
+        }
+        None => false,
+    }
+}
+
+/// Draws on each of the pages 40 to 1.
 fn draws_on_forty_pages(host: &mut Host) -> bool {
     for back in 0..40 {
-        let Some(drawop) = word_on(40 - back) else {
-            return false;
-        };
-        if !host.takes(0, &drawop) {
+        if !draws_on(host, 40 - back) {
             return false;
         }
     }
@@ -115,25 +105,21 @@ fn are_states(sent: &[Datagram], count: usize) -> bool {
     sent.len() == count
 }
 
-fn tells_forty_pages(host: &mut Host) -> bool {
-    let drawn = draws_on_forty_pages(host);
-    match host.hear(0, &Datagram::AskPages { asker: 8 }, 0) {
-        Ok(sent) => drawn && are_states(sent.as_slice(), 40),
-        Err(_) => false,
-    }
+fn tells_forty_pages(alloc: Global) -> Option<bool> {
+    let mut host = Host::open(alloc)?;
+    let drawn = draws_on_forty_pages(&mut host);
+    let sent = host.hear(0, &Datagram::AskPages { asker: 8 }, 0).ok()?;
+    Some(drawn && are_states(sent.as_slice(), 40))
 }
 
 #[test]
-fn forty_pages_are_told_in_order(rt: HostRuntime) -> Result<(), Fail> {
-    let mut host = Host::open(rt.alloc()).ok_or("host")?;
-    let told = tells_forty_pages(&mut host);
-    assert!(rt; told);
-    Ok(())
+fn forty_pages_are_told_in_order(rt: HostRuntime) {
+    assert!(rt; tells_forty_pages(rt.alloc()) == Some(true));
 }
 
 /// Whether a session message without marks and echoes is heard.
 fn hears_from(host: &mut Host, sender: u32, now: u64) -> bool {
-    match session(sender, Vec::new(host.alloc), Vec::new(host.alloc)) {
+    match session(sender, 3, Vec::new(host.alloc), Vec::new(host.alloc)) {
         Some(message) => host.hear(now, &message, 0).is_ok(),
         None => false,
     }
@@ -157,7 +143,7 @@ fn message_of_one_more(alloc: Global) -> Option<Datagram> {
         held: 100,
     };
     let marks = vec![in alloc; Mark::new(7, 7).ok()?].ok()?;
-    session(65_537, marks, vec![in alloc; echo].ok()?)
+    session(65_537, 3, marks, vec![in alloc; echo].ok()?)
 }
 
 /// The senders that a member echoes at 70,001: how many, the first and the last.
@@ -180,19 +166,17 @@ fn echo_to(source: u32, held: u64) -> Echo {
 }
 
 /// One more sender tells its marks and its delay, 100, but is not remembered; one that is, is heard anew.
-fn remembers_most(host: &mut Host, more: &Datagram) -> bool {
-    let heard = hears_most(host) && host.hear(70_000, more, 0).is_ok();
+fn remembers_most(alloc: Global) -> Option<bool> {
+    let more = message_of_one_more(alloc)?;
+    let mut host = Host::open(alloc)?;
+    let heard = hears_most(&mut host) && host.hear(70_000, &more, 0).is_ok();
     let told = host.keeper.delay(65_537) == 100 && host.told().3.0 == 1;
-    let again = hears_from(host, 2, 70_000);
+    let again = hears_from(&mut host, 2, 70_000);
     let most = Some((65_535, echo_to(2, 1), echo_to(65_536, 4465)));
-    heard && told && again && echoed(host) == most
+    Some(heard && told && again && echoed(&mut host) == most)
 }
 
 #[test]
-fn the_first_65535_senders_are_echoed(rt: HostRuntime) -> Result<(), Fail> {
-    let more = message_of_one_more(rt.alloc()).ok_or("message")?;
-    let mut host = Host::open(rt.alloc()).ok_or("host")?;
-    let remembered = remembers_most(&mut host, &more);
-    assert!(rt; remembered);
-    Ok(())
+fn the_first_65535_senders_are_echoed(rt: HostRuntime) {
+    assert!(rt; remembers_most(rt.alloc()) == Some(true));
 }

@@ -1,11 +1,9 @@
-//! Datagrams as hexadecimal digits, and calls of a member that are told and answered in them.
+//! Datagrams as hexadecimal digits.
 
 ghost use Rattle.std.specs.Prelude.{◌<◌};
 
-use crate::hosts::Host;
 use std::alloc::{AllocError, Global};
 use wb_codec::{Datagram, read, write};
-use wb_names::{Drawop, Name};
 
 /// A session message of member 8 at the moment 0 of its clock: of source 7 it knows number 7.
 pub const SESSION: &str =
@@ -63,52 +61,4 @@ pub fn is_spelled(alloc: Global, datagram: &Datagram, hex: &str) -> Option<bool>
     let bytes = bytes_of(alloc, hex).ok()?;
     let spelled = write(alloc, datagram).ok()?;
     Some(spelled.as_slice() == bytes.as_slice())
-}
-
-/// Whether what is sent is spelled with these digits, or nothing is where there are none.
-pub fn are_spelled(alloc: Global, sent: &[Datagram], hex: &str) -> Option<bool> {
-    match sent {
-        [] => Some(hex.is_empty()),
-        [one] => is_spelled(alloc, one, hex),
-        _ => Some(false),
-    }
-}
-
-impl Host {
-    /// Whether the datagram is heard, and just this sent.
-    pub fn hears(&mut self, now: u64, hex: &str, word: u64, wanted: &str) -> bool {
-        let Some(datagram) = said(self.alloc, hex) else {
-            return false;
-        };
-        match self.hear(now, &datagram, word) {
-            Ok(sent) => are_spelled(self.alloc, sent.as_slice(), wanted) == Some(true),
-            Err(_) => false,
-        }
-    }
-
-    /// Whether a tick sends just this.
-    pub fn ticks(&mut self, now: u64, word: u64, wanted: &str) -> bool {
-        match self.tick(now, word) {
-            Ok(sent) => are_spelled(self.alloc, sent.as_slice(), wanted) == Some(true),
-            Err(_) => false,
-        }
-    }
-
-    /// Whether this is the session message.
-    pub fn tells(&mut self, now: u64, wanted: &str) -> bool {
-        match self.session(now) {
-            Ok(message) => is_spelled(self.alloc, &message, wanted) == Some(true),
-            Err(_) => false,
-        }
-    }
-
-    /// Whether the drawop is new, and told to the keeper.
-    pub fn takes(&mut self, now: u64, drawop: &Drawop) -> bool {
-        self.accept(drawop) && self.arrived(now, &[drawop.name()]) == Ok(())
-    }
-
-    /// Whether the name is missed, with the word.
-    pub fn misses(&mut self, now: u64, name: Name, word: u64) -> bool {
-        self.notice(now, &[name], word) == Ok(())
-    }
 }
