@@ -13,3 +13,8 @@ pub mod Rearranged
 pub mod PageRuns
 pub mod MergeLength
 pub mod NoGaps
+pub mod Sorting
+pub mod PageAnswers
+pub mod HeldNames
+pub mod MissingRanges
+pub mod AllReports

@@ -6,6 +6,7 @@ use Rattle.wb_names.specs.Marks.{mark_of, known, IsReport, IsMerge}
 use Rattle.wb_names.specs.Ascending.{AreMarks}
 use Rattle.wb_names.specs.declared.gap.Gap.{Gap}
 use Rattle.wb_names.specs.declared.name.PageId.{PageId}
+use Rattle.wb_gaps.specs.Answers.{gaps_of, report_of, reports_of, pages_of}
 use Rattle.wb_gaps.specs.Gaps.{AreGaps}
 use Rattle.wb_gaps.specs.Greatest.{IsGreatest}
 use Rattle.wb_gaps.specs.Merging.{source_count}
@@ -68,3 +69,37 @@ HoldsUpToReport = (history : List DrawopValue) (page : PageId) (marks : List Mar
 -- so two lists that have one report of a page, and no gaps below it, hold the same numbers there
 abbrev pub HoldTheSame : Type 0
 HoldTheSame = (one other : List DrawopValue) (page : PageId) (marks : List MarkValue) → IsReport one page marks → IsReport other page marks → AreGaps one page marks [] → AreGaps other page marks [] → (source n : ℕ) → 1 ≤ n → IsHeld one page source n ↔ IsHeld other page source n
+
+-- ---- the answers as functions
+
+-- the function gives the missing ranges of a page, below what the page or marks know
+abbrev pub GapsOfPage : Type 0
+GapsOfPage = (history : List DrawopValue) (page : PageId) (marks : List MarkValue) → AreGaps history page marks (gaps_of history page marks)
+
+-- and there are no others
+abbrev pub OnlyGaps : Type 0
+OnlyGaps = (history : List DrawopValue) (page : PageId) (marks : List MarkValue) (gaps : List Gap) → AreGaps history page marks gaps → gaps ≡ gaps_of history page marks
+
+-- the function gives the report of a page; a history of at most 65,535 members has one on each
+abbrev pub ReportOfPage : Type 0
+ReportOfPage = (history : List DrawopValue) (page : PageId) → length history ≤ 65535 → IsReport history page (report_of history page)
+
+-- and there is no other
+abbrev pub OnlyReport : Type 0
+OnlyReport = (history : List DrawopValue) (page : PageId) (marks : List MarkValue) → length history ≤ 65535 → IsReport history page marks → marks ≡ report_of history page
+
+-- the function gives the pages of a history
+abbrev pub PagesOfHistory : Type 0
+PagesOfHistory = (history : List DrawopValue) → ArePages history (pages_of history)
+
+-- and there is no other such list
+abbrev pub OnlyPages : Type 0
+OnlyPages = (history : List DrawopValue) (pages : List PageId) → ArePages history pages → pages ≡ pages_of history
+
+-- the function gives the reports of all pages of a history of at most 65,535 members
+abbrev pub ReportsOfPages : Type 0
+ReportsOfPages = (history : List DrawopValue) → length history ≤ 65535 → AreReports history (reports_of history)
+
+-- and there is no other such list
+abbrev pub OnlyReports : Type 0
+OnlyReports = (history : List DrawopValue) (reports : List PageReport) → length history ≤ 65535 → AreReports history reports → reports ≡ reports_of history

@@ -5,6 +5,8 @@ pub mod Gaps
 pub mod Greatest
 pub mod Merging
 pub mod MergeFaults
+pub mod Sorting
+pub mod Answers
 pub mod Laws
 pub mod Numbers
 pub mod LastNumbers

@@ -5,6 +5,8 @@ ghost use Rattle.wb_gaps.specs.Laws.{OneGaps, OneReport, OneReports, OnePages, O
 ghost use Rattle.wb_gaps.specs.Laws.{GapsOfRearranged, ReportOfRearranged, PagesOfRearranged};
 ghost use Rattle.wb_gaps.specs.Laws.{ReportsGreatest, KnownIsReached, MergesGreater, MergesAllSources};
 ghost use Rattle.wb_gaps.specs.Laws.{HoldsUpToReport, HoldTheSame};
+ghost use Rattle.wb_gaps.specs.Laws.{GapsOfPage, ReportOfPage, PagesOfHistory, ReportsOfPages};
+ghost use Rattle.wb_gaps.specs.Laws.{OnlyGaps, OnlyReport, OnlyPages, OnlyReports};
 
 /// There is one list of gaps, one report, one list of pages and one list of the reports of all pages of
 /// a list of drawops, and one merge of two lists of marks, whichever of the two comes first.
@@ -14,6 +16,19 @@ pub fn answers_are_one()
     ensures pages { OnePages }
     ensures reports { OneReports }
     ensures merge { OneMerge }
+{}
+
+/// The gaps, the report, the pages and the reports of all pages of a list of drawops are the values of
+/// functions of it, and are nothing else.
+pub fn functions_answer()
+    ensures gaps { GapsOfPage }
+    ensures report { ReportOfPage }
+    ensures pages { PagesOfHistory }
+    ensures reports { ReportsOfPages }
+    ensures only_gaps { OnlyGaps }
+    ensures only_report { OnlyReport }
+    ensures only_pages { OnlyPages }
+    ensures only_reports { OnlyReports }
 {}
 
 /// A rearranged list of drawops has the same gaps, report and pages.

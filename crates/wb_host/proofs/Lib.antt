@@ -7,6 +7,7 @@ pub mod FoundDrawops
 pub mod KeeperAnswers
 pub mod WantedNames
 pub mod OneMessage
+pub mod MessageValue
 pub mod FreeArrivals
 pub mod TickSends
 pub mod FirstSenders

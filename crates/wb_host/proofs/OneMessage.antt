@@ -9,7 +9,7 @@ use Rattle.wb_names.proofs.MarkLists.{one_marks}
 use Rattle.wb_codec.specs.declared.datagram.Datagram.TheVariants.{Session}
 use Rattle.wb_host.specs.Sessions.{echo_cmp, IsEchoTo, OneSession}
 
-echo_total : IsTotalOrder echo_cmp
+pub echo_total : IsTotalOrder echo_cmp
 echo_total = on_total (λ (e : Echo). e.source) nat_cmp_total
 
 pub one_session : OneSession

@@ -1,11 +1,12 @@
 -- What a keeper hears, and what it answers at once.
-use Rattle.std.specs.Prelude.{◌≡◌, ℕ, Bool, true, false, not, ◌||◌, List, [], ◌∷◌, map, Option, nat_eq, nat_le, if◌then◌else◌}
+use Rattle.std.specs.Prelude.{◌≡◌, ℕ, ◌≤◌, Bool, true, false, not, ◌||◌, List, [], ◌∷◌, length, map, Option, nat_eq, nat_le, if◌then◌else◌}
 use Rattle.wb_names.specs.Values.{DrawopValue, MarkValue}
 use Rattle.wb_names.specs.Orders.{same_page}
 use Rattle.wb_names.specs.Faults.{first_of, fault_unless}
 use Rattle.wb_names.specs.declared.name.PageId.{PageId}
 use Rattle.wb_codec.specs.declared.datagram.Datagram.{Datagram}
 use Rattle.wb_codec.specs.declared.datagram.Datagram.TheVariants.{Draw, Session, Request, AskPages, PageState}
+use Rattle.wb_gaps.specs.Answers.{reports_of}
 use Rattle.wb_gaps.specs.Joining.{joined}
 use Rattle.wb_gaps.specs.Merging.{source_count}
 use Rattle.wb_gaps.specs.PageReports.{AreReports}
@@ -86,3 +87,17 @@ IsSent me history datagram sent = AreAnswers (asks_for_pages me datagram) me his
 -- there is one such list
 abbrev pub OneSent : Type 0
 OneSent = (me : ℕ) (history : List DrawopValue) (datagram : Datagram) (a b : List Datagram) → IsSent me history datagram a → IsSent me history datagram b → a ≡ b
+
+-- ---- the same as a function
+
+-- a page state of me for each page, ascending, with its report
+abbrev pub page_states : ℕ → List DrawopValue → List Datagram
+page_states me history = map (λ r. PageState me r.page r.marks) (reports_of history)
+
+-- what is sent at once
+abbrev pub answers_to : ℕ → List DrawopValue → Datagram → List Datagram
+answers_to me history datagram = if asks_for_pages me datagram then page_states me history else []
+
+-- A history of at most 65,535 members has a report of each page, and this is the one list that is sent.
+abbrev pub AnswersAreSent : Type 0
+AnswersAreSent = (me : ℕ) (history : List DrawopValue) (datagram : Datagram) → length history ≤ 65535 → IsSent me history datagram (answers_to me history datagram)

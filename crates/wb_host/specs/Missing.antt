@@ -5,6 +5,7 @@ use Rattle.wb_names.specs.Values.{NameValue, DrawopValue, MarkValue}
 use Rattle.wb_names.specs.History.{name_of}
 use Rattle.wb_names.specs.declared.name.PageId.{PageId}
 use Rattle.wb_names.specs.declared.gap.Gap.{Gap}
+use Rattle.wb_gaps.specs.Answers.{gaps_of}
 use Rattle.wb_gaps.specs.Gaps.{AreGaps}
 use Rattle.wb_recovery.specs.Events.{Event, asking, names_of, timers_of}
 use Rattle.wb_recovery.specs.declared.tuning.Tuning.{Tuning}
@@ -37,3 +38,12 @@ AreWanted constants events history page marks names = (gaps : List Gap) × AreGa
 -- there is one such list
 abbrev pub OneWanted : Type 0
 OneWanted = (constants : Tuning) (events : List Event) (history : List DrawopValue) (page : PageId) (marks : List MarkValue) (a b : List NameValue) → AreWanted constants events history page marks a → AreWanted constants events history page marks b → a ≡ b
+
+-- ---- the same as a function
+
+abbrev pub wanted_of : Tuning → List Event → List DrawopValue → PageId → List MarkValue → List NameValue
+wanted_of constants events history page marks = wanted (timers_of constants events) (length (asking (names_of events) (timers_of constants events))) (names_in_gaps page (gaps_of history page marks))
+
+-- it is the one such list
+abbrev pub WantedOfPage : Type 0
+WantedOfPage = (constants : Tuning) (events : List Event) (history : List DrawopValue) (page : PageId) (marks : List MarkValue) → AreWanted constants events history page marks (wanted_of constants events history page marks)

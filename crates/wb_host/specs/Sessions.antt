@@ -1,5 +1,7 @@
 -- The session message that a keeper sends.
-use Rattle.std.specs.Prelude.{◌≡◌, ℕ, ◌-◌, List, Some, map}
+use Rattle.std.specs.Prelude.{◌≡◌, ℕ, ◌-◌, ◌≤◌, List, length, Option, Some, map}
+use Rattle.std.specs.List.{filter_map}
+use Rattle.std.specs.Option.{option_map}
 use Rattle.std.specs.Ordering.{nat_cmp}
 use Rattle.std.specs.declared.cmp.Ordering.{Ordering}
 use Rattle.wb_names.specs.Values.{DrawopValue, MarkValue}
@@ -9,7 +11,9 @@ use Rattle.wb_names.specs.declared.name.PageId.{PageId}
 use Rattle.wb_names.specs.declared.echo.Echo.{Echo}
 use Rattle.wb_codec.specs.declared.datagram.Datagram.{Datagram}
 use Rattle.wb_codec.specs.declared.datagram.Datagram.TheVariants.{Session}
-use Rattle.wb_host.specs.Keeper.{KeeperCall, last_heard}
+use Rattle.wb_gaps.specs.Answers.{report_of}
+use Rattle.wb_gaps.specs.Sorting.{sorted}
+use Rattle.wb_host.specs.Keeper.{KeeperCall, senders_of, last_heard}
 use Rattle.wb_host.specs.declared.keeper.Heard.{Heard}
 
 abbrev pub echo_cmp : Echo → Echo → Ordering
@@ -34,3 +38,21 @@ echoes_at now heard = map (λ p. record { source = p.0; sent = p.1.sent; held = 
 -- there is one such message
 abbrev pub OneSession : Type 0
 OneSession = (me : ℕ) (calls : List KeeperCall) (now : ℕ) (history : List DrawopValue) (page : PageId) (a b : Datagram) → IsSession me calls now history page a → IsSession me calls now history page b → a ≡ b
+
+-- ---- the same as a function
+
+-- what is told a sender, where it is remembered
+abbrev pub echo_to : ℕ → List KeeperCall → ℕ → ℕ → Option Echo
+echo_to me calls now source = option_map (λ h. record { source = source; sent = h.sent; held = now - h.at }) (last_heard me calls source)
+
+-- an echo to each sender that is remembered, ascending
+abbrev pub echoes_of : ℕ → List KeeperCall → ℕ → List Echo
+echoes_of me calls now = sorted echo_cmp (filter_map (echo_to me calls now) (senders_of me calls))
+
+-- the session message of a page
+abbrev pub message_of : ℕ → List KeeperCall → ℕ → List DrawopValue → PageId → Datagram
+message_of me calls now history page = Session me now page (report_of history page) (echoes_of me calls now)
+
+-- A history of at most 65,535 members has a report, and this is the one session message.
+abbrev pub MessageIsSession : Type 0
+MessageIsSession = (me : ℕ) (calls : List KeeperCall) (now : ℕ) (history : List DrawopValue) (page : PageId) → length history ≤ 65535 → IsSession me calls now history page (message_of me calls now history page)

@@ -1,15 +1,15 @@
 //! Laws of the board and of its keeper. Each function does nothing that is seen: its contract is a law,
 //! for proofs to cite.
 
-ghost use Rattle.wb_host.specs.Hearing.{OneSent};
-ghost use Rattle.wb_host.specs.Missing.{OneWanted};
+ghost use Rattle.wb_host.specs.Hearing.{OneSent, AnswersAreSent};
+ghost use Rattle.wb_host.specs.Missing.{OneWanted, WantedOfPage};
 ghost use Rattle.std.specs.Prelude.{◌≡◌, All, Ok};
 ghost use Rattle.wb_codec.specs.Ranges.{IsDatagram};
 ghost use Rattle.wb_codec.specs.Reading.{reading};
 ghost use Rattle.wb_codec.specs.Spelling.{spelling};
 ghost use Rattle.wb_host.specs.Laws.{AnswersConverge, CanvasesConverge, ReportsAgree};
 ghost use Rattle.wb_host.specs.Runs.{OneRun};
-ghost use Rattle.wb_host.specs.Sessions.{OneSession};
+ghost use Rattle.wb_host.specs.Sessions.{OneSession, MessageIsSession};
 ghost use Rattle.wb_host.specs.KeeperLaws.{AnswersWithHeld, AsksForNoneHeld, DrawopsOnlyMove, FirstSendersAreEchoed, MarksAreGreatest, OrderOfArrivalIsFree, OwnOnlyMoves};
 
 use wb_codec::Datagram;
@@ -41,15 +41,19 @@ pub fn reports_agree()
 // ---- the keeper
 
 /// There is one list that a keeper sends at once for what it hears, and one list of the names that it
-/// wants of a page.
+/// wants of a page; each is the value of a function.
 pub fn keepers_answer_alike()
     ensures sent { OneSent }
     ensures wanted { OneWanted }
+    ensures answers { AnswersAreSent }
+    ensures names { WantedOfPage }
 {}
 
-/// There is one session message of a moment: `session` has no choice in what it answers.
+/// There is one session message of a moment, and a function gives it: `session` has no choice in what it
+/// answers.
 pub fn one_session()
-    ensures { OneSession }
+    ensures one { OneSession }
+    ensures message { MessageIsSession }
 {}
 
 /// A keeper that was told of names that arrived is one that was told of the same names in another

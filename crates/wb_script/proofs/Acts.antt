@@ -4,16 +4,16 @@ use Rattle.std.specs.Prelude.{OnOk, IfErr, nat_lt}
 use Rattle.std.proofs.lemmas.Bool.Decides.{nat_tests}
 use Rattle.std.proofs.lemmas.List.{append-nil}
 use Rattle.wb_names.specs.Values.{NameValue, DrawopValue, MarkValue}
-use Rattle.wb_names.specs.declared.gap.Gap.{Gap}
 use Rattle.wb_names.specs.declared.name.PageId.{PageId}
 use Rattle.wb_codec.specs.declared.datagram.Datagram.{Datagram}
-use Rattle.wb_recovery.specs.Events.{asking, actions_of, timers_of, names_of as timed_names}
+use Rattle.wb_recovery.specs.Events.{actions_of}
 use Rattle.wb_recovery.specs.Stopping.{gots}
 use Rattle.rand_pcg.specs.Lcg.{Lcg}
+use Rattle.wb_gaps.specs.Answers.{gaps_of}
 use Rattle.wb_host.specs.Hearing.{marks_heard}
 use Rattle.wb_host.specs.Keeper.{KeeperCall, Miss, GoOn, come_of, delay_to}
 use Rattle.wb_host.specs.Keeping.{KeeperValue, StandsFor, Keeps, marks_at}
-use Rattle.wb_host.specs.Missing.{AreWanted, wanted, names_in_gaps}
+use Rattle.wb_host.specs.Missing.{wanted_of as names_wanted}
 use Rattle.wb_host.specs.Ticks.{sends_for, stopped_in}
 use Rattle.wb_script.specs.declared.fault.LineFault.TheVariants as faults
 use Rattle.wb_script.specs.declared.fault.RunFault.{RunFault}
@@ -24,11 +24,9 @@ use Rattle.wb_script.specs.Answers.{gaps_text, answer_text}
 use Rattle.wb_script.specs.Board.{Held}
 use Rattle.wb_script.specs.Script.{StopsWithin}
 use Rattle.wb_script.specs.Hosts.{Opened, constants, present, calling, Act, does, fails, asked, events, due_count, stopped, sent_by, ticked, wanted_of, looked}
-use Rattle.wb_script.specs.Queries.{gaps_of}
 use Rattle.wb_script.specs.Random.{words_of, after_words}
 use Rattle.wb_script.specs.SentLines.{sends_text, look_line}
 use Rattle.wb_script.specs.Stations.{IsOpenAt, StationValue, DoesAct}
-use Rattle.wb_script.proofs.MissingRanges.{only_gaps}
 use Rattle.wb_script.proofs.Steps.{at_once}
 
 abbrev pub station : Held → KeeperValue → Lcg → StationValue
@@ -104,13 +102,11 @@ tick_done number b k k' g g' host now count words text sent at late due stop dra
 -- ---- a look at a page
 
 pub look_done : (number : ℕ) (b : Held) (k k' : KeeperValue) (g g' : Lcg) (host : Opened) (page : PageId) (names : List NameValue) (words text : List ℕ) (now : ℕ) → IsOpenAt (station b k g) host
-    → AreWanted constants (events host) b.drawops page (marks_heard host.me host.calls page) names → words ≡ words_of g (length names) → g' ≡ after_words g (length names) → now ≡ k.moment → Keeps (Miss now names words) k k' → text ≡ look_line (length names)
+    → names ≡ names_wanted constants (events host) b.drawops page (marks_heard host.me host.calls page) → words ≡ words_of g (length names) → g' ≡ after_words g (length names) → now ≡ k.moment → Keeps (Miss now names words) k k' → text ≡ look_line (length names)
     → DoesAct {U = Unit {0}} number host (station b k' g') text (Ok tt) (looked page host)
-look_done number b k k' g g' host page names words text now at (gaps, are, is) drawn left moment keeps printed =
+look_done number b k k' g g' host page names words text now at told drawn left moment keeps printed =
     let ds = same_history b k g host at in
-    let want : names ≡ wanted_of page host = is
-    ∙ ap (λ (gs : List Gap). wanted (timers_of constants (events host)) (length (asking (timed_names (events host)) (timers_of constants (events host)))) (names_in_gaps page gs))
-    (only_gaps b.drawops page (marks_heard host.me host.calls page) gaps are ∙ ap (λ (l : List DrawopValue). gaps_of l page (marks_heard host.me host.calls page)) ds) in
+    let want : names ≡ wanted_of page host = told ∙ ap (λ (l : List DrawopValue). names_wanted constants (events host) l page (marks_heard host.me host.calls page)) ds in
     let count : length names ≡ length (wanted_of page host) = ap (λ (l : List NameValue). length l) want in
     let ws : words ≡ words_of host.random (length (wanted_of page host)) = drawn ∙ ap (words_of g) count ∙ ap (λ (x : Lcg). words_of x (length (wanted_of page host))) at.words in
     let call : Miss now names words ≡ Miss (present host) (wanted_of page host) (words_of host.random (length (wanted_of page host))) =

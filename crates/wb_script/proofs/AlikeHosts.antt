@@ -13,10 +13,12 @@ use Rattle.wb_recovery.specs.Events.{Event, asking, due_asks, due_answers, actio
 use Rattle.wb_recovery.specs.Stopping.{gots}
 use Rattle.wb_recovery.specs.declared.action.Action.TheVariants.{Ask, Answer}
 use Rattle.wb_recovery.specs.declared.timers.Timers.{Timers}
-use Rattle.wb_host.specs.Hearing.{marks_heard, has_room, asks_for_held}
+use Rattle.wb_gaps.specs.Answers.{gaps_of, report_of}
+use Rattle.wb_gaps.specs.Sorting.{sorted}
+use Rattle.wb_host.specs.Hearing.{marks_heard, has_room, answers_to, asks_for_held}
 use Rattle.wb_host.specs.Keeper.{KeeperCall, SetDelay, Hear, Miss, GoOn, Report, is_own, delay_to, come_of, events_of, holds}
 use Rattle.wb_host.specs.Missing.{wanted, names_in_gaps}
-use Rattle.wb_host.specs.Sessions.{echo_cmp}
+use Rattle.wb_host.specs.Sessions.{echo_cmp, echo_to, echoes_of, message_of}
 use Rattle.wb_host.specs.Ticks.{sends_for}
 use Rattle.wb_host.specs.declared.keeper.Heard.{Heard}
 use Rattle.wb_script.specs.declared.fault.LineFault.TheVariants as faults
@@ -25,8 +27,7 @@ use Rattle.wb_script.specs.declared.line.Line.TheVariants as lines
 use Rattle.wb_script.specs.declared.query.Query.{Query}
 use Rattle.wb_script.specs.declared.query.Query.TheVariants as queries
 use Rattle.wb_script.specs.Answers.{answer_text}
-use Rattle.wb_script.specs.Hosts.{Opened, constants, present, Act, does, fails, calling, asked, due_count, stopped, sent_by, ticked, wanted_of, looked, answers_to, words_for, word_at, heard, echo_to, echoes_of, message_of, reported, act}
-use Rattle.wb_script.specs.Queries.{sorted, gaps_of, report_of}
+use Rattle.wb_script.specs.Hosts.{Opened, constants, present, Act, does, fails, calling, asked, due_count, stopped, sent_by, ticked, wanted_of, looked, words_for, word_at, heard, reported, act}
 use Rattle.wb_script.specs.Random.{words_of}
 use Rattle.wb_script.specs.SentLines.{sends_text, look_line}
 use Rattle.wb_script.proofs.AlikeCalls.{time_gots, TellAlike, same_delays, tell_more, same_heard}
@@ -80,7 +81,10 @@ module _ (host : Opened) (calls : List KeeperCall) (alike : TellAlike host.me ho
   same_echoes : (now : ℕ) → echoes_of host.me host.calls now ≡ echoes_of host.me calls now
   same_echoes now = ap₂ (λ (echo : ℕ → Option Echo) (senders : List ℕ). sorted echo_cmp (filter_map echo senders)) (fun_ext (same_echo now)) alike.senders
 
-  same_message : (page : PageId) → message_of page host ≡ message_of page other
+  abbrev message : PageId → Opened → Datagram
+  message page h = message_of h.me h.calls (present h) h.board.drawops page
+
+  same_message : (page : PageId) → message page host ≡ message page other
   same_message page =
       ap (λ (now : ℕ). Session host.me now page (report_of host.board.drawops page) (echoes_of host.me host.calls now)) same_present
       ∙ ap (λ (echoes : List Echo). Session host.me (present other) page (report_of host.board.drawops page) echoes) (same_echoes (present other))
@@ -123,15 +127,15 @@ module _ (host : Opened) (calls : List KeeperCall) (alike : TellAlike host.me ho
   hears_alike v =
       let hear : ℕ → KeeperCall = λ now. Hear now v (word_at v host.random) (asks_for_held host.board.drawops v) in
       by_test (is_own host.me v || has_room (marks_heard host.me host.calls) v) (is_own host.me v || has_room (marks_heard host.me calls) v)
-      (does (calling (hear (present host)) (words_for v) host) (sends_text (answers_to v host))) (does (calling (hear (present other)) (words_for v) other) (sends_text (answers_to v other)))
+      (does (calling (hear (present host)) (words_for v) host) (sends_text (answers_to host.me host.board.drawops v))) (does (calling (hear (present other)) (words_for v) other) (sends_text (answers_to host.me host.board.drawops v)))
       (fails faults.TooMany) (fails faults.TooMany)
       (ap (λ (marks : PageId → List MarkValue). is_own host.me v || has_room marks v) alike.marks)
-      (call_alike (hear (present host)) (hear (present other)) (words_for v) (words_for v) (sends_text (answers_to v host)) (sends_text (answers_to v other)) (ap hear same_present) refl refl) refl
+      (call_alike (hear (present host)) (hear (present other)) (words_for v) (words_for v) (sends_text (answers_to host.me host.board.drawops v)) (sends_text (answers_to host.me host.board.drawops v)) (ap hear same_present) refl refl) refl
 
   reports_alike : (page : PageId) → ActsAlike (reported page host) (reported page other)
   reports_alike page =
-      call_alike (Report (present host)) (Report (present other)) 0 0 (sends_text (message_of page host ∷ [])) (sends_text (message_of page other ∷ []))
-      (ap Report same_present) refl (ap (λ (message : Datagram). sends_text (message ∷ [])) (same_message page))
+      call_alike (Report (present host)) (Report (present other)) 0 0 (sends_text (message page host ∷ [])) (sends_text (message page other ∷ []))
+      (ap Report same_present) refl (ap (λ (sent : Datagram). sends_text (sent ∷ [])) (same_message page))
 
   stays_alike : ActsAlike (does host []) (does other [])
   stays_alike = (calls, refl, alike, refl)

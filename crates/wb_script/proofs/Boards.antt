@@ -11,6 +11,9 @@ use Rattle.wb_names.specs.Arrivals.{counts_of, outcomes_of}
 use Rattle.wb_names.proofs.Arrivals.{batch_is}
 use Rattle.wb_history.specs.Passes.{HistoryValue, PassValue, IsSamePass, IsSound, KeepsRows}
 use Rattle.wb_names.specs.declared.gap.Gap.{Gap}
+use Rattle.wb_gaps.specs.Answers.{gaps_of, report_of, pages_of}
+use Rattle.wb_gaps.proofs.MissingRanges.{only_gaps}
+use Rattle.wb_gaps.proofs.PageAnswers.{only_report, only_pages}
 use Rattle.wb_host.specs.Board.{IsAnswer, AskGaps, AskReport, AskPages, AskView, Gaps, Marks, Pages, Shown}
 use Rattle.wb_host.specs.Desks.{ReadsOn}
 use Rattle.wb_feed.specs.declared.batch.Batch.{Batch}
@@ -18,10 +21,9 @@ use Rattle.wb_feed.specs.Accepts.{Keeps as DeskKeeps}
 use Rattle.wb_feed.specs.Batches.{counts_in, IsInOrder, TakesMore}
 use Rattle.wb_script.specs.Board.{Held, held_of, OwnsAll}
 use Rattle.wb_script.specs.Hosts.{board_after}
-use Rattle.wb_script.specs.Queries.{view_of, gaps_of, report_of, pages_of}
+use Rattle.wb_script.specs.Queries.{view_of}
 use Rattle.wb_script.specs.Stations.{TakesAll}
-use Rattle.wb_script.proofs.MissingRanges.{only_gaps}
-use Rattle.wb_script.proofs.Queries.{only_view, only_report, only_pages}
+use Rattle.wb_script.proofs.Queries.{only_view}
 
 kept : (b : HistoryValue) (p q : PassValue) → OwnsAll b p → IsSamePass p q → IsSound q → KeepsRows p q → OwnsAll b q
 kept b p q owns same sound rows = record {

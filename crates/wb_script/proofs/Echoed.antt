@@ -1,92 +1,22 @@
 -- The session message that a host sends.
-use Rattle.std.proofs.Common.{◌≡◌, ℕ, ◌-◌, ◌≤◌, Bool, true, false, cond, List, [], ◌∷◌, length, Ok, Option, Some, None, refl, sym, ap, subst, ◌∙◌, eqb-true}
-use Rattle.std.specs.Prelude.{Contains, nat_eq}
-use Rattle.std.specs.List.{filter_map, list_any}
-use Rattle.std.specs.Option.{option_map}
-use Rattle.std.specs.Ordering.{is_eq}
-use Rattle.std.specs.Cmp.{IsTotalOrder, nat_cmp_total}
-use Rattle.std.proofs.lemmas.Cmp.{on_total}
-use Rattle.std.proofs.lemmas.Map.Views.{Contains-from_any}
+use Rattle.std.proofs.Common.{◌≡◌, ℕ, List, [], ◌∷◌, Ok, refl, ap, ◌∙◌}
 use Rattle.wb_names.specs.Values.{DrawopValue}
-use Rattle.wb_names.specs.Listing.{Lists}
-use Rattle.wb_names.specs.declared.echo.Echo.{Echo}
 use Rattle.wb_names.specs.declared.name.PageId.{PageId}
-use Rattle.wb_names.proofs.Listings.{lists_same}
-use Rattle.wb_names.proofs.Orders.{nat_ties}
 use Rattle.wb_codec.specs.declared.datagram.Datagram.{Datagram}
 use Rattle.rand_pcg.specs.Lcg.{Lcg}
-use Rattle.wb_host.specs.Keeper.{KeeperCall, Report, newest, session_told, told_by, senders_of, last_heard}
+use Rattle.wb_host.specs.Keeper.{Report}
 use Rattle.wb_host.specs.Keeping.{KeeperValue, Keeps}
-use Rattle.wb_host.specs.Sessions.{echo_cmp, IsEchoTo, IsSession}
-use Rattle.wb_host.specs.declared.keeper.Heard.{Heard}
-use Rattle.wb_host.proofs.OneMessage.{one_session}
-use Rattle.wb_host.proofs.TickSends.{sent_by, sent_from}
+use Rattle.wb_host.specs.Sessions.{message_of}
 use Rattle.wb_script.specs.Board.{Held}
-use Rattle.wb_script.specs.Hosts.{Opened, present, echo_to, echoes_of, message_of, reported}
-use Rattle.wb_script.specs.Queries.{report_of}
+use Rattle.wb_script.specs.Hosts.{Opened, present, reported}
 use Rattle.wb_script.specs.SentLines.{sends_text}
 use Rattle.wb_script.specs.Stations.{IsOpenAt, DoesAct}
 use Rattle.wb_script.proofs.Acts.{station, same_history, called}
-use Rattle.wb_script.proofs.Queries.{report_of_page}
-use Rattle.wb_script.proofs.Sorting.{lists_sorted}
 
-echo_total : IsTotalOrder echo_cmp
-echo_total = on_total (λ (e : Echo). e.source) nat_cmp_total
-
-abbrev echo_as : ℕ → ℕ → Heard → Echo
-echo_as now source h = record { source = source; sent = h.sent; held = now - h.at }
-
-some_same : {X : Type 0} (x y : X) → Some x ≡ Some y → x ≡ y
-some_same x y e = cc
-
-module _ (me : ℕ) (calls : List KeeperCall) (now : ℕ) where
-  echo_told : (source : ℕ) (e : Echo) → echo_to me calls now source ≡ Some e → IsEchoTo me calls now e
-  echo_told source e told = at (last_heard me calls source) refl told where
-    at : (o : Option Heard) → last_heard me calls source ≡ o → option_map (echo_as now source) o ≡ Some e → IsEchoTo me calls now e
-    at None l f = absurd cc
-    at (Some h) l f =
-        let is : echo_as now source h ≡ e = some_same (echo_as now source h) e f in
-        (h, ap (λ (x : Echo). last_heard me calls x.source) (sym is) ∙ l, ap (λ (x : Echo). x.sent) (sym is), ap (λ (x : Echo). x.held) (sym is))
-
-  same_echo : (a b c : ℕ) (e : Echo) → a ≡ e.source → b ≡ e.sent → c ≡ e.held → (let x : Echo = record { source = a; sent = b; held = c } in x ≡ e)
-  same_echo a b c e p q r = ap (λ (n : ℕ). let x : Echo = record { source = n; sent = b; held = c } in x) p ∙ ap (λ (n : ℕ). let x : Echo = record { source = e.source; sent = n; held = c } in x) q ∙ ap (λ (n : ℕ). let x : Echo = record { source = e.source; sent = e.sent; held = n } in x) r
-
-  echo_there : (e : Echo) → IsEchoTo me calls now e → echo_to me calls now e.source ≡ Some e
-  echo_there e (h, told, sent, held) = ap (option_map (echo_as now e.source)) told ∙ ap (λ (x : Echo). Some x) (same_echo e.source h.sent (now - h.at) e refl (sym sent) (sym held))
-
-  is_sender : (source : ℕ) (h : Heard) → last_heard me calls source ≡ Some h → Contains (senders_of me calls) source
-  is_sender source h e = at (list_any (nat_eq source) (senders_of me calls)) refl e where
-    at : (b : Bool) → list_any (nat_eq source) (senders_of me calls) ≡ b → cond b (newest (λ call. told_by source (session_told me call)) calls) None ≡ Some h → Contains (senders_of me calls) source
-    at true any f = Contains-from_any (λ a c e. eqb-true a c e) source (senders_of me calls) any
-    at false any f = absurd cc
-
-  abbrev told : List Echo
-  told = filter_map (echo_to me calls now) (senders_of me calls)
-
-  from : (e : Echo) → Contains told e → IsEchoTo me calls now e
-  from e c = let s = sent_from (echo_to me calls now) (senders_of me calls) e c in echo_told s.0 e s.2
-
-  echoes_listed : Lists echo_cmp (IsEchoTo me calls now) (echoes_of me calls now)
-  echoes_listed = lists_same echo_total (Contains told) (IsEchoTo me calls now) (echoes_of me calls now) from
-      (λ e is. sent_by (echo_to me calls now) (senders_of me calls) e.source e (is_sender e.source is.0 is.1) (echo_there e is))
-      (lists_sorted echo_total told (λ x y cx cy tie.
-      let same : x.source ≡ y.source = eqb-true x.source y.source (nat_ties x.source y.source ∙ ap is_eq tie) in
-      some_same x y (sym (echo_there x (from x cx)) ∙ ap (echo_to me calls now) same ∙ echo_there y (from y cy))))
-
-is_session : (host : Opened) (page : PageId) → length host.board.drawops ≤ 65535 → IsSession host.me host.calls (present host) host.board.drawops page (message_of page host)
-is_session host page few = record {
-  marks = report_of host.board.drawops page;
-  echoes = echoes_of host.me host.calls (present host);
-  report = report_of_page host.board.drawops page few;
-  echoed = echoes_listed host.me host.calls (present host);
-  is = refl;
-}
-
-pub session_done : (number : ℕ) (b : Held) (k k' : KeeperValue) (g : Lcg) (host : Opened) (page : PageId) (message : Datagram) (text : List ℕ) → IsOpenAt (station b k g) host → length b.drawops ≤ 65535
-    → IsSession host.me host.calls k.moment b.drawops page message → Keeps (Report k.moment) k k' → text ≡ sends_text (message ∷ []) → DoesAct {U = Unit {0}} number host (station b k' g) text (Ok tt) (reported page host)
-session_done number b k k' g host page message text at few session keeps printed =
-    let ds = same_history b k g host at in
-    let here : IsSession host.me host.calls (present host) host.board.drawops page message =
-    subst (λ (l : List DrawopValue). IsSession host.me host.calls (present host) l page message) ds (subst (λ (m : ℕ). IsSession host.me host.calls m b.drawops page message) at.keeper.moment session) in
-    let is : message ≡ message_of page host = one_session host.me host.calls (present host) host.board.drawops page message (message_of page host) here (is_session host page (subst (λ (l : List DrawopValue). length l ≤ 65535) ds few)) in
+pub session_done : (number : ℕ) (b : Held) (k k' : KeeperValue) (g : Lcg) (host : Opened) (page : PageId) (message : Datagram) (text : List ℕ) → IsOpenAt (station b k g) host
+    → message ≡ message_of host.me host.calls k.moment b.drawops page → Keeps (Report k.moment) k k' → text ≡ sends_text (message ∷ []) → DoesAct {U = Unit {0}} number host (station b k' g) text (Ok tt) (reported page host)
+session_done number b k k' g host page message text at told keeps printed =
+    let is : message ≡ message_of host.me host.calls (present host) host.board.drawops page = told
+    ∙ ap (λ (m : ℕ). message_of host.me host.calls m b.drawops page) at.keeper.moment
+    ∙ ap (λ (l : List DrawopValue). message_of host.me host.calls (present host) l page) (same_history b k g host at) in
     (called b k k' g g host (Report k.moment) (Report (present host)) 0 at keeps (ap (λ (m : ℕ). Report m) at.keeper.moment) refl, printed ∙ ap (λ (m : Datagram). sends_text (m ∷ [])) is)

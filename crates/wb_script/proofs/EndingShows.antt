@@ -18,11 +18,11 @@ use Rattle.wb_script.specs.declared.line.Line.{Line}
 use Rattle.wb_script.specs.declared.line.Line.TheVariants.{Skip, Board, Arrive, Hear, Distance, Tick, Look, Session, Show, Gaps, Report, Pages}
 use Rattle.wb_script.specs.declared.summary.Summary.{Summary}
 use Rattle.wb_host.specs.Keeper.{SetDelay, Hear, Miss, GoOn, Report as Reported, is_own}
-use Rattle.wb_host.specs.Hearing.{marks_heard, has_room, asks_for_held}
+use Rattle.wb_host.specs.Hearing.{marks_heard, has_room, answers_to, asks_for_held}
 use Rattle.wb_script.specs.Random.{words_of}
 use Rattle.wb_script.specs.SentLines.{sends_text}
 use Rattle.wb_script.specs.Board.{Held}
-use Rattle.wb_script.specs.Hosts.{Opened, opened, present, board_after, host_after, batch_text, calling, Act, does, fails, due_count, stopped, sent_by, wanted_of, answers_to, words_for, word_at, act}
+use Rattle.wb_script.specs.Hosts.{Opened, opened, present, board_after, host_after, batch_text, calling, Act, does, fails, due_count, stopped, sent_by, wanted_of, words_for, word_at, act}
 use Rattle.wb_script.specs.Laws.{NoneClash, HasCells}
 use Rattle.wb_script.specs.Parsing.{line_of}
 use Rattle.wb_script.specs.Queries.{view_of}
@@ -72,7 +72,7 @@ act_board (Gaps page) host next printed e = ap (λ (h : Opened). h.board) (sym (
 act_board (Report page) host next printed e = ap (λ (h : Opened). h.board) (sym (same_host host next _ printed e))
 act_board Pages host next printed e = ap (λ (h : Opened). h.board) (sym (same_host host next _ printed e))
 act_board (Hear v) host next printed e = at (is_own host.me v || has_room (marks_heard host.me host.calls) v) e where
-  at : (room : Bool) → cond room (does (calling (Hear (present host) v (word_at v host.random) (asks_for_held host.board.drawops v)) (words_for v) host) (sends_text (answers_to v host))) (fails faults.TooMany) ≡ does next printed → next.board ≡ host.board
+  at : (room : Bool) → cond room (does (calling (Hear (present host) v (word_at v host.random) (asks_for_held host.board.drawops v)) (words_for v) host) (sends_text (answers_to host.me host.board.drawops v))) (fails faults.TooMany) ≡ does next printed → next.board ≡ host.board
   at true f = ap (λ (h : Opened). h.board) (sym (same_host (calling (Hear (present host) v (word_at v host.random) (asks_for_held host.board.drawops v)) (words_for v) host) next _ printed f))
   at false f = absurd cc
 act_board (Distance source micros) host next printed e = ap (λ (h : Opened). h.board) (sym (same_host (calling (SetDelay source micros) 0 host) next _ printed e))

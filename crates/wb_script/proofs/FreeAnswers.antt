@@ -5,13 +5,15 @@ use Rattle.wb_names.specs.declared.gap.Gap.{Gap}
 use Rattle.wb_names.specs.declared.name.PageId.{PageId}
 use Rattle.wb_display.specs.Canvas.{canvas_text}
 use Rattle.wb_display.proofs.Convergence.{converges}
+use Rattle.wb_gaps.specs.Answers.{gaps_of, report_of, pages_of}
+use Rattle.wb_gaps.proofs.MissingRanges.{gaps_of_page, only_gaps}
+use Rattle.wb_gaps.proofs.PageAnswers.{report_of_page, only_report, pages_of_history, only_pages}
 use Rattle.wb_gaps.proofs.Rearranged.{gaps_moved, report_moved, pages_moved}
 use Rattle.wb_script.specs.declared.query.Query.TheVariants.{Canvas, Gaps, Report, Pages}
 use Rattle.wb_script.specs.Answers.{gaps_text, report_text, pages_text}
-use Rattle.wb_script.specs.Queries.{view_of, gaps_of, report_of, pages_of}
+use Rattle.wb_script.specs.Queries.{view_of}
 use Rattle.wb_script.specs.Laws.{AnswersAreFree}
-use Rattle.wb_script.proofs.MissingRanges.{gaps_of_page, only_gaps}
-use Rattle.wb_script.proofs.Queries.{view_of_page, report_of_page, only_report, pages_of_history, only_pages}
+use Rattle.wb_script.proofs.Queries.{view_of_page}
 
 pub answers_are_free : AnswersAreFree
 answers_are_free marks one other (Canvas page width height) a b moved =

@@ -1,18 +1,15 @@
 -- What a host sends at once for a datagram, and when it refuses one.
-use Rattle.std.proofs.Common.{◌≡◌, ℕ, ◌<◌, ◌≤◌, ◌^◌, Bool, true, false, cond, List, [], ◌∷◌, length, Result, Ok, Err, inr, refl, sym, ap, ◌∙◌, arith}
-use Rattle.std.specs.Prelude.{Option, All, map, nat_le, nat_lt, ◌||◌}
+use Rattle.std.proofs.Common.{◌≡◌, ℕ, ◌<◌, ◌^◌, Bool, true, false, List, [], ◌∷◌, Result, Ok, Err, inr, refl, sym, ap, ◌∙◌, arith}
+use Rattle.std.specs.Prelude.{Option, nat_le, nat_lt, ◌||◌}
 use Rattle.std.proofs.lemmas.Bool.Decides.{nat_tests}
-use Rattle.std.proofs.lemmas.List.Elements.{All-head, All-tail}
 use Rattle.wb_names.specs.Values.{DrawopValue, MarkValue}
 use Rattle.wb_names.specs.Faults.{first_of, fault_unless}
-use Rattle.wb_names.specs.Marks.{IsReport}
 use Rattle.wb_names.specs.declared.name.PageId.{PageId}
 use Rattle.wb_codec.specs.declared.datagram.Datagram.{Datagram}
 use Rattle.wb_codec.specs.declared.datagram.Datagram.TheVariants.{Draw, Session, Request, AskPages, PageState}
 use Rattle.wb_gaps.specs.Merging.{source_count}
-use Rattle.wb_gaps.specs.declared.page_reports.PageReport.{PageReport}
 use Rattle.rand_pcg.specs.Lcg.{Lcg}
-use Rattle.wb_host.specs.Hearing.{AreAnswers, IsSent, asks_for_held, asks_for_pages, has_room, hear_fault, marks_heard}
+use Rattle.wb_host.specs.Hearing.{answers_to, asks_for_held, has_room, hear_fault, marks_heard}
 use Rattle.wb_host.specs.Keeper.{Hear, is_own}
 use Rattle.wb_host.specs.Keeping.{KeeperValue, Keeps, marks_at}
 use Rattle.wb_host.specs.KeepFaults.{IsKeptBy}
@@ -21,30 +18,11 @@ use Rattle.wb_host.specs.declared.keep_fault.KeepFault.TheVariants as keeping
 use Rattle.wb_script.specs.declared.fault.LineFault.TheVariants as faults
 use Rattle.wb_script.specs.declared.fault.RunFault.TheVariants as run_faults
 use Rattle.wb_script.specs.Board.{Held}
-use Rattle.wb_script.specs.Hosts.{Opened, present, words_for, word_at, answers_to, heard}
-use Rattle.wb_script.specs.Queries.{report_of, pages_of}
+use Rattle.wb_script.specs.Hosts.{Opened, present, words_for, word_at, heard}
 use Rattle.wb_script.specs.Random.{after_words}
 use Rattle.wb_script.specs.SentLines.{sends_text}
 use Rattle.wb_script.specs.Stations.{IsOpenAt, DoesAct}
 use Rattle.wb_script.proofs.Acts.{station, same_history, called}
-use Rattle.wb_script.proofs.Queries.{only_report, only_pages}
-
--- ---- page states
-
-abbrev state_of : ℕ → List DrawopValue → PageId → Datagram
-state_of me history page = PageState me page (report_of history page)
-
-states_of : (me : ℕ) (history : List DrawopValue) (reports : List PageReport) → length history ≤ 65535 → All (λ r. IsReport history r.page r.marks) reports
-    → map (λ (r : PageReport). PageState me r.page r.marks) reports ≡ map (state_of me history) (map (λ (r : PageReport). r.page) reports)
-states_of me history [] few each = refl
-states_of me history (r ∷ reports) few each =
-    let first = only_report history r.page r.marks few (All-head (λ (x : PageReport). IsReport history x.page x.marks) r reports each) in
-    ap (λ (m : List MarkValue). PageState me r.page m ∷ map (λ (x : PageReport). PageState me x.page x.marks) reports) first
-    ∙ ap (λ (l : List Datagram). state_of me history r.page ∷ l) (states_of me history reports few (All-tail (λ (x : PageReport). IsReport history x.page x.marks) r reports each))
-
-answers_are : (asked : Bool) (me : ℕ) (history : List DrawopValue) (sent : List Datagram) → length history ≤ 65535 → AreAnswers asked me history sent → sent ≡ cond asked (map (state_of me history) (pages_of history)) []
-answers_are true me history sent few (reports, are, is) = is ∙ states_of me history reports few are.each ∙ ap (map (state_of me history)) (only_pages history (map (λ (r : PageReport). r.page) reports) are.pages)
-answers_are false me history sent few is = is
 
 -- ---- room for marks
 
@@ -95,17 +73,16 @@ moment_tests m early = (grind (arith, nat_tests), grind (arith, nat_tests))
 
 -- ---- what a host that heard a datagram does
 
-pub hear_done : {X : Type 0} (x : X) (number : ℕ) (b : Held) (k k' : KeeperValue) (g g' : Lcg) (host : Opened) (v : Datagram) (word : ℕ) (sent : List Datagram) (text : List ℕ) → IsOpenAt (station b k g) host → k.moment < 2 ^ 48 → length b.drawops ≤ 65535
-    → IsKeptBy (hear_fault k.me k.moment (marks_at k.marks) k.moment v) (Ok x) → word ≡ word_at v g → g' ≡ after_words g (words_for v) → IsSent k.me b.drawops v sent → Keeps (Hear k.moment v word (asks_for_held b.drawops v)) k k' → text ≡ sends_text sent
+pub hear_done : {X : Type 0} (x : X) (number : ℕ) (b : Held) (k k' : KeeperValue) (g g' : Lcg) (host : Opened) (v : Datagram) (word : ℕ) (sent : List Datagram) (text : List ℕ) → IsOpenAt (station b k g) host → k.moment < 2 ^ 48
+    → IsKeptBy (hear_fault k.me k.moment (marks_at k.marks) k.moment v) (Ok x) → word ≡ word_at v g → g' ≡ after_words g (words_for v) → sent ≡ answers_to k.me b.drawops v → Keeps (Hear k.moment v word (asks_for_held b.drawops v)) k k' → text ≡ sends_text sent
     → DoesAct {U = Unit {0}} number host (station b k' g') text (Ok tt) (heard v host)
-hear_done x number b k k' g g' host v word sent text at early few kept drawn left told keeps printed =
+hear_done x number b k k' g g' host v word sent text at early kept drawn left told keeps printed =
     let tests = moment_tests k.moment early in
     let room : is_own host.me v || has_room (marks_heard host.me host.calls) v ≡ true =
     sym (same_tests b k g host v at).room ∙ room_left (nat_le k.moment k.moment) (nat_lt k.moment (2 ^ 48)) (is_own k.me v || has_room (marks_at k.marks) v) x tests.0 tests.1 kept in
     let ds = same_history b k g host at in
-    let is : sent ≡ answers_to v host = answers_are (asks_for_pages k.me v) k.me b.drawops sent few told
-    ∙ ap (λ (me : ℕ). cond (asks_for_pages me v) (map (state_of me b.drawops) (pages_of b.drawops)) []) at.keeper.me_is
-    ∙ ap (λ (l : List DrawopValue). cond (asks_for_pages host.me v) (map (state_of host.me l) (pages_of l)) []) ds in
+    let is : sent ≡ answers_to host.me host.board.drawops v =
+    told ∙ ap (λ (me : ℕ). answers_to me b.drawops v) at.keeper.me_is ∙ ap (λ (l : List DrawopValue). answers_to host.me l v) ds in
     let call : Hear k.moment v word (asks_for_held b.drawops v) ≡ Hear (present host) v (word_at v host.random) (asks_for_held host.board.drawops v) =
     ap (λ (m : ℕ). Hear m v word (asks_for_held b.drawops v)) at.keeper.moment
     ∙ ap (λ (n : ℕ). Hear (present host) v n (asks_for_held b.drawops v)) (drawn ∙ ap (word_at v) at.words)

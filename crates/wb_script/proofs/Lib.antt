@@ -9,9 +9,7 @@ pub mod Boards
 pub mod InputLines
 pub mod Outcomes
 pub mod Endings
-pub mod Sorting
 pub mod Queries
-pub mod MissingRanges
 pub mod FreeAnswers
 pub mod FreeArrivals
 pub mod Steps

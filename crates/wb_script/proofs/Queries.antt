@@ -1,31 +1,19 @@
--- What a script's queries print is what the lower crates define.
-use Rattle.std.proofs.Common.{◌≡◌, ℕ, ◌<◌, ◌≤◌, true, false, cond, List, [], ◌∷◌, length, get_or, refl, ap, ◌∙◌, sym, arith, ◌⊎◌, inl, inr, ⊎_elim, eqb-true}
-use Rattle.std.specs.Prelude.{Contains, All, AllPairs, Any, map, filter, ◌&&◌, not, IsTrue, nat_eq, nat_lt}
-use Rattle.std.specs.Cmp.{nat_cmp_total}
-use Rattle.std.specs.List.Sorted.{IsStrictlySortedBy}
-use Rattle.std.specs.Ordering.{is_eq, nat_cmp}
+-- The view of a page that a script shows is what wb_display defines.
+use Rattle.std.proofs.Common.{◌≡◌, true, List, ap}
+use Rattle.std.specs.Prelude.{Contains, filter, ◌&&◌, not, IsTrue}
+use Rattle.std.specs.Ordering.{is_eq}
 use Rattle.std.specs.declared.cmp.Ordering.TheVariants.{Equal}
-use Rattle.std.proofs.lemmas.Bool.{ltb-true, ltb-false, eqb-false}
-use Rattle.std.proofs.lemmas.List.{length-map, get_or-map}
-use Rattle.std.proofs.lemmas.List.Elements.{All-weaker, filter_passes}
-use Rattle.std.proofs.lemmas.List.Kept.{AllPairs-filter, AllPairs-from_increasing}
-use Rattle.std.proofs.lemmas.List.Sums.{length-filter, count_by-le-length}
-use Rattle.std.proofs.lemmas.Map.Keys.{IsStrictlyIncreasing-from_sorted}
-use Rattle.wb_names.specs.Values.{NameValue, DrawopValue, MarkValue}
+use Rattle.wb_names.specs.Values.{DrawopValue}
 use Rattle.wb_names.specs.Orders.{same_page, display_cmp}
-use Rattle.wb_names.specs.History.{IsHistory, IsHeld, highest}
-use Rattle.wb_names.specs.Marks.{mark_of}
+use Rattle.wb_names.specs.History.{IsHistory}
 use Rattle.wb_names.specs.declared.name.PageId.{PageId}
-use Rattle.wb_names.proofs.Listings.{Contains-cases, Contains-none, Contains-filter, Contains-from_filter, Contains-map, Any-from_map, lists_same, one_list}
-use Rattle.wb_names.proofs.MarkLists.{one_marks}
-use Rattle.wb_names.proofs.Orders.{and_both, nat_ties, page_total, page_ties, same_page-is}
+use Rattle.wb_names.proofs.Listings.{Contains-filter, Contains-from_filter, lists_same, one_list}
+use Rattle.wb_names.proofs.Orders.{and_both}
 use Rattle.wb_display.specs.Display.{is_drawing, is_hidden_in, is_shown}
 use Rattle.wb_display.proofs.Deciding.{display_total, one_drawop, tie_names}
-use Rattle.wb_gaps.proofs.HeldNumbers.{is_on, same_page-here}
-use Rattle.wb_gaps.proofs.Reports.{greatest_held}
-use Rattle.wb_script.specs.Queries.{view_of, sources_of, report_of, pages_of}
-use Rattle.wb_script.specs.Laws.{ViewOfPage, OnlyView, ReportOfPage, OnlyReport, PagesOfHistory, OnlyPages}
-use Rattle.wb_script.proofs.Sorting.{sorted_rises, length-sorted-le, Contains-sorted, lists_sorted}
+use Rattle.wb_gaps.proofs.Sorting.{lists_sorted}
+use Rattle.wb_script.specs.Queries.{view_of}
+use Rattle.wb_script.specs.Laws.{ViewOfPage, OnlyView}
 
 on_page : (history : List DrawopValue) (page : PageId) (d : DrawopValue) → IsTrue (is_shown history page d) → same_page d.name.page page ≡ true
 on_page history page d shown = (and_both (same_page d.name.page page) (is_drawing d.op) (and_both (same_page d.name.page page && is_drawing d.op) (not (is_hidden_in history d)) shown).0).0
@@ -47,86 +35,3 @@ view_of_page history page names =
 
 pub only_view : OnlyView
 only_view history page shown names view = one_list display_total _ shown (view_of history page) view (view_of_page history page names)
-
-abbrev page_of : DrawopValue → PageId
-page_of d = d.name.page
-
-pub pages_of_history : PagesOfHistory
-unfolding pages_of
-pages_of_history history =
-    lists_same page_total (Contains (map page_of history)) (λ page. Any (λ (d : DrawopValue). page_of d ≡ page) history) _
-    (Any-from_map page_of history)
-    (Contains-map page_of history)
-    (lists_sorted page_total (map page_of history) (λ p q _ _ tie. same_page-is p q (page_ties p q ∙ ap is_eq tie)))
-
-pub only_pages : OnlyPages
-only_pages history pages listed = one_list page_total _ pages (pages_of history) listed (pages_of_history history)
-
--- a mark for each of some sources, with its number, unless that is 0
-module _ (high : ℕ → ℕ) where
-  abbrev mark_at : ℕ → MarkValue
-  mark_at source = record { source = source; high = high source }
-
-  abbrev marks_at : List ℕ → List MarkValue
-  marks_at sources = filter (λ m. nat_lt 0 m.high) (map mark_at sources)
-
-  marks_at-ascend : (sources : List ℕ) → IsStrictlySortedBy nat_cmp sources → AllPairs (λ m n. m.source < n.source) (marks_at sources)
-  marks_at-ascend sources rising = AllPairs-filter (λ (m n : MarkValue). m.source < n.source) (λ m. nat_lt 0 m.high) (map mark_at sources) (λ i j d ij jn.
-      let within : j < length sources = omega (arith, length-map sources mark_at) in
-      let a : (get_or (map mark_at sources) i d).source ≡ get_or sources i 0 = ap (λ (m : MarkValue). m.source) (get_or-map mark_at sources i 0 d (omega arith)) in
-      let b : (get_or (map mark_at sources) j d).source ≡ get_or sources j 0 = ap (λ (m : MarkValue). m.source) (get_or-map mark_at sources j 0 d within) in
-      let lt : get_or sources i 0 < get_or sources j 0 = AllPairs-from_increasing sources (IsStrictlyIncreasing-from_sorted sources rising) i j 0 ij within in
-      omega arith)
-
-  marks_at-positive : (sources : List ℕ) → All (λ m. 1 ≤ m.high) (marks_at sources)
-  marks_at-positive sources = All-weaker (λ (m : MarkValue). nat_lt 0 m.high ≡ true) (λ (m : MarkValue). 1 ≤ m.high) (λ m t. omega (arith, ltb-true 0 m.high t)) (marks_at sources) (filter_passes (λ m. nat_lt 0 m.high) (map mark_at sources))
-
-  marks_at-length-le : (sources : List ℕ) → length (marks_at sources) ≤ length sources
-  marks_at-length-le sources = omega (arith, length-filter (λ (m : MarkValue). nat_lt 0 m.high) (map mark_at sources), count_by-le-length (λ (m : MarkValue). nat_lt 0 m.high) (map mark_at sources), length-map sources mark_at)
-
-  -- a source that is not among them is to have the number 0
-  mark_of-marks_at : (sources : List ℕ) (s : ℕ) → (high s ≡ 0) ⊎ Contains sources s → mark_of (marks_at sources) s ≡ high s
-  mark_of-marks_at [] s has = ⊎_elim (λ (e : high s ≡ 0). sym e) (λ (c : Contains [] s). absurd (Contains-none s c)) has
-  mark_of-marks_at (t ∷ ts) s has = elim (nat_lt 0 (high t)) as (λ b. nat_lt 0 (high t) ≡ b → mark_of (cond b (mark_at t ∷ marks_at ts) (marks_at ts)) s ≡ high s) [
-    | true ↦ λ e. elim (nat_eq t s) as (λ b. nat_eq t s ≡ b → cond b (high t) (mark_of (marks_at ts) s) ≡ high s) [
-      | true ↦ λ f. ap high (eqb-true t s f)
-      | false ↦ λ f. mark_of-marks_at ts s (⊎_elim (λ (n : high s ≡ 0). inl n) (λ (c : Contains (t ∷ ts) s). ⊎_elim (λ (g : t ≡ s). absurd (eqb-false t s f g)) (λ (d : Contains ts s). inr d) (Contains-cases t s ts c)) has)
-    ] refl
-    | false ↦ λ e. mark_of-marks_at ts s (⊎_elim (λ (n : high s ≡ 0). inl n) (λ (c : Contains (t ∷ ts) s). ⊎_elim (λ (g : t ≡ s). let none : high t ≡ 0 = omega (arith, ltb-false 0 (high t) e) in inl (ap high (sym g) ∙ none)) (λ (d : Contains ts s). inr d) (Contains-cases t s ts c)) has)
-  ] refl
-
-abbrev source_of : DrawopValue → ℕ
-source_of d = d.name.source
-
--- a source that the page holds is among its sources
-pub has_source : (history : List DrawopValue) (page : PageId) (source n : ℕ) → IsHeld history page source n → Contains (sources_of history page) source
-has_source history page source n held =
-    let d : DrawopValue = held.1 in
-    let on : IsTrue (is_on page d) = same_page-here d.name.page page (ap (λ (m : NameValue). m.page) held.4) in
-    let c = Contains-filter (is_on page) history d (held.0, held.2, held.3) on in
-    let is : source_of d ≡ source = ap (λ (m : NameValue). m.source) held.4 in
-    Contains-sorted nat_cmp_total (map source_of (filter (is_on page) history)) (λ a b _ _ tie. eqb-true a b (nat_ties a b ∙ ap is_eq tie)) source
-    (Contains-map source_of (filter (is_on page) history) source (c.0, d, c.1, c.2, is))
-
-few_sources : (history : List DrawopValue) (page : PageId) → length (sources_of history page) ≤ length history
-few_sources history page =
-    let on : List DrawopValue = filter (is_on page) history in
-    omega (arith, length-sorted-le nat_cmp (map source_of (filter (is_on page) history)), length-map (filter (is_on page) history) source_of, length-filter (is_on page) history, count_by-le-length (is_on page) history)
-
-pub report_of_page : ReportOfPage
-unfolding report_of
-report_of_page history page few =
-    let high : ℕ → ℕ = λ source. highest page source history in
-    let sources : List ℕ = sources_of history page in (
-      record {
-        ascending = marks_at-ascend high sources (sorted_rises nat_cmp_total (map source_of (filter (is_on page) history)));
-        positive = marks_at-positive high sources;
-        few = omega (arith, marks_at-length-le high (sources_of history page), few_sources history page);
-      },
-      λ source. mark_of-marks_at high sources source (⊎_elim (λ (e : highest page source history ≡ 0). inl e) (λ (h : IsHeld history page source (highest page source history)). inr (has_source history page source _ h)) (greatest_held history page source).reached),
-    )
-
-pub only_report : OnlyReport
-only_report history page marks few report =
-    let own = report_of_page history page few in
-    one_marks marks (report_of history page) report.0 own.0 (λ source. report.1 source ∙ sym (own.1 source))

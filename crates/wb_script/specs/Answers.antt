@@ -9,7 +9,8 @@ use Rattle.wb_display.specs.Canvas.{canvas_text, is_canvas_size}
 use Rattle.wb_names.specs.Arrivals.{Counts}
 use Rattle.wb_script.specs.declared.query.Query.{Query}
 use Rattle.wb_script.specs.declared.query.Query.TheVariants.{Canvas, Gaps, Report, Pages}
-use Rattle.wb_script.specs.Queries.{view_of, gaps_of, report_of, pages_of}
+use Rattle.wb_gaps.specs.Answers.{gaps_of, report_of, pages_of}
+use Rattle.wb_script.specs.Queries.{view_of}
 
 -- the line that ends a batch
 abbrev pub batch_line : Counts → List ℕ

@@ -1,21 +1,18 @@
 -- A host that is open, and what the lines of a script do to it.
-use Rattle.std.specs.Prelude.{ℕ, List, [], ◌∷◌, length, map, filter, nat_lt, ◌||◌, ◌-◌, Option, if◌then◌else◌}
-use Rattle.std.specs.List.{filter_map}
-use Rattle.std.specs.Option.{option_map}
+use Rattle.std.specs.Prelude.{ℕ, List, [], ◌∷◌, length, map, filter, nat_lt, ◌||◌, if◌then◌else◌}
 use Rattle.wb_names.specs.Values.{NameValue, DrawopValue}
 use Rattle.wb_names.specs.Arrivals.{outcomes_of, counts_of, history_after}
 use Rattle.wb_recovery.specs.declared.tuning.Tuning.{Tuning}
 use Rattle.wb_names.specs.declared.name.PageId.{PageId}
-use Rattle.wb_names.specs.declared.echo.Echo.{Echo}
 use Rattle.wb_codec.specs.declared.datagram.Datagram.{Datagram}
 use Rattle.wb_codec.specs.declared.datagram.Datagram.TheVariants.{Draw, Session, Request, AskPages, PageState}
-use Rattle.wb_recovery.specs.Events.{Event, asking, due_asks, actions_of, timers_of, names_of as timed_names}
+use Rattle.wb_recovery.specs.Events.{Event, due_asks, actions_of, timers_of, names_of as timed_names}
 use Rattle.wb_recovery.specs.Stopping.{gots}
 use Rattle.rand_pcg.specs.Lcg.{Lcg}
-use Rattle.wb_host.specs.Keeper.{KeeperCall, SetDelay, Hear, Arrive, Miss, GoOn, moment_at, Report, is_own, delay_to, senders_of, last_heard, come_of, events_of, holds}
-use Rattle.wb_host.specs.Hearing.{marks_heard, has_room, asks_for_held, asks_for_pages}
-use Rattle.wb_host.specs.Missing.{wanted, names_in_gaps}
-use Rattle.wb_host.specs.Sessions.{echo_cmp}
+use Rattle.wb_host.specs.Keeper.{KeeperCall, SetDelay, Hear, Arrive, Miss, GoOn, moment_at, Report, is_own, delay_to, come_of, events_of, holds}
+use Rattle.wb_host.specs.Hearing.{marks_heard, has_room, asks_for_held, answers_to}
+use Rattle.wb_host.specs.Missing.{wanted_of as names_wanted}
+use Rattle.wb_host.specs.Sessions.{message_of}
 use Rattle.wb_host.specs.Ticks.{sends_for, stopped_after}
 use Rattle.wb_script.specs.declared.fault.LineFault.{LineFault}
 use Rattle.wb_script.specs.declared.fault.LineFault.TheVariants as faults
@@ -26,7 +23,6 @@ use Rattle.wb_script.specs.declared.query.Query.TheVariants as queries
 use Rattle.wb_script.specs.Board.{Held}
 use Rattle.wb_script.specs.Random.{started, word_of, words_of, after_words}
 use Rattle.wb_script.specs.SentLines.{sends_text, look_line}
-use Rattle.wb_script.specs.Queries.{sorted, gaps_of, report_of, pages_of}
 use Rattle.wb_script.specs.Answers.{batch_line, answer_text}
 
 -- the number of its member, its board, the calls that its keeper accepted, the newest first, and the generator of its random words
@@ -109,19 +105,11 @@ ticked now host =
 
 -- the names that it wants of a page
 abbrev pub wanted_of : PageId → Opened → List NameValue
-wanted_of page host = wanted (timers_of constants (events host)) (length (asking (timed_names (events host)) (timers_of constants (events host)))) (names_in_gaps page (gaps_of host.board.drawops page (marks_heard host.me host.calls page)))
+wanted_of page host = names_wanted constants (events host) host.board.drawops page (marks_heard host.me host.calls page)
 
 -- It begins to miss them, with a random word for each.
 abbrev pub looked : PageId → Opened → Act
 looked page host = does (calling (Miss (present host) (wanted_of page host) (words_of host.random (length (wanted_of page host)))) (length (wanted_of page host)) host) (look_line (length (wanted_of page host)))
-
--- a page state for each page, ascending, with its report
-abbrev pub page_states : Opened → List Datagram
-page_states host = map (λ page. PageState host.me page (report_of host.board.drawops page)) (pages_of host.board.drawops)
-
--- what it sends at once for a datagram
-abbrev pub answers_to : Datagram → Opened → List Datagram
-answers_to v host = if asks_for_pages host.me v then page_states host else []
 
 -- A request draws a random word, and no other datagram does.
 abbrev pub words_for : Datagram → ℕ
@@ -142,23 +130,12 @@ word_at (PageState sender page marks) random = 0
 abbrev pub heard : Datagram → Opened → Act
 heard v host =
     if is_own host.me v || has_room (marks_heard host.me host.calls) v
-    then does (calling (Hear (present host) v (word_at v host.random) (asks_for_held host.board.drawops v)) (words_for v) host) (sends_text (answers_to v host))
+    then does (calling (Hear (present host) v (word_at v host.random) (asks_for_held host.board.drawops v)) (words_for v) host) (sends_text (answers_to host.me host.board.drawops v))
     else fails faults.TooMany
 
--- what it tells a sender that it remembers: the moment that its last session message named, and how long ago that was heard
-abbrev pub echo_to : ℕ → List KeeperCall → ℕ → ℕ → Option Echo
-echo_to me calls now source = option_map (λ h. record { source = source; sent = h.sent; held = now - h.at }) (last_heard me calls source)
-
--- an echo to each of them, ascending
-abbrev pub echoes_of : ℕ → List KeeperCall → ℕ → List Echo
-echoes_of me calls now = sorted echo_cmp (filter_map (echo_to me calls now) (senders_of me calls))
-
--- its session message of a page
-abbrev pub message_of : PageId → Opened → Datagram
-message_of page host = Session host.me (present host) page (report_of host.board.drawops page) (echoes_of host.me host.calls (present host))
-
+-- It sends its session message of a page.
 abbrev pub reported : PageId → Opened → Act
-reported page host = does (calling (Report (present host)) 0 host) (sends_text (message_of page host ∷ []))
+reported page host = does (calling (Report (present host)) 0 host) (sends_text (message_of host.me host.calls (present host) host.board.drawops page ∷ []))
 
 -- What a line does here. One that is skipped, that opens a board or that hands in an arrival does nothing here.
 abbrev pub act : Line → Opened → Act

@@ -3,15 +3,11 @@ use Rattle.std.specs.Prelude.{◌≡◌, ℕ, ◌≤◌, List, [], ◌++◌, len
 use Rattle.wb_names.specs.Values.{DrawopValue, MarkValue}
 use Rattle.wb_names.specs.History.{IsHistory}
 use Rattle.wb_names.specs.Arrivals.{history_after}
-use Rattle.wb_names.specs.Marks.{IsReport}
 use Rattle.wb_names.specs.declared.name.PageId.{PageId}
-use Rattle.wb_names.specs.declared.gap.Gap.{Gap}
 use Rattle.wb_display.specs.Display.{IsView}
-use Rattle.wb_gaps.specs.Gaps.{AreGaps}
-use Rattle.wb_gaps.specs.Pages.{ArePages}
 use Rattle.wb_script.specs.declared.query.Query.{Query}
 use Rattle.wb_script.specs.Answers.{answer_text}
-use Rattle.wb_script.specs.Queries.{view_of, gaps_of, report_of, pages_of}
+use Rattle.wb_script.specs.Queries.{view_of}
 
 -- the function gives the view of a page
 abbrev pub ViewOfPage : Type 0
@@ -20,30 +16,6 @@ ViewOfPage = (history : List DrawopValue) (page : PageId) → IsHistory history 
 -- and there is no other
 abbrev pub OnlyView : Type 0
 OnlyView = (history : List DrawopValue) (page : PageId) (shown : List DrawopValue) → IsHistory history → IsView history page shown → shown ≡ view_of history page
-
--- the function gives the missing ranges of a page, below what the page or marks know
-abbrev pub GapsOfPage : Type 0
-GapsOfPage = (history : List DrawopValue) (page : PageId) (marks : List MarkValue) → AreGaps history page marks (gaps_of history page marks)
-
--- and there are no others
-abbrev pub OnlyGaps : Type 0
-OnlyGaps = (history : List DrawopValue) (page : PageId) (marks : List MarkValue) (gaps : List Gap) → AreGaps history page marks gaps → gaps ≡ gaps_of history page marks
-
--- the function gives the report of a page; a history of at most 65,535 members has one on each
-abbrev pub ReportOfPage : Type 0
-ReportOfPage = (history : List DrawopValue) (page : PageId) → length history ≤ 65535 → IsReport history page (report_of history page)
-
--- and there is no other
-abbrev pub OnlyReport : Type 0
-OnlyReport = (history : List DrawopValue) (page : PageId) (marks : List MarkValue) → length history ≤ 65535 → IsReport history page marks → marks ≡ report_of history page
-
--- the function gives the pages of a history
-abbrev pub PagesOfHistory : Type 0
-PagesOfHistory = (history : List DrawopValue) → ArePages history (pages_of history)
-
--- and there is no other such list
-abbrev pub OnlyPages : Type 0
-OnlyPages = (history : List DrawopValue) (pages : List PageId) → ArePages history pages → pages ≡ pages_of history
 
 -- what a board can hold
 pub record IsBoardHistory (history : List DrawopValue) : Type 0 where

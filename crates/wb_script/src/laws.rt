@@ -1,7 +1,8 @@
 //! Laws of what scripts print, proved for all scripts and histories. The functions do nothing: each
 //! stands here for its clauses.
 
-ghost use Rattle.wb_script.specs.Laws.{ViewOfPage, OnlyView, GapsOfPage, OnlyGaps, ReportOfPage, OnlyReport, PagesOfHistory, OnlyPages, AnswersAreFree, BatchesAreOne, ArrivalsAreFree, PrintsAreFree};
+ghost use Rattle.wb_gaps.specs.Laws.{GapsOfPage, OnlyGaps, ReportOfPage, OnlyReport, PagesOfHistory, OnlyPages};
+ghost use Rattle.wb_script.specs.Laws.{ViewOfPage, OnlyView, AnswersAreFree, BatchesAreOne, ArrivalsAreFree, PrintsAreFree};
 ghost use Rattle.wb_script.specs.Reordering.{WorkersAreOneThread, WorkersRunAnother, EachReorderingIsOutcome};
 ghost use Rattle.wb_script.specs.Shows.{ShowsArrivals, ShowsAreFree};
 ghost use Rattle.wb_script.specs.ScriptLaws.{RefusedStays, PrintedStays, SkippedPrintsNothing, CountsAddUp, HeldStays, OneThreadIsOutcome, OneWorkerIsOneThread, OneThreadIsFree};

@@ -3,7 +3,8 @@ ghost use Rattle.std.specs.Prelude.{◌≡◌, ◌≢◌, ◌≤◌, ◌<◌, �
 ghost use Rattle.wb_feed.specs.Batches.{counts_in};
 ghost use Rattle.wb_host.specs.Keeping.{marks_at};
 ghost use Rattle.wb_display.specs.Canvas.{canvas_text, is_canvas_size};
-ghost use Rattle.wb_script.specs.Queries.{view_of, gaps_of, report_of, pages_of};
+ghost use Rattle.wb_gaps.specs.Answers.{gaps_of, report_of, pages_of};
+ghost use Rattle.wb_script.specs.Queries.{view_of};
 ghost use Rattle.wb_script.specs.Script.{IsStop};
 ghost use Rattle.wb_script.specs.Stations.{TakesAll};
 

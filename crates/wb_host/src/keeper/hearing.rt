@@ -9,7 +9,7 @@ ghost use Rattle.wb_names.specs.Faults.{first_of, fault_unless};
 ghost use Rattle.wb_gaps.specs.Merging.{source_count};
 ghost use Rattle.wb_codec.specs.declared.datagram.Datagram.TheVariants.{Session, PageState, Request};
 ghost use Rattle.wb_host.specs.Desks.{ReadsOn};
-ghost use Rattle.wb_host.specs.Hearing.{IsSent, ArePageStates, asks_for_held, hear_fault, has_room};
+ghost use Rattle.wb_host.specs.Hearing.{IsSent, ArePageStates, answers_to, asks_for_held, hear_fault, has_room};
 ghost use Rattle.wb_host.specs.Keeper.{Hear, distance_by, is_own};
 ghost use Rattle.wb_host.specs.Keeping.{Keeps, marks_at};
 ghost use Rattle.wb_host.specs.KeepFaults.{IsKeptBy};
@@ -51,6 +51,7 @@ impl Keeper {
         ensures desk { (desk.new ≡ desk.old) ⊎ ReadsOn desk.old desk.new }
         ensures end { OnOk result (ReadsOn desk.old desk.new × IsCaughtUp desk.old desk.new) }
         ensures sent { IfOk result (λ sent. IsSent self.old.me desk.new.seen datagram.now sent.items) }
+        ensures answers { IfOk result (λ sent. sent.items ≡ answers_to self.old.me desk.new.seen datagram.now) }
         ensures ok { OnOk result (Keeps (Hear now datagram.now word (asks_for_held desk.new.seen datagram.now)) self.old self.new) }
         ensures err { OnErr result (self.new ≡ self.old) }
     {

@@ -10,7 +10,7 @@ ghost use Rattle.wb_host.specs.Desks.{ReadsOn};
 ghost use Rattle.wb_host.specs.Keeper.{KeeperCall, Report};
 ghost use Rattle.wb_host.specs.Keeping.{StandsFor, Keeps};
 ghost use Rattle.wb_host.specs.KeepFaults.{moment_fault, IsKeptBy};
-ghost use Rattle.wb_host.specs.Sessions.{IsSession, echoes_at};
+ghost use Rattle.wb_host.specs.Sessions.{IsSession, echoes_at, message_of};
 
 use crate::board::Board;
 use crate::desk::Desk;
@@ -39,6 +39,7 @@ impl Keeper {
         ensures desk { (desk.new ≡ desk.old) ⊎ ReadsOn desk.old desk.new }
         ensures end { OnOk result (ReadsOn desk.old desk.new × IsCaughtUp desk.old desk.new) }
         ensures message { IfOk result (λ message. (me : ℕ) (constants : Constants) (calls : List KeeperCall) → StandsFor me constants calls self.old → IsSession me calls now desk.new.seen page message) }
+        ensures value { IfOk result (λ message. (me : ℕ) (constants : Constants) (calls : List KeeperCall) → StandsFor me constants calls self.old → message ≡ message_of me calls now desk.new.seen page) }
         ensures ok { OnOk result (Keeps (Report now) self.old self.new) }
         ensures err { OnErr result (self.new ≡ self.old) }
     {

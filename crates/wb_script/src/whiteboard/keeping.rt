@@ -4,12 +4,12 @@ ghost use Rattle.wb_recovery.specs.Events.{actions_of, due_asks};
 ghost use Rattle.wb_recovery.specs.Stopping.{gots};
 ghost use Rattle.wb_recovery.specs.Values.{timers_in, names_in};
 ghost use Rattle.wb_recovery.specs.declared.tuning.Tuning.{Tuning as Constants};
-ghost use Rattle.wb_host.specs.Hearing.{IsSent, asks_for_held, hear_fault, marks_heard};
+ghost use Rattle.wb_host.specs.Hearing.{answers_to, asks_for_held, hear_fault, marks_heard};
 ghost use Rattle.wb_host.specs.Keeper.{KeeperCall, Arrive, GoOn, Hear, Report, come_of, delay_to, events_of, holds};
 ghost use Rattle.wb_host.specs.Keeping.{Keeps, StandsFor, marks_at};
 ghost use Rattle.wb_host.specs.KeepFaults.{IsKeptBy};
-ghost use Rattle.wb_host.specs.Missing.{AreWanted};
-ghost use Rattle.wb_host.specs.Sessions.{IsSession};
+ghost use Rattle.wb_host.specs.Missing.{wanted_of};
+ghost use Rattle.wb_host.specs.Sessions.{message_of};
 ghost use Rattle.wb_host.specs.Ticks.{sends_for, stopped_in};
 
 use crate::whiteboard::Whiteboard;
@@ -60,7 +60,7 @@ impl Whiteboard {
         page: PageId,
     ) -> Result<Vec<Name>, AllocError>
         ensures same { self.new ≡ self.old }
-        ensures wanted { IfOk result (λ names. (me : ℕ) (constants : Constants) (calls : List KeeperCall) → StandsFor me constants calls keeper.now → AreWanted constants (events_of me calls) self.old.drawops page (marks_heard me calls page) names.items) }
+        ensures wanted { IfOk result (λ names. (me : ℕ) (constants : Constants) (calls : List KeeperCall) → StandsFor me constants calls keeper.now → names.items ≡ wanted_of constants (events_of me calls) self.old.drawops page (marks_heard me calls page)) }
     {
         match keeper.missing(alloc, &self.board, &mut self.desk, page) {
             Ok(names) => Ok(names),
@@ -80,11 +80,10 @@ impl Whiteboard {
     ) -> Result<Vec<Datagram>, KeepFault>
         ensures same { self.new ≡ self.old }
         ensures fault { IsKeptBy (hear_fault keeper.old.me keeper.old.moment (marks_at keeper.old.marks) keeper.old.moment datagram.now) result }
-        ensures sent { IfOk result (λ sent. IsSent keeper.old.me self.old.drawops datagram.now sent.items) }
+        ensures sent { IfOk result (λ sent. sent.items ≡ answers_to keeper.old.me self.old.drawops datagram.now) }
         ensures ok { OnOk result (Keeps (Hear keeper.old.moment datagram.now word (asks_for_held self.old.drawops datagram.now)) keeper.old keeper.new) }
         ensures err { OnErr result (keeper.new ≡ keeper.old) }
         ensures range { keeper.old.moment < 2 ^ 48 }
-        ensures few { length self.old.drawops ≤ 65535 }
     {
         let now = keeper.moment();
         keeper.hear(alloc, &self.board, &mut self.desk, now, datagram, word)
@@ -98,9 +97,8 @@ impl Whiteboard {
         page: PageId,
     ) -> Result<Datagram, AllocError>
         ensures same { self.new ≡ self.old }
-        ensures message { IfOk result (λ message. (me : ℕ) (constants : Constants) (calls : List KeeperCall) → StandsFor me constants calls keeper.old → IsSession me calls keeper.old.moment self.old.drawops page message) }
+        ensures message { IfOk result (λ message. (me : ℕ) (constants : Constants) (calls : List KeeperCall) → StandsFor me constants calls keeper.old → message ≡ message_of me calls keeper.old.moment self.old.drawops page) }
         ensures ok { OnOk result (Keeps (Report keeper.old.moment) keeper.old keeper.new) }
-        ensures few { length self.old.drawops ≤ 65535 }
     {
         let now = keeper.moment();
         match keeper.session(alloc, &self.board, &mut self.desk, now, page) {

@@ -8,6 +8,7 @@ use Rattle.wb_recovery.specs.Values.{timers_in}
 use Rattle.wb_host.specs.Keeper.{events_of}
 use Rattle.wb_host.specs.Keeping.{KeeperValue}
 use Rattle.wb_host.specs.Missing.{is_unasked, names_in_gaps}
+use Rattle.wb_host.proofs.KeeperAnswers.{only_wanted}
 use Rattle.wb_host.proofs.WantedNames.{gaps_start, wanted_as}
 use Rattle.wb_host.proofs.keeper.Keeper.missing.Goals as goal
 
@@ -27,3 +28,6 @@ returns-clause-wanted c = λ me constants calls s.
       wanted_as c.self.inside.recovery constants events c.asks.result c.saturating_sub-room.result c.args.page c.as_slice.result.now gaps _ stands (c.asks.ensures.events constants events stands) c.saturating_sub-room.ensures c.as_slice.ensures.value
           (c.in_ok-unasked.ensures ∙ ap (λ (v : KeeperValue). take c.saturating_sub-room.result (filter (is_unasked (timers_in v.recovery)) (names_in_gaps c.args.page c.as_slice.result.now))) (sym c.self.view_is)),
     )
+
+pub returns-clause-value : goal.returns-clause-value
+returns-clause-value c = λ me constants calls s. only_wanted constants (events_of me calls) _ c.args.page _ _ (returns-clause-wanted c me constants calls s)

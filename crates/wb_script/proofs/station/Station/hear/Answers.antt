@@ -27,7 +27,7 @@ returns-clause-text c =
         λ host at.
             let there = subst (λ (k : KeeperValue). IsOpenAt (station c.self.inside.board k g) host) (sym keeper) (subst (λ (b : Held). IsOpenAt (station b c.args.self.now.keeper g) host) (sym board) at) in
             subst (λ (b : Held). DoesAct {U = Unit {0}} c.args.number host (station b c.hear.new.keeper c.self.inside.words) (sends_text w.deref.result.now) (Ok tt) (heard c.args.datagram.now host)) (sym c.hear.ensures.same)
-            (hear_done w.in-Ok.sent c.args.number c.self.inside.board c.self.inside.keeper c.hear.new.keeper g c.self.inside.words host c.args.datagram.now c.word_for-word.result w.in-Ok.sent.items (sends_text w.deref.result.now) there c.hear.ensures.range c.hear.ensures.few
+            (hear_done w.in-Ok.sent c.args.number c.self.inside.board c.self.inside.keeper c.hear.new.keeper g c.self.inside.words host c.args.datagram.now c.word_for-word.result w.in-Ok.sent.items (sends_text w.deref.result.now) there c.hear.ensures.range
             w.in-Ok.ensures.fault c.word_for-word.ensures.word words w.in-Ok.ensures.sent w.in-Ok.ensures.ok (ap sends_text w.deref.ensures.value)),
       )
       | in-Err-TooMany w ↦ rw (w.output-is, w.result-is) (

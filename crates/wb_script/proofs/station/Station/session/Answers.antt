@@ -27,5 +27,5 @@ returns-clause-text c =
       λ host at number.
           let there = subst (λ (v : StationValue). IsOpenAt v host) (sym c.self.view_is) at in
           subst (λ (b : Held). DoesAct {U = Unit {0}} number host (station b c.session.new.keeper c.self.inside.words) (sends_text (message ∷ [])) (Ok tt) (reported c.args.page host)) (sym c.session.ensures.same)
-          (session_done number c.self.inside.board c.self.inside.keeper c.session.new.keeper c.self.inside.words host c.args.page message (sends_text (message ∷ [])) there c.session.ensures.few (c.in_ok-session.ensures.message host.me constants host.calls there.keeper) c.in_ok-session.ensures.ok refl),
+          (session_done number c.self.inside.board c.self.inside.keeper c.session.new.keeper c.self.inside.words host c.args.page message (sends_text (message ∷ [])) there (c.in_ok-session.ensures.message host.me constants host.calls there.keeper) c.in_ok-session.ensures.ok refl),
     )

@@ -1,6 +1,4 @@
-use Rattle.std.proofs.Common.{subst, length, ◌≤◌}
-use Rattle.wb_script.specs.Board.{Held}
-use Rattle.wb_script.proofs.Boards.{owns_still, same_still, seen_still, few_seen}
+use Rattle.wb_script.proofs.Boards.{owns_still, same_still, seen_still}
 use Rattle.wb_script.proofs.whiteboard.Whiteboard.hear.Goals as goal
 
 pub invariant_of-self : goal.invariant_of-self
@@ -10,10 +8,7 @@ pub returns-clause-same : goal.returns-clause-same
 returns-clause-same c = same_still c.self.inside.board c.self.inside.desk c.hear.new.desk c.args.self.now c.self.view_is c.self.invariant c.hear.ensures.desk
 
 pub returns-clause-sent : goal.returns-clause-sent
-returns-clause-sent c = let seen = seen_still c.self.inside.board c.self.inside.desk c.hear.new.desk c.args.self.now c.self.view_is c.self.invariant c.hear.ensures.desk in rw seen at c.hear.ensures.sent
+returns-clause-sent c = let seen = seen_still c.self.inside.board c.self.inside.desk c.hear.new.desk c.args.self.now c.self.view_is c.self.invariant c.hear.ensures.desk in rw seen at c.hear.ensures.answers
 
 pub returns-clause-ok : goal.returns-clause-ok
 returns-clause-ok c = let seen = seen_still c.self.inside.board c.self.inside.desk c.hear.new.desk c.args.self.now c.self.view_is c.self.invariant c.hear.ensures.desk in rw (seen, c.moment-now.ensures.moment) at c.hear.ensures.ok
-
-pub returns-clause-few : goal.returns-clause-few
-returns-clause-few c = subst (λ (h : Held). length h.drawops ≤ 65535) c.self.view_is (few_seen c.self.inside.desk c.self.invariant.sound)

@@ -5,6 +5,6 @@ use Rattle.wb_script.proofs.whiteboard.Whiteboard.missing.Goals as goal
 
 pub returns-clause-wanted : goal.returns-clause-wanted
 returns-clause-wanted c = let seen = seen_still c.self.inside.board c.self.inside.desk c.missing.new.desk c.args.self.now c.self.view_is c.self.invariant (inr c.missing.ensures.desk) in elim c.match-missing.branch [
-  | in-Ok w ↦ rw w.result-is (rw seen at w.in-Ok.ensures.wanted)
+  | in-Ok w ↦ rw w.result-is (rw seen at w.in-Ok.ensures.value)
   | in-Err-Memory w ↦ rw w.result-is tt
 ]

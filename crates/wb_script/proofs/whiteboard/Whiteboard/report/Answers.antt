@@ -1,7 +1,7 @@
 use Rattle.std.proofs.Common.{◌≡◌, List}
 use Rattle.wb_names.specs.Values.{MarkValue}
 use Rattle.wb_host.specs.Board.{IsAnswer, AskReport, Marks}
-use Rattle.wb_script.specs.Queries.{report_of}
+use Rattle.wb_gaps.specs.Answers.{report_of}
 use Rattle.wb_script.proofs.Boards.{report_here, if_ok}
 use Rattle.wb_script.proofs.whiteboard.Whiteboard.report.Goals as goal
 

@@ -1,6 +1,4 @@
-use Rattle.std.proofs.Common.{subst, length, ◌≤◌}
-use Rattle.wb_script.specs.Board.{Held}
-use Rattle.wb_script.proofs.Boards.{owns_still, same_still, seen_still, few_seen}
+use Rattle.wb_script.proofs.Boards.{owns_still, same_still, seen_still}
 use Rattle.wb_script.proofs.whiteboard.Whiteboard.session.Goals.{in-Ok, in-Err-Memory}
 use Rattle.wb_script.proofs.whiteboard.Whiteboard.session.Goals as goal
 
@@ -12,7 +10,7 @@ returns-clause-same c = same_still c.self.inside.board c.self.inside.desk c.sess
 
 pub returns-clause-message : goal.returns-clause-message
 returns-clause-message c = let seen = seen_still c.self.inside.board c.self.inside.desk c.session.new.desk c.args.self.now c.self.view_is c.self.invariant c.session.ensures.desk in elim c.match-session.branch [
-  | in-Ok w ↦ rw w.result-is (rw (seen, c.moment-now.ensures.moment) at w.in-Ok.ensures.message)
+  | in-Ok w ↦ rw w.result-is (rw (seen, c.moment-now.ensures.moment) at w.in-Ok.ensures.value)
   | in-Err-Memory w ↦ rw w.result-is tt
 ]
 
@@ -21,6 +19,3 @@ returns-clause-ok c = elim c.match-session.branch [
   | in-Ok w ↦ rw w.result-is (rw c.moment-now.ensures.moment at w.in-Ok.ensures.ok)
   | in-Err-Memory w ↦ rw w.result-is tt
 ]
-
-pub returns-clause-few : goal.returns-clause-few
-returns-clause-few c = subst (λ (h : Held). length h.drawops ≤ 65535) c.self.view_is (few_seen c.self.inside.desk c.self.invariant.sound)

@@ -11,7 +11,7 @@ use Rattle.std.proofs.lemmas.List.Elements.{Contains-get_or, recursion_from_All}
 use Rattle.std.proofs.lemmas.Map.Keys.{sorted_tail}
 use Rattle.wb_names.specs.Listing.{Lists}
 use Rattle.wb_names.proofs.Listings.{Contains-here, Contains-there, Contains-cases, Contains-none, below_all}
-use Rattle.wb_script.specs.Queries.{inserted, sorted}
+use Rattle.wb_gaps.specs.Sorting.{inserted, sorted}
 
 module _ {X : Type 0} (R : X → X → Ordering) where
   rise_none : IsStrictlySortedBy R []

@@ -9,21 +9,20 @@ use Rattle.std.proofs.lemmas.List.Elements.{All-cons, All-head, All-tail, All-we
 use Rattle.std.proofs.lemmas.List.Kept.{AllPairs-cons, AllPairs-from_increasing}
 use Rattle.std.proofs.lemmas.Map.Keys.{sorted_tail, IsStrictlyIncreasing-from_sorted}
 use Rattle.wb_names.specs.Values.{DrawopValue, MarkValue}
-use Rattle.wb_names.specs.History.{IsHeld, name_of, highest}
+use Rattle.wb_names.specs.History.{IsHeld, highest}
 use Rattle.wb_names.specs.Marks.{mark_of, known}
 use Rattle.wb_names.specs.declared.name.PageId.{PageId}
 use Rattle.wb_names.specs.declared.gap.Gap.{Gap}
 use Rattle.wb_names.proofs.Listings.{Contains-here, Contains-there, Contains-cases, Contains-none}
 use Rattle.wb_names.proofs.Orders.{and_both, nat_ties}
+use Rattle.wb_gaps.specs.Answers.{sources_of, onto_gaps, missing_before, missing_of, known_sources, is_held, gaps_of}
 use Rattle.wb_gaps.specs.Gaps.{Covers, IsApart}
+use Rattle.wb_gaps.specs.Laws.{GapsOfPage, OnlyGaps}
+use Rattle.wb_gaps.proofs.HeldNames.{held-from, held-not}
 use Rattle.wb_gaps.proofs.OneGaps.{one_gaps}
 use Rattle.wb_gaps.proofs.Reports.{greatest_held}
-use Rattle.wb_host.specs.Keeper.{holds}
-use Rattle.wb_host.proofs.KeptCalls.{holds_from, holds_not}
-use Rattle.wb_script.specs.Queries.{sources_of, onto_gaps, missing_before, missing_of, known_sources, gaps_of}
-use Rattle.wb_script.specs.Laws.{GapsOfPage, OnlyGaps}
-use Rattle.wb_script.proofs.Queries.{has_source}
-use Rattle.wb_script.proofs.Sorting.{sorted_rises, Contains-sorted}
+use Rattle.wb_gaps.proofs.PageAnswers.{has_source}
+use Rattle.wb_gaps.proofs.Sorting.{sorted_rises, Contains-sorted}
 
 -- a range of a later source, or one of this source from this number on
 abbrev Later : ℕ → ℕ → Gap → Type 0
@@ -292,14 +291,13 @@ has_known history page marks s n low below =
 pub gaps_of_page : GapsOfPage
 unfolding gaps_of
 gaps_of_page history page marks =
-    let held : ℕ → ℕ → Bool = λ source n. holds history (name_of page source n) in
-    let r = sources_ranges held (known history page marks) (known_sources history page marks) (sorted_rises nat_cmp_total (sources_of history page ++ map (λ (m : MarkValue). m.source) marks)) in
+    let r = sources_ranges (is_held history page) (known history page marks) (known_sources history page marks) (sorted_rises nat_cmp_total (sources_of history page ++ map (λ (m : MarkValue). m.source) marks)) in
     record {
       filled = r.filled;
       apart = r.apart;
       missing = λ s n. (
-        λ c. let lacks = (r.covers s n).0 c in record { counted = lacks.1; below = lacks.2; not_held = λ h. true≢false (sym (holds_from history (name_of page s n) h.1 (h.0, h.2, h.3) h.4) ∙ lacks.3) },
-        λ m. (r.covers s n).1 (has_known history page marks s n m.counted m.below, m.counted, m.below, holds_not history (name_of page s n) m.not_held),
+        λ c. let lacks = (r.covers s n).0 c in record { counted = lacks.1; below = lacks.2; not_held = λ h. true≢false (sym (held-from history page s n h) ∙ lacks.3) },
+        λ m. (r.covers s n).1 (has_known history page marks s n m.counted m.below, m.counted, m.below, held-not history page s n m.not_held),
       );
     }
 
