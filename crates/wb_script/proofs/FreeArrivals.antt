@@ -25,7 +25,7 @@ batches_are_one cells held [] more = refl
 batches_are_one cells held (d ∷ some) more = batches_are_one cells (history_with held d (outcome_of cells held d)) some more
 
 -- each member of the one is a member of the other
-abbrev Among : List DrawopValue → List DrawopValue → Type 0
+abbrev pub Among : List DrawopValue → List DrawopValue → Type 0
 Among xs ys = (x : DrawopValue) → Contains xs x → Contains ys x
 
 -- ---- two histories with the same members
@@ -46,7 +46,7 @@ gone a x bs k lt is h (i, within, at) same =
     (λ (above : k ≤ i). h k (i + 1) x (omega arith) (omega arith) (ap (λ (d : DrawopValue). d.name) (here ∙ sym at ∙ get_or-remove_above bs k x i above lt)))
     (cases_lt i k)
 
-same_members : (ms bs : List DrawopValue) → IsHistory ms → IsHistory bs → Among ms bs → Among bs ms → IsPermutation ms bs
+pub same_members : (ms bs : List DrawopValue) → IsHistory ms → IsHistory bs → Among ms bs → Among bs ms → IsPermutation ms bs
 same_members [] [] ha hb up down = IsPermutation-refl []
 same_members [] (b ∷ bs) ha hb up down = absurd (Contains-none b (down b (Contains-here b bs)))
 same_members (a ∷ ms) bs ha hb up down =
@@ -62,7 +62,7 @@ same_members (a ∷ ms) bs ha hb up down =
 -- ---- one arrival
 
 -- a member has the name, or none has
-found : (h : List DrawopValue) (n : NameValue) → HoldsName h n ⊎ (HoldsName h n → ⊥)
+pub found : (h : List DrawopValue) (n : NameValue) → HoldsName h n ⊎ (HoldsName h n → ⊥)
 found [] n = inr (λ a. let lt = a.2 in omega arith)
 found (x ∷ h) n = from (same_name x.name n) refl (found h n) where
   from : (b : Bool) → same_name x.name n ≡ b → HoldsName h n ⊎ (HoldsName h n → ⊥) → HoldsName (x ∷ h) n ⊎ (HoldsName (x ∷ h) n → ⊥)
@@ -73,46 +73,59 @@ found (x ∷ h) n = from (same_name x.name n) refl (found h n) where
       (λ (c : Contains h a.1). none (c.0, a.1, c.1, c.2, a.4))
       (Contains-cases x a.1 h (a.0, a.2, a.3)))
 
-record Stepped (h : List DrawopValue) (d : DrawopValue) (after : List DrawopValue) : Type 0 where
-  once : IsHistory after
-  from : (x : DrawopValue) → Contains after x → Contains h x ⊎ (d ≡ x)
-  stays : Among h after
-  has : Contains after d
+pub record Stepped (h : List DrawopValue) (d : DrawopValue) (after : List DrawopValue) : Type 0 where
+  pub once : IsHistory after
+  pub from : (x : DrawopValue) → Contains after x → Contains h x ⊎ (d ≡ x)
+  pub stays : Among h after
+  pub has : Contains after d
+
+-- what is held then is among what both came from
+pub stepped_within : (all h : List DrawopValue) (d : DrawopValue) (after : List DrawopValue) → Stepped h d after → Among h all → Contains all d → Among after all
+stepped_within all h d after s within here = λ x c. ⊎_elim (λ (a : Contains h x). within x a) (λ (e : d ≡ x). subst (Contains all) e here) (s.from x c)
 
 module _ (cells : ℕ) (all : List DrawopValue) (clash : NoneClash all) (room : HasCells cells all) where
+  -- a name that is held is known again, and another is fresh
+  pub known_again : (h : List DrawopValue) (d : DrawopValue) → Among h all → Contains all d → (held : HoldsName h d.name) → IsTaken cells h d (Known held.0)
+  known_again h d within here held =
+      let same : held.1 ≡ d = clash held.1 d (within held.1 (held.0, held.2, held.3)) here held.4 in
+      slice_get-get_or h held.0 held.1 held.2 ∙ ap (λ (w : DrawopValue). Some w) (held.3 ∙ same)
+
+  longer : (h : List DrawopValue) (d : DrawopValue) → IsHistory h → (HoldsName h d.name → ⊥) → IsHistory (h ++ d ∷ [])
+  longer h d once absent = history_with-is (length h + 1) h d (Fresh (length h)) once ((refl, absent), omega arith)
+
+  pub fresh_at_end : (h : List DrawopValue) (d : DrawopValue) → IsHistory h → Among h all → Contains all d → (HoldsName h d.name → ⊥) → IsTaken cells h d (Fresh (length h))
+  fresh_at_end h d once within here absent =
+      let fits = room (h ++ d ∷ []) (longer h d once absent) (λ x c. ⊎_elim (λ (a : Contains h x). within x a) (λ (e : d ≡ x). subst (Contains all) e here) (Contains-push_cases h d x c)) in
+      let long : length (h ++ d ∷ []) ≡ length h + 1 = length-append h (d ∷ []) in
+      ((refl, absent), omega (arith, fits, long))
+
   known_step : (h : List DrawopValue) (d : DrawopValue) → IsHistory h → Among h all → Contains all d → HoldsName h d.name → Stepped h d (history_with h d (outcome_of cells h d))
   known_step h d once within here held =
       let same : held.1 ≡ d = clash held.1 d (within held.1 (held.0, held.2, held.3)) here held.4 in
-      let taken : IsTaken cells h d (Known held.0) = slice_get-get_or h held.0 held.1 held.2 ∙ ap (λ (w : DrawopValue). Some w) (held.3 ∙ same) in
-      subst (λ (o : Outcome). Stepped h d (history_with h d o)) (outcome_is cells h d (Known held.0) once taken)
+      subst (λ (o : Outcome). Stepped h d (history_with h d o)) (outcome_is cells h d (Known held.0) once (known_again h d within here held))
       (record { once = once; from = λ x c. inl c; stays = λ x c. c; has = subst (Contains h) same (held.0, held.2, held.3) })
 
   fresh_step : (h : List DrawopValue) (d : DrawopValue) → IsHistory h → Among h all → Contains all d → (HoldsName h d.name → ⊥) → Stepped h d (history_with h d (outcome_of cells h d))
   fresh_step h d once within here absent =
-      let longer : IsHistory (h ++ d ∷ []) = history_with-is (length h + 1) h d (Fresh (length h)) once ((refl, absent), omega arith) in
-      let fits = room (h ++ d ∷ []) longer (λ x c. ⊎_elim (λ (a : Contains h x). within x a) (λ (e : d ≡ x). subst (Contains all) e here) (Contains-push_cases h d x c)) in
-      let long : length (h ++ d ∷ []) ≡ length h + 1 = length-append h (d ∷ []) in
-      let taken : IsTaken cells h d (Fresh (length h)) = ((refl, absent), omega (arith, fits, long)) in
-      subst (λ (o : Outcome). Stepped h d (history_with h d o)) (outcome_is cells h d (Fresh (length h)) once taken)
-      (record { once = longer; from = λ x c. Contains-push_cases h d x c; stays = λ x c. Contains-append_left h (d ∷ []) x c; has = Contains-push h d })
+      subst (λ (o : Outcome). Stepped h d (history_with h d o)) (outcome_is cells h d (Fresh (length h)) once (fresh_at_end h d once within here absent))
+      (record { once = longer h d once absent; from = λ x c. Contains-push_cases h d x c; stays = λ x c. Contains-append_left h (d ∷ []) x c; has = Contains-push h d })
 
-  step : (h : List DrawopValue) (d : DrawopValue) → IsHistory h → Among h all → Contains all d → Stepped h d (history_with h d (outcome_of cells h d))
+  pub step : (h : List DrawopValue) (d : DrawopValue) → IsHistory h → Among h all → Contains all d → Stepped h d (history_with h d (outcome_of cells h d))
   step h d once within here = ⊎_elim (λ (held : HoldsName h d.name). known_step h d once within here held) (λ (absent : HoldsName h d.name → ⊥). fresh_step h d once within here absent) (found h d.name)
 
-  record Walked (h ds after : List DrawopValue) : Type 0 where
-    once : IsHistory after
-    from : (x : DrawopValue) → Contains after x → Contains h x ⊎ Contains ds x
-    stays : Among h after
-    has : Among ds after
+  pub record Walked (h ds after : List DrawopValue) : Type 0 where
+    pub once : IsHistory after
+    pub from : (x : DrawopValue) → Contains after x → Contains h x ⊎ Contains ds x
+    pub stays : Among h after
+    pub has : Among ds after
 
-  walk : (h ds : List DrawopValue) → IsHistory h → Among h all → Among ds all → Walked h ds (history_after cells h ds)
+  pub walk : (h ds : List DrawopValue) → IsHistory h → Among h all → Among ds all → Walked h ds (history_after cells h ds)
   walk h [] once within here = record { once = once; from = λ x c. inl c; stays = λ x c. c; has = λ x c. absurd (Contains-none x c) }
   walk h (d ∷ ds) once within here =
       let at = here d (Contains-here d ds) in
       let s = step h d once within at in
       let h' : List DrawopValue = history_with h d (outcome_of cells h d) in
-      let inside : Among h' all = λ x c. ⊎_elim (λ (a : Contains h x). within x a) (λ (e : d ≡ x). subst (Contains all) e at) (s.from x c) in
-      let rest = walk h' ds s.once inside (λ x c. here x (Contains-there d x ds c)) in
+      let rest = walk h' ds s.once (stepped_within all h d h' s within at) (λ x c. here x (Contains-there d x ds c)) in
       record {
         once = rest.once;
         from = λ x c. ⊎_elim
@@ -123,7 +136,7 @@ module _ (cells : ℕ) (all : List DrawopValue) (clash : NoneClash all) (room : 
         has = λ x c. ⊎_elim (λ (e : d ≡ x). rest.stays x (subst (Contains h') e s.has)) (λ (b : Contains ds x). rest.has x b) (Contains-cases d x ds c);
       }
 
-no_history : IsHistory []
+pub no_history : IsHistory []
 no_history i j d ij lt = absurd (omega arith)
 
 from_arrivals : (ds : List DrawopValue) (x : DrawopValue) → Contains [] x ⊎ Contains ds x → Contains ds x

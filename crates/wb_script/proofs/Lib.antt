@@ -29,6 +29,11 @@ pub mod ReorderedLines
 pub mod Reordered
 pub mod ReorderedScripts
 pub mod EachReordering
+pub mod AlikeHistories
+pub mod AlikeActs
+pub mod AlikeBatches
+pub mod AlikeLines
+pub mod AlikeOutcomes
 pub mod DrawnWords
 pub mod SpelledBytes
 pub mod SentDigits

@@ -16,6 +16,7 @@ pub mod Laws
 pub mod ScriptLaws
 pub mod Shows
 pub mod Reordering
+pub mod FreeWorkers
 pub mod Checking
 pub use Rattle.wb_names.specs.Values
 pub use Rattle.wb_names.specs.History

@@ -6,6 +6,7 @@ ghost use Rattle.wb_script.specs.Laws.{ViewOfPage, OnlyView, AnswersAreFree, Bat
 ghost use Rattle.wb_script.specs.Reordering.{WorkersAreOneThread, WorkersRunAnother, EachReorderingIsOutcome};
 ghost use Rattle.wb_script.specs.Shows.{ShowsArrivals, ShowsAreFree};
 ghost use Rattle.wb_script.specs.ScriptLaws.{RefusedStays, PrintedStays, SkippedPrintsNothing, CountsAddUp, HeldStays, OneThreadIsOutcome, OneWorkerIsOneThread, OneThreadIsFree};
+ghost use Rattle.wb_script.specs.FreeWorkers.{OrdersAreFree, WorkersAreFree};
 
 /// What is printed is the view of a page, its missing ranges, its report, and the list of pages.
 pub fn queries_are_answered()
@@ -80,4 +81,11 @@ pub fn workers_are_one_thread()
     ensures lines { WorkersAreOneThread }
     ensures scripts { WorkersRunAnother }
     ensures each { EachReorderingIsOutcome }
+{}
+
+/// Where no arrivals clash and the board has a cell for each of their names, a script has one outcome,
+/// whatever the number of workers and in whatever order they take each batch: what one thread prints.
+pub fn workers_are_free()
+    ensures orders { OrdersAreFree }
+    ensures workers { WorkersAreFree }
 {}

@@ -1,0 +1,174 @@
+-- Two states that differ in the order of what is held, at most: each line prints the same there, whatever the order of the batch that it ends.
+use Rattle.std.proofs.Common.{◌≡◌, ℕ, List, [], ◌∷◌, ◌++◌, Result, Ok, Err, refl, sym, ap, subst, ◌∙◌, ⊎_elim}
+use Rattle.std.specs.Prelude.{Option, Some, None, Contains, IsPermutation}
+use Rattle.std.proofs.lemmas.List.Elements.{Contains-push_cases}
+use Rattle.std.proofs.lemmas.List.Sorted.{IsPermutation-refl, length_permutation}
+use Rattle.wb_names.specs.Values.{DrawopValue}
+use Rattle.wb_names.specs.Arrivals.{history_after}
+use Rattle.wb_names.proofs.Listings.{Contains-here, Contains-none}
+use Rattle.wb_script.specs.declared.fault.LineFault.{LineFault}
+use Rattle.wb_script.specs.declared.fault.RunFault.{RunFault}
+use Rattle.wb_script.specs.declared.summary.Summary.{Summary}
+use Rattle.wb_script.specs.declared.line.Line.{Line}
+use Rattle.wb_script.specs.declared.line.Line.TheVariants.{Skip, Board, Arrive, Hear, Distance, Tick, Look, Session, Show, Gaps, Report, Pages}
+use Rattle.wb_script.specs.Board.{Held}
+use Rattle.wb_script.specs.Hosts.{Opened, opened, host_after, batch_text, Act, does, fails, act}
+use Rattle.wb_script.specs.Laws.{NoneClash, HasCells}
+use Rattle.wb_script.specs.Script.{State, closing_text, after_batch, Step, goes, refused, step_by, acts, said_step, prints, answer, finish}
+use Rattle.wb_script.specs.Shows.{arrived_by, cells_by}
+use Rattle.wb_script.proofs.AlikeActs.{holding, DoAlike, act_alike}
+use Rattle.wb_script.proofs.AlikeBatches.{after_alike, after_within, host_after_alike, batch_text_alike}
+use Rattle.wb_script.proofs.AlikeHistories.{AreAlike}
+use Rattle.wb_script.proofs.FreeArrivals.{Among, no_history}
+
+abbrev pub state : Option ℕ → Option Opened → List DrawopValue → State
+state k host waiting = record { host = host; workers = k; waiting = waiting }
+
+pub none_among : (all : List DrawopValue) → Among [] all
+none_among all x c = absurd (Contains-none x c)
+
+-- They differ in the order of what is held, at most. The board has so many cells, and what it holds is among these arrivals.
+pub record HostsAlike (cells : ℕ) (all : List DrawopValue) (one other : Opened) : Type 0 where
+  pub same : other ≡ holding one other.board.drawops
+  pub held : AreAlike one.board.drawops other.board.drawops
+  pub cells_are : one.board.cells ≡ cells
+  pub within : Among one.board.drawops all
+
+abbrev pub MayBeAlike : ℕ → List DrawopValue → Option Opened → Option Opened → Type 0
+MayBeAlike cells all None None = Unit {0}
+MayBeAlike cells all (Some one) (Some other) = HostsAlike cells all one other
+MayBeAlike cells all None (Some other) = ⊥
+MayBeAlike cells all (Some one) None = ⊥
+
+-- the board is open, or the lines that follow open it
+abbrev pub Opens : ℕ → Option Opened → ℕ → Type 0
+Opens cells None later = later ≡ cells
+Opens cells (Some host) later = Unit {0}
+
+-- the same but for the order of what is held, and for the number of workers
+pub record StatesAlike (cells : ℕ) (all : List DrawopValue) (s t : State) : Type 0 where
+  pub hosts : MayBeAlike cells all s.host t.host
+  pub waiting : s.waiting ≡ t.waiting
+  pub within : Among s.waiting all
+
+abbrev pub StepsAlike : ℕ → List DrawopValue → ℕ → Step → Step → Type 0
+StepsAlike cells all later (goes s text) (goes t text') = StatesAlike cells all s t × Opens cells s.host later × (text ≡ text')
+StepsAlike cells all later (refused s text e) (refused t text' e') = StatesAlike cells all s t × (text ≡ text') × (e ≡ e')
+StepsAlike cells all later (goes s text) (refused t text' e) = ⊥
+StepsAlike cells all later (refused s text e) (goes t text') = ⊥
+
+-- ---- a line at a host
+
+module _ (cells : ℕ) (all : List DrawopValue) (clash : NoneClash all) (room : HasCells cells all) where
+  -- by what is held in the one
+  hosts_alike : (one other : Opened) (drawops : List DrawopValue) → other ≡ holding one drawops → AreAlike one.board.drawops drawops → one.board.cells ≡ cells → Among one.board.drawops all → HostsAlike cells all one other
+  hosts_alike one other drawops same held is within = subst (HostsAlike cells all one) (sym same) (record { same = refl; held = held; cells_are = is; within = within })
+
+  act_done : (later : ℕ) (k j : Option ℕ) (text text' : List ℕ) (one other : Opened) (a b : Act) → HostsAlike cells all one other → text ≡ text' → DoAlike one other.board.drawops a b → StepsAlike cells all later (step_by k text a one) (step_by j text' b other)
+  act_done later k j text text' one other (does next printed) (does next' printed') h same d = (
+    record {
+      hosts = hosts_alike next next' other.board.drawops d.1 (subst (λ (b : Held). AreAlike b.drawops other.board.drawops) (sym d.0) h.held) (ap (λ (b : Held). b.cells) d.0 ∙ h.cells_are) (subst (λ (b : Held). Among b.drawops all) (sym d.0) h.within);
+      waiting = refl;
+      within = none_among all;
+    },
+    tt,
+    ap (λ (t : List ℕ). t ++ printed) same ∙ ap (λ (t : List ℕ). text' ++ t) d.2,
+  )
+  act_done later k j text text' one other (fails e) (fails e') h same d = (record { hosts = h; waiting = refl; within = none_among all }, same, d)
+  act_done later k j text text' one other (does next printed) (fails e) h same d = absurd d
+  act_done later k j text text' one other (fails e) (does next printed) h same d = absurd d
+
+  line_done : (later : ℕ) (k j : Option ℕ) (text text' : List ℕ) (line : Line) (one other : Opened) → HostsAlike cells all one other → text ≡ text' → StepsAlike cells all later (step_by k text (act line one) one) (step_by j text' (act line other) other)
+  line_done later k j text text' line one other h same =
+      act_done later k j text text' one other (act line one) (act line other) h same
+      (subst (λ (o : Opened). DoAlike one other.board.drawops (act line one) (act line o)) (sym h.same) (act_alike line one other.board.drawops h.held))
+
+  -- ---- the end of a batch
+
+  -- the board that is open has cells for all
+  room_at : (host : Opened) → host.board.cells ≡ cells → HasCells host.board.cells all
+  room_at host is = subst (λ (n : ℕ). HasCells n all) (sym is) room
+
+  batch_ended : (one other : Opened) (waiting order order' : List DrawopValue) → HostsAlike cells all one other → Among order all → IsPermutation order order' → HostsAlike cells all (host_after one waiting order) (host_after other waiting order')
+  batch_ended one other waiting order order' h here moved =
+      let b : Held = one.board in
+      let drawops : List DrawopValue = other.board.drawops in
+      let space = room_at one h.cells_are in
+      hosts_alike (host_after one waiting order) (host_after other waiting order') (history_after b.cells drawops order')
+      (ap (λ (o : Opened). host_after o waiting order') h.same ∙ host_after_alike all clash one space drawops h.held h.within waiting order order' here moved)
+      (after_alike b.cells all clash space b.drawops drawops order order' h.held h.within here moved) h.cells_are
+      (after_within b.cells all clash space b.drawops drawops order order' h.held h.within here moved)
+
+  same_text : (one other : Opened) (order order' : List DrawopValue) → HostsAlike cells all one other → Among order all → IsPermutation order order' → batch_text one.board order ≡ batch_text other.board order'
+  same_text one other order order' h here moved =
+      batch_text_alike all clash one (room_at one h.cells_are) other.board.drawops h.held h.within order order' here moved ∙ ap (λ (o : Opened). batch_text o.board order') (sym h.same)
+
+  -- ---- a line at a state
+
+  acts_alike : (later : ℕ) (k j : Option ℕ) (one other : Option Opened) (waiting order order' : List DrawopValue) (line : Line) → MayBeAlike cells all one other → Opens cells one later → Among order all → IsPermutation order order'
+      → StepsAlike cells all later (acts (after_batch (state k one waiting) order) (closing_text (state k one waiting) order) line) (acts (after_batch (state j other waiting) order') (closing_text (state j other waiting) order') line)
+  acts_alike later k j None None waiting order order' line h opens here moved = (record { hosts = tt; waiting = refl; within = none_among all }, refl, refl)
+  acts_alike later k j (Some one) (Some other) waiting order order' line h opens here moved =
+      line_done later k j (batch_text one.board order) (batch_text other.board order') line (host_after one waiting order) (host_after other waiting order') (batch_ended one other waiting order order' h here moved) (same_text one other order order' h here moved)
+  acts_alike later k j None (Some other) waiting order order' line h opens here moved = absurd h
+  acts_alike later k j (Some one) None waiting order order' line h opens here moved = absurd h
+
+  arrives_alike : (later : ℕ) (k j : Option ℕ) (one other : Option Opened) (waiting order order' : List DrawopValue) (d : DrawopValue) → MayBeAlike cells all one other → Among waiting all → Among (d ∷ []) all
+      → StepsAlike cells all later (said_step (state k one waiting) order (Ok (Arrive d))) (said_step (state j other waiting) order' (Ok (Arrive d)))
+  arrives_alike later k j None None waiting order order' d h within more = (record { hosts = tt; waiting = refl; within = within }, refl, refl)
+  arrives_alike later k j (Some one) (Some other) waiting order order' d h within more = (
+    record {
+      hosts = h;
+      waiting = refl;
+      within = λ x c. ⊎_elim (λ (a : Contains waiting x). within x a) (λ (e : d ≡ x). subst (Contains all) e (more d (Contains-here d []))) (Contains-push_cases waiting d x c);
+    },
+    tt,
+    refl,
+  )
+  arrives_alike later k j None (Some other) waiting order order' d h within more = absurd h
+  arrives_alike later k j (Some one) None waiting order order' d h within more = absurd h
+
+  opens_alike : (later : ℕ) (k j : Option ℕ) (one other : Option Opened) (waiting order order' : List DrawopValue) (member cells' workers seed : ℕ) → MayBeAlike cells all one other → Opens cells one cells' → Among waiting all
+      → StepsAlike cells all later (said_step (state k one waiting) order (Ok (Board member cells' workers seed))) (said_step (state j other waiting) order' (Ok (Board member cells' workers seed)))
+  opens_alike later k j None None waiting order order' member cells' workers seed h opens within = (
+    record {
+      hosts = hosts_alike (opened member cells' seed) (opened member cells' seed) [] refl (record { once = no_history; again = no_history; moved = IsPermutation-refl [] }) opens (none_among all);
+      waiting = refl;
+      within = none_among all;
+    },
+    tt,
+    refl,
+  )
+  opens_alike later k j (Some one) (Some other) waiting order order' member cells' workers seed h opens within = (record { hosts = h; waiting = refl; within = within }, refl, refl)
+  opens_alike later k j None (Some other) waiting order order' member cells' workers seed h opens within = absurd h
+  opens_alike later k j (Some one) None waiting order order' member cells' workers seed h opens within = absurd h
+
+  pub said_alike : (later : ℕ) (k j : Option ℕ) (one other : Option Opened) (waiting order order' : List DrawopValue) (said : Result Line LineFault) → MayBeAlike cells all one other → Opens cells one (cells_by said later)
+      → Among waiting all → Among (arrived_by said) all → Among order all → IsPermutation order order' → StepsAlike cells all later (said_step (state k one waiting) order said) (said_step (state j other waiting) order' said)
+  said_alike later k j one other waiting order order' (Ok Skip) h opens within more here moved = (record { hosts = h; waiting = refl; within = within }, opens, refl)
+  said_alike later k j one other waiting order order' (Ok (Arrive d)) h opens within more here moved = arrives_alike later k j one other waiting order order' d h within more
+  said_alike later k j one other waiting order order' (Ok (Board member cells' workers seed)) h opens within more here moved = opens_alike later k j one other waiting order order' member cells' workers seed h opens within
+  said_alike later k j one other waiting order order' (Ok (Hear v)) h opens within more here moved = acts_alike later k j one other waiting order order' (Hear v) h opens here moved
+  said_alike later k j one other waiting order order' (Ok (Distance source micros)) h opens within more here moved = acts_alike later k j one other waiting order order' (Distance source micros) h opens here moved
+  said_alike later k j one other waiting order order' (Ok (Tick moment)) h opens within more here moved = acts_alike later k j one other waiting order order' (Tick moment) h opens here moved
+  said_alike later k j one other waiting order order' (Ok (Look page)) h opens within more here moved = acts_alike later k j one other waiting order order' (Look page) h opens here moved
+  said_alike later k j one other waiting order order' (Ok (Session page)) h opens within more here moved = acts_alike later k j one other waiting order order' (Session page) h opens here moved
+  said_alike later k j one other waiting order order' (Ok (Show page width height)) h opens within more here moved = acts_alike later k j one other waiting order order' (Show page width height) h opens here moved
+  said_alike later k j one other waiting order order' (Ok (Gaps page)) h opens within more here moved = acts_alike later k j one other waiting order order' (Gaps page) h opens here moved
+  said_alike later k j one other waiting order order' (Ok (Report page)) h opens within more here moved = acts_alike later k j one other waiting order order' (Report page) h opens here moved
+  said_alike later k j one other waiting order order' (Ok Pages) h opens within more here moved = acts_alike later k j one other waiting order order' Pages h opens here moved
+  said_alike later k j one other waiting order order' (Err e) h opens within more here moved = (record { hosts = h; waiting = refl; within = within }, refl, refl)
+
+  -- ---- the end
+
+  pub ends_alike : (k j : Option ℕ) (one other : Option Opened) (waiting order order' : List DrawopValue) (ending : Result ℕ RunFault) → MayBeAlike cells all one other → Among order all → IsPermutation order order'
+      → finish (state k one waiting) order ending ≡ finish (state j other waiting) order' ending
+  ends_alike k j None None waiting order order' (Ok n) h here moved = refl
+  ends_alike k j None None waiting order order' (Err e) h here moved = refl
+  ends_alike k j (Some one) (Some other) waiting order order' (Err e) h here moved = ap (λ (text : List ℕ). prints text (Err e)) (same_text one other order order' h here moved)
+  ends_alike k j (Some one) (Some other) waiting order order' (Ok n) h here moved =
+      let ended : HostsAlike cells all (host_after one waiting order) (host_after other waiting order') = batch_ended one other waiting order order' h here moved in
+      ap (λ (text : List ℕ). prints text (answer (after_batch (state k (Some one) waiting) order) (Ok n))) (same_text one other order order' h here moved)
+      ∙ ap (λ (held : ℕ). let sum : Summary = record { lines = n; held = held } in prints (batch_text other.board order') (Ok sum)) (sym (length_permutation (host_after one waiting order).board.drawops (host_after other waiting order').board.drawops ended.held.moved))
+  ends_alike k j None (Some other) waiting order order' ending h here moved = absurd h
+  ends_alike k j (Some one) None waiting order order' ending h here moved = absurd h
