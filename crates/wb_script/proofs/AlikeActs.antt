@@ -2,17 +2,18 @@
 use Rattle.std.proofs.Common.{◌≡◌, ℕ, Bool, true, false, cond, List, [], ◌∷◌, length, Option, refl, sym, ap, ◌∙◌}
 use Rattle.std.specs.Prelude.{filter, map, nat_lt, ◌||◌}
 use Rattle.std.specs.List.{filter_map}
-use Rattle.std.proofs.Math.Path.{fun_ext}
 use Rattle.wb_names.specs.Values.{NameValue, DrawopValue, MarkValue}
 use Rattle.wb_names.specs.declared.name.PageId.{PageId}
 use Rattle.wb_names.specs.declared.gap.Gap.{Gap}
 use Rattle.wb_codec.specs.declared.datagram.Datagram.{Datagram}
 use Rattle.wb_codec.specs.declared.datagram.Datagram.TheVariants.{PageState, Session as SessionMessage}
+use Rattle.wb_gaps.specs.declared.page_reports.PageReport.{PageReport}
 use Rattle.wb_recovery.specs.declared.action.Action.{Action}
 use Rattle.wb_recovery.specs.Events.{asking, actions_of, timers_of, names_of as timed_names}
 use Rattle.wb_recovery.specs.Stopping.{gots}
 use Rattle.wb_host.specs.Keeper.{Hear, Miss, GoOn, is_own, delay_to, come_of}
-use Rattle.wb_host.specs.Hearing.{marks_heard, has_room, asks_for_held, asks_for_pages}
+use Rattle.wb_host.specs.Hearing.{marks_heard, has_room, asks_for_held, asks_for_pages, answers_to}
+use Rattle.wb_host.specs.Sessions.{echoes_of}
 use Rattle.wb_host.specs.Missing.{wanted, names_in_gaps}
 use Rattle.wb_host.specs.Ticks.{sends_for}
 use Rattle.wb_script.specs.declared.fault.LineFault.TheVariants as faults
@@ -20,11 +21,10 @@ use Rattle.wb_script.specs.declared.line.Line.{Line}
 use Rattle.wb_script.specs.declared.line.Line.TheVariants.{Skip, Board, Arrive, Hear as HearLine, Distance, Tick, Look, Session, Show, Gaps, Report, Pages}
 use Rattle.wb_script.specs.declared.query.Query.{Query}
 use Rattle.wb_script.specs.declared.query.Query.TheVariants as queries
-use Rattle.wb_script.specs.Hosts.{Opened, constants, present, calling, Act, does, fails, events, due_count, stopped, sent_by, ticked, wanted_of, looked, page_states, answers_to, words_for, word_at, heard, echoes_of, asked, reported, act}
-use Rattle.wb_script.specs.Queries.{report_of, pages_of}
+use Rattle.wb_script.specs.Hosts.{Opened, constants, present, calling, Act, does, fails, events, due_count, stopped, sent_by, ticked, wanted_of, looked, words_for, word_at, heard, asked, reported, act}
 use Rattle.wb_script.specs.Random.{words_of}
 use Rattle.wb_script.specs.SentLines.{sends_text, look_line}
-use Rattle.wb_script.proofs.AlikeHistories.{AreAlike, holds_alike, sent_alike, asks_alike, gaps_alike, pages_alike, report_alike, answer_alike}
+use Rattle.wb_script.proofs.AlikeHistories.{AreAlike, holds_alike, sent_alike, asks_alike, gaps_alike, report_alike, reports_alike, answer_alike}
 
 -- a host that holds these in place of what it held
 abbrev pub holding : Opened → List DrawopValue → Opened
@@ -79,19 +79,14 @@ looks_alike page host drawops a = (
 
 -- ---- what is heard
 
-states_alike : (host : Opened) (drawops : List DrawopValue) → AreAlike host.board.drawops drawops → page_states host ≡ page_states (holding host drawops)
-states_alike host drawops a =
-    ap (λ (report : PageId → List MarkValue). map (λ page. PageState host.me page (report page)) (pages_of host.board.drawops)) (fun_ext (λ page. report_alike host.board.drawops drawops page a))
-    ∙ ap (λ (pages : List PageId). map (λ page. PageState host.me page (report_of drawops page)) pages) (pages_alike host.board.drawops drawops a)
-
-answers_alike : (v : Datagram) (host : Opened) (drawops : List DrawopValue) → AreAlike host.board.drawops drawops → answers_to v host ≡ answers_to v (holding host drawops)
-answers_alike v host drawops a = ap (λ (states : List Datagram). cond (asks_for_pages host.me v) states []) (states_alike host drawops a)
+answers_alike : (v : Datagram) (host : Opened) (drawops : List DrawopValue) → AreAlike host.board.drawops drawops → answers_to host.me host.board.drawops v ≡ answers_to host.me drawops v
+answers_alike v host drawops a = ap (λ (reports : List PageReport). cond (asks_for_pages host.me v) (map (λ r. PageState host.me r.page r.marks) reports) []) (reports_alike host.board.drawops drawops a)
 
 hears_alike : (v : Datagram) (host : Opened) (drawops : List DrawopValue) → AreAlike host.board.drawops drawops → DoAlike host drawops (heard v host) (heard v (holding host drawops))
 hears_alike v host drawops a = at (is_own host.me v || has_room (marks_heard host.me host.calls) v) where
   at : (room : Bool) → DoAlike host drawops
-      (cond room (does (calling (Hear (present host) v (word_at v host.random) (asks_for_held host.board.drawops v)) (words_for v) host) (sends_text (answers_to v host))) (fails faults.TooMany))
-      (cond room (does (calling (Hear (present host) v (word_at v host.random) (asks_for_held drawops v)) (words_for v) (holding host drawops)) (sends_text (answers_to v (holding host drawops)))) (fails faults.TooMany))
+      (cond room (does (calling (Hear (present host) v (word_at v host.random) (asks_for_held host.board.drawops v)) (words_for v) host) (sends_text (answers_to host.me host.board.drawops v))) (fails faults.TooMany))
+      (cond room (does (calling (Hear (present host) v (word_at v host.random) (asks_for_held drawops v)) (words_for v) (holding host drawops)) (sends_text (answers_to host.me drawops v))) (fails faults.TooMany))
   at true = (
     refl,
     ap (λ (held : Bool). calling (Hear (present host) v (word_at v host.random) held) (words_for v) (holding host drawops)) (sym (asks_alike host.board.drawops drawops v a)),
@@ -104,8 +99,8 @@ hears_alike v host drawops a = at (is_own host.me v || has_room (marks_heard hos
 asked_alike : (query : Query) (host : Opened) (drawops : List DrawopValue) → AreAlike host.board.drawops drawops → DoAlike host drawops (asked query host) (asked query (holding host drawops))
 asked_alike query host drawops a = (refl, refl, answer_alike (marks_heard host.me host.calls) host.board.drawops drawops query a)
 
-reports_alike : (page : PageId) (host : Opened) (drawops : List DrawopValue) → AreAlike host.board.drawops drawops → DoAlike host drawops (reported page host) (reported page (holding host drawops))
-reports_alike page host drawops a = (
+session_alike : (page : PageId) (host : Opened) (drawops : List DrawopValue) → AreAlike host.board.drawops drawops → DoAlike host drawops (reported page host) (reported page (holding host drawops))
+session_alike page host drawops a = (
   refl,
   refl,
   ap (λ (marks : List MarkValue). sends_text (SessionMessage host.me (present host) page marks (echoes_of host.me host.calls (present host)) ∷ [])) (report_alike host.board.drawops drawops page a),
@@ -120,7 +115,7 @@ act_alike (HearLine v) host drawops a = hears_alike v host drawops a
 act_alike (Distance source micros) host drawops a = (refl, refl, refl)
 act_alike (Tick moment) host drawops a = ticks_alike moment host drawops a
 act_alike (Look page) host drawops a = looks_alike page host drawops a
-act_alike (Session page) host drawops a = reports_alike page host drawops a
+act_alike (Session page) host drawops a = session_alike page host drawops a
 act_alike Skip host drawops a = (refl, refl, refl)
 act_alike (Board member cells workers seed) host drawops a = (refl, refl, refl)
 act_alike (Arrive d) host drawops a = (refl, refl, refl)

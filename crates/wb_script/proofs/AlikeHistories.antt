@@ -17,9 +17,14 @@ use Rattle.wb_codec.specs.declared.datagram.Datagram.{Datagram}
 use Rattle.wb_codec.specs.declared.datagram.Datagram.TheVariants.{Draw, Session, Request, AskPages, PageState}
 use Rattle.wb_display.specs.Canvas.{canvas_text}
 use Rattle.wb_display.proofs.Convergence.{converges}
+use Rattle.wb_gaps.specs.Answers.{sources_of, top_mark, gaps_of, report_of, pages_of, reports_of}
+use Rattle.wb_gaps.specs.declared.page_reports.PageReport.{PageReport}
 use Rattle.wb_gaps.proofs.GreatestNumbers.{one_greatest}
+use Rattle.wb_gaps.proofs.MissingRanges.{gaps_of_page, only_gaps}
+use Rattle.wb_gaps.proofs.PageAnswers.{pages_of_history, only_pages}
 use Rattle.wb_gaps.proofs.Rearranged.{gaps_moved, pages_moved}
 use Rattle.wb_gaps.proofs.Reports.{greatest_held}
+use Rattle.wb_gaps.proofs.Sorting.{lists_sorted}
 use Rattle.wb_recovery.specs.declared.action.Action.{Action}
 use Rattle.wb_recovery.specs.declared.action.Action.TheVariants.{Ask, Answer}
 use Rattle.wb_host.specs.Keeper.{holds}
@@ -29,11 +34,9 @@ use Rattle.wb_host.proofs.FoundDrawops.{found_member, found_none}
 use Rattle.wb_script.specs.declared.query.Query.{Query}
 use Rattle.wb_script.specs.declared.query.Query.TheVariants.{Canvas, Gaps, Report, Pages}
 use Rattle.wb_script.specs.Answers.{gaps_text, report_text, pages_text, answer_text}
-use Rattle.wb_script.specs.Queries.{view_of, sources_of, top_mark, gaps_of, report_of, pages_of}
+use Rattle.wb_script.specs.Queries.{view_of}
 use Rattle.wb_script.proofs.FreeArrivals.{found}
-use Rattle.wb_script.proofs.MissingRanges.{gaps_of_page, only_gaps}
-use Rattle.wb_script.proofs.Queries.{view_of_page, pages_of_history, only_pages}
-use Rattle.wb_script.proofs.Sorting.{lists_sorted}
+use Rattle.wb_script.proofs.Queries.{view_of_page}
 
 -- each name stands once in either, and the one is the other in some order
 pub record AreAlike (one other : List DrawopValue) : Type 0 where
@@ -118,6 +121,11 @@ report_alike one other page a =
     let marks : top_mark one page ≡ top_mark other page = fun_ext (λ source. ap (λ (high : ℕ). let m : MarkValue = record { source = source; high = high } in m) (highest_alike one other page source a)) in
     ap (λ (mark : ℕ → MarkValue). filter (λ m. nat_lt 0 m.high) (map mark (sources_of one page))) marks
     ∙ ap (λ (sources : List ℕ). filter (λ m. nat_lt 0 m.high) (map (top_mark other page) sources)) (sources_alike one other page a)
+
+pub reports_alike : (one other : List DrawopValue) → AreAlike one other → reports_of one ≡ reports_of other
+reports_alike one other a =
+    ap (λ (report : PageId → List MarkValue). map (λ page. let r : PageReport = record { page = page; marks = report page } in r) (pages_of one)) (fun_ext (λ page. report_alike one other page a))
+    ∙ ap (λ (pages : List PageId). map (λ page. let r : PageReport = record { page = page; marks = report_of other page } in r) pages) (pages_alike one other a)
 
 -- ---- answers
 
