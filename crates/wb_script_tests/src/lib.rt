@@ -1,7 +1,9 @@
 //! Tests of wb_script over its public calls: whole scripts with values from outside, ends that fail in
-//! mid-stream or are fed slowly, limits, random words, lines of what is sent, and want of memory.
+//! mid-stream or are fed slowly, limits, random words, lines of what is sent, workers, and want of memory.
 #![tactic(auto)]
 
+#[cfg(test)]
+mod cut;
 #[cfg(test)]
 mod ends;
 #[cfg(test)]
@@ -12,6 +14,8 @@ mod limits;
 mod memory;
 #[cfg(test)]
 mod random;
+#[cfg(test)]
+mod refused;
 #[cfg(test)]
 mod scripts;
 #[cfg(test)]

@@ -139,3 +139,47 @@ fn what_finds_no_cell_is_left(rt: HostRuntime) -> Result<(), Fail> {
     }
     Ok(())
 }
+
+/// The name and the time of A, and the same line of `#`.
+const B: &str =
+    "arrive 574201010000002200000007000000070000000100000001000000000000000a01000000010004000123\n";
+
+#[test]
+fn of_two_drawops_of_one_name_two_workers_keep_one(rt: HostRuntime) -> Result<(), Fail> {
+    let script = format!(in rt.alloc(); "board 1 16 2 42\n{A}{B}show 7 1 5 3\n")?;
+    let script = script.as_str();
+    let first: &[u8] = b"batch 1 0 1 0\n     \n*****\n     \n";
+    let second: &[u8] = b"batch 1 0 1 0\n     \n#####\n     \n";
+    let mut sink = ToWrite::new(Vec::new(rt.alloc()));
+    let mut source = FromRead::new(script.as_bytes());
+    run(&rt, rt.alloc(), &mut source, &mut sink, None, &NoGate)?;
+    let text = sink.into_inner();
+    assert!(rt; text.as_slice() == first || text.as_slice() == second);
+    Ok(())
+}
+
+/// Whether a batch is taken by so many workers, who were all at work at once, where this number is handed in.
+fn is_taken_by<R: AllocGlobal + Threads + Wait + Sync>(
+    rt: &R,
+    script: &str,
+    handed: u32,
+    workers: u64,
+) -> bool {
+    let gate = AllTogether {
+        workers,
+        came: AtomicU64::new(0),
+        late: AtomicU64::new(0),
+    };
+    prints(rt, rt.alloc(), script, Some(handed), &gate, TEXT)
+        && gate.late.load(Ordering::SeqCst) == 0
+        && gate.came.load(Ordering::SeqCst) == workers
+}
+
+#[test]
+fn a_number_out_of_range_counts_as_the_nearest(rt: HostRuntime) -> Result<(), Fail> {
+    let script = eight(rt.alloc(), 4)?;
+    assert!(rt; is_taken_by(&rt, script.as_str(), 0, 1));
+    assert!(rt; is_taken_by(&rt, script.as_str(), 9, 8));
+    assert!(rt; is_taken_by(&rt, script.as_str(), 4294967295, 8));
+    Ok(())
+}
