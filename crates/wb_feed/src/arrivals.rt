@@ -17,11 +17,9 @@ pub trait Arrivals {
     /// What `most` answers.
     ghost most_to_come: { Self → ℕ };
 
-    /// What stays the same whatever is drawn, as the list that the drawops come from. By it the caller
-    /// knows its source again after a batch.
-    ghost Kept: { Type 0 } = { Unit {0} };
-
-    ghost kept: { Self → Self.Kept };
+    /// What a source may become by being drawn from: that it is still one of the same list, or that a
+    /// script was read on. By it the caller knows its source again after a batch.
+    ghost follows: { Self → Self → Type 0 };
 
     /// The next drawop, or None at the end or earlier.
     fn next(&mut self) -> Option<Drawop>
@@ -30,9 +28,13 @@ pub trait Arrivals {
         ensures rest { IfNone result (given self.new ≡ given self.old) }
         ensures no_more { IfNone result (most_to_come self.new ≤ most_to_come self.old) }
         ensures ended { IfNone result (has_ended self.new ≡ true) }
-        ensures kept { Self.kept self.new ≡ Self.kept self.old };
+        ensures follows { follows self.old self.new };
 
     /// A bound on how many drawops are still given. It falls with each of them.
     fn most(&self) -> u32
         ensures { result ≡ most_to_come self.now };
+
+    ghost follows_itself: { (s : Self) → follows s s };
+
+    ghost follows_on: { (a b c : Self) → follows a b → follows b c → follows a c };
 }

@@ -75,7 +75,7 @@ pub fn run_batch<R: Threads + Wait + Sync, S: Arrivals, G: Gate + Sync>(
     ensures taken { IfOk result (λ b. TakesMore desk.old (S.given arrivals.old) workers desk.new (S.given arrivals.new) b) }
     ensures drawn { IsPrefix (S.given arrivals.old) (S.given arrivals.new) }
     ensures ended { OnOk result (S.has_ended arrivals.new ≡ true) }
-    ensures source { S.kept arrivals.new ≡ S.kept arrivals.old }
+    ensures source { S.follows arrivals.old arrivals.new }
 {
     if workers == 0 || workers > 8 {
         return Err(FeedFault::Workers);
@@ -107,7 +107,7 @@ fn take_batch<R: Threads + Wait + Sync, S: Arrivals, G: Gate + Sync>(
     ensures kept { Keeps desk.old desk.new }
     ensures drawn { IsDrawn (S.given arrivals.old) (S.most_to_come arrivals.old) drawn.old.items (S.given arrivals.new) (S.most_to_come arrivals.new) drawn.new.items }
     ensures ended { OnOk result (S.has_ended arrivals.new ≡ true) }
-    ensures source { S.kept arrivals.new ≡ S.kept arrivals.old }
+    ensures source { S.follows arrivals.old arrivals.new }
     ensures ok { IfOk result (λ b. Takes desk.old drawn.new.items workers desk.new b) }
 {
     let Ok((line, end, mut pass)) = bounded_with::<Message, Hand, EachOnce, Global>(alloc, CAPACITY)

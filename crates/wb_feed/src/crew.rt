@@ -77,7 +77,7 @@ fn run_workers<'s, 'e: 's, R: Threads + Wait + Sync, S: Arrivals, G: Gate + Sync
     ensures sent { ((view pass.new).sends ≡ true) × IsPrefix (view pass.new).sent drawn.new.items }
     ensures drawn { IsDrawn (S.given arrivals.old) (S.most_to_come arrivals.old) drawn.old.items (S.given arrivals.new) (S.most_to_come arrivals.new) drawn.new.items }
     ensures ended { OnOk result (S.has_ended arrivals.new ≡ true) }
-    ensures source { S.kept arrivals.new ≡ S.kept arrivals.old }
+    ensures source { S.follows arrivals.old arrivals.new }
     ensures ok { IfOk result (λ a. Crewed rows left root.old (view pass.old) (view pass.new) root.new a) }
 {
     if left == 0 {
@@ -173,7 +173,7 @@ pub(crate) fn crew<R: Threads + Wait + Sync, S: Arrivals, G: Gate + Sync>(
     ensures sent { ((view pass.new).sends ≡ true) × IsPrefix (view pass.new).sent drawn.new.items }
     ensures drawn { IsDrawn (S.given arrivals.old) (S.most_to_come arrivals.old) drawn.old.items (S.given arrivals.new) (S.most_to_come arrivals.new) drawn.new.items }
     ensures ended { OnOk result (S.has_ended arrivals.new ≡ true) }
-    ensures source { S.kept arrivals.new ≡ S.kept arrivals.old }
+    ensures source { S.follows arrivals.old arrivals.new }
     ensures ok { IfOk result (λ a. Crewed rows workers root.old (view pass.old) (view pass.new) root.new a) }
 {
     let (root, pass, arrivals, drawn, accepted) = thread::scope(
@@ -193,7 +193,7 @@ pub(crate) fn crew<R: Threads + Wait + Sync, S: Arrivals, G: Gate + Sync>(
             ensures sent { ((view result.1.now).sends ≡ true) × IsPrefix (view result.1.now).sent result.3.now.items }
             ensures drawn { IsDrawn (S.given arrivals.entry.now) (S.most_to_come arrivals.entry.now) drawn.entry.now.items (S.given result.2.now) (S.most_to_come result.2.now) result.3.now.items }
             ensures ended { OnOk result.4 (S.has_ended result.2.now ≡ true) }
-            ensures source { S.kept result.2.now ≡ S.kept arrivals.entry.now }
+            ensures source { S.follows arrivals.entry.now result.2.now }
             ensures ok { IfOk result.4 (λ a. Crewed rows workers root.entry.now (view pass.entry.now) (view result.1.now) result.0.now a) }
         {
             let accepted = run_workers(

@@ -20,7 +20,7 @@ fn draw_one<S: Arrivals>(
 ) -> Result<Option<Message>, AllocError>
     requires { length drawn.old.items + S.most_to_come arrivals.old < 2 ^ 32 }
     ensures draws { Draws (S.given arrivals.old) (S.most_to_come arrivals.old) drawn.old.items (S.given arrivals.new) (S.most_to_come arrivals.new) drawn.new.items (S.has_ended arrivals.new) result }
-    ensures source { S.kept arrivals.new ≡ S.kept arrivals.old }
+    ensures source { S.follows arrivals.old arrivals.new }
 {
     drawn.reserve(1)?;
     let position = drawn.len() as u32;
@@ -72,7 +72,7 @@ pub(crate) fn feed<R: Wait, S: Arrivals>(
     ensures same { ((view pass.new).parts ≡ (view pass.old).parts) × ((view pass.new).got ≡ (view pass.old).got) }
     ensures drawn { IsDrawn (S.given arrivals.old) (S.most_to_come arrivals.old) drawn.old.items (S.given arrivals.new) (S.most_to_come arrivals.new) drawn.new.items }
     ensures ended { OnOk result (S.has_ended arrivals.new ≡ true) }
-    ensures source { S.kept arrivals.new ≡ S.kept arrivals.old }
+    ensures source { S.follows arrivals.old arrivals.new }
 {
     while let Some(message) = draw_one(arrivals, drawn)? {
         *going = send_one(rt, line, pass, *going, message);

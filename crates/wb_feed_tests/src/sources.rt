@@ -36,7 +36,7 @@ impl Arrivals for Listed {
 
     ghost most_to_come = { λ s. s.end - s.next };
 
-    ghost kept = { λ _. tt };
+    ghost follows = { λ _ _. Unit {0} };
 
     fn next(&mut self) -> Option<Drawop> {
         let at = self.next as usize;
@@ -69,7 +69,7 @@ impl Arrivals for Waits {
 
     ghost most_to_come = { λ s. 3 - s.next };
 
-    ghost kept = { λ _. tt };
+    ghost follows = { λ _ _. Unit {0} };
 
     fn next(&mut self) -> Option<Drawop> {
         if self.next >= 3 {

@@ -20,9 +20,14 @@ impl Arrivals for Waiting<'_> {
 
     ghost most_to_come = { λ s. 4294967295 - s.given };
 
-    ghost Kept = { List DrawopValue };
+    ghost use Rattle.std.specs.Prelude.{◌≡◌, refl};
+    ghost use Rattle.std.proofs.Common.{◌∙◌};
 
-    ghost kept = { λ s. s.all.now };
+    ghost follows = { λ a b. b.all.now ≡ a.all.now };
+
+    ghost follows_itself = { λ s. refl };
+
+    ghost follows_on = { λ a b c p q. q ∙ p };
 
     fn next(&mut self) -> Option<Drawop> {
         let at = self.given as usize;

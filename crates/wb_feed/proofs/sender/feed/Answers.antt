@@ -1,4 +1,4 @@
-use Rattle.std.proofs.Common.{rules, ◌∙◌}
+use Rattle.std.proofs.Common.{rules}
 use Rattle.crossbeam_channel.specs.Claims.{view}
 use Rattle.wb_feed.specs.Sent.{DrawsOne}
 use Rattle.wb_feed.proofs.Sending.{drawn_more, next_is, sent_more, stays_more, stays_trans}
@@ -21,5 +21,5 @@ loop-message-preserved g c =
       sent = sent_more _ _ _ _ _ _ before after _ _ _ c.loop-message.invariant.sent draws c.send_one.ensures.sent c.send_one.ensures.closed;
       stays = stays_trans (view c.args.pass.now) before after c.loop-message.invariant.stays (stays_more before after _ _ _ c.send_one.ensures.sent c.send_one.ensures.closed);
       drawn = drawn_more _ _ _ _ _ _ _ _ _ _ c.loop-message.invariant.drawn draws;
-      source = c.draw_one.ensures.source ∙ c.loop-message.invariant.source;
+      source = g.met.S.Arrivals.follows_on _ _ _ c.loop-message.invariant.source c.draw_one.ensures.source;
     }

@@ -1,4 +1,3 @@
-use Rattle.std.proofs.Common.{◌≡◌}
 use Rattle.crossbeam_channel.specs.Claims.{view, IsSeatAt}
 use Rattle.crossbeam_channel.specs.Ends.{sends_on}
 use Rattle.wb_feed.specs.Sent.{IsSent, IsDrawn}
@@ -12,7 +11,7 @@ invariant-loop-message g l =
       sent : IsSent (view l.pass) l.drawn.items l.going;
       stays : Stays (view l.initial.pass) (view l.pass);
       drawn : IsDrawn (g.S.Arrivals.given l.initial.arrivals) (g.S.Arrivals.most_to_come l.initial.arrivals) l.initial.drawn.items (g.S.Arrivals.given l.arrivals) (g.S.Arrivals.most_to_come l.arrivals) l.drawn.items;
-      source : g.S.Arrivals.kept l.arrivals ≡ g.S.Arrivals.kept l.initial.arrivals;
+      source : g.S.Arrivals.follows l.initial.arrivals l.arrivals;
     }
 
 abbrev pub decreases-loop-message : goal.decreases-loop-message
