@@ -3,12 +3,16 @@
 #![tactic(auto)]
 
 #[cfg(test)]
-mod boards;
+mod drawings;
+#[cfg(test)]
+mod faults;
 #[cfg(test)]
 mod pages;
 #[cfg(test)]
 mod refusals;
 #[cfg(test)]
 mod replies;
+#[cfg(test)]
+mod rooms;
 #[cfg(test)]
 mod threads;

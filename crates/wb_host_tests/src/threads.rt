@@ -1,12 +1,12 @@
 //! Two threads draw and view on desks of one board.
 
-ghost use Rattle.std.specs.Prelude.{IfOk};
 ghost use Rattle.wb_history.specs.Passes.{IsPassOf, IsSamePass};
 
-use crate::boards::{PAGE, dot, open_two, views};
-use std::alloc::{AllocError, Global};
+use crate::drawings::{PAGE, dot};
+use crate::rooms::{open_board, split_rows};
+use std::alloc::Global;
+use std::process::Abort;
 use std::sync::atomic::{AtomicU32, Ordering};
-use std::test::Fail;
 use std::thread::{self, Threads};
 use wb_host::{Board, Desk, Reply};
 use wb_names::Drawop;
@@ -93,15 +93,29 @@ fn draw_on_threads<R: Threads>(
     (well && other_well, one, two)
 }
 
+/// Whether the desk views these drawops, copied and lent.
+fn views(board: &Board, alloc: Global, desk: &mut Desk, wanted: &[Drawop]) -> bool
+    requires { IsPassOf board.now desk.old }
+    ensures { IsSamePass desk.old desk.new }
+{
+    let copied = match board.view(alloc, desk, PAGE) {
+        Ok(shown) => shown.as_slice() == wanted,
+        Err(_) => false,
+    };
+    let lent = match desk.shown(alloc, board, PAGE) {
+        Ok(shown) => shown == wanted,
+        Err(_) => false,
+    };
+    copied && lent
+}
+
 /// Whether two desks that meet have one list, and both view these drawops.
 fn agree(board: &Board, alloc: Global, one: &mut Desk, two: &mut Desk, wanted: &[Drawop]) -> bool
     requires { IsPassOf board.now one.old × IsPassOf board.now two.old }
 {
     let met = board.meet(alloc, one, two).is_ok();
     let same = one.list() == two.list() && one.list().len() == wanted.len();
-    let first = views(board, alloc, one, PAGE, wanted);
-    let second = views(board, alloc, two, PAGE, wanted);
-    met && same && first && second
+    met && same && views(board, alloc, one, wanted) && views(board, alloc, two, wanted)
 }
 
 /// Whether two threads that draw at once end with one list, and with these views.
@@ -110,41 +124,39 @@ fn race_ends_well<R: Threads>(
     alloc: Global,
     drawops: &[&[Drawop]; 2],
     wanted: &[Drawop],
-) -> Result<bool, Fail> {
-    let (board, root, other) = open_two(alloc, 2 * EACH, EACH)?;
+) -> Option<bool> {
+    let (board, mut root) = open_board(alloc, 2 * EACH)?;
+    let other = split_rows(&board, alloc, &mut root, EACH)?;
     let (well, mut root, mut other) = draw_on_threads(rt, &board, alloc, root, other, drawops);
-    let agreed = agree(&board, alloc, &mut root, &mut other, wanted);
-    Ok(well && agreed)
+    Some(well && agree(&board, alloc, &mut root, &mut other, wanted))
 }
 
-/// The drawops of a source.
-fn drawn_by(alloc: Global, source: u32) -> Result<Vec<Drawop>, Fail> {
+/// The drawops of these sources, in turn, as they are displayed.
+fn drawn_by(alloc: Global, sources: &[u32]) -> Option<Vec<Drawop>> {
     let mut drawn = Vec::new(alloc);
     for seq in 1..=EACH {
-        drawn.push(dot(source, PAGE, seq)?)?;
+        for source in sources {
+            drawn.push(dot(*source, PAGE, seq)?).ok()?;
+        }
     }
-    Ok(drawn)
-}
-
-/// Those of two sources in turn, as they are displayed.
-fn in_turn(alloc: Global, first: &[Drawop], second: &[Drawop]) -> Result<Vec<Drawop>, AllocError> {
-    let mut both = Vec::new(alloc);
-    for (one, two) in first.iter().zip(second) {
-        both.push(*one)?;
-        both.push(*two)?;
-    }
-    Ok(both)
+    Some(drawn)
 }
 
 const RACES: u32 = 100;
 
-#[test]
-fn two_threads_draw_and_view(rt: HostRuntime) -> Result<(), Fail> {
-    let (first, second) = (drawn_by(rt.alloc(), 8)?, drawn_by(rt.alloc(), 9)?);
-    let wanted = in_turn(rt.alloc(), &first, &second)?;
+fn races_end_well<R: Threads>(rt: &R, alloc: Global) -> Option<bool> {
+    let (first, second) = (drawn_by(alloc, &[8])?, drawn_by(alloc, &[9])?);
+    let wanted = drawn_by(alloc, &[8, 9])?;
     let drawops = [first.as_slice(), second.as_slice()];
     for _ in 0..RACES {
-        assert!(rt; race_ends_well(&rt, rt.alloc(), &drawops, &wanted)?);
+        if !race_ends_well(rt, alloc, &drawops, wanted.as_slice())? {
+            return Some(false);
+        }
     }
-    Ok(())
+    Some(true)
+}
+
+#[test]
+fn two_threads_draw_and_view(rt: HostRuntime) {
+    assert!(rt; races_end_well(&rt, rt.alloc()) == Some(true));
 }

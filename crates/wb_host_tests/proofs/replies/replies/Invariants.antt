@@ -1,5 +1,0 @@
-use Rattle.wb_history.specs.Passes.{IsSamePass}
-use Rattle.wb_host_tests.proofs.replies.replies.Given as goal
-
-abbrev pub invariant-loop-turn : goal.invariant-loop-turn
-invariant-loop-turn l = IsSamePass l.initial.desk l.desk
