@@ -1,35 +1,21 @@
 //! Worked batches: counts, lists and rows.
 
 use crate::gates::{AllTogether, Meeting, TellsAfter};
-use crate::samples::{first_text, second_text, stars};
+use crate::samples::{are_letters, drawop, drawops};
 use crate::sources::{Listed, Waits};
 use std::alloc::Global;
+use std::process::Abort;
 use std::sync::{Arc, Wait};
-use std::test::Fail;
 use std::thread::Threads;
 use wb_feed::{Batch, FeedFault, Gate, NoGate, run_batch};
 use wb_host::{Board, Desk};
 use wb_names::Drawop;
 
-/// What a batch left: its counts, and of the desk the list, the free rows, and whether it owns all rows.
-#[derive(Drop)]
-pub(crate) struct Left {
-    pub(crate) batch: Result<Batch, FeedFault>,
-    pub(crate) list: Vec<Drawop>,
-    pub(crate) rows: u32,
-    pub(crate) whole: bool,
-}
+/// What a batch answers.
+pub(crate) type Answer = Result<Batch, FeedFault>;
 
-fn left_by(alloc: Global, desk: &Desk, batch: Result<Batch, FeedFault>) -> Result<Left, Fail> {
-    Ok(Left {
-        batch,
-        list: desk.list().to_vec(alloc)?,
-        rows: desk.rows_left(),
-        whole: desk.is_whole(),
-    })
-}
-
-/// Takes the drawops on a new board of so many cells.
+/// What the drawops, as a batch on a new board of so many cells, are answered, and the desk then. None where
+/// memory is refused before.
 pub(crate) fn take_all<R: Threads + Wait + Sync, G: Gate + Sync>(
     rt: &R,
     alloc: Global,
@@ -37,14 +23,14 @@ pub(crate) fn take_all<R: Threads + Wait + Sync, G: Gate + Sync>(
     workers: u32,
     drawops: Vec<Drawop>,
     gate: &G,
-) -> Result<Left, Fail> {
+) -> Option<(Answer, Desk)> {
     let mut source = Listed::new(drawops);
-    let (board, mut desk) = Board::open(alloc, cells)?;
+    let (board, mut desk) = Board::open(alloc, cells).ok()?;
     let batch = run_batch(rt, alloc, &board, &mut desk, workers, &mut source, gate);
-    left_by(alloc, &desk, batch)
+    Some((batch, desk))
 }
 
-pub(crate) fn counts(fresh: u32, again: u32, clash: u32, left: u32) -> Result<Batch, FeedFault> {
+pub(crate) fn counts(fresh: u32, again: u32, clash: u32, left: u32) -> Answer {
     Ok(Batch {
         fresh,
         again,
@@ -54,17 +40,18 @@ pub(crate) fn counts(fresh: u32, again: u32, clash: u32, left: u32) -> Result<Ba
 }
 
 /// Three drawops, each of them several times: eight arrivals.
-fn eight(alloc: Global) -> Result<Vec<Drawop>, Fail> {
-    let a = stars()?;
-    let d = first_text()?;
-    let e = second_text()?;
-    Ok(vec![in alloc; a, d, e, a, d, e, a, d]?)
+const EIGHT: &str = "adeadead";
+
+fn has(list: &[Drawop], letter: u8) -> bool {
+    match drawop(letter) {
+        Some(drawop) => list.contains(&drawop),
+        None => false,
+    }
 }
 
 /// Whether the list has each of the three once.
-fn holds_three(list: &[Drawop]) -> Result<bool, Fail> {
-    let [a, d, e] = [stars()?, first_text()?, second_text()?];
-    Ok(list.len() == 3 && list.contains(&a) && list.contains(&d) && list.contains(&e))
+fn holds_three(list: &[Drawop]) -> bool {
+    list.len() == 3 && has(list, b'a') && has(list, b'd') && has(list, b'e')
 }
 
 /// Whether these eight, by so many workers who are all at work at once, are three new ones and five that
@@ -73,114 +60,118 @@ fn is_taken_together<R: Threads + Wait + Sync>(
     rt: &R,
     alloc: Global,
     workers: u32,
-) -> Result<bool, Fail> {
+) -> Option<bool> {
     let gate = AllTogether {
         workers: u64::from(workers),
         meeting: Meeting::new(),
     };
-    let left = take_all(rt, alloc, 16, workers, eight(alloc)?, &gate)?;
-    Ok(
-        holds_three(left.list.as_slice())?
-            && left.batch == counts(3, 5, 0, 0)
-            && left.rows == 13
-            && left.whole
-            && gate.meeting.late() == 0,
-    )
+    let (batch, desk) = take_all(rt, alloc, 16, workers, drawops(alloc, EIGHT)?, &gate)?;
+    let counted = batch == counts(3, 5, 0, 0) && holds_three(desk.list());
+    let owned = desk.rows_left() == 13 && desk.is_whole();
+    Some(counted && owned && gate.meeting.late() == 0)
 }
 
-#[test]
-fn workers_are_at_work_at_once(rt: HostRuntime) -> Result<(), Fail> {
+fn are_taken_together<R: Threads + Wait + Sync>(rt: &R, alloc: Global) -> bool {
     for workers in 1..=8 {
-        assert!(rt;
-            is_taken_together(&rt, rt.alloc(), workers)?,
-            "with {workers}"
-        );
+        if is_taken_together(rt, alloc, workers) != Some(true) {
+            return false;
+        }
     }
-    Ok(())
-}
-
-/// Whether one cell takes a drawop and its repetition, and leaves another.
-fn is_full<R: Threads + Wait + Sync>(rt: &R, alloc: Global, workers: u32) -> Result<bool, Fail> {
-    let a = stars()?;
-    let d = first_text()?;
-    let left = take_all(rt, alloc, 1, workers, vec![in alloc; a, d, a]?, &NoGate)?;
-    Ok(left.batch == counts(1, 1, 0, 1) && left.list.as_slice() == [a].as_slice() && left.rows == 0)
+    true
 }
 
 #[test]
-fn what_finds_no_row_is_left(rt: HostRuntime) -> Result<(), Fail> {
-    for workers in [1, 2] {
-        assert!(rt; is_full(&rt, rt.alloc(), workers)?, "with {workers}");
+fn workers_are_at_work_at_once(rt: HostRuntime) {
+    assert!(rt; are_taken_together(&rt, rt.alloc()));
+}
+
+/// Cells, workers and arrivals of a batch; how many of those are new, held before, clash and are left over; and
+/// the list and the number of rows that the desk has then.
+type Worked = (u32, u32, &'static str, [u32; 4], &'static str, u32);
+
+fn is_worked<R: Threads + Wait + Sync>(rt: &R, alloc: Global, case: &Worked) -> Option<bool> {
+    let (cells, workers, arrivals, [fresh, again, clash, left], list, rows) = *case;
+    let arrivals = drawops(alloc, arrivals)?;
+    let (batch, desk) = take_all(rt, alloc, cells, workers, arrivals, &NoGate)?;
+    let owned = are_letters(desk.list(), list) && desk.rows_left() == rows;
+    Some(batch == counts(fresh, again, clash, left) && owned)
+}
+
+fn are_worked<R: Threads + Wait + Sync>(rt: &R, alloc: Global, cases: &[Worked]) -> bool {
+    for case in cases {
+        if is_worked(rt, alloc, case) != Some(true) {
+            return false;
+        }
     }
-    Ok(())
+    true
 }
 
-#[test]
-fn workers_without_rows_leave_all_to_the_desk(rt: HostRuntime) -> Result<(), Fail> {
-    let alloc = rt.alloc();
-    let [a, d, e] = [stars()?, first_text()?, second_text()?];
-    let left = take_all(&rt, alloc, 3, 8, vec![in alloc; a, d, e]?, &NoGate)?;
-    assert!(rt; left.batch == counts(3, 0, 0, 0));
-    assert!(rt; left.list.as_slice() == [a, d, e].as_slice());
-    Ok(())
-}
+/// One cell takes a drawop and its repetition, and leaves another.
+static FULL: [Worked; 2] = [
+    (1, 1, "ada", [1, 1, 0, 1], "a", 0),
+    (1, 2, "ada", [1, 1, 0, 1], "a", 0),
+];
 
 #[test]
-fn other_numbers_of_workers_take_nothing(rt: HostRuntime) -> Result<(), Fail> {
+fn what_finds_no_row_is_left(rt: HostRuntime) {
+    assert!(rt; are_worked(&rt, rt.alloc(), &FULL));
+}
+
+static WITHOUT_ROWS: [Worked; 1] = [(3, 8, "ade", [3, 0, 0, 0], "ade", 0)];
+
+#[test]
+fn workers_without_rows_leave_all_to_the_desk(rt: HostRuntime) {
+    assert!(rt; are_worked(&rt, rt.alloc(), &WITHOUT_ROWS));
+}
+
+/// Whether so many workers are refused.
+fn takes_nothing<R: Threads + Wait + Sync>(rt: &R, alloc: Global, workers: u32) -> Option<bool> {
+    let (batch, desk) = take_all(rt, alloc, 4, workers, drawops(alloc, EIGHT)?, &NoGate)?;
+    let left = desk.list().is_empty() && desk.rows_left() == 4;
+    Some(batch == Err(FeedFault::Workers) && left)
+}
+
+fn take_nothing<R: Threads + Wait + Sync>(rt: &R, alloc: Global) -> bool {
     for workers in [0, 9, u32::MAX] {
-        let left = take_all(&rt, rt.alloc(), 4, workers, eight(rt.alloc())?, &NoGate)?;
-        assert!(rt; left.batch == Err(FeedFault::Workers));
-        assert!(rt; left.list.is_empty() && left.rows == 4);
+        if takes_nothing(rt, alloc, workers) != Some(true) {
+            return false;
+        }
     }
-    Ok(())
+    true
 }
 
 #[test]
-fn faults_of_a_batch_are_numbered(rt: HostRuntime) -> Result<(), Fail> {
+fn other_numbers_of_workers_take_nothing(rt: HostRuntime) {
+    assert!(rt; take_nothing(&rt, rt.alloc()));
+}
+
+#[test]
+fn faults_of_a_batch_are_numbered(rt: HostRuntime) {
     let faults = [FeedFault::Workers, FeedFault::Start, FeedFault::Memory];
     let [workers, start, memory] = faults;
-    assert_eq!(rt; [workers.code(), start.code(), memory.code()], [1, 2, 3]);
-    Ok(())
+    assert!(rt; [workers.code(), start.code(), memory.code()] == [1, 2, 3]);
 }
 
-/// A source that waits for the first accept before it gives its last drawop, and the gate that tells it.
-fn waiting(alloc: Global) -> Result<(Waits, TellsAfter), Fail> {
-    let all = [stars()?, first_text()?, second_text()?];
-    let meeting = Arc::new(alloc, Meeting::new())?;
-    let source = Waits {
+/// Whether a batch of a source that waits for the first accept before it gives its last drawop takes all, and
+/// the source does not wait in vain.
+fn is_drawn_while_taken<R: Threads + Wait + Sync>(rt: &R, alloc: Global) -> Option<bool> {
+    let all = [drawop(b'a')?, drawop(b'd')?, drawop(b'e')?];
+    let meeting = Arc::new(alloc, Meeting::new()).ok()?;
+    let gate = TellsAfter {
+        meeting: Arc::try_clone(&meeting).ok()?,
+    };
+    let mut source = Waits {
         all,
         next: 0,
         ended: false,
-        meeting: Arc::try_clone(&meeting)?,
+        meeting,
     };
-    Ok((source, TellsAfter { meeting }))
-}
-
-/// What a batch of this source answers.
-fn take_from<R: Threads + Wait + Sync>(
-    rt: &R,
-    alloc: Global,
-    source: &mut Waits,
-    gate: &TellsAfter,
-) -> Result<Result<Batch, FeedFault>, Fail> {
-    let (board, mut desk) = Board::open(alloc, 4)?;
-    Ok(run_batch(rt, alloc, &board, &mut desk, 1, source, gate))
-}
-
-/// What a batch answers whose source waits, and how often it waited in vain.
-fn drawn_while_taken<R: Threads + Wait + Sync>(
-    rt: &R,
-    alloc: Global,
-) -> Result<(Result<Batch, FeedFault>, u64), Fail> {
-    let (mut source, gate) = waiting(alloc)?;
-    let batch = take_from(rt, alloc, &mut source, &gate)?;
-    Ok((batch, gate.meeting.late()))
+    let (board, mut desk) = Board::open(alloc, 4).ok()?;
+    let batch = run_batch(rt, alloc, &board, &mut desk, 1, &mut source, &gate);
+    Some(batch == counts(3, 0, 0, 0) && gate.meeting.late() == 0)
 }
 
 #[test]
-fn accepts_begin_before_all_is_drawn(rt: HostRuntime) -> Result<(), Fail> {
-    let (batch, late) = drawn_while_taken(&rt, rt.alloc())?;
-    assert!(rt; batch == counts(3, 0, 0, 0));
-    assert_eq!(rt; late, 0);
-    Ok(())
+fn accepts_begin_before_all_is_drawn(rt: HostRuntime) {
+    assert!(rt; is_drawn_while_taken(&rt, rt.alloc()) == Some(true));
 }

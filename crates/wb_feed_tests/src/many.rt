@@ -1,38 +1,38 @@
 //! Long batches, by each number of workers.
 
 use crate::batches::{counts, take_all};
-use crate::samples::numbered;
+use crate::samples::stroke;
 use std::alloc::Global;
+use std::process::Abort;
 use std::sync::Wait;
-use std::test::Fail;
 use std::thread::Threads;
 use wb_feed::NoGate;
 use wb_names::Drawop;
 
 /// So many names, one after another, and then once more with this glyph.
-fn repeated(alloc: Global, names: u32, glyph: u8) -> Result<Vec<Drawop>, Fail> {
+fn repeated(alloc: Global, names: u32, glyph: u8) -> Option<Vec<Drawop>> {
     let mut all = Vec::new(alloc);
     for glyph in [b'*', glyph] {
         for seq in 1..=names {
-            all.push(numbered(seq, glyph)?)?;
+            all.push(stroke(seq, glyph)?).ok()?;
         }
     }
-    Ok(all)
+    Some(all)
 }
 
 /// Whether the list has each of the names once, with the one glyph or the other.
-fn has_each_name(alloc: Global, names: u32, glyph: u8, list: &[Drawop]) -> Result<bool, Fail> {
-    let mut seen = Vec::from_elem(alloc, false, names as usize + 1)?;
+fn has_each_name(alloc: Global, names: u32, glyph: u8, list: &[Drawop]) -> Option<bool> {
+    let mut seen = Vec::from_elem(alloc, false, names as usize + 1).ok()?;
     for drawop in list {
         let seq = drawop.name().seq();
         let at = seq as usize;
-        let was_given = *drawop == numbered(seq, b'*')? || *drawop == numbered(seq, glyph)?;
+        let was_given = *drawop == stroke(seq, b'*')? || *drawop == stroke(seq, glyph)?;
         if !was_given || at >= seen.len() || seen[at] {
-            return Ok(false);
+            return Some(false);
         }
         seen[at] = true;
     }
-    Ok(list.len() == names as usize)
+    Some(list.len() == names as usize)
 }
 
 /// Whether the numbers of the list ascend from 1.
@@ -55,40 +55,35 @@ fn is_taken_whole<R: Threads + Wait + Sync>(
     workers: u32,
     names: u32,
     glyph: u8,
-) -> Result<bool, Fail> {
+) -> Option<bool> {
     let arrivals = repeated(alloc, names, glyph)?;
-    let left = take_all(rt, alloc, names, workers, arrivals, &NoGate)?;
+    let (batch, desk) = take_all(rt, alloc, names, workers, arrivals, &NoGate)?;
     let wanted = if glyph == b'*' {
         counts(names, names, 0, 0)
     } else {
         counts(names, 0, names, 0)
     };
-    Ok(
-        left.batch == wanted
-            && left.rows == 0
-            && has_each_name(alloc, names, glyph, left.list.as_slice())?
-            && (workers != 1 || is_in_order(left.list.as_slice())),
-    )
+    let list = desk.list();
+    let ordered = workers != 1 || is_in_order(list);
+    let each = has_each_name(alloc, names, glyph, list)?;
+    Some(batch == wanted && desk.rows_left() == 0 && ordered && each)
+}
+
+fn are_taken_whole<R: Threads + Wait + Sync>(rt: &R, alloc: Global, names: u32, glyph: u8) -> bool {
+    for workers in [1, 2, 4, 8] {
+        if is_taken_whole(rt, alloc, workers, names, glyph) != Some(true) {
+            return false;
+        }
+    }
+    true
 }
 
 #[test]
-fn sixty_thousand_arrivals_are_counted_once(rt: HostRuntime) -> Result<(), Fail> {
-    for workers in [1, 2, 4, 8] {
-        assert!(rt;
-            is_taken_whole(&rt, rt.alloc(), workers, 30_000, b'*')?,
-            "with {workers}"
-        );
-    }
-    Ok(())
+fn sixty_thousand_arrivals_are_counted_once(rt: HostRuntime) {
+    assert!(rt; are_taken_whole(&rt, rt.alloc(), 30_000, b'*'));
 }
 
 #[test]
-fn of_each_name_one_drawop_wins(rt: HostRuntime) -> Result<(), Fail> {
-    for workers in [1, 2, 4, 8] {
-        assert!(rt;
-            is_taken_whole(&rt, rt.alloc(), workers, 3_000, b'#')?,
-            "with {workers}"
-        );
-    }
-    Ok(())
+fn of_each_name_one_drawop_wins(rt: HostRuntime) {
+    assert!(rt; are_taken_whole(&rt, rt.alloc(), 3_000, b'#'));
 }

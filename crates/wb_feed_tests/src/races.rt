@@ -4,11 +4,11 @@ ghost use Rattle.wb_history.specs.Passes.{IsPassOf};
 
 use crate::batches::counts;
 use crate::gates::{Meeting, TURNS, WaitsForOne};
-use crate::samples::{PAGE, first_text, hashes, open_two, second_text, stars};
+use crate::samples::{PAGE, are_letters, drawop, drawops, open_two};
 use crate::sources::Listed;
 use std::alloc::Global;
+use std::process::Abort;
 use std::sync::Wait;
-use std::test::Fail;
 use std::thread::{self, Threads};
 use wb_feed::{Batch, FeedFault, run_batch};
 use wb_host::{Board, BoardFault, Desk, Reply};
@@ -68,57 +68,62 @@ fn race<R: Threads>(
 fn ends_so<R: Threads>(
     rt: &R,
     alloc: Global,
-    drawops: [Drawop; 2],
-    answers: [Reply; 2],
+    letters: [u8; 2],
+    answers: (Reply, Reply),
     length: usize,
-) -> Result<bool, Fail> {
+) -> Option<bool> {
+    let drawops = [drawop(letters[0])?, drawop(letters[1])?];
     let (board, one, two) = open_two(alloc, 2, 1)?;
     let (given, mut one, mut two) = race(rt, &board, one, two, drawops);
-    let [x, y] = answers;
+    let (x, y) = answers;
     let either = given == [Ok(x), Ok(y)] || given == [Ok(y), Ok(x)];
     let met = board.meet(alloc, &mut one, &mut two).is_ok();
-    Ok(either && met && one.list() == two.list() && one.list().len() == length)
+    Some(either && met && one.list() == two.list() && one.list().len() == length)
 }
 
 const RACES: u32 = 100;
 
-#[test]
-fn one_of_two_threads_is_first(rt: HostRuntime) -> Result<(), Fail> {
-    let [a, b, d] = [stars()?, hashes()?, first_text()?];
-    let rows = [
-        ([a, a], [Reply::New(0), Reply::Again(0)], 1),
-        ([a, b], [Reply::New(0), Reply::Clash(0)], 1),
-        ([a, d], [Reply::New(0), Reply::New(1)], 2),
-    ];
+/// What two threads accept, what they are answered, and how many names are held then.
+type Race = ([u8; 2], (Reply, Reply), usize);
+
+static ROWS: [Race; 3] = [
+    ([b'a', b'a'], (Reply::New(0), Reply::Again(0)), 1),
+    ([b'a', b'b'], (Reply::New(0), Reply::Clash(0)), 1),
+    ([b'a', b'd'], (Reply::New(0), Reply::New(1)), 2),
+];
+
+fn all_end_so<R: Threads>(rt: &R, alloc: Global, row: &Race) -> bool {
+    let (letters, answers, length) = *row;
     for _ in 0..RACES {
-        for row in &rows {
-            let (drawops, answers, length) = *row;
-            assert!(rt; ends_so(&rt, rt.alloc(), drawops, answers, length)?);
+        if ends_so(rt, alloc, letters, answers, length) != Some(true) {
+            return false;
         }
     }
-    Ok(())
-}
-
-/// What a board of three cells answers after a desk was dropped with a row, and whether the desk that is
-/// left has this list and owns all rows.
-fn after_a_loss(alloc: Global, drawops: [Drawop; 3]) -> Result<([Answer; 3], bool, bool), Fail> {
-    let [a, d, e] = drawops;
-    let (board, mut root, mut other) = open_two(alloc, 3, 2)?;
-    let first = board.accept(&mut other, &a);
-    drop(other);
-    let second = board.accept(&mut root, &d);
-    let third = board.accept(&mut root, &e);
-    let listed = root.list() == [a, d].as_slice();
-    Ok(([first, second, third], listed, root.is_whole()))
+    true
 }
 
 #[test]
-fn rows_of_a_dropped_desk_are_lost(rt: HostRuntime) -> Result<(), Fail> {
-    let drawops = [stars()?, first_text()?, second_text()?];
-    let (answers, listed, whole) = after_a_loss(rt.alloc(), drawops)?;
-    let wanted = [Ok(Reply::New(0)), Ok(Reply::New(1)), Err(BoardFault::NoRow)];
-    assert!(rt; answers == wanted && listed && !whole);
-    Ok(())
+fn one_of_two_threads_is_first(rt: HostRuntime) {
+    for row in &ROWS {
+        assert!(rt; all_end_so(&rt, rt.alloc(), row));
+    }
+}
+
+/// Whether a board of three cells loses the row of a desk that is dropped: the desk that is left has this list, and
+/// does not own all rows.
+fn loses_a_row(alloc: Global) -> Option<bool> {
+    let (board, mut root, mut other) = open_two(alloc, 3, 2)?;
+    let first = board.accept(&mut other, &drawop(b'a')?) == Ok(Reply::New(0));
+    drop(other);
+    let second = board.accept(&mut root, &drawop(b'd')?) == Ok(Reply::New(1));
+    let third = board.accept(&mut root, &drawop(b'e')?) == Err(BoardFault::NoRow);
+    let left = are_letters(root.list(), "ad") && !root.is_whole();
+    Some(first && second && third && left)
+}
+
+#[test]
+fn rows_of_a_dropped_desk_are_lost(rt: HostRuntime) {
+    assert!(rt; loses_a_row(rt.alloc()) == Some(true));
 }
 
 /// Views the page until it shows just this drawop, for some turns at most, and tells of it.
@@ -151,16 +156,12 @@ fn take_all<R: Threads + Wait + Sync>(
     run_batch(rt, alloc, board, &mut desk, 1, &mut source, gate)
 }
 
-/// A batch of two drawops by one worker, who is held before the second until a thread beside it has
-/// viewed the first.
-fn viewed_meanwhile<R: Threads + Wait + Sync>(
-    rt: &R,
-    alloc: Global,
-    drawops: [Drawop; 2],
-) -> Result<(Result<Batch, FeedFault>, bool, u64), Fail> {
+/// Whether a batch of two drawops is taken by one worker, who is held before the second until a thread beside it
+/// has viewed the first.
+fn is_viewed_meanwhile<R: Threads + Wait + Sync>(rt: &R, alloc: Global) -> Option<bool> {
+    let source = Listed::new(drawops(alloc, "ad")?);
+    let first = drawop(b'a')?;
     let (board, root, viewer) = open_two(alloc, 4, 0)?;
-    let [a, _] = drawops;
-    let source = Listed::new(drawops.to_vec(alloc)?);
     let gate = WaitsForOne {
         meeting: Meeting::new(),
     };
@@ -169,19 +170,15 @@ fn viewed_meanwhile<R: Threads + Wait + Sync>(
         rt,
         move ||
             requires { IsPassOf shared.now viewer }
-        { watch(shared, alloc, viewer, a, &told.meeting) },
+        { watch(shared, alloc, viewer, first, &told.meeting) },
         move ||
             requires { IsPassOf shared.now root }
         { take_all(rt, alloc, shared, root, source, told) },
     );
-    Ok((batch, viewed, gate.meeting.late()))
+    Some(batch == counts(2, 0, 0, 0) && viewed && gate.meeting.late() == 0)
 }
 
 #[test]
-fn a_page_is_viewed_while_a_batch_is_taken(rt: HostRuntime) -> Result<(), Fail> {
-    let drawops = [stars()?, first_text()?];
-    let (batch, viewed, late) = viewed_meanwhile(&rt, rt.alloc(), drawops)?;
-    assert!(rt; batch == counts(2, 0, 0, 0));
-    assert!(rt; viewed && late == 0);
-    Ok(())
+fn a_page_is_viewed_while_a_batch_is_taken(rt: HostRuntime) {
+    assert!(rt; is_viewed_meanwhile(&rt, rt.alloc()) == Some(true));
 }

@@ -3,27 +3,21 @@
 ghost use Rattle.std.specs.Prelude.{IfSome};
 ghost use Rattle.wb_history.specs.Passes.{IsPassOf, IsSamePass};
 
-use crate::samples::{first_text, second_text, stars};
+use crate::samples::drawops;
 use crate::sources::Listed;
-use std::alloc::{AllocError, Global};
+use std::alloc::Global;
+use std::process::Abort;
 use std::sync::Wait;
-use std::test::Fail;
 use std::thread::Threads;
 use wb_feed::{FeedFault, NoGate, run_batch};
 use wb_host::{Board, Desk};
 use wb_names::Drawop;
 
-/// Eight arrivals of three drawops.
-fn eight(alloc: Global, drawops: [Drawop; 3]) -> Result<Vec<Drawop>, AllocError> {
-    let [a, d, e] = drawops;
-    [a, d, e, a, d, e, a, d].to_vec(alloc)
-}
-
-/// The same, by a second call where the first is refused.
-fn eight_again(alloc: Global, drawops: [Drawop; 3]) -> Option<Vec<Drawop>> {
-    match eight(alloc, drawops) {
-        Ok(all) => Some(all),
-        Err(_) => eight(alloc, drawops).ok(),
+/// Eight arrivals of three drawops, by a second call where the first is refused.
+fn eight_again(alloc: Global) -> Option<Vec<Drawop>> {
+    match drawops(alloc, "adeadead") {
+        Some(all) => Some(all),
+        None => drawops(alloc, "adeadead"),
     }
 }
 
@@ -51,12 +45,11 @@ fn takes_eight<R: Threads + Wait + Sync>(
     board: &Board,
     desk: &mut Desk,
     workers: u32,
-    drawops: [Drawop; 3],
 ) -> Option<bool>
     requires { IsPassOf board.now desk.old }
     ensures { IsSamePass desk.old desk.new }
 {
-    let Some(arrivals) = eight_again(alloc, drawops) else {
+    let Some(arrivals) = eight_again(alloc) else {
         return Some(false);
     };
     let mut source = Listed::new(arrivals);
@@ -76,39 +69,32 @@ fn takes_again<R: Threads + Wait + Sync>(
     board: &Board,
     desk: &mut Desk,
     workers: u32,
-    drawops: [Drawop; 3],
 ) -> bool
     requires { IsPassOf board.now desk.old }
     ensures { IsSamePass desk.old desk.new }
 {
-    let taken = match takes_eight(rt, alloc, board, desk, workers, drawops) {
+    let taken = match takes_eight(rt, alloc, board, desk, workers) {
         Some(taken) => taken,
         None => {
-            keeps_rows(desk, workers)
-                && takes_eight(rt, alloc, board, desk, workers, drawops) == Some(true)
+            keeps_rows(desk, workers) && takes_eight(rt, alloc, board, desk, workers) == Some(true)
         }
     };
     taken && desk.list().len() == 3 && keeps_rows(desk, workers)
 }
 
 /// Whether two batches with one desk take their arrivals, each by a second call where the first is refused.
-fn goes_on<R: Threads + Wait + Sync>(
-    rt: &R,
-    alloc: Global,
-    workers: u32,
-    drawops: [Drawop; 3],
-) -> Option<bool> {
+fn goes_on<R: Threads + Wait + Sync>(rt: &R, alloc: Global, workers: u32) -> Option<bool> {
     let (board, mut root) = open_again(alloc)?;
-    let first = takes_again(rt, alloc, &board, &mut root, workers, drawops);
-    let second = takes_again(rt, alloc, &board, &mut root, workers, drawops);
+    let first = takes_again(rt, alloc, &board, &mut root, workers);
+    let second = takes_again(rt, alloc, &board, &mut root, workers);
     Some(first && second)
 }
 
+fn all_go_on<R: Threads + Wait + Sync>(rt: &R, alloc: Global) -> bool {
+    goes_on(rt, alloc, 2) == Some(true) && goes_on(rt, alloc, 4) == Some(true)
+}
+
 #[test]
-fn each_growth_and_start_may_be_refused(rt: HostRuntime) -> Result<(), Fail> {
-    let drawops = [stars()?, first_text()?, second_text()?];
-    for workers in [2, 4] {
-        assert!(rt; goes_on(&rt, rt.alloc(), workers, drawops) == Some(true));
-    }
-    Ok(())
+fn each_growth_and_start_may_be_refused(rt: HostRuntime) {
+    assert!(rt; all_go_on(&rt, rt.alloc()));
 }

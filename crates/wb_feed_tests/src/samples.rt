@@ -1,19 +1,24 @@
 //! The drawops and boards of the tests.
 
-ghost use Rattle.std.specs.Prelude.{IfOk};
-ghost use Rattle.wb_history.specs.Passes.{IsPassOf};
+ghost use Rattle.std.specs.Prelude.{IfSome};
+ghost use Rattle.wb_history.specs.Passes.{IsPassOf, IsSamePass};
 
 use std::alloc::Global;
-use std::test::Fail;
 use wb_host::{Board, Desk};
-use wb_names::{Drawop, FieldFault, Name, PageId, Shape};
+use wb_names::{Drawop, Name, PageId, Shape};
 
 pub(crate) const PAGE: PageId = PageId {
     creator: 7,
     number: 1,
 };
 
-fn stroke(source: u32, seq: u32, glyph: u8) -> Result<Drawop, FieldFault> {
+fn on_page(source: u32, seq: u32, shape: Shape) -> Option<Drawop> {
+    let name = Name::new(source, PAGE, seq).ok()?;
+    Drawop::new(name, 10, shape).ok()
+}
+
+/// The stroke of source 7 with this number and glyph.
+pub(crate) fn stroke(seq: u32, glyph: u8) -> Option<Drawop> {
     let line = Shape::Line {
         x0: 0,
         y0: 1,
@@ -21,47 +26,62 @@ fn stroke(source: u32, seq: u32, glyph: u8) -> Result<Drawop, FieldFault> {
         y1: 1,
         glyph,
     };
-    Drawop::new(Name::new(source, PAGE, seq)?, 10, line)
+    on_page(7, seq, line)
 }
 
-fn words(source: u32, x: u16, bytes: &[u8]) -> Result<Drawop, FieldFault> {
-    Drawop::new(
-        Name::new(source, PAGE, 1)?,
-        10,
-        Shape::Text { x, y: 1, bytes },
-    )
+fn text(source: u32, x: u16, bytes: &[u8]) -> Option<Drawop> {
+    on_page(source, 1, Shape::Text { x, y: 1, bytes })
 }
 
-/// A line of stars of source 7.
-pub(crate) fn stars() -> Result<Drawop, Fail> {
-    Ok(stroke(7, 1, b'*')?)
+/// `a` is a stroke of stars, `b` one of hashes with its name, and `d` and `e` are texts of two other sources.
+pub(crate) fn drawop(letter: u8) -> Option<Drawop> {
+    match letter {
+        b'a' => stroke(1, b'*'),
+        b'b' => stroke(1, b'#'),
+        b'd' => text(8, 1, b"ab"),
+        b'e' => text(9, 2, b"cd"),
+        _ => None,
+    }
 }
 
-/// Another line under the same name.
-pub(crate) fn hashes() -> Result<Drawop, Fail> {
-    Ok(stroke(7, 1, b'#')?)
+/// The drawops of these letters, in this order. None where memory is refused.
+pub(crate) fn drawops(alloc: Global, letters: &str) -> Option<Vec<Drawop>> {
+    let mut all = Vec::with_capacity(alloc, letters.len()).ok()?;
+    for letter in letters.as_bytes() {
+        all.push(drawop(*letter)?).ok()?;
+    }
+    Some(all)
 }
 
-/// A text of source 8.
-pub(crate) fn first_text() -> Result<Drawop, Fail> {
-    Ok(words(8, 1, b"ab")?)
+/// Whether these are the drawops of the letters, in this order.
+pub(crate) fn are_letters(drawops: &[Drawop], letters: &str) -> bool {
+    let letters = letters.as_bytes();
+    drawops.len() == letters.len()
+        && drawops
+            .iter()
+            .zip(letters)
+            .all(|(one, letter)| drawop(*letter) == Some(*one))
 }
 
-/// A text of source 9.
-pub(crate) fn second_text() -> Result<Drawop, Fail> {
-    Ok(words(9, 2, b"cd")?)
+fn open_board(alloc: Global, cells: u32) -> Option<(Board, Desk)>
+    ensures { IfSome result (λ t. IsPassOf t.0 t.1) }
+{
+    Board::open(alloc, cells).ok()
 }
 
-/// The drawop of source 7 with this number and glyph.
-pub(crate) fn numbered(seq: u32, glyph: u8) -> Result<Drawop, Fail> {
-    Ok(stroke(7, seq, glyph)?)
+fn split_rows(board: &Board, alloc: Global, desk: &mut Desk, rows: u32) -> Option<Desk>
+    requires { IsPassOf board.now desk.old }
+    ensures same { IsSamePass desk.old desk.new }
+    ensures new { IfSome result (λ other. IsPassOf board.now other) }
+{
+    board.split(alloc, desk, rows).ok()
 }
 
 /// A board of so many cells, with the desk that owns its rows but some, and the desk that owns those.
-pub(crate) fn open_two(alloc: Global, cells: u32, rows: u32) -> Result<(Board, Desk, Desk), Fail>
-    ensures { IfOk result (λ t. IsPassOf t.0 t.1 × IsPassOf t.0 t.2) }
+pub(crate) fn open_two(alloc: Global, cells: u32, rows: u32) -> Option<(Board, Desk, Desk)>
+    ensures { IfSome result (λ t. IsPassOf t.0 t.1 × IsPassOf t.0 t.2) }
 {
-    let (board, mut root) = Board::open(alloc, cells)?;
-    let other = board.split(alloc, &mut root, rows)?;
-    Ok((board, root, other))
+    let (board, mut root) = open_board(alloc, cells)?;
+    let other = split_rows(&board, alloc, &mut root, rows)?;
+    Some((board, root, other))
 }

@@ -38,6 +38,10 @@ impl Arrivals for Listed {
 
     ghost follows = { λ _ _. Unit {0} };
 
+    ghost follows_itself = { λ _. tt };
+
+    ghost follows_on = { λ _ _ _ _ _. tt };
+
     fn next(&mut self) -> Option<Drawop> {
         let at = self.next as usize;
         if self.next < self.end && at < self.all.len() {
@@ -70,6 +74,10 @@ impl Arrivals for Waits {
     ghost most_to_come = { λ s. 3 - s.next };
 
     ghost follows = { λ _ _. Unit {0} };
+
+    ghost follows_itself = { λ _. tt };
+
+    ghost follows_on = { λ _ _ _ _ _. tt };
 
     fn next(&mut self) -> Option<Drawop> {
         if self.next >= 3 {
