@@ -19,6 +19,7 @@ mod fields;
 mod header;
 pub mod laws;
 mod lists;
+mod parts;
 mod reading;
 mod row;
 mod version;

@@ -1,70 +1,25 @@
-ghost use Rattle.std.specs.Prelude.{◌≡◌, ◌<◌, ◌≤◌, ◌^◌, ◌++◌, length, IfOk, OnOk};
+ghost use Rattle.std.specs.Prelude.{◌≡◌, ◌<◌, ◌≤◌, ◌^◌, ◌∷◌, ◌++◌, length, IfOk, OnOk};
 ghost use Rattle.wb_names.specs.Drawing.{text_of};
 ghost use Rattle.wb_codec.specs.declared.datagram.Datagram.{Datagram as DatagramValue};
-ghost use Rattle.wb_codec.specs.Spelling.{page_bytes, name_bytes, stroke_bytes, text_bytes, target_bytes, op_bytes, drawop_bytes, mark_bytes, echo_bytes, marks_bytes, echoes_bytes, body, kind_code, op_version, version_code, version_of as version_of_datagram, spelling};
+ghost use Rattle.wb_codec.specs.Spelling.{text_bytes, op_bytes, drawop_bytes, echo_bytes, marks_bytes, echoes_bytes, body, kind_code, op_version, version_code, version_of as version_of_datagram, spelling};
 
 use crate::datagram::Datagram;
+use crate::parts::{
+    drawop_front, echo_part, header, mark_part, page_state_front, request_part, session_front,
+    stroke_part, target_part, text_front,
+};
 use crate::version::Version;
 use std::alloc::{AllocError, Global};
-use wb_names::{Drawop, Echo, Echoes, Mark, Marks, Name, Op, PageId};
+use wb_names::{Drawop, Echo, Echoes, Marks, Name, Op, PageId};
 
 // Each of these adds the bytes of a value at the end.
 
 #[inline(always)]
-fn put_page(out: &mut Vec<u8>, page: PageId) -> Result<(), AllocError>
-    ensures { OnOk result (out.new.items ≡ out.old.items ++ page_bytes page) }
-{
-    out.extend_from_slice(&page.creator.to_be_bytes())?;
-    out.extend_from_slice(&page.number.to_be_bytes())?;
-    Ok(())
-}
-
-#[inline(always)]
-fn put_name(out: &mut Vec<u8>, name: Name) -> Result<(), AllocError>
-    ensures { OnOk result (out.new.items ≡ out.old.items ++ name_bytes name) }
-{
-    out.extend_from_slice(&name.source().to_be_bytes())?;
-    put_page(out, name.page())?;
-    out.extend_from_slice(&name.seq().to_be_bytes())?;
-    Ok(())
-}
-
-#[inline(always)]
-fn put_stroke(
-    out: &mut Vec<u8>,
-    x0: u16,
-    y0: u16,
-    x1: u16,
-    y1: u16,
-    glyph: u8,
-) -> Result<(), AllocError>
-    ensures { OnOk result (out.new.items ≡ out.old.items ++ stroke_bytes x0 y0 x1 y1 glyph) }
-{
-    out.extend_from_slice(&x0.to_be_bytes())?;
-    out.extend_from_slice(&y0.to_be_bytes())?;
-    out.extend_from_slice(&x1.to_be_bytes())?;
-    out.extend_from_slice(&y1.to_be_bytes())?;
-    out.push(glyph)?;
-    Ok(())
-}
-
-#[inline(always)]
-fn put_target(out: &mut Vec<u8>, source: u32, seq: u32) -> Result<(), AllocError>
-    ensures { OnOk result (out.new.items ≡ out.old.items ++ target_bytes source seq) }
-{
-    out.extend_from_slice(&source.to_be_bytes())?;
-    out.extend_from_slice(&seq.to_be_bytes())?;
-    Ok(())
-}
-
-#[inline(always)]
 fn put_text(out: &mut Vec<u8>, x: u16, y: u16, text: &[u8]) -> Result<(), AllocError>
     requires { length text.now ≤ 64 }
-    ensures { OnOk result (out.new.items ≡ out.old.items ++ text_bytes x y text.now) }
+    ensures { OnOk result (out.new.items ≡ out.old.items ++ 3 ∷ text_bytes x y text.now) }
 {
-    out.extend_from_slice(&x.to_be_bytes())?;
-    out.extend_from_slice(&y.to_be_bytes())?;
-    out.push(text.len() as u8)?;
+    out.extend_from_slice(&text_front(x, y, text.len() as u8))?;
     out.extend_from_slice(text)?;
     Ok(())
 }
@@ -81,37 +36,17 @@ fn put_op(out: &mut Vec<u8>, op: &Op) -> Result<(), AllocError>
             x1,
             y1,
             glyph,
-        } => {
-            out.push(1)?;
-            put_stroke(out, *x0, *y0, *x1, *y1, *glyph)?;
-            Ok(())
-        }
+        } => out.extend_from_slice(&stroke_part(1, *x0, *y0, *x1, *y1, *glyph)),
         Op::Frame {
             x0,
             y0,
             x1,
             y1,
             glyph,
-        } => {
-            out.push(2)?;
-            put_stroke(out, *x0, *y0, *x1, *y1, *glyph)?;
-            Ok(())
-        }
-        Op::Text { x, y, text } => {
-            out.push(3)?;
-            put_text(out, *x, *y, text.as_slice())?;
-            Ok(())
-        }
-        Op::Delete { source, seq } => {
-            out.push(4)?;
-            put_target(out, *source, *seq)?;
-            Ok(())
-        }
-        Op::Restore { source, seq } => {
-            out.push(5)?;
-            put_target(out, *source, *seq)?;
-            Ok(())
-        }
+        } => out.extend_from_slice(&stroke_part(2, *x0, *y0, *x1, *y1, *glyph)),
+        Op::Text { x, y, text } => put_text(out, *x, *y, text.as_slice()),
+        Op::Delete { source, seq } => out.extend_from_slice(&target_part(4, *source, *seq)),
+        Op::Restore { source, seq } => out.extend_from_slice(&target_part(5, *source, *seq)),
     }
 }
 
@@ -120,28 +55,8 @@ fn put_op(out: &mut Vec<u8>, op: &Op) -> Result<(), AllocError>
 fn put_drawop(out: &mut Vec<u8>, drawop: &Drawop) -> Result<(), AllocError>
     ensures { OnOk result (out.new.items ≡ out.old.items ++ drawop_bytes drawop.now) }
 {
-    put_name(out, drawop.name())?;
-    out.extend_from_slice(&drawop.time().to_be_bytes())?;
+    out.extend_from_slice(&drawop_front(drawop))?;
     put_op(out, drawop.op())?;
-    Ok(())
-}
-
-#[inline(always)]
-fn put_mark(out: &mut Vec<u8>, mark: &Mark) -> Result<(), AllocError>
-    ensures { OnOk result (out.new.items ≡ out.old.items ++ mark_bytes mark.now) }
-{
-    out.extend_from_slice(&mark.source().to_be_bytes())?;
-    out.extend_from_slice(&mark.high().to_be_bytes())?;
-    Ok(())
-}
-
-#[inline(always)]
-fn put_echo(out: &mut Vec<u8>, echo: &Echo) -> Result<(), AllocError>
-    ensures { OnOk result (out.new.items ≡ out.old.items ++ echo_bytes echo.now) }
-{
-    out.extend_from_slice(&echo.source.to_be_bytes())?;
-    out.extend_from_slice(&echo.sent.to_be_bytes())?;
-    out.extend_from_slice(&echo.held.to_be_bytes())?;
     Ok(())
 }
 
@@ -151,9 +66,16 @@ fn put_marks(out: &mut Vec<u8>, marks: &Marks) -> Result<(), AllocError>
     let marks = marks.as_slice();
     out.extend_from_slice(&(marks.len() as u16).to_be_bytes())?;
     for mark in marks {
-        put_mark(out, mark)?;
+        out.extend_from_slice(&mark_part(mark))?;
     }
     Ok(())
+}
+
+#[inline(always)]
+fn put_echo(out: &mut Vec<u8>, echo: &Echo) -> Result<(), AllocError>
+    ensures { OnOk result (out.new.items ≡ out.old.items ++ echo_bytes echo.now) }
+{
+    out.extend_from_slice(&echo_part(echo))
 }
 
 fn put_echoes(out: &mut Vec<u8>, echoes: &Echoes) -> Result<(), AllocError>
@@ -177,20 +99,17 @@ fn put_session(
 ) -> Result<(), AllocError>
     ensures { OnOk result (out.new.items ≡ out.old.items ++ body (DatagramValue.Session sender sent page marks.now echoes.now)) }
 {
-    out.extend_from_slice(&sender.to_be_bytes())?;
-    out.extend_from_slice(&sent.to_be_bytes())?;
-    put_page(out, page)?;
+    out.extend_from_slice(&session_front(sender, sent, page))?;
     put_marks(out, marks)?;
     put_echoes(out, echoes)?;
     Ok(())
 }
 
+#[inline(always)]
 fn put_request(out: &mut Vec<u8>, asker: u32, name: Name) -> Result<(), AllocError>
     ensures { OnOk result (out.new.items ≡ out.old.items ++ body (DatagramValue.Request asker name)) }
 {
-    out.extend_from_slice(&asker.to_be_bytes())?;
-    put_name(out, name)?;
-    Ok(())
+    out.extend_from_slice(&request_part(asker, name))
 }
 
 fn put_page_state(
@@ -201,8 +120,7 @@ fn put_page_state(
 ) -> Result<(), AllocError>
     ensures { OnOk result (out.new.items ≡ out.old.items ++ body (DatagramValue.PageState sender page marks.now)) }
 {
-    out.extend_from_slice(&sender.to_be_bytes())?;
-    put_page(out, page)?;
+    out.extend_from_slice(&page_state_front(sender, page))?;
     put_marks(out, marks)?;
     Ok(())
 }
@@ -306,8 +224,7 @@ pub fn write(alloc: Global, datagram: &Datagram) -> Result<Vec<u8>, AllocError>
     let len = body_len(datagram);
     let (version, kind) = numbers_of(datagram);
     let mut bytes = Vec::with_capacity(alloc, 8 + len)?;
-    bytes.extend_from_slice(&[b'W', b'B', version, kind])?;
-    bytes.extend_from_slice(&(len as u32).to_be_bytes())?;
+    bytes.extend_from_slice(&header(version, kind, len as u32))?;
     put_body(&mut bytes, datagram)?;
     Ok(bytes)
 }

@@ -1,0 +1,173 @@
+ghost use Rattle.std.specs.Prelude.{◌≡◌, [], ◌∷◌, ◌++◌};
+ghost use Rattle.std.specs.Int.{w16, w32, w64, to_be_bytes};
+ghost use Rattle.wb_codec.specs.Spelling.{page_bytes, name_bytes, stroke_bytes, target_bytes, mark_bytes, echo_bytes};
+
+use wb_names::{Drawop, Echo, Mark, Name, PageId};
+
+// The bytes of what has as many in each datagram. Each is added to a datagram as a whole, so that the
+// room for it is looked at once, and not at each field.
+
+/// What stands in front of a body of so many bytes.
+#[inline(always)]
+pub(crate) fn header(version: u8, kind: u8, len: u32) -> [u8; 8]
+    ensures { result ≡ 0x57 ∷ 0x42 ∷ version ∷ kind ∷ to_be_bytes w32 len }
+{
+    let [l0, l1, l2, l3] = len.to_be_bytes();
+    [b'W', b'B', version, kind, l0, l1, l2, l3]
+}
+
+#[inline(always)]
+fn page_part(page: PageId) -> [u8; 8]
+    ensures { result ≡ page_bytes page }
+{
+    let [c0, c1, c2, c3] = page.creator.to_be_bytes();
+    let [n0, n1, n2, n3] = page.number.to_be_bytes();
+    [c0, c1, c2, c3, n0, n1, n2, n3]
+}
+
+#[inline(always)]
+fn name_part(name: Name) -> [u8; 16]
+    ensures { result ≡ name_bytes name }
+{
+    let [s0, s1, s2, s3] = name.source().to_be_bytes();
+    let [c0, c1, c2, c3, n0, n1, n2, n3] = page_part(name.page());
+    let [q0, q1, q2, q3] = name.seq().to_be_bytes();
+    [
+        s0, s1, s2, s3, c0, c1, c2, c3, n0, n1, n2, n3, q0, q1, q2, q3,
+    ]
+}
+
+/// A drawop's name and time.
+#[inline(always)]
+pub(crate) fn drawop_front(drawop: &Drawop) -> [u8; 24]
+    ensures { result ≡ name_bytes drawop.now.name ++ to_be_bytes w64 drawop.now.time }
+{
+    let [
+        a0,
+        a1,
+        a2,
+        a3,
+        a4,
+        a5,
+        a6,
+        a7,
+        a8,
+        a9,
+        a10,
+        a11,
+        a12,
+        a13,
+        a14,
+        a15,
+    ] = name_part(drawop.name());
+    let [t0, t1, t2, t3, t4, t5, t6, t7] = drawop.time().to_be_bytes();
+    [
+        a0, a1, a2, a3, a4, a5, a6, a7, a8, a9, a10, a11, a12, a13, a14, a15, t0, t1, t2, t3, t4,
+        t5, t6, t7,
+    ]
+}
+
+/// The operation of this number, whose fields are two points and a glyph.
+#[inline(always)]
+pub(crate) fn stroke_part(number: u8, x0: u16, y0: u16, x1: u16, y1: u16, glyph: u8) -> [u8; 10]
+    ensures { result ≡ number ∷ stroke_bytes x0 y0 x1 y1 glyph }
+{
+    let [a0, a1] = x0.to_be_bytes();
+    let [b0, b1] = y0.to_be_bytes();
+    let [c0, c1] = x1.to_be_bytes();
+    let [d0, d1] = y1.to_be_bytes();
+    [number, a0, a1, b0, b1, c0, c1, d0, d1, glyph]
+}
+
+/// The operation of this number, whose fields are a source and a sequence number.
+#[inline(always)]
+pub(crate) fn target_part(number: u8, source: u32, seq: u32) -> [u8; 9]
+    ensures { result ≡ number ∷ target_bytes source seq }
+{
+    let [s0, s1, s2, s3] = source.to_be_bytes();
+    let [q0, q1, q2, q3] = seq.to_be_bytes();
+    [number, s0, s1, s2, s3, q0, q1, q2, q3]
+}
+
+/// A text's number, its point and how many bytes it has.
+#[inline(always)]
+pub(crate) fn text_front(x: u16, y: u16, count: u8) -> [u8; 6]
+    ensures { result ≡ 3 ∷ (to_be_bytes w16 x ++ to_be_bytes w16 y ++ count ∷ []) }
+{
+    let [x0, x1] = x.to_be_bytes();
+    let [y0, y1] = y.to_be_bytes();
+    [3, x0, x1, y0, y1, count]
+}
+
+#[inline(always)]
+pub(crate) fn mark_part(mark: &Mark) -> [u8; 8]
+    ensures { result ≡ mark_bytes mark.now }
+{
+    let [s0, s1, s2, s3] = mark.source().to_be_bytes();
+    let [h0, h1, h2, h3] = mark.high().to_be_bytes();
+    [s0, s1, s2, s3, h0, h1, h2, h3]
+}
+
+#[inline(always)]
+pub(crate) fn echo_part(echo: &Echo) -> [u8; 20]
+    ensures { result ≡ echo_bytes echo.now }
+{
+    let [s0, s1, s2, s3] = echo.source.to_be_bytes();
+    let [t0, t1, t2, t3, t4, t5, t6, t7] = echo.sent.to_be_bytes();
+    let [h0, h1, h2, h3, h4, h5, h6, h7] = echo.held.to_be_bytes();
+    [
+        s0, s1, s2, s3, t0, t1, t2, t3, t4, t5, t6, t7, h0, h1, h2, h3, h4, h5, h6, h7,
+    ]
+}
+
+/// Who sends a session message, when, and the page that it is of.
+#[inline(always)]
+pub(crate) fn session_front(sender: u32, sent: u64, page: PageId) -> [u8; 20]
+    ensures { result ≡ to_be_bytes w32 sender ++ to_be_bytes w64 sent ++ page_bytes page }
+{
+    let [s0, s1, s2, s3] = sender.to_be_bytes();
+    let [t0, t1, t2, t3, t4, t5, t6, t7] = sent.to_be_bytes();
+    let [c0, c1, c2, c3, n0, n1, n2, n3] = page_part(page);
+    [
+        s0, s1, s2, s3, t0, t1, t2, t3, t4, t5, t6, t7, c0, c1, c2, c3, n0, n1, n2, n3,
+    ]
+}
+
+/// Who asks, and for what name.
+#[inline(always)]
+pub(crate) fn request_part(asker: u32, name: Name) -> [u8; 20]
+    ensures { result ≡ to_be_bytes w32 asker ++ name_bytes name }
+{
+    let [s0, s1, s2, s3] = asker.to_be_bytes();
+    let [
+        a0,
+        a1,
+        a2,
+        a3,
+        a4,
+        a5,
+        a6,
+        a7,
+        a8,
+        a9,
+        a10,
+        a11,
+        a12,
+        a13,
+        a14,
+        a15,
+    ] = name_part(name);
+    [
+        s0, s1, s2, s3, a0, a1, a2, a3, a4, a5, a6, a7, a8, a9, a10, a11, a12, a13, a14, a15,
+    ]
+}
+
+/// Who tells the state of a page, and of which.
+#[inline(always)]
+pub(crate) fn page_state_front(sender: u32, page: PageId) -> [u8; 12]
+    ensures { result ≡ to_be_bytes w32 sender ++ page_bytes page }
+{
+    let [s0, s1, s2, s3] = sender.to_be_bytes();
+    let [c0, c1, c2, c3, n0, n1, n2, n3] = page_part(page);
+    [s0, s1, s2, s3, c0, c1, c2, c3, n0, n1, n2, n3]
+}
