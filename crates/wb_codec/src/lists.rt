@@ -26,7 +26,7 @@ pub(crate) fn marks_of(alloc: Global, entries: Entries<'_>) -> Result<Marks, All
         let Ok(mark) = Mark::new(fields.source, fields.high) else {
             unreachable!()
         };
-        marks.push(mark)?;
+        marks.push_reserved(mark);
         before = Some(fields.source);
         rest = after;
     }
@@ -48,7 +48,7 @@ pub(crate) fn echoes_of(alloc: Global, entries: Entries<'_>) -> Result<Echoes, A
         let Ok((echo, after)) = echo_of(before, rest) else {
             unreachable!()
         };
-        echoes.push(echo)?;
+        echoes.push_reserved(echo);
         before = Some(echo.source);
         rest = after;
     }

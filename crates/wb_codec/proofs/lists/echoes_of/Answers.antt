@@ -10,7 +10,7 @@ pub unreachable-requires : goal.unreachable-requires
 unreachable-requires c = never_stops _ _ c.requires (read_stops echo_at echo_source _ _ _ _ _ _ _ c.loop-k.invariant.1 (omega arith) c.in_default.ensures)
 
 pub loop-k-preserved : goal.loop-k-preserved
-loop-k-preserved c = (omega arith, read_pushed echo_at echo_source _ _ _ _ _ _ _ _ _ c.loop-k.invariant.1 (omega arith) c.in-Ok.ensures c.in_ok-push.ensures.items)
+loop-k-preserved c = ((omega arith, omega arith, omega arith), read_pushed echo_at echo_source _ _ _ _ _ _ _ _ _ c.loop-k.invariant.1 (omega arith) c.in-Ok.ensures c.push_reserved.ensures.items)
 
 pub unreachable-requires-in_default-new : goal.unreachable-requires-in_default-new
 unreachable-requires-in_default-new c =

@@ -13,7 +13,7 @@ unreachable-requires c = never_stops _ _ c.requires (read_stops mark_at mark_sou
 pub loop-k-preserved : goal.loop-k-preserved
 loop-k-preserved c =
     let made = made_of _ _ _ c.in-Ok-new.ensures in
-    (omega arith, read_pushed mark_at mark_source _ _ _ _ _ _ _ _ _ c.loop-k.invariant.1 (omega arith) c.in-Ok.ensures.mark (c.in_ok-push.ensures.items ∙ ap (λ (m : MarkValue). c.loop-k.marks.items ++ m ∷ []) made))
+    ((omega arith, omega arith, omega arith), read_pushed mark_at mark_source _ _ _ _ _ _ _ _ _ c.loop-k.invariant.1 (omega arith) c.in-Ok.ensures.mark (c.push_reserved.ensures.items ∙ ap (λ (m : MarkValue). c.loop-k.marks.items ++ m ∷ []) made))
 
 pub unreachable-requires-in_default-new-2 : goal.unreachable-requires-in_default-new-2
 unreachable-requires-in_default-new-2 c =
