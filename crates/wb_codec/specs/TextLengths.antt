@@ -1,11 +1,14 @@
 -- The lengths of texts, apart from the other checks of a drawop.
-use Rattle.std.specs.Prelude.{Bool, true, Option, Some, None, length}
+use Rattle.std.specs.Prelude.{ℕ, Bool, true, Option, Some, None, Result, length}
+use Rattle.wb_names.specs.Values.{NameValue, DrawopValue}
+use Rattle.wb_names.specs.Drawing.{seq_fault}
 use Rattle.wb_names.specs.declared.fault.FieldFault.{FieldFault}
 use Rattle.wb_names.specs.declared.fault.FieldFault.TheVariants.{SeqZero, Coordinate, Glyph, TextLength, TextByte, TargetZero, TargetSelf}
 use Rattle.wb_names.specs.declared.drawop.Op.{Op}
 use Rattle.wb_names.specs.declared.drawop.Op.TheVariants.{Line, Frame, Text, Delete, Restore}
 use Rattle.wb_codec.specs.declared.version.Version.{Version}
-use Rattle.wb_codec.specs.Reading.{is_length_of}
+use Rattle.wb_codec.specs.declared.fault.ReadFault.{ReadFault}
+use Rattle.wb_codec.specs.Reading.{◌>>=◌, is_length_of, in_range, told_fault}
 
 -- the version says texts of this length
 abbrev pub is_length_told : Version → Op → Bool
@@ -25,3 +28,9 @@ fault_at_length (Some TextLength) = TextLength
 fault_at_length (Some TextByte) = TextLength
 fault_at_length (Some TargetZero) = TextLength
 fault_at_length (Some TargetSelf) = TextLength
+
+-- the drawop of these fields, or the first that has a fault
+abbrev pub drawop_told : Version → NameValue → ℕ → Op → Result DrawopValue ReadFault
+drawop_told version name time op = do
+  named ← in_range (seq_fault name.seq) name
+  in_range (told_fault version named op) (record { name = named; time = time; op = op })

@@ -3,10 +3,10 @@ ghost use Rattle.std.specs.Result.{result_err};
 ghost use Rattle.wb_names.specs.Shapes.{op_of};
 ghost use Rattle.wb_names.specs.declared.drawop.Op.TheVariants.{Line as LineOp, Frame as FrameOp, Delete as DeleteOp, Restore as RestoreOp};
 ghost use Rattle.wb_codec.specs.Reading.{Gives, stroke_at, text_at, target_at, fields_at, op_at, drawop_at};
-ghost use Rattle.wb_codec.specs.TextLengths.{is_length_told, fault_at_length};
+ghost use Rattle.wb_codec.specs.TextLengths.{is_length_told, fault_at_length, drawop_told};
 
 use crate::fault::ReadFault;
-use crate::fields::{name_of, u8_of, u16_of, u32_of, u64_of};
+use crate::fields::{NameFields, name_of, u8_of, u16_of, u32_of, u64_of};
 use crate::version::Version;
 use wb_names::{Drawop, FieldFault, Name, Shape};
 
@@ -139,6 +139,25 @@ fn length_fault(made: &Result<Drawop, FieldFault>) -> FieldFault
     }
 }
 
+/// The drawop of these fields, which are checked in their order.
+#[inline(always)]
+fn drawop_from(
+    version: Version,
+    fields: NameFields,
+    time: u64,
+    shape: Shape<'_>,
+) -> Result<Drawop, ReadFault>
+    ensures { result ≡ drawop_told version (record { source = fields.source; page = fields.page; seq = fields.seq }) time (op_of shape.entry) }
+{
+    let name = Name::new(fields.source, fields.page, fields.seq)?;
+    let made = Drawop::new(name, time, shape);
+    if !is_length_said(version, &shape) {
+        return Err(ReadFault::Field(length_fault(&made)));
+    }
+    let drawop = made?;
+    Ok(drawop)
+}
+
 /// A drawop that takes all of the bytes.
 #[inline(always)]
 #[tactic(auto, unfolding(crate::specs::Reading::drawop_at))]
@@ -151,11 +170,5 @@ pub(crate) fn drawop_of(version: Version, bytes: &[u8]) -> Result<Drawop, ReadFa
     if !rest.is_empty() {
         return Err(ReadFault::Length);
     }
-    let name = Name::new(fields.source, fields.page, fields.seq)?;
-    let made = Drawop::new(name, time, shape);
-    if !is_length_said(version, &shape) {
-        return Err(ReadFault::Field(length_fault(&made)));
-    }
-    let drawop = made?;
-    Ok(drawop)
+    drawop_from(version, fields, time, shape)
 }
