@@ -1,4 +1,5 @@
 ghost use Rattle.std.specs.Prelude.{◌≡◌, [], ◌∷◌, ◌++◌};
+ghost use Rattle.std.specs.List.{flat_map};
 ghost use Rattle.std.specs.Int.{w16, w32, w64, to_be_bytes};
 ghost use Rattle.wb_codec.specs.Spelling.{page_bytes, name_bytes, stroke_bytes, target_bytes, mark_bytes, echo_bytes};
 
@@ -16,54 +17,27 @@ pub(crate) fn header(version: u8, kind: u8, len: u32) -> [u8; 8]
     [b'W', b'B', version, kind, l0, l1, l2, l3]
 }
 
+/// Two numbers, one after the other.
 #[inline(always)]
-fn page_part(page: PageId) -> [u8; 8]
-    ensures { result ≡ page_bytes page }
+fn pair(first: u32, second: u32) -> [u8; 8]
+    ensures { result ≡ to_be_bytes w32 first ++ to_be_bytes w32 second }
 {
-    let [c0, c1, c2, c3] = page.creator.to_be_bytes();
-    let [n0, n1, n2, n3] = page.number.to_be_bytes();
-    [c0, c1, c2, c3, n0, n1, n2, n3]
+    let [a0, a1, a2, a3] = first.to_be_bytes();
+    let [b0, b1, b2, b3] = second.to_be_bytes();
+    [a0, a1, a2, a3, b0, b1, b2, b3]
 }
 
+/// A drawop's name and time, eight bytes a row: longer arrays are stored byte by byte.
 #[inline(always)]
-fn name_part(name: Name) -> [u8; 16]
-    ensures { result ≡ name_bytes name }
+pub(crate) fn drawop_front(drawop: &Drawop) -> [[u8; 8]; 3]
+    ensures { flat_map (λ row. row) result ≡ name_bytes drawop.now.name ++ to_be_bytes w64 drawop.now.time }
 {
-    let [s0, s1, s2, s3] = name.source().to_be_bytes();
-    let [c0, c1, c2, c3, n0, n1, n2, n3] = page_part(name.page());
-    let [q0, q1, q2, q3] = name.seq().to_be_bytes();
+    let name = drawop.name();
+    let page = name.page();
     [
-        s0, s1, s2, s3, c0, c1, c2, c3, n0, n1, n2, n3, q0, q1, q2, q3,
-    ]
-}
-
-/// A drawop's name and time.
-#[inline(always)]
-pub(crate) fn drawop_front(drawop: &Drawop) -> [u8; 24]
-    ensures { result ≡ name_bytes drawop.now.name ++ to_be_bytes w64 drawop.now.time }
-{
-    let [
-        a0,
-        a1,
-        a2,
-        a3,
-        a4,
-        a5,
-        a6,
-        a7,
-        a8,
-        a9,
-        a10,
-        a11,
-        a12,
-        a13,
-        a14,
-        a15,
-    ] = name_part(drawop.name());
-    let [t0, t1, t2, t3, t4, t5, t6, t7] = drawop.time().to_be_bytes();
-    [
-        a0, a1, a2, a3, a4, a5, a6, a7, a8, a9, a10, a11, a12, a13, a14, a15, t0, t1, t2, t3, t4,
-        t5, t6, t7,
+        pair(name.source(), page.creator),
+        pair(page.number, name.seq()),
+        drawop.time().to_be_bytes(),
     ]
 }
 
@@ -103,9 +77,7 @@ pub(crate) fn text_front(x: u16, y: u16, count: u8) -> [u8; 6]
 pub(crate) fn mark_part(mark: &Mark) -> [u8; 8]
     ensures { result ≡ mark_bytes mark.now }
 {
-    let [s0, s1, s2, s3] = mark.source().to_be_bytes();
-    let [h0, h1, h2, h3] = mark.high().to_be_bytes();
-    [s0, s1, s2, s3, h0, h1, h2, h3]
+    pair(mark.source(), mark.high())
 }
 
 #[inline(always)]
@@ -127,47 +99,35 @@ pub(crate) fn session_front(sender: u32, sent: u64, page: PageId) -> [u8; 20]
 {
     let [s0, s1, s2, s3] = sender.to_be_bytes();
     let [t0, t1, t2, t3, t4, t5, t6, t7] = sent.to_be_bytes();
-    let [c0, c1, c2, c3, n0, n1, n2, n3] = page_part(page);
+    let [p0, p1, p2, p3, p4, p5, p6, p7] = pair(page.creator, page.number);
     [
-        s0, s1, s2, s3, t0, t1, t2, t3, t4, t5, t6, t7, c0, c1, c2, c3, n0, n1, n2, n3,
+        s0, s1, s2, s3, t0, t1, t2, t3, t4, t5, t6, t7, p0, p1, p2, p3, p4, p5, p6, p7,
     ]
 }
 
-/// Who asks, and for what name.
+/// Who asks, and for what name, a number a row.
 #[inline(always)]
-pub(crate) fn request_part(asker: u32, name: Name) -> [u8; 20]
-    ensures { result ≡ to_be_bytes w32 asker ++ name_bytes name }
+pub(crate) fn request_part(asker: u32, name: Name) -> [[u8; 4]; 5]
+    ensures { flat_map (λ row. row) result ≡ to_be_bytes w32 asker ++ name_bytes name }
 {
-    let [s0, s1, s2, s3] = asker.to_be_bytes();
-    let [
-        a0,
-        a1,
-        a2,
-        a3,
-        a4,
-        a5,
-        a6,
-        a7,
-        a8,
-        a9,
-        a10,
-        a11,
-        a12,
-        a13,
-        a14,
-        a15,
-    ] = name_part(name);
+    let page = name.page();
     [
-        s0, s1, s2, s3, a0, a1, a2, a3, a4, a5, a6, a7, a8, a9, a10, a11, a12, a13, a14, a15,
+        asker.to_be_bytes(),
+        name.source().to_be_bytes(),
+        page.creator.to_be_bytes(),
+        page.number.to_be_bytes(),
+        name.seq().to_be_bytes(),
     ]
 }
 
-/// Who tells the state of a page, and of which.
+/// Who tells the state of a page, and of which, a number a row.
 #[inline(always)]
-pub(crate) fn page_state_front(sender: u32, page: PageId) -> [u8; 12]
-    ensures { result ≡ to_be_bytes w32 sender ++ page_bytes page }
+pub(crate) fn page_state_front(sender: u32, page: PageId) -> [[u8; 4]; 3]
+    ensures { flat_map (λ row. row) result ≡ to_be_bytes w32 sender ++ page_bytes page }
 {
-    let [s0, s1, s2, s3] = sender.to_be_bytes();
-    let [c0, c1, c2, c3, n0, n1, n2, n3] = page_part(page);
-    [s0, s1, s2, s3, c0, c1, c2, c3, n0, n1, n2, n3]
+    [
+        sender.to_be_bytes(),
+        page.creator.to_be_bytes(),
+        page.number.to_be_bytes(),
+    ]
 }

@@ -55,7 +55,7 @@ fn put_op(out: &mut Vec<u8>, op: &Op) -> Result<(), AllocError>
 fn put_drawop(out: &mut Vec<u8>, drawop: &Drawop) -> Result<(), AllocError>
     ensures { OnOk result (out.new.items ≡ out.old.items ++ drawop_bytes drawop.now) }
 {
-    out.extend_from_slice(&drawop_front(drawop))?;
+    out.extend_from_slice(drawop_front(drawop).as_flattened())?;
     put_op(out, drawop.op())?;
     Ok(())
 }
@@ -109,7 +109,7 @@ fn put_session(
 fn put_request(out: &mut Vec<u8>, asker: u32, name: Name) -> Result<(), AllocError>
     ensures { OnOk result (out.new.items ≡ out.old.items ++ body (DatagramValue.Request asker name)) }
 {
-    out.extend_from_slice(&request_part(asker, name))
+    out.extend_from_slice(request_part(asker, name).as_flattened())
 }
 
 fn put_page_state(
@@ -120,7 +120,7 @@ fn put_page_state(
 ) -> Result<(), AllocError>
     ensures { OnOk result (out.new.items ≡ out.old.items ++ body (DatagramValue.PageState sender page marks.now)) }
 {
-    out.extend_from_slice(&page_state_front(sender, page))?;
+    out.extend_from_slice(page_state_front(sender, page).as_flattened())?;
     put_marks(out, marks)?;
     Ok(())
 }
