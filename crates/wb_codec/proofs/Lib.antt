@@ -12,4 +12,5 @@ pub mod ListFaults
 pub mod NoMemory
 pub mod OpLaws
 pub mod RowLaws
+pub mod TooShort
 pub mod WholeLaws

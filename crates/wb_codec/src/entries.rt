@@ -24,13 +24,18 @@ fn is_above(before: Option<u32>, source: u32) -> bool
     }
 }
 
+// Each of these looks at the length once: after that the compiler knows that each field fits.
+
 /// The fields of a mark, and the bytes after it.
 #[inline(always)]
-#[tactic(auto, unfolding(crate::specs::Reading::mark_at))]
+#[tactic(auto, unfolding(crate::specs::Reading::mark_at), using(crate::proofs::TooShort::mark_short))]
 pub(crate) fn mark_of(before: Option<u32>, bytes: &[u8]) -> Result<(MarkFields, &[u8]), ReadFault>
     ensures mark { Gives (λ x. (record { source = x.0.source; high = x.0.high }, x.1.now)) result (mark_at before bytes.now) }
     ensures positive { IfOk result (λ x. 1 ≤ x.0.high) }
 {
+    if bytes.len() < 8 {
+        return Err(ReadFault::Length);
+    }
     let (source, rest) = u32_of(bytes)?;
     let (high, rest) = u32_of(rest)?;
     if high == 0 {
@@ -44,10 +49,13 @@ pub(crate) fn mark_of(before: Option<u32>, bytes: &[u8]) -> Result<(MarkFields, 
 
 /// An echo, and the bytes after it.
 #[inline(always)]
-#[tactic(auto, unfolding(crate::specs::Reading::echo_at))]
+#[tactic(auto, unfolding(crate::specs::Reading::echo_at), using(crate::proofs::TooShort::echo_short))]
 pub(crate) fn echo_of(before: Option<u32>, bytes: &[u8]) -> Result<(Echo, &[u8]), ReadFault>
     ensures { Gives (λ x. (x.0, x.1.now)) result (echo_at before bytes.now) }
 {
+    if bytes.len() < 20 {
+        return Err(ReadFault::Length);
+    }
     let (source, rest) = u32_of(bytes)?;
     let (sent, rest) = u64_of(rest)?;
     let (held, rest) = u64_of(rest)?;
