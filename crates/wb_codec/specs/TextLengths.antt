@@ -1,4 +1,4 @@
--- The lengths of texts, apart from the other checks of a drawop.
+-- The lengths of texts, apart from the other checks of a drawop; and all these checks in their order.
 use Rattle.std.specs.Prelude.{ℕ, Bool, true, Option, Some, None, Result, length}
 use Rattle.wb_names.specs.Values.{NameValue, DrawopValue}
 use Rattle.wb_names.specs.Drawing.{seq_fault}
