@@ -1,5 +1,5 @@
 -- Only whole datagrams are read: what ends before its end is short, what goes on behind it trails.
-use Rattle.std.proofs.Common.{◌≡◌, ℕ, zero, suc, ◌+◌, ◌^◌, ◌<◌, ◌≤◌, true, false, List, [], ◌∷◌, ◌++◌, length, get_or, take, Ok, Err, refl, sym, ap, ◌∙◌, arith, inl, inr}
+use Rattle.std.proofs.Common.{◌≡◌, ℕ, zero, suc, ◌+◌, ◌^◌, ◌<◌, true, false, List, ◌∷◌, ◌++◌, length, take, Ok, Err, refl, sym, ap, ◌∙◌, arith, inl, inr}
 use Rattle.std.specs.Prelude.{All, nat_le}
 use Rattle.std.proofs.lemmas.Bool.{cases_lt, le-leb}
 use Rattle.std.proofs.lemmas.Bool.Decides.{nat_tests}
@@ -10,7 +10,7 @@ use Rattle.wb_codec.specs.declared.header.Kind.{Kind}
 use Rattle.wb_codec.specs.declared.version.Version.{Version}
 use Rattle.wb_codec.specs.declared.fault.ReadFault.TheVariants.{Short, Trailing}
 use Rattle.wb_codec.specs.Ranges.{IsDatagram}
-use Rattle.wb_codec.specs.Spelling.{version_code, version_of, kind_code, framed, body, spelling}
+use Rattle.wb_codec.specs.Spelling.{version_code, version_of, framed, body, spelling}
 use Rattle.wb_codec.specs.Reading.{frame_at, reading}
 use Rattle.wb_codec.specs.Grammar.{Spells}
 use Rattle.wb_codec.proofs.Bytes.{IsBytes}

@@ -1,12 +1,11 @@
 -- Some datagrams, and their bytes as the layout is documented; some records.
 use Rattle.std.specs.Prelude.{ℕ, List, [], ◌∷◌, ◌++◌, replicate}
-use Rattle.wb_names.specs.Values.{NameValue, DrawopValue, MarkValue}
+use Rattle.wb_names.specs.Values.{DrawopValue}
 use Rattle.wb_names.specs.declared.name.PageId.{PageId}
-use Rattle.wb_names.specs.declared.echo.Echo.{Echo}
 use Rattle.wb_names.specs.declared.drawop.Op.{Op}
 use Rattle.wb_names.specs.declared.drawop.Op.TheVariants.{Line, Text, Delete, Restore}
 use Rattle.wb_codec.specs.declared.datagram.Datagram.{Datagram}
-use Rattle.wb_codec.specs.declared.datagram.Datagram.TheVariants.{Draw, Session, Request, AskPages, PageState}
+use Rattle.wb_codec.specs.declared.datagram.Datagram.TheVariants.{Session, Request, AskPages, PageState}
 
 -- pages of member 7
 abbrev pub page : ℕ → PageId
