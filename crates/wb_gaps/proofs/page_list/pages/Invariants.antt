@@ -1,5 +1,9 @@
-use Rattle.std.proofs.Common.{◌≡◌, take, map}
+use Rattle.std.proofs.Common.{◌≡◌, length, take}
+use Rattle.wb_gaps.proofs.PageOrder.{HasPages}
 use Rattle.wb_gaps.proofs.page_list.pages.Given as goal
 
 abbrev pub invariant-loop-drawop : goal.invariant-loop-drawop
-invariant-loop-drawop l = l.pages.items ≡ map (λ d. d.name.page) (take l.drawop-index l.list)
+invariant-loop-drawop l = record {
+  all : HasPages (take l.drawop-index l.list) l.pages.items;
+  places : length l.places ≡ 256;
+}
