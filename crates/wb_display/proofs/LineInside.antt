@@ -20,6 +20,9 @@ same_steps p a b s m k same e =
     let P : ℕ → Type 0 = λ t. p ≡ record { from = a; to = b; steps = t; gone = k } in
     subst P same e
 
+pub before_end : (p q end : ℕ) → p ≡ q → q < end → p < end
+before_end p q end same lt = omega arith
+
 -- the steps at which both coordinates are inside
 pub both_inside : (w h x0 y0 x1 y1 m f e : ℕ) (a b : Steps) → f ≡ max a.first b.first → e ≡ min a.end b.end
     → ((k : ℕ) → k < a.first → w ≤ line_at x0 x1 m k) → ((k : ℕ) → a.first ≤ k → k < a.end → line_at x0 x1 m k < w) → ((k : ℕ) → a.end ≤ k → k ≤ m → w ≤ line_at x0 x1 m k) → a.end ≤ m + 1
