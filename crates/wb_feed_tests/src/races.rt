@@ -4,7 +4,7 @@ ghost use Rattle.wb_history.specs.Passes.{IsPassOf};
 
 use crate::batches::counts;
 use crate::gates::{Meeting, TURNS, WaitsForOne};
-use crate::samples::{PAGE, are_letters, drawop, drawops, open_two};
+use crate::samples::{Answer, PAGE, accepts, are_letters, drawop, drawops, open_two};
 use crate::sources::Listed;
 use std::alloc::Global;
 use std::process::Abort;
@@ -13,9 +13,6 @@ use std::thread::{self, Threads};
 use wb_feed::{Batch, FeedFault, run_batch};
 use wb_host::{Board, BoardFault, Desk, Reply};
 use wb_names::Drawop;
-
-/// What a board answers to an arrival.
-type Answer = Result<Reply, BoardFault>;
 
 /// Accepts the drawop once the other thread is about to do so too.
 fn accept_at_once(
@@ -113,10 +110,10 @@ fn one_of_two_threads_is_first(rt: HostRuntime) {
 /// does not own all rows.
 fn loses_a_row(alloc: Global) -> Option<bool> {
     let (board, mut root, mut other) = open_two(alloc, 3, 2)?;
-    let first = board.accept(&mut other, &drawop(b'a')?) == Ok(Reply::New(0));
+    let first = accepts(&board, &mut other, b'a', Ok(Reply::New(0)));
     drop(other);
-    let second = board.accept(&mut root, &drawop(b'd')?) == Ok(Reply::New(1));
-    let third = board.accept(&mut root, &drawop(b'e')?) == Err(BoardFault::NoRow);
+    let second = accepts(&board, &mut root, b'd', Ok(Reply::New(1)));
+    let third = accepts(&board, &mut root, b'e', Err(BoardFault::NoRow));
     let left = are_letters(root.list(), "ad") && !root.is_whole();
     Some(first && second && third && left)
 }

@@ -2,69 +2,46 @@
 
 ghost use Rattle.wb_history.specs.Passes.{IsPassOf, IsSamePass};
 
-use crate::samples::{are_letters, drawop, open_two};
+use crate::samples::{accepts, are_letters, drawop, open_two};
 use std::alloc::Global;
 use std::process::Abort;
 use std::thread::Threads;
 use wb_feed::{RelayFault, relay};
 use wb_host::{Board, Desk, Reply};
 
-/// Whether a relay of the drawop has this answer, and leaves the hearer with this list.
-fn tells<R: Threads + Sync>(
+/// What a relay answers.
+type Relayed = Result<Reply, RelayFault>;
+
+/// What a relay of the drawop of a letter answers. None where no drawop has the letter.
+fn relayed<R: Threads + Sync>(
     rt: &R,
     alloc: Global,
     board: &Board,
     teller: &mut Desk,
     hearer: &mut Desk,
     letter: u8,
-    answer: Result<Reply, RelayFault>,
-    list: &str,
-) -> bool
+) -> Option<Relayed>
     requires { IsPassOf board.now teller.old × IsPassOf board.now hearer.old }
     ensures { IsSamePass teller.old teller.new × IsSamePass hearer.old hearer.new }
 {
-    match drawop(letter) {
-        Some(drawop) => {
-            relay(rt, alloc, board, teller, hearer, &drawop) == answer
-                && are_letters(hearer.list(), list)
-        }
-        None => false,
-    }
+    let drawop = drawop(letter)?;
+    Some(relay(rt, alloc, board, teller, hearer, &drawop))
+}
+
+/// Whether a relay had this answer, and the hearer has this list.
+fn has_told(relayed: Option<Relayed>, answer: Relayed, hearer: &Desk, list: &str) -> bool {
+    relayed == Some(answer) && are_letters(hearer.list(), list)
 }
 
 /// Whether two desks that have rows tell one another what they accept.
 fn rows_tell<R: Threads + Sync>(rt: &R, alloc: Global) -> Option<bool> {
     let (board, mut one, mut two) = open_two(alloc, 4, 2)?;
-    let first = tells(
-        rt,
-        alloc,
-        &board,
-        &mut two,
-        &mut one,
-        b'd',
-        Ok(Reply::New(0)),
-        "d",
-    );
-    let second = tells(
-        rt,
-        alloc,
-        &board,
-        &mut one,
-        &mut two,
-        b'a',
-        Ok(Reply::New(1)),
-        "da",
-    );
-    let third = tells(
-        rt,
-        alloc,
-        &board,
-        &mut two,
-        &mut one,
-        b'b',
-        Ok(Reply::Clash(1)),
-        "da",
-    );
+    let told = relayed(rt, alloc, &board, &mut two, &mut one, b'd');
+    let first = has_told(told, Ok(Reply::New(0)), &one, "d");
+    let told = relayed(rt, alloc, &board, &mut one, &mut two, b'a');
+    let second = has_told(told, Ok(Reply::New(1)), &two, "da");
+    let told = relayed(rt, alloc, &board, &mut two, &mut one, b'b');
+    let third = has_told(told, Ok(Reply::Clash(1)), &one, "da");
     Some(first && second && third)
 }
 
@@ -76,20 +53,11 @@ fn the_hearer_has_seen_what_the_teller_has(rt: HostRuntime) {
 /// Whether a desk without a row has nothing to tell, and the hearer stays as it was.
 fn poor_tells<R: Threads + Sync>(rt: &R, alloc: Global) -> Option<bool> {
     let (board, mut poor, mut hearer) = open_two(alloc, 4, 4)?;
-    let first = board.accept(&mut hearer, &drawop(b'd')?) == Ok(Reply::New(0));
-    let second = board.accept(&mut hearer, &drawop(b'a')?) == Ok(Reply::New(1));
-    let refused = Err(RelayFault::NoRow);
-    let untold = tells(
-        rt,
-        alloc,
-        &board,
-        &mut poor,
-        &mut hearer,
-        b'e',
-        refused,
-        "da",
-    );
-    Some(first && second && untold)
+    let first = accepts(&board, &mut hearer, b'd', Ok(Reply::New(0)));
+    let second = accepts(&board, &mut hearer, b'a', Ok(Reply::New(1)));
+    let told = relayed(rt, alloc, &board, &mut poor, &mut hearer, b'e');
+    let third = has_told(told, Err(RelayFault::NoRow), &hearer, "da");
+    Some(first && second && third)
 }
 
 #[test]

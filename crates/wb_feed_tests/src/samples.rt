@@ -4,7 +4,7 @@ ghost use Rattle.std.specs.Prelude.{IfSome};
 ghost use Rattle.wb_history.specs.Passes.{IsPassOf, IsSamePass};
 
 use std::alloc::Global;
-use wb_host::{Board, Desk};
+use wb_host::{Board, BoardFault, Desk, Reply};
 use wb_names::{Drawop, Name, PageId, Shape};
 
 pub(crate) const PAGE: PageId = PageId {
@@ -84,4 +84,18 @@ pub(crate) fn open_two(alloc: Global, cells: u32, rows: u32) -> Option<(Board, D
     let (board, mut root) = open_board(alloc, cells)?;
     let other = split_rows(&board, alloc, &mut root, rows)?;
     Some((board, root, other))
+}
+
+/// What a board answers to an arrival.
+pub(crate) type Answer = Result<Reply, BoardFault>;
+
+/// Whether the desk accepts the drawop of a letter with this answer.
+pub(crate) fn accepts(board: &Board, desk: &mut Desk, letter: u8, wanted: Answer) -> bool
+    requires { IsPassOf board.now desk.old }
+    ensures { IsSamePass desk.old desk.new }
+{
+    match drawop(letter) {
+        Some(drawop) => board.accept(desk, &drawop) == wanted,
+        None => false,
+    }
 }
