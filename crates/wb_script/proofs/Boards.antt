@@ -1,9 +1,7 @@
 -- What the desk that owns all rows of a board is answered: p is the desk before the call, q the desk after it.
-use Rattle.std.proofs.Common.{◌≡◌, ℕ, ◌+◌, ◌<◌, ◌≤◌, ◌^◌, Bool, true, false, List, [], length, take, refl, sym, ap, ◌∙◌, subst, arith, ◌⊎◌, inl, inr}
-use Rattle.std.specs.Prelude.{Result, Ok, Err, IfOk, IsPermutation, nat_le, ◌||◌}
-use Rattle.std.proofs.lemmas.Bool.{false≢true}
+use Rattle.std.proofs.Common.{◌≡◌, ℕ, ◌+◌, ◌<◌, ◌≤◌, Bool, true, false, List, length, refl, sym, ap, ◌∙◌, subst, arith, ◌⊎◌, inl, inr}
+use Rattle.std.specs.Prelude.{Result, Ok, Err, IfOk, IsPermutation, nat_le}
 use Rattle.std.proofs.lemmas.Bool.Decides.{nat_tests}
-use Rattle.std.proofs.lemmas.List.{take_all}
 use Rattle.std.proofs.lemmas.List.Sorted.{IsPermutation-refl}
 use Rattle.wb_names.specs.Values.{DrawopValue, MarkValue}
 use Rattle.wb_names.specs.declared.name.PageId.{PageId}
@@ -22,7 +20,7 @@ use Rattle.wb_feed.specs.Batches.{counts_in, IsInOrder, TakesMore}
 use Rattle.wb_script.specs.Board.{Held, held_of, OwnsAll}
 use Rattle.wb_script.specs.Hosts.{board_after}
 use Rattle.wb_script.specs.Queries.{view_of}
-use Rattle.wb_script.specs.Stations.{TakesAll}
+use Rattle.wb_script.specs.Stations.{TakesAll, TakesGiven}
 use Rattle.wb_script.proofs.Queries.{only_view}
 
 kept : (b : HistoryValue) (p q : PassValue) → OwnsAll b p → IsSamePass p q → IsSound q → KeepsRows p q → OwnsAll b q
@@ -38,14 +36,6 @@ kept b p q owns same sound rows = record {
 pub owns_after : (b : HistoryValue) (p q : PassValue) (given given' : List DrawopValue) (workers : ℕ) (n : Batch) → OwnsAll b p → DeskKeeps p q → IsSound q → TakesMore p given workers q given' n → OwnsAll b q
 owns_after b p q given given' workers n owns keeps sound takes = record { from = keeps.same.0 ∙ owns.from; whole = takes.takes.whole owns.whole; sound = sound }
 
--- a source that is at its end has given its list
-all_given : (all : List DrawopValue) (given : ℕ) → length all < 2 ^ 32 → nat_le (length all) given || nat_le 4294967295 given ≡ true → take given all ≡ all
-all_given all given few e = take_all given all (long (nat_le (length all) given) (nat_le 4294967295 given) refl refl e) where
-  long : (a b : Bool) → nat_le (length all) given ≡ a → nat_le 4294967295 given ≡ b → a || b ≡ true → length all ≤ given
-  long true b x y f = grind (arith, nat_tests, x)
-  long false true x y f = let z : 4294967295 ≤ given = grind (arith, nat_tests, y) in omega (arith, few, z)
-  long false false x y f = absurd (false≢true f)
-
 -- one thread that takes it in this order
 in_order : (p q : PassValue) (h : Held) (workers : ℕ) (batch order : List DrawopValue) (n : Batch) → held_of p ≡ h → IsSound p → q.cells ≡ p.cells → IsPermutation batch order → (workers ≤ 1 → order ≡ batch) → IsInOrder p order q n → TakesAll h workers batch (held_of q) (counts_in n)
 in_order p q h workers batch order n view sound cells moved alone taken =
@@ -57,22 +47,19 @@ in_order p q h workers batch order n view sound cells moved alone taken =
       counts = r.1 ∙ ap (λ (k : Held). counts_of (outcomes_of k.cells k.drawops order)) view;
     }
 
--- what a batch leads to that was given whole
-pub taken_all : (b : HistoryValue) (p q : PassValue) (h : Held) (workers : ℕ) (batch all : List DrawopValue) (given : ℕ) (n : Batch) → held_of p ≡ h → OwnsAll b p → 0 < workers → length batch < 2 ^ 32 → all ≡ batch → nat_le (length all) given || nat_le 4294967295 given ≡ true
-    → DeskKeeps p q → TakesMore p [] workers q (take given all) n → TakesAll h workers batch (held_of q) (counts_in n)
-taken_all b p q h workers batch all given n view owns some few same ended keeps takes = at (nat_le workers 1) refl where
-  more : takes.more ≡ batch
-  more = sym takes.next ∙ all_given all given (subst (λ (l : List DrawopValue). length l < 2 ^ 32) (sym same) few) ended ∙ same
-
-  at : (alone : Bool) → nat_le workers 1 ≡ alone → TakesAll h workers batch (held_of q) (counts_in n)
+-- what a batch leads to that was drawn from a source
+pub taken_given : (b : HistoryValue) (p q : PassValue) (h : Held) (workers : ℕ) (given given' : List DrawopValue) (n : Batch) → held_of p ≡ h → OwnsAll b p → 0 < workers
+    → DeskKeeps p q → TakesMore p given workers q given' n → TakesGiven h workers given given' (held_of q) (counts_in n)
+taken_given b p q h workers given given' n view owns some keeps takes = (takes.more, takes.next, at (nat_le workers 1) refl) where
+  at : (alone : Bool) → nat_le workers 1 ≡ alone → TakesAll h workers takes.more (held_of q) (counts_in n)
   at true e =
       let low : workers ≤ 1 = grind (arith, nat_tests, e) in
       let one : workers ≡ 1 = omega (arith, low, some) in
-      in_order p q h workers batch batch n view owns.sound keeps.same.1 (IsPermutation-refl batch) (λ a. refl) (subst (λ (l : List DrawopValue). IsInOrder p l q n) more (takes.takes.in_order one owns.whole))
+      in_order p q h workers takes.more takes.more n view owns.sound keeps.same.1 (IsPermutation-refl takes.more) (λ a. refl) (takes.takes.in_order one owns.whole)
   at false e =
       let high : 1 < workers = grind (arith, nat_tests, e) in
       let settled = takes.takes.settled owns.whole in
-      in_order p q h workers batch settled.order n view owns.sound keeps.same.1 (subst (λ (l : List DrawopValue). IsPermutation l settled.order) more settled.moved) (λ a. absurd (omega (arith, a, high))) settled.taken
+      in_order p q h workers takes.more settled.order n view owns.sound keeps.same.1 settled.moved (λ a. absurd (omega (arith, a, high))) settled.taken
 
 -- a question: the desk still owns all rows, and holds the same
 pub read_on : (b : HistoryValue) (p q : PassValue) → OwnsAll b p → ReadsOn p q → OwnsAll b q

@@ -8,6 +8,12 @@ pub mod LineBytes
 pub mod Boards
 pub mod InputLines
 pub mod Outcomes
+pub mod Looking
+pub mod ReadLines
+pub mod Following
+pub mod EarlyEnds
+pub mod Drawing
+pub mod RunOn
 pub mod Endings
 pub mod Queries
 pub mod FreeAnswers

@@ -90,14 +90,14 @@ stopped_at cut n s line lines fault o e h = subst (λ (f : Option RunFault). Con
 abbrev AfterLine : Bool → ℕ → Ahead → List ℕ → Outcome → Step → Type 0
 AfterLine cut n reader more o step = Proceeds (n + 1) (λ t next. IsAhead cut (n + 1) t reader more next) o step
 
-whole_ahead : (cut : Bool) (n : ℕ) (s : State) (reader reader' : Ahead) (given line more : List ℕ) (o : Outcome) → n < most_lines → IsLine line → reader.bytes ++ given ≡ line ++ 10 ∷ reader'.bytes
+pub whole_ahead : (cut : Bool) (n : ℕ) (s : State) (reader reader' : Ahead) (given line more : List ℕ) (o : Outcome) → n < most_lines → IsLine line → reader.bytes ++ given ≡ line ++ 10 ∷ reader'.bytes
     → InSomeOrder s (λ order. AfterLine cut n reader' more o (step_of s order (content (whole_line line)))) → IsAhead cut n s reader (given ++ more) o
 whole_ahead cut n s reader reader' given line more o few is e h =
     let split : input_lines (reader.bytes ++ (given ++ more)) ≡ whole_line line ∷ input_lines (reader'.bytes ++ more) = ap input_lines (regrouped reader.bytes given more line (10 ∷ reader'.bytes) e) ∙ input_lines-whole line (reader'.bytes ++ more) is.no_line_feed in
     let none : fault_at cut n (whole_line line) ≡ None = ap (λ (within : Bool). cond within (cond (true || not cut) None (Some run_faults.Read)) (Some run_faults.Endless)) (fits n line few is.short) in
     subst (λ (lines : List InputLine). IsOutcomeFrom cut n s lines o) (sym split) (taken_on cut n s (whole_line line) (input_lines (reader'.bytes ++ more)) o none h)
 
-last_ahead : (n : ℕ) (s : State) (reader reader' : Ahead) (given line : List ℕ) (o : Outcome) → n < most_lines → IsLine line → line ≢ [] → reader.bytes ++ given ≡ line → reader'.bytes ≡ []
+pub last_ahead : (n : ℕ) (s : State) (reader reader' : Ahead) (given line : List ℕ) (o : Outcome) → n < most_lines → IsLine line → line ≢ [] → reader.bytes ++ given ≡ line → reader'.bytes ≡ []
     → InSomeOrder s (λ order. AfterLine false n reader' [] o (step_of s order line)) → IsAhead false n s reader (given ++ []) o
 last_ahead n s reader reader' given line o few is some e none h =
     let bytes : reader.bytes ++ (given ++ []) ≡ line = ap (λ (t : List ℕ). reader.bytes ++ t) (append-nil given) ∙ e in
@@ -150,7 +150,7 @@ after_fault A B written t (run_faults.Line n e) on p = λ o h. on (before writte
 after_fault A B written t run_faults.Read on b = absurd b
 after_fault A B written t run_faults.Endless on b = absurd b
 
-never_left : (new : HostValue) (t : State) (f : RunFault) → IsStop f → IsLeftAt {X = Unit {0}} new (Err f) t
+pub never_left : (new : HostValue) (t : State) (f : RunFault) → IsStop f → IsLeftAt {X = Unit {0}} new (Err f) t
 never_left new t run_faults.Memory stop = λ e. absurd (true≢false e)
 never_left new t run_faults.Write stop = λ e. absurd (true≢false e)
 never_left new t run_faults.Start stop = λ e. absurd (true≢false e)
@@ -246,6 +246,14 @@ memory_stops n s t reader reader' given failed = λ more cut may. begins_now cut
 
 pub unwritten_stops : (n : ℕ) (s t : State) (reader reader' : Ahead) (given : List ℕ) (failed : Bool) → Stops n s reader given [] t reader' failed run_faults.Write
 unwritten_stops n s t reader reader' given failed = λ more cut may. begins_now cut n s reader (given ++ more)
+
+pub stops_at_once : (n : ℕ) (s t : State) (reader reader' : Ahead) (given : List ℕ) (failed : Bool) (f : RunFault) → IsStop f → Stops n s reader given [] t reader' failed f
+stops_at_once n s t reader reader' given failed run_faults.Memory stop = memory_stops n s t reader reader' given failed
+stops_at_once n s t reader reader' given failed run_faults.Write stop = unwritten_stops n s t reader reader' given failed
+stops_at_once n s t reader reader' given failed run_faults.Start stop = λ more cut may. begins_now cut n s reader (given ++ more)
+stops_at_once n s t reader reader' given failed run_faults.Read stop = absurd stop
+stops_at_once n s t reader reader' given failed run_faults.Endless stop = absurd stop
+stops_at_once n s t reader reader' given failed (run_faults.Line k e) stop = absurd stop
 
 cut_off : (n : ℕ) (s : State) (line : List ℕ) (o : Outcome) → n < most_lines → IsLine line → Finishes s (Err run_faults.Read) o → IsOutcomeFrom true n s (input_lines line) o
 cut_off n s [] o few is h = h

@@ -12,6 +12,10 @@ pub mod Stations
 pub mod Output
 pub mod Ahead
 pub mod Running
+pub mod Lines
+pub mod SeenLines
+pub mod ReadOn
+pub mod Taking
 pub mod Laws
 pub mod ScriptLaws
 pub mod Shows

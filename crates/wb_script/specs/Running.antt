@@ -1,5 +1,5 @@
 -- How far a run has come: what was pulled and written, and what follows.
-use Rattle.std.specs.Prelude.{◌≡◌, ℕ, ◌+◌, ◌-◌, List, [], ◌++◌, length, take, Bool, true, false, Option, Some, None, Result, Ok, Err, ◌⊎◌, if◌then◌else◌}
+use Rattle.std.specs.Prelude.{◌≡◌, ℕ, ◌-◌, List, [], ◌++◌, length, take, Bool, true, false, Option, Some, None, Result, Ok, Err, ◌⊎◌, if◌then◌else◌}
 use Rattle.wb_script.specs.declared.fault.RunFault.{RunFault}
 use Rattle.wb_script.specs.declared.fault.RunFault.TheVariants as run_faults
 use Rattle.wb_script.specs.declared.summary.Summary.{Summary}
@@ -52,11 +52,16 @@ abbrev pub Ends : ℕ → State → Ahead → List ℕ → List ℕ → ℕ → 
 Ends n old reader given written m new reader' =
     (reader'.ended ≡ true) × Leads (IsAhead false n old reader given) written (Finishes new (Ok m))
 
--- One line, or the end.
-abbrev pub RunsLine : ℕ → State → Ahead → List ℕ → List ℕ → State → Ahead → Bool → Result Bool RunFault → Type 0
-RunsLine n old reader given written new reader' failed (Ok true) = Passes n old reader given written (n + 1) new reader'
-RunsLine n old reader given written new reader' failed (Ok false) = Ends n old reader given written n new reader'
-RunsLine n old reader given written new reader' failed (Err e) = Stops n old reader given written new reader' failed e
+-- One line, or a batch that begins with it.
+abbrev pub RunsOn : {U : Type 0} → ℕ → State → Ahead → List ℕ → List ℕ → ℕ → State → Ahead → Bool → Result U RunFault → Type 0
+RunsOn n old reader given written m new reader' failed (Ok u) = Passes n old reader given written m new reader'
+RunsOn n old reader given written m new reader' failed (Err e) = Stops n old reader given written new reader' failed e
+
+-- The same, or the end.
+abbrev pub RunsLine : ℕ → State → Ahead → List ℕ → List ℕ → ℕ → State → Ahead → Bool → Result Bool RunFault → Type 0
+RunsLine n old reader given written m new reader' failed (Ok true) = Passes n old reader given written m new reader'
+RunsLine n old reader given written m new reader' failed (Ok false) = Ends n old reader given written m new reader'
+RunsLine n old reader given written m new reader' failed (Err e) = Stops n old reader given written new reader' failed e
 
 -- All lines.
 abbrev pub RunsLines : State → Ahead → List ℕ → List ℕ → State → Ahead → Bool → Result ℕ RunFault → Type 0

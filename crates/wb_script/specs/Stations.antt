@@ -1,5 +1,5 @@
 -- At which state of a script a host is, and how it gets from one to the next.
-use Rattle.std.specs.Prelude.{◌≡◌, ℕ, List, [], Option, Some, None, Result, Ok, Err, ◌⊎◌, false}
+use Rattle.std.specs.Prelude.{◌≡◌, ℕ, List, [], ◌++◌, Option, Some, None, Result, Ok, Err, ◌⊎◌, false}
 use Rattle.wb_names.specs.Values.{DrawopValue}
 use Rattle.wb_names.specs.Arrivals.{Counts, counts_of, outcomes_of}
 use Rattle.rand_pcg.specs.Lcg.{Lcg}
@@ -8,7 +8,7 @@ use Rattle.wb_script.specs.declared.fault.RunFault.{RunFault}
 use Rattle.wb_script.specs.declared.fault.RunFault.TheVariants as run_faults
 use Rattle.wb_script.specs.Board.{Held}
 use Rattle.wb_script.specs.Hosts.{Opened, constants, board_after, host_after, batch_text, Act, does, fails}
-use Rattle.wb_script.specs.Script.{State, MayBeTaken, InSomeOrder, Step, goes, refused, closing_text, after_batch, is_stop, StopsWithin}
+use Rattle.wb_script.specs.Script.{State, MayBeTaken, InSomeOrder, Step, goes, refused, is_stop, StopsWithin}
 
 -- a board, the keeper at it, and the random words that were not drawn yet
 pub record StationValue : Type 0 where
@@ -31,12 +31,12 @@ MayBeOpenAt (Some v) None = ⊥
 pub record HostValue : Type 0 where
   pub station : Option StationValue
   pub workers : Option ℕ
-  pub waiting : List DrawopValue
 
+-- A host is at a state at which no arrivals wait: a batch is taken whole.
 pub record IsAt (h : HostValue) (s : State) : Type 0 where
   pub station : MayBeOpenAt h.station s.host
   pub workers : h.workers ≡ s.workers
-  pub waiting : h.waiting ≡ s.waiting
+  pub waiting : s.waiting ≡ []
 
 -- ---- from one state to the next
 
@@ -47,15 +47,14 @@ pub record TakesAll (board : Held) (workers : ℕ) (batch : List DrawopValue) (a
   pub held : after ≡ board_after board order
   pub counts : counted ≡ counts_of (outcomes_of board.cells board.drawops order)
 
+-- A board has taken what a source gave since by so many workers.
+abbrev pub TakesGiven : Held → ℕ → List DrawopValue → List DrawopValue → Held → Counts → Type 0
+TakesGiven board workers given given' after counted = (batch : List DrawopValue) × (given' ≡ given ++ batch) × TakesAll board workers batch after counted
+
 -- A station that was at this host has taken a batch, in this order, and printed a text.
 pub record TakesBatch (host : Opened) (batch order : List DrawopValue) (new : StationValue) (written : List ℕ) : Type 0 where
   pub leads : IsOpenAt new (host_after host batch order)
   pub text : written ≡ batch_text host.board order
-
--- A host that was at this state takes its batch, in this order.
-abbrev pub EndsBatch : {U : Type 0} → State → List DrawopValue → HostValue → List ℕ → Result U RunFault → Type 0
-EndsBatch s order new written (Ok u) = IsAt new (after_batch s order) × (written ≡ closing_text s order)
-EndsBatch s order new written (Err e) = StopsWithin (closing_text s order) written e
 
 -- It does what a line is to do there, and prints its text; or it refuses the line of this number.
 abbrev pub DoesAct : {U : Type 0} → ℕ → Opened → StationValue → List ℕ → Result U RunFault → Act → Type 0

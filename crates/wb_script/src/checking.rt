@@ -8,7 +8,7 @@ use crate::fault::{ParseFault, RunFault};
 use crate::line_reader::{Found, LineReader, Pulled};
 use crate::output::Output;
 use crate::parsing::parse_line;
-use crate::running::{MAX_LINES, without_carriage_return};
+use crate::script_lines::{MAX_LINES, without_carriage_return};
 use std::alloc::Global;
 use wb_names::{Sink, Source};
 

@@ -1,22 +1,28 @@
-ghost use Rattle.std.specs.Prelude.{◌≡◌, ◌≢◌, ◌<◌, ◌^◌, List, [], ℕ, length, ◌≤◌, ◌+◌, ◌++◌, Err, None};
+ghost use Rattle.std.specs.Prelude.{◌≡◌, ◌≢◌, ◌<◌, List, [], ℕ, ◌≤◌, ◌++◌, Ok, Err, None, true};
+ghost use Rattle.wb_script.specs.Ahead.{Pulls};
+ghost use Rattle.wb_script.specs.Lines.{IsSeen, Says};
+ghost use Rattle.wb_script.specs.Output.{Sends};
 ghost use Rattle.wb_script.specs.Parsing.{IsWithin};
-ghost use Rattle.wb_script.specs.Script.{State, InSomeOrder, IsAlone, held_count, acts, line_step, step_of, after_batch, closing_text};
-ghost use Rattle.wb_script.specs.Stations.{IsAt, EndsBatch, DoesStep, MayDoStep};
+ghost use Rattle.wb_script.specs.ReadOn.{EndsBatchAt};
+ghost use Rattle.wb_script.specs.Running.{RunsOn};
+ghost use Rattle.wb_script.specs.Script.{State, IsAlone, held_count, acts, line_step, after_batch, closing_text, most_lines};
+ghost use Rattle.wb_script.specs.Stations.{IsAt, DoesStep, MayDoStep, Moves};
 
-use crate::fault::{LineFault, ParseFault, RunFault};
+use crate::fault::{LineFault, RunFault};
 use crate::line::Line;
 use crate::output::Output;
-use crate::parsing::parse_line;
+use crate::script_lines::ScriptLines;
 use crate::station::Station;
+use crate::taking::{Taken, take_batch};
 use std::alloc::Global;
 use std::marker::Model;
 use std::sync::Wait;
 use std::thread::Threads;
 use wb_feed::Gate;
-use wb_names::Drawop;
+use wb_names::{Drawop, Sink, Source};
 
-/// The host of a script, once it is open; how many workers take its batches, once that is known; and the
-/// arrivals of the present batch.
+/// The host of a script, once it is open, and how many workers take its batches, once that is known. A batch
+/// is taken by the call that hands in its first arrival, so none waits.
 ///
 /// What its keeper holds stands for the calls that it accepted. So the contracts speak of each state of
 /// a script at which the host may be, and say at which it is afterwards.
@@ -24,7 +30,6 @@ use wb_names::Drawop;
 pub struct Host {
     station: Option<Station>,
     workers: Option<u32>,
-    waiting: Vec<Drawop>,
 }
 
 impl Model for Host {
@@ -32,18 +37,17 @@ impl Model for Host {
 
     ghost Value = { HostValue };
 
-    ghost view = { λ h. record { station = h.station; workers = h.workers; waiting = h.waiting.items } };
+    ghost view = { λ h. record { station = h.station; workers = h.workers } };
 }
 
 impl Host {
     /// No board is open. The number of workers, where there is one, goes before that of the board.
-    pub fn new(alloc: Global, workers: Option<u32>) -> Self
-        ensures { result ≡ record { station = None; workers = workers; waiting = [] } }
+    pub fn new(workers: Option<u32>) -> Self
+        ensures { result ≡ record { station = None; workers = workers } }
     {
         Host {
             station: None,
             workers,
-            waiting: Vec::new(alloc),
         }
     }
 
@@ -55,34 +59,6 @@ impl Host {
             None => 0,
             Some(station) => station.held(),
         }
-    }
-
-    /// Takes the arrivals of the present batch, and prints its counts.
-    pub fn end_batch<R: Threads + Wait + Sync, G: Gate + Sync>(
-        &mut self,
-        rt: &R,
-        alloc: Global,
-        output: &mut Output,
-        gate: &G,
-    ) -> Result<(), RunFault>
-        requires { length self.old.waiting < 2 ^ 32 }
-        ensures text { (written : List ℕ) × (output.new ≡ output.old ++ written) × ((s : State) → IsAt self.old s → InSomeOrder s (λ order. EndsBatch s order self.new written result)) }
-        ensures unread { result ≢ Err RunFault.Read }
-        ensures unwritten { result ≢ Err RunFault.Write }
-        ensures waiting { length self.new.waiting ≤ length self.old.waiting }
-    {
-        if self.waiting.is_empty() {
-            return Ok(());
-        }
-        let workers = crew_of(self.workers);
-        let Some(station) = self.station.take() else {
-            self.waiting.clear();
-            return Ok(());
-        };
-        let station = station.take_batch(rt, alloc, workers, &self.waiting, output, gate)?;
-        self.station = Some(station);
-        self.waiting.clear();
-        Ok(())
     }
 
     fn open_board(
@@ -97,99 +73,91 @@ impl Host {
         requires { (0 < cells) × (cells ≤ 65535) }
         ensures step { (s : State) → IsAt self.old s → DoesStep number self.new [] result (line_step s s.waiting (Line.Board member cells workers seed)) }
         ensures unwritten { result ≢ Err RunFault.Write }
-        ensures waiting { length self.new.waiting ≤ length self.old.waiting }
     {
         if self.station.is_some() {
             return Err(RunFault::Line(number, LineFault::SecondBoard));
         }
         self.station = Some(Station::open(alloc, member, cells, seed)?);
         self.workers = Some(self.workers.unwrap_or(workers));
-        self.waiting.clear();
         Ok(())
     }
 
-    fn arrive(&mut self, number: u32, drawop: Drawop) -> Result<(), RunFault>
-        ensures step { (s : State) → IsAt self.old s → DoesStep number self.new [] result (line_step s s.waiting (Line.Arrive drawop)) }
-        ensures unwritten { result ≢ Err RunFault.Write }
-        ensures waiting { length self.new.waiting ≤ length self.old.waiting + 1 }
-    {
-        if self.station.is_none() {
-            return Err(RunFault::Line(number, LineFault::NoBoard));
-        }
-        self.waiting.push(drawop)?;
-        Ok(())
-    }
-
-    /// Does what a line says after the end of the present batch.
-    fn act<R: Threads + Wait + Sync, G: Gate + Sync>(
+    /// Does what a line says at a board.
+    fn act(
         &mut self,
-        rt: &R,
         alloc: Global,
         number: u32,
         line: &Line,
         output: &mut Output,
-        gate: &G,
     ) -> Result<(), RunFault>
-        requires waiting { length self.old.waiting < 2 ^ 32 }
-        requires line { IsWithin line.now }
+        requires { IsWithin line.now }
         ensures text { (written : List ℕ) × (output.new ≡ output.old ++ written) × ((s : State) → IsAt self.old s → MayDoStep s number self.new written result (λ order. acts (after_batch s order) (closing_text s order) line.now)) }
         ensures unwritten { result ≢ Err RunFault.Write }
-        ensures waiting { length self.new.waiting ≤ length self.old.waiting + 1 }
     {
-        self.end_batch(rt, alloc, output, gate)?;
         match &mut self.station {
             None => Err(RunFault::Line(number, LineFault::NoBoard)),
             Some(station) => station.act(alloc, number, line, output),
         }
     }
 
-    fn take<R: Threads + Wait + Sync, G: Gate + Sync>(
+    /// Does what the line of this number says, which is neither skipped nor an arrival.
+    pub fn take_line(
         &mut self,
-        rt: &R,
         alloc: Global,
         number: u32,
         line: &Line,
         output: &mut Output,
-        gate: &G,
     ) -> Result<(), RunFault>
-        requires waiting { length self.old.waiting < 2 ^ 32 }
         requires line { IsWithin line.now }
+        requires other { EndsBatchAt (Ok line.now) }
         ensures text { (written : List ℕ) × (output.new ≡ output.old ++ written) × ((s : State) → IsAt self.old s → MayDoStep s number self.new written result (λ order. line_step s order line.now)) }
         ensures unwritten { result ≢ Err RunFault.Write }
-        ensures waiting { length self.new.waiting ≤ length self.old.waiting + 1 }
     {
         match line {
-            Line::Skip => Ok(()),
             Line::Board {
                 member,
                 cells,
                 workers,
                 seed,
             } => self.open_board(alloc, number, *member, *cells, *workers, *seed),
-            Line::Arrive(drawop) => self.arrive(number, *drawop),
-            _ => self.act(rt, alloc, number, line, output, gate),
+            _ => self.act(alloc, number, line, output),
         }
     }
 
-    /// Takes the line of this number, which stands without its end.
-    pub fn take_line<R: Threads + Wait + Sync, G: Gate + Sync>(
+    /// Takes the batch that begins with the next line, which was looked at and hands in this drawop: the script
+    /// is read on to its end.
+    pub fn arrive<T: Threads + Wait + Sync, R: Source, W: Sink, G: Gate + Sync>(
         &mut self,
-        rt: &R,
+        rt: &T,
         alloc: Global,
-        number: u32,
-        bytes: &[u8],
+        drawop: Drawop,
+        lines: &mut ScriptLines,
+        source: &mut R,
         output: &mut Output,
+        sink: &mut W,
         gate: &G,
     ) -> Result<(), RunFault>
-        requires { length self.old.waiting < 2 ^ 32 }
-        ensures text { (written : List ℕ) × (output.new ≡ output.old ++ written) × ((s : State) → IsAt self.old s → MayDoStep s number self.new written result (λ order. step_of s order bytes.now)) }
-        ensures unwritten { result ≢ Err RunFault.Write }
-        ensures waiting { length self.new.waiting ≤ length self.old.waiting + 1 }
+        requires seen { IsSeen lines.old.next }
+        requires says { Says lines.old.next (Ok (Line.Arrive drawop)) }
+        ensures text { (given : List ℕ) × (written : List ℕ)
+            × Pulls lines.old.ahead lines.new.ahead (R.left source.old) (R.left source.new) (R.has_failed source.old) (R.has_failed source.new) given
+            × Sends (W.taken sink.old) output.old (W.taken sink.new) output.new written
+            × Moves self.old self.new result (λ s t. RunsOn lines.old.done s lines.old.ahead given written lines.new.done t lines.new.ahead (R.has_failed source.new) result) }
+        ensures on { (lines.old.done < most_lines) × (lines.old.done < lines.new.done) }
+        ensures failed { result ≡ Err RunFault.Write → W.has_failed sink.new ≡ true }
     {
-        match parse_line(alloc, bytes) {
-            Ok(line) => self.take(rt, alloc, number, &line, output, gate),
-            Err(ParseFault::Line(fault)) => Err(RunFault::Line(number, fault)),
-            Err(ParseFault::Memory) => Err(RunFault::Memory),
+        lines.take();
+        let Some(station) = self.station.take() else {
+            return Err(RunFault::Line(lines.done(), LineFault::NoBoard));
+        };
+        let workers = crew_of(self.workers);
+        let Taken { station, fault } = take_batch(
+            rt, alloc, station, workers, drawop, lines, source, output, sink, gate,
+        )?;
+        self.station = Some(station);
+        match fault {
+            None => Ok(()),
+            Some(fault) => Err(fault),
         }
     }
 }

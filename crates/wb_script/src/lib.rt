@@ -9,7 +9,7 @@
 #![tactic(auto)]
 
 mod answers;
-mod batch;
+mod arriving;
 mod checking;
 mod fault;
 mod hexadecimal;
@@ -23,9 +23,11 @@ mod parsing;
 mod query;
 mod random;
 mod running;
+mod script_lines;
 mod sent_lines;
 mod station;
 mod summary;
+mod taking;
 mod whiteboard;
 mod words;
 
@@ -37,7 +39,8 @@ pub use line_reader::{Found, LineReader, Pulled};
 pub use output::{Output, Unwritten};
 pub use parsing::parse_line;
 pub use random::{RandomWords, words_follow_words};
-pub use running::{run, without_carriage_return};
+pub use running::run;
+pub use script_lines::without_carriage_return;
 pub use sent_lines::{look_line, print_sends, sent_is_taken};
 pub use summary::Summary;
 pub use wb_feed::{Gate, NoGate};

@@ -1,142 +1,128 @@
-ghost use Rattle.std.specs.Prelude.{◌≡◌, ◌≤◌, ◌<◌, ◌+◌, ◌^◌, ◌++◌, [], List, ℕ, length, true, false, Err};
-ghost use Rattle.std.specs.Str.Lines.{strip_carriage_return};
+ghost use Rattle.std.specs.Prelude.{◌≡◌, ◌<◌, List, ℕ, true, Ok, Err};
 ghost use Rattle.wb_script.specs.Output.{Sends};
 ghost use Rattle.wb_script.specs.Ahead.{Pulls};
-ghost use Rattle.wb_script.specs.Script.{State, most_lines, is_stop};
+ghost use Rattle.wb_script.specs.Lines.{IsSeen};
+ghost use Rattle.wb_script.specs.Script.{State, most_lines};
 ghost use Rattle.wb_script.specs.Stations.{IsLeftAt, Moves};
-ghost use Rattle.wb_script.specs.Running.{RunsLine, RunsLines, Closes, Runs};
+ghost use Rattle.wb_script.specs.Running.{RunsOn, RunsLine, RunsLines, Closes, Runs};
 
-use crate::fault::RunFault;
+use crate::fault::{ParseFault, RunFault};
 use crate::host::Host;
-use crate::line_reader::{Found, LineReader, Pulled};
+use crate::line::Line;
 use crate::output::Output;
+use crate::parsing::parse_line;
+use crate::script_lines::ScriptLines;
 use crate::summary::Summary;
+use crate::taking::is_stop;
 use std::alloc::Global;
 use std::sync::Wait;
 use std::thread::Threads;
 use wb_feed::Gate;
 use wb_names::{Sink, Source};
 
-/// A script has at most so many lines.
-pub const MAX_LINES: u32 = 1 << 20;
-
-/// A line without the one carriage return at its end.
-pub fn without_carriage_return(line: &[u8]) -> &[u8]
-    ensures { result.now ≡ strip_carriage_return line.now }
+/// Runs the line that was looked at, and where a batch begins with it, all of the batch.
+fn run_seen<T: Threads + Wait + Sync, R: Source, W: Sink, G: Gate + Sync>(
+    rt: &T,
+    alloc: Global,
+    lines: &mut ScriptLines,
+    host: &mut Host,
+    source: &mut R,
+    output: &mut Output,
+    sink: &mut W,
+    gate: &G,
+) -> Result<(), RunFault>
+    requires { IsSeen lines.old.next }
+    ensures text { (given : List ℕ) × (written : List ℕ)
+        × Pulls lines.old.ahead lines.new.ahead (R.left source.old) (R.left source.new) (R.has_failed source.old) (R.has_failed source.new) given
+        × Sends (W.taken sink.old) output.old (W.taken sink.new) output.new written
+        × Moves host.old host.new result (λ s t. RunsOn lines.old.done s lines.old.ahead given written lines.new.done t lines.new.ahead (R.has_failed source.new) result) }
+    ensures on { result ≡ Ok tt → (lines.old.done < most_lines) × (lines.old.done < lines.new.done) }
+    ensures failed { result ≡ Err RunFault.Write → W.has_failed sink.new ≡ true }
 {
-    match line {
-        [front @ .., b'\r'] => front,
-        _ => line,
+    let line = match parse_line(alloc, lines.content()) {
+        Ok(line) => line,
+        Err(ParseFault::Memory) => return Err(RunFault::Memory),
+        Err(ParseFault::Line(fault)) => {
+            lines.take();
+            return Err(RunFault::Line(lines.done(), fault));
+        }
+    };
+    match &line {
+        Line::Arrive(drawop) => {
+            host.arrive(rt, alloc, *drawop, lines, source, output, sink, gate)
+        }
+        Line::Skip => {
+            lines.take();
+            Ok(())
+        }
+        _ => {
+            lines.take();
+            host.take_line(alloc, lines.done(), &line, output)
+        }
     }
 }
 
-/// Runs the next line, which is read into `line`. Answers whether there was one.
+/// Runs the next line, and where a batch begins with it, all of the batch. Answers whether there was one.
 fn run_line<T: Threads + Wait + Sync, R: Source, W: Sink, G: Gate + Sync>(
     rt: &T,
     alloc: Global,
-    done: u32,
-    reader: &mut LineReader,
-    line: &mut Vec<u8>,
+    lines: &mut ScriptLines,
     host: &mut Host,
     source: &mut R,
     output: &mut Output,
     sink: &mut W,
     gate: &G,
 ) -> Result<bool, RunFault>
-    requires few { done < most_lines }
-    requires waiting { length host.old.waiting ≤ done }
     ensures text { (given : List ℕ) × (written : List ℕ)
-        × Pulls reader.old reader.new (R.left source.old) (R.left source.new) (R.has_failed source.old) (R.has_failed source.new) given
+        × Pulls lines.old.ahead lines.new.ahead (R.left source.old) (R.left source.new) (R.has_failed source.old) (R.has_failed source.new) given
         × Sends (W.taken sink.old) output.old (W.taken sink.new) output.new written
-        × Moves host.old host.new result (λ s t. RunsLine done s reader.old given written t reader.new (R.has_failed source.new) result) }
-    ensures waiting { length host.new.waiting ≤ done + 1 }
+        × Moves host.old host.new result (λ s t. RunsLine lines.old.done s lines.old.ahead given written lines.new.done t lines.new.ahead (R.has_failed source.new) result) }
+    ensures on { result ≡ Ok true → (lines.old.done < most_lines) × (lines.old.done < lines.new.done) }
     ensures failed { result ≡ Err RunFault.Write → W.has_failed sink.new ≡ true }
 {
-    match reader.next_line(source, line, output, sink)? {
-        Found::Unwritten => Err(RunFault::Write),
-        Found::End => Ok(false),
-        Found::Failed => Err(RunFault::Read),
-        Found::TooLong => Err(RunFault::Endless),
-        Found::Last => {
-            host.take_line(rt, alloc, done + 1, line, output, gate)?;
-            Ok(true)
-        }
-        Found::Whole => {
-            host.take_line(
-                rt,
-                alloc,
-                done + 1,
-                without_carriage_return(line),
-                output,
-                gate,
-            )?;
-            Ok(true)
-        }
+    if !lines.look(source, output, sink)? {
+        return Ok(false);
     }
+    run_seen(rt, alloc, lines, host, source, output, sink, gate)?;
+    Ok(true)
 }
 
 /// Runs line after line. Answers how many there were.
 fn run_lines<T: Threads + Wait + Sync, R: Source, W: Sink, G: Gate + Sync>(
     rt: &T,
     alloc: Global,
-    reader: &mut LineReader,
+    lines: &mut ScriptLines,
     host: &mut Host,
     source: &mut R,
     output: &mut Output,
     sink: &mut W,
     gate: &G,
 ) -> Result<u32, RunFault>
-    requires { length host.old.waiting ≡ 0 }
+    requires { lines.old.done ≡ 0 }
     ensures text { (given : List ℕ) × (written : List ℕ)
-        × Pulls reader.old reader.new (R.left source.old) (R.left source.new) (R.has_failed source.old) (R.has_failed source.new) given
+        × Pulls lines.old.ahead lines.new.ahead (R.left source.old) (R.left source.new) (R.has_failed source.old) (R.has_failed source.new) given
         × Sends (W.taken sink.old) output.old (W.taken sink.new) output.new written
-        × Moves host.old host.new result (λ s t. RunsLines s reader.old given written t reader.new (R.has_failed source.new) result) }
-    ensures waiting { length host.new.waiting < 2 ^ 32 }
+        × Moves host.old host.new result (λ s t. RunsLines s lines.old.ahead given written t lines.new.ahead (R.has_failed source.new) result) }
     ensures failed { result ≡ Err RunFault.Write → W.has_failed sink.new ≡ true }
 {
-    let mut line = Vec::new(alloc);
-    for done in 0..MAX_LINES {
-        let goes_on = run_line(
-            rt, alloc, done, reader, &mut line, host, source, output, sink, gate,
-        )?;
-        if !goes_on {
-            return Ok(done);
-        }
-    }
-    match reader.next_byte(source, output, sink) {
-        Pulled::End => Ok(MAX_LINES),
-        Pulled::Failed => Err(RunFault::Read),
-        Pulled::Unwritten => Err(RunFault::Write),
-        Pulled::Byte(_) => Err(RunFault::Endless),
-    }
+    while run_line(rt, alloc, lines, host, source, output, sink, gate)? {}
+    Ok(lines.done())
 }
 
-/// Whether a run can't even end its batch.
-fn is_stop(fault: RunFault) -> bool
-    ensures { result ≡ is_stop fault }
-{
-    matches!(&fault, RunFault::Memory | RunFault::Write | RunFault::Start)
-}
-
-/// Ends the present batch, and the run.
-fn close<T: Threads + Wait + Sync, W: Sink, G: Gate + Sync>(
-    rt: &T,
-    alloc: Global,
-    host: &mut Host,
+/// Ends the run.
+fn close<W: Sink>(
+    host: &Host,
     ending: Result<u32, RunFault>,
     output: &mut Output,
     sink: &mut W,
-    gate: &G,
 ) -> Result<Summary, RunFault>
-    requires { length host.old.waiting < 2 ^ 32 }
     ensures text { (written : List ℕ) × Sends (W.taken sink.old) output.old (W.taken sink.new) output.new written
-        × ((s : State) → IsLeftAt host.old ending s → Closes s ending written output.new result) }
+        × ((s : State) → IsLeftAt host.now ending s → Closes s ending written output.new result) }
     ensures read { result ≡ Err RunFault.Read → ending ≡ Err RunFault.Read }
     ensures failed { (ending ≡ Err RunFault.Write → W.has_failed sink.old ≡ true) → result ≡ Err RunFault.Write → W.has_failed sink.new ≡ true }
 {
     match ending {
         Ok(lines) => {
-            host.end_batch(rt, alloc, output, gate)?;
             output.flush(sink)?;
             let held = host.held();
             Ok(Summary { lines, held })
@@ -145,7 +131,6 @@ fn close<T: Threads + Wait + Sync, W: Sink, G: Gate + Sync>(
             if is_stop(fault) {
                 return Err(fault);
             }
-            host.end_batch(rt, alloc, output, gate)?;
             output.flush(sink)?;
             Err(fault)
         }
@@ -171,18 +156,18 @@ pub fn run<T: Threads + Wait + Sync, R: Source, W: Sink, G: Gate + Sync>(
     ensures read { result ≡ Err RunFault.Read → R.has_failed source.new ≡ true }
     ensures write { result ≡ Err RunFault.Write → W.has_failed sink.new ≡ true }
 {
-    let mut reader = LineReader::new(alloc)?;
-    let mut host = Host::new(alloc, workers);
+    let mut lines = ScriptLines::new(alloc)?;
+    let mut host = Host::new(workers);
     let mut output = Output::new(alloc);
     let ending = run_lines(
         rt,
         alloc,
-        &mut reader,
+        &mut lines,
         &mut host,
         source,
         &mut output,
         sink,
         gate,
     );
-    close(rt, alloc, &mut host, ending, &mut output, sink, gate)
+    close(&host, ending, &mut output, sink)
 }

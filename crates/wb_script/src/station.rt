@@ -1,12 +1,15 @@
 //! The board of a script with the keeper at it, and what lines do to them.
-ghost use Rattle.std.specs.Prelude.{◌≡◌, ◌≢◌, ◌<◌, ◌≤◌, ◌^◌, ◌++◌, List, [], ℕ, length, Some, Err, IfOk, IfErr};
-ghost use Rattle.wb_names.specs.Values.{DrawopValue};
+ghost use Rattle.std.specs.Prelude.{◌≡◌, ◌≢◌, ◌<◌, ◌≤◌, ◌^◌, ◌++◌, List, [], ℕ, length, Err, true, filter, IfOk, OnOk, IfErr};
 ghost use Rattle.wb_script.specs.Answers.{IsAnswerable};
 ghost use Rattle.wb_script.specs.Hosts.{Opened, opened, names_of, asked, ticked, looked, words_for, word_at, heard, reported, act};
 ghost use Rattle.wb_script.specs.Parsing.{IsWithin};
 ghost use Rattle.wb_script.specs.Random.{after_words};
-ghost use Rattle.wb_script.specs.Script.{MayBeTaken, IsStop};
-ghost use Rattle.wb_script.specs.Stations.{IsOpenAt, TakesBatch, DoesAct};
+ghost use Rattle.wb_script.specs.Script.{IsStop};
+ghost use Rattle.wb_script.specs.Stations.{IsOpenAt, TakesGiven, DoesAct};
+ghost use Rattle.wb_feed.specs.Batches.{counts_in};
+ghost use Rattle.wb_host.specs.Keeper.{Arrive, holds};
+ghost use Rattle.wb_host.specs.Keeping.{Keeps};
+ghost use Rattle.wb_script.specs.Answers.{batch_line};
 
 use crate::answers::{batch_line, print};
 use crate::fault::{LineFault, RunFault};
@@ -21,7 +24,7 @@ use std::marker::Model;
 use std::sync::Wait;
 use std::thread::Threads;
 use wb_codec::Datagram;
-use wb_feed::Gate;
+use wb_feed::{Arrivals, Batch, Gate};
 use wb_host::{KeepFault, Keeper};
 use wb_names::{Drawop, Name, PageId};
 use wb_recovery::Tuning;
@@ -68,21 +71,49 @@ impl Station {
         self.board.drawops().len() as u32
     }
 
-    /// Takes a batch that has arrivals by so many workers, prints its counts, and tells the keeper what
-    /// arrived. Where that is refused nothing is printed, and the station is gone.
-    pub fn take_batch<R: Threads + Wait + Sync, G: Gate + Sync>(
+    /// Takes the arrivals of a source by so many workers. The keeper is not told yet. Where that is refused
+    /// the station is gone.
+    pub fn take_arrivals<R: Threads + Wait + Sync, S: Arrivals, G: Gate + Sync>(
         self,
         rt: &R,
         alloc: Global,
         workers: u32,
+        arrivals: &mut S,
+        gate: &G,
+    ) -> Result<(Station, Batch), RunFault>
+        requires workers { (0 < workers) × (workers ≤ 8) }
+        ensures taken { IfOk result (λ r. TakesGiven self.board workers (S.given arrivals.old) (S.given arrivals.new) r.0.board (counts_in r.1) × (r.0.keeper ≡ self.keeper) × (r.0.words ≡ self.words)) }
+        ensures ended { OnOk result (S.has_ended arrivals.new ≡ true) }
+        ensures follows { S.follows arrivals.old arrivals.new }
+        ensures stopped { IfErr result IsStop }
+        ensures unread { result ≢ Err RunFault.Read }
+        ensures unwritten { result ≢ Err RunFault.Write }
+    {
+        let Station {
+            board,
+            keeper,
+            words,
+        } = self;
+        let (board, batch) = board.take_arrivals(rt, alloc, workers, arrivals, gate)?;
+        let station = Station {
+            board,
+            keeper,
+            words,
+        };
+        Ok((station, batch))
+    }
+
+    /// Prints the counts of a batch that was taken, and tells the keeper what arrived. Where that is refused
+    /// nothing is printed, and the station is gone.
+    pub fn print_batch(
+        self,
+        alloc: Global,
+        batch: Batch,
         drawops: &[Drawop],
         output: &mut Output,
-        gate: &G,
     ) -> Result<Station, RunFault>
-        requires few { length drawops.now < 2 ^ 32 }
-        requires some { 0 < length drawops.now }
-        requires workers { (0 < workers) × (workers ≤ 8) }
-        ensures taken { IfOk result (λ station. (order : List DrawopValue) × (written : List ℕ) × MayBeTaken (Some workers) drawops.now order × (output.new ≡ output.old ++ written) × ((host : Opened) → IsOpenAt self host → TakesBatch host drawops.now order station written)) }
+        ensures printed { IfOk result (λ station. (output.new ≡ output.old ++ batch_line (counts_in batch)) × (station.board ≡ self.board) × (station.words ≡ self.words)
+            × Keeps (Arrive self.keeper.moment (filter (holds self.board.drawops) (names_of drawops.now))) self.keeper station.keeper) }
         ensures refused { IfErr result (λ e. IsStop e × (output.new ≡ output.old)) }
         ensures unread { result ≢ Err RunFault.Read }
         ensures unwritten { result ≢ Err RunFault.Write }
@@ -93,7 +124,6 @@ impl Station {
             words,
         } = self;
         let names = names_of(alloc, drawops)?;
-        let (board, batch) = board.take_all(rt, alloc, workers, drawops, gate)?;
         let text = batch_line(alloc, batch)?;
         output.add(text.as_bytes())?;
         board.tell_arrived(&mut keeper, &names);

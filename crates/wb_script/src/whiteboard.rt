@@ -1,23 +1,22 @@
 //! The board of a script, with the desk that owns all of its rows.
-ghost use Rattle.std.specs.Prelude.{◌≡◌, ◌≢◌, ◌≤◌, ◌<◌, ◌^◌, [], length, true, Err, IfOk, IfErr};
+ghost use Rattle.std.specs.Prelude.{◌≡◌, ◌≢◌, ◌≤◌, ◌<◌, [], length, true, Err, IfOk, OnOk, IfErr};
 ghost use Rattle.wb_feed.specs.Batches.{counts_in};
 ghost use Rattle.wb_host.specs.Keeping.{marks_at};
 ghost use Rattle.wb_display.specs.Canvas.{canvas_text, is_canvas_size};
 ghost use Rattle.wb_gaps.specs.Answers.{gaps_of, report_of, pages_of};
 ghost use Rattle.wb_script.specs.Queries.{view_of};
 ghost use Rattle.wb_script.specs.Script.{IsStop};
-ghost use Rattle.wb_script.specs.Stations.{TakesAll};
+ghost use Rattle.wb_script.specs.Stations.{TakesGiven};
 
 mod keeping;
 
-use crate::batch::Waiting;
 use crate::fault::RunFault;
 use std::alloc::{AllocError, Global};
 use std::marker::Model;
 use std::sync::Wait;
 use std::thread::Threads;
 use wb_display::{Canvas, CanvasFault};
-use wb_feed::{Batch, FeedFault, Gate, run_batch};
+use wb_feed::{Arrivals, Batch, FeedFault, Gate, run_batch};
 use wb_host::{Board, Desk, Keeper, OpenFault};
 use wb_names::{Drawop, Gap, Marks, PageId};
 
@@ -108,30 +107,27 @@ impl Whiteboard {
         self.board.pages(alloc, &mut self.desk)
     }
 
-    /// Takes drawops by so many workers, which call the gate round each accept, and counts what became of
-    /// them. The board holds then what one thread makes of them in some order, and one worker takes them as
-    /// they came. Where a thread or memory is refused, rows may be lost, so the board is gone.
-    pub fn take_all<R: Threads + Wait + Sync, G: Gate + Sync>(
+    /// Takes the arrivals of a source by so many workers, which call the gate round each accept, and counts
+    /// what became of them. The board holds then what one thread makes of them in some order, and one worker
+    /// takes them as they came. Where a thread or memory is refused, rows may be lost, so the board is gone.
+    pub fn take_arrivals<R: Threads + Wait + Sync, S: Arrivals, G: Gate + Sync>(
         self,
         rt: &R,
         alloc: Global,
         workers: u32,
-        drawops: &[Drawop],
+        arrivals: &mut S,
         gate: &G,
     ) -> Result<(Whiteboard, Batch), RunFault>
         requires workers { (0 < workers) × (workers ≤ 8) }
-        requires few { length drawops.now < 2 ^ 32 }
-        ensures taken { IfOk result (λ r. TakesAll self workers drawops.now r.0 (counts_in r.1)) }
+        ensures taken { IfOk result (λ r. TakesGiven self workers (S.given arrivals.old) (S.given arrivals.new) r.0 (counts_in r.1)) }
+        ensures ended { OnOk result (S.has_ended arrivals.new ≡ true) }
+        ensures follows { S.follows arrivals.old arrivals.new }
         ensures stopped { IfErr result IsStop }
         ensures unread { result ≢ Err RunFault.Read }
         ensures unwritten { result ≢ Err RunFault.Write }
     {
         let Whiteboard { board, mut desk } = self;
-        let mut arrivals = Waiting {
-            all: drawops,
-            given: 0,
-        };
-        let taken = run_batch(rt, alloc, &board, &mut desk, workers, &mut arrivals, gate);
+        let taken = run_batch(rt, alloc, &board, &mut desk, workers, arrivals, gate);
         let _sound = desk.rows_left();
         match taken {
             Ok(batch) => Ok((Whiteboard { board, desk }, batch)),

@@ -1,107 +1,41 @@
-use Rattle.std.proofs.Common.{◌≡◌, [], ap, ◌∙◌}
-use Rattle.std.specs.Str.Lines.{strip_carriage_return}
+use Rattle.std.proofs.Common.{[], ◌++◌}
+use Rattle.std.specs.Prelude.{Ok, Err}
 use Rattle.std.proofs.lemmas.Result.{err_from_is_err_and}
-use Rattle.wb_script.proofs.KnownBytes.{Sends-more, Sends-then}
-use Rattle.wb_script.proofs.Outcomes.{whole_passes, whole_stops, last_passes, last_stops, failure_stops, length_stops, memory_stops, unwritten_stops, ends_here}
+use Rattle.wb_script.proofs.KnownBytes.{Sends-then}
+use Rattle.wb_script.proofs.LineBytes.{Pulls-then}
+use Rattle.wb_script.proofs.RunOn.{looked_on, looked_end}
 use Rattle.wb_script.proofs.running.run_line.Goals as goal
 
-pub returns-in_err-next_line-clause-text : goal.returns-in_err-next_line-clause-text
-returns-in_err-next_line-clause-text g c =
-    let l = c.in_err-next_line.ensures.read in
-    let p = err_from_is_err_and c.from_residual.result c.from_residual.ensures.1 in (
-      l.0,
-      [],
-      l.1,
-      c.in_err-next_line.ensures.sends,
-      rw (p.1, p.2) (λ s at. (s, λ going. at, memory_stops c.args.done s s c.args.reader.now c.next_line.new.self l.0 (g.R.Source.has_failed c.next_line.new.source))),
+pub returns-in_err-look-clause-text : goal.returns-in_err-look-clause-text
+returns-in_err-look-clause-text g c =
+    let one = c.in_err-look.ensures.read in
+    let p = err_from_is_err_and c.from_residual.result c.from_residual.ensures.1 in
+    (one.0, [], one.1, c.in_err-look.ensures.sends, rw (p.1, p.2) (λ s at. (s, λ going. at, one.2.1 s)))
+
+pub returns-then-not-branch-clause-text : goal.returns-then-not-branch-clause-text
+returns-then-not-branch-clause-text g c =
+    let one = rw c.if-not-branch.true at c.in_ok-look.ensures.read in
+    (one.0, [], one.1, c.in_ok-look.ensures.sends, λ s at. (s, at, looked_end c.args.lines.now.done c.look.new.self.done s c.args.lines.now.ahead c.look.new.self.ahead one.0 one.2.0 one.2.2 one.2.4))
+
+pub returns-in_err-run_seen-clause-text : goal.returns-in_err-run_seen-clause-text
+returns-in_err-run_seen-clause-text g c =
+    let one = rw c.if-not-branch.false at c.in_ok-look.ensures.read in
+    let two = c.in_err-run_seen.ensures.text in
+    let p = err_from_is_err_and c.from_residual-in_err-run_seen.result c.from_residual-in_err-run_seen.ensures.1 in (
+      one.0 ++ two.0,
+      two.1,
+      Pulls-then c.args.lines.now.ahead c.look.new.self.ahead c.run_seen.new.lines.ahead (g.R.Source.left c.args.source.now) (g.R.Source.left c.look.new.source) (g.R.Source.left c.run_seen.new.source) (g.R.Source.has_failed c.args.source.now) (g.R.Source.has_failed c.look.new.source) (g.R.Source.has_failed c.run_seen.new.source) one.0 two.0 one.1 two.2,
+      Sends-then (g.W.Sink.taken c.args.sink.now) (g.W.Sink.taken c.look.new.sink) (g.W.Sink.taken c.run_seen.new.sink) c.args.output.now c.look.new.output c.run_seen.new.output [] two.1 c.look.ensures.sends two.3,
+      rw (p.1, p.2) (λ s at. let o = two.4 s at in (o.0, o.1, looked_on c.args.lines.now.done c.run_seen.new.lines.done s o.0 c.args.lines.now.ahead c.run_seen.new.lines.ahead c.look.new.self one.0 two.0 two.1 (g.R.Source.has_failed c.run_seen.new.source) (Err c.in_err-run_seen.field-0.0) one.2.0 one.2.2 two.2.none_after_end two.2.end_stays o.2)),
     )
 
-pub returns-in-Unwritten-clause-text : goal.returns-in-Unwritten-clause-text
-returns-in-Unwritten-clause-text g c =
-    let l = c.in_ok-next_line.ensures.read in (
-      l.0,
-      [],
-      l.1,
-      c.in_ok-next_line.ensures.sends,
-      λ s at. (s, λ going. at, unwritten_stops c.args.done s s c.args.reader.now c.next_line.new.self l.0 (g.R.Source.has_failed c.next_line.new.source)),
-    )
-
-pub returns-in-End-clause-text : goal.returns-in-End-clause-text
-returns-in-End-clause-text g c =
-    let l = rw c.in-End.is at c.in_ok-next_line.ensures.read in (
-      l.0,
-      [],
-      l.1,
-      c.in_ok-next_line.ensures.sends,
-      λ s at. (s, at, ends_here c.args.done s c.args.reader.now c.next_line.new.self l.0 l.2.0 l.2.2),
-    )
-
-pub returns-in-Failed-clause-text : goal.returns-in-Failed-clause-text
-returns-in-Failed-clause-text g c =
-    let l = rw c.in-Failed.is at c.in_ok-next_line.ensures.read in (
-      l.0,
-      [],
-      l.1,
-      c.in_ok-next_line.ensures.sends,
-      λ s at. (s, λ going. at, failure_stops c.args.done s c.args.reader.now c.next_line.new.self l.0 c.next_line.new.line.items (g.R.Source.has_failed c.next_line.new.source) c.requires.few l.2.0 l.2.1 l.2.2 l.2.3),
-    )
-
-pub returns-in-TooLong-clause-text : goal.returns-in-TooLong-clause-text
-returns-in-TooLong-clause-text g c =
-    let l = rw c.in-TooLong.is at c.in_ok-next_line.ensures.read in (
-      l.0,
-      [],
-      l.1,
-      c.in_ok-next_line.ensures.sends,
-      λ s at. (s, λ going. at, length_stops c.args.done s c.args.reader.now c.next_line.new.self l.0 c.next_line.new.line.items (g.R.Source.has_failed c.next_line.new.source) l.2.0 l.2.1 l.2.2),
-    )
-
-pub returns-in_err-take_line-in-Last-clause-text : goal.returns-in_err-take_line-in-Last-clause-text
-returns-in_err-take_line-in-Last-clause-text g c =
-    let l = rw c.in-Last.is at c.in_ok-next_line.ensures.read in
-    let t = rw c.deref.ensures.value at c.in_err-take_line-in-Last.ensures.text in
-    let p = err_from_is_err_and c.from_residual-in_err-take_line-in-Last.result c.from_residual-in_err-take_line-in-Last.ensures.1 in (
-      l.0,
-      t.0,
-      l.1,
-      Sends-then (g.W.Sink.taken c.args.sink.now) (g.W.Sink.taken c.next_line.new.sink) (g.W.Sink.taken c.next_line.new.sink) c.args.output.now c.next_line.new.output c.take_line.new.output [] t.0 c.in_ok-next_line.ensures.sends (Sends-more (g.W.Sink.taken c.next_line.new.sink) c.next_line.new.output c.take_line.new.output t.0 t.1),
-      rw (p.1, p.2)
-          (λ s at. last_stops c.args.done s c.take_line.new.self c.args.reader.now c.next_line.new.self l.0 t.0 c.next_line.new.line.items (g.R.Source.has_failed c.next_line.new.source) c.in_err-take_line-in-Last.field-0.0 c.requires.few l.2.0 l.2.2 l.2.1 l.2.3 l.2.4 (t.2 s at)),
-    )
-
-pub returns-in_ok-take_line-in-Last-clause-text : goal.returns-in_ok-take_line-in-Last-clause-text
-returns-in_ok-take_line-in-Last-clause-text g c =
-    let l = rw c.in-Last.is at c.in_ok-next_line.ensures.read in
-    let t = rw c.deref.ensures.value at c.in_ok-take_line-in-Last.ensures.text in (
-      l.0,
-      t.0,
-      l.1,
-      Sends-then (g.W.Sink.taken c.args.sink.now) (g.W.Sink.taken c.next_line.new.sink) (g.W.Sink.taken c.next_line.new.sink) c.args.output.now c.next_line.new.output c.take_line.new.output [] t.0 c.in_ok-next_line.ensures.sends (Sends-more (g.W.Sink.taken c.next_line.new.sink) c.next_line.new.output c.take_line.new.output t.0 t.1),
-      λ s at. last_passes c.args.done s c.take_line.new.self c.args.reader.now c.next_line.new.self l.0 t.0 c.next_line.new.line.items tt c.requires.few l.2.0 l.2.2 l.2.1 l.2.3 l.2.4 (t.2 s at),
-    )
-
-pub returns-in_err-take_line-in-Whole-clause-text : goal.returns-in_err-take_line-in-Whole-clause-text
-returns-in_err-take_line-in-Whole-clause-text g c =
-    let l = rw c.in-Whole.is at c.in_ok-next_line.ensures.read in
-    let content : c.without_carriage_return.result.now ≡ strip_carriage_return c.next_line.new.line.items = c.without_carriage_return.ensures ∙ ap strip_carriage_return c.deref-in-Whole.ensures.value in
-    let t = rw content at c.in_err-take_line-in-Whole.ensures.text in
-    let p = err_from_is_err_and c.from_residual-in_err-take_line-in-Whole.result c.from_residual-in_err-take_line-in-Whole.ensures.1 in (
-      l.0,
-      t.0,
-      l.1,
-      Sends-then (g.W.Sink.taken c.args.sink.now) (g.W.Sink.taken c.next_line.new.sink) (g.W.Sink.taken c.next_line.new.sink) c.args.output.now c.next_line.new.output c.take_line-in-Whole.new.output [] t.0 c.in_ok-next_line.ensures.sends (Sends-more (g.W.Sink.taken c.next_line.new.sink) c.next_line.new.output c.take_line-in-Whole.new.output t.0 t.1),
-      rw (p.1, p.2)
-          (λ s at. whole_stops c.args.done s c.take_line-in-Whole.new.self c.args.reader.now c.next_line.new.self l.0 t.0 c.next_line.new.line.items (g.R.Source.has_failed c.next_line.new.source) c.in_err-take_line-in-Whole.field-0.0 c.requires.few l.2.0 l.2.1 (t.2 s at)),
-    )
-
-pub returns-in_ok-take_line-in-Whole-clause-text : goal.returns-in_ok-take_line-in-Whole-clause-text
-returns-in_ok-take_line-in-Whole-clause-text g c =
-    let l = rw c.in-Whole.is at c.in_ok-next_line.ensures.read in
-    let content : c.without_carriage_return.result.now ≡ strip_carriage_return c.next_line.new.line.items = c.without_carriage_return.ensures ∙ ap strip_carriage_return c.deref-in-Whole.ensures.value in
-    let t = rw content at c.in_ok-take_line-in-Whole.ensures.text in (
-      l.0,
-      t.0,
-      l.1,
-      Sends-then (g.W.Sink.taken c.args.sink.now) (g.W.Sink.taken c.next_line.new.sink) (g.W.Sink.taken c.next_line.new.sink) c.args.output.now c.next_line.new.output c.take_line-in-Whole.new.output [] t.0 c.in_ok-next_line.ensures.sends (Sends-more (g.W.Sink.taken c.next_line.new.sink) c.next_line.new.output c.take_line-in-Whole.new.output t.0 t.1),
-      λ s at. whole_passes c.args.done s c.take_line-in-Whole.new.self c.args.reader.now c.next_line.new.self l.0 t.0 c.next_line.new.line.items tt c.requires.few l.2.0 l.2.1 (t.2 s at),
+pub returns-clause-text : goal.returns-clause-text
+returns-clause-text g c =
+    let one = rw c.if-not-branch.false at c.in_ok-look.ensures.read in
+    let two = c.in_ok-run_seen.ensures.text in (
+      one.0 ++ two.0,
+      two.1,
+      Pulls-then c.args.lines.now.ahead c.look.new.self.ahead c.run_seen.new.lines.ahead (g.R.Source.left c.args.source.now) (g.R.Source.left c.look.new.source) (g.R.Source.left c.run_seen.new.source) (g.R.Source.has_failed c.args.source.now) (g.R.Source.has_failed c.look.new.source) (g.R.Source.has_failed c.run_seen.new.source) one.0 two.0 one.1 two.2,
+      Sends-then (g.W.Sink.taken c.args.sink.now) (g.W.Sink.taken c.look.new.sink) (g.W.Sink.taken c.run_seen.new.sink) c.args.output.now c.look.new.output c.run_seen.new.output [] two.1 c.look.ensures.sends two.3,
+      λ s at. let o = two.4 s at in (o.0, o.1, looked_on c.args.lines.now.done c.run_seen.new.lines.done s o.0 c.args.lines.now.ahead c.run_seen.new.lines.ahead c.look.new.self one.0 two.0 two.1 (g.R.Source.has_failed c.run_seen.new.source) (Ok tt) one.2.0 one.2.2 two.2.none_after_end two.2.end_stays o.2),
     )

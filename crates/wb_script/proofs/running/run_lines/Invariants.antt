@@ -1,14 +1,17 @@
-use Rattle.std.proofs.Common.{◌≤◌, List, ℕ, length}
+use Rattle.std.proofs.Common.{◌-◌, List, ℕ}
 use Rattle.wb_script.specs.Output.{Sends}
 use Rattle.wb_script.specs.Ahead.{Pulls}
 use Rattle.wb_script.specs.Running.{Passes}
-use Rattle.wb_script.specs.Script.{State}
+use Rattle.wb_script.specs.Script.{State, most_lines}
 use Rattle.wb_script.specs.Stations.{IsAt}
 use Rattle.wb_script.proofs.running.run_lines.Given as goal
 
-abbrev pub invariant-loop-done : goal.invariant-loop-done
-invariant-loop-done g l =
-    (length l.host.waiting ≤ l.done) × ((given : List ℕ) × (written : List ℕ)
-    × Pulls l.fn.reader l.reader (g.R.Source.left l.fn.source) (g.R.Source.left l.source) (g.R.Source.has_failed l.fn.source) (g.R.Source.has_failed l.source) given
+abbrev pub invariant-loop : goal.invariant-loop
+invariant-loop g l =
+    (given : List ℕ) × (written : List ℕ)
+    × Pulls l.fn.lines.ahead l.lines.ahead (g.R.Source.left l.fn.source) (g.R.Source.left l.source) (g.R.Source.has_failed l.fn.source) (g.R.Source.has_failed l.source) given
     × Sends (g.W.Sink.taken l.fn.sink) l.fn.output (g.W.Sink.taken l.sink) l.output written
-    × ((s : State) → IsAt l.fn.host s → (t : State) × IsAt l.host t × Passes 0 s l.fn.reader given written l.done t l.reader))
+    × ((s : State) → IsAt l.fn.host s → (t : State) × IsAt l.host t × Passes 0 s l.fn.lines.ahead given written l.lines.done t l.lines.ahead)
+
+abbrev pub decreases-loop : goal.decreases-loop
+decreases-loop g l = most_lines - l.lines.done

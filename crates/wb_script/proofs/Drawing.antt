@@ -1,0 +1,184 @@
+-- What a batch that was drawn from a script comes to.
+use Rattle.std.proofs.Common.{◌≡◌, ◌≢◌, ◌≤◌, ◌<◌, ℕ, List, [], ◌∷◌, ◌++◌, length, Bool, true, false, Result, Ok, Err, refl, sym, ap, subst, ◌∙◌, arith}
+use Rattle.std.specs.Prelude.{Option, Some, None, filter}
+use Rattle.std.specs.Option.{is_some}
+use Rattle.std.proofs.lemmas.Bool.{false≢true, true≢false}
+use Rattle.std.proofs.lemmas.List.{append-nil}
+use Rattle.wb_names.specs.Values.{DrawopValue}
+use Rattle.wb_names.specs.Arrivals.{Counts}
+use Rattle.wb_feed.specs.Batches.{counts_in}
+use Rattle.wb_host.specs.Keeper.{Arrive, holds}
+use Rattle.wb_host.specs.Keeping.{KeeperValue, Keeps}
+use Rattle.wb_script.specs.declared.fault.RunFault.{RunFault}
+use Rattle.wb_script.specs.declared.fault.RunFault.TheVariants as run_faults
+use Rattle.wb_script.specs.declared.taking.Drawn.{Drawn}
+use Rattle.wb_script.specs.declared.taking.Taken.{Taken}
+use Rattle.wb_script.specs.Answers.{batch_line}
+use Rattle.wb_script.specs.Ahead.{Ahead}
+use Rattle.wb_script.specs.Board.{Held}
+use Rattle.wb_script.specs.Hosts.{Opened, opened, batch_text, names_of}
+use Rattle.wb_script.specs.Lines.{LinesValue}
+use Rattle.wb_script.specs.Script.{State, IsAlone, MayBeTaken, by_host, after_batch, closing_text, Finishes, is_stop, IsStop}
+use Rattle.wb_script.specs.Running.{IsAhead, Passes, Stops}
+use Rattle.wb_script.specs.Stations.{StationValue, IsOpenAt, TakesAll, TakesGiven, TakesBatch}
+use Rattle.wb_script.specs.ReadOn.{IsOpen, IsBatchEnd, with_waiting, DrawsValue, listed, batch_of, GetsTo, ReadsOn}
+use Rattle.wb_script.specs.Taking.{GetsOver, IsDrawn, IsFault, TakesFrom, DrawsAll, GoesOn, TakesOn}
+use Rattle.wb_script.proofs.EarlyEnds.{early_end, finish_leads}
+use Rattle.wb_script.proofs.Outcomes.{Leads-then, Passes-then}
+use Rattle.wb_script.proofs.Steps.{taken}
+
+-- ---- a batch whose source gave nothing before
+
+pub all_drawn : (b b' : Held) (workers : ℕ) (old new : List DrawopValue) (n : Counts) → old ≡ [] → TakesGiven b workers old new b' n → TakesAll b workers new b' n
+all_drawn b b' workers old new n none t = subst (λ (l : List DrawopValue). TakesAll b workers l b' n) (sym (t.1 ∙ ap (λ (l : List DrawopValue). l ++ t.0) none)) t.2
+
+pub stop_is : (f : RunFault) → is_stop f ≡ true → IsStop f
+stop_is run_faults.Memory e = tt
+stop_is run_faults.Write e = tt
+stop_is run_faults.Start e = tt
+stop_is run_faults.Read e = absurd (false≢true e)
+stop_is run_faults.Endless e = absurd (false≢true e)
+stop_is (run_faults.Line n l) e = absurd (false≢true e)
+
+abbrev err_of : (X : Type 0) → RunFault → Result X RunFault
+err_of X e = Err e
+
+pub same_fault : {X : Type 0} (e f : RunFault) → err_of X e ≡ Err f → e ≡ f
+same_fault e f h = cc
+
+-- how it ended
+pub ended_well : (over : Option (Result (Unit {0}) RunFault)) (fault : Option RunFault) (u : Unit {0}) → over ≡ Some (Ok u) → fault ≡ None → IsFault over fault
+ended_well over fault u e none = subst (λ (o : Option (Result (Unit {0}) RunFault)). IsFault o fault) (sym e) none
+
+two_faults : (over : Option (Result (Unit {0}) RunFault)) (e f : RunFault) → over ≡ Some (Err e) → over ≡ Some (Err f) → e ≡ f
+two_faults over e f one other = cc
+
+pub ended_badly : (over : Option (Result (Unit {0}) RunFault)) (fault : Option RunFault) (e f : RunFault) → over ≡ Some (Err e) → over ≡ Some (Err f) → fault ≡ Some f → is_stop e ≡ false → IsFault over fault
+ended_badly over fault e f one other is going = subst (λ (o : Option (Result (Unit {0}) RunFault)). IsFault o fault) (sym other) (is, ap is_stop (sym (two_faults over e f one other)) ∙ going)
+
+pub not_ended : {X : Type 0} (over : Option (Result (Unit {0}) RunFault)) → over ≡ None → is_some over ≡ true → X
+not_ended None none e = absurd (false≢true e)
+not_ended (Some o) none e = absurd cc
+
+-- ---- from how it ended, what was read
+
+not_short : (over : Option (Result (Unit {0}) RunFault)) (fault : Option RunFault) → IsFault over fault → over ≢ Some (Err run_faults.Memory)
+not_short None fault f = absurd f
+not_short (Some (Ok u)) fault f = λ e. cc
+not_short (Some (Err e)) fault f = λ is. let memory : e ≡ run_faults.Memory = cc in true≢false (ap is_stop (sym memory) ∙ f.1)
+
+first_drawn : (over : Option (Result (Unit {0}) RunFault)) (fault : Option RunFault) (s : State) (old new : DrawsValue) (given : List ℕ) → IsFault over fault → GetsTo over s old new given → new.at.first ≡ None
+first_drawn None fault s old new given f p = absurd f
+first_drawn (Some (Ok u)) fault s old new given f p = p.0
+first_drawn (Some (Err e)) fault s old new given f p = p.0
+
+at_first : (drawn : List DrawopValue) (first : Option DrawopValue) (d : DrawopValue) → drawn ≡ [] → first ≡ Some d → drawn ++ listed first ≡ d ∷ []
+at_first drawn first d none is = ap (λ (l : List DrawopValue). l ++ listed first) none ∙ ap listed is
+
+at_last : (drawn : List DrawopValue) (first : Option DrawopValue) → first ≡ None → drawn ++ listed first ≡ drawn
+at_last drawn first none = ap (λ (o : Option DrawopValue). drawn ++ listed o) none ∙ append-nil drawn
+
+gets_over : (over : Option (Result (Unit {0}) RunFault)) (fault : Option RunFault) (s : State) (old new : DrawsValue) (first : DrawopValue) (given : List ℕ) → batch_of old.at ≡ first ∷ [] → batch_of new.at ≡ new.at.drawn → IsFault over fault → GetsTo over s old new given
+    → GetsOver fault s old.at.lines first given new.at.lines new.failed new.at.drawn
+gets_over None fault s old new first given start end f p = absurd f
+gets_over (Some (Ok u)) fault s old new first given start end f p =
+    let read : Passes old.at.lines.done (with_waiting s (first ∷ [])) old.at.lines.ahead given [] new.at.lines.done (with_waiting s (batch_of new.at)) new.at.lines.ahead =
+    subst (λ (l : List DrawopValue). Passes old.at.lines.done (with_waiting s l) old.at.lines.ahead given [] new.at.lines.done (with_waiting s (batch_of new.at)) new.at.lines.ahead) start p.2 in
+    subst (λ (x : Option RunFault). GetsOver x s old.at.lines first given new.at.lines new.failed new.at.drawn) (sym f)
+    (p.1, subst (λ (l : List DrawopValue). Passes old.at.lines.done (with_waiting s (first ∷ [])) old.at.lines.ahead given [] new.at.lines.done (with_waiting s l) new.at.lines.ahead) end read)
+gets_over (Some (Err e)) fault s old new first given start end f p =
+    let read : Stops old.at.lines.done (with_waiting s (first ∷ [])) old.at.lines.ahead given [] (with_waiting s (batch_of new.at)) new.at.lines.ahead new.failed e =
+    subst (λ (l : List DrawopValue). Stops old.at.lines.done (with_waiting s l) old.at.lines.ahead given [] (with_waiting s (batch_of new.at)) new.at.lines.ahead new.failed e) start p.1 in
+    subst (λ (x : Option RunFault). GetsOver x s old.at.lines first given new.at.lines new.failed new.at.drawn) (sym f.0)
+    (f.1, subst (λ (l : List DrawopValue). Stops old.at.lines.done (with_waiting s (first ∷ [])) old.at.lines.ahead given [] (with_waiting s l) new.at.lines.ahead new.failed e) end read)
+
+some_drawn : (old new drawn : List DrawopValue) (first : DrawopValue) → old ≡ first ∷ [] → new ≡ drawn → length old ≤ length new → 0 < length drawn
+some_drawn old new drawn first start end kept = omega (arith, kept, ap (λ (l : List DrawopValue). length l) start, ap (λ (l : List DrawopValue). length l) end)
+
+pub draws_all : (station : StationValue) (workers : ℕ) (old new : DrawsValue) (first : DrawopValue) (r : ReadsOn old new) (result : Result Drawn RunFault) → old.at.drawn ≡ [] → old.at.first ≡ Some first → TakesFrom station workers new.at.drawn new.over result
+    → DrawsAll station workers old.at.lines first r.given new.at.lines new.failed new.at.drawn result
+draws_all station workers old new first r (Ok d) none is t = (
+  t.0,
+  λ s opened.
+      let p : GetsTo new.over s old new r.given = r.gets s opened in
+      let start : batch_of old.at ≡ first ∷ [] = at_first old.at.drawn old.at.first first none is in
+      let end : batch_of new.at ≡ new.at.drawn = at_last new.at.drawn new.at.first (first_drawn new.over d.fault s old new r.given t.1 p) in
+      (some_drawn (batch_of old.at) (batch_of new.at) new.at.drawn first start end (r.kept (not_short new.over d.fault t.1)), gets_over new.over d.fault s old new first r.given start end t.1 p),
+)
+draws_all station workers old new first r (Err f) none is t = t
+
+-- ---- the batch is taken
+
+-- where the script can't be read on, the batch is taken before that is said
+stops_after : (n : ℕ) (s t : State) (order : List DrawopValue) (r r' : Ahead) (given : List ℕ) (failed : Bool) (f : RunFault) → is_stop f ≡ false → IsOpen t.host → MayBeTaken t.workers t.waiting order
+    → Stops n s r given [] t r' failed f → Stops n s r given (closing_text t order) (after_batch t order) r' failed f
+stops_after n s t order r r' given failed run_faults.Memory going opened may p = absurd (true≢false going)
+stops_after n s t order r r' given failed run_faults.Write going opened may p = absurd (true≢false going)
+stops_after n s t order r r' given failed run_faults.Start going opened may p = absurd (true≢false going)
+stops_after n s t order r r' given failed run_faults.Read going opened may p =
+    (p.0, p.1, Leads-then (IsAhead true n s r given) (Finishes t (Err run_faults.Read)) (Finishes (after_batch t order) (Err run_faults.Read)) [] (closing_text t order) p.2 (finish_leads t order (Err run_faults.Read) opened may))
+stops_after n s t order r r' given failed run_faults.Endless going opened may p = λ more cut follow.
+    Leads-then (IsAhead cut n s r (given ++ more)) (Finishes t (Err run_faults.Endless)) (Finishes (after_batch t order) (Err run_faults.Endless)) [] (closing_text t order) (p more cut follow) (finish_leads t order (Err run_faults.Endless) opened may)
+stops_after n s t order r r' given failed (run_faults.Line number e) going opened may p = λ more cut follow.
+    Leads-then (IsAhead cut n s r (given ++ more)) (Finishes t (Err (run_faults.Line number e))) (Finishes (after_batch t order) (Err (run_faults.Line number e))) [] (closing_text t order) (p more cut follow) (finish_leads t order (Err (run_faults.Line number e)) opened may)
+
+passes_after : (n m : ℕ) (s t : State) (order : List DrawopValue) (r : Ahead) (new : LinesValue) (given : List ℕ) → IsOpen t.host → MayBeTaken t.workers t.waiting order → IsBatchEnd new
+    → Passes n s r given [] m t new.ahead → Passes n s r given (closing_text t order) m (after_batch t order) new.ahead
+passes_after n m s t order r new given opened may ends p =
+    subst (λ (g : List ℕ). Passes n s r g (closing_text t order) m (after_batch t order) new.ahead) (append-nil given)
+    (Passes-then n m m s t (after_batch t order) r new.ahead new.ahead given [] [] (closing_text t order) (λ e. refl) (λ e. e) p (early_end m t order new opened may ends))
+
+goes_after : (fault : Option RunFault) (s : State) (order drawn : List DrawopValue) (old new : LinesValue) (first : DrawopValue) (given : List ℕ) (failed : Bool) → IsOpen s.host → MayBeTaken s.workers drawn order
+    → GetsOver fault s old first given new failed drawn → GoesOn fault s old first given (closing_text (with_waiting s drawn) order) new failed (after_batch (with_waiting s drawn) order)
+goes_after None s order drawn old new first given failed opened may p = passes_after old.done new.done (with_waiting s (first ∷ [])) (with_waiting s drawn) order old.ahead new given opened may p.0 p.1
+goes_after (Some f) s order drawn old new first given failed opened may p = (p.0, stops_after old.done (with_waiting s (first ∷ [])) (with_waiting s drawn) order old.ahead new.ahead given failed f p.0 opened may p.1)
+
+-- what is printed then
+closing_is : (o : Option Opened) (host : Opened) (order : List DrawopValue) → o ≡ Some host → by_host {X = List ℕ} o [] (λ h. batch_text h.board order) ≡ batch_text host.board order
+closing_is o host order e = ap (λ (h : Option Opened). by_host {X = List ℕ} h [] (λ k. batch_text k.board order)) e
+
+-- what a station prints and tells its keeper of a batch that it has taken
+pub record IsTold (drawn : List DrawopValue) (d : Drawn) (station : StationValue) (written : List ℕ) : Type 0 where
+  pub text : written ≡ batch_line (counts_in d.batch)
+  pub board : station.board ≡ d.station.board
+  pub words : station.words ≡ d.station.words
+  pub keeper : Keeps (Arrive d.station.keeper.moment (filter (holds d.station.board.drawops) (names_of drawn))) d.station.keeper station.keeper
+
+-- the station is at the host after the batch
+told_at : (old : StationValue) (workers : ℕ) (drawn : List DrawopValue) (d : Drawn) (station : StationValue) (written : List ℕ) (host : Opened) (is : IsDrawn old workers drawn d) → 0 < length drawn → IsTold drawn d station written → IsOpenAt old host
+    → TakesBatch host drawn is.taken.order station written
+told_at old workers drawn d station written host is some told at =
+    let keeps : Keeps (Arrive old.keeper.moment (filter (holds d.station.board.drawops) (names_of drawn))) old.keeper station.keeper =
+    subst (λ (k : KeeperValue). Keeps (Arrive k.moment (filter (holds d.station.board.drawops) (names_of drawn))) k station.keeper) is.keeper told.keeper in
+    let t = taken old.board d.station.board old.keeper station.keeper old.words drawn is.taken.order (names_of drawn) written (counts_in d.batch) host some (record { board = at.board; keeper = at.keeper; words = at.words }) refl is.taken.may.moved is.taken.counts is.taken.held told.text keeps in
+    record {
+      leads = record { board = told.board ∙ t.leads.board; keeper = t.leads.keeper; words = told.words ∙ is.words ∙ at.words };
+      text = t.text;
+    }
+
+pub takes_on : (old : StationValue) (workers : ℕ) (drawn : List DrawopValue) (d : Drawn) (station : Taken) (written given : List ℕ) (lines lines' : LinesValue) (first : DrawopValue) (failed : Bool) (s : State) (host : Opened)
+    → s.host ≡ Some host → (IsAlone s.workers → workers ≤ 1) → IsOpenAt old host → IsDrawn old workers drawn d → IsTold drawn d station.station written → station.fault ≡ d.fault
+    → (IsOpen s.host → (0 < length drawn) × GetsOver d.fault s lines first given lines' failed drawn) → TakesOn s host lines first given written lines' failed station
+takes_on old workers drawn d station written given lines lines' first failed s host here few at is told same read =
+    let opened : IsOpen s.host = subst IsOpen (sym here) tt in
+    let t = told_at old workers drawn d station.station written host is (read opened).0 told at in
+    let may : MayBeTaken s.workers drawn is.taken.order = record { moved = is.taken.may.moved; alone = λ a. is.taken.may.alone (few a) } in
+    let text : closing_text (with_waiting s drawn) is.taken.order ≡ written = closing_is s.host host is.taken.order here ∙ sym t.text in
+    let goes : GoesOn d.fault s lines first given (closing_text (with_waiting s drawn) is.taken.order) lines' failed (after_batch (with_waiting s drawn) is.taken.order) =
+    goes_after d.fault s is.taken.order drawn lines lines' first given failed opened may (read opened).1 in
+    record {
+      batch = drawn;
+      order = is.taken.order;
+      may = may;
+      leads = t.leads;
+      goes = subst (λ (x : Option RunFault). GoesOn x s lines first given written lines' failed (after_batch (with_waiting s drawn) is.taken.order)) (sym same)
+          (subst (λ (w : List ℕ). GoesOn d.fault s lines first given w lines' failed (after_batch (with_waiting s drawn) is.taken.order)) text goes);
+    }
+
+-- of a fault that is kept no sink has failed
+pub never_unwritten : (fault : Option RunFault) (old new : LinesValue) (first : DrawopValue) (given : List ℕ) (failed : Bool) (drawn : List DrawopValue) → ((s : State) → IsOpen s.host → (0 < length drawn) × GetsOver fault s old first given new failed drawn) → fault ≢ Some run_faults.Write
+never_unwritten None old new first given failed drawn read = λ e. cc
+never_unwritten (Some f) old new first given failed drawn read = λ e.
+    let same : f ≡ run_faults.Write = cc in
+    let some : State = record { host = Some (opened 0 1 0); workers = None; waiting = [] } in
+    true≢false (ap is_stop (sym same) ∙ (read some tt).1.0)

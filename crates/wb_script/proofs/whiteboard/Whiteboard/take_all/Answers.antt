@@ -1,7 +1,0 @@
-use Rattle.wb_script.proofs.Boards.{taken_all}
-use Rattle.wb_script.proofs.whiteboard.Whiteboard.take_all.Goals as goal
-
-pub returns-in-Ok-clause-taken : goal.returns-in-Ok-clause-taken
-returns-in-Ok-clause-taken g c =
-    taken_all c.self.inside.board c.self.inside.desk c.run_batch-taken.new.desk c.args.self c.args.workers c.args.drawops.now _ _ c.in-Ok.batch c.self.view_is c.self.invariant
-    c.requires.workers.0 c.requires.few c.run_batch-taken.ensures.source c.in-Ok.ensures.ended c.run_batch-taken.ensures.kept c.in-Ok.ensures.taken

@@ -1,0 +1,54 @@
+-- What becomes of a batch that is read as it is taken.
+use Rattle.std.specs.Prelude.{◌≡◌, ◌<◌, ℕ, length, List, [], ◌∷◌, Bool, false, Option, Some, None, Result, Ok, Err}
+use Rattle.wb_names.specs.Values.{DrawopValue}
+use Rattle.wb_feed.specs.Batches.{counts_in}
+use Rattle.wb_script.specs.declared.fault.RunFault.{RunFault}
+use Rattle.wb_script.specs.declared.taking.Drawn.{Drawn}
+use Rattle.wb_script.specs.declared.taking.Taken.{Taken}
+use Rattle.wb_script.specs.Hosts.{Opened, host_after}
+use Rattle.wb_script.specs.Script.{State, MayBeTaken, after_batch, is_stop, IsStop}
+use Rattle.wb_script.specs.Running.{Passes, Stops}
+use Rattle.wb_script.specs.Stations.{StationValue, IsOpenAt, TakesAll}
+use Rattle.wb_script.specs.Lines.{LinesValue}
+use Rattle.wb_script.specs.ReadOn.{IsOpen, with_waiting, IsBatchEnd}
+
+-- The first arrival waited: these were drawn, and the script was read on to the end of the batch, or to a fault.
+abbrev pub GetsOver : Option RunFault → State → LinesValue → DrawopValue → List ℕ → LinesValue → Bool → List DrawopValue → Type 0
+GetsOver None s old first given new failed drawn = IsBatchEnd new × Passes old.done (with_waiting s (first ∷ [])) old.ahead given [] new.done (with_waiting s drawn) new.ahead
+GetsOver (Some f) s old first given new failed drawn = (is_stop f ≡ false) × Stops old.done (with_waiting s (first ∷ [])) old.ahead given [] (with_waiting s drawn) new.ahead failed f
+
+-- the batch that a station has taken
+pub record IsDrawn (station : StationValue) (workers : ℕ) (drawn : List DrawopValue) (d : Drawn) : Type 0 where
+  pub taken : TakesAll station.board workers drawn d.station.board (counts_in d.batch)
+  pub keeper : d.station.keeper ≡ station.keeper
+  pub words : d.station.words ≡ station.words
+
+-- why the script can't be read on, where it can't
+abbrev pub IsFault : Option (Result (Unit {0}) RunFault) → Option RunFault → Type 0
+IsFault None fault = ⊥
+IsFault (Some (Ok u)) fault = fault ≡ None
+IsFault (Some (Err e)) fault = (fault ≡ Some e) × (is_stop e ≡ false)
+
+abbrev pub TakesFrom : StationValue → ℕ → List DrawopValue → Option (Result (Unit {0}) RunFault) → Result Drawn RunFault → Type 0
+TakesFrom station workers drawn over (Ok d) = IsDrawn station workers drawn d × IsFault over d.fault
+TakesFrom station workers drawn over (Err f) = IsStop f
+
+abbrev pub DrawsAll : StationValue → ℕ → LinesValue → DrawopValue → List ℕ → LinesValue → Bool → List DrawopValue → Result Drawn RunFault → Type 0
+DrawsAll station workers old first given new failed drawn (Ok d) = IsDrawn station workers drawn d × ((s : State) → IsOpen s.host → (0 < length drawn) × GetsOver d.fault s old first given new failed drawn)
+DrawsAll station workers old first given new failed drawn (Err f) = IsStop f
+
+-- The batch is taken and printed, in some order.
+abbrev pub GoesOn : Option RunFault → State → LinesValue → DrawopValue → List ℕ → List ℕ → LinesValue → Bool → State → Type 0
+GoesOn None s old first given written new failed t = Passes old.done (with_waiting s (first ∷ [])) old.ahead given written new.done t new.ahead
+GoesOn (Some f) s old first given written new failed t = (is_stop f ≡ false) × Stops old.done (with_waiting s (first ∷ [])) old.ahead given written t new.ahead failed f
+
+pub record TakesOn (s : State) (host : Opened) (old : LinesValue) (first : DrawopValue) (given written : List ℕ) (new : LinesValue) (failed : Bool) (taken : Taken) : Type 0 where
+  pub batch : List DrawopValue
+  pub order : List DrawopValue
+  pub may : MayBeTaken s.workers batch order
+  pub leads : IsOpenAt taken.station (host_after host batch order)
+  pub goes : GoesOn taken.fault s old first given written new failed (after_batch (with_waiting s batch) order)
+
+abbrev pub TakesBatchOn : State → Opened → LinesValue → DrawopValue → List ℕ → List ℕ → LinesValue → Bool → Result Taken RunFault → Type 0
+TakesBatchOn s host old first given written new failed (Ok taken) = TakesOn s host old first given written new failed taken
+TakesBatchOn s host old first given written new failed (Err f) = IsStop f × (written ≡ [])

@@ -1,0 +1,160 @@
+//! The arrivals of a batch, as workers draw them: the script is read on as they do.
+ghost use Rattle.std.specs.Prelude.{◌≡◌, ℕ, [], List, Err, IfOk, true};
+ghost use Rattle.wb_script.specs.Output.{Sends};
+ghost use Rattle.wb_script.specs.Ahead.{Pulls};
+ghost use Rattle.wb_script.specs.ReadOn.{IsPart, ReadsTo, DrawsTo};
+ghost use Rattle.wb_script.specs.Parsing.{line_of};
+
+use crate::fault::{ParseFault, RunFault};
+use crate::line::Line;
+use crate::output::Output;
+use crate::parsing::parse_line;
+use crate::script_lines::{MAX_LINES, ScriptLines};
+use std::alloc::{AllocError, Global};
+use wb_feed::Arrivals;
+use wb_names::{Drawop, Sink, Source};
+
+/// What a line is to a batch.
+#[derive(Drop)]
+enum Part {
+    Skipped,
+    Arrival(Drawop),
+    /// The batch ends before it.
+    Other,
+}
+
+/// What the line with this content is to a batch.
+fn part_of(alloc: Global, content: &[u8]) -> Result<Part, AllocError>
+    ensures { IfOk result (λ part. IsPart part (line_of content.now)) }
+{
+    match parse_line(alloc, content) {
+        Ok(line) => Ok(match &line {
+            Line::Skip => Part::Skipped,
+            Line::Arrive(drawop) => Part::Arrival(*drawop),
+            _ => Part::Other,
+        }),
+        Err(ParseFault::Line(_)) => Ok(Part::Other),
+        Err(ParseFault::Memory) => Err(AllocError),
+    }
+}
+
+/// Reads a script up to its next arrival, and takes that line and those that are skipped before it. A line that
+/// is neither is looked at alone: the batch ends there.
+fn read_on<R: Source, W: Sink>(
+    alloc: Global,
+    lines: &mut ScriptLines,
+    source: &mut R,
+    output: &mut Output,
+    sink: &mut W,
+) -> Result<Option<Drawop>, RunFault>
+    ensures read { (given : List ℕ) × Pulls lines.old.ahead lines.new.ahead (R.left source.old) (R.left source.new) (R.has_failed source.old) (R.has_failed source.new) given
+        × ReadsTo lines.old lines.new given (R.has_failed source.new) result }
+    ensures sends { Sends (W.taken sink.old) output.old (W.taken sink.new) output.new [] }
+    ensures failed { result ≡ Err RunFault.Write → W.has_failed sink.new ≡ true }
+{
+    while lines.look(source, output, sink)? {
+        match part_of(alloc, lines.content())? {
+            Part::Skipped => lines.take(),
+            Part::Arrival(drawop) => {
+                lines.take();
+                return Ok(Some(drawop));
+            }
+            Part::Other => return Ok(None),
+        }
+    }
+    Ok(None)
+}
+
+/// Draws the first arrival of a batch, where it was not drawn yet, and else that of a line that follows.
+fn draw<R: Source, W: Sink>(
+    alloc: Global,
+    lines: &mut ScriptLines,
+    source: &mut R,
+    output: &mut Output,
+    sink: &mut W,
+    first: &mut Option<Drawop>,
+    drawn: &mut Vec<Drawop>,
+) -> Result<Option<Drawop>, RunFault>
+    ensures read { (given : List ℕ) × Pulls lines.old.ahead lines.new.ahead (R.left source.old) (R.left source.new) (R.has_failed source.old) (R.has_failed source.new) given
+        × DrawsTo (record { lines = lines.old; drawn = drawn.old.items; first = first.old }) (record { lines = lines.new; drawn = drawn.new.items; first = first.new }) given (R.has_failed source.new) result }
+    ensures sends { Sends (W.taken sink.old) output.old (W.taken sink.new) output.new [] }
+    ensures failed { result ≡ Err RunFault.Write → W.has_failed sink.new ≡ true }
+{
+    if let Some(drawop) = first.take() {
+        drawn.push(drawop)?;
+        return Ok(Some(drawop));
+    }
+    let Some(drawop) = read_on(alloc, lines, source, output, sink)? else {
+        return Ok(None);
+    };
+    drawn.push(drawop)?;
+    Ok(Some(drawop))
+}
+
+/// Draws the arrivals of a batch from a script: one whose line was taken before, and those of the lines that
+/// follow, up to one that is neither skipped nor an arrival.
+#[derive(Drop)]
+pub struct Arriving<'a, R: Source, W: Sink> {
+    pub alloc: Global,
+    pub lines: &'a mut ScriptLines,
+    pub source: &'a mut R,
+    pub output: &'a mut Output,
+    pub sink: &'a mut W,
+    /// The arrivals that were drawn.
+    pub drawn: &'a mut Vec<Drawop>,
+    /// The first, while it was not drawn.
+    pub first: Option<Drawop>,
+    /// How the batch ended, once it has: a fault is why no more lines could be read.
+    pub over: Option<Result<(), RunFault>>,
+}
+
+impl<R: Source, W: Sink> Arrivals for Arriving<'_, R, W> {
+    ghost use Rattle.std.specs.Prelude.{◌≡◌, refl};
+    ghost use Rattle.wb_script.specs.ReadOn.{Follows, most_of};
+    ghost use Rattle.std.specs.Option.{is_some};
+    ghost use Rattle.std.proofs.Common.{◌∙◌};
+
+    ghost given = { λ s. s.drawn.now.items };
+
+    ghost has_ended = { λ s. is_some s.over };
+
+    ghost most_to_come = { λ s. most_of (record { lines = s.lines.now; drawn = s.drawn.now.items; first = s.first }) };
+
+    ghost follows = { λ a b. (a.lines.ghost_name ≡ b.lines.ghost_name) × (a.source.ghost_name ≡ b.source.ghost_name) × (a.output.ghost_name ≡ b.output.ghost_name) × (a.sink.ghost_name ≡ b.sink.ghost_name) × (a.drawn.ghost_name ≡ b.drawn.ghost_name)
+        × Follows
+        (record { at = record { lines = a.lines.now; drawn = a.drawn.now.items; first = a.first }; over = a.over; left = R.left a.source.now; failed = R.has_failed a.source.now; output = a.output.now; taken = W.taken a.sink.now; stuck = W.has_failed a.sink.now })
+        (record { at = record { lines = b.lines.now; drawn = b.drawn.now.items; first = b.first }; over = b.over; left = R.left b.source.now; failed = R.has_failed b.source.now; output = b.output.now; taken = W.taken b.sink.now; stuck = W.has_failed b.sink.now }) };
+
+    fn next(&mut self) -> Option<Drawop> {
+        if self.over.is_some() {
+            return None;
+        }
+        match draw(
+            self.alloc,
+            self.lines,
+            self.source,
+            self.output,
+            self.sink,
+            &mut self.first,
+            self.drawn,
+        ) {
+            Ok(Some(drawop)) => Some(drawop),
+            Ok(None) => {
+                self.over = Some(Ok(()));
+                None
+            }
+            Err(fault) => {
+                self.over = Some(Err(fault));
+                None
+            }
+        }
+    }
+
+    fn most(&self) -> u32 {
+        MAX_LINES - self.lines.done() + u32::from(self.first.is_some())
+    }
+
+    ghost follows_itself = { λ s. (refl, refl, refl, refl, refl, λ start p. p) };
+
+    ghost follows_on = { λ a b c p q. (p.0 ∙ q.0, p.1 ∙ q.1, p.2 ∙ q.2, p.3 ∙ q.3, p.4 ∙ q.4, λ start r. q.5 start (p.5 start r)) };
+}
