@@ -1,43 +1,17 @@
 //! Sources that fail after each number of bytes, and the longest lines.
 
-ghost use Rattle.std.specs.Prelude.{Some};
-
+use crate::broken::Broken;
 use crate::watched::Watched;
 use std::alloc::{AllocError, Global};
 use std::sync::Wait;
 use std::test::Fail;
 use std::thread::Threads;
-use wb_names::{FromRead, Source};
+use wb_names::FromRead;
 use wb_script::{NoGate, RunFault, Summary, run};
 
 /// A board line of 16 bytes, an arrival of 92, and a question of 13.
 const SCRIPT: &str =
     "board 1 16 1 42\narrive 574201010000002200000007000000070000000100000001000000000000000a0100000001000400012a\nshow 7 1 5 3\n";
-
-/// A source that fails after its bytes.
-#[derive(Drop)]
-struct Cut<'a> {
-    bytes: &'a [u8],
-    failed: bool,
-}
-
-impl Source for Cut<'_> {
-    ghost left = { λ s. Some s.bytes.now };
-
-    ghost has_failed = { λ s. s.failed };
-
-    fn pull(&mut self, buffer: &mut [u8]) -> Option<usize> {
-        if self.failed || self.bytes.is_empty() {
-            self.failed = true;
-            return None;
-        }
-        let count = buffer.len().min(self.bytes.len());
-        let (front, rest) = self.bytes.split_at(count);
-        buffer[..count].copy_from_slice(front);
-        self.bytes = rest;
-        Some(count)
-    }
-}
 
 /// What is printed of the script where its source fails after so many bytes: a line that is cut off is not run, and
 /// the batch before it ends.
@@ -56,7 +30,7 @@ fn is_cut_at<R: Threads + Wait + Sync>(rt: &R, alloc: Global, count: usize) -> b
     let Some(bytes) = SCRIPT.as_bytes().get(..count) else {
         return false;
     };
-    let mut source = Cut {
+    let mut source = Broken {
         bytes,
         failed: false,
     };

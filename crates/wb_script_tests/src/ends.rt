@@ -2,6 +2,7 @@
 
 ghost use Rattle.std.specs.Prelude.{Some, None, false};
 
+use crate::broken::Broken;
 use std::cell::Cell;
 use std::process::Abort;
 use std::test::Fail;
@@ -12,31 +13,6 @@ const SCRIPT: &str =
     "board 1 16 1 42\narrive 574201010000002200000007000000070000000100000001000000000000000a0100000001000400012a\nshow 7 1 5 3\n";
 
 const TEXT: &str = "batch 1 0 0 0\n     \n*****\n     \n";
-
-/// A source that fails after its bytes.
-#[derive(Drop)]
-struct Broken<'a> {
-    bytes: &'a [u8],
-    failed: bool,
-}
-
-impl Source for Broken<'_> {
-    ghost left = { λ s. Some s.bytes.now };
-
-    ghost has_failed = { λ s. s.failed };
-
-    fn pull(&mut self, buffer: &mut [u8]) -> Option<usize> {
-        if self.failed || self.bytes.is_empty() {
-            self.failed = true;
-            return None;
-        }
-        let count = buffer.len().min(self.bytes.len());
-        let (front, rest) = self.bytes.split_at(count);
-        buffer[..count].copy_from_slice(front);
-        self.bytes = rest;
-        Some(count)
-    }
-}
 
 /// A sink that takes so many bytes, one a call, and then fails.
 #[derive(Drop)]

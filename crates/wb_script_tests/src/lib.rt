@@ -3,6 +3,10 @@
 #![tactic(auto)]
 
 #[cfg(test)]
+mod arriving;
+#[cfg(test)]
+mod broken;
+#[cfg(test)]
 mod cut;
 #[cfg(test)]
 mod ends;
