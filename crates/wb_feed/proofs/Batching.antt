@@ -1,5 +1,5 @@
 -- What the workers accepted and what was taken again, as one batch.
-use Rattle.std.proofs.Common.{◌≡◌, ℕ, zero, suc, ◌+◌, ◌≤◌, ◌<◌, Bool, List, [], ◌∷◌, ◌++◌, length, map, get_or, refl, ap, ap₂, sym, subst, ◌∙◌, arith, append_assoc, length-append}
+use Rattle.std.proofs.Common.{◌≡◌, ℕ, ◌+◌, ◌≤◌, ◌<◌, Bool, List, [], ◌∷◌, ◌++◌, length, map, get_or, refl, ap, sym, subst, ◌∙◌, ⊎_elim, arith, append_assoc, length-append}
 use Rattle.std.specs.Prelude.{All}
 use Rattle.std.proofs.lemmas.Bool.Decides.{nat_tests}
 use Rattle.std.proofs.lemmas.List.Elements.{All-nil, All-cons}
@@ -8,25 +8,25 @@ use Rattle.std.proofs.lemmas.List.Sorted.{IsPermutation-trans, IsPermutation-app
 use mathlib.Core.List.{IsPrefix}
 use Rattle.wb_names.specs.Values.{DrawopValue}
 use Rattle.wb_names.specs.History.{HoldsName}
-use Rattle.wb_names.specs.Arrivals.{Outcome, Fresh, Known, Clashed, Left, Counts, counts, IsBatch}
-use Rattle.wb_history.specs.Passes.{PassValue, IsSound, IsWhole}
+use Rattle.wb_names.specs.Arrivals.{Fresh, Known, Clashed, Left, counts}
+use Rattle.wb_history.specs.Passes.{PassValue, IsSound}
 use Rattle.wb_feed.specs.declared.line.Hand.{Hand}
 use Rattle.wb_feed.specs.declared.worker.Accepted.{Accepted}
 use Rattle.wb_feed.specs.declared.message.Message.{Message}
 use Rattle.wb_feed.specs.declared.batch.Batch.{Batch}
-use Rattle.wb_feed.specs.Accepts.{Entry, drawops, tally, Runs}
-use Rattle.wb_feed.specs.Batches.{counts_in, IsInOrder, IsInSomeOrder, HoldsNamesBut, Takes, IsTotal}
-use Rattle.wb_feed.specs.Crews.{Crew, Crewed}
+use Rattle.wb_feed.specs.Accepts.{Entry, drawops, tally}
+use Rattle.wb_feed.specs.Batches.{counts_in, Takes, IsTotal}
+use Rattle.wb_feed.specs.Crews.{Crew, Crewed, Lent, Worked}
 use Rattle.wb_feed.specs.Line.{once_below, IsComplete, AreRight, spots}
 use Rattle.wb_feed.specs.Marks.{unmarked, Marks, Retakes}
-use Rattle.wb_feed.specs.Served.{Spot, is_left, entries, accepted_at, offered}
-use Rattle.wb_feed.proofs.Log.{is_taken, chosen, chosen-append, drawops-append, tally-append, tally_all, left_many, Told, Gathers, gathers_run, runs_empty}
+use Rattle.wb_feed.specs.Served.{Spot, is_left, entries, accepted_at, offered, Tells}
+use Rattle.wb_feed.proofs.Log.{is_taken, chosen, chosen-append, drawops-append, tally-append, tally_all, left_many, Told, Gathers, gathers_none, gathers_run, runs_empty}
 use Rattle.wb_feed.proofs.Members.{nothing, at_named}
 use Rattle.wb_feed.proofs.Numbers.{times}
 use Rattle.wb_feed.proofs.OneThread.{counted_as, same_counts}
-use Rattle.wb_feed.proofs.OneWorker.{in_given_order}
-use Rattle.wb_feed.proofs.Placing.{OffersRight, places_and_rest, crew_offers, crew_once, crew_gathers, taken_at}
-use Rattle.wb_feed.proofs.Prefixes.{prefix_length}
+use Rattle.wb_feed.proofs.OneWorker.{Single, single_part, in_given_order}
+use Rattle.wb_feed.proofs.Placing.{OffersRight, places_and_rest, single_offers, single_once, crew_offers, crew_once, crew_gathers, taken_at}
+use Rattle.wb_feed.proofs.Prefixes.{prefix_self, prefix_length}
 use Rattle.wb_feed.proofs.Settling.{taken_or_left, settles, left_lacks, stays_whole}
 
 taken_many : (log : List Entry) → length (drawops (chosen is_taken log)) ≡ ((tally log).fresh + (tally log).again) + (tally log).clash
@@ -47,6 +47,56 @@ taken_names h ((d, Clashed i) ∷ es) t = All-cons (λ (d : DrawopValue). HoldsN
 once_rises : (i m n : ℕ) → m ≤ n → once_below i m ≤ once_below i n
 once_rises i m n h = grind (arith, nat_tests)
 
+-- What workers did, whether each had a part of the rows or the one the desk itself: p is the desk before, q the desk after
+pub record Gained (n : ℕ) (p : PassValue) (log : List Spot) (gots : List Message) (q : PassValue) : Type 0 where
+  pub gathers : Gathers p (entries log) q
+  pub once : (i : ℕ) → times i (accepted_at log) ≤ spots i gots
+  pub offers : (sent ds : List DrawopValue) → IsPrefix sent ds → AreRight sent gots → OffersRight ds (offered log)
+  pub single : n ≡ 1 → Single p log gots q
+
+pub record Work (n : ℕ) (p : PassValue) (g h : Hand) (q : PassValue) (a : Accepted) : Type 0 where
+  pub log : List Spot
+  pub gots : List Message
+  pub gained : Gained n p log gots q
+  pub got : h.got ≡ g.got ++ gots
+  pub parts : h.parts ≡ g.parts
+  pub tells : Tells a log
+
+crewed_work : (rows n : ℕ) (p q : PassValue) (g h : Hand) (a : Accepted) → (n ≡ 1 → rows ≡ p.free) → Crewed rows n p g h q a → Work n p g h q a
+crewed_work rows n p q g h a all c = record {
+  log = c.log;
+  gots = c.gots;
+  gained = record {
+    gathers = crew_gathers c.crew;
+    once = λ i. crew_once i c.crew;
+    offers = λ sent ds s right. crew_offers sent ds s right c.crew;
+    single = λ one. single_part (all one) (subst (λ (k : ℕ). Crew rows k p c.log c.gots q) one c.crew);
+  };
+  got = c.got;
+  parts = c.parts;
+  tells = c.tells;
+}
+
+lent_work : (n : ℕ) (p q : PassValue) (g h : Hand) (a : Accepted) → Lent p g h q a → Work n p g h q a
+lent_work n p q g h a c =
+    let t = c.took in
+    record {
+      log = t.log;
+      gots = c.gots;
+      gained = record {
+        gathers = gathers_run p p q [] (entries t.log) (gathers_none p) t.runs;
+        once = λ i. single_once t.log c.gots i t.offered;
+        offers = λ sent ds s right. single_offers t.log c.gots sent ds s right t.offered;
+        single = λ one. record { from = p; to = q; runs = t.runs; same = refl; back = prefix_self q.seen; empty = runs_empty p q (entries t.log) t.runs; offered = t.offered; rises = c.rises };
+      };
+      got = c.got;
+      parts = c.parts;
+      tells = t.tells;
+    }
+
+pub worked : (rows n : ℕ) (p q : PassValue) (g h : Hand) (a : Accepted) → (n ≡ 1 → rows ≡ p.free) → Worked rows n p g h q a → Work n p g h q a
+worked rows n p q g h a all w = ⊎_elim (λ (c : Crewed rows n p g h q a). crewed_work rows n p q g h a all c) (λ (c : (n ≡ 1) × Lent p g h q a). lent_work n p q g h a c.1) w
+
 -- what the workers accepted, as drawops, and what is not marked are the drawops drawn
 pub record Whole (drawn : List DrawopValue) (ms : List Bool) (log : List Spot) (gots : List Message) : Type 0 where
   pub moved : IsPermutation drawn (drawops (chosen is_taken (entries log)) ++ unmarked ms drawn)
@@ -56,32 +106,32 @@ pub record Whole (drawn : List DrawopValue) (ms : List Bool) (log : List Spot) (
   pub right : OffersRight drawn (offered log)
   pub marks : Marks (accepted_at log) (length drawn) ms
 
-pub whole_from : (rows n : ℕ) (p q : PassValue) (g h : Hand) (a : Accepted) (drawn : List DrawopValue) (ms : List Bool) (c : Crewed rows n p g h q a) → g.got ≡ [] → IsComplete h → IsPrefix h.sent drawn
+pub whole_from : (n : ℕ) (p q : PassValue) (g h : Hand) (a : Accepted) (drawn : List DrawopValue) (ms : List Bool) (c : Work n p g h q a) → g.got ≡ [] → IsComplete h → IsPrefix h.sent drawn
     → Marks a.positions.items (length drawn) ms → Whole drawn ms c.log c.gots
-whole_from rows n p q g h a drawn ms c none all sent m =
+whole_from n p q g h a drawn ms c none all sent m =
     let got : h.got ≡ c.gots = c.got ∙ ap (λ l. l ++ c.gots) none in
     let right : AreRight h.sent c.gots = subst (λ l. AreRight h.sent l) got all.right in
     let most : (i : ℕ) → times i a.positions.items ≤ once_below i (length drawn) =
-    λ i. omega (arith, ap (times i) c.tells.positions, crew_once i c.crew, ap (λ l. spots i l) got, all.once i, once_rises i all.low (length drawn) (omega (arith, all.most, prefix_length h.sent drawn sent))) in
+    λ i. omega (arith, ap (times i) c.tells.positions, c.gained.once i, ap (λ l. spots i l) got, all.once i, once_rises i all.low (length drawn) (omega (arith, all.most, prefix_length h.sent drawn sent))) in
     let e : map (λ i. get_or drawn i nothing) a.positions.items ≡ drawops (chosen is_taken (entries c.log)) =
-    ap (map (λ i. get_or drawn i nothing)) c.tells.positions ∙ sym (taken_at drawn c.log (crew_offers h.sent drawn sent right c.crew)) in
+    ap (map (λ i. get_or drawn i nothing)) c.tells.positions ∙ sym (taken_at drawn c.log (c.gained.offers h.sent drawn sent right)) in
     record {
       moved = subst (λ l. IsPermutation drawn (l ++ unmarked ms drawn)) e (places_and_rest drawn a.positions.items ms m most);
       low = all.low;
       most = omega (arith, all.most, prefix_length h.sent drawn sent);
       once = λ i. sym (ap (λ l. spots i l) got) ∙ all.once i;
-      right = crew_offers h.sent drawn sent right c.crew;
+      right = c.gained.offers h.sent drawn sent right;
       marks = subst (λ l. Marks l (length drawn) ms) c.tells.positions m;
     }
 
-pub takes_all : (rows n : ℕ) (p q r : PassValue) (g h : Hand) (a : Accepted) (drawn : List DrawopValue) (ms : List Bool) (t b : Batch) (c : Crewed rows n p g h q a) → Whole drawn ms c.log c.gots
-    → (n ≡ 1 → rows ≡ p.free) → IsSound p → IsSound q → IsSound r → Retakes q (unmarked ms drawn) r t → IsTotal a t b → Takes p drawn n r b
-takes_all rows n p q r g h a drawn ms t b c whole one sp sq sr m e =
+pub takes_all : (n : ℕ) (p q r : PassValue) (g h : Hand) (a : Accepted) (drawn : List DrawopValue) (ms : List Bool) (t b : Batch) (c : Work n p g h q a) → Whole drawn ms c.log c.gots
+    → IsSound p → IsSound q → IsSound r → Retakes q (unmarked ms drawn) r t → IsTotal a t b → Takes p drawn n r b
+takes_all n p q r g h a drawn ms t b c whole sp sq sr m e =
     let log = entries c.log in
     let more = m.log in
     let all = log ++ more in
     let sum = tally-append log more in
-    let gs : Gathers p all r = gathers_run p q r log more (crew_gathers c.crew) m.runs in
+    let gs : Gathers p all r = gathers_run p q r log more c.gained.gathers m.runs in
     let fresh : (tally all).fresh ≡ b.fresh = omega (arith, sum.fresh, e.fresh, c.tells.fresh, m.tallies.fresh) in
     let again : (tally all).again ≡ b.again = omega (arith, sum.again, e.again, c.tells.again, m.tallies.again) in
     let clash : (tally all).clash ≡ b.clash = omega (arith, sum.clash, e.clash, c.tells.clash, m.tallies.clash) in
@@ -108,12 +158,12 @@ takes_all rows n p q r g h a drawn ms t b c whole one sp sq sr m e =
           record { order = s.order; moved = s.moved; taken = counted_as p.cells p.seen r.seen s.order (counts (tally all).fresh (tally all).again (tally all).clash (length lefts)) (counts_in b) (same_counts fresh again clash left') s.taken };
       in_order = λ is w.
           counted_as p.cells p.seen r.seen drawn (counts (tally all).fresh (tally all).again (tally all).clash (tally more).left) (counts_in b) (same_counts fresh again clash left)
-          (in_given_order r more drawn ms (one is) sp w sq sr (subst (λ (k : ℕ). Crew rows k p c.log c.gots q) is c.crew) (crew_gathers c.crew) gs m.runs m.all whole.most whole.once whole.right whole.marks);
+          (in_given_order r more drawn ms sp w sq sr (c.gained.single is) c.gained.gathers gs m.runs m.all whole.most whole.once whole.right whole.marks);
     }
 
-pub total_few : (rows n : ℕ) (p q r : PassValue) (g h : Hand) (a : Accepted) (drawn : List DrawopValue) (ms : List Bool) (t : Batch) (c : Crewed rows n p g h q a) → Whole drawn ms c.log c.gots → Retakes q (unmarked ms drawn) r t
+pub total_few : (n : ℕ) (p q r : PassValue) (g h : Hand) (a : Accepted) (drawn : List DrawopValue) (ms : List Bool) (t : Batch) (c : Work n p g h q a) → Whole drawn ms c.log c.gots → Retakes q (unmarked ms drawn) r t
     → (((a.fresh + t.fresh) + (a.again + t.again)) + (a.clash + t.clash)) + t.left ≤ length drawn
-total_few rows n p q r g h a drawn ms t c whole m =
+total_few n p q r g h a drawn ms t c whole m =
     let taken = drawops (chosen is_taken (entries c.log)) in
     omega (
       arith,

@@ -1,17 +1,16 @@
 -- One worker takes the arrivals in the order in which they were drawn.
-use Rattle.std.proofs.Common.{◌≡◌, ◌≢◌, ◌⊎◌, ℕ, zero, suc, ◌+◌, ◌≤◌, ◌<◌, ◌==◌, ◌||◌, Bool, true, false, true≢false, cond, List, [], ◌∷◌, ◌++◌, length, get_or, Option, Some, None, slice_get, refl, ap, ap₂, sym, subst, ◌∙◌, arith, ⊎_elim, append_assoc, length-append, inl, inr}
+use Rattle.std.proofs.Common.{◌≡◌, ◌≢◌, ◌⊎◌, ℕ, zero, suc, ◌+◌, ◌≤◌, ◌<◌, ◌==◌, ◌||◌, Bool, true, false, cond, List, [], ◌∷◌, ◌++◌, length, get_or, Some, slice_get, refl, ap, ap₂, sym, subst, ◌∙◌, arith, ⊎_elim, append_assoc, length-append, inl, inr}
 use Rattle.std.proofs.lemmas.List.{append-nil}
 use Rattle.std.proofs.lemmas.Bool.{cases_lt}
 use Rattle.std.proofs.lemmas.Bool.Decides.{nat_tests}
 use mathlib.Core.List.{IsPrefix}
 use Rattle.wb_names.specs.Values.{DrawopValue}
-use Rattle.wb_names.specs.Arrivals.{Outcome, Fresh, Known, Clashed, Left, Counts, counts, counts_of, IsBatch}
-use Rattle.wb_history.specs.Passes.{PassValue, IsSound, IsWhole, IsSamePass}
-use Rattle.wb_history.specs.Sharing.{IsSplit, IsJoined}
+use Rattle.wb_names.specs.Arrivals.{Fresh, Known, Clashed, Left, counts, IsBatch}
+use Rattle.wb_history.specs.Passes.{PassValue, IsSound, IsWhole}
 use Rattle.wb_feed.specs.Accepts.{Entry, drawops, outcomes, tally, Runs}
 use Rattle.wb_feed.proofs.Prefixes.{prefix_self, prefix_whole, prefix_trans, prefix_length}
 use Rattle.wb_feed.proofs.Numbers.{times}
-use Rattle.wb_feed.proofs.Log.{chosen, Told, Gathers, runs_leave, runs_empty, tally-append, left_many, split_keeps}
+use Rattle.wb_feed.proofs.Log.{chosen, Told, Gathers, runs_leave, runs_empty, tally-append, left_many}
 use Rattle.wb_feed.proofs.Settling.{whole_mine, stays_whole}
 use Rattle.wb_feed.proofs.OneThread.{Lacks, both_batches, counted_as, same_counts, plus, zero_plus}
 use Rattle.wb_feed.proofs.InOrder.{in_order}
@@ -21,7 +20,7 @@ use Rattle.wb_feed.specs.Line.{spots, once_below}
 use Rattle.wb_feed.specs.Served.{Spot, is_left, entries, accepted_at, takes, offered, Rises}
 use Rattle.wb_feed.specs.Marks.{has, unmarked, Marks}
 use Rattle.wb_feed.specs.Crews.{Crew, nobody, worker}
-use Rattle.wb_feed.proofs.Placing.{OffersRight, pair_times, accepted_few, takes_spots, has_not, once_under, once_past, crew_gathers}
+use Rattle.wb_feed.proofs.Placing.{OffersRight, pair_times, accepted_few, takes_spots, once_under, once_past}
 
 -- below low, and else 0, as a count
 same_test : (m n : ℕ) → m ≡ n → (m == n) ≡ true
@@ -219,11 +218,22 @@ first_part w y z es (h ∷ a) b e r q lack full =
     let c = all_left y.seen (h ∷ a) l.told lack' in
     record { seen = same; fresh = c.fresh; again = c.again; clash = c.clash; left = c.left ∙ (ap length e ∙ sym (left_many es)) }
 
+-- One worker's run, by a desk cut off and joined back or by the desk itself: v is the desk before, w the desk after
+pub record Single (v : PassValue) (log : List Spot) (got : List Message) (w : PassValue) : Type 0 where
+  pub from : PassValue
+  pub to : PassValue
+  pub runs : Runs from (entries log) to
+  pub same : from.seen ≡ v.seen
+  pub back : IsPrefix to.seen w.seen
+  pub empty : 0 < (tally (entries log)).left → w.free ≡ 0
+  pub offered : offered log ≡ takes got
+  pub rises : Rises 0 (takes got)
+
 -- After the worker the desk w takes what is not marked, in order: first what the worker left, then what it never received
-phases : (v x u₀ u w z : PassValue) (es more : List Entry) (rest all : List DrawopValue) → IsSound v → IsWhole v → IsSound w → IsSound z → IsSplit v v.free x u₀ → Runs u₀ es u → IsJoined x u w
+phases : (v u₀ u w z : PassValue) (es more : List Entry) (rest all : List DrawopValue) → IsSound v → IsWhole v → IsSound w → IsSound z → Runs u₀ es u → u₀.seen ≡ v.seen → IsPrefix u.seen w.seen → (0 < (tally es).left → w.free ≡ 0)
     → Gathers v es w → Gathers v (es ++ more) z → Runs w more z → drawops more ≡ drawops (chosen is_left es) ++ rest → all ≡ drawops es ++ rest
     → IsBatch v.cells v.seen all z.seen (counts (tally (es ++ more)).fresh (tally (es ++ more)).again (tally (es ++ more)).clash (tally more).left)
-phases v x u₀ u w z es more rest all sv hv sw sz parts runs back gw gz run split whole' =
+phases v u₀ u w z es more rest all sv hv sw sz runs same back free gw gz run split whole' =
     let hw : IsWhole w = stays_whole v w es gw hv in
     let hz : IsWhole z = stays_whole v z (es ++ more) gz hv in
     let ov = whole_mine v sv hv in
@@ -232,9 +242,8 @@ phases v x u₀ u w z es more rest all sv hv sw sz parts runs back gw gz run spl
     let s = runs_split w z more (drawops (chosen is_left es)) rest run split in
     let la = runs_leave w s.mid s.front s.to in
     let lb = runs_leave s.mid z s.back s.on in
-    let free : 0 < (tally es).left → w.free ≡ 0 = λ some. omega (arith, runs_empty u₀ u es runs some, back.free, parts.rows) in
-    let long : length w.seen ≡ length u₀.seen + (tally es).fresh = omega (arith, gw.many, ov.many, ow.many, ap length parts.seen) in
-    let first = in_order v.cells w.seen u₀ u es sw.history (omega (arith, sw.room, gw.kept.same.1)) runs back.second long (λ some. omega (arith, free some, hw, ow.many, gw.kept.same.1)) in
+    let long : length w.seen ≡ length u₀.seen + (tally es).fresh = omega (arith, gw.many, ov.many, ow.many, ap length same) in
+    let first = in_order v.cells w.seen u₀ u es sw.history (omega (arith, sw.room, gw.kept.same.1)) runs back long (λ some. omega (arith, free some, hw, ow.many, gw.kept.same.1)) in
     let wz : IsPrefix w.seen z.seen = prefix_trans w.seen s.mid.seen z.seen la.kept.seen lb.kept.seen in
     let full : 0 < (tally es).left → w.seen ≡ z.seen = λ some. prefix_whole w.seen z.seen wz (omega (arith, free some, hw, ow.many, sz.room, gz.kept.same.1, gw.kept.same.1)) in
     let c = first_part w s.mid z es s.front s.back s.first s.to s.on first.lacks full in
@@ -248,7 +257,7 @@ phases v x u₀ u w z es more rest all sv hv sw sz parts runs back gw gz run spl
     let second = in_order v.cells z.seen s.mid z s.back sz.history (omega (arith, sz.room, gz.kept.same.1)) s.on (prefix_self z.seen) more_long
     (λ some. omega (arith, runs_empty s.mid z s.back s.on some, hz, oz.many, gz.kept.same.1)) in
     let one : IsBatch v.cells v.seen (drawops es) w.seen (tally es) =
-    subst (λ l. IsBatch v.cells l (drawops es) w.seen (tally es)) parts.seen (outcomes es, first.taken, refl) in
+    subst (λ l. IsBatch v.cells l (drawops es) w.seen (tally es)) same (outcomes es, first.taken, refl) in
     let two : IsBatch v.cells w.seen rest z.seen (tally s.back) =
     subst (λ (k : List DrawopValue × List DrawopValue). IsBatch v.cells k.0 k.1 z.seen (tally s.back)) (λ i. (sym c.seen i, s.second i)) (outcomes s.back, second.taken, refl) in
     subst (λ l. IsBatch v.cells v.seen l z.seen (counts (tally (es ++ more)).fresh (tally (es ++ more)).again (tally (es ++ more)).clash (tally more).left)) (sym whole')
@@ -256,20 +265,19 @@ phases v x u₀ u w z es more rest all sv hv sw sz parts runs back gw gz run spl
     (same_counts (omega (arith, both.fresh, fresh)) (omega (arith, both.again, again)) (omega (arith, both.clash, clash)) (sym left))
     (both_batches v.cells v.seen w.seen z.seen (drawops es) rest (tally es) (tally s.back) one two))
 
+-- a worker whose desk was cut off with all rows and joined back
+pub single_part : {rows : ℕ} {v w : PassValue} {log : List Spot} {gots : List Message} → rows ≡ v.free → Crew rows (suc zero) v log gots w → Single v log gots w
+single_part given (worker {p = v} {rest = x} {q = w} {desk = u₀} {done = u} es _ got _ p r o rise nobody same j) =
+    subst (λ l. Single v l got w) (sym (append-nil es))
+    (record { from = u₀; to = u; runs = r; same = p.seen; back = j.second; empty = λ some. omega (arith, runs_empty u₀ u (entries es) r some, j.free, p.rows, given); offered = o; rises = rise })
+
 -- one worker, through the channel
-pub in_given_order : {rows low : ℕ} {v w : PassValue} {log : List Spot} {gots : List Message} → (z : PassValue) (more : List Entry) (all : List DrawopValue) (ms : List Bool) → rows ≡ v.free → IsSound v → IsWhole v → IsSound w → IsSound z
-    → Crew rows (suc zero) v log gots w → Gathers v (entries log) w → Gathers v (entries log ++ more) z → Runs w more z → drawops more ≡ unmarked ms all
+pub in_given_order : {low : ℕ} {v w : PassValue} {log : List Spot} {gots : List Message} → (z : PassValue) (more : List Entry) (all : List DrawopValue) (ms : List Bool) → IsSound v → IsWhole v → IsSound w → IsSound z
+    → Single v log gots w → Gathers v (entries log) w → Gathers v (entries log ++ more) z → Runs w more z → drawops more ≡ unmarked ms all
     → low ≤ length all → ((p : ℕ) → spots p gots ≡ once_below p low) → OffersRight all (offered log) → Marks (accepted_at log) (length all) ms
     → IsBatch v.cells v.seen all z.seen (counts (tally (entries log ++ more)).fresh (tally (entries log ++ more)).again (tally (entries log ++ more)).clash (tally more).left)
-in_given_order z more all ms given sv hv sw sz (worker {p = v} {rest = x} {q = w} {desk = u₀} {done = u} es _ got _ p r o rise nobody same j) gw gz run again' most once right marks =
-    let e : es ++ [] ≡ es = append-nil es in
-    let parts : IsSplit v v.free x u₀ = subst (λ n. IsSplit v n x u₀) given p in
-    let gw' : Gathers v (entries es) w = subst (λ l. Gathers v (entries l) w) e gw in
-    let gz' : Gathers v (entries es ++ more) z = subst (λ l. Gathers v (entries l ++ more) z) e gz in
-    let right' : OffersRight all (offered es) = subst (λ l. OffersRight all (offered l)) e right in
-    let rise' : Rises 0 (offered es) = subst (λ l. Rises 0 l) (sym o) rise in
-    let marks' : Marks (accepted_at es) (length all) ms = subst (λ l. Marks (accepted_at l) (length all) ms) e marks in
-    let s = split_from all _ [] all 0 ms es refl refl marks'.long most rise' (λ q _. ap (pair_times q) o ∙ (takes_spots q got ∙ once q)) right'
-    (λ i lt. marks'.each i (omega (arith, lt, marks'.long)) ∙ ap (λ n. has n (accepted_at es)) (sym (zero_plus i))) in
-    subst (λ l. IsBatch v.cells v.seen all z.seen (counts (tally (entries l ++ more)).fresh (tally (entries l ++ more)).again (tally (entries l ++ more)).clash (tally more).left)) (sym e)
-    (phases v x u₀ u w z (entries es) more s.rest all sv hv sw sz parts r j gw' gz' run (again' ∙ s.left) s.all)
+in_given_order {v = v} {w = w} {log = log} {gots = gots} z more all ms sv hv sw sz one gw gz run again' most once right marks =
+    let rise : Rises 0 (offered log) = subst (λ l. Rises 0 l) (sym one.offered) one.rises in
+    let s = split_from all _ [] all 0 ms log refl refl marks.long most rise (λ q _. ap (pair_times q) one.offered ∙ (takes_spots q gots ∙ once q)) right
+    (λ i lt. marks.each i (omega (arith, lt, marks.long)) ∙ ap (λ n. has n (accepted_at log)) (sym (zero_plus i))) in
+    phases v one.from one.to w z (entries log) more s.rest all sv hv sw sz one.runs one.same one.back one.empty gw gz run (again' ∙ s.left) s.all

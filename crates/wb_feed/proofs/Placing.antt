@@ -1,16 +1,16 @@
 -- The drawops that workers accepted and those taken again are the drawops drawn.
-use Rattle.std.proofs.Common.{◌≡◌, ◌≢◌, ◌⊎◌, ℕ, zero, suc, ◌+◌, ◌-◌, ◌≤◌, ◌<◌, ◌==◌, ◌||◌, Bool, true, false, true≢false, cond, List, [], ◌∷◌, ◌++◌, length, map, get_or, Option, Some, None, slice_get, refl, ap, ap₂, sym, subst, ◌∙◌, arith, ⊎_elim, append_assoc, length-append, nat_lt, inl, inr}
-use Rattle.std.proofs.lemmas.List.{append-nil, map-append}
+use Rattle.std.proofs.Common.{◌≡◌, ◌≢◌, ◌⊎◌, ℕ, zero, suc, ◌+◌, ◌≤◌, ◌<◌, ◌==◌, ◌||◌, Bool, true, false, true≢false, cond, List, [], ◌∷◌, ◌++◌, length, map, get_or, Some, slice_get, refl, ap, ap₂, sym, subst, ◌∙◌, arith, ⊎_elim, append_assoc, length-append, inl, inr}
+use Rattle.std.proofs.lemmas.List.{map-append}
 use Rattle.std.proofs.lemmas.Bool.{cases_lt}
 use Rattle.std.proofs.lemmas.Bool.Decides.{nat_tests}
 use Rattle.std.specs.List.{range_with_len}
 use Rattle.std.specs.List.Sorted.{IsPermutation}
-use Rattle.std.proofs.lemmas.List.Sorted.{IsPermutation-refl, IsPermutation-sym, IsPermutation-trans, IsPermutation-map, IsPermutation-append_left, IsPermutation-append_right}
+use Rattle.std.proofs.lemmas.List.Sorted.{IsPermutation-map}
 use mathlib.Core.List.{IsPrefix}
 use Rattle.wb_names.specs.Values.{DrawopValue}
-use Rattle.wb_names.specs.Arrivals.{Outcome, Fresh, Known, Clashed, Left}
+use Rattle.wb_names.specs.Arrivals.{Fresh, Known, Clashed, Left}
 use Rattle.wb_history.specs.Passes.{PassValue}
-use Rattle.wb_feed.specs.Accepts.{Entry, drawops}
+use Rattle.wb_feed.specs.Accepts.{drawops}
 use Rattle.wb_feed.proofs.Prefixes.{prefix_get}
 use Rattle.wb_feed.proofs.Numbers.{times, times-append, IsPermutation-times, times-range}
 use Rattle.wb_feed.proofs.Members.{nothing, get_at, get_mid}
@@ -19,7 +19,7 @@ use Rattle.wb_feed.proofs.OneThread.{zero_plus}
 use Rattle.wb_feed.proofs.Settling.{map_range}
 use Rattle.wb_feed.specs.declared.message.Message.{Message}
 use Rattle.wb_feed.specs.declared.message.Message.TheVariants.{Take, End}
-use Rattle.wb_feed.specs.Line.{spot, spots, once_below, IsRight, AreRight}
+use Rattle.wb_feed.specs.Line.{spots, once_below, AreRight}
 use Rattle.wb_feed.specs.Served.{Spot, entries, accepted_at, takes, offered}
 use Rattle.wb_feed.specs.Marks.{has, unmarked, Marks}
 use Rattle.wb_feed.specs.Crews.{Crew, nobody, worker}
@@ -155,6 +155,9 @@ crew_offers sent ds p r (worker es others got gots _ _ e _ c _ _) =
     subst (λ l. OffersRight ds l) (sym (offered-append es others))
     (offers_append ds (offered es) (offered others) (subst (λ l. OffersRight ds l) (sym e) (offers_from sent ds got p h.1)) (crew_offers sent ds p h.0 c))
 
+pub single_offers : (log : List Spot) (gots : List Message) (sent ds : List DrawopValue) → IsPrefix sent ds → AreRight sent gots → offered log ≡ takes gots → OffersRight ds (offered log)
+single_offers log gots sent ds p r e = subst (λ l. OffersRight ds l) (sym e) (offers_from sent ds gots p r)
+
 abbrev pub pair_times : ℕ → List (ℕ × DrawopValue) → ℕ
 pair_times p [] = 0
 pair_times p (x ∷ xs) = cond (x.0 == p) 1 0 + pair_times p xs
@@ -170,6 +173,9 @@ pub takes_spots : (p : ℕ) (ms : List Message) → pair_times p (takes ms) ≡ 
 takes_spots p [] = refl
 takes_spots p (Take q d ∷ ms) = omega (arith, takes_spots p ms)
 takes_spots p (End ∷ ms) = omega (arith, takes_spots p ms)
+
+pub single_once : (log : List Spot) (gots : List Message) (p : ℕ) → offered log ≡ takes gots → times p (accepted_at log) ≤ spots p gots
+single_once log gots p e = omega (arith, accepted_few p log, ap (pair_times p) e, takes_spots p gots)
 
 pub crew_once : {rows n : ℕ} {v w : PassValue} {log : List Spot} {gots : List Message} → (p : ℕ) → Crew rows n v log gots w → times p (accepted_at log) ≤ spots p gots
 crew_once p nobody = omega arith

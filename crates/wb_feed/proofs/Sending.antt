@@ -1,14 +1,13 @@
 -- The sender's loop over the arrivals.
-use Rattle.std.proofs.Common.{◌≡◌, ℕ, zero, suc, ◌+◌, ◌≤◌, ◌<◌, Bool, true, false, true≢false, List, [], ◌∷◌, ◌++◌, length, Option, Result, Ok, Err, Some, None, refl, ap, sym, subst, ◌∙◌, arith, append_assoc, length-append, ◌⊎◌, ⊎_elim}
+use Rattle.std.proofs.Common.{◌≡◌, ℕ, ◌+◌, ◌-◌, ◌≤◌, Bool, true, false, true≢false, List, [], ◌∷◌, ◌++◌, length, refl, ap, sym, subst, ◌∙◌, arith, append_assoc, length-append}
 use Rattle.std.proofs.lemmas.List.{append-nil}
-use Rattle.std.specs.declared.alloc.AllocError.{AllocError}
 use mathlib.Core.List.{IsPrefix}
 use Rattle.wb_names.specs.Values.{DrawopValue}
 use Rattle.wb_feed.proofs.Prefixes.{prefix_self, prefix_trans}
 use Rattle.wb_feed.specs.declared.message.Message.{Message}
 use Rattle.wb_feed.specs.declared.message.Message.TheVariants.{Take, End}
 use Rattle.wb_feed.specs.declared.line.Hand.{Hand}
-use Rattle.wb_feed.specs.Line.{hand, sends, sent_with}
+use Rattle.wb_feed.specs.Line.{hand, sends}
 use Rattle.wb_feed.specs.Sent.{IsNext, IsSent, IsDrawn, DrawsOne}
 
 -- the sender's pass keeps its parts, and what it received
@@ -65,3 +64,13 @@ ends_same h i going false won shut = shut refl
 -- what the sender sent stays where a worker's pass is taken back
 pub sent_stays : (h i j : Hand) (drawn : List DrawopValue) → h ≡ hand (i.parts + j.parts) i.sends i.sent (i.got ++ j.got) → (i.sends ≡ true) × IsPrefix i.sent drawn → (h.sends ≡ true) × IsPrefix h.sent drawn
 sent_stays h i j drawn e s = rw e s
+
+-- a pass that sent nothing, and of which a part was cut off, while nothing is drawn
+pub sent_none : (h i : Hand) (drawn : List DrawopValue) → i ≡ hand (h.parts - 1) h.sends h.sent h.got → h.sends ≡ true → h.sent ≡ [] → drawn ≡ [] → IsSent i drawn true
+sent_none h i drawn cut s none empty =
+    let same : i.sent ≡ drawn = ap (λ (x : Hand). x.sent) cut ∙ (none ∙ sym empty) in
+    record { sends = ap (λ (x : Hand). x.sends) cut ∙ s; first = subst (λ l. IsPrefix i.sent l) same (prefix_self i.sent); all = λ _. same }
+
+-- what was sent stays where the view does
+pub ends_sent : (h i : Hand) (drawn : List DrawopValue) (going : Bool) → IsSent h drawn going → i ≡ h → (i.sends ≡ true) × IsPrefix i.sent drawn
+ends_sent h i drawn going s same = rw same (s.sends, s.first)

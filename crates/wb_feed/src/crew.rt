@@ -8,10 +8,11 @@ ghost use Rattle.wb_history.specs.Passes.{IsPassOf};
 ghost use Rattle.wb_feed.specs.Accepts.{Keeps};
 ghost use Rattle.wb_feed.specs.Line.{hand};
 ghost use Rattle.wb_feed.specs.Sent.{IsSent, IsDrawn};
-ghost use Rattle.wb_feed.specs.Crews.{Crewed};
+ghost use Rattle.wb_feed.specs.Crews.{Crewed, Worked};
 
 use crate::arrivals::Arrivals;
 use crate::gate::Gate;
+use crate::lent::run_one;
 use crate::line::{Cut, Line, LineEnd, LinePass};
 use crate::sender::{end_all, feed};
 use crate::worker::{Accepted, Done, serve};
@@ -34,9 +35,9 @@ pub(crate) enum CrewFault {
 
 /// The desk that a worker begins with, and the channel that it serves.
 #[derive(Drop)]
-struct WorkerServes<'a> {
-    desk: Snapshot<Desk>,
-    end: &'a LineEnd,
+pub(crate) struct WorkerServes<'a> {
+    pub(crate) desk: Snapshot<Desk>,
+    pub(crate) end: &'a LineEnd,
 }
 
 impl<'a> Promise<Done> for WorkerServes<'a> {
@@ -145,6 +146,49 @@ fn run_workers<'s, 'e: 's, R: Threads + Wait + Sync, S: Arrivals, G: Gate + Sync
     }
 }
 
+/// The workers of a batch: one has the desk itself, and of more each has a part of its rows.
+fn run_crew<'s, 'e: 's, R: Threads + Wait + Sync, S: Arrivals, G: Gate + Sync>(
+    scope: &'s Scope<'s, &'e ()>,
+    rt: &'e R,
+    alloc: Global,
+    board: &'e Board,
+    root: &mut Desk,
+    rows: u32,
+    workers: u32,
+    line: &Line,
+    end: &'e LineEnd,
+    pass: &mut LinePass,
+    arrivals: &mut S,
+    drawn: &mut Vec<Drawop>,
+    gate: &'e G,
+) -> Result<Accepted, CrewFault>
+    requires root { IsPassOf board.now root.old }
+    requires rows { rows * workers ≤ root.old.free }
+    requires workers { (0 < workers) × (workers ≤ 8) }
+    requires channel { receives_on end.now ≡ sends_on line.now }
+    requires seat { IsSeatAt (sends_on line.now) pass.old }
+    requires view { view pass.old ≡ hand 16 true [] [] }
+    requires drawn { drawn.old.items ≡ [] }
+    requires few { S.most_to_come arrivals.old < 2 ^ 32 }
+    ensures kept { Keeps root.old root.new }
+    ensures seat { IsSeatAt (sends_on line.now) pass.new }
+    ensures sent { ((view pass.new).sends ≡ true) × IsPrefix (view pass.new).sent drawn.new.items }
+    ensures drawn { IsDrawn (S.given arrivals.old) (S.most_to_come arrivals.old) drawn.old.items (S.given arrivals.new) (S.most_to_come arrivals.new) drawn.new.items }
+    ensures ended { OnOk result (S.has_ended arrivals.new ≡ true) }
+    ensures source { S.follows arrivals.old arrivals.new }
+    ensures ok { IfOk result (λ a. Worked rows workers root.old (view pass.old) (view pass.new) root.new a) }
+{
+    if workers == 1 {
+        return run_one(
+            scope, rt, alloc, board, root, line, end, pass, arrivals, drawn, gate,
+        );
+    }
+    run_workers(
+        scope, rt, alloc, board, root, rows, workers, workers, line, end, pass, arrivals, drawn,
+        gate,
+    )
+}
+
 /// All workers, each on a thread of its own, fed from this one.
 pub(crate) fn crew<R: Threads + Wait + Sync, S: Arrivals, G: Gate + Sync>(
     rt: &R,
@@ -174,7 +218,7 @@ pub(crate) fn crew<R: Threads + Wait + Sync, S: Arrivals, G: Gate + Sync>(
     ensures drawn { IsDrawn (S.given arrivals.old) (S.most_to_come arrivals.old) drawn.old.items (S.given arrivals.new) (S.most_to_come arrivals.new) drawn.new.items }
     ensures ended { OnOk result (S.has_ended arrivals.new ≡ true) }
     ensures source { S.follows arrivals.old arrivals.new }
-    ensures ok { IfOk result (λ a. Crewed rows workers root.old (view pass.old) (view pass.new) root.new a) }
+    ensures ok { IfOk result (λ a. Worked rows workers root.old (view pass.old) (view pass.new) root.new a) }
 {
     let (root, pass, arrivals, drawn, accepted) = thread::scope(
         thread::scope_env(),
@@ -194,11 +238,11 @@ pub(crate) fn crew<R: Threads + Wait + Sync, S: Arrivals, G: Gate + Sync>(
             ensures drawn { IsDrawn (S.given arrivals.entry.now) (S.most_to_come arrivals.entry.now) drawn.entry.now.items (S.given result.2.now) (S.most_to_come result.2.now) result.3.now.items }
             ensures ended { OnOk result.4 (S.has_ended result.2.now ≡ true) }
             ensures source { S.follows arrivals.entry.now result.2.now }
-            ensures ok { IfOk result.4 (λ a. Crewed rows workers root.entry.now (view pass.entry.now) (view result.1.now) result.0.now a) }
+            ensures ok { IfOk result.4 (λ a. Worked rows workers root.entry.now (view pass.entry.now) (view result.1.now) result.0.now a) }
         {
-            let accepted = run_workers(
-                scope, rt, alloc, board, root, rows, workers, workers, line, end, pass, arrivals,
-                drawn, gate,
+            let accepted = run_crew(
+                scope, rt, alloc, board, root, rows, workers, line, end, pass, arrivals, drawn,
+                gate,
             );
             (root, pass, arrivals, drawn, accepted)
         },

@@ -21,6 +21,7 @@ mod batch;
 mod crew;
 mod fault;
 mod gate;
+mod lent;
 mod line;
 mod message;
 mod relays;
