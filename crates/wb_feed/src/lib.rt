@@ -1,8 +1,8 @@
 //! Workers that take a batch of arrivals on a shared board, each arrival once.
 //!
-//! `run_batch` splits a desk for each of up to eight workers, starts them on threads of their own, and
-//! sends them what its source gives, one drawop at a time, through one channel of bounded capacity. The
-//! channel is under a rule, by which no position is received twice; so after the joins the desk knows
+//! `run_batch` splits a desk for each of two to eight workers, or gives the desk itself to one, starts them
+//! on threads of their own, and sends them what its source gives, one drawop at a time, through one channel
+//! of bounded capacity. The channel is under a rule, by which no position is received twice; so after the joins the desk knows
 //! which arrivals no worker accepted, and takes those again, in order. What comes out is what one thread
 //! would have made of the arrivals in some order, and with one worker in the order given.
 //!
@@ -12,7 +12,7 @@
 //! `relay` has one desk accept a drawop on a thread of its own, and another desk told of it.
 //!
 //! In reading order: where drawops come from (`arrivals`) and what is called round each accept (`gate`);
-//! the call (`batch`), its workers (`crew`), what each does (`worker`), and the sender's part (`sender`);
+//! the call (`batch`), its workers (`crew`) or the one (`lent`), what each does (`worker`), and the sender's part (`sender`);
 //! the channel (`line`) with its messages (`message`); and `relays`.
 #![tactic(auto)]
 

@@ -31,11 +31,17 @@ fn open_again(alloc: Global) -> Option<(Board, Desk)>
     }
 }
 
-/// Whether the desk lost no more rows than one of so many workers has.
+/// Whether the desk lost no more rows than one of so many workers has that have parts of them. One alone
+/// has the desk itself, and loses none.
 fn keeps_rows(desk: &Desk, workers: u32) -> bool {
     let owned = desk.list().len().saturating_add(desk.rows_left() as usize);
     let lost = 16usize.saturating_sub(owned);
-    lost <= 16 / workers.max(1) as usize && (lost == 0 || !desk.is_whole())
+    let most = if workers <= 1 {
+        0
+    } else {
+        16 / workers as usize
+    };
+    lost <= most && (lost == 0 || !desk.is_whole())
 }
 
 /// Whether eight arrivals are taken, or None where the batch is refused memory or a thread.
@@ -91,7 +97,9 @@ fn goes_on<R: Threads + Wait + Sync>(rt: &R, alloc: Global, workers: u32) -> Opt
 }
 
 fn all_go_on<R: Threads + Wait + Sync>(rt: &R, alloc: Global) -> bool {
-    goes_on(rt, alloc, 2) == Some(true) && goes_on(rt, alloc, 4) == Some(true)
+    [1, 2, 4]
+        .iter()
+        .all(|workers| goes_on(rt, alloc, *workers) == Some(true))
 }
 
 #[test]
