@@ -1,16 +1,14 @@
 -- What several workers did, put together.
-use Rattle.std.proofs.Common.{◌≡◌, ℕ, zero, suc, ◌+◌, ◌-◌, ◌*◌, ◌^◌, ◌≤◌, ◌<◌, Bool, true, false, List, [], ◌∷◌, ◌++◌, length, Result, Ok, Err, refl, ap, sym, subst, ◌∙◌, arith, append_assoc, length-append}
+use Rattle.std.proofs.Common.{◌≡◌, ℕ, suc, ◌+◌, ◌-◌, ◌^◌, ◌≤◌, ◌<◌, Bool, false, List, [], ◌++◌, ap, sym, subst, ◌∙◌, arith, append_assoc}
 use Rattle.std.proofs.lemmas.List.{append-nil}
-use mathlib.Core.List.{IsPrefix}
 use Rattle.wb_history.specs.Passes.{PassValue, IsSamePass}
 use Rattle.wb_history.specs.Sharing.{IsSplit, IsJoined}
-use Rattle.wb_feed.specs.Accepts.{Keeps, tally}
+use Rattle.wb_feed.specs.Accepts.{Keeps}
 use Rattle.wb_feed.proofs.Log.{keeps_trans, split_keeps, tally-append}
-use Rattle.wb_feed.specs.declared.message.Message.{Message}
 use Rattle.wb_feed.specs.declared.line.Hand.{Hand}
 use Rattle.wb_feed.specs.declared.worker.Accepted.{Accepted}
 use Rattle.wb_feed.specs.Line.{hand}
-use Rattle.wb_feed.specs.Served.{Spot, entries, accepted_at, Tells, TookAll, Served}
+use Rattle.wb_feed.specs.Served.{Spot, entries, accepted_at, Tells, Served}
 use Rattle.wb_feed.specs.Crews.{Crew, nobody, worker, Crewed, IsSum}
 use Rattle.wb_feed.proofs.Serving.{entries-append, accepted-append}
 

@@ -1,13 +1,13 @@
 -- One desk that has all free rows takes drawops as one thread does, in their order.
-use Rattle.std.proofs.Common.{◌≡◌, ℕ, zero, suc, ◌+◌, ◌≤◌, ◌<◌, List, [], ◌∷◌, ◌++◌, length, Some, slice_get, sym, refl, ap, ap₂, ◌∙◌, subst, arith, length-append}
+use Rattle.std.proofs.Common.{◌≡◌, ℕ, ◌+◌, ◌≤◌, ◌<◌, List, [], ◌∷◌, ◌++◌, length, Some, slice_get, sym, ap, ap₂, ◌∙◌, subst, arith, length-append}
 use mathlib.Core.List.{IsPrefix}
 use Rattle.wb_names.specs.Values.{DrawopValue}
-use Rattle.wb_names.specs.History.{IsHistory, HoldsName, IsAgainAt}
-use Rattle.wb_names.specs.Arrivals.{Outcome, Fresh, Known, Clashed, Left, AreTaken}
+use Rattle.wb_names.specs.History.{IsHistory, HoldsName}
+use Rattle.wb_names.specs.Arrivals.{Fresh, Known, Clashed, Left, AreTaken}
 use Rattle.wb_history.specs.Passes.{PassValue}
 use Rattle.wb_feed.specs.Accepts.{Entry, drawops, outcomes, tally, Runs}
 use Rattle.wb_feed.specs.Served.{is_left}
-use Rattle.wb_feed.proofs.Prefixes.{prefix_is, prefix_trans, prefix_whole, prefix_length}
+use Rattle.wb_feed.proofs.Prefixes.{prefix_trans, prefix_whole, prefix_length}
 use Rattle.wb_feed.proofs.Members.{history_mid, prefix_history}
 use Rattle.wb_feed.proofs.Log.{chosen, runs_leave}
 use Rattle.wb_feed.proofs.OneThread.{Lacks}

@@ -4,10 +4,10 @@ use Rattle.std.proofs.lemmas.List.{append-nil}
 use mathlib.Core.List.{IsPrefix}
 use Rattle.wb_names.specs.Values.{DrawopValue}
 use Rattle.wb_names.specs.History.{IsAgainAt, IsClashAt}
-use Rattle.wb_names.specs.Arrivals.{Outcome, Fresh, Known, Clashed, Left, Counts, counts_of}
+use Rattle.wb_names.specs.Arrivals.{Outcome, Fresh, Known, Clashed, Left, Counts}
 use Rattle.wb_history.specs.Passes.{PassValue, IsSamePass, AddsNothing, IsSound}
 use Rattle.wb_history.specs.Sharing.{IsSplit, IsJoined}
-use Rattle.wb_feed.specs.Accepts.{Keeps, Becomes, Accepts, Entry, drawops, outcomes, tally, Runs}
+use Rattle.wb_feed.specs.Accepts.{Keeps, Accepts, Entry, drawops, tally, Runs}
 use Rattle.wb_feed.proofs.Prefixes.{prefix_self, prefix_is, prefix_trans, prefix_get}
 use Rattle.wb_feed.specs.Line.{once_below}
 use Rattle.wb_feed.specs.Served.{is_left}

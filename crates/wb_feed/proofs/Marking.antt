@@ -1,14 +1,14 @@
 -- Marks, and the drawops without one.
-use Rattle.std.proofs.Common.{◌≡◌, ◌≢◌, ◌⊎◌, ℕ, zero, suc, ◌+◌, ◌-◌, ◌≤◌, ◌<◌, ◌==◌, ◌||◌, Bool, true, false, true≢false, cond, List, [], ◌∷◌, ◌++◌, length, take, get_or, set, Option, Some, None, refl, ap, ap₂, sym, subst, ◌∙◌, arith, ⊎_elim, append_assoc, length-append, length-take, length-set, get_or-set_same, get_or-set_other, inl, inr}
+use Rattle.std.proofs.Common.{◌≡◌, ◌≢◌, ◌⊎◌, ℕ, ◌+◌, ◌≤◌, ◌<◌, ◌==◌, ◌||◌, Bool, true, false, cond, List, [], ◌∷◌, ◌++◌, length, take, get_or, set, refl, ap, ap₂, sym, subst, ◌∙◌, arith, ⊎_elim, length-take, length-set, get_or-set_same, get_or-set_other, inl, inr}
 use Rattle.std.proofs.lemmas.List.{append-nil, take_more}
 use Rattle.std.proofs.lemmas.Bool.Decides.{nat_tests}
 use Rattle.wb_names.specs.Values.{DrawopValue}
 use Rattle.wb_names.specs.Arrivals.{Outcome, Fresh, Known, Clashed, Left, counts_of}
 use Rattle.wb_history.specs.Passes.{PassValue}
-use Rattle.wb_feed.specs.Accepts.{Keeps, Accepts, Runs, drawops, tally}
+use Rattle.wb_feed.specs.Accepts.{Keeps, Accepts}
 use Rattle.wb_feed.specs.declared.batch.Batch.{Batch}
-use Rattle.wb_feed.proofs.Log.{runs_more, runs_leave, drawops-append, tally-append, tally_all}
-use Rattle.wb_feed.specs.Marks.{has, unmarked, Marks, CountsOne, Tallies, Retakes}
+use Rattle.wb_feed.proofs.Log.{runs_more, runs_leave, drawops-append, tally-append}
+use Rattle.wb_feed.specs.Marks.{has, unmarked, Marks, CountsOne, Retakes}
 
 has-append : (p : ℕ) (xs ys : List ℕ) → has p (xs ++ ys) ≡ (has p xs || has p ys)
 has-append p [] ys = refl

@@ -4,7 +4,7 @@ use Rattle.std.proofs.lemmas.List.{append-nil}
 use Rattle.wb_names.specs.Values.{DrawopValue}
 use Rattle.wb_names.specs.History.{IsHistory, HoldsName}
 use Rattle.wb_names.specs.Arrivals.{Outcome, Fresh, Known, Clashed, Left, Counts, counts, counts_of, history_with, AreTaken, IsBatch}
-use Rattle.wb_feed.specs.Accepts.{Entry, drawops, outcomes, tally}
+use Rattle.wb_feed.specs.Accepts.{Entry, drawops, tally}
 use Rattle.wb_feed.proofs.Members.{history_mid}
 use Rattle.wb_feed.proofs.Log.{chosen, is_held, Told}
 

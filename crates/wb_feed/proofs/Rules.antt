@@ -1,5 +1,5 @@
 -- Each step keeps the rule of the channel.
-use Rattle.std.proofs.Common.{◌≡◌, ◌≢◌, ◌⊎◌, ℕ, zero, suc, ◌+◌, ◌-◌, ◌≤◌, ◌<◌, ◌==◌, Bool, true, false, true≢false, cond, List, [], ◌∷◌, ◌++◌, length, set, Some, slice_get, sym, refl, ap, ◌∙◌, subst, inl, inr, ⊎_elim, arith, append_assoc, length-append}
+use Rattle.std.proofs.Common.{◌≡◌, ◌≢◌, ◌⊎◌, ℕ, zero, suc, ◌+◌, ◌-◌, ◌≤◌, ◌<◌, ◌==◌, true, false, true≢false, cond, List, [], ◌∷◌, ◌++◌, length, set, Some, slice_get, sym, refl, ap, ◌∙◌, subst, inl, inr, ⊎_elim, arith, length-append}
 use Rattle.std.proofs.lemmas.List.{append-nil}
 use Rattle.std.proofs.lemmas.Bool.Decides.{nat_tests}
 use mathlib.Core.Option.{some, some-injective, some-ne-none}
@@ -12,7 +12,7 @@ use Rattle.wb_feed.specs.declared.message.Message.{Message}
 use Rattle.wb_feed.specs.declared.message.Message.TheVariants.{Take, End}
 use Rattle.wb_feed.specs.declared.line.Hand.{Hand}
 use Rattle.wb_feed.specs.Sent.{IsNext}
-use Rattle.wb_feed.specs.Line.{hand, sent_with, sends, receives, spot, spots, IsRight, AreRight, IsBelow, AreBelow, Follows, IsRow, total, once_below, Fits, Kept, IsComplete}
+use Rattle.wb_feed.specs.Line.{hand, sent_with, sends, receives, spots, IsRight, AreRight, IsBelow, AreBelow, Follows, IsRow, total, once_below, Fits, Kept, IsComplete}
 
 -- what stands in a list after one element was set, and after one was put at the end
 at_set : (views : List Hand) (pass j : ℕ) (v w : Hand) → get_elem? (set views pass v) j ≡ some w → ((j ≡ pass) × (v ≡ w)) ⊎ ((j ≢ pass) × (get_elem? views j ≡ some w))

@@ -1,16 +1,16 @@
 -- A worker's loop over the messages.
-use Rattle.std.proofs.Common.{◌≡◌, ℕ, zero, suc, ◌+◌, ◌≤◌, ◌<◌, ◌^◌, Bool, true, false, true≢false, cond, List, [], ◌∷◌, ◌++◌, length, Option, Some, None, refl, ap, sym, subst, ◌∙◌, arith, append_assoc, length-append, ◌⊎◌, ⊎_elim}
+use Rattle.std.proofs.Common.{◌≡◌, ℕ, ◌+◌, ◌≤◌, ◌<◌, ◌^◌, Bool, true, false, true≢false, cond, List, [], ◌∷◌, ◌++◌, length, refl, ap, sym, subst, ◌∙◌, arith, append_assoc, ◌⊎◌, ⊎_elim}
 use Rattle.std.proofs.lemmas.List.{append-nil}
 use Rattle.wb_names.specs.Values.{DrawopValue}
 use Rattle.wb_names.specs.Arrivals.{Outcome, Fresh, Known, Clashed, Left, counts_of}
 use Rattle.wb_history.specs.Passes.{PassValue}
-use Rattle.wb_feed.specs.Accepts.{Entry, Keeps, Accepts, Runs, drawops, tally}
+use Rattle.wb_feed.specs.Accepts.{Keeps, Accepts, drawops}
 use Rattle.wb_feed.proofs.Log.{keeps_self, keeps_trans, runs_more, tally-append, tally_all}
 use Rattle.wb_feed.specs.declared.message.Message.{Message}
 use Rattle.wb_feed.specs.declared.message.Message.TheVariants.{Take, End}
 use Rattle.wb_feed.specs.declared.line.Hand.{Hand}
 use Rattle.wb_feed.specs.declared.worker.Accepted.{Accepted}
-use Rattle.wb_feed.specs.Line.{hand, receives, AreBelow, IsBelow, Follows}
+use Rattle.wb_feed.specs.Line.{hand, receives, AreBelow, Follows}
 use Rattle.wb_feed.specs.Served.{Spot, is_left, entries, accepted_at, takes, offered, Rises, AcceptsOne, Tells, TookAll, Served}
 
 pub takes-append : (xs ys : List Message) → takes (xs ++ ys) ≡ takes xs ++ takes ys

@@ -1,18 +1,18 @@
 -- What the two desks of a relay know.
-use Rattle.std.proofs.Common.{◌≡◌, ◌⊎◌, ℕ, ◌+◌, Result, Ok, Err, List, [], ◌∷◌, ◌++◌, refl, ap, sym, subst, ◌∙◌, arith, inr}
+use Rattle.std.proofs.Common.{◌≡◌, Result, Ok, Err, List, ◌++◌, ap, sym, subst, ◌∙◌, arith, inr}
 use Rattle.std.specs.Prelude.{MatchResult}
 use Rattle.std.proofs.lemmas.List.{append-nil}
 use mathlib.Core.List.{IsPrefix}
 use Rattle.wb_names.specs.Values.{DrawopValue}
-use Rattle.wb_history.specs.Passes.{PassValue, IsSamePass}
+use Rattle.wb_history.specs.Passes.{PassValue}
 use Rattle.wb_history.specs.Lists.{longer}
-use Rattle.wb_history.specs.Sharing.{IsSplit, IsJoined}
+use Rattle.wb_history.specs.Sharing.{IsJoined}
 use Rattle.wb_host.specs.Replies.{Accepted}
 use Rattle.wb_host.specs.declared.reply.Reply.{Reply}
 use Rattle.wb_host.specs.declared.reply.Reply.TheVariants.{New, Again, Clash}
 use Rattle.wb_feed.specs.declared.relays.RelayFault.{RelayFault}
 use Rattle.wb_feed.specs.declared.relays.RelayFault.TheVariants.{NoRow, Memory}
-use Rattle.wb_feed.specs.Relays.{StandsAt, Relayed, NotRelayed, MayHaveAccepted, TellsOf, NotTold, Hears}
+use Rattle.wb_feed.specs.Relays.{StandsAt, Relayed, NotRelayed, TellsOf, NotTold, Hears}
 use Rattle.wb_feed.specs.Accepts.{Keeps}
 use Rattle.wb_feed.proofs.Log.{keeps_is}
 use Rattle.wb_feed.proofs.Prefixes.{prefix_get}

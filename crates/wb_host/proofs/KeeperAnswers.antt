@@ -1,6 +1,6 @@
 -- There is one answer of a keeper to what it hears, and one list of what it wants; functions give them.
 use Rattle.std.proofs.Common.{◌≡◌, ℕ, ◌≤◌, Bool, true, false, cond, List, [], ap, refl, ◌∙◌, sym, length, arith}
-use Rattle.std.specs.Prelude.{map, not, nat_eq}
+use Rattle.std.specs.Prelude.{map, not}
 use Rattle.wb_names.specs.Values.{NameValue, DrawopValue, MarkValue}
 use Rattle.wb_names.specs.declared.gap.Gap.{Gap}
 use Rattle.wb_names.specs.declared.name.PageId.{PageId}

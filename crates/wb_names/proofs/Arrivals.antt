@@ -1,6 +1,6 @@
 -- One thread has one answer to arrivals: the outcome, the history after them, and the counts are functions.
-use Rattle.std.proofs.Common.{◌≡◌, ◌≢◌, ℕ, suc, zero, ◌+◌, ◌<◌, ◌≤◌, Bool, true, false, List, [], ◌∷◌, ◌++◌, length, get_or, refl, sym, ap, ◌∙◌, subst, arith}
-use Rattle.std.specs.Prelude.{Option, Some, None, slice_get, nat_lt, if◌then◌else◌}
+use Rattle.std.proofs.Common.{◌≡◌, ◌≢◌, ℕ, suc, zero, ◌+◌, ◌<◌, Bool, true, false, List, [], ◌∷◌, length, get_or, refl, sym, ap, ◌∙◌, subst, arith}
+use Rattle.std.specs.Prelude.{Some, slice_get, nat_lt, if◌then◌else◌}
 use Rattle.std.proofs.lemmas.Bool.Decides.{nat_tests}
 use Rattle.std.proofs.lemmas.List.Quantifiers.{all_pairs_push}
 use Rattle.std.proofs.lemmas.Option.{slice_get_within, get_or_from_slice_get, slice_get-get_or}
@@ -8,7 +8,7 @@ use Rattle.wb_names.specs.Values.{NameValue, DrawopValue}
 use Rattle.wb_names.specs.Orders.{same_name}
 use Rattle.wb_names.specs.Same.{same_drawop, same_drawop-Decides}
 use Rattle.wb_names.specs.History.{IsHistory, HoldsName}
-use Rattle.wb_names.specs.Arrivals.{Outcome, Fresh, Known, Clashed, Left, IsTaken, AreTaken, history_with, Counts, counted, counts_of, IsBatch, outcome_from, outcome_of, outcomes_of, history_after}
+use Rattle.wb_names.specs.Arrivals.{Outcome, Fresh, Known, Clashed, Left, IsTaken, AreTaken, history_with, Counts, counts_of, IsBatch, outcome_from, outcome_of, outcomes_of, history_after}
 use Rattle.wb_names.proofs.Orders.{same_name-is}
 
 is_false : (b : Bool) → (b ≡ true → ⊥) → b ≡ false

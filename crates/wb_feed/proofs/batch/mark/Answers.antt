@@ -1,4 +1,4 @@
-use Rattle.std.proofs.Common.{◌≡◌, ◌+◌, ◌≤◌, ◌<◌, arith, rules, get_or, length}
+use Rattle.std.proofs.Common.{◌≤◌, ◌<◌, arith, get_or}
 use Rattle.wb_feed.proofs.Marking.{marks_past, marks_more}
 use Rattle.wb_feed.proofs.batch.mark.Goals as goal
 

@@ -1,8 +1,7 @@
-use Rattle.std.proofs.Common.{rules, arith, ◌≡◌, ◌+◌, ◌-◌, ◌*◌, ◌<◌, ◌≤◌, ◌++◌, length, ℕ, sym, ap, subst, ◌∙◌}
+use Rattle.std.proofs.Common.{rules, arith, ◌≡◌, ◌-◌, ap, subst, ◌∙◌}
 use Rattle.crossbeam_channel.specs.Claims.{view}
 use Rattle.wb_history.specs.Passes.{PassValue, IsSamePass}
 use Rattle.wb_history.specs.Sharing.{IsSplit, IsJoined}
-use Rattle.wb_feed.specs.Line.{hand}
 use Rattle.wb_feed.specs.Served.{Served}
 use Rattle.wb_feed.specs.Crews.{Crewed, IsSum}
 use Rattle.wb_feed.proofs.Rules.{forks_kept, merges_kept}

@@ -1,6 +1,4 @@
-use Rattle.std.proofs.Common.{◌≡◌, ◌<◌, ◌+◌, arith, rules, inl, subst, sym, ap}
-use Rattle.crossbeam_channel.specs.Claims.{view}
-use Rattle.wb_feed.specs.Served.{Served}
+use Rattle.std.proofs.Common.{arith}
 use Rattle.wb_feed.proofs.Serving.{tells_few, serves_turn, serves_same}
 use Rattle.wb_feed.proofs.worker.serve.Goals as goal
 use Rattle.wb_feed.proofs.worker.serve.Goals.{in-None, in-Some+in_default}

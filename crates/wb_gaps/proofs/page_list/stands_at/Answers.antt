@@ -1,6 +1,5 @@
 use Rattle.std.proofs.Common.{◌∙◌, sym, subst}
 use Rattle.std.specs.Prelude.{Contains}
-use Rattle.wb_names.specs.declared.name.PageId.{PageId}
 use Rattle.wb_names.proofs.Orders.{same_page-is}
 use Rattle.wb_gaps.proofs.page_list.stands_at.Goals as goal
 

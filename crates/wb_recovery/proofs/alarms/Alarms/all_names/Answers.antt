@@ -1,9 +1,8 @@
-use Rattle.std.proofs.Common.{◌≡◌, List, length, map, rules, refl}
+use Rattle.std.proofs.Common.{◌≡◌, length, map, rules}
 use Rattle.std.proofs.lemmas.Iterator.Adapters.{fact_from_collect}
 use Rattle.std.proofs.lemmas.Iterator.{YieldsList-from_map}
 use Rattle.std.proofs.lemmas.Iterator.Consumers.{YieldsList-at, YieldsList-from_rest}
 use Rattle.std.proofs.lemmas.Result.{IfOk-weaker}
-use Rattle.wb_names.specs.Values.{NameValue}
 use Rattle.wb_recovery.specs.declared.alarms.Alarm.{Alarm}
 use Rattle.wb_recovery.proofs.alarms.Alarms.all_names.Goals as goal
 

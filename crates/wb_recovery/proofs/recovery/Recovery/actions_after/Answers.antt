@@ -1,18 +1,14 @@
-use Rattle.std.proofs.Common.{◌≡◌, ◌≤◌, List, ◌++◌, length, ap, sym, subst, ◌∙◌, refl, true}
-use Rattle.std.specs.Prelude.{map, not, ◌&&◌}
+use Rattle.std.proofs.Common.{List, ◌++◌, ap, ◌∙◌}
+use Rattle.std.specs.Prelude.{map}
 use Rattle.std.specs.BTreeSet.{contains}
 use Rattle.wb_names.specs.Values.{NameValue}
 use Rattle.wb_names.specs.Orders.{name_cmp}
-use Rattle.wb_names.specs.Listing.{Lists}
-use Rattle.wb_names.proofs.Orders.{and_both}
-use Rattle.wb_recovery.specs.Timing.{is_ask_due, is_answer_due}
-use Rattle.wb_recovery.specs.Values.{RecoveryValue, timers_in}
+use Rattle.wb_recovery.specs.Values.{RecoveryValue}
 use Rattle.wb_recovery.specs.Events.{names_of, timers_of, due_asks}
-use Rattle.wb_recovery.specs.Stopping.{gots, has_come}
+use Rattle.wb_recovery.specs.Stopping.{gots}
 use Rattle.wb_recovery.specs.declared.action.Action.{Action}
 use Rattle.wb_recovery.specs.declared.action.Action.TheVariants.{Ask, Answer}
-use Rattle.wb_recovery.proofs.FiredTimers.{due_ask_stands}
-use Rattle.wb_recovery.proofs.StoppedNames.{asking_left, answering_left, words_left, others_asking, others_answering, stops_and_ticks}
+use Rattle.wb_recovery.proofs.StoppedNames.{asking_left, answering_left, others_asking, others_answering}
 use Rattle.wb_recovery.proofs.recovery.Recovery.actions_after.Goals as goal
 
 pub returns : goal.returns
