@@ -11,7 +11,7 @@ pub mod Counting
 pub mod AlarmLists
 pub mod NameRows
 pub mod FiredTimers
-pub mod Ticking
+pub mod DueNames
 pub mod TimerLaws
 pub mod NoticedNames
 pub mod StoppedNames

@@ -29,7 +29,7 @@ use Rattle.wb_recovery.specs.declared.timers.AnswerTimer.{AnswerTimer}
 use Rattle.wb_recovery.proofs.AlarmOrder.{name_ties}
 use Rattle.wb_recovery.proofs.Counting.{list_due_asks}
 use Rattle.wb_recovery.proofs.NameLists.{listed_of, listed_in}
-use Rattle.wb_recovery.proofs.Ticking.{among_listed, asks_until, answers_until}
+use Rattle.wb_recovery.proofs.DueNames.{among_listed, asks_until, answers_until}
 use Rattle.wb_recovery.proofs.FiredTimers.{ask_stays, answer_stays, quiet_stays}
 
 -- ---- one name after another

@@ -1,8 +1,7 @@
--- What a tick makes of the timers of the names that fire.
-use Rattle.std.specs.Prelude.{◌≡◌, ℕ, List}
+-- What firing makes of the timers of a name.
+use Rattle.std.specs.Prelude.{ℕ, List}
 use Rattle.wb_names.specs.Values.{NameValue}
-use Rattle.wb_recovery.specs.Timing.{fired_ask, fired_answer, quiet_after, ticked}
-use Rattle.wb_recovery.specs.Values.{RecoveryValue, timers_in}
+use Rattle.wb_recovery.specs.Timing.{fired_ask, fired_answer, quiet_after}
 use Rattle.wb_recovery.specs.Events.{word_for}
 use Rattle.wb_recovery.specs.declared.tuning.Tuning.{Tuning}
 use Rattle.wb_recovery.specs.declared.timers.Timers.{Timers}
@@ -14,8 +13,3 @@ with_ask_fired t now words firing timers n = record (timers n) { ask = fired_ask
 -- the timers of a name once its answer has fired
 abbrev pub with_answer_fired : ℕ → (NameValue → Timers) → NameValue → Timers
 with_answer_fired now timers n = record (timers n) { answer = fired_answer now (timers n).answer; quiet = quiet_after now (timers n).quiet (timers n).answer }
-
--- all that is due fires at a moment, where these names fire a request
-pub record Fires (now : ℕ) (words : List ℕ) (firing : List NameValue) (old new : RecoveryValue) : Type 0 where
-  pub tuning : new.tuning ≡ old.tuning
-  pub timers : (n : NameValue) → timers_in new n ≡ ticked old.tuning now (word_for words firing n) (timers_in old n)

@@ -2,11 +2,9 @@ ghost use Rattle.std.specs.Prelude.{◌≡◌, ◌+◌, ◌*◌, ◌<◌, ◌≤
 ghost use Rattle.std.specs.List.Sorted.{IsStrictlySortedBy};
 ghost use Rattle.wb_names.specs.Values.{NameValue};
 ghost use Rattle.wb_names.specs.Orders.{same_name, name_cmp};
-ghost use Rattle.wb_names.specs.Listing.{Lists};
 ghost use Rattle.wb_recovery.specs.Faults.{call_fault, IsCheckedBy};
-ghost use Rattle.wb_recovery.specs.Timing.{are_constants, is_ask_due, is_answer_due, is_standing, AreDelays, with_ask, with_answer};
+ghost use Rattle.wb_recovery.specs.Timing.{are_constants, is_standing, AreDelays, with_ask, with_answer};
 ghost use Rattle.wb_recovery.specs.Values.{timers_in, names_in, Replaces};
-ghost use Rattle.wb_recovery.specs.Firing.{Fires};
 ghost use Rattle.std.specs.Prelude.{Some as some, None as none};
 ghost use Rattle.wb_recovery.specs.Events.{Event, Notice, Asked, Got, Tick, names_of, timers_of, asking, due_asks, actions_of, IsNextDue};
 ghost use Rattle.wb_recovery.specs.Standing.{StandsFor, Accepts};
@@ -18,7 +16,7 @@ mod stopping;
 use crate::action::Action;
 use crate::alarms::Alarms;
 use crate::fault::{RecoveryFault, TuningFault};
-use crate::firing::{actions, alarms_moved, answer_all, back_off_all};
+use crate::missed::Missed;
 use crate::records::{rewrite, timers_of};
 use crate::timers::{AnswerTimer, AskTimer, Timers};
 use crate::tuning::Tuning;
@@ -89,9 +87,7 @@ impl Recovery {
         ensures err { OnErr result (self.new ≡ self.old) }
     {
         self.check(now, delay)?;
-        let before = self.timers(&name);
-        let ask = before.noticed(self.tuning, now, delay, word);
-        self.set_ask(name, before, ask)?;
+        self.start(Missed { name, delay, word }, now)?;
         self.moment = now;
         Ok(())
     }
@@ -168,13 +164,7 @@ impl Recovery {
         ensures ok { OnOk result (Accepts (Tick now words.now) self.old self.new) }
         ensures err { OnErr result (self.new ≡ self.old) }
     {
-        self.check(now, 0)?;
-        let asking = self.asks.names_until(alloc, now)?;
-        let answering = self.answers.names_until(alloc, now)?;
-        let actions = actions(alloc, &asking, &answering)?;
-        self.fire(alloc, &asking, &answering, now, words)?;
-        self.moment = now;
-        Ok(actions)
+        self.stop_and_tick(alloc, &[], now, words)
     }
 
     /// How many request timers are due at a moment, and so how many words `tick` then wants. It looks
@@ -334,28 +324,5 @@ impl Recovery {
             quiet,
         };
         rewrite(&mut self.records, name, after);
-    }
-
-    /// Fires the timers of these names, which are due. All growth comes first.
-    fn fire(
-        &mut self,
-        alloc: Global,
-        asking: &[Name],
-        answering: &[Name],
-        now: u64,
-        words: &[u64],
-    ) -> Result<(), AllocError>
-        requires moment { now < 2 ^ 48 }
-        requires asking { Lists name_cmp (λ n. is_ask_due now (timers_in self.old n).ask ≡ true) asking.now }
-        requires answering { Lists name_cmp (λ n. is_answer_due now (timers_in self.old n).answer ≡ true) answering.now }
-        requires words { length asking.now ≤ length words.now }
-        ensures ok { OnOk result (Fires now words.now asking.now self.old self.new) }
-        ensures err { OnErr result (self.new ≡ self.old) }
-    {
-        let moves = alarms_moved(alloc, self.tuning, &self.records, asking, now, words)?;
-        self.asks.exchange(&moves.left, &moves.taken)?;
-        back_off_all(self.tuning, &mut self.records, asking, now, words);
-        answer_all(&mut self.records, &mut self.answers, answering, now);
-        Ok(())
     }
 }

@@ -77,7 +77,7 @@ impl Recovery {
     }
 
     /// Sets the request timer of one name, unless one stands.
-    fn start(&mut self, one: Missed, now: u64) -> Result<(), AllocError>
+    pub(super) fn start(&mut self, one: Missed, now: u64) -> Result<(), AllocError>
         requires moment { now < 2 ^ 48 }
         requires delay { one.delay < 2 ^ 24 }
         ensures ok { OnOk result (Replaces self.old self.new one.name (noticed self.old.tuning now one.delay one.word (timers_in self.old one.name))) }
