@@ -12,5 +12,6 @@ pub mod ListFaults
 pub mod NoMemory
 pub mod OpLaws
 pub mod RowLaws
+pub mod SpelledBytes
 pub mod TooShort
 pub mod WholeLaws

@@ -4,10 +4,10 @@ use Rattle.std.specs.Prelude.{Option, Some, None}
 use Rattle.std.specs.Io.KnownBytes.{Appends, Consumes, IsAtEnd}
 use Rattle.std.proofs.lemmas.Bool.{false≢true}
 use Rattle.std.proofs.lemmas.List.{append-nil, length-append, take_at}
-use Rattle.wb_script.specs.Ahead.{Ahead, Pulls}
-use Rattle.wb_script.specs.Output.{Sends}
-use Rattle.wb_script.specs.Running.{MayFollow, MayRemain}
-use Rattle.wb_script.proofs.KnownBytes.{Sends-then}
+use Rattle.wb_lines.specs.Ahead.{Ahead, Pulls}
+use Rattle.wb_lines.specs.Output.{Sends}
+use Rattle.wb_lines.specs.Input.{MayFollow, MayRemain}
+use Rattle.wb_lines.proofs.KnownBytes.{Sends-then}
 use Rattle.wb_filters.specs.declared.fault.FilterFault.{FilterFault}
 use Rattle.wb_filters.specs.declared.fault.FilterFault.TheVariants as filter_faults
 use Rattle.wb_filters.specs.declared.filtering.Filter.{Filter}

@@ -5,10 +5,10 @@ use Rattle.std.specs.Str.Lines.{strip_carriage_return}
 use Rattle.std.proofs.lemmas.Bool.{eqb-true, true≢false}
 use Rattle.std.proofs.lemmas.Bool.Decides.{nat_tests}
 use Rattle.std.proofs.lemmas.List.{append-nil, length-append, take_at, take_more, take_all, get_or_at}
-use Rattle.wb_script.specs.Ahead.{NoLineFeed}
-use Rattle.wb_script.specs.Script.{InputLine, onto_first, input_lines, content}
-use Rattle.wb_script.proofs.InputLines.{input_lines-whole, input_lines-last}
-use Rattle.wb_script.proofs.LineBytes.{NoLineFeed-push}
+use Rattle.wb_lines.specs.Ahead.{NoLineFeed}
+use Rattle.wb_lines.specs.Input.{InputLine, onto_first, input_lines, content}
+use Rattle.wb_lines.proofs.InputLines.{input_lines-whole, input_lines-last}
+use Rattle.wb_lines.proofs.LineBytes.{NoLineFeed-push}
 use Rattle.wb_filters.specs.Filtering.{end_of, ending}
 use Rattle.wb_filters.proofs.Visible.{Visible, no_return, no_feed}
 

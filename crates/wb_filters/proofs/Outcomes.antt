@@ -4,10 +4,10 @@ use Rattle.std.specs.Prelude.{nat_eq, nat_le, nat_lt, ◌&&◌}
 use Rattle.std.proofs.lemmas.Bool.{false≢true}
 use Rattle.std.proofs.lemmas.Bool.Decides.{nat_tests}
 use Rattle.std.proofs.lemmas.List.{append-nil}
-use Rattle.wb_script.specs.Ahead.{Ahead, NoLineFeed, IsLine}
-use Rattle.wb_script.specs.Script.{InputLine, input_lines, most_bytes}
-use Rattle.wb_script.specs.Running.{MayFollow}
-use Rattle.wb_script.proofs.InputLines.{input_lines-whole, input_lines-last, starts_line, whole_line, last_line, regrouped, past_length, has_line}
+use Rattle.wb_lines.specs.Ahead.{Ahead, NoLineFeed, IsLine}
+use Rattle.wb_lines.specs.Input.{InputLine, input_lines, most_bytes}
+use Rattle.wb_lines.specs.Input.{MayFollow}
+use Rattle.wb_lines.proofs.InputLines.{input_lines-whole, input_lines-last, starts_line, whole_line, last_line, regrouped, past_length, has_line}
 use Rattle.wb_filters.specs.declared.fault.LineFault.{LineFault}
 use Rattle.wb_filters.specs.declared.fault.FilterFault.{FilterFault}
 use Rattle.wb_filters.specs.declared.fault.FilterFault.TheVariants as filter_faults

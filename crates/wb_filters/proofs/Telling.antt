@@ -5,8 +5,8 @@ use Rattle.wb_codec.specs.Reading.{reading}
 use Rattle.wb_codec.specs.Grammar.{Spells}
 use Rattle.wb_codec.proofs.GrammarLaws.{reading_again}
 use Rattle.wb_words.specs.Words.{parted}
-use Rattle.wb_script.specs.Words.{is_hex}
-use Rattle.wb_script.proofs.Arrivals.{unhex-not_hex}
+use Rattle.wb_lines.specs.Words.{is_hex}
+use Rattle.wb_lines.proofs.HexWords.{unhex-not_hex}
 use Rattle.wb_filters.specs.declared.carrier.Carrier.{Carrier}
 use Rattle.wb_filters.specs.declared.fault.LineFault.TheVariants as faults
 use Rattle.wb_filters.specs.Turning.{carrier_of, takes, words_behind, told, without_digits, worded}

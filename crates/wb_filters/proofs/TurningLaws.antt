@@ -11,12 +11,12 @@ use Rattle.wb_codec.proofs.GrammarLaws.{reading_again}
 use Rattle.wb_words.specs.Words.{parted}
 use Rattle.wb_words.specs.Spelling.{spelled}
 use Rattle.wb_words.proofs.SpellingLaws.{read_again}
-use Rattle.wb_script.specs.Words.{unhex}
+use Rattle.wb_lines.specs.Words.{unhex}
 use Rattle.wb_filters.specs.declared.carrier.Carrier.{Carrier}
 use Rattle.wb_filters.specs.declared.carrier.Carrier.TheVariants.{Arrive, Hear, Send}
 use Rattle.wb_filters.specs.Turning.{takes, carrier_for, digits_line, words_behind, sent_part, hexed_in, hexed_sent, hexed_by, hexed, told, worded_digits}
 use Rattle.wb_filters.specs.Laws.{WordsAreTurned, DigitsAreTurned}
-use Rattle.wb_script.proofs.SpelledBytes.{spelled_bytes}
+use Rattle.wb_codec.proofs.SpelledBytes.{spelled_bytes}
 
 -- ---- words to digits
 

@@ -24,11 +24,11 @@ use Rattle.wb_words.specs.Words.{words, joined, is_special}
 use Rattle.wb_words.specs.Spelling.{page_word, mark_word, echo_word, escaped, quoted, stroke_words, target_words, op_words, name_words, spelled, tailed}
 use Rattle.wb_words.proofs.Numerals.{both, decimal_digits}
 use Rattle.wb_words.proofs.Appending.{joined_tailed, tailed_words}
-use Rattle.wb_script.specs.Ahead.{NoLineFeed}
+use Rattle.wb_lines.specs.Ahead.{NoLineFeed}
 use Rattle.wb_filters.specs.declared.carrier.Carrier.{Carrier}
 use Rattle.wb_filters.specs.declared.carrier.Carrier.TheVariants.{Arrive, Hear, Send}
 use Rattle.wb_filters.specs.Turning.{front, digits_line, words_behind}
-use Rattle.wb_script.proofs.SpelledBytes.{spelled_bytes}
+use Rattle.wb_codec.proofs.SpelledBytes.{spelled_bytes}
 
 abbrev AllSeen : List ℕ → Type 0
 AllSeen [] = Unit {0}

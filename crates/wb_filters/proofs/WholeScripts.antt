@@ -2,8 +2,8 @@
 use Rattle.std.proofs.Common.{◌≡◌, ◌≢◌, ℕ, ◌+◌, ◌<◌, ◌≤◌, Bool, true, false, List, [], ◌∷◌, ◌++◌, length, Result, Ok, inl, inr, ◌⊎◌, refl, sym, ap, subst, ◌∙◌, arith}
 use Rattle.std.specs.Prelude.{All, ◌||◌}
 use Rattle.std.proofs.lemmas.List.Elements.{All-nil, All-cons, All-head, All-tail}
-use Rattle.wb_script.specs.Ahead.{NoLineFeed}
-use Rattle.wb_script.specs.Script.{InputLine, input_lines, content, most_bytes}
+use Rattle.wb_lines.specs.Ahead.{NoLineFeed}
+use Rattle.wb_lines.specs.Input.{InputLine, input_lines, content, most_bytes}
 use Rattle.wb_filters.specs.declared.fault.LineFault.{LineFault}
 use Rattle.wb_filters.specs.declared.filtering.Direction.{Direction}
 use Rattle.wb_filters.specs.declared.filtering.Direction.TheVariants.{Hex, Words}

@@ -1,6 +1,6 @@
 -- What a filter writes, and how it ends.
 use Rattle.std.specs.Prelude.{◌≡◌, ℕ, ◌+◌, ◌-◌, ◌^◌, ◌⊎◌, List, [], ◌∷◌, ◌++◌, length, take, Bool, true, false, nat_eq, nat_le, nat_lt, ◌&&◌, ◌||◌, not, Option, Some, None, Result, Ok, Err, if◌then◌else◌}
-use Rattle.wb_script.specs.Script.{InputLine, input_lines, content, most_bytes, BeginsWith}
+use Rattle.wb_lines.specs.Input.{InputLine, input_lines, content, most_bytes, BeginsWith}
 use Rattle.wb_filters.specs.declared.fault.LineFault.{LineFault}
 use Rattle.wb_filters.specs.declared.fault.FilterFault.{FilterFault}
 use Rattle.wb_filters.specs.declared.fault.FilterFault.TheVariants as filter_faults

@@ -1,8 +1,8 @@
 -- How far a filter has come: what was pulled and written, and what follows.
 use Rattle.std.specs.Prelude.{◌≡◌, ◌⊎◌, ℕ, ◌+◌, List, [], ◌++◌, Bool, true, false, Result, Ok, Err}
-use Rattle.wb_script.specs.Script.{input_lines, BeginsWith}
-use Rattle.wb_script.specs.Ahead.{Ahead}
-use Rattle.wb_script.specs.Running.{MayFollow, MayRemain}
+use Rattle.wb_lines.specs.Input.{input_lines, BeginsWith}
+use Rattle.wb_lines.specs.Ahead.{Ahead}
+use Rattle.wb_lines.specs.Input.{MayFollow, MayRemain}
 use Rattle.wb_filters.specs.declared.fault.LineFault.{LineFault}
 use Rattle.wb_filters.specs.declared.fault.FilterFault.{FilterFault}
 use Rattle.wb_filters.specs.declared.fault.FilterFault.TheVariants as filter_faults

@@ -11,7 +11,7 @@ use Rattle.wb_words.specs.declared.fault.WrongWord.{WrongWord}
 use Rattle.wb_words.specs.Words.{parted}
 use Rattle.wb_words.specs.Spelling.{spelled}
 use Rattle.wb_words.specs.Reading.{reading as reading_words}
-use Rattle.wb_script.specs.Words.{unhex}
+use Rattle.wb_lines.specs.Words.{unhex}
 use Rattle.wb_filters.specs.declared.carrier.Carrier.{Carrier}
 use Rattle.wb_filters.specs.declared.carrier.Carrier.TheVariants.{Arrive, Hear, Send}
 use Rattle.wb_filters.specs.declared.fault.LineFault.{LineFault}

@@ -5,7 +5,7 @@ ghost use Rattle.wb_filters.specs.declared.fault.FilterFault.TheVariants as filt
 use std::alloc::{AllocError, AllocFailed};
 use thiserror::Error;
 use wb_codec::ReadFault;
-use wb_script::Unwritten;
+use wb_lines::Unwritten;
 use wb_words::WrongWord;
 
 /// Why a line can't be turned.

@@ -1,6 +1,6 @@
 ghost use Rattle.std.specs.Prelude.{◌≡◌, ◌<◌, ◌++◌, [], List, ℕ, true, Err};
-ghost use Rattle.wb_script.specs.Output.{Sends};
-ghost use Rattle.wb_script.specs.Ahead.{Pulls};
+ghost use Rattle.wb_lines.specs.Output.{Sends};
+ghost use Rattle.wb_lines.specs.Ahead.{Pulls};
 ghost use Rattle.wb_filters.specs.Filtering.{turned, told_on, end_of, said_of, Filters, is_stop, most_lines};
 ghost use Rattle.wb_filters.specs.Turning.{MayTurn};
 ghost use Rattle.wb_filters.specs.Steps.{MayAnswer, DoesLine, FiltersLine, FiltersLines, Closes};
@@ -10,8 +10,8 @@ use crate::fault::{FilterFault, TurnFault};
 use crate::hexing::hex_line;
 use crate::wording::words_line;
 use std::alloc::Global;
+use wb_lines::{Found, LineReader, Output, Pulled, without_carriage_return};
 use wb_names::{Sink, Source};
-use wb_script::{Found, LineReader, Output, Pulled, without_carriage_return};
 
 /// Which way lines are turned.
 #[derive(Clone, Copy, Debug, PartialEq, Eq)]

@@ -7,7 +7,7 @@ use crate::fault::{LineFault, TurnFault};
 use crate::line::copy;
 use std::alloc::{AllocError, Global};
 use wb_codec::{Datagram, ReadFault, read};
-use wb_script::unhex;
+use wb_lines::unhex;
 use wb_words::{parted, write_words};
 
 /// The words of a datagram, behind `send` where it is sent.

@@ -11,7 +11,8 @@ use Rattle.wb_script.specs.declared.line.Line.{Line}
 use Rattle.wb_script.specs.FreeWorkers.{OrdersAreFree, WorkersAreFree}
 use Rattle.wb_script.specs.Laws.{NoneClash, HasCells}
 use Rattle.wb_script.specs.Parsing.{line_of}
-use Rattle.wb_script.specs.Script.{InputLine, input_lines, content, State, start, Step, goes, refused, step_of, Outcome, before, finish, proceed, most_lines, most_bytes, outcome_from, Finishes, Proceeds, Continues, IsOutcomeFrom}
+use Rattle.wb_lines.specs.Input.{InputLine, input_lines, content, most_bytes}
+use Rattle.wb_script.specs.Script.{State, start, Step, goes, refused, step_of, Outcome, before, finish, proceed, most_lines, outcome_from, Finishes, Proceeds, Continues, IsOutcomeFrom}
 use Rattle.wb_script.specs.Shows.{arrived_by, arrivals_of, cells_by, cells_of}
 use Rattle.wb_script.proofs.AlikeLines.{state, none_among, Opens, StatesAlike, StepsAlike, said_alike, ends_alike}
 use Rattle.wb_script.proofs.FreeArrivals.{Among}

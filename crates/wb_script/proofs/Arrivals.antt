@@ -15,30 +15,9 @@ use Rattle.wb_codec.specs.declared.datagram.Datagram.{Datagram}
 use Rattle.wb_codec.specs.declared.fault.ReadFault.{ReadFault}
 use Rattle.wb_script.specs.declared.fault.LineFault.TheVariants as faults
 use Rattle.wb_script.specs.Faults.{line_code}
-use Rattle.wb_script.specs.Words.{is_hex, unhex}
+use Rattle.wb_lines.specs.Words.{is_hex, unhex}
+use Rattle.wb_lines.proofs.HexWords.{unhex-not_hex, unhex-hex}
 use Rattle.wb_script.specs.Parsing.{one_of, datagram, spelled}
-
-both : (a b : Bool) → (a && b) ≡ true → (a ≡ true) × (b ≡ true)
-both true b e = (refl, e)
-both false b e = cc
-
--- the digits are as many as they should be, and each is one
-is_hex-from : (word : List ℕ) → length word % 2 ≡ 0 → list_all is_hex_digit word ≡ true → is_hex word ≡ true
-is_hex-from word even all = let test : nat_eq (length word % 2) 0 ≡ true = grind (arith, nat_tests) in rw (test, all) refl
-
-pub unhex-not_hex : (word : List ℕ) → is_hex word ≡ false → unhex word ≡ None
-unhex-not_hex word no_hex =
-    elim (decode_of word) as (λ r. decode_of word ≡ r → result_ok r ≡ None) [
-      | Ok bytes ↦ λ e. let ok = decode_of-ok word bytes e in absurd (true≢false (sym (is_hex-from word ok.0 (list_all-from_AllPass is_hex_digit word ok.1)) ∙ no_hex))
-      | Err f ↦ λ e. refl
-    ] refl
-
-pub unhex-hex : (word : List ℕ) → is_hex word ≡ true → (bytes : List ℕ) × (unhex word ≡ Some bytes)
-unhex-hex word hex =
-    let h = both (nat_eq (length word % 2) 0) (list_all is_hex_digit word) hex in
-    let even : length word % 2 ≡ 0 = grind (arith, nat_tests, h.0) in
-    let d = decode_of-digits word even (AllPass-from_list_all is_hex_digit word h.1) in
-    (d.0, ap result_ok d.1)
 
 pub datagram-not_hex : (ws : List (List ℕ)) (digits : List ℕ) → one_of ws ≡ Some digits → is_hex digits ≡ false → datagram ws ≡ Err faults.Hex
 unfolding datagram

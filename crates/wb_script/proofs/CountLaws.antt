@@ -8,7 +8,8 @@ use Rattle.wb_script.specs.declared.fault.RunFault.{RunFault}
 use Rattle.wb_script.specs.declared.fault.RunFault.TheVariants as run_faults
 use Rattle.wb_script.specs.declared.line.Line.{Line}
 use Rattle.wb_script.specs.Parsing.{line_of}
-use Rattle.wb_script.specs.Script.{InputLine, input_lines, content, most_lines, most_bytes}
+use Rattle.wb_lines.specs.Input.{InputLine, input_lines, content, most_bytes}
+use Rattle.wb_script.specs.Script.{most_lines}
 use Rattle.wb_script.specs.Checking.{counted_before, checked_from, CountsLines}
 
 abbrev IsShort : InputLine → Type 0

@@ -14,7 +14,7 @@ use Rattle.wb_script.specs.declared.fault.RunFault.TheVariants as run_faults
 use Rattle.wb_script.specs.declared.taking.Drawn.{Drawn}
 use Rattle.wb_script.specs.declared.taking.Taken.{Taken}
 use Rattle.wb_script.specs.Answers.{batch_line}
-use Rattle.wb_script.specs.Ahead.{Ahead}
+use Rattle.wb_lines.specs.Ahead.{Ahead}
 use Rattle.wb_script.specs.Board.{Held}
 use Rattle.wb_script.specs.Hosts.{Opened, opened, batch_text, names_of}
 use Rattle.wb_script.specs.Lines.{LinesValue}

@@ -26,11 +26,12 @@ use Rattle.wb_script.specs.Hosts.{Opened, opened, present, board_after, host_aft
 use Rattle.wb_script.specs.Laws.{NoneClash, HasCells}
 use Rattle.wb_script.specs.Parsing.{line_of}
 use Rattle.wb_script.specs.Queries.{view_of}
-use Rattle.wb_script.specs.Script.{InputLine, input_lines, content, State, start, closing_text, after_batch, Step, goes, refused, step_by, acts, line_step, said_step, step_of, Outcome, prints, before, answer, finish, proceed, outcome_from}
+use Rattle.wb_lines.specs.Input.{InputLine, input_lines, content}
+use Rattle.wb_script.specs.Script.{State, start, closing_text, after_batch, Step, goes, refused, step_by, acts, line_step, said_step, step_of, Outcome, prints, before, answer, finish, proceed, outcome_from}
 use Rattle.wb_script.specs.ScriptLaws.{EachEnds}
 use Rattle.wb_script.specs.Shows.{arrived_by, arrivals_of, cells_by, cells_of, EndsWith, canvas_after, ShowsArrivals, ShowsAreFree}
 use Rattle.wb_script.proofs.FreeArrivals.{batches_are_one, free_on, once_held}
-use Rattle.wb_script.proofs.InputLines.{input_lines-whole, whole_line}
+use Rattle.wb_lines.proofs.InputLines.{input_lines-whole, whole_line}
 use Rattle.wb_script.proofs.Outcomes.{before-nil, before-before, too_many, text_of, end_of}
 use Rattle.wb_script.proofs.Queries.{view_of_page}
 use Rattle.wb_script.proofs.ScriptLaws.{state_of, one_line, split, fit, err_end}

@@ -7,11 +7,13 @@ use Rattle.std.proofs.lemmas.List.{append-nil, length-append, take_at}
 use Rattle.wb_script.specs.declared.fault.RunFault.{RunFault}
 use Rattle.wb_script.specs.declared.fault.RunFault.TheVariants as run_faults
 use Rattle.wb_script.specs.declared.summary.Summary.{Summary}
-use Rattle.wb_script.specs.Ahead.{Ahead, Pulls}
-use Rattle.wb_script.specs.Script.{State, start, Outcome, prints, before, input_lines, outcome, Finishes, IsOutcome, IsStop}
-use Rattle.wb_script.specs.Output.{Sends}
-use Rattle.wb_script.specs.Running.{Leads, Begins, MayBegin, MayFollow, MayRemain, RunsLines, RunsAll, Meets, Settles, Closes, given_of, Runs}
-use Rattle.wb_script.proofs.KnownBytes.{Sends-then}
+use Rattle.wb_lines.specs.Ahead.{Ahead, Pulls}
+use Rattle.wb_lines.specs.Input.{input_lines}
+use Rattle.wb_script.specs.Script.{State, start, Outcome, prints, before, outcome, Finishes, IsOutcome, IsStop}
+use Rattle.wb_lines.specs.Output.{Sends}
+use Rattle.wb_lines.specs.Input.{MayFollow, MayRemain}
+use Rattle.wb_script.specs.Running.{Leads, Begins, MayBegin, RunsLines, RunsAll, Meets, Settles, Closes, given_of, Runs}
+use Rattle.wb_lines.proofs.KnownBytes.{Sends-then}
 use Rattle.wb_script.proofs.Outcomes.{one_thread}
 
 abbrev fresh : Ahead

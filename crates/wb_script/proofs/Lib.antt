@@ -1,12 +1,6 @@
-pub mod Digits
-pub mod DigitPairs
-pub mod WordEnds
 pub mod FirstWords
 pub mod Arrivals
-pub mod KnownBytes
-pub mod LineBytes
 pub mod Boards
-pub mod InputLines
 pub mod Outcomes
 pub mod Looking
 pub mod ReadLines
@@ -41,5 +35,4 @@ pub mod AlikeBatches
 pub mod AlikeLines
 pub mod AlikeOutcomes
 pub mod DrawnWords
-pub mod SpelledBytes
 pub mod SentDigits

@@ -9,11 +9,12 @@ use Rattle.wb_script.specs.declared.fault.RunFault.{RunFault}
 use Rattle.wb_script.specs.declared.fault.RunFault.TheVariants as run_faults
 use Rattle.wb_script.specs.declared.line.Line.{Line}
 use Rattle.wb_script.specs.Parsing.{line_of}
-use Rattle.wb_script.specs.Ahead.{Ahead, Pulls, NoLineFeed, IsLine}
-use Rattle.wb_script.specs.Script.{InputLine, input_lines, content, most_lines, most_bytes}
-use Rattle.wb_script.specs.Running.{MayFollow}
+use Rattle.wb_lines.specs.Ahead.{Ahead, Pulls, NoLineFeed, IsLine}
+use Rattle.wb_lines.specs.Input.{InputLine, input_lines, content, most_bytes}
+use Rattle.wb_script.specs.Script.{most_lines}
+use Rattle.wb_lines.specs.Input.{MayFollow}
 use Rattle.wb_script.specs.Checking.{counted_before, checked_from, checked, checked_of, Checks, ParsesAs, answer_ahead, Counts, StopsCheck, EndsCheck, ChecksLines}
-use Rattle.wb_script.proofs.InputLines.{input_lines-whole, input_lines-last, starts_line, whole_line, last_line, regrouped, fits, past_length, has_line, past_count}
+use Rattle.wb_lines.proofs.InputLines.{input_lines-whole, input_lines-last, starts_line, whole_line, last_line, regrouped, fits, past_length, has_line, past_count}
 
 -- ---- one line
 
@@ -21,14 +22,14 @@ whole_ahead : (cut : Bool) (n : ℕ) (reader reader' : Ahead) (given line more :
     → answer_ahead cut n reader (given ++ more) ≡ counted_before (n + 1) (line_of (content (whole_line line))) (answer_ahead cut (n + 1) reader' more)
 whole_ahead cut n reader reader' given line more few is e =
     let split : input_lines (reader.bytes ++ (given ++ more)) ≡ whole_line line ∷ input_lines (reader'.bytes ++ more) = ap input_lines (regrouped reader.bytes given more line (10 ∷ reader'.bytes) e) ∙ input_lines-whole line (reader'.bytes ++ more) is.no_line_feed in
-    ap (checked_from cut n) split ∙ rw (fits n line few is.short) refl
+    ap (checked_from cut n) split ∙ rw (fits most_lines n line few is.short) refl
 
 last_ahead : (n : ℕ) (reader reader' : Ahead) (given line : List ℕ) → n < most_lines → IsLine line → line ≢ [] → reader.bytes ++ given ≡ line → reader'.bytes ≡ []
     → answer_ahead false n reader (given ++ []) ≡ counted_before (n + 1) (line_of line) (answer_ahead false (n + 1) reader' [])
 last_ahead n reader reader' given line few is some e none =
     let bytes : reader.bytes ++ (given ++ []) ≡ line = ap (λ (t : List ℕ). reader.bytes ++ t) (append-nil given) ∙ e in
     let split : input_lines (reader.bytes ++ (given ++ [])) ≡ last_line line ∷ [] = ap input_lines bytes ∙ input_lines-last line is.no_line_feed some in
-    ap (checked_from false n) split ∙ rw (fits n line few is.short, none) refl
+    ap (checked_from false n) split ∙ rw (fits most_lines n line few is.short, none) refl
 
 pub whole_counts : (n : ℕ) (reader reader' : Ahead) (given line : List ℕ) (u : Unit {0}) → n < most_lines → IsLine line → reader.bytes ++ given ≡ line ++ 10 ∷ reader'.bytes
     → ParsesAs (n + 1) (Ok u) (line_of (content (whole_line line))) → Counts n reader given (n + 1) reader'
@@ -72,7 +73,7 @@ last_stops n reader reader' given line failed f few is some e none ended parses 
 cut_off : (n : ℕ) (line : List ℕ) → n < most_lines → IsLine line → checked_from true n (input_lines line) ≡ Err run_faults.Read
 cut_off n [] few is = refl
 cut_off n (b ∷ line) few is =
-    ap (checked_from true n) (input_lines-last (b ∷ line) is.no_line_feed (λ e. cc)) ∙ rw (fits n (b ∷ line) few is.short) refl
+    ap (checked_from true n) (input_lines-last (b ∷ line) is.no_line_feed (λ e. cc)) ∙ rw (fits most_lines n (b ∷ line) few is.short) refl
 
 pub failure_stops : (n : ℕ) (reader reader' : Ahead) (given line : List ℕ) (failed : Bool) → n < most_lines → IsLine line → reader.bytes ++ given ≡ line → reader'.ended ≡ false → failed ≡ true → StopsCheck n reader given reader' failed run_faults.Read
 failure_stops n reader reader' given line failed few is e going has = (has, going, ap (λ (t : List ℕ). checked_from true n (input_lines t)) e ∙ cut_off n line few is)
@@ -101,7 +102,7 @@ count_stops n reader reader' given b failed many e = λ more cut may.
     let rest = reader'.bytes ++ more in
     let one = has_line (nat_eq b 10) (record { bytes = []; ended = true }) b (input_lines rest) (input_lines rest) in
     let split : input_lines (reader.bytes ++ (given ++ more)) ≡ one.first ∷ one.others = ap input_lines (regrouped reader.bytes given more (b ∷ []) reader'.bytes e) ∙ one.is in
-    let past : nat_lt n most_lines && nat_le (length one.first.bytes) most_bytes ≡ false = past_count n (nat_le (length one.first.bytes) most_bytes) many in
+    let past : nat_lt n most_lines && nat_le (length one.first.bytes) most_bytes ≡ false = past_count most_lines n (nat_le (length one.first.bytes) most_bytes) many in
     ap (checked_from cut n) split ∙ too_many cut n one.first one.others past
 
 -- ---- line after line

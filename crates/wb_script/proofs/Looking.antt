@@ -6,7 +6,7 @@ use Rattle.wb_script.specs.declared.script_lines.Ending.{Ending}
 use Rattle.wb_script.specs.declared.script_lines.Ending.TheVariants.{LineFeed, OfInput}
 use Rattle.std.specs.Option.{is_some}
 use Rattle.std.proofs.lemmas.Bool.{false≢true}
-use Rattle.wb_script.specs.Ahead.{Ahead, Pulls}
+use Rattle.wb_lines.specs.Ahead.{Ahead, Pulls}
 use Rattle.wb_script.specs.Script.{most_lines}
 use Rattle.wb_script.specs.Lines.{LinesValue, IsSeen, IsFirst, Looks}
 use Rattle.wb_script.specs.SeenLines.{lines_value, IsSound}

@@ -11,7 +11,8 @@ use Rattle.wb_script.specs.declared.line.Line.{Line}
 use Rattle.wb_script.specs.declared.line.Line.TheVariants.{Skip, Board, Arrive, Hear, Distance, Tick, Look, Session, Show, Gaps, Report, Pages}
 use Rattle.wb_script.specs.Hosts.{Opened, opened, host_after, batch_text, Act, does, fails, act}
 use Rattle.wb_script.specs.Parsing.{line_of}
-use Rattle.wb_script.specs.Script.{InputLine, input_lines, content, State, start, IsAlone, by_host, closing_text, after_batch, Step, goes, refused, step_by, acts, said_step, step_of, Outcome, before, finish, proceed, most_lines, most_bytes, outcome_from, Finishes, Proceeds, Continues, IsOutcomeFrom}
+use Rattle.wb_lines.specs.Input.{InputLine, input_lines, content, most_bytes}
+use Rattle.wb_script.specs.Script.{State, start, IsAlone, by_host, closing_text, after_batch, Step, goes, refused, step_by, acts, said_step, step_of, Outcome, before, finish, proceed, most_lines, outcome_from, Finishes, Proceeds, Continues, IsOutcomeFrom}
 use Rattle.wb_script.specs.ScriptLaws.{workers_on, first_of, workers_at_end, OneThreadIsOutcome, OneWorkerIsOneThread, OneThreadIsFree}
 use Rattle.wb_script.proofs.Outcomes.{one_thread}
 

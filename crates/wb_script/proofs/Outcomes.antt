@@ -9,11 +9,13 @@ use Rattle.wb_script.specs.declared.fault.LineFault.{LineFault}
 use Rattle.wb_script.specs.declared.fault.RunFault.{RunFault}
 use Rattle.wb_script.specs.declared.fault.RunFault.TheVariants as run_faults
 use Rattle.wb_script.specs.declared.summary.Summary.{Summary}
-use Rattle.wb_script.specs.Ahead.{Ahead, NoLineFeed, IsLine}
-use Rattle.wb_script.specs.Script.{InputLine, input_lines, content, State, MayBeTaken, InSomeOrder, Step, goes, refused, step_of, Outcome, prints, before, finish, proceed, most_lines, most_bytes, outcome_from, Finishes, Proceeds, fault_at, Continues, IsOutcomeFrom, BeginsWith, IsStop}
+use Rattle.wb_lines.specs.Ahead.{Ahead, NoLineFeed, IsLine}
+use Rattle.wb_lines.specs.Input.{InputLine, input_lines, content, most_bytes, BeginsWith}
+use Rattle.wb_script.specs.Script.{State, MayBeTaken, InSomeOrder, Step, goes, refused, step_of, Outcome, prints, before, finish, proceed, most_lines, outcome_from, Finishes, Proceeds, fault_at, Continues, IsOutcomeFrom, IsStop}
 use Rattle.wb_script.specs.Stations.{HostValue, IsAt, IsLeftAt, DoesStep, MayDoStep}
-use Rattle.wb_script.specs.Running.{MayFollow, Leads, Begins, MayBegin, IsAhead, Passes, Stops, Ends}
-use Rattle.wb_script.proofs.InputLines.{input_lines-whole, input_lines-last, starts_line, whole_line, last_line, regrouped, fits, past_length, has_line, past_count}
+use Rattle.wb_lines.specs.Input.{MayFollow}
+use Rattle.wb_script.specs.Running.{Leads, Begins, MayBegin, IsAhead, Passes, Stops, Ends}
+use Rattle.wb_lines.proofs.InputLines.{input_lines-whole, input_lines-last, starts_line, whole_line, last_line, regrouped, fits, past_length, has_line, past_count}
 
 -- ---- what was written before
 
@@ -94,7 +96,7 @@ pub whole_ahead : (cut : Bool) (n : ℕ) (s : State) (reader reader' : Ahead) (g
     → InSomeOrder s (λ order. AfterLine cut n reader' more o (step_of s order (content (whole_line line)))) → IsAhead cut n s reader (given ++ more) o
 whole_ahead cut n s reader reader' given line more o few is e h =
     let split : input_lines (reader.bytes ++ (given ++ more)) ≡ whole_line line ∷ input_lines (reader'.bytes ++ more) = ap input_lines (regrouped reader.bytes given more line (10 ∷ reader'.bytes) e) ∙ input_lines-whole line (reader'.bytes ++ more) is.no_line_feed in
-    let none : fault_at cut n (whole_line line) ≡ None = ap (λ (within : Bool). cond within (cond (true || not cut) None (Some run_faults.Read)) (Some run_faults.Endless)) (fits n line few is.short) in
+    let none : fault_at cut n (whole_line line) ≡ None = ap (λ (within : Bool). cond within (cond (true || not cut) None (Some run_faults.Read)) (Some run_faults.Endless)) (fits most_lines n line few is.short) in
     subst (λ (lines : List InputLine). IsOutcomeFrom cut n s lines o) (sym split) (taken_on cut n s (whole_line line) (input_lines (reader'.bytes ++ more)) o none h)
 
 pub last_ahead : (n : ℕ) (s : State) (reader reader' : Ahead) (given line : List ℕ) (o : Outcome) → n < most_lines → IsLine line → line ≢ [] → reader.bytes ++ given ≡ line → reader'.bytes ≡ []
@@ -104,7 +106,7 @@ last_ahead n s reader reader' given line o few is some e none h =
     let end : input_lines (reader'.bytes ++ []) ≡ [] = ap (λ (t : List ℕ). input_lines (t ++ [])) none in
     let split : input_lines (reader.bytes ++ (given ++ [])) ≡ last_line line ∷ input_lines (reader'.bytes ++ []) =
     ap input_lines bytes ∙ input_lines-last line is.no_line_feed some ∙ ap (λ (lines : List InputLine). last_line line ∷ lines) (sym end) in
-    let free : fault_at false n (last_line line) ≡ None = ap (λ (within : Bool). cond within (cond (false || not false) None (Some run_faults.Read)) (Some run_faults.Endless)) (fits n line few is.short) in
+    let free : fault_at false n (last_line line) ≡ None = ap (λ (within : Bool). cond within (cond (false || not false) None (Some run_faults.Read)) (Some run_faults.Endless)) (fits most_lines n line few is.short) in
     subst (λ (lines : List InputLine). IsOutcomeFrom false n s lines o) (sym split) (taken_on false n s (last_line line) (input_lines (reader'.bytes ++ [])) o free h)
 
 -- where a step leads
@@ -259,7 +261,7 @@ cut_off : (n : ℕ) (s : State) (line : List ℕ) (o : Outcome) → n < most_lin
 cut_off n s [] o few is h = h
 cut_off n s (b ∷ line) o few is h =
     let split : input_lines (b ∷ line) ≡ last_line (b ∷ line) ∷ [] = input_lines-last (b ∷ line) is.no_line_feed (λ e. cc) in
-    let fault : fault_at true n (last_line (b ∷ line)) ≡ Some run_faults.Read = ap (λ (within : Bool). cond within (cond (false || not true) None (Some run_faults.Read)) (Some run_faults.Endless)) (fits n (b ∷ line) few is.short) in
+    let fault : fault_at true n (last_line (b ∷ line)) ≡ Some run_faults.Read = ap (λ (within : Bool). cond within (cond (false || not true) None (Some run_faults.Read)) (Some run_faults.Endless)) (fits most_lines n (b ∷ line) few is.short) in
     subst (λ (lines : List InputLine). IsOutcomeFrom true n s lines o) (sym split) (stopped_at true n s (last_line (b ∷ line)) [] run_faults.Read o fault h)
 
 pub failure_stops : (n : ℕ) (s : State) (reader reader' : Ahead) (given line : List ℕ) (failed : Bool) → n < most_lines → IsLine line → reader.bytes ++ given ≡ line → reader'.ended ≡ false → failed ≡ true → Stops n s reader given [] s reader' failed run_faults.Read
@@ -295,7 +297,7 @@ count_stops n s reader reader' given b failed many e = λ more cut may.
     let rest = reader'.bytes ++ more in
     let one = has_line (nat_eq b 10) (record { bytes = []; ended = true }) b (input_lines rest) (input_lines rest) in
     let split : input_lines (reader.bytes ++ (given ++ more)) ≡ one.first ∷ one.others = ap input_lines (regrouped reader.bytes given more (b ∷ []) reader'.bytes e) ∙ one.is in
-    let past : nat_lt n most_lines && nat_le (length one.first.bytes) most_bytes ≡ false = past_count n (nat_le (length one.first.bytes) most_bytes) many in
+    let past : nat_lt n most_lines && nat_le (length one.first.bytes) most_bytes ≡ false = past_count most_lines n (nat_le (length one.first.bytes) most_bytes) many in
     Leads-is (IsAhead cut n s reader (given ++ more)) (Finishes s (Err run_faults.Endless)) (λ o h. subst (λ (lines : List InputLine). IsOutcomeFrom cut n s lines o) (sym split) (past_limits cut n s one.first one.others o past h))
 
 -- ---- line after line

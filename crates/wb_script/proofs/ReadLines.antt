@@ -6,8 +6,9 @@ use Rattle.wb_names.specs.Values.{DrawopValue}
 use Rattle.wb_script.specs.declared.line.Line.TheVariants as lines
 use Rattle.wb_script.specs.Parsing.{line_of}
 use Rattle.wb_script.specs.Hosts.{Opened}
-use Rattle.wb_script.specs.Ahead.{Ahead, IsLine}
-use Rattle.wb_script.specs.Script.{InputLine, input_lines, content, State, Step, goes, by_host, said_step, step_of, most_lines, IsOutcomeFrom}
+use Rattle.wb_lines.specs.Ahead.{Ahead, IsLine}
+use Rattle.wb_lines.specs.Input.{InputLine, input_lines, content}
+use Rattle.wb_script.specs.Script.{State, Step, goes, by_host, said_step, step_of, most_lines, IsOutcomeFrom}
 use Rattle.wb_script.specs.Running.{IsAhead, Passes}
 use Rattle.wb_script.specs.Lines.{LinesValue, EndsWith, Fronts, IsFirst, IsContent, TakesNext, Takes}
 use Rattle.wb_script.specs.ReadOn.{IsOpen, with_waiting, EndsBatchAt, EndsBatchBefore}

@@ -14,7 +14,8 @@ use Rattle.wb_script.specs.declared.line.Line.TheVariants.{Skip, Board, Arrive, 
 use Rattle.wb_script.specs.Hosts.{Opened, opened, calls_after, host_after, batch_text, Act, does, fails, act}
 use Rattle.wb_script.specs.Parsing.{line_of}
 use Rattle.wb_script.specs.Reordering.{Part, End, part_said, part_of, other_than, others_of, onto_batch, batches_with, batches_of, AreRearranged, IsReordered, WorkersAreOneThread}
-use Rattle.wb_script.specs.Script.{InputLine, input_lines, content, State, start, closing_text, after_batch, Step, goes, refused, step_by, acts, line_step, said_step, Outcome, before, finish, proceed, most_lines, outcome_from, Finishes, Proceeds, fault_at, Continues, IsOutcomeFrom}
+use Rattle.wb_lines.specs.Input.{InputLine, input_lines, content}
+use Rattle.wb_script.specs.Script.{State, start, closing_text, after_batch, Step, goes, refused, step_by, acts, line_step, said_step, Outcome, before, finish, proceed, most_lines, outcome_from, Finishes, Proceeds, fault_at, Continues, IsOutcomeFrom}
 use Rattle.wb_script.proofs.AlikeCalls.{TellAlike, tell_same}
 use Rattle.wb_script.proofs.AlikeHosts.{told, ActsAlike, acts_alike}
 use Rattle.wb_script.proofs.Lifted.{lifted}

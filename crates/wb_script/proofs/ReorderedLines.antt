@@ -15,7 +15,8 @@ use Rattle.wb_script.specs.declared.line.Line.TheVariants.{Arrive}
 use Rattle.wb_script.specs.Hosts.{Opened, present, names_of, board_after, calls_after}
 use Rattle.wb_script.specs.Parsing.{line_of}
 use Rattle.wb_script.specs.Reordering.{part_said, part_unless, part_of, onto_batch, AreRearranged}
-use Rattle.wb_script.specs.Script.{InputLine, content, State, by_host, said_step, step_of, Outcome, finish, proceed, most_lines, most_bytes, outcome_from, fault_at}
+use Rattle.wb_lines.specs.Input.{InputLine, content, most_bytes}
+use Rattle.wb_script.specs.Script.{State, by_host, said_step, step_of, Outcome, finish, proceed, most_lines, outcome_from, fault_at}
 use Rattle.wb_script.proofs.AlikeCalls.{TellAlike, arrive_alike}
 use Rattle.wb_script.proofs.AlikeHosts.{told}
 

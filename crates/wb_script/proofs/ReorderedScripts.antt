@@ -4,11 +4,12 @@ use Rattle.std.specs.Prelude.{nat_eq}
 use Rattle.std.proofs.lemmas.Bool.Decides.{nat_tests}
 use Rattle.std.proofs.lemmas.List.Elements.{All-nil, All-cons, All-head, All-tail}
 use Rattle.std.proofs.lemmas.List.Sorted.{All-permutation}
-use Rattle.wb_script.specs.Ahead.{NoLineFeed}
+use Rattle.wb_lines.specs.Ahead.{NoLineFeed}
 use Rattle.wb_script.specs.Reordering.{IsReordered, WorkersRunAnother}
-use Rattle.wb_script.specs.Script.{InputLine, onto_first, input_lines, start, outcome_from}
+use Rattle.wb_lines.specs.Input.{InputLine, onto_first, input_lines}
+use Rattle.wb_script.specs.Script.{start, outcome_from}
 use Rattle.wb_script.specs.ScriptLaws.{EachEnds}
-use Rattle.wb_script.proofs.InputLines.{input_lines-whole}
+use Rattle.wb_lines.proofs.InputLines.{input_lines-whole}
 use Rattle.wb_script.proofs.Reordered.{reorders}
 
 abbrev IsWhole : InputLine → Type 0

@@ -11,15 +11,16 @@ use Rattle.wb_script.specs.declared.line.Line.{Line}
 use Rattle.wb_script.specs.declared.line.Line.TheVariants as lines
 use Rattle.wb_script.specs.declared.taking.Taken.{Taken}
 use Rattle.wb_script.specs.Parsing.{line_of}
-use Rattle.wb_script.specs.Ahead.{Ahead, IsLine, Pulls}
+use Rattle.wb_lines.specs.Ahead.{Ahead, IsLine, Pulls}
 use Rattle.wb_script.specs.Hosts.{Opened, host_after}
-use Rattle.wb_script.specs.Script.{InputLine, content, State, IsAlone, goes, refused, by_host, after_batch, said_step, step_of, most_lines}
+use Rattle.wb_lines.specs.Input.{InputLine, content}
+use Rattle.wb_script.specs.Script.{State, IsAlone, goes, refused, by_host, after_batch, said_step, step_of, most_lines}
 use Rattle.wb_script.specs.Running.{Passes, Stops, Ends, RunsOn}
 use Rattle.wb_script.specs.Lines.{LinesValue, EndsWith, Fronts, IsContent, Says, TakesNext}
 use Rattle.wb_script.specs.Stations.{StationValue, IsOpenAt, MayBeOpenAt, HostValue, IsAt, IsLeftAt, DoesStep, MayDoStep}
 use Rattle.wb_script.specs.ReadOn.{IsOpen, with_waiting}
 use Rattle.wb_script.specs.Taking.{GoesOn, TakesBatchOn}
-use Rattle.wb_script.proofs.LineBytes.{Pulls-none, Pulls-on}
+use Rattle.wb_lines.proofs.LineBytes.{Pulls-none, Pulls-on}
 use Rattle.wb_script.proofs.Outcomes.{as_it_came, whole_passes, last_passes, whole_stops, last_stops, never_left, stops_at_once, ends_here, Passes-then, Passes-stops}
 use Rattle.wb_script.proofs.ReadLines.{looks_on, takes_arrival, taken_end}
 

@@ -13,13 +13,14 @@ use Rattle.wb_script.specs.declared.fault.RunFault.TheVariants as run_faults
 use Rattle.wb_script.specs.declared.line.Line.{Line}
 use Rattle.wb_script.specs.declared.line.Line.TheVariants.{Skip, Board, Arrive, Hear, Distance, Tick, Look, Session, Show, Gaps, Report, Pages}
 use Rattle.wb_script.specs.declared.summary.Summary.{Summary}
-use Rattle.wb_script.specs.Ahead.{IsLine}
+use Rattle.wb_lines.specs.Ahead.{IsLine}
 use Rattle.wb_script.specs.Hosts.{Opened, opened, Act, does, fails, act}
 use Rattle.wb_script.specs.Parsing.{line_of}
 use Rattle.wb_script.specs.Running.{Begins}
-use Rattle.wb_script.specs.Script.{InputLine, onto_first, input_lines, content, State, start, by_host, closing_text, after_batch, Step, goes, refused, step_by, acts, said_step, step_of, Outcome, prints, before, answer, finish, proceed, most_lines, most_bytes, outcome_from, outcome}
+use Rattle.wb_lines.specs.Input.{InputLine, onto_first, input_lines, content, most_bytes}
+use Rattle.wb_script.specs.Script.{State, start, by_host, closing_text, after_batch, Step, goes, refused, step_by, acts, said_step, step_of, Outcome, prints, before, answer, finish, proceed, most_lines, outcome_from, outcome}
 use Rattle.wb_script.specs.ScriptLaws.{EachEnds, waits_after, waits_at_end, text_of, RefusedStays, PrintedStays, SkippedPrintsNothing}
-use Rattle.wb_script.proofs.InputLines.{input_lines-whole, whole_line, fits}
+use Rattle.wb_lines.proofs.InputLines.{input_lines-whole, whole_line, fits}
 use Rattle.wb_script.proofs.Outcomes.{before-nil, before-before, too_many, text_of as same_text, end_of}
 
 -- ---- whole lines, and what follows them
@@ -221,7 +222,7 @@ skips : (cut : Bool) (n : ℕ) (s : State) (line : List ℕ) (lines : List Input
     → text_of (outcome_from cut n s (whole_line line ∷ lines)) ≡ text_of (outcome_from cut n s lines)
 skips cut n s line lines is skip few =
     let first : outcome_from cut n s (whole_line line ∷ lines) ≡ proceed (n + 1) (step_of s s.waiting (strip_carriage_return line)) (λ t. outcome_from cut (n + 1) t lines) =
-    one_line cut n s (whole_line line) lines refl (fits n line (omega arith) is.short) in
+    one_line cut n s (whole_line line) lines refl (fits most_lines n line (omega arith) is.short) in
     let none : proceed (n + 1) (step_of s s.waiting (strip_carriage_return line)) (λ t. outcome_from cut (n + 1) t lines) ≡ outcome_from cut (n + 1) s lines =
     ap (λ (said : Result Line LineFault). proceed (n + 1) (said_step s s.waiting said) (λ t. outcome_from cut (n + 1) t lines)) skip ∙ before-nil (outcome_from cut (n + 1) s lines) in
     ap text_of (first ∙ none) ∙ text_later cut n s lines few

@@ -11,10 +11,10 @@ use Rattle.wb_codec.specs.declared.datagram.Datagram.{Datagram}
 use Rattle.wb_codec.specs.Ranges.{IsDatagram}
 use Rattle.wb_codec.specs.Spelling.{body, kind_code, version_of, version_code, spelling}
 use Rattle.wb_codec.proofs.GrammarLaws.{reading_again}
-use Rattle.wb_script.specs.Words.{words, words_after, unhex}
+use Rattle.wb_lines.specs.Words.{words, words_after, unhex}
 use Rattle.wb_script.specs.Parsing.{datagram, command, line_of_words, arrived, heard}
 use Rattle.wb_script.specs.SentLines.{digits_of, SentIsTaken}
-use Rattle.wb_script.proofs.SpelledBytes.{spelled_bytes}
+use Rattle.wb_codec.proofs.SpelledBytes.{spelled_bytes}
 
 -- no byte of a table is a space
 abbrev no_space : List ℕ → Bool

@@ -5,9 +5,10 @@ use Rattle.wb_script.specs.declared.fault.RunFault.{RunFault}
 use Rattle.wb_script.specs.declared.fault.RunFault.TheVariants as run_faults
 use Rattle.wb_script.specs.declared.line.Line.{Line}
 use Rattle.wb_script.specs.Parsing.{line_of}
-use Rattle.wb_script.specs.Script.{InputLine, input_lines, content, most_lines, most_bytes}
-use Rattle.wb_script.specs.Ahead.{Ahead}
-use Rattle.wb_script.specs.Running.{MayFollow}
+use Rattle.wb_lines.specs.Input.{InputLine, input_lines, content, most_bytes}
+use Rattle.wb_script.specs.Script.{most_lines}
+use Rattle.wb_lines.specs.Ahead.{Ahead}
+use Rattle.wb_lines.specs.Input.{MayFollow}
 
 -- the fault of the line of this number, or what the rest answers
 abbrev pub counted_before : ℕ → Result Line LineFault → Result ℕ RunFault → Result ℕ RunFault

@@ -1,7 +1,8 @@
 -- Laws of scripts whose arrivals do not clash, with cells for all names: how the workers share the work shows nowhere.
 use Rattle.std.specs.Prelude.{◌≡◌, ℕ, List, Bool, Option}
 use Rattle.wb_script.specs.Laws.{NoneClash, HasCells}
-use Rattle.wb_script.specs.Script.{input_lines, Outcome, outcome, IsOutcome}
+use Rattle.wb_lines.specs.Input.{input_lines}
+use Rattle.wb_script.specs.Script.{Outcome, outcome, IsOutcome}
 use Rattle.wb_script.specs.Shows.{arrivals_of, cells_of}
 
 -- No two arrivals of an input clash, and the board that it opens has a cell for each of their names.

@@ -1,4 +1,3 @@
-pub mod Words
 pub mod Parsing
 pub mod Faults
 pub mod Board
@@ -9,8 +8,6 @@ pub mod SentLines
 pub mod Hosts
 pub mod Script
 pub mod Stations
-pub mod Output
-pub mod Ahead
 pub mod Running
 pub mod Lines
 pub mod SeenLines

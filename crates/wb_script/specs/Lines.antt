@@ -3,9 +3,10 @@ use Rattle.std.specs.Prelude.{◌≡◌, ◌≢◌, ◌<◌, ◌+◌, ℕ, List,
 use Rattle.wb_script.specs.declared.fault.LineFault.{LineFault}
 use Rattle.wb_script.specs.declared.fault.RunFault.{RunFault}
 use Rattle.wb_script.specs.declared.line.Line.{Line}
-use Rattle.wb_script.specs.Ahead.{Ahead, IsLine}
+use Rattle.wb_lines.specs.Ahead.{Ahead, IsLine}
 use Rattle.wb_script.specs.Parsing.{line_of}
-use Rattle.wb_script.specs.Script.{InputLine, State, content, most_lines}
+use Rattle.wb_lines.specs.Input.{InputLine, content}
+use Rattle.wb_script.specs.Script.{State, most_lines}
 use Rattle.wb_script.specs.Running.{Stops}
 
 -- how many lines were taken, what is ahead, and the line at its front, once it was looked at

@@ -14,7 +14,7 @@ use Rattle.wb_display.specs.Canvas.{is_canvas_size}
 use Rattle.wb_script.specs.Faults.{line_code}
 use Rattle.wb_script.specs.declared.line.Line.{Line}
 use Rattle.wb_script.specs.declared.line.Line.TheVariants.{Skip, Board, Arrive, Hear, Distance, Tick, Look, Session, Show, Gaps, Report, Pages}
-use Rattle.wb_script.specs.Words.{words, number_of, unhex}
+use Rattle.wb_lines.specs.Words.{words, number_of, unhex}
 
 infixl 10 ◌>>=◌
 abbrev pub ◌>>=◌ : {A B : Type 0} → Result A LineFault → (A → Result B LineFault) → Result B LineFault

@@ -8,11 +8,12 @@ use Rattle.wb_script.specs.declared.line.Line.{Line}
 use Rattle.wb_script.specs.declared.line.Line.TheVariants.{Skip, Board, Arrive, Hear, Distance, Tick, Look, Session, Show, Gaps, Report, Pages}
 use Rattle.wb_script.specs.declared.arriving.Part.{Part}
 use Rattle.wb_script.specs.declared.arriving.Part.TheVariants as parts
-use Rattle.wb_script.specs.Ahead.{Ahead, Pulls}
-use Rattle.wb_script.specs.Output.{Sends}
+use Rattle.wb_lines.specs.Ahead.{Ahead, Pulls}
+use Rattle.wb_lines.specs.Output.{Sends}
 use Rattle.wb_script.specs.Parsing.{line_of}
 use Rattle.wb_script.specs.Hosts.{Opened}
-use Rattle.wb_script.specs.Script.{InputLine, State, content, most_lines}
+use Rattle.wb_lines.specs.Input.{InputLine, content}
+use Rattle.wb_script.specs.Script.{State, most_lines}
 use Rattle.wb_script.specs.Running.{Passes, Stops}
 use Rattle.wb_script.specs.Lines.{LinesValue, Fronts}
 

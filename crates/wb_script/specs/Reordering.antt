@@ -5,7 +5,8 @@ use Rattle.wb_script.specs.declared.fault.RunFault.{RunFault}
 use Rattle.wb_script.specs.declared.line.Line.{Line}
 use Rattle.wb_script.specs.declared.line.Line.TheVariants.{Skip, Board, Arrive, Hear, Distance, Tick, Look, Session, Show, Gaps, Report, Pages}
 use Rattle.wb_script.specs.Parsing.{line_of}
-use Rattle.wb_script.specs.Script.{InputLine, input_lines, content, start, Outcome, outcome_from, outcome, fault_at, IsOutcome}
+use Rattle.wb_lines.specs.Input.{InputLine, input_lines, content}
+use Rattle.wb_script.specs.Script.{start, Outcome, outcome_from, outcome, fault_at, IsOutcome}
 use Rattle.wb_script.specs.ScriptLaws.{EachEnds}
 
 -- What a line is to the present batch: one of its arrivals; nothing, as a skipped line; or its end.

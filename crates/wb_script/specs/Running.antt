@@ -3,12 +3,9 @@ use Rattle.std.specs.Prelude.{◌≡◌, ℕ, ◌-◌, List, [], ◌++◌, lengt
 use Rattle.wb_script.specs.declared.fault.RunFault.{RunFault}
 use Rattle.wb_script.specs.declared.fault.RunFault.TheVariants as run_faults
 use Rattle.wb_script.specs.declared.summary.Summary.{Summary}
-use Rattle.wb_script.specs.Ahead.{Ahead}
-use Rattle.wb_script.specs.Script.{State, Outcome, prints, before, input_lines, Finishes, IsOutcomeFrom, IsOutcome, BeginsWith, is_stop, IsStop}
-
--- What may still be pulled, and whether reading fails after it: nothing and no failure after the end.
-abbrev pub MayFollow : Bool → List ℕ → Bool → Type 0
-MayFollow ended more cut = ended ≡ true → (more ≡ []) × (cut ≡ false)
+use Rattle.wb_lines.specs.Ahead.{Ahead}
+use Rattle.wb_lines.specs.Input.{MayFollow, MayRemain, input_lines, BeginsWith}
+use Rattle.wb_script.specs.Script.{State, Outcome, prints, before, Finishes, IsOutcomeFrom, IsOutcome, is_stop, IsStop}
 
 -- The text of an outcome begins with what was written.
 abbrev pub Begins : Outcome → List ℕ → Type 0
@@ -75,11 +72,6 @@ IsStopped (Err e) = IsStop e
 -- A run meets an outcome: it wrote its text and answers its end; or it stops for want of memory or of a thread, or at a failing sink, and wrote a front of its text.
 abbrev pub Meets : Outcome → List ℕ → Result Summary RunFault → Type 0
 Meets (prints text end) written result = ((written ≡ text) × (result ≡ end)) ⊎ (IsStopped result × BeginsWith text written)
-
--- What may still come of an input at the end of a run: nothing after the end or a failure.
-pub record MayRemain (ended failed : Bool) (more : List ℕ) : Type 0 where
-  pub none_after_end : ended ≡ true → more ≡ []
-  pub none_after_failure : failed ≡ true → more ≡ []
 
 -- The same, while some text may wait to be written: none does where the run wrote its text and answers its end.
 abbrev pub Settles : Outcome → List ℕ → List ℕ → Result Summary RunFault → Type 0

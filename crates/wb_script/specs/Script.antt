@@ -1,7 +1,6 @@
 -- What a script prints, and how it ends.
 use Rattle.std.specs.Prelude.{◌≡◌, ℕ, ◌+◌, ◌≤◌, ◌^◌, List, [], ◌∷◌, ◌++◌, length, Bool, true, false, nat_eq, nat_le, nat_lt, ◌&&◌, ◌||◌, not, Option, Some, None, Result, Ok, Err, if◌then◌else◌, IsPermutation}
 use Rattle.std.specs.Prelude.{unwrap_or}
-use Rattle.std.specs.Str.Lines.{strip_carriage_return}
 use Rattle.wb_names.specs.Values.{DrawopValue}
 use Rattle.wb_script.specs.declared.fault.LineFault.{LineFault}
 use Rattle.wb_script.specs.declared.fault.LineFault.TheVariants as faults
@@ -10,28 +9,9 @@ use Rattle.wb_script.specs.declared.fault.RunFault.TheVariants as run_faults
 use Rattle.wb_script.specs.declared.summary.Summary.{Summary}
 use Rattle.wb_script.specs.declared.line.Line.{Line}
 use Rattle.wb_script.specs.declared.line.Line.TheVariants.{Skip, Board, Arrive, Hear, Distance, Tick, Look, Session, Show, Gaps, Report, Pages}
+use Rattle.wb_lines.specs.Input.{InputLine, input_lines, content, most_bytes, BeginsWith}
 use Rattle.wb_script.specs.Hosts.{Opened, opened, host_after, batch_text, Act, does, fails, act}
 use Rattle.wb_script.specs.Parsing.{line_of}
-
--- a line as it stands in the input: the bytes before its end, and whether a line feed ends it
-pub record InputLine : Type 0 where
-  pub bytes : List ℕ
-  pub ended : Bool
-
--- a byte goes to the front of the first line
-abbrev pub onto_first : ℕ → List InputLine → List InputLine
-onto_first b [] = record { bytes = b ∷ []; ended = false } ∷ []
-onto_first b (line ∷ lines) = record { bytes = b ∷ line.bytes; ended = line.ended } ∷ lines
-
--- The lines of an input. What follows the last line feed is a line too, unless it is empty.
-abbrev pub input_lines : List ℕ → List InputLine
-input_lines [] = []
-input_lines (b ∷ bytes) =
-    if nat_eq b 10 then record { bytes = []; ended = true } ∷ input_lines bytes else onto_first b (input_lines bytes)
-
--- a line without its end, of which one carriage return is a part
-abbrev pub content : InputLine → List ℕ
-content line = if line.ended then strip_carriage_return line.bytes else line.bytes
 
 -- the host, once it is open; how many workers take its batches, once that is known; and the arrivals of the present batch
 pub record State : Type 0 where
@@ -127,12 +107,9 @@ answer s (Err e) = Err e
 abbrev pub finish : State → List DrawopValue → Result ℕ RunFault → Outcome
 finish s order ending = prints (closing_text s order) (answer (after_batch s order) ending)
 
--- at most so many lines, and so many bytes in each
+-- at most so many lines
 abbrev pub most_lines : ℕ
 most_lines = 2 ^ 20
-
-abbrev pub most_bytes : ℕ
-most_bytes = 65536
 
 -- ---- by one thread, which takes each batch as it came
 
@@ -186,10 +163,6 @@ abbrev pub IsOutcome : Option ℕ → Bool → List ℕ → Outcome → Type 0
 IsOutcome workers cut input o = IsOutcomeFrom cut 0 (start workers) (input_lines input) o
 
 -- ---- a run that stops
-
--- a text begins with some bytes
-abbrev pub BeginsWith : List ℕ → List ℕ → Type 0
-BeginsWith text bytes = (rest : List ℕ) × (text ≡ bytes ++ rest)
 
 -- want of memory or of a thread, or a failing sink, at which the text may stop anywhere
 abbrev pub is_stop : RunFault → Bool

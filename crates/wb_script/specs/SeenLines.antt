@@ -2,7 +2,7 @@
 use Rattle.std.specs.Prelude.{◌≡◌, ◌≢◌, ◌≤◌, ◌<◌, ℕ, List, [], ◌∷◌, ◌++◌, Bool, true, false, Option, Some, None}
 use Rattle.wb_script.specs.declared.script_lines.Ending.{Ending}
 use Rattle.wb_script.specs.declared.script_lines.Ending.TheVariants.{LineFeed, OfInput}
-use Rattle.wb_script.specs.Ahead.{Ahead, IsLine}
+use Rattle.wb_lines.specs.Ahead.{Ahead, IsLine}
 use Rattle.wb_script.specs.Script.{most_lines}
 use Rattle.wb_script.specs.Lines.{LinesValue}
 

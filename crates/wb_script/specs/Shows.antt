@@ -9,11 +9,12 @@ use Rattle.wb_script.specs.declared.fault.LineFault.{LineFault}
 use Rattle.wb_script.specs.declared.line.Line.{Line}
 use Rattle.wb_script.specs.declared.line.Line.TheVariants.{Skip, Board, Arrive, Hear, Distance, Tick, Look, Session, Show, Gaps, Report, Pages}
 use Rattle.wb_script.specs.declared.summary.Summary.{Summary}
-use Rattle.wb_script.specs.Ahead.{IsLine}
+use Rattle.wb_lines.specs.Ahead.{IsLine}
 use Rattle.wb_script.specs.Laws.{NoneClash, HasCells}
 use Rattle.wb_script.specs.Parsing.{line_of}
 use Rattle.wb_script.specs.Queries.{view_of}
-use Rattle.wb_script.specs.Script.{InputLine, input_lines, content, prints, outcome}
+use Rattle.wb_lines.specs.Input.{InputLine, input_lines, content}
+use Rattle.wb_script.specs.Script.{prints, outcome}
 use Rattle.wb_script.specs.ScriptLaws.{EachEnds}
 
 -- the drawop that a line hands in

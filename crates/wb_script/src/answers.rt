@@ -5,12 +5,12 @@ ghost use Rattle.wb_feed.specs.Batches.{counts_in};
 ghost use Rattle.wb_script.specs.Answers.{batch_line, pair_line, gap_line, gaps_text, report_text, pages_text, answer_text, IsAnswerable};
 
 use crate::fault::RunFault;
-use crate::output::Output;
 use crate::query::Query;
 use crate::whiteboard::Whiteboard;
 use std::alloc::{AllocError, Global};
 use wb_feed::Batch;
 use wb_host::Keeper;
+use wb_lines::Output;
 use wb_names::{Gap, Mark, PageId};
 
 /// The line that ends a batch.

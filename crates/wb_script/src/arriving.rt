@@ -1,17 +1,17 @@
 //! The arrivals of a batch, as workers draw them: the script is read on as they do.
 ghost use Rattle.std.specs.Prelude.{◌≡◌, ℕ, [], List, Err, IfOk, true};
-ghost use Rattle.wb_script.specs.Output.{Sends};
-ghost use Rattle.wb_script.specs.Ahead.{Pulls};
+ghost use Rattle.wb_lines.specs.Output.{Sends};
+ghost use Rattle.wb_lines.specs.Ahead.{Pulls};
 ghost use Rattle.wb_script.specs.ReadOn.{IsPart, ReadsTo, DrawsTo};
 ghost use Rattle.wb_script.specs.Parsing.{line_of};
 
 use crate::fault::{ParseFault, RunFault};
 use crate::line::Line;
-use crate::output::Output;
 use crate::parsing::parse_line;
 use crate::script_lines::{MAX_LINES, ScriptLines};
 use std::alloc::{AllocError, Global};
 use wb_feed::Arrivals;
+use wb_lines::Output;
 use wb_names::{Drawop, Sink, Source};
 
 /// What a line is to a batch.

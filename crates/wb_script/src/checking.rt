@@ -1,15 +1,14 @@
 ghost use Rattle.std.specs.Prelude.{◌≡◌, ◌≢◌, ◌≤◌, ◌<◌, [], List, ℕ, true, IfOk, None, Err};
-ghost use Rattle.wb_script.specs.Ahead.{Pulls};
+ghost use Rattle.wb_lines.specs.Ahead.{Pulls};
 ghost use Rattle.wb_script.specs.Parsing.{line_of};
 ghost use Rattle.wb_script.specs.Script.{most_lines};
 ghost use Rattle.wb_script.specs.Checking.{ParsesAs, ChecksLine, Checks, CountsLines};
 
 use crate::fault::{ParseFault, RunFault};
-use crate::line_reader::{Found, LineReader, Pulled};
-use crate::output::Output;
 use crate::parsing::parse_line;
 use crate::script_lines::{MAX_LINES, without_carriage_return};
 use std::alloc::Global;
+use wb_lines::{Found, LineReader, Output, Pulled};
 use wb_names::{Sink, Source};
 
 /// Where nothing is written.

@@ -2,10 +2,10 @@ ghost use Rattle.std.specs.Prelude.{◌≡◌};
 ghost use Rattle.wb_script.specs.declared.fault.ParseFault.TheVariants as parse_faults;
 ghost use Rattle.wb_script.specs.declared.fault.RunFault.TheVariants as run_faults;
 
-use crate::output::Unwritten;
 use std::alloc::{AllocError, AllocFailed};
 use thiserror::Error;
 use wb_codec::ReadFault;
+use wb_lines::Unwritten;
 
 /// Why a line is refused: the first fault in the order of the variants.
 #[derive(Clone, Copy, Debug, PartialEq, Eq, Error)]

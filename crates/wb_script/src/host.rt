@@ -1,7 +1,7 @@
 ghost use Rattle.std.specs.Prelude.{◌≡◌, ◌≢◌, ◌<◌, List, [], ℕ, ◌≤◌, ◌++◌, Ok, Err, None, true};
-ghost use Rattle.wb_script.specs.Ahead.{Pulls};
+ghost use Rattle.wb_lines.specs.Ahead.{Pulls};
 ghost use Rattle.wb_script.specs.Lines.{IsSeen, Says};
-ghost use Rattle.wb_script.specs.Output.{Sends};
+ghost use Rattle.wb_lines.specs.Output.{Sends};
 ghost use Rattle.wb_script.specs.Parsing.{IsWithin};
 ghost use Rattle.wb_script.specs.ReadOn.{EndsBatchAt};
 ghost use Rattle.wb_script.specs.Running.{RunsOn};
@@ -10,7 +10,6 @@ ghost use Rattle.wb_script.specs.Stations.{IsAt, DoesStep, MayDoStep, Moves};
 
 use crate::fault::{LineFault, RunFault};
 use crate::line::Line;
-use crate::output::Output;
 use crate::script_lines::ScriptLines;
 use crate::station::Station;
 use crate::taking::{Taken, take_batch};
@@ -19,6 +18,7 @@ use std::marker::Model;
 use std::sync::Wait;
 use std::thread::Threads;
 use wb_feed::Gate;
+use wb_lines::Output;
 use wb_names::{Drawop, Sink, Source};
 
 /// The host of a script, once it is open, and how many workers take its batches, once that is known. A batch

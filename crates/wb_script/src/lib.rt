@@ -4,21 +4,16 @@
 //! arrive, set the moment, and ask for what a page shows. This crate reads lines, runs them, and
 //! writes exactly what one thread prints for them, each batch taken in some order: as it came, where one
 //! worker takes it. What reads text (lines, words, numbers,
-//! hexadecimal) stands in modules of its own, apart from what runs, and serves other programs that
-//! read line by line.
+//! hexadecimal) is of wb_lines.
 #![tactic(auto)]
 
 mod answers;
 mod arriving;
 mod checking;
 mod fault;
-mod hexadecimal;
 mod host;
 pub mod laws;
 mod line;
-mod line_reader;
-mod number;
-mod output;
 mod parsing;
 mod query;
 mod random;
@@ -29,19 +24,13 @@ mod station;
 mod summary;
 mod taking;
 mod whiteboard;
-mod words;
 
 pub use checking::check;
 pub use fault::{LineFault, ParseFault, RunFault};
-pub use hexadecimal::{is_hex, unhex};
 pub use line::Line;
-pub use line_reader::{Found, LineReader, Pulled};
-pub use output::{Output, Unwritten};
 pub use parsing::parse_line;
 pub use random::{RandomWords, words_follow_words};
 pub use running::run;
-pub use script_lines::without_carriage_return;
 pub use sent_lines::{look_line, print_sends, sent_is_taken};
 pub use summary::Summary;
 pub use wb_feed::{Gate, NoGate};
-pub use words::next_word;

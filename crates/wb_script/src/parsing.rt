@@ -1,15 +1,13 @@
 ghost use Rattle.std.specs.Prelude.{◌≡◌, ◌≤◌, IfOk, Result, Ok, Err};
 ghost use Rattle.std.specs.Option.{option_map};
-ghost use Rattle.wb_script.specs.Words.{words};
+ghost use Rattle.wb_lines.specs.Words.{words};
 ghost use Rattle.wb_script.specs.Parsing.{Parses, ParsesLine, IsWithin, number, none_of, one_of, two_of, four_of, board, show, distance, tick, page, pages, page_line, datagram, arrive, hear, command, begins_comment, line_of};
 
 use crate::fault::{LineFault, ParseFault};
-use crate::hexadecimal::unhex;
 use crate::line::Line;
-use crate::number::number;
-use crate::words::next_word;
 use std::alloc::Global;
 use wb_codec::{Datagram, ReadFault, read};
+use wb_lines::{next_word, number, unhex};
 use wb_names::PageId;
 
 const MAX_CELLS: u32 = 65_535;

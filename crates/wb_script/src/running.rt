@@ -1,6 +1,6 @@
 ghost use Rattle.std.specs.Prelude.{◌≡◌, ◌<◌, List, ℕ, true, Ok, Err};
-ghost use Rattle.wb_script.specs.Output.{Sends};
-ghost use Rattle.wb_script.specs.Ahead.{Pulls};
+ghost use Rattle.wb_lines.specs.Output.{Sends};
+ghost use Rattle.wb_lines.specs.Ahead.{Pulls};
 ghost use Rattle.wb_script.specs.Lines.{IsSeen};
 ghost use Rattle.wb_script.specs.Script.{State, most_lines};
 ghost use Rattle.wb_script.specs.Stations.{IsLeftAt, Moves};
@@ -9,7 +9,6 @@ ghost use Rattle.wb_script.specs.Running.{RunsOn, RunsLine, RunsLines, Closes, R
 use crate::fault::{ParseFault, RunFault};
 use crate::host::Host;
 use crate::line::Line;
-use crate::output::Output;
 use crate::parsing::parse_line;
 use crate::script_lines::ScriptLines;
 use crate::summary::Summary;
@@ -18,6 +17,7 @@ use std::alloc::Global;
 use std::sync::Wait;
 use std::thread::Threads;
 use wb_feed::Gate;
+use wb_lines::Output;
 use wb_names::{Sink, Source};
 
 /// Runs the line that was looked at, and where a batch begins with it, all of the batch.

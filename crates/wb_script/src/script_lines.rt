@@ -1,30 +1,18 @@
 //! The lines of a script, one by one.
 ghost use Rattle.std.specs.Prelude.{◌≡◌, ◌≤◌, ◌++◌, [], None, List, ℕ, IfOk, Err, true, false};
-ghost use Rattle.std.specs.Str.Lines.{strip_carriage_return};
-ghost use Rattle.wb_script.specs.Output.{Sends};
-ghost use Rattle.wb_script.specs.Ahead.{Pulls};
+ghost use Rattle.wb_lines.specs.Output.{Sends};
+ghost use Rattle.wb_lines.specs.Ahead.{Pulls};
 ghost use Rattle.wb_script.specs.Script.{most_lines};
 ghost use Rattle.wb_script.specs.Lines.{IsSeen, IsContent, Looks, Takes};
 
 use crate::fault::RunFault;
-use crate::line_reader::{Found, LineReader, Pulled};
-use crate::output::Output;
 use std::alloc::{AllocError, Global};
 use std::marker::Model;
+use wb_lines::{Found, LineReader, Output, Pulled};
 use wb_names::{Sink, Source};
 
 /// A script has at most so many lines.
 pub const MAX_LINES: u32 = 1 << 20;
-
-/// A line without the one carriage return at its end.
-pub fn without_carriage_return(line: &[u8]) -> &[u8]
-    ensures { result.now ≡ strip_carriage_return line.now }
-{
-    match line {
-        [front @ .., b'\r'] => front,
-        _ => line,
-    }
-}
 
 /// How a line ends.
 #[derive(Clone, Copy, Debug, PartialEq, Eq)]

@@ -3,9 +3,9 @@ ghost use Rattle.std.specs.Prelude.{◌≡◌, ◌++◌, IfOk, OnOk, OnErr};
 ghost use Rattle.std.specs.String.{string_bytes};
 ghost use Rattle.wb_script.specs.SentLines.{send_line, sends_text, look_line, SentIsTaken};
 
-use crate::output::Output;
 use std::alloc::{AllocError, Global};
 use wb_codec::{Datagram, write};
+use wb_lines::Output;
 
 fn send_line(alloc: Global, datagram: &Datagram) -> Result<String, AllocError>
     ensures { IfOk result (λ text. string_bytes text ≡ send_line datagram.now) }

@@ -14,7 +14,6 @@ ghost use Rattle.wb_script.specs.Answers.{batch_line};
 use crate::answers::{batch_line, print};
 use crate::fault::{LineFault, RunFault};
 use crate::line::Line;
-use crate::output::Output;
 use crate::query::Query;
 use crate::random::RandomWords;
 use crate::sent_lines::{look_line, print_sends};
@@ -26,6 +25,7 @@ use std::thread::Threads;
 use wb_codec::Datagram;
 use wb_feed::{Arrivals, Batch, Gate};
 use wb_host::{KeepFault, Keeper};
+use wb_lines::Output;
 use wb_names::{Drawop, Name, PageId};
 use wb_recovery::Tuning;
 

@@ -1,7 +1,7 @@
 //! A batch that is read from its script as workers take it.
 ghost use Rattle.std.specs.Prelude.{◌≡◌, ◌≢◌, ◌≤◌, ◌<◌, ℕ, [], List, None, Some, Err, true, IfOk};
-ghost use Rattle.wb_script.specs.Output.{Sends};
-ghost use Rattle.wb_script.specs.Ahead.{Pulls};
+ghost use Rattle.wb_lines.specs.Output.{Sends};
+ghost use Rattle.wb_lines.specs.Ahead.{Pulls};
 ghost use Rattle.wb_script.specs.Hosts.{Opened};
 ghost use Rattle.wb_script.specs.Script.{State, IsAlone, is_stop};
 ghost use Rattle.wb_script.specs.Stations.{IsOpenAt};
@@ -10,13 +10,13 @@ ghost use Rattle.wb_script.specs.Taking.{TakesFrom, DrawsAll, TakesBatchOn};
 
 use crate::arriving::Arriving;
 use crate::fault::RunFault;
-use crate::output::Output;
 use crate::script_lines::ScriptLines;
 use crate::station::Station;
 use std::alloc::Global;
 use std::sync::Wait;
 use std::thread::Threads;
 use wb_feed::{Batch, Gate};
+use wb_lines::Output;
 use wb_names::{Drawop, Sink, Source};
 
 /// A station that has taken a batch, its counts, and why the script can't be read on, where it can't.

@@ -5,7 +5,8 @@ use std::process::Abort;
 use std::test::Fail;
 use wb_codec::Datagram;
 use wb_names::{Name, PageId, ToWrite};
-use wb_script::{Output, look_line, print_sends};
+use wb_lines::Output;
+use wb_script::{look_line, print_sends};
 
 /// Member 1 asks for the second drawop of source 7 on its page 4.
 const REQUEST: &str = "send 57420103000000140000000100000007000000070000000400000002\n";

@@ -1,6 +1,6 @@
 use Rattle.std.proofs.Common.{ℕ, ◌+◌, List, [], Ok, true, subst}
 use Rattle.std.proofs.lemmas.Result.{err_from_is_err_and}
-use Rattle.wb_script.proofs.KnownBytes.{Sends-more, Sends-then}
+use Rattle.wb_lines.proofs.KnownBytes.{Sends-more, Sends-then}
 use Rattle.wb_filters.specs.Filtering.{said_of}
 use Rattle.wb_filters.specs.Steps.{DoesLine}
 use Rattle.wb_filters.proofs.Outcomes.{whole_passes, whole_stops, last_passes, last_stops, failure_stops, length_stops}

@@ -2,8 +2,8 @@ use Rattle.std.proofs.Common.{◌≡◌, ℕ, [], ◌++◌, ◌+◌, subst, arit
 use Rattle.std.proofs.lemmas.Result.{err_from_is_err_and}
 use Rattle.wb_filters.specs.declared.fault.FilterFault.TheVariants as filter_faults
 use Rattle.wb_filters.specs.Steps.{Ends}
-use Rattle.wb_script.proofs.KnownBytes.{Sends-none, Sends-then}
-use Rattle.wb_script.proofs.LineBytes.{Pulls-none, Pulls-then}
+use Rattle.wb_lines.proofs.KnownBytes.{Sends-none, Sends-then}
+use Rattle.wb_lines.proofs.LineBytes.{Pulls-none, Pulls-then}
 use Rattle.wb_filters.proofs.Outcomes.{Passes-none, Passes-then, Passes-ends, Passes-stops, ends_here, failure_at_end, unwritten_stops, count_stops}
 use Rattle.wb_filters.proofs.filtering.filter_lines.Goals as goal
 

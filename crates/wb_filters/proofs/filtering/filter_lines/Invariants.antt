@@ -1,6 +1,6 @@
 use Rattle.std.proofs.Common.{List, ℕ}
-use Rattle.wb_script.specs.Output.{Sends}
-use Rattle.wb_script.specs.Ahead.{Pulls}
+use Rattle.wb_lines.specs.Output.{Sends}
+use Rattle.wb_lines.specs.Ahead.{Pulls}
 use Rattle.wb_filters.specs.Steps.{Passes}
 use Rattle.wb_filters.proofs.filtering.filter_lines.Given as goal
 

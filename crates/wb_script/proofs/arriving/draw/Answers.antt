@@ -1,6 +1,6 @@
 use Rattle.std.proofs.Common.{rules, ◌≡◌, [], ◌∷◌, ◌++◌, None, Some, arith}
 use Rattle.std.proofs.lemmas.Result.{err_from_is_err_and}
-use Rattle.wb_script.proofs.LineBytes.{Pulls-none}
+use Rattle.wb_lines.proofs.LineBytes.{Pulls-none}
 use Rattle.wb_script.proofs.Following.{draws_first, draws_next, draws_fault, draws_short}
 use Rattle.wb_script.proofs.arriving.draw.Goals as goal
 

@@ -1,7 +1,7 @@
 use Rattle.std.proofs.Common.{[], ◌++◌, sym, ◌∙◌, arith}
 use Rattle.std.proofs.lemmas.Result.{err_from_is_err_and}
-use Rattle.wb_script.proofs.KnownBytes.{Sends-then}
-use Rattle.wb_script.proofs.LineBytes.{Pulls-then, Pulls-on}
+use Rattle.wb_lines.proofs.KnownBytes.{Sends-then}
+use Rattle.wb_lines.proofs.LineBytes.{Pulls-then, Pulls-on}
 use Rattle.wb_script.proofs.Outcomes.{Passes-stops, memory_stops}
 use Rattle.wb_script.proofs.ReadLines.{taken_end, taken_few, taken_done, look_then, skip_then, arrival_then, other_seen, none_seen}
 use Rattle.wb_script.proofs.arriving.read_on.Goals as goal

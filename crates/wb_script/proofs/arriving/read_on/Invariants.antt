@@ -1,6 +1,6 @@
 use Rattle.std.proofs.Common.{◌≤◌, ◌-◌, ℕ, List, []}
-use Rattle.wb_script.specs.Output.{Sends}
-use Rattle.wb_script.specs.Ahead.{Pulls}
+use Rattle.wb_lines.specs.Output.{Sends}
+use Rattle.wb_lines.specs.Ahead.{Pulls}
 use Rattle.wb_script.specs.Script.{State, most_lines}
 use Rattle.wb_script.specs.Running.{Passes}
 use Rattle.wb_script.specs.ReadOn.{IsOpen}

@@ -2,7 +2,7 @@ use Rattle.std.proofs.Common.{◌≡◌, ℕ, ◌++◌, ◌+◌, Ok, Err, subst,
 use Rattle.std.proofs.lemmas.Result.{err_from_is_err_and}
 use Rattle.wb_script.specs.declared.fault.RunFault.TheVariants as run_faults
 use Rattle.wb_script.specs.Checking.{EndsCheck}
-use Rattle.wb_script.proofs.LineBytes.{Pulls-then}
+use Rattle.wb_lines.proofs.LineBytes.{Pulls-then}
 use Rattle.wb_script.proofs.LineCounts.{fresh, Counts-then, Counts-ends, Counts-stops, ends_here, failure_at_end, count_stops, checks}
 use Rattle.wb_script.proofs.CountLaws.{counts_lines}
 use Rattle.wb_script.proofs.checking.check.Goals as goal

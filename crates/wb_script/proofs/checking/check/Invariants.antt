@@ -1,5 +1,5 @@
 use Rattle.std.proofs.Common.{◌≡◌, List, ℕ, []}
-use Rattle.wb_script.specs.Ahead.{Pulls}
+use Rattle.wb_lines.specs.Ahead.{Pulls}
 use Rattle.wb_script.specs.Checking.{Counts}
 use Rattle.wb_script.proofs.LineCounts.{fresh}
 use Rattle.wb_script.proofs.checking.check.Given as goal

@@ -3,7 +3,7 @@ use Rattle.std.specs.Prelude.{Some, Ok}
 use Rattle.std.specs.Option.{option_map}
 use Rattle.std.specs.Borrow.{Bor}
 use Rattle.std.proofs.lemmas.Result.{err_from_is_err_and}
-use Rattle.wb_script.specs.Words.{words}
+use Rattle.wb_lines.specs.Words.{words}
 use Rattle.wb_script.specs.Parsing.{one_of}
 use Rattle.wb_script.proofs.Arrivals.{datagram-not_hex, datagram-late, datagram-spelled}
 use Rattle.wb_script.proofs.parsing.datagram.Goals as goal

@@ -1,4 +1,4 @@
-use Rattle.wb_script.specs.Words.{words}
+use Rattle.wb_lines.specs.Words.{words}
 use Rattle.wb_script.proofs.FirstWords.{four_found}
 use Rattle.wb_script.proofs.parsing.four_words.Goals as goal
 

@@ -1,8 +1,8 @@
 use Rattle.std.proofs.Common.{[], ◌++◌}
 use Rattle.std.specs.Prelude.{Ok, Err}
 use Rattle.std.proofs.lemmas.Result.{err_from_is_err_and}
-use Rattle.wb_script.proofs.KnownBytes.{Sends-then}
-use Rattle.wb_script.proofs.LineBytes.{Pulls-then}
+use Rattle.wb_lines.proofs.KnownBytes.{Sends-then}
+use Rattle.wb_lines.proofs.LineBytes.{Pulls-then}
 use Rattle.wb_script.proofs.RunOn.{looked_on, looked_end}
 use Rattle.wb_script.proofs.running.run_line.Goals as goal
 

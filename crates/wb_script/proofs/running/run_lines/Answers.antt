@@ -1,8 +1,8 @@
 use Rattle.std.proofs.Common.{ℕ, [], ◌++◌, refl, sym, subst, arith}
 use Rattle.std.proofs.lemmas.Result.{err_from_is_err_and}
 use Rattle.wb_script.specs.Running.{Passes}
-use Rattle.wb_script.proofs.KnownBytes.{Sends-none, Sends-then}
-use Rattle.wb_script.proofs.LineBytes.{Pulls-none, Pulls-then}
+use Rattle.wb_lines.proofs.KnownBytes.{Sends-none, Sends-then}
+use Rattle.wb_lines.proofs.LineBytes.{Pulls-none, Pulls-then}
 use Rattle.wb_script.proofs.Outcomes.{Passes-none, Passes-then, Passes-ends, Passes-stops}
 use Rattle.wb_script.proofs.running.run_lines.Goals as goal
 

@@ -5,8 +5,8 @@ use Rattle.wb_script.specs.declared.line.Line.TheVariants as lines
 use Rattle.wb_script.specs.Running.{RunsOn}
 use Rattle.wb_script.specs.Script.{State}
 use Rattle.wb_script.specs.Stations.{IsLeftAt}
-use Rattle.wb_script.proofs.KnownBytes.{Sends-none, Sends-more}
-use Rattle.wb_script.proofs.LineBytes.{Pulls-none}
+use Rattle.wb_lines.proofs.KnownBytes.{Sends-none, Sends-more}
+use Rattle.wb_lines.proofs.LineBytes.{Pulls-none}
 use Rattle.wb_script.proofs.Outcomes.{memory_stops}
 use Rattle.wb_script.proofs.ReadLines.{taken_few, taken_done}
 use Rattle.wb_script.proofs.RunOn.{says, takes_pulls, seen_runs, skips_on, refuses_on}

@@ -7,7 +7,7 @@ use Rattle.wb_host.specs.Keeping.{Keeps}
 use Rattle.wb_script.specs.Answers.{batch_line}
 use Rattle.wb_script.specs.Hosts.{names_of}
 use Rattle.wb_script.proofs.Drawing.{IsTold, takes_on, never_unwritten}
-use Rattle.wb_script.proofs.KnownBytes.{Sends-more, Sends-then}
+use Rattle.wb_lines.proofs.KnownBytes.{Sends-more, Sends-then}
 use Rattle.wb_script.proofs.taking.take_batch.Goals as goal
 
 pub returns-clause-read : goal.returns-clause-read

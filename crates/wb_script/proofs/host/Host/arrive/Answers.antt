@@ -2,8 +2,8 @@ use Rattle.std.proofs.Common.{◌≡◌, [], refl, sym, ap, ◌∙◌, arith}
 use Rattle.std.specs.Prelude.{Some, None}
 use Rattle.std.proofs.lemmas.Result.{err_from_is_err_and}
 use Rattle.wb_script.specs.Stations.{HostValue}
-use Rattle.wb_script.proofs.KnownBytes.{Sends-none}
-use Rattle.wb_script.proofs.LineBytes.{Pulls-then}
+use Rattle.wb_lines.proofs.KnownBytes.{Sends-none}
+use Rattle.wb_lines.proofs.LineBytes.{Pulls-then}
 use Rattle.wb_script.proofs.ReadLines.{taken_few, taken_done}
 use Rattle.wb_script.proofs.RunOn.{takes_pulls, ending_of, arrives_nowhere, arrives_open, arrives_refused}
 use Rattle.wb_script.proofs.host.Host.arrive.Goals.{in-None, in-Some-fault}

@@ -4,7 +4,7 @@ use Rattle.wb_script.specs.declared.fault.RunFault.TheVariants as run_faults
 use Rattle.wb_script.specs.Script.{most_lines}
 use Rattle.std.specs.Option.{is_some}
 use Rattle.std.proofs.lemmas.List.{append-nil}
-use Rattle.wb_script.proofs.LineBytes.{Pulls-none}
+use Rattle.wb_lines.proofs.LineBytes.{Pulls-none}
 use Rattle.wb_script.proofs.Outcomes.{failure_stops, length_stops, unwritten_stops, memory_stops}
 use Rattle.wb_script.proofs.Looking.{looked, few_of, seen_again}
 use Rattle.wb_script.proofs.script_lines.ScriptLines.look.Goals as goal
