@@ -1,5 +1,5 @@
 -- Laws of sessions.
-use Rattle.std.specs.Prelude.{◌≡◌, ℕ, ◌+◌, ◌≤◌, ◌↔◌, ◌<◌, ◌⊎◌, List, ◌∷◌, ◌++◌, Contains, max}
+use Rattle.std.specs.Prelude.{◌≡◌, ℕ, ◌≤◌, ◌↔◌, ◌<◌, ◌⊎◌, List, ◌∷◌, ◌++◌, Contains, max}
 use Rattle.wb_names.specs.Values.{DrawopValue}
 use Rattle.wb_names.specs.History.{IsClashAt, IsHeld, highest}
 use Rattle.wb_names.specs.declared.name.PageId.{PageId}
