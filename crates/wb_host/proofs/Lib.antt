@@ -12,5 +12,6 @@ pub mod FreeArrivals
 pub mod TickSends
 pub mod FirstSenders
 pub mod HeardNumbers
+pub mod MergedNumbers
 pub mod MapEdits
 pub mod HeardCalls

@@ -3,7 +3,9 @@ use Rattle.std.specs.Prelude.{◌≡◌, ℕ, ◌≤◌, ◌↔◌, ◌⊎◌, B
 use Rattle.std.specs.List.{list_any, filter_map}
 use Rattle.std.specs.Option.{option_map}
 use Rattle.wb_names.specs.Values.{NameValue, DrawopValue}
+use Rattle.wb_names.specs.Ascending.{AreMarks}
 use Rattle.wb_names.specs.History.{IsHistory}
+use Rattle.wb_names.specs.Marks.{mark_of}
 use Rattle.wb_names.specs.declared.name.PageId.{PageId}
 use Rattle.wb_codec.specs.declared.datagram.Datagram.{Datagram}
 use Rattle.wb_codec.specs.declared.datagram.Datagram.TheVariants.{Draw, Request}
@@ -12,6 +14,7 @@ use Rattle.wb_recovery.specs.Events.{timers_of, actions_of}
 use Rattle.wb_recovery.specs.Stopping.{gots}
 use Rattle.wb_recovery.specs.declared.tuning.Tuning.{Tuning}
 use Rattle.wb_host.specs.Keeper.{KeeperCall, Hear, Arrive, moment_at, is_own, high_in, high_heard, delay_to, session_told, senders_of, told_by, last_heard, come_of, events_of, holds}
+use Rattle.wb_host.specs.Hearing.{marks_in, marks_heard}
 use Rattle.wb_host.specs.Keeping.{KeeperValue, StandsFor}
 use Rattle.wb_host.specs.Ticks.{sends_for, stopped_in}
 use Rattle.wb_host.specs.declared.keeper.Heard.{Heard}
@@ -29,6 +32,14 @@ pub record IsGreatestTold (me : ℕ) (calls : List KeeperCall) (page : PageId) (
 
 abbrev pub MarksAreGreatest : Type 0
 MarksAreGreatest = (me : ℕ) (calls : List KeeperCall) (page : PageId) (source : ℕ) → IsGreatestTold me calls page source (high_heard me calls page source)
+
+-- each datagram that was heard tells marks of the page in order, or none
+abbrev pub AreOrderly : List KeeperCall → PageId → Type 0
+AreOrderly calls page = (now word : ℕ) (datagram : Datagram) (held : Bool) → Contains calls (Hear now datagram word held) → AreMarks (marks_in page datagram)
+
+-- Then the merged marks have the greatest number of each source.
+abbrev pub MergedAreGreatest : Type 0
+MergedAreGreatest = (me : ℕ) (calls : List KeeperCall) (page : PageId) → AreOrderly calls page → (source : ℕ) → mark_of (marks_heard me calls page) source ≡ high_heard me calls page source
 
 -- ---- what is heard of oneself
 

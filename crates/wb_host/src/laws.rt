@@ -10,7 +10,7 @@ ghost use Rattle.wb_codec.specs.Spelling.{spelling};
 ghost use Rattle.wb_host.specs.Laws.{AnswersConverge, CanvasesConverge, ReportsAgree};
 ghost use Rattle.wb_host.specs.Runs.{OneRun};
 ghost use Rattle.wb_host.specs.Sessions.{OneSession, MessageIsSession};
-ghost use Rattle.wb_host.specs.KeeperLaws.{AnswersWithHeld, AsksForNoneHeld, DrawopsOnlyMove, FirstSendersAreEchoed, MarksAreGreatest, OrderOfArrivalIsFree, OwnOnlyMoves};
+ghost use Rattle.wb_host.specs.KeeperLaws.{AnswersWithHeld, AsksForNoneHeld, DrawopsOnlyMove, FirstSendersAreEchoed, MarksAreGreatest, MergedAreGreatest, OrderOfArrivalIsFree, OwnOnlyMoves};
 
 use wb_codec::Datagram;
 use wb_codec::laws::{datagrams_are_in_range, reading_undoes_spelling};
@@ -70,9 +70,11 @@ pub fn ticks_spare_what_is_held()
     ensures answers { AnswersWithHeld }
 {}
 
-/// The mark of a source on a page is the greatest number that a datagram of another member told.
+/// The mark of a source on a page is the greatest number that a datagram of another member told, and
+/// the marks of a page that are merged from datagrams have those numbers.
 pub fn marks_are_greatest()
-    ensures { MarksAreGreatest }
+    ensures marks { MarksAreGreatest }
+    ensures merged { MergedAreGreatest }
 {}
 
 /// A datagram that comes from this member itself, and a drawop of whomever, move the moment and

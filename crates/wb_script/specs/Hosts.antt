@@ -6,14 +6,13 @@ use Rattle.wb_recovery.specs.declared.tuning.Tuning.{Tuning}
 use Rattle.wb_names.specs.declared.name.PageId.{PageId}
 use Rattle.wb_codec.specs.declared.datagram.Datagram.{Datagram}
 use Rattle.wb_codec.specs.declared.datagram.Datagram.TheVariants.{Draw, Session, Request, AskPages, PageState}
-use Rattle.wb_recovery.specs.Events.{Event, due_asks, actions_of, timers_of, names_of as timed_names}
-use Rattle.wb_recovery.specs.Stopping.{gots}
+use Rattle.wb_recovery.specs.Events.{Event, due_asks, timers_of, names_of as timed_names}
 use Rattle.rand_pcg.specs.Lcg.{Lcg}
-use Rattle.wb_host.specs.Keeper.{KeeperCall, SetDelay, Hear, Arrive, Miss, GoOn, moment_at, Report, is_own, delay_to, come_of, events_of, holds}
+use Rattle.wb_host.specs.Keeper.{KeeperCall, SetDelay, Hear, Arrive, Miss, GoOn, moment_at, Report, is_own, events_of, holds}
 use Rattle.wb_host.specs.Hearing.{marks_heard, has_room, asks_for_held, answers_to}
 use Rattle.wb_host.specs.Missing.{wanted_of as names_wanted}
 use Rattle.wb_host.specs.Sessions.{message_of}
-use Rattle.wb_host.specs.Ticks.{sends_for, stopped_after}
+use Rattle.wb_host.specs.Ticks.{sent_by_tick, stopped_after}
 use Rattle.wb_script.specs.declared.fault.LineFault.{LineFault}
 use Rattle.wb_script.specs.declared.fault.LineFault.TheVariants as faults
 use Rattle.wb_script.specs.declared.line.Line.{Line}
@@ -95,7 +94,7 @@ stopped host = stopped_after host.me constants host.calls host.board.drawops
 
 -- what it sends as time goes on to a moment
 abbrev pub sent_by : ℕ → Opened → List Datagram
-sent_by now host = sends_for host.me host.board.drawops (actions_of constants (gots now (events host) (come_of (delay_to host.me host.calls) (stopped host))) now)
+sent_by now host = sent_by_tick host.me constants host.calls host.board.drawops now
 
 -- Time goes on to a moment. A random word is drawn for each request timer that is due.
 abbrev pub ticked : ℕ → Opened → Act
