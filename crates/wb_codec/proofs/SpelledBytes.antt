@@ -3,7 +3,6 @@ use Rattle.std.proofs.Common.{◌≡◌, ℕ, zero, suc, ◌<◌, true, false, r
 use Rattle.std.specs.Prelude.{slice_index, nat_le}
 use Rattle.std.specs.List.{flat_map}
 use Rattle.std.specs.Int.{w16, w32, w64, to_be_bytes}
-use Rattle.hex.specs.Hex.{IsBytes}
 use Rattle.wb_names.specs.Values.{NameValue, MarkValue}
 use Rattle.wb_names.specs.declared.name.PageId.{PageId}
 use Rattle.wb_names.specs.declared.echo.Echo.{Echo}
@@ -119,5 +118,5 @@ below_at [] p i = omega arith
 below_at (b ∷ bytes) p zero = p.0
 below_at (b ∷ bytes) p (suc i) = below_at bytes p.1 i
 
-pub spelled_bytes : (v : Datagram) → IsDatagram v → IsBytes (spelling v)
+pub spelled_bytes : (v : Datagram) → IsDatagram v → (i : ℕ) → slice_index (spelling v) i < 256
 spelled_bytes v fits = below_at (spelling v) (spelling_are v fits).each
