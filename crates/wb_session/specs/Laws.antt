@@ -1,7 +1,7 @@
 -- Laws of sessions.
 use Rattle.std.specs.Prelude.{◌≡◌, ℕ, ◌≤◌, ◌↔◌, ◌<◌, ◌⊎◌, List, ◌∷◌, ◌++◌, Contains, max}
 use Rattle.wb_names.specs.Values.{DrawopValue}
-use Rattle.wb_names.specs.History.{IsClashAt, IsHeld, highest}
+use Rattle.wb_names.specs.History.{IsHistory, IsClashAt, IsHeld, highest}
 use Rattle.wb_names.specs.declared.name.PageId.{PageId}
 use Rattle.wb_codec.specs.declared.datagram.Datagram.{Datagram}
 use Rattle.wb_codec.specs.declared.datagram.Datagram.TheVariants.{Draw}
@@ -29,6 +29,10 @@ DrawnOnce = (group : Group) (events : List Event) → IsDistinct group → (d e 
 -- Each drawop that a member holds was drawn, in every field as it is held.
 abbrev pub HeldIsDrawn : Type 0
 HeldIsDrawn = (group : Group) (events : List Event) → IsSession group events → (i : ℕ) (d : DrawopValue) → Contains (member group events i).held d → IsDrawn group events d
+
+-- No name stands twice on a board.
+abbrev pub HeldOnce : Type 0
+HeldOnce = (group : Group) (events : List Event) (i : ℕ) → IsHistory (member group events i).held
 
 -- Each that is sent, by its source or as a repair, was drawn.
 abbrev pub SentIsDrawn : Type 0

@@ -1,14 +1,15 @@
 //! Laws of sessions. Each function does nothing: its contract is a law, for proofs to cite.
 
 ghost use Rattle.wb_session.specs.Examples.{IsRepaired, TwinsClash};
-ghost use Rattle.wb_session.specs.Laws.{DrawnInOrder, DrawnOnce, ExchangesTellAgreement, HeardMarksAreTrue, HeldIsDrawn, HoldsWhatWasReported, LacksKnowingly, NeverClashes, NextIsKnown, QuietIsAgreed, ReportsTellAgreement, SentIsDrawn, SentMarksAreTrue};
+ghost use Rattle.wb_session.specs.Laws.{DrawnInOrder, DrawnOnce, ExchangesTellAgreement, HeardMarksAreTrue, HeldIsDrawn, HeldOnce, HoldsWhatWasReported, LacksKnowingly, NeverClashes, NextIsKnown, QuietIsAgreed, ReportsTellAgreement, SentIsDrawn, SentMarksAreTrue};
 
 /// Nothing is invented or changed: each drawop that a member holds or sends is one that its source
-/// drew, and of each name there is one. So no clash comes up.
+/// drew, of each name there is one, and no name stands twice on a board. So no clash comes up.
 pub fn nothing_is_invented()
     ensures order { DrawnInOrder }
     ensures once { DrawnOnce }
     ensures held { HeldIsDrawn }
+    ensures names { HeldOnce }
     ensures sent { SentIsDrawn }
     ensures clashes { NeverClashes }
 {}

@@ -1,0 +1,82 @@
+-- Which member of a session a host of a script is, and which act a line is.
+use Rattle.std.specs.Prelude.{◌≡◌, ℕ, List, [], ◌∷◌, ◌++◌, length, Option, Some, None}
+use Rattle.wb_names.specs.Values.{DrawopValue}
+use Rattle.wb_names.specs.declared.name.PageId.{PageId}
+use Rattle.wb_codec.specs.declared.datagram.Datagram.{Datagram}
+use Rattle.wb_gaps.specs.Answers.{report_of}
+use Rattle.wb_host.specs.Hearing.{marks_heard}
+use Rattle.wb_script.specs.Answers.{answer_text}
+use Rattle.wb_script.specs.Hosts.{Opened, constants, opened, present, host_after, does, act, due_count, wanted_of, word_at}
+use Rattle.wb_script.specs.Random.{words_of}
+use Rattle.wb_script.specs.SentLines.{sends_text, look_line}
+use Rattle.wb_script.specs.declared.line.Line.{Line}
+use Rattle.wb_script.specs.declared.line.Line.TheVariants as lines
+use Rattle.wb_script.specs.declared.query.Query.{Query}
+use Rattle.wb_script.specs.declared.query.Query.TheVariants as queries
+use Rattle.wb_session.specs.Session.{Member, Act, Takes, Hears, SetsDelay, Misses, Ticks, Reports, after, sends, Event, Group, IsDistinct, member, newcomer, IsSession, LacksNothing}
+
+-- the member that a host is, which drew these drawops: a script draws none itself, and they come to it as any do
+abbrev pub member_of : List DrawopValue → Opened → Member
+member_of drawn host = record { number = host.me; cells = host.board.cells; constants = constants; drawn = drawn; held = host.board.drawops; calls = host.calls }
+
+-- The act of a line, once its batch has ended. A question and a skipped line are none, nor are the line of the board and an arrival, which only joins a batch.
+abbrev pub act_of : Line → Opened → Option Act
+act_of (lines.Hear v) host = Some (Hears (present host) v (word_at v host.random))
+act_of (lines.Distance source micros) host = Some (SetsDelay source micros)
+act_of (lines.Tick moment) host = Some (Ticks moment (words_of host.random (due_count moment host)))
+act_of (lines.Look page) host = Some (Misses (present host) (wanted_of page host) (words_of host.random (length (wanted_of page host))))
+act_of (lines.Session page) host = Some (Reports (present host) page)
+act_of line host = None
+
+abbrev pub after_any : Option Act → Member → Member
+after_any None m = m
+after_any (Some a) m = after a m
+
+abbrev pub sends_any : Option Act → Member → List Datagram
+sends_any None m = []
+sends_any (Some a) m = sends a m
+
+abbrev pub answered : Query → Opened → List ℕ
+answered query host = answer_text (marks_heard host.me host.calls) host.board.drawops query
+
+-- what a line prints beside what is sent
+abbrev pub said : Line → Opened → List ℕ
+said (lines.Look page) host = look_line (length (wanted_of page host))
+said (lines.Show page width height) host = answered (queries.Canvas page width height) host
+said (lines.Gaps page) host = answered (queries.Gaps page) host
+said (lines.Report page) host = answered (queries.Report page) host
+said lines.Pages host = answered queries.Pages host
+said line host = []
+
+-- ---- laws
+
+-- A host that was just opened is a member that did nothing.
+abbrev pub OpenedIsNewcomer : Type 0
+OpenedIsNewcomer = (group : Group) (i seed : ℕ) → group.constants i ≡ constants → member_of [] (opened (group.number i) (group.cells i) seed) ≡ newcomer group i
+
+-- A batch, whoever takes it in whatever order, is one act.
+abbrev pub BatchesAreActs : Type 0
+BatchesAreActs = (drawn : List DrawopValue) (host : Opened) (d : DrawopValue) (ds order : List DrawopValue) → member_of drawn (host_after host (d ∷ ds) order) ≡ after (Takes (present host) (d ∷ ds) order) (member_of drawn host)
+
+-- the host has done what the member does by the act, and has printed what it sends
+pub record IsDone (drawn : List DrawopValue) (line : Line) (host next : Opened) (printed : List ℕ) : Type 0 where
+  pub member : member_of drawn next ≡ after_any (act_of line host) (member_of drawn host)
+  pub text : printed ≡ sends_text (sends_any (act_of line host) (member_of drawn host)) ++ said line host
+
+-- A line that is not refused is its act.
+abbrev pub LinesAreActs : Type 0
+LinesAreActs = (drawn : List DrawopValue) (line : Line) (host next : Opened) (printed : List ℕ) → act line host ≡ does next printed → IsDone drawn line host next printed
+
+-- a host is the member at a place after some events
+abbrev pub IsMember : Group → List Event → ℕ → Opened → Type 0
+IsMember group events i host = member_of (member group events i).drawn host ≡ member group events i
+
+-- a host has no gaps on a page, as its line `gaps` says
+abbrev pub HasNoGaps : Opened → PageId → Type 0
+HasNoGaps host page = LacksNothing (member_of [] host) page
+
+-- Two hosts of a session with one report of a page and no gaps there print the same for each `show` of it.
+abbrev pub ShowsAgree : Type 0
+ShowsAgree = (group : Group) (events : List Event) (i j : ℕ) (host other : Opened) (page : PageId) (width height : ℕ) → IsDistinct group → IsSession group events → IsMember group events i host → IsMember group events j other
+    → report_of host.board.drawops page ≡ report_of other.board.drawops page → HasNoGaps host page → HasNoGaps other page
+    → answered (queries.Canvas page width height) host ≡ answered (queries.Canvas page width height) other
