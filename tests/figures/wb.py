@@ -127,7 +127,8 @@ def print_row(label, command, given):
 def main():
     top, words = sys.argv[1], sys.argv[2:]
     subprocess.run([f"{top}/wb", "hex"], stdin=subprocess.DEVNULL, check=True)
-    program = f"{top}/crates/wb/out/wb"
+    where = subprocess.run([f"{top}/wb", "--where"], stdout=subprocess.PIPE, text=True, check=True)
+    program = where.stdout.rstrip("\n")
     print("nanoseconds a line: by the clock, least and median, and of processors, least and median")
     for kind in ["arrivals", "repeated", "shows", "losses"]:
         told = script(kind)
