@@ -23,7 +23,7 @@ held-from (d ∷ history) page source n h = ⊎_elim
       or_true true b e = refl
       or_true false b e = e
 
-held-by : (history : List DrawopValue) (page : PageId) (source n : ℕ) → is_held history page source n ≡ true → IsHeld history page source n
+pub held-by : (history : List DrawopValue) (page : PageId) (source n : ℕ) → is_held history page source n ≡ true → IsHeld history page source n
 held-by [] page source n h = absurd (true≢false (sym h))
 held-by (d ∷ history) page source n h = from (held-by history page source n) (same_name d.name (name_of page source n)) refl h where
   from : (is_held history page source n ≡ true → IsHeld history page source n) → (b : Bool) → same_name d.name (name_of page source n) ≡ b → (b || is_held history page source n) ≡ true → IsHeld (d ∷ history) page source n

@@ -18,3 +18,6 @@ pub mod PageAnswers
 pub mod HeldNames
 pub mod MissingRanges
 pub mod AllReports
+pub mod Starts
+pub mod Adding
+pub mod HeldRanges

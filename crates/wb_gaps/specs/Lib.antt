@@ -13,3 +13,5 @@ pub mod LastNumbers
 pub mod Joining
 pub mod Candidates
 pub mod Ranges
+pub mod Starts
+pub mod Holdings

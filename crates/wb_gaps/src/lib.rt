@@ -8,6 +8,9 @@
 //! greatest of their source (`candidates`), the last of each source (`highest`), or two lists of marks
 //! taken as one (`joined`).
 //!
+//! Who takes in drawops one by one keeps what is held as ranges of numbers (`holdings`), which tell the
+//! greatest number of a source without a walk.
+//!
 //! It knows no board, no clock and no datagram, and it asks for nothing that is missing. It needs no
 //! order of the list, and a name may stand twice in it.
 #![tactic(auto)]
@@ -15,6 +18,7 @@
 mod candidates;
 mod held;
 mod highest;
+mod holdings;
 mod joined;
 pub mod laws;
 mod mark_list;
@@ -24,6 +28,7 @@ mod page_list;
 mod page_report;
 mod page_reports;
 
+pub use holdings::Holdings;
 pub use merged::{MergeFault, merge_marks};
 pub use missing::gaps;
 pub use page_list::pages;

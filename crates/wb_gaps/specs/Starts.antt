@@ -1,0 +1,59 @@
+-- The ranges of numbers that are kept, by page, source and first number.
+use Rattle.std.specs.Prelude.{◌≡◌, ℕ, ◌+◌, ◌<◌, ◌≤◌, List, Option, Some, None, map}
+use Rattle.std.specs.Map.{lookup}
+use Rattle.std.specs.BTreeMap.{is_at}
+use Rattle.std.specs.Ordering.{nat_cmp, ordering_then}
+use Rattle.std.specs.declared.cmp.Ordering.{Ordering}
+use Rattle.wb_names.specs.Orders.{page_cmp}
+use Rattle.wb_names.specs.declared.name.PageId.{PageId}
+use Rattle.wb_gaps.specs.Holdings.{HeldRange}
+use Rattle.wb_gaps.specs.declared.holdings.Start.{Start}
+
+-- by page, then by source, then by first number
+abbrev pub start_cmp : Start → Start → Ordering
+start_cmp s t = ordering_then (page_cmp s.page t.page) (ordering_then (nat_cmp s.source t.source) (nat_cmp s.first t.first))
+
+abbrev pub start : PageId → ℕ → ℕ → Start
+start page source first = record { page = page; source = source; first = first }
+
+abbrev pub range_of : Start × ℕ → HeldRange
+range_of e = record { page = e.0.page; source = e.0.source; first = e.0.first; last = e.1 }
+
+abbrev pub ranges_of : List (Start × ℕ) → List HeldRange
+ranges_of entries = map range_of entries
+
+-- the last number of the range that begins there, if one does
+abbrev pub last_at : List (Start × ℕ) → PageId → ℕ → ℕ → Option ℕ
+last_at entries page source first = lookup (is_at (start_cmp (start page source first))) entries
+
+-- Of one page and source, by first number: ranges are not empty, begin at 1 or later and end in 32 bits; one ends two or
+-- more below the next
+pub record AreApart (lasts : ℕ → Option ℕ) : Type 0 where
+  pub positive : (first last : ℕ) → lasts first ≡ Some last → 1 ≤ first
+  pub filled : (first last : ℕ) → lasts first ≡ Some last → first ≤ last
+  pub fits : (first last : ℕ) → lasts first ≡ Some last → last ≤ 4294967295
+  pub apart : (first last next end : ℕ) → lasts first ≡ Some last → lasts next ≡ Some end → first < next → last + 1 < next
+
+-- so it is for each page and source, and sources are of 32 bits
+pub record AreRanges (entries : List (Start × ℕ)) : Type 0 where
+  pub apart : (page : PageId) (source : ℕ) → AreApart (last_at entries page source)
+  pub sources : (page : PageId) (source first last : ℕ) → last_at entries page source first ≡ Some last → source ≤ 4294967295
+
+-- the number lies in a range
+abbrev pub Covers : (ℕ → Option ℕ) → ℕ → Type 0
+Covers lasts n = (first : ℕ) × (last : ℕ) × (lasts first ≡ Some last) × (first ≤ n) × (n ≤ last)
+
+-- A number that no range has would begin there: at itself, or with the range that ends right below it. Ranges that begin
+-- below that end two or more below it, and those that begin above begin above the number.
+pub record Begins (lasts : ℕ → Option ℕ) (n first : ℕ) : Type 0 where
+  pub below : (other last : ℕ) → lasts other ≡ Some last → other < first → last + 1 < first
+  pub above : (other last : ℕ) → lasts other ≡ Some last → first < other → n < other
+  pub here : (last : ℕ) → lasts first ≡ Some last → last + 1 ≡ n
+  pub alone : (lasts first ≡ None) → first ≡ n
+  pub low : first ≤ n
+  pub positive : 1 ≤ first
+
+-- the range of a number ends with the one that begins right above it, or at the number
+pub record Ends (lasts : ℕ → Option ℕ) (n last : ℕ) : Type 0 where
+  pub joined : (end : ℕ) → lasts (n + 1) ≡ Some end → last ≡ end
+  pub alone : lasts (n + 1) ≡ None → last ≡ n

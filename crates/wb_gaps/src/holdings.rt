@@ -1,0 +1,172 @@
+//! What is held, kept as drawops come: the ranges of numbers of each page and source.
+
+ghost use Rattle.std.specs.Prelude.{◌≡◌, ◌+◌, ◌<◌, ◌≤◌, [], ◌∷◌, ◌++◌, List, OnOk, OnErr, IsOk, IsTrue, Some as some, None as none, MatchOption, ℕ};
+ghost use Rattle.std.specs.BTreeMap.{IsOrdered};
+ghost use Rattle.wb_names.specs.Values.{DrawopValue};
+ghost use Rattle.wb_names.specs.History.{highest, name_of};
+ghost use Rattle.wb_gaps.specs.Holdings.{HoldNamesOf, HoldsToo, IsHighest, holds};
+ghost use Rattle.wb_gaps.specs.Starts.{AreRanges, Begins, Covers, last_at, ranges_of, start_cmp};
+
+use std::alloc::{AllocError, Global};
+use std::collections::BTreeMap;
+use std::marker::Model;
+use wb_names::{Drawop, PageId};
+
+/// Where a range of numbers begins. Ranges are ordered by page, then by source, then by first number.
+#[derive(Clone, Copy, Debug, PartialEq, Eq, PartialOrd, Ord)]
+pub(crate) struct Start {
+    pub(crate) page: PageId,
+    pub(crate) source: u32,
+    pub(crate) first: u32,
+}
+
+/// What is held of a list of drawops that come one by one: of each page and source the ranges of
+/// numbers, each as long as it can be. Where nothing is missing that is one range of each page and
+/// source.
+#[derive(Drop)]
+pub struct Holdings {
+    pub(crate) ranges: BTreeMap<Start, u32>,
+}
+
+impl Model for Holdings {
+    ghost use Rattle.std.specs.Prelude.{List};
+    ghost use Rattle.wb_gaps.specs.Holdings.{HeldRange};
+
+    ghost Value = { List HeldRange };
+
+    ghost use Rattle.wb_gaps.specs.Starts.{ranges_of, AreRanges};
+
+    ghost view = { λ h. ranges_of h.ranges.entries };
+
+    ghost invariant = { λ h. AreRanges h.ranges.entries };
+}
+
+impl Holdings {
+    /// Nothing is held.
+    pub fn new(alloc: Global) -> Holdings
+        ensures { HoldNamesOf [] result }
+    {
+        Holdings {
+            ranges: BTreeMap::new(alloc),
+        }
+    }
+
+    /// Takes in a drawop. One whose name was put before changes nothing and takes no memory. Where memory
+    /// is refused nothing has changed.
+    pub fn put(&mut self, drawop: &Drawop) -> Result<(), AllocError>
+        ensures ok { OnOk result ((history : List DrawopValue) → HoldNamesOf history self.old → HoldNamesOf (history ++ drawop.now ∷ []) self.new) }
+        ensures again { IsTrue (holds self.old drawop.now.name) → IsOk result × (self.new ≡ self.old) }
+        ensures err { OnErr result (self.new ≡ self.old) }
+    {
+        let name = drawop.name();
+        let at = Start {
+            page: name.page(),
+            source: name.source(),
+            first: name.seq(),
+        };
+        add(&mut self.ranges, at)
+    }
+
+    /// The greatest number of a source that is held on a page, or 0.
+    pub fn highest(&self, page: PageId, source: u32) -> u32
+        ensures { (history : List DrawopValue) → HoldNamesOf history self.now → result ≡ highest page source history }
+    {
+        highest_in(&self.ranges, page, source)
+    }
+}
+
+/// The range of this page and source that begins last of those that begin at this number or below.
+fn before(ranges: &BTreeMap<Start, u32>, at: Start) -> Option<(Start, u32)>
+    ensures ordered { IsOrdered start_cmp ranges.now }
+    ensures found { MatchOption result
+        ((first last : ℕ) → last_at ranges.now.entries at.page at.source first ≡ some last → at.first < first)
+        (λ p. (p.0.page ≡ at.page) × (p.0.source ≡ at.source) × (p.0.first ≤ at.first)
+        × (last_at ranges.now.entries at.page at.source p.0.first ≡ some p.1)
+        × ((first last : ℕ) → last_at ranges.now.entries at.page at.source first ≡ some last → first ≤ at.first → first ≤ p.0.first)) }
+{
+    let Some((start, last)) = ranges.range(..=at).next_back() else {
+        return None;
+    };
+    if start.page != at.page || start.source != at.source {
+        return None;
+    }
+    Some((*start, *last))
+}
+
+/// Where the range begins that has this number from now on, or None where one has it.
+fn begin(ranges: &BTreeMap<Start, u32>, at: Start) -> Option<Start>
+    requires ranges { AreRanges ranges.now.entries }
+    requires positive { 1 ≤ at.first }
+    ensures { MatchOption result
+        (Covers (last_at ranges.now.entries at.page at.source) at.first)
+        (λ s. (s.page ≡ at.page) × (s.source ≡ at.source) × Begins (last_at ranges.now.entries at.page at.source) at.first s.first) }
+{
+    let Some((start, last)) = before(ranges, at) else {
+        return Some(at);
+    };
+    if at.first <= last {
+        return None;
+    }
+    if last + 1 < at.first {
+        return Some(at);
+    }
+    Some(start)
+}
+
+/// The greatest number of a source on a page: the end of its last range.
+fn highest_in(ranges: &BTreeMap<Start, u32>, page: PageId, source: u32) -> u32
+    requires { AreRanges ranges.now.entries }
+    ensures { IsHighest (ranges_of ranges.now.entries) page source result }
+{
+    let end = Start {
+        page,
+        source,
+        first: u32::MAX,
+    };
+    match before(ranges, end) {
+        Some((_, last)) => last,
+        None => 0,
+    }
+}
+
+/// The range that begins right after this number.
+fn after(ranges: &BTreeMap<Start, u32>, at: Start) -> Option<(Start, u32)>
+    requires ranges { AreRanges ranges.now.entries }
+    ensures { MatchOption result
+        (last_at ranges.now.entries at.page at.source (at.first + 1) ≡ none)
+        (λ p. (p.0.page ≡ at.page) × (p.0.source ≡ at.source) × (p.0.first ≡ at.first + 1)
+        × (last_at ranges.now.entries at.page at.source (at.first + 1) ≡ some p.1)) }
+{
+    let Some(first) = at.first.checked_add(1) else {
+        return None;
+    };
+    let start = Start { first, ..at };
+    let Some(last) = ranges.get(&start) else {
+        return None;
+    };
+    Some((start, *last))
+}
+
+/// Adds a number: the range below it, which it extends, itself and the range above it, which is taken in, are one.
+fn add(ranges: &mut BTreeMap<Start, u32>, at: Start) -> Result<(), AllocError>
+    requires ranges { AreRanges ranges.old.entries }
+    requires positive { 1 ≤ at.first }
+    ensures ranges { AreRanges ranges.new.entries }
+    ensures ok { OnOk result (HoldsToo (ranges_of ranges.old.entries) (name_of at.page at.source at.first) (ranges_of ranges.new.entries)) }
+    ensures again { IsTrue (holds (ranges_of ranges.old.entries) (name_of at.page at.source at.first)) → IsOk result × (ranges.new.entries ≡ ranges.old.entries) }
+    ensures err { OnErr result (ranges.new.entries ≡ ranges.old.entries) }
+{
+    let Some(start) = begin(ranges, at) else {
+        return Ok(());
+    };
+    match after(ranges, at) {
+        Some((next, last)) => {
+            ranges.insert(start, last)?;
+            ranges.remove(&next);
+        }
+        None => {
+            ranges.insert(start, at.first)?;
+        }
+    }
+    Ok(())
+}
