@@ -6,9 +6,9 @@ ghost use Rattle.wb_script.specs.Checking.{ParsesAs, ChecksLine, Checks, CountsL
 
 use crate::fault::{ParseFault, RunFault};
 use crate::parsing::parse_line;
-use crate::script_lines::{MAX_LINES, without_carriage_return};
+use crate::script_lines::MAX_LINES;
 use std::alloc::Global;
-use wb_lines::{Found, LineReader, Output, Pulled};
+use wb_lines::{Found, LineReader, Output, Pulled, without_carriage_return};
 use wb_names::{Sink, Source};
 
 /// Where nothing is written.

@@ -8,7 +8,7 @@ ghost use Rattle.wb_script.specs.Lines.{IsSeen, IsContent, Looks, Takes};
 use crate::fault::RunFault;
 use std::alloc::{AllocError, Global};
 use std::marker::Model;
-use wb_lines::{Found, LineReader, Output, Pulled};
+use wb_lines::{Found, LineReader, Output, Pulled, without_carriage_return};
 use wb_names::{Sink, Source};
 
 /// A script has at most so many lines.
