@@ -4,8 +4,8 @@ use std::alloc::{AllocError, Global};
 use std::process::Abort;
 use std::test::Fail;
 use wb_codec::Datagram;
-use wb_names::{Name, PageId, ToWrite};
 use wb_lines::Output;
+use wb_names::{Name, PageId, ToWrite};
 use wb_script::{look_line, print_sends};
 
 /// Member 1 asks for the second drawop of source 7 on its page 4.
