@@ -2,4 +2,6 @@
 #![tactic(auto)]
 
 #[cfg(test)]
+mod holdings;
+#[cfg(test)]
 mod lists;
