@@ -1,11 +1,12 @@
 //! The words of the command line.
-
-use clap::{Arg, ArgAction, Command, Error, value_parser};
+use crate::constants::{Constants, WrongConstants};
+use clap::error::ErrorKind;
+use clap::{Arg, ArgAction, ArgMatches, Command, Error, value_parser};
 use std::alloc::{AllocError, Global};
 use wb_filters::{Direction, Filter};
 
 /// What the program is asked to do.
-#[derive(Clone, Copy, Debug, PartialEq, Eq)]
+#[derive(Drop)]
 pub enum Task {
     /// Run a script, by so many workers where a number is given.
     Run { workers: Option<u32> },
@@ -13,9 +14,15 @@ pub enum Task {
     Check,
     /// Turn the lines of a script.
     Turn(Filter),
+    /// Answer the lines of a driver, with these constants of the timers.
+    Host(Constants),
 }
 
 const ABOUT: &str = "Runs scripts of wb, a shared whiteboard";
+
+const VERSION: &str = "0.1.0";
+
+const WRONG_CONSTANTS: &str = "the value of '--tuning' is four numbers from 1 to 16, as in 2,2,1,1";
 
 const SCRIPT_HELP: &str = "\
 A script is lines of words, read from standard input. This one, lost.txt, opens a board
@@ -51,7 +58,10 @@ prints the greatest number of each source there, `pages` the pages that were dra
 `session 7 1` the session message of the page. `distance 7 5000` says that source 7 is 5,000
 microseconds away.
 
-Lines that are blank or begin with # are skipped.";
+Lines that are blank or begin with # are skipped.
+
+A program that holds a session in real time talks to `wb host`: `wb host --help` and docs/HOST.md
+say how.";
 
 fn run_command<'a>(alloc: Global) -> Result<Command<'a>, AllocError> {
     let workers = Arg::new(alloc, "workers")
@@ -130,16 +140,48 @@ fn words_command<'a>(alloc: Global) -> Result<Command<'a>, AllocError> {
     )
 }
 
-fn bare_command<'a>(alloc: Global) -> Command<'a> {
+const HOST_HELP: &str = "\
+A driver, in any language, has the sockets, the clock and the screen. It starts `wb host`, writes
+lines to it and reads what they give. Each line is answered by one block: what it prints, and then
+`ok DUE`, with the next moment at which a timer is due in microseconds, or `never`; or
+`refused FAULT`, and then nothing has changed. Among the lines are those of a script, and:
+
+    datagram HEX               a datagram that came in, whichever it is; or the datagram in words
+    say WORDS                  a datagram of ours: what to send is printed as `send HEX`
+    next C N                   the number for our next drawop on a page
+    view C N                   what a page shows, in words
+    known                      the pages that were heard of
+    ask C N SOURCE NUMBER      asks the others for one drawop
+    stop C N SOURCE NUMBER     gives up asking for it
+
+docs/HOST.md says what to write when.";
+
+fn host_command<'a>(alloc: Global) -> Result<Command<'a>, AllocError> {
+    let tuning = Arg::new(alloc, "tuning")
+        .long("tuning")
+        .value_name("C1,C2,D1,D2")
+        .help("The constants of the timers, 1 to 16 each; 2,2,1,1 where none are given")
+        .action(ArgAction::Set);
+    Command::new(alloc, "host")
+        .about("Answers the lines of a program, which has the sockets, the clock and the screen")
+        .after_help(HOST_HELP)
+        .arg(tuning)
+}
+
+/// The program without its subcommands. It is handed no name in front of its words, so the name that usage
+/// lines begin with is given here.
+fn bare_command<'a>(alloc: Global) -> Result<Command<'a>, AllocError> {
     Command::new(alloc, "wb")
         .about(ABOUT)
+        .version(VERSION)
         .after_help(SCRIPT_HELP)
         .no_binary_name(true)
         .subcommand_required(true)
+        .bin_name("wb")
 }
 
-/// Adds a subcommand. One that could not be made is answered here, so that nobody holds two commands
-/// where he stops.
+/// Adds a subcommand. One that could not be made is answered here, so that an early return drops one
+/// command and not two.
 fn with_subcommand<'a>(
     program: Command<'a>,
     subcommand: Result<Command<'a>, AllocError>,
@@ -148,20 +190,31 @@ fn with_subcommand<'a>(
 }
 
 fn command<'a>(alloc: Global) -> Result<Command<'a>, AllocError> {
-    let program = with_subcommand(bare_command(alloc), run_command(alloc))?;
+    let program = with_subcommand(bare_command(alloc)?, run_command(alloc))?;
     let program = with_subcommand(program, Ok(check_command(alloc)))?;
     let program = with_subcommand(program, hex_command(alloc))?;
-    with_subcommand(program, words_command(alloc))
+    let program = with_subcommand(program, words_command(alloc))?;
+    with_subcommand(program, host_command(alloc))
+}
+
+/// The task of a host: its constants are those of a script where no word gives others.
+fn host_task<'a>(program: &mut Command<'a>, options: &ArgMatches<'a>) -> Result<Task, Error> {
+    match options.try_get_one::<Constants>("tuning") {
+        Ok(constants) => Ok(Task::Host(constants.unwrap_or_default())),
+        Err(WrongConstants) => Err(program.error(ErrorKind::ValueValidation, WRONG_CONSTANTS)?),
+    }
 }
 
 /// The task that the words after the program's name ask for. The error has the parser's text: of
 /// help, where it was asked for, and else of what is wrong with the words.
 pub fn task_of<'a>(alloc: Global, words: &'a [&'a str]) -> Result<Task, Error> {
-    let matches = command(alloc)?.try_get_matches_from(words)?;
+    let mut program = command(alloc)?;
+    let matches = program.try_get_matches_from_mut(words)?;
     match matches.subcommand() {
         Some(("run", options)) => Ok(Task::Run {
             workers: options.get_one::<u32>("workers"),
         }),
+        Some(("host", options)) => host_task(&mut program, &options),
         Some(("hex", options)) => Ok(Task::Turn(Filter {
             direction: Direction::Hex,
             keeps_going: options.get_flag("keep-going"),

@@ -4,16 +4,19 @@
 #![tactic(auto)]
 
 mod command;
+mod constants;
 mod serving;
 
-use serving::{NO_MEMORY, serve};
+use serving::{NO_MEMORY, refuse_words, serve};
 use std::env;
 use std::process::ExitCode;
 use wb_names::{FromRead, ToWrite};
 
 fn main(rt: HostRuntime) -> ExitCode {
-    let Ok(arguments) = env::args(&rt) else {
-        return ExitCode::from(NO_MEMORY);
+    let mut errors = ToWrite::new(rt.stderr());
+    let arguments = match env::args(&rt) {
+        Ok(arguments) => arguments,
+        Err(error) => return ExitCode::from(refuse_words(&mut errors, error.kind())),
     };
     let Ok(texts) = arguments.skip(1).collect::<Vec<String>>(rt.alloc()) else {
         return ExitCode::from(NO_MEMORY);
@@ -27,7 +30,6 @@ fn main(rt: HostRuntime) -> ExitCode {
     };
     let mut source = FromRead::new(rt.stdin());
     let mut sink = ToWrite::new(rt.stdout());
-    let mut errors = ToWrite::new(rt.stderr());
     let status = serve(&rt, words.as_slice(), &mut source, &mut sink, &mut errors);
     ExitCode::from(status)
 }

@@ -2,8 +2,10 @@ use crate::command::{Task, task_of};
 use clap::Error;
 use clap::error::ErrorKind;
 use std::alloc::{AllocError, Global};
+use std::io;
 use std::sync::Wait;
 use std::thread::Threads;
+use wb_dialog::{HostFault, host};
 use wb_filters::{FilterFault, run_filter};
 use wb_names::{Sink, Source};
 use wb_script::{NoGate, RunFault, check, run};
@@ -27,6 +29,7 @@ pub const NO_MEMORY: u8 = 4;
 enum Failure {
     Run(RunFault),
     Filter(FilterFault),
+    Host(HostFault),
 }
 
 impl From<RunFault> for Failure {
@@ -41,6 +44,12 @@ impl From<FilterFault> for Failure {
     }
 }
 
+impl From<HostFault> for Failure {
+    fn from(fault: HostFault) -> Failure {
+        Failure::Host(fault)
+    }
+}
+
 fn status_of(failure: Failure) -> u8 {
     match failure {
         Failure::Run(RunFault::Line(_, _) | RunFault::Endless) => REFUSED,
@@ -49,6 +58,9 @@ fn status_of(failure: Failure) -> u8 {
         Failure::Filter(FilterFault::Line(_, _) | FilterFault::Endless) => REFUSED,
         Failure::Filter(FilterFault::Read | FilterFault::Write) => DISCONNECTED,
         Failure::Filter(FilterFault::Memory) => NO_MEMORY,
+        Failure::Host(HostFault::Endless) => REFUSED,
+        Failure::Host(HostFault::Read | HostFault::Write) => DISCONNECTED,
+        Failure::Host(HostFault::Memory) => NO_MEMORY,
     }
 }
 
@@ -56,6 +68,7 @@ fn text_of(alloc: Global, failure: Failure) -> Result<String, AllocError> {
     match failure {
         Failure::Run(fault) => format!(in alloc; "wb: {fault}\n"),
         Failure::Filter(fault) => format!(in alloc; "wb: {fault}\n"),
+        Failure::Host(fault) => format!(in alloc; "wb: {fault}\n"),
     }
 }
 
@@ -94,6 +107,20 @@ fn misuse<E: Sink>(alloc: Global, errors: &mut E, error: Error) -> u8 {
     }
 }
 
+/// Answers the status where the words of the command line can't be had: one of them is not UTF-8, which is
+/// told, or memory is refused.
+pub fn refuse_words<E: Sink>(errors: &mut E, kind: io::ErrorKind) -> u8 {
+    if kind == io::ErrorKind::InvalidData {
+        push_all(
+            errors,
+            "wb: a word of the command line is not UTF-8\n".as_bytes(),
+        );
+        MISUSED
+    } else {
+        NO_MEMORY
+    }
+}
+
 /// Writes that each line parses.
 fn approve<W: Sink>(alloc: Global, sink: &mut W, lines: u32) -> Result<(), RunFault> {
     let text = format!(in alloc; "ok {lines}\n")?;
@@ -122,13 +149,16 @@ fn perform<T: Threads + Wait + Sync, R: Source, W: Sink>(
         Task::Turn(filter) => {
             run_filter(alloc, filter, source, sink)?;
         }
+        Task::Host(constants) => {
+            host(alloc, constants.tuning(), source, sink)?;
+        }
     }
     Ok(())
 }
 
 /// Does what the words after the program's name ask for, and answers the status of the program: 0;
 /// 1 where a line is refused or a limit is passed; 2 where the words are not understood, or ask for
-/// help, and then nothing is read; 3 where reading or writing fails; 4 where memory or a thread is
+/// help or the version, and then nothing is read; 3 where reading or writing fails; 4 where memory or a thread is
 /// refused. Only a script may wait for other threads: those of its own workers.
 pub fn serve<T: AllocGlobal + Threads + Wait + Sync, R: Source, W: Sink, E: Sink>(
     rt: &T,

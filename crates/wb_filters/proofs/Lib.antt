@@ -1,6 +1,4 @@
 pub mod Telling
-pub mod Outcomes
-pub mod Endings
 pub mod TurningLaws
 pub mod Visible
 pub mod InputText

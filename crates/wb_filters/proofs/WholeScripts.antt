@@ -1,6 +1,6 @@
 -- A whole script, and what a filter makes of it, line beside line.
-use Rattle.std.proofs.Common.{◌≡◌, ◌≢◌, ℕ, ◌+◌, ◌<◌, ◌≤◌, Bool, true, false, List, [], ◌∷◌, ◌++◌, length, Result, Ok, inl, inr, ◌⊎◌, refl, sym, ap, subst, ◌∙◌, arith}
-use Rattle.std.specs.Prelude.{All, ◌||◌}
+use Rattle.std.proofs.Common.{◌≡◌, ◌≢◌, ℕ, ◌+◌, ◌<◌, ◌≤◌, Bool, false, List, [], ◌∷◌, ◌++◌, length, Result, Ok, inl, inr, ◌⊎◌, refl, sym, ap, subst, ◌∙◌, arith}
+use Rattle.std.specs.Prelude.{All}
 use Rattle.std.proofs.lemmas.List.Elements.{All-nil, All-cons, All-head, All-tail}
 use Rattle.wb_lines.specs.Ahead.{NoLineFeed}
 use Rattle.wb_lines.specs.Input.{InputLine, input_lines, content, most_bytes}
@@ -9,9 +9,10 @@ use Rattle.wb_filters.specs.declared.filtering.Direction.{Direction}
 use Rattle.wb_filters.specs.declared.filtering.Direction.TheVariants.{Hex, Words}
 use Rattle.wb_filters.specs.declared.filtering.Filter.{Filter}
 use Rattle.wb_filters.specs.Turning.{digits_line, words_behind, hexed, worded}
-use Rattle.wb_filters.specs.Filtering.{turned, told_on, ending, ended_by, said_of, writes, most_lines, outcome_from}
+use Rattle.wb_lines.specs.Driving.{Outcome, writes, rules_of, outcome_from}
+use Rattle.wb_lines.proofs.Outcomes.{short_line_taken}
+use Rattle.wb_filters.specs.Filtering.{turned, told_on, ending, ended_by, said_of, filter_step, most_lines}
 use Rattle.wb_filters.specs.Laws.{IsInWords, IsInDigits, IsOther, IsWithinLimits, Turns, WordsComeBack, DigitsComeBack}
-use Rattle.wb_filters.proofs.Outcomes.{fits}
 use Rattle.wb_filters.proofs.TurningLaws.{words_are_turned, digits_are_turned}
 use Rattle.wb_filters.proofs.Visible.{digits_visible, digits_some, words_visible, words_some}
 use Rattle.wb_filters.proofs.InputText.{standing, all_bytes, Stands, AreLines, reads, lines_again, content_ending, SameEnd, same_end}
@@ -46,20 +47,20 @@ said_back d d' keeps number line twin t =
 
 -- ---- all lines
 
-or_true : (b : Bool) → (b || true) ≡ true
-or_true true = refl
-or_true false = refl
+-- the outcome after n lines, of an input that is not cut off
+abbrev after : Filter → ℕ → List InputLine → Outcome LineFault
+after filter n lines = outcome_from (rules_of filter_step most_lines) false n filter lines
 
 abbrev IsShort : InputLine → Type 0
 IsShort line = length line.bytes ≤ most_bytes
 
 -- after n lines: where the next one becomes a text, and the others another
-next : (filter : Filter) (n : ℕ) (line : InputLine) (lines : List InputLine) (text rest : List ℕ) (m : ℕ) → n < most_lines → IsShort line → said_of filter (n + 1) line ≡ Ok text → outcome_from filter false (n + 1) lines ≡ writes rest (Ok m)
-    → outcome_from filter false n (line ∷ lines) ≡ writes (text ++ rest) (Ok m)
-next filter n line lines text rest m few short said others = rw (fits n line.bytes few short, or_true line.ended, said, others) refl
+next : (filter : Filter) (n : ℕ) (line : InputLine) (lines : List InputLine) (text rest : List ℕ) (m : ℕ) → n < most_lines → IsShort line → said_of filter (n + 1) line ≡ Ok text → after filter (n + 1) lines ≡ writes rest (Ok m)
+    → after filter n (line ∷ lines) ≡ writes (text ++ rest) (Ok m)
+next filter n line lines text rest m few short said others = short_line_taken (rules_of filter_step most_lines) n filter line lines few short ∙ rw (said, others) refl
 
 there : (d d' : Direction) (keeps : Bool) (n m : ℕ) (lines twins : List InputLine) → Twins d d' lines twins → n + length lines ≡ m → m ≤ most_lines → All IsShort lines
-    → outcome_from (record { direction = d; keeps_going = keeps }) false n lines ≡ writes (all_bytes twins) (Ok m)
+    → after (record { direction = d; keeps_going = keeps }) n lines ≡ writes (all_bytes twins) (Ok m)
 there d d' keeps n m [] [] t count few short = let same : n ≡ m = omega (arith, count) in ap (λ (k : ℕ). writes [] (Ok k)) same
 there d d' keeps n m [] (twin ∷ twins) t count few short = absurd t
 there d d' keeps n m (line ∷ lines) [] t count few short = absurd t
@@ -69,7 +70,7 @@ there d d' keeps n m (line ∷ lines) (twin ∷ twins) t count few short =
     (there d d' keeps (n + 1) m lines twins t.1 (omega (arith, count)) few (All-tail IsShort line lines short))
 
 back : (d d' : Direction) (keeps : Bool) (n m : ℕ) (lines twins : List InputLine) → Twins d d' lines twins → n + length twins ≡ m → m ≤ most_lines → All IsShort twins
-    → outcome_from (record { direction = d'; keeps_going = keeps }) false n twins ≡ writes (all_bytes lines) (Ok m)
+    → after (record { direction = d'; keeps_going = keeps }) n twins ≡ writes (all_bytes lines) (Ok m)
 back d d' keeps n m [] [] t count few short = let same : n ≡ m = omega (arith, count) in ap (λ (k : ℕ). writes [] (Ok k)) same
 back d d' keeps n m [] (twin ∷ twins) t count few short = absurd t
 back d d' keeps n m (line ∷ lines) [] t count few short = absurd t
@@ -130,7 +131,7 @@ module _ (d d' : Direction) (Form Form' : List ℕ → Type 0) (one : (line : In
         λ within.
             let few : length found.twins ≤ most_lines = subst (λ (l : List InputLine). length l ≤ most_lines) split within.0 in
             let short : All IsShort found.twins = subst (All IsShort) split within.1 in
-            subst (λ (l : List InputLine). outcome_from (record { direction = d'; keeps_going = keeps' }) false 0 l ≡ writes script (Ok (length l))) (sym split)
+            subst (λ (l : List InputLine). after (record { direction = d'; keeps_going = keeps' }) 0 l ≡ writes script (Ok (length l))) (sym split)
             (back d d' keeps' 0 (length found.twins) lines found.twins found.pairs (omega arith) few short ∙ ap (λ (t : List ℕ). writes t (Ok (length found.twins))) r.bytes-are),
       )
 

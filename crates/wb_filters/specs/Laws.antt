@@ -8,7 +8,8 @@ use Rattle.wb_filters.specs.declared.carrier.Carrier.{Carrier}
 use Rattle.wb_filters.specs.declared.filtering.Direction.{Direction}
 use Rattle.wb_filters.specs.declared.filtering.Direction.TheVariants.{Hex, Words}
 use Rattle.wb_filters.specs.Turning.{takes, digits_line, words_behind, hexed, worded}
-use Rattle.wb_filters.specs.Filtering.{writes, most_lines, outcome}
+use Rattle.wb_lines.specs.Driving.{writes}
+use Rattle.wb_filters.specs.Filtering.{most_lines, outcome}
 
 -- the words of a datagram that comes in or is sent become the line that carries it
 abbrev pub WordsAreTurned : Type 0

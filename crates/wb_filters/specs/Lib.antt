@@ -1,5 +1,4 @@
 pub mod Turning
 pub mod Comments
 pub mod Filtering
-pub mod Steps
 pub mod Laws

@@ -1,11 +1,10 @@
 ghost use Rattle.std.specs.Prelude.{◌≡◌};
 ghost use Rattle.wb_filters.specs.declared.fault.TurnFault.TheVariants as turn_faults;
-ghost use Rattle.wb_filters.specs.declared.fault.FilterFault.TheVariants as filter_faults;
 
 use std::alloc::{AllocError, AllocFailed};
 use thiserror::Error;
 use wb_codec::ReadFault;
-use wb_lines::Unwritten;
+use wb_lines::DriveFault;
 use wb_words::WrongWord;
 
 /// Why a line can't be turned.
@@ -60,46 +59,7 @@ impl<T: Drop> From<AllocFailed<T>> for TurnFault {
     }
 }
 
-/// Why a filter did not come to the end of its input.
-#[derive(Clone, Copy, Debug, PartialEq, Eq, Error)]
-pub enum FilterFault {
-    /// The line of this number, from 1 and counting every line, can't be turned.
-    #[error("line {0}: {1}")]
-    Line(u64, LineFault),
-    /// The source has failed.
-    #[error("read")]
-    Read,
-    /// The sink has failed.
-    #[error("write")]
-    Write,
-    /// Memory ran out.
-    #[error("memory")]
-    Memory,
-    /// A line has over 65,536 bytes before its line feed, or lines can't be counted any more.
-    #[error("endless")]
-    Endless,
-}
-
-impl From<AllocError> for FilterFault {
-    ghost from_gives = { λ _ f. f ≡ filter_faults.Memory };
-
-    fn from(_error: AllocError) -> FilterFault {
-        FilterFault::Memory
-    }
-}
-
-impl<T: Drop> From<AllocFailed<T>> for FilterFault {
-    ghost from_gives = { λ _ f. f ≡ filter_faults.Memory };
-
-    fn from(_error: AllocFailed<T>) -> FilterFault {
-        FilterFault::Memory
-    }
-}
-
-impl From<Unwritten> for FilterFault {
-    ghost from_gives = { λ _ f. f ≡ filter_faults.Write };
-
-    fn from(_error: Unwritten) -> FilterFault {
-        FilterFault::Write
-    }
-}
+/// Why a filter did not come to the end of its input: at the line of a number, from 1 and counting every
+/// line, which can't be turned; or `Endless` where a line has over 65,536 bytes before its line feed, or
+/// lines can't be counted any more; or the source or the sink has failed, or memory ran out.
+pub type FilterFault = DriveFault<LineFault>;

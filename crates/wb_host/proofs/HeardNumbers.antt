@@ -9,7 +9,7 @@ use Rattle.wb_names.proofs.Listings.{Contains-here, Contains-there, Contains-cas
 use Rattle.wb_codec.specs.declared.datagram.Datagram.{Datagram}
 use Rattle.wb_codec.specs.declared.datagram.Datagram.TheVariants.{Draw, Session, Request, AskPages, PageState}
 use Rattle.wb_recovery.specs.Events.{Event, Asked}
-use Rattle.wb_host.specs.Keeper.{KeeperCall, SetDelay, Hear, Arrive, Miss, GoOn, Report, newest, moment_at, is_own, high_in, high_told, high_heard, delay_in, delay_to, delay_told, session_in, session_told, remember, senders_of, told_by, asked_by, events_of}
+use Rattle.wb_host.specs.Keeper.{KeeperCall, SetDelay, Hear, Arrive, Miss, GoOn, Report, GiveUp, newest, moment_at, is_own, high_in, high_told, high_heard, delay_in, delay_to, delay_told, session_in, session_told, remember, senders_of, told_by, asked_by, events_of}
 use Rattle.wb_host.specs.KeeperLaws.{IsTold, MarksAreGreatest, OnlyMoves, OwnOnlyMoves, DrawopsOnlyMove}
 use Rattle.wb_host.proofs.KeptCalls.{max_none}
 
@@ -21,6 +21,7 @@ module _ (me : ℕ) (page : PageId) (source : ℕ) where
   told_here (Miss now names words) calls = inl refl
   told_here (GoOn now words stopped) calls = inl refl
   told_here (Report now) calls = inl refl
+  told_here (GiveUp now name asked) calls = inl refl
   told_here (Hear now datagram word held) calls = from (is_own me datagram) refl where
     from : (b : Bool) → is_own me datagram ≡ b → (cond b 0 (high_in page source datagram) ≡ 0) ⊎ IsTold me (Hear now datagram word held ∷ calls) page source (cond b 0 (high_in page source datagram))
     from true e = inl refl

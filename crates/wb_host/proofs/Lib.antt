@@ -13,5 +13,7 @@ pub mod TickSends
 pub mod FirstSenders
 pub mod HeardNumbers
 pub mod MergedNumbers
+pub mod NextDues
+pub mod KnownThings
 pub mod MapEdits
 pub mod HeardCalls

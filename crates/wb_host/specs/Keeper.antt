@@ -18,7 +18,7 @@ use Rattle.wb_recovery.specs.declared.come.Come.{Come}
 use Rattle.wb_host.specs.declared.keeper.Heard.{Heard}
 
 -- An accepted call, with what it found on the desk: whether a name that was asked for was held; which of the names
--- that arrived were held; which names with a request timer were.
+-- that arrived were held; which names with a request timer were; whether a name that is given up had a request timer.
 pub data KeeperCall : Type 0 where
   SetDelay : (source micros : ℕ) → KeeperCall
   Hear : (now : ℕ) (datagram : Datagram) (word : ℕ) (held : Bool) → KeeperCall
@@ -26,6 +26,7 @@ pub data KeeperCall : Type 0 where
   Miss : (now : ℕ) (names : List NameValue) (words : List ℕ) → KeeperCall
   GoOn : (now : ℕ) (words : List ℕ) (stopped : List NameValue) → KeeperCall
   Report : (now : ℕ) → KeeperCall
+  GiveUp : (now : ℕ) (name : NameValue) (asked : Bool) → KeeperCall
 
 -- what the newest of the calls that tell a thing tells of it
 abbrev pub newest : {X : Type 0} → (KeeperCall → Option X) → List KeeperCall → Option X
@@ -46,6 +47,7 @@ now_of (Arrive now held) = Some now
 now_of (Miss now names words) = Some now
 now_of (GoOn now words stopped) = Some now
 now_of (Report now) = Some now
+now_of (GiveUp now name asked) = Some now
 
 abbrev pub moment_at : List KeeperCall → ℕ
 moment_at calls = unwrap_or (newest now_of calls) 0
@@ -157,12 +159,17 @@ asked_by me delays now (Session sender sent page marks echoes) word held events 
 asked_by me delays now (AskPages asker) word held events = events
 asked_by me delays now (PageState sender page marks) word held events = events
 
+-- A name that is given up counts as one that has come from nearby, where it had a request timer.
+abbrev pub given_up : ℕ → NameValue → Bool → List Event → List Event
+given_up now name asked events = if asked then gots now events (come_of (λ source. 0) (name ∷ [])) else events
+
 -- the calls of the timers once a call is accepted, where these are the delays and the calls before it
 abbrev pub timed : ℕ → (ℕ → ℕ) → KeeperCall → List Event → List Event
 timed me delays (Hear now datagram word held) events = asked_by me delays now datagram word held events
 timed me delays (Arrive now held) events = gots now events (come_of delays held)
 timed me delays (Miss now names words) events = notices now events (missed_of delays names words)
 timed me delays (GoOn now words stopped) events = Tick now words ∷ gots now events (come_of delays stopped)
+timed me delays (GiveUp now name asked) events = given_up now name asked events
 timed me delays call events = events
 
 -- the calls of the timers, the newest first

@@ -8,6 +8,9 @@ pub mod Laws
 pub mod Keeper
 pub mod Hearing
 pub mod Keeping
+pub mod GivingUp
+pub mod Known
+pub mod Dues
 pub mod Missing
 pub mod TakingIn
 pub mod KeepFaults

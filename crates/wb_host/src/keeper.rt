@@ -5,13 +5,16 @@ ghost use Rattle.wb_recovery.specs.Timing.{are_constants};
 ghost use Rattle.wb_recovery.specs.Values.{timers_in, names_in};
 ghost use Rattle.wb_recovery.specs.Events.{asking, due_asks, IsNextDue, names_of, timers_of};
 ghost use Rattle.wb_recovery.specs.declared.tuning.Tuning.{Tuning as Constants};
+ghost use Rattle.wb_host.specs.Dues.{next_due_of};
 ghost use Rattle.wb_host.specs.Keeper.{KeeperCall, SetDelay, events_of};
 ghost use Rattle.wb_host.specs.Keeping.{StandsFor, Keeps, delay_at, marks_at};
 ghost use Rattle.wb_host.specs.KeepFaults.{moment_fault, delay_fault, IsKeptBy};
 ghost use Rattle.wb_host.specs.Ticks.{stopped_in, stopped_after};
 
 mod arrivals;
+mod giving_up;
 mod hearing;
+mod knowing;
 mod notices;
 mod sessions;
 mod taking_in;
@@ -115,6 +118,13 @@ impl Keeper {
         self.moment
     }
 
+    /// The number of its member.
+    pub fn me(&self) -> u32
+        ensures { result ≡ self.now.me }
+    {
+        self.me
+    }
+
     /// The delay to a source, in microseconds.
     pub fn delay(&self, source: u32) -> u64
         ensures delay { result ≡ delay_at self.now.delays source }
@@ -154,7 +164,8 @@ impl Keeper {
     /// The least moment at which a timer is due, and so when the next `tick` has something to do.
     /// None where no timer stands.
     pub fn next_due(&self) -> Option<u64>
-        ensures { IsNextDue (timers_in self.now.recovery) result }
+        ensures due { IsNextDue (timers_in self.now.recovery) result }
+        ensures calls { (me : ℕ) (constants : Constants) (calls : List KeeperCall) → StandsFor me constants calls self.now → result ≡ next_due_of constants (events_of me calls) }
     {
         self.recovery.next_due()
     }

@@ -7,6 +7,8 @@ ghost use Rattle.std.specs.Prelude.{◌≡◌, All, Ok};
 ghost use Rattle.wb_codec.specs.Ranges.{IsDatagram};
 ghost use Rattle.wb_codec.specs.Reading.{reading};
 ghost use Rattle.wb_codec.specs.Spelling.{spelling};
+ghost use Rattle.wb_host.specs.Dues.{NextDueIsLeast};
+ghost use Rattle.wb_host.specs.Known.{KnownPagesAreKnown};
 ghost use Rattle.wb_host.specs.Laws.{AnswersConverge, CanvasesConverge, ReportsAgree};
 ghost use Rattle.wb_host.specs.Runs.{OneRun};
 ghost use Rattle.wb_host.specs.Sessions.{OneSession, MessageIsSession};
@@ -88,6 +90,16 @@ pub fn own_datagrams_only_move()
 /// last that it sent.
 pub fn first_senders_are_echoed()
     ensures { FirstSendersAreEchoed }
+{}
+
+/// The known pages are those that have a drawop or of which some mark was heard.
+pub fn known_pages_are_known()
+    ensures { KnownPagesAreKnown }
+{}
+
+/// The next moment of a keeper is the least at which a timer of some name is due.
+pub fn next_due_is_least()
+    ensures { NextDueIsLeast }
 {}
 
 /// Each datagram that a keeper gives out has all its fields in range: `write` spells it, and `read`

@@ -5,7 +5,7 @@ use crate::spellings::is_spelled;
 use std::alloc::Global;
 use wb_codec::Datagram;
 use wb_host::KeepFault;
-use wb_names::Name;
+use wb_names::{Name, PageId};
 
 /// A call. Numbers are those of source 7 on the page, moments and delays are in microseconds.
 #[derive(Clone, Copy)]
@@ -45,6 +45,16 @@ pub enum Call {
     NextDue,
     /// How many marks of the page were heard, and the first one.
     Marks,
+    /// Gives up a number at a moment. Answers whether it was asked for.
+    GiveUp(u64, u32),
+    /// Whether a number is asked for.
+    IsAsked(u32),
+    /// Whether a number has a timer.
+    IsTimed(u32),
+    /// The pages that are known.
+    KnownPages,
+    /// The greatest number of a source on the page that is known.
+    KnownNumber(u32),
 }
 
 /// What a call answers.
@@ -52,8 +62,10 @@ pub enum Call {
 pub enum Given {
     Done,
     Number(u64),
+    Truth(bool),
     Moment(Option<u64>),
     Names(Vec<Name>),
+    Pages(Vec<PageId>),
     Marks(usize, Option<(u32, u32)>),
     Message(Datagram),
     Sent(Vec<Datagram>),
@@ -65,7 +77,10 @@ pub enum Wanted {
     Done,
     Refused(KeepFault),
     Number(u64),
+    Truth(bool),
     Moment(Option<u64>),
+    /// The pages of these creators and numbers, in this order.
+    Pages(&'static [(u32, u32)]),
     /// The names of these numbers, in this order.
     Names(&'static [u32]),
     /// The names of so many numbers, from the first on.
@@ -82,6 +97,14 @@ pub enum Wanted {
 
 fn is_name(name: &Name, seq: u32) -> bool {
     name.source() == 7 && name.page() == PAGE && name.seq() == seq
+}
+
+fn are_pages(pages: &[PageId], wanted: &[(u32, u32)]) -> bool {
+    pages.len() == wanted.len()
+        && pages
+            .iter()
+            .zip(wanted)
+            .all(|(page, other)| (page.creator, page.number) == *other)
 }
 
 fn are_names(names: &[Name], seqs: &[u32]) -> bool {
@@ -120,7 +143,9 @@ pub fn is_wanted(alloc: Global, given: &Given, wanted: &Wanted) -> Option<bool> 
     Some(match (given, *wanted) {
         (Given::Done, Wanted::Done) => true,
         (Given::Number(number), Wanted::Number(other)) => *number == other,
+        (Given::Truth(truth), Wanted::Truth(other)) => *truth == other,
         (Given::Moment(moment), Wanted::Moment(other)) => *moment == other,
+        (Given::Pages(pages), Wanted::Pages(others)) => are_pages(pages.as_slice(), others),
         (Given::Names(names), Wanted::Names(seqs)) => are_names(names.as_slice(), seqs),
         (Given::Names(names), Wanted::NamesFrom(first, count)) => {
             are_names_from(names.as_slice(), first, count)

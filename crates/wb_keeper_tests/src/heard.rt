@@ -2,7 +2,7 @@
 
 use crate::calls::{Call, Wanted};
 use crate::spellings::{
-    ASKED_BY_1, ASKED_BY_8, ECHOING, PAGE_STATE, PAGES_BY_1, PAGES_BY_8, SESSION, TWO,
+    ASKED_BY_1, ASKED_BY_8, ECHOING, PAGE_STATE, PAGES_BY_1, PAGES_BY_8, SESSION, STATE_OF_8, TWO,
 };
 use crate::steps::{Step, plays};
 use std::process::Abort;
@@ -11,9 +11,6 @@ use wb_host::KeepFault;
 /// A session message of member 1 of the moment 50, with number 7 of source 7 and an echo of itself.
 const OWN_SESSION: &str =
     "574201020000003400000001000000000000003200000007000000040001000000070000000700010000000100000000000000000000000000000032";
-
-/// A page state of member 8, with number 3 of source 7.
-const STATE_OF_8: &str = "574201050000001600000008000000070000000400010000000700000003";
 
 /// The session message then of a member 1 that knows of nothing.
 const NOTHING_KNOWN: &str = "5742010200000018000000010000000000000032000000070000000400000000";

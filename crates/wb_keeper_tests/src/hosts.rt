@@ -4,7 +4,7 @@ ghost use Rattle.std.specs.Prelude.{IfSome};
 ghost use Rattle.wb_history.specs.Passes.{IsPassOf, IsSamePass};
 
 use crate::calls::{Call, Given};
-use crate::samples::{PAGE, dot, names_of, session};
+use crate::samples::{PAGE, dot, named, names_of, session};
 use crate::spellings::said;
 use std::alloc::Global;
 use wb_codec::Datagram;
@@ -186,6 +186,25 @@ impl Host {
         }
     }
 
+    /// What is known of pages, numbers and names.
+    fn know(&mut self, call: &Call) -> Result<Given, KeepFault> {
+        Ok(match *call {
+            Call::KnownPages => {
+                let pages = self
+                    .keeper
+                    .known_pages(self.alloc, &self.board, &mut self.desk)?;
+                Given::Pages(pages)
+            }
+            Call::KnownNumber(source) => {
+                let number = self.keeper.known_number(&self.desk, PAGE, source);
+                Given::Number(u64::from(number))
+            }
+            Call::IsAsked(seq) => Given::Truth(self.keeper.is_asked(&named(seq)?)),
+            Call::IsTimed(seq) => Given::Truth(self.keeper.is_timed(&named(seq)?)),
+            _ => self.tell(call),
+        })
+    }
+
     pub fn call(&mut self, call: &Call) -> Result<Given, KeepFault> {
         match *call {
             Call::SetDelay(source, micros) => {
@@ -211,7 +230,8 @@ impl Host {
             }
             Call::Tick(now, words) => Ok(Given::Sent(self.tick(now, words)?)),
             Call::Session(now) => Ok(Given::Message(self.session(now)?)),
-            _ => Ok(self.tell(call)),
+            Call::GiveUp(now, seq) => Ok(Given::Truth(self.keeper.give_up(now, &named(seq)?)?)),
+            _ => self.know(call),
         }
     }
 }

@@ -11,9 +11,13 @@ mod calls;
 #[cfg(test)]
 mod echoes;
 #[cfg(test)]
+mod giving_up;
+#[cfg(test)]
 mod heard;
 #[cfg(test)]
 mod hosts;
+#[cfg(test)]
+mod knowing;
 #[cfg(test)]
 mod limits;
 #[cfg(test)]

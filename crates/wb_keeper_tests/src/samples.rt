@@ -21,6 +21,11 @@ pub fn names_of(alloc: Global, seqs: &[u32]) -> Result<Vec<Name>, AllocError> {
     Ok(names)
 }
 
+/// The name of a number.
+pub fn named(seq: u32) -> Result<Name, KeepFault> {
+    Name::new(7, PAGE, seq).map_err(|_| KeepFault::Range)
+}
+
 /// The drawop of a number.
 pub fn dot(seq: u32) -> Result<Drawop, KeepFault> {
     let line = Shape::Line {
@@ -30,10 +35,7 @@ pub fn dot(seq: u32) -> Result<Drawop, KeepFault> {
         y1: 0,
         glyph: b'.',
     };
-    match Name::new(7, PAGE, seq) {
-        Ok(name) => Drawop::new(name, u64::from(seq), line).map_err(|_| KeepFault::Range),
-        Err(_) => Err(KeepFault::Range),
-    }
+    Drawop::new(named(seq)?, u64::from(seq), line).map_err(|_| KeepFault::Range)
 }
 
 /// The session message of a member at a moment of its clock.

@@ -22,6 +22,9 @@ pub const PAGES_BY_1: &str = "574201040000000400000001";
 /// The page state of member 1, which has number 1 of source 7.
 pub const PAGE_STATE: &str = "574201050000001600000001000000070000000400010000000700000001";
 
+/// A page state of member 8, with number 3 of source 7.
+pub const STATE_OF_8: &str = "574201050000001600000008000000070000000400010000000700000003";
+
 /// The drawop with number 2 of source 7.
 pub const TWO: &str =
     "57420101000000220000000700000007000000040000000200000000000000020100000000000000002e";

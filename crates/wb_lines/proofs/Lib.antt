@@ -5,3 +5,6 @@ pub mod WordEnds
 pub mod KnownBytes
 pub mod LineBytes
 pub mod InputLines
+pub mod Outcomes
+pub mod LongLines
+pub mod Endings

@@ -1,5 +1,5 @@
 -- What a reader of lines has pulled and not used yet.
-use Rattle.std.specs.Prelude.{◌≡◌, ◌≢◌, ◌≤◌, ◌+◌, ℕ, List, [], ◌∷◌, ◌++◌, length, Bool, true, false, Option, Result, Ok, Err}
+use Rattle.std.specs.Prelude.{◌≡◌, ◌≢◌, ◌≤◌, ◌<◌, ◌+◌, ◌-◌, ◌^◌, ℕ, List, [], ◌∷◌, ◌++◌, length, Bool, true, false, Option, Result, Ok, Err}
 use Rattle.std.specs.Io.KnownBytes.{Consumes, IsAtEnd}
 use Rattle.wb_lines.specs.declared.line_reader.Pulled.{Pulled}
 use Rattle.wb_lines.specs.declared.line_reader.Pulled.TheVariants.{Byte, End, Failed, Unwritten}
@@ -58,3 +58,12 @@ GivesLine old new given failed line founds.Unwritten = Unit {0}
 abbrev pub MayGiveLine : {E : Type 0} → Ahead → Ahead → List ℕ → Bool → List ℕ → Result Found E → Type 0
 MayGiveLine old new given failed line (Ok found) = GivesLine old new given failed line found
 MayGiveLine old new given failed line (Err e) = Unit {0}
+
+-- The rest of a line that is too long was passed over, with the bytes that were pulled for it; or some of it was.
+abbrev pub PassesOver : Ahead → Ahead → List ℕ → Bool → List ℕ → Found → Type 0
+PassesOver old new given failed rest founds.Whole = NoLineFeed rest × (length rest < 2 ^ 64 - 1) × (old.bytes ++ given ≡ rest ++ 10 ∷ new.bytes)
+PassesOver old new given failed rest founds.Last = NoLineFeed rest × (length rest < 2 ^ 64 - 1) × (old.bytes ++ given ≡ rest) × (new.bytes ≡ []) × (new.ended ≡ true)
+PassesOver old new given failed rest founds.End = ⊥
+PassesOver old new given failed rest founds.Failed = NoLineFeed rest × (length rest < 2 ^ 64 - 1) × (old.bytes ++ given ≡ rest) × (new.ended ≡ false) × (failed ≡ true)
+PassesOver old new given failed rest founds.TooLong = NoLineFeed rest × (length rest ≡ 2 ^ 64 - 1) × (old.bytes ++ given ≡ rest ++ new.bytes)
+PassesOver old new given failed rest founds.Unwritten = Unit {0}

@@ -1,7 +1,7 @@
 ghost use Rattle.std.specs.Prelude.{◌≡◌, ◌≢◌, ◌≤◌, ◌<◌, ◌+◌, ◌↔◌, [], ◌∷◌, ◌++◌, List, ℕ, length, take, slice_index, true, false, IfOk, OnOk, IsTrue, Ok};
 ghost use Rattle.wb_lines.specs.Output.{Sends};
 ghost use Rattle.wb_lines.specs.Input.{most_bytes};
-ghost use Rattle.wb_lines.specs.Ahead.{Pulls, GivesByte, NoLineFeed, TakesRun, MayGiveLine};
+ghost use Rattle.wb_lines.specs.Ahead.{Pulls, GivesByte, NoLineFeed, TakesRun, MayGiveLine, PassesOver};
 
 use crate::output::Output;
 use memchr::memchr;
@@ -209,5 +209,31 @@ impl LineReader {
                 }
             }
         }
+    }
+
+    /// Passes over the rest of a line, with its line feed where there is one. Answers how it ended: too
+    /// long where it had more bytes than are counted.
+    pub(crate) fn pass_over<R: Source, W: Sink>(
+        &mut self,
+        source: &mut R,
+        output: &mut Output,
+        sink: &mut W,
+    ) -> Found
+        ensures read { (given : List ℕ) × (rest : List ℕ) × Pulls self.old self.new (R.left source.old) (R.left source.new) (R.has_failed source.old) (R.has_failed source.new) given
+            × PassesOver self.old self.new given (R.has_failed source.new) rest result }
+        ensures sends { Sends (W.taken sink.old) output.old (W.taken sink.new) output.new [] }
+        ensures unwritten { result ≡ Found.Unwritten → W.has_failed sink.new ≡ true }
+        ensures failed { result ≡ Found.Failed → R.has_failed source.new ≡ true }
+    {
+        for _ in 0..u64::MAX {
+            match self.next_byte(source, output, sink) {
+                Pulled::Byte(b'\n') => return Found::Whole,
+                Pulled::Byte(_) => {}
+                Pulled::End => return Found::Last,
+                Pulled::Failed => return Found::Failed,
+                Pulled::Unwritten => return Found::Unwritten,
+            }
+        }
+        Found::TooLong
     }
 }

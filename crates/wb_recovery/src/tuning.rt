@@ -29,7 +29,7 @@ impl Default for Tuning {
 
 impl Tuning {
     /// Whether each constant is 1 to 16.
-    pub(crate) fn is_in_range(&self) -> bool
+    pub fn is_in_range(&self) -> bool
         ensures { result ≡ are_constants self.now }
     {
         let constants = 1..=16;

@@ -23,7 +23,7 @@ use Rattle.wb_script.specs.declared.query.Query.TheVariants as queries
 use Rattle.wb_script.specs.Answers.{gaps_text, answer_text}
 use Rattle.wb_script.specs.Board.{Held}
 use Rattle.wb_script.specs.Script.{StopsWithin}
-use Rattle.wb_script.specs.Hosts.{Opened, constants, present, calling, Act, does, fails, asked, events, due_count, stopped, sent_by, ticked, wanted_of, looked}
+use Rattle.wb_script.specs.Hosts.{Opened, present, calling, Act, does, fails, asked, events, due_count, stopped, sent_by, ticked, wanted_of, looked}
 use Rattle.wb_script.specs.Random.{words_of, after_words}
 use Rattle.wb_script.specs.SentLines.{sends_text, look_line}
 use Rattle.wb_script.specs.Stations.{IsOpenAt, StationValue, DoesAct}
@@ -45,7 +45,7 @@ act_at_once number host new (fails e) = inl (at_once [])
 pub called : (b : Held) (k k' : KeeperValue) (g g' : Lcg) (host : Opened) (call call' : KeeperCall) (count : ℕ) → IsOpenAt (station b k g) host → Keeps call k k' → call ≡ call' → g' ≡ after_words g count → IsOpenAt (station b k' g') (calling call' count host)
 called b k k' g g' host call call' count at keeps e words = record {
   board = at.board;
-  keeper = subst (λ (c : KeeperCall). StandsFor host.me constants (c ∷ host.calls) k') e (keeps host.me constants host.calls at.keeper);
+  keeper = subst (λ (c : KeeperCall). StandsFor host.me host.constants (c ∷ host.calls) k') e (keeps host.me host.constants host.calls at.keeper);
   words = words ∙ ap (λ (x : Lcg). after_words x count) at.words;
 }
 
@@ -84,7 +84,7 @@ tick_early number v host now at early =
 
 pub tick_done : (number : ℕ) (b : Held) (k k' : KeeperValue) (g g' : Lcg) (host : Opened) (now count : ℕ) (words text : List ℕ) (sent : List Datagram) → IsOpenAt (station b k g) host → k.moment ≤ now
     → count ≡ due_count now host → stopped_in host.board.drawops k.recovery ≡ stopped host → words ≡ words_of g count → g' ≡ after_words g count
-    → sent ≡ sends_for host.me b.drawops (actions_of constants (gots now (events host) (come_of (delay_to host.me host.calls) (stopped_in b.drawops k.recovery))) now) → Keeps (GoOn now words (stopped_in b.drawops k.recovery)) k k' → text ≡ sends_text sent
+    → sent ≡ sends_for host.me b.drawops (actions_of host.constants (gots now (events host) (come_of (delay_to host.me host.calls) (stopped_in b.drawops k.recovery))) now) → Keeps (GoOn now words (stopped_in b.drawops k.recovery)) k k' → text ≡ sends_text sent
     → DoesAct {U = Unit {0}} number host (station b k' g') text (Ok tt) (ticked now host)
 tick_done number b k k' g g' host now count words text sent at late due stop drawn left told keeps printed =
     let same = at.keeper.moment in
@@ -95,18 +95,18 @@ tick_done number b k k' g g' host now count words text sent at late due stop dra
     let call : GoOn now words (stopped_in b.drawops k.recovery) ≡ GoOn now (words_of host.random (due_count now host)) (stopped host) =
     ap (λ (w : List ℕ). GoOn now w (stopped_in b.drawops k.recovery)) ws ∙ ap (GoOn now (words_of host.random (due_count now host))) halted in
     let is : sent ≡ sent_by now host = told
-    ∙ ap (λ (l : List DrawopValue). sends_for host.me l (actions_of constants (gots now (events host) (come_of (delay_to host.me host.calls) (stopped_in b.drawops k.recovery))) now)) ds
-    ∙ ap (λ (names : List NameValue). sends_for host.me host.board.drawops (actions_of constants (gots now (events host) (come_of (delay_to host.me host.calls) names)) now)) halted in
+    ∙ ap (λ (l : List DrawopValue). sends_for host.me l (actions_of host.constants (gots now (events host) (come_of (delay_to host.me host.calls) (stopped_in b.drawops k.recovery))) now)) ds
+    ∙ ap (λ (names : List NameValue). sends_for host.me host.board.drawops (actions_of host.constants (gots now (events host) (come_of (delay_to host.me host.calls) names)) now)) halted in
     rw test (called b k k' g g' host (GoOn now words (stopped_in b.drawops k.recovery)) (GoOn now (words_of host.random (due_count now host)) (stopped host)) (due_count now host) at keeps call (left ∙ ap (after_words g) due), printed ∙ ap sends_text is)
 
 -- ---- a look at a page
 
 pub look_done : (number : ℕ) (b : Held) (k k' : KeeperValue) (g g' : Lcg) (host : Opened) (page : PageId) (names : List NameValue) (words text : List ℕ) (now : ℕ) → IsOpenAt (station b k g) host
-    → names ≡ names_wanted constants (events host) b.drawops page (marks_heard host.me host.calls page) → words ≡ words_of g (length names) → g' ≡ after_words g (length names) → now ≡ k.moment → Keeps (Miss now names words) k k' → text ≡ look_line (length names)
+    → names ≡ names_wanted host.constants (events host) b.drawops page (marks_heard host.me host.calls page) → words ≡ words_of g (length names) → g' ≡ after_words g (length names) → now ≡ k.moment → Keeps (Miss now names words) k k' → text ≡ look_line (length names)
     → DoesAct {U = Unit {0}} number host (station b k' g') text (Ok tt) (looked page host)
 look_done number b k k' g g' host page names words text now at told drawn left moment keeps printed =
     let ds = same_history b k g host at in
-    let want : names ≡ wanted_of page host = told ∙ ap (λ (l : List DrawopValue). names_wanted constants (events host) l page (marks_heard host.me host.calls page)) ds in
+    let want : names ≡ wanted_of page host = told ∙ ap (λ (l : List DrawopValue). names_wanted host.constants (events host) l page (marks_heard host.me host.calls page)) ds in
     let count : length names ≡ length (wanted_of page host) = ap (λ (l : List NameValue). length l) want in
     let ws : words ≡ words_of host.random (length (wanted_of page host)) = drawn ∙ ap (words_of g) count ∙ ap (λ (x : Lcg). words_of x (length (wanted_of page host))) at.words in
     let call : Miss now names words ≡ Miss (present host) (wanted_of page host) (words_of host.random (length (wanted_of page host))) =

@@ -21,14 +21,14 @@ use Rattle.wb_script.specs.declared.line.Line.{Line}
 use Rattle.wb_script.specs.declared.line.Line.TheVariants.{Skip, Board, Arrive, Hear as HearLine, Distance, Tick, Look, Session, Show, Gaps, Report, Pages}
 use Rattle.wb_script.specs.declared.query.Query.{Query}
 use Rattle.wb_script.specs.declared.query.Query.TheVariants as queries
-use Rattle.wb_script.specs.Hosts.{Opened, constants, present, calling, Act, does, fails, events, due_count, stopped, sent_by, ticked, wanted_of, looked, words_for, word_at, heard, asked, reported, act}
+use Rattle.wb_script.specs.Hosts.{Opened, present, calling, Act, does, fails, events, due_count, stopped, sent_by, ticked, wanted_of, looked, words_for, word_at, heard, asked, reported, act}
 use Rattle.wb_script.specs.Random.{words_of}
 use Rattle.wb_script.specs.SentLines.{sends_text, look_line}
 use Rattle.wb_script.proofs.AlikeHistories.{AreAlike, holds_alike, sent_alike, asks_alike, gaps_alike, report_alike, reports_alike, answer_alike}
 
 -- a host that holds these in place of what it held
 abbrev pub holding : Opened → List DrawopValue → Opened
-holding host drawops = record { me = host.me; board = record { cells = host.board.cells; drawops = drawops }; calls = host.calls; random = host.random }
+holding host drawops = record { me = host.me; constants = host.constants; board = record { cells = host.board.cells; drawops = drawops }; calls = host.calls; random = host.random }
 
 -- They print the same and leave their boards; but for the order of what is held, they lead to the same host.
 abbrev pub DoAlike : Opened → List DrawopValue → Act → Act → Type 0
@@ -40,11 +40,11 @@ DoAlike host drawops (fails e) (does next text) = ⊥
 -- ---- as time goes on
 
 stopped_alike : (host : Opened) (drawops : List DrawopValue) → AreAlike host.board.drawops drawops → stopped host ≡ stopped (holding host drawops)
-stopped_alike host drawops a = ap (λ (held : NameValue → Bool). filter held (asking (timed_names (events host)) (timers_of constants (events host)))) (holds_alike host.board.drawops drawops a)
+stopped_alike host drawops a = ap (λ (held : NameValue → Bool). filter held (asking (timed_names (events host)) (timers_of host.constants (events host)))) (holds_alike host.board.drawops drawops a)
 
 -- what is done as time goes on, where these names are held
 abbrev actions_by : ℕ → Opened → List NameValue → List Action
-actions_by now host names = actions_of constants (gots now (events host) (come_of (delay_to host.me host.calls) names)) now
+actions_by now host names = actions_of host.constants (gots now (events host) (come_of (delay_to host.me host.calls) names)) now
 
 sent_by_alike : (now : ℕ) (host : Opened) (drawops : List DrawopValue) → AreAlike host.board.drawops drawops → sent_by now host ≡ sent_by now (holding host drawops)
 sent_by_alike now host drawops a =
@@ -67,7 +67,7 @@ ticks_alike now host drawops a = at (nat_lt now (present host)) where
 
 wanted_alike : (page : PageId) (host : Opened) (drawops : List DrawopValue) → AreAlike host.board.drawops drawops → wanted_of page host ≡ wanted_of page (holding host drawops)
 wanted_alike page host drawops a =
-    ap (λ (gaps : List Gap). wanted (timers_of constants (events host)) (length (asking (timed_names (events host)) (timers_of constants (events host)))) (names_in_gaps page gaps))
+    ap (λ (gaps : List Gap). wanted (timers_of host.constants (events host)) (length (asking (timed_names (events host)) (timers_of host.constants (events host)))) (names_in_gaps page gaps))
     (gaps_alike host.board.drawops drawops page (marks_heard host.me host.calls page) a)
 
 looks_alike : (page : PageId) (host : Opened) (drawops : List DrawopValue) → AreAlike host.board.drawops drawops → DoAlike host drawops (looked page host) (looked page (holding host drawops))

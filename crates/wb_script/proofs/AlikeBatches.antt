@@ -91,7 +91,7 @@ module _ (all : List DrawopValue) (clash : NoneClash all) (host : Opened) (room 
   pub host_after_alike : (batch order other : List DrawopValue) → Among order all → IsPermutation order other → host_after (holding host drawops) batch other ≡ holding (host_after host batch order) (history_after host.board.cells drawops other)
   host_after_alike [] order other here moved = refl
   host_after_alike (d ∷ ds) order other here moved =
-      ap (λ (held : NameValue → Bool). let h : Opened = record { me = host.me; board = board_after (holding host drawops).board other; calls = Arrive (present host) (filter held (names_of (d ∷ ds))) ∷ host.calls; random = host.random } in h)
+      ap (λ (held : NameValue → Bool). let h : Opened = record { me = host.me; constants = host.constants; board = board_after (holding host drawops).board other; calls = Arrive (present host) (filter held (names_of (d ∷ ds))) ∷ host.calls; random = host.random } in h)
       (sym (holds_alike (history_after host.board.cells host.board.drawops order) (history_after host.board.cells drawops other) (after_alike host.board.cells all clash room host.board.drawops drawops order other a within here moved)))
 
   -- and prints the same

@@ -18,25 +18,25 @@ use Rattle.wb_recovery.specs.Stopping.{gots}
 use Rattle.wb_recovery.specs.declared.come.Come.{Come}
 use Rattle.wb_recovery.specs.declared.missed.Missed.{Missed}
 use Rattle.wb_recovery.specs.declared.timers.Timers.{Timers}
+use Rattle.wb_recovery.specs.declared.tuning.Tuning.{Tuning}
 use Rattle.wb_recovery.proofs.StoppedNames.{names_gots}
 use Rattle.wb_host.specs.Hearing.{marks_told, marks_heard}
-use Rattle.wb_host.specs.Keeper.{KeeperCall, SetDelay, Hear, Arrive, Miss, GoOn, Report, newest, now_of, delay_told, delay_to, session_told, senders_of, remember, told_by, last_heard, come_of, missed_of, asked_by, timed, events_of}
+use Rattle.wb_host.specs.Keeper.{KeeperCall, SetDelay, Hear, Arrive, Miss, GoOn, Report, GiveUp, newest, now_of, delay_told, delay_to, session_told, senders_of, remember, told_by, last_heard, come_of, missed_of, asked_by, timed, events_of}
 use Rattle.wb_host.specs.declared.keeper.Heard.{Heard}
 use Rattle.wb_host.proofs.FreeArrivals.{comes, timers_alike}
-use Rattle.wb_script.specs.Hosts.{constants}
 
 -- ---- calls of the timers
 
--- the same names, with the same timers
+-- the same names, with the same timers, whatever the constants
 pub record TimeAlike (a b : List Event) : Type 0 where
   pub names : names_of a ≡ names_of b
-  pub timers : timers_of constants a ≡ timers_of constants b
+  pub timers : (constants : Tuning) → timers_of constants a ≡ timers_of constants b
 
 time_same : (a : List Event) → TimeAlike a a
-time_same a = record { names = refl; timers = refl }
+time_same a = record { names = refl; timers = λ constants. refl }
 
 time_then : (a b c : List Event) → TimeAlike a b → TimeAlike b c → TimeAlike a c
-time_then a b c p q = record { names = p.names ∙ q.names; timers = p.timers ∙ q.timers }
+time_then a b c p q = record { names = p.names ∙ q.names; timers = λ constants. p.timers constants ∙ q.timers constants }
 
 asked_names : (name : NameValue) (held : Bool) (now delay word : ℕ) (a b : List Event) → names_of a ≡ names_of b → names_of (Asked name held now delay word ∷ a) ≡ names_of (Asked name held now delay word ∷ b)
 asked_names name true now delay word a b e = ap (λ (l : List NameValue). insert_key name_cmp l name) e
@@ -45,19 +45,19 @@ asked_names name false now delay word a b e = e
 time_more : (event : Event) (a b : List Event) → TimeAlike a b → TimeAlike (event ∷ a) (event ∷ b)
 time_more (Notice name now delay word) a b p = record {
   names = ap (λ (l : List NameValue). insert_key name_cmp l name) p.names;
-  timers = fun_ext (λ n. ap (λ (f : NameValue → Timers). cond (same_name name n) (noticed constants now delay word (f n)) (f n)) p.timers);
+  timers = λ constants. fun_ext (λ n. ap (λ (f : NameValue → Timers). cond (same_name name n) (noticed constants now delay word (f n)) (f n)) (p.timers constants));
 }
 time_more (Asked name held now delay word) a b p = record {
   names = asked_names name held now delay word a b p.names;
-  timers = fun_ext (λ n. ap (λ (f : NameValue → Timers). cond (same_name name n) (asked constants held now delay word (f n)) (f n)) p.timers);
+  timers = λ constants. fun_ext (λ n. ap (λ (f : NameValue → Timers). cond (same_name name n) (asked constants held now delay word (f n)) (f n)) (p.timers constants));
 }
 time_more (Got name now delay) a b p = record {
   names = p.names;
-  timers = fun_ext (λ n. ap (λ (f : NameValue → Timers). cond (same_name name n) (got now delay (f n)) (f n)) p.timers);
+  timers = λ constants. fun_ext (λ n. ap (λ (f : NameValue → Timers). cond (same_name name n) (got now delay (f n)) (f n)) (p.timers constants));
 }
 time_more (Tick now words) a b p = record {
   names = p.names;
-  timers = fun_ext (λ n. ap₂ (λ (l : List NameValue) (f : NameValue → Timers). ticked constants now (word_for words (due_asks l f now) n) (f n)) p.names p.timers);
+  timers = λ constants. fun_ext (λ n. ap₂ (λ (l : List NameValue) (f : NameValue → Timers). ticked constants now (word_for words (due_asks l f now) n) (f n)) p.names (p.timers constants));
 }
 
 pub time_gots : (now : ℕ) (come : List Come) (a b : List Event) → TimeAlike a b → TimeAlike (gots now a come) (gots now b come)
@@ -72,7 +72,7 @@ time_notices now (m ∷ missed) a b p = time_notices now missed (Notice m.name n
 time_moved : (delays : ℕ → ℕ) (now : ℕ) (events : List Event) (names other : List NameValue) → ((n : NameValue) → comes names n ≡ comes other n) → TimeAlike (gots now events (come_of delays names)) (gots now events (come_of delays other))
 time_moved delays now events names other same = record {
   names = names_gots now events (come_of delays names) ∙ sym (names_gots now events (come_of delays other));
-  timers = fun_ext (λ n. timers_alike constants delays now events names other same n);
+  timers = λ constants. fun_ext (λ n. timers_alike constants delays now events names other same n);
 }
 
 -- what a call adds
@@ -96,6 +96,8 @@ timed_alike me delays (Arrive now held) a b p = time_gots now (come_of delays he
 timed_alike me delays (Miss now names words) a b p = time_notices now (missed_of delays names words) a b p
 timed_alike me delays (GoOn now words stopped) a b p = time_more (Tick now words) (gots now a (come_of delays stopped)) (gots now b (come_of delays stopped)) (time_gots now (come_of delays stopped) a b p)
 timed_alike me delays (Report now) a b p = p
+timed_alike me delays (GiveUp now name true) a b p = time_more (Got name now 0) a b p
+timed_alike me delays (GiveUp now name false) a b p = p
 
 -- ---- calls of a keeper
 

@@ -27,14 +27,14 @@ use Rattle.wb_script.specs.declared.line.Line.TheVariants as lines
 use Rattle.wb_script.specs.declared.query.Query.{Query}
 use Rattle.wb_script.specs.declared.query.Query.TheVariants as queries
 use Rattle.wb_script.specs.Answers.{answer_text}
-use Rattle.wb_script.specs.Hosts.{Opened, constants, present, Act, does, fails, calling, asked, due_count, stopped, sent_by, ticked, wanted_of, looked, words_for, word_at, heard, reported, act}
+use Rattle.wb_script.specs.Hosts.{Opened, present, Act, does, fails, calling, asked, due_count, stopped, sent_by, ticked, wanted_of, looked, words_for, word_at, heard, reported, act}
 use Rattle.wb_script.specs.Random.{words_of}
 use Rattle.wb_script.specs.SentLines.{sends_text, look_line}
 use Rattle.wb_script.proofs.AlikeCalls.{time_gots, TellAlike, same_delays, tell_more, same_heard}
 
 -- the host whose keeper was told these calls instead
 abbrev pub told : List KeeperCall → Opened → Opened
-told calls host = record { me = host.me; board = host.board; calls = calls; random = host.random }
+told calls host = record { me = host.me; constants = host.constants; board = host.board; calls = calls; random = host.random }
 
 -- It prints the same and leads to such a host, or it is refused alike.
 abbrev pub ActsAlike : Act → Act → Type 0
@@ -53,27 +53,27 @@ module _ (host : Opened) (calls : List KeeperCall) (alike : TellAlike host.me ho
   same_present = ap (λ (o : Option ℕ). unwrap_or o 0) alike.moment
 
   same_due : (now : ℕ) → due_count now host ≡ due_count now other
-  same_due now = ap₂ (λ (names : List NameValue) (timers : NameValue → Timers). length (due_asks names timers now)) alike.time.names alike.time.timers
+  same_due now = ap₂ (λ (names : List NameValue) (timers : NameValue → Timers). length (due_asks names timers now)) alike.time.names (alike.time.timers host.constants)
 
   same_stopped : stopped host ≡ stopped other
-  same_stopped = ap₂ (λ (names : List NameValue) (timers : NameValue → Timers). filter (holds host.board.drawops) (asking names timers)) alike.time.names alike.time.timers
+  same_stopped = ap₂ (λ (names : List NameValue) (timers : NameValue → Timers). filter (holds host.board.drawops) (asking names timers)) alike.time.names (alike.time.timers host.constants)
 
   -- with the names that stop at that moment
   abbrev sent_with : ℕ → (ℕ → ℕ) → List NameValue → List Event → List Datagram
-  sent_with now delays names events = sends_for host.me host.board.drawops (actions_of constants (gots now events (come_of delays names)) now)
+  sent_with now delays names events = sends_for host.me host.board.drawops (actions_of host.constants (gots now events (come_of delays names)) now)
 
   same_sent : (now : ℕ) → sent_by now host ≡ sent_by now other
   same_sent now =
       let events = events_of host.me host.calls in
       let come = come_of (delay_to host.me host.calls) (stopped host) in
       let time = time_gots now come events (events_of host.me calls) alike.time in
-      ap₂ (λ (names : List NameValue) (timers : NameValue → Timers). sends_for host.me host.board.drawops (map Ask (due_asks names timers now) ++ map Answer (due_answers names timers now))) time.names time.timers
+      ap₂ (λ (names : List NameValue) (timers : NameValue → Timers). sends_for host.me host.board.drawops (map Ask (due_asks names timers now) ++ map Answer (due_answers names timers now))) time.names (time.timers host.constants)
       ∙ ap₂ (λ (delays : ℕ → ℕ) (names : List NameValue). sent_with now delays names (events_of host.me calls)) (same_delays host.me host.calls calls alike) same_stopped
 
   same_wanted : (page : PageId) → wanted_of page host ≡ wanted_of page other
   same_wanted page =
-      ap₂ (λ (names : List NameValue) (timers : NameValue → Timers). wanted timers (length (asking names timers)) (names_in_gaps page (gaps_of host.board.drawops page (marks_heard host.me host.calls page)))) alike.time.names alike.time.timers
-      ∙ ap (λ (marks : PageId → List MarkValue). wanted (timers_of constants (events_of host.me calls)) (length (asking (names_of (events_of host.me calls)) (timers_of constants (events_of host.me calls)))) (names_in_gaps page (gaps_of host.board.drawops page (marks page)))) alike.marks
+      ap₂ (λ (names : List NameValue) (timers : NameValue → Timers). wanted timers (length (asking names timers)) (names_in_gaps page (gaps_of host.board.drawops page (marks_heard host.me host.calls page)))) alike.time.names (alike.time.timers host.constants)
+      ∙ ap (λ (marks : PageId → List MarkValue). wanted (timers_of host.constants (events_of host.me calls)) (length (asking (names_of (events_of host.me calls)) (timers_of host.constants (events_of host.me calls)))) (names_in_gaps page (gaps_of host.board.drawops page (marks page)))) alike.marks
 
   same_echo : (now source : ℕ) → echo_to host.me host.calls now source ≡ echo_to host.me calls now source
   same_echo now source = ap (option_map (λ (h : Heard). record { source = source; sent = h.sent; held = now - h.at })) (same_heard host.me host.calls calls alike source)

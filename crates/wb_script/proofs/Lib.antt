@@ -14,6 +14,8 @@ pub mod FreeAnswers
 pub mod FreeArrivals
 pub mod Steps
 pub mod Acts
+pub mod OneArrival
+pub mod NextNumbers
 pub mod HeardActs
 pub mod Echoed
 pub mod LineCounts

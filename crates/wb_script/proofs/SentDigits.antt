@@ -53,14 +53,14 @@ is_word b rest =
     let long : nat_eq (length (encode_with lower_digits (b ∷ rest))) 0 ≡ false = grind (arith, nat_tests, length-encode_with lower_digits (b ∷ rest)) in
     go_on [] (b ∷ rest) ∙ rw long refl
 
-one_word : (v : Datagram) → words (digits_of v) ≡ digits_of v ∷ []
+pub one_word : (v : Datagram) → words (digits_of v) ≡ digits_of v ∷ []
 one_word v = is_word 0x57 (0x42 ∷ version_code (version_of v) ∷ kind_code v ∷ to_be_bytes w32 (length (body v)) ++ body v)
 
 -- their bytes
 bytes_read : (v : Datagram) → IsDatagram v → unhex (digits_of v) ≡ Some (spelling v)
 bytes_read v fits = ap result_ok (decode_of-encode_lower (spelling v) (spelled_bytes v fits))
 
-datagram_read : (v : Datagram) → IsDatagram v → datagram (digits_of v ∷ []) ≡ Ok v
+pub datagram_read : (v : Datagram) → IsDatagram v → datagram (digits_of v ∷ []) ≡ Ok v
 unfolding datagram
 datagram_read v fits = rw (bytes_read v fits, reading_again v fits) refl
 

@@ -17,7 +17,7 @@ use Rattle.wb_script.specs.declared.line.Line.TheVariants as lines
 use Rattle.wb_script.specs.declared.summary.Summary.{Summary}
 use Rattle.wb_script.specs.Board.{Held}
 use Rattle.wb_script.specs.Answers.{batch_line}
-use Rattle.wb_script.specs.Hosts.{Opened, opened, constants, present, board_after, names_of, host_after, batch_text, Act, does, fails, act}
+use Rattle.wb_script.specs.Hosts.{Opened, opened, present, board_after, names_of, host_after, batch_text, Act, does, fails, act}
 use Rattle.wb_script.specs.Script.{State, InSomeOrder, goes, refused, by_host, closing_text, after_batch, step_by, acts, line_step, held_count, Outcome, finish, Finishes, is_stop, StopsWithin}
 use Rattle.wb_script.specs.Stations.{StationValue, IsOpenAt, MayBeOpenAt, HostValue, IsAt, TakesBatch, DoesAct, DoesStep, IsLeftAt}
 use Rattle.wb_script.specs.Running.{Settles, Closes, ClosesAfter}
@@ -141,7 +141,7 @@ taken b b' k k' g (d ∷ ds) (e ∷ es) names text n host some at same moved cou
     ∙ ap (λ (h : Held). Arrive (present host) (filter (holds h.drawops) names)) board
     ∙ ap (λ (ns : List NameValue). Arrive (present host) (filter (holds (board_after host.board order).drawops) ns)) same in
     record {
-      leads = record { board = board; keeper = subst (λ (c : KeeperCall). StandsFor host.me constants (c ∷ host.calls) k') call (keeps host.me constants host.calls at.keeper); words = at.words };
+      leads = record { board = board; keeper = subst (λ (c : KeeperCall). StandsFor host.me host.constants (c ∷ host.calls) k') call (keeps host.me host.constants host.calls at.keeper); words = at.words };
       text = spelled ∙ ap batch_line counts ∙ ap (λ (h : Held). batch_line (counts_of (outcomes_of h.cells h.drawops order))) at.board;
     }
 

@@ -24,20 +24,25 @@ use Rattle.wb_script.specs.Random.{started, word_of, words_of, after_words}
 use Rattle.wb_script.specs.SentLines.{sends_text, look_line}
 use Rattle.wb_script.specs.Answers.{batch_line, answer_text}
 
--- the number of its member, its board, the calls that its keeper accepted, the newest first, and the generator of its random words
+-- the number of its member, the constants of its timers, its board, the calls that its keeper accepted, the newest first, and the
+-- generator of its random words
 pub record Opened : Type 0 where
   pub me : ℕ
+  pub constants : Tuning
   pub board : Held
   pub calls : List KeeperCall
   pub random : Lcg
 
--- the constants of its timers
-abbrev pub constants : Tuning
-constants = record { c1 = 2; c2 = 2; d1 = 1; d2 = 1 }
-
 -- just opened: an empty board, and a keeper that has heard nothing
+abbrev pub opened_with : Tuning → ℕ → ℕ → ℕ → Opened
+opened_with constants member cells seed = record { me = member; constants = constants; board = record { cells = cells; drawops = [] }; calls = []; random = started seed }
+
+-- the constants of the timers of a script
+abbrev pub script_constants : Tuning
+script_constants = record { c1 = 2; c2 = 2; d1 = 1; d2 = 1 }
+
 abbrev pub opened : ℕ → ℕ → ℕ → Opened
-opened member cells seed = record { me = member; board = record { cells = cells; drawops = [] }; calls = []; random = started seed }
+opened member cells seed = opened_with script_constants member cells seed
 
 -- the present moment, at first 0
 abbrev pub present : Opened → ℕ
@@ -57,7 +62,7 @@ calls_after host [] order = host.calls
 calls_after host (d ∷ ds) order = Arrive (present host) (filter (holds (board_after host.board order).drawops) (names_of (d ∷ ds))) ∷ host.calls
 
 abbrev pub host_after : Opened → List DrawopValue → List DrawopValue → Opened
-host_after host batch order = record { me = host.me; board = board_after host.board order; calls = calls_after host batch order; random = host.random }
+host_after host batch order = record { me = host.me; constants = host.constants; board = board_after host.board order; calls = calls_after host batch order; random = host.random }
 
 -- What is printed. A batch with no arrivals prints nothing.
 abbrev pub batch_text : Held → List DrawopValue → List ℕ
@@ -73,7 +78,7 @@ pub data Act : Type 0 where
 
 -- once the keeper accepted a call, for which so many random words were drawn
 abbrev pub calling : KeeperCall → ℕ → Opened → Opened
-calling call words host = record { me = host.me; board = host.board; calls = call ∷ host.calls; random = after_words host.random words }
+calling call words host = record { me = host.me; constants = host.constants; board = host.board; calls = call ∷ host.calls; random = after_words host.random words }
 
 abbrev pub asked : Query → Opened → Act
 asked query host = does host (answer_text (marks_heard host.me host.calls) host.board.drawops query)
@@ -86,15 +91,15 @@ events host = events_of host.me host.calls
 
 -- how many of its request timers are due at a moment
 abbrev pub due_count : ℕ → Opened → ℕ
-due_count now host = length (due_asks (timed_names (events host)) (timers_of constants (events host)) now)
+due_count now host = length (due_asks (timed_names (events host)) (timers_of host.constants (events host)) now)
 
 -- the names with a request timer that are held
 abbrev pub stopped : Opened → List NameValue
-stopped host = stopped_after host.me constants host.calls host.board.drawops
+stopped host = stopped_after host.me host.constants host.calls host.board.drawops
 
 -- what it sends as time goes on to a moment
 abbrev pub sent_by : ℕ → Opened → List Datagram
-sent_by now host = sent_by_tick host.me constants host.calls host.board.drawops now
+sent_by now host = sent_by_tick host.me host.constants host.calls host.board.drawops now
 
 -- Time goes on to a moment. A random word is drawn for each request timer that is due.
 abbrev pub ticked : ℕ → Opened → Act
@@ -104,7 +109,7 @@ ticked now host =
 
 -- the names that it wants of a page
 abbrev pub wanted_of : PageId → Opened → List NameValue
-wanted_of page host = names_wanted constants (events host) host.board.drawops page (marks_heard host.me host.calls page)
+wanted_of page host = names_wanted host.constants (events host) host.board.drawops page (marks_heard host.me host.calls page)
 
 -- It begins to miss them, with a random word for each.
 abbrev pub looked : PageId → Opened → Act

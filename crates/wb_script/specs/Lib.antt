@@ -8,6 +8,7 @@ pub mod SentLines
 pub mod Hosts
 pub mod Script
 pub mod Stations
+pub mod Driving
 pub mod Running
 pub mod Lines
 pub mod SeenLines

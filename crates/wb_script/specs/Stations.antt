@@ -7,7 +7,7 @@ use Rattle.wb_host.specs.Keeping.{KeeperValue, StandsFor}
 use Rattle.wb_script.specs.declared.fault.RunFault.{RunFault}
 use Rattle.wb_script.specs.declared.fault.RunFault.TheVariants as run_faults
 use Rattle.wb_script.specs.Board.{Held}
-use Rattle.wb_script.specs.Hosts.{Opened, constants, board_after, host_after, batch_text, Act, does, fails}
+use Rattle.wb_script.specs.Hosts.{Opened, board_after, host_after, batch_text, Act, does, fails}
 use Rattle.wb_script.specs.Script.{State, MayBeTaken, InSomeOrder, Step, goes, refused, is_stop, StopsWithin}
 
 -- a board, the keeper at it, and the random words that were not drawn yet
@@ -19,7 +19,7 @@ pub record StationValue : Type 0 where
 -- The board holds the same, the keeper stands for the calls, and the words are those that come next.
 pub record IsOpenAt (v : StationValue) (host : Opened) : Type 0 where
   pub board : v.board ≡ host.board
-  pub keeper : StandsFor host.me constants host.calls v.keeper
+  pub keeper : StandsFor host.me host.constants host.calls v.keeper
   pub words : v.words ≡ host.random
 
 abbrev pub MayBeOpenAt : Option StationValue → Option Opened → Type 0

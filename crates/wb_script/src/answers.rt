@@ -26,7 +26,8 @@ pub fn batch_line(alloc: Global, batch: Batch) -> Result<String, AllocError>
     format!(in alloc; "batch {fresh} {again} {clash} {left}\n")
 }
 
-fn pair_line(alloc: Global, a: u32, b: u32) -> Result<String, AllocError>
+/// Two numbers on a line.
+pub fn pair_line(alloc: Global, a: u32, b: u32) -> Result<String, AllocError>
     ensures { IfOk result (λ text. string_bytes text ≡ pair_line a b) }
 {
     format!(in alloc; "{a} {b}\n")

@@ -20,6 +20,7 @@ use std::thread::Threads;
 use wb_feed::Gate;
 use wb_lines::Output;
 use wb_names::{Drawop, Sink, Source};
+use wb_recovery::Tuning;
 
 /// The host of a script, once it is open, and how many workers take its batches, once that is known. A batch
 /// is taken by the call that hands in its first arrival, so none waits.
@@ -77,7 +78,7 @@ impl Host {
         if self.station.is_some() {
             return Err(RunFault::Line(number, LineFault::SecondBoard));
         }
-        self.station = Some(Station::open(alloc, member, cells, seed)?);
+        self.station = Some(Station::open(alloc, member, cells, seed, Tuning::default())?);
         self.workers = Some(self.workers.unwrap_or(workers));
         Ok(())
     }

@@ -7,6 +7,7 @@
 //! hexadecimal) is of wb_lines.
 #![tactic(auto)]
 
+mod acceptance;
 mod answers;
 mod arriving;
 mod checking;
@@ -25,12 +26,15 @@ mod summary;
 mod taking;
 mod whiteboard;
 
+pub use acceptance::Acceptance;
+pub use answers::{batch_line, pair_line};
 pub use checking::check;
 pub use fault::{LineFault, ParseFault, RunFault};
 pub use line::Line;
-pub use parsing::parse_line;
+pub use parsing::{datagram, four_words, no_words, page, parse_line, u32_word};
 pub use random::{RandomWords, words_follow_words};
 pub use running::run;
-pub use sent_lines::{look_line, print_sends, sent_is_taken};
+pub use sent_lines::{look_line, print_sends, send_line, sent_is_taken};
+pub use station::Station;
 pub use summary::Summary;
 pub use wb_feed::{Gate, NoGate};

@@ -25,7 +25,7 @@ const MAX_DELAY: u64 = (1 << 24) - 1;
 const MAX_MOMENT: u64 = (1 << 48) - 1;
 
 /// That there are no words.
-fn no_words(rest: &[u8]) -> Option<()>
+pub fn no_words(rest: &[u8]) -> Option<()>
     ensures { result ≡ none_of (words rest.now) }
 {
     match next_word(rest) {
@@ -58,7 +58,7 @@ fn two_words(rest: &[u8]) -> Option<(&[u8], &[u8])>
 }
 
 /// The only four words.
-fn four_words(rest: &[u8]) -> Option<(&[u8], &[u8], &[u8], &[u8])>
+pub fn four_words(rest: &[u8]) -> Option<(&[u8], &[u8], &[u8], &[u8])>
     ensures { option_map (λ x. (x.0.now, x.1.now, x.2.now, x.3.now)) result ≡ four_of (words rest.now) }
 {
     let (first, rest) = next_word(rest)?;
@@ -74,7 +74,8 @@ fn number_word(word: &[u8], low: u64, high: u64) -> Result<u64, LineFault>
     number(word, low, high).ok_or(LineFault::Number)
 }
 
-fn u32_word(word: &[u8], low: u32, high: u32) -> Result<u32, LineFault>
+/// The number that a word of decimal digits stands for, where it is from `low` to `high`; else `Number`.
+pub fn u32_word(word: &[u8], low: u32, high: u32) -> Result<u32, LineFault>
     ensures value { result ≡ number low high word.now }
     ensures bound { IfOk result (λ n. (low ≤ n) × (n ≤ high)) }
 {
@@ -139,8 +140,9 @@ fn tick(rest: &[u8]) -> Result<Line, LineFault>
     Ok(Line::Tick { moment })
 }
 
+/// The page of the only two words, its creator and its number. The first fault is `Words` or `Number`.
 #[tactic(auto, unfolding(crate::specs::Parsing::page))]
-fn page(rest: &[u8]) -> Result<PageId, LineFault>
+pub fn page(rest: &[u8]) -> Result<PageId, LineFault>
     ensures { result ≡ page (words rest.now) }
 {
     let (creator, number) = two_words(rest).ok_or(LineFault::Words)?;
@@ -157,9 +159,9 @@ fn pages(rest: &[u8]) -> Result<Line, LineFault>
     Ok(Line::Pages)
 }
 
-/// The datagram of the only word.
+/// The datagram whose bytes the only word spells in hexadecimal. The first fault is `Words`, `Hex` or `Datagram`.
 #[tactic(auto, unfolding(crate::specs::Parsing::datagram))]
-fn datagram(alloc: Global, rest: &[u8]) -> Result<Datagram, ParseFault>
+pub fn datagram(alloc: Global, rest: &[u8]) -> Result<Datagram, ParseFault>
     ensures { Parses result (datagram (words rest.now)) }
 {
     let digits = one_word(rest).ok_or(LineFault::Words)?;

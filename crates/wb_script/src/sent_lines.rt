@@ -7,7 +7,8 @@ use std::alloc::{AllocError, Global};
 use wb_codec::{Datagram, write};
 use wb_lines::Output;
 
-fn send_line(alloc: Global, datagram: &Datagram) -> Result<String, AllocError>
+/// The line of a datagram that is sent, with its bytes in hexadecimal.
+pub fn send_line(alloc: Global, datagram: &Datagram) -> Result<String, AllocError>
     ensures { IfOk result (λ text. string_bytes text ≡ send_line datagram.now) }
 {
     let bytes = write(alloc, datagram)?;

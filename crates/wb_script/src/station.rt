@@ -1,15 +1,18 @@
 //! The board of a script with the keeper at it, and what lines do to them.
 ghost use Rattle.std.specs.Prelude.{◌≡◌, ◌≢◌, ◌<◌, ◌≤◌, ◌^◌, ◌++◌, List, [], ℕ, length, Err, true, filter, IfOk, OnOk, IfErr};
 ghost use Rattle.wb_script.specs.Answers.{IsAnswerable};
-ghost use Rattle.wb_script.specs.Hosts.{Opened, opened, names_of, asked, ticked, looked, words_for, word_at, heard, reported, act};
+ghost use Rattle.wb_script.specs.Hosts.{Opened, opened_with, names_of, asked, ticked, looked, words_for, word_at, heard, reported, act};
 ghost use Rattle.wb_script.specs.Parsing.{IsWithin};
 ghost use Rattle.wb_script.specs.Random.{after_words};
 ghost use Rattle.wb_script.specs.Script.{IsStop};
 ghost use Rattle.wb_script.specs.Stations.{IsOpenAt, TakesGiven, DoesAct};
+ghost use Rattle.wb_recovery.specs.Timing.{are_constants};
 ghost use Rattle.wb_feed.specs.Batches.{counts_in};
 ghost use Rattle.wb_host.specs.Keeper.{Arrive, holds};
 ghost use Rattle.wb_host.specs.Keeping.{Keeps};
 ghost use Rattle.wb_script.specs.Answers.{batch_line};
+
+mod driving;
 
 use crate::answers::{batch_line, print};
 use crate::fault::{LineFault, RunFault};
@@ -47,14 +50,21 @@ impl Model for Station {
 }
 
 impl Station {
-    /// An empty board of so many cells, a keeper of the member that has heard nothing, and the random
-    /// words of a seed.
-    pub fn open(alloc: Global, member: u32, cells: u32, seed: u64) -> Result<Self, AllocError>
-        requires { (0 < cells) × (cells ≤ 65535) }
-        ensures { IfOk result (λ s. IsOpenAt s (opened member cells seed)) }
+    /// An empty board of so many cells, a keeper of the member that has heard nothing, with these
+    /// constants of its timers, and the random words of a seed.
+    pub fn open(
+        alloc: Global,
+        member: u32,
+        cells: u32,
+        seed: u64,
+        tuning: Tuning,
+    ) -> Result<Self, AllocError>
+        requires cells { (0 < cells) × (cells ≤ 65535) }
+        requires constants { are_constants tuning ≡ true }
+        ensures { IfOk result (λ s. IsOpenAt s (opened_with tuning member cells seed)) }
     {
         let board = Whiteboard::open(alloc, cells)?;
-        match Keeper::new(alloc, member, Tuning::default()) {
+        match Keeper::new(alloc, member, tuning) {
             Ok(keeper) => Ok(Station {
                 board,
                 keeper,
@@ -135,7 +145,7 @@ impl Station {
     }
 
     /// Answers a question.
-    fn ask(&mut self, alloc: Global, query: Query, output: &mut Output) -> Result<(), RunFault>
+    fn answer(&mut self, alloc: Global, query: Query, output: &mut Output) -> Result<(), RunFault>
         requires { IsAnswerable query }
         ensures text { (written : List ℕ) × (output.new ≡ output.old ++ written) × ((host : Opened) → IsOpenAt self.old host → (number : ℕ) → DoesAct number host self.new written result (asked query host)) }
         ensures unwritten { result ≢ Err RunFault.Write }
@@ -267,11 +277,11 @@ impl Station {
                     width: *width,
                     height: *height,
                 };
-                self.ask(alloc, canvas, output)
+                self.answer(alloc, canvas, output)
             }
-            Line::Gaps(page) => self.ask(alloc, Query::Gaps(*page), output),
-            Line::Report(page) => self.ask(alloc, Query::Report(*page), output),
-            Line::Pages => self.ask(alloc, Query::Pages, output),
+            Line::Gaps(page) => self.answer(alloc, Query::Gaps(*page), output),
+            Line::Report(page) => self.answer(alloc, Query::Report(*page), output),
+            Line::Pages => self.answer(alloc, Query::Pages, output),
             Line::Hear(datagram) => self.hear(alloc, number, datagram, output),
             Line::Distance { source, micros } => self.set_delay(*source, *micros),
             Line::Tick { moment } => self.tick(alloc, number, *moment, output),

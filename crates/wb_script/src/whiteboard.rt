@@ -1,15 +1,20 @@
 //! The board of a script, with the desk that owns all of its rows.
-ghost use Rattle.std.specs.Prelude.{◌≡◌, ◌≢◌, ◌≤◌, ◌<◌, [], length, true, Err, IfOk, OnOk, IfErr};
+ghost use Rattle.std.specs.Prelude.{◌≡◌, ◌≢◌, ◌≤◌, ◌<◌, ◌∷◌, [], length, true, Err, IfOk, OnOk, IfErr};
 ghost use Rattle.wb_feed.specs.Batches.{counts_in};
+ghost use Rattle.wb_names.specs.Arrivals.{outcome_of};
+ghost use Rattle.wb_host.specs.Keeper.{holds};
 ghost use Rattle.wb_host.specs.Keeping.{marks_at};
 ghost use Rattle.wb_display.specs.Canvas.{canvas_text, is_canvas_size};
 ghost use Rattle.wb_gaps.specs.Answers.{gaps_of, report_of, pages_of};
+ghost use Rattle.wb_script.specs.Driving.{acceptance_of};
+ghost use Rattle.wb_script.specs.Hosts.{board_after};
 ghost use Rattle.wb_script.specs.Queries.{view_of};
 ghost use Rattle.wb_script.specs.Script.{IsStop};
 ghost use Rattle.wb_script.specs.Stations.{TakesGiven};
 
 mod keeping;
 
+use crate::acceptance::Acceptance;
 use crate::fault::RunFault;
 use std::alloc::{AllocError, Global};
 use std::marker::Model;
@@ -17,8 +22,8 @@ use std::sync::Wait;
 use std::thread::Threads;
 use wb_display::{Canvas, CanvasFault};
 use wb_feed::{Arrivals, Batch, FeedFault, Gate, run_batch};
-use wb_host::{Board, Desk, Keeper, OpenFault};
-use wb_names::{Drawop, Gap, Marks, PageId};
+use wb_host::{Board, BoardFault, Desk, Keeper, OpenFault, Reply};
+use wb_names::{Drawop, Gap, Marks, Name, PageId};
 
 /// A board and the one desk that was ever made of it.
 #[derive(Drop)]
@@ -74,6 +79,35 @@ impl Whiteboard {
         match self.desk.shown(alloc, &self.board, page) {
             Ok(shown) => painted(alloc, shown, width, height),
             Err(error) => Err(error),
+        }
+    }
+
+    /// What a page shows, in the order of display.
+    pub fn view(&mut self, alloc: Global, page: PageId) -> Result<Vec<Drawop>, AllocError>
+        ensures same { self.new ≡ self.old }
+        ensures shown { IfOk result (λ drawops. drawops.items ≡ view_of self.old.drawops page) }
+    {
+        self.board.view(alloc, &mut self.desk, page)
+    }
+
+    /// Whether a drawop with this name is held.
+    pub fn holds(&self, name: &Name) -> bool
+        ensures { result ≡ holds self.now.drawops name.now }
+    {
+        self.desk.find(name).is_some()
+    }
+
+    /// Accepts one drawop, and answers what became of it.
+    pub fn accept(&mut self, drawop: &Drawop) -> Result<Acceptance, AllocError>
+        ensures became { IfOk result (λ became. became ≡ acceptance_of (outcome_of self.old.cells self.old.drawops drawop.now)) }
+        ensures held { IfOk result (λ became. self.new ≡ board_after self.old (drawop.now ∷ [])) }
+    {
+        match self.board.accept(&mut self.desk, drawop) {
+            Ok(Reply::New(_)) => Ok(Acceptance::New),
+            Ok(Reply::Again(_)) => Ok(Acceptance::Again),
+            Ok(Reply::Clash(_)) => Ok(Acceptance::Clash),
+            Err(BoardFault::NoRow) => Ok(Acceptance::Left),
+            Err(BoardFault::Memory) => Err(AllocError),
         }
     }
 

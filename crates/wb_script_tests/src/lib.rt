@@ -1,5 +1,6 @@
 //! Tests of wb_script over its public calls: whole scripts with values from outside, ends that fail in
-//! mid-stream or are fed slowly, limits, random words, lines of what is sent, workers, and want of memory.
+//! mid-stream or are fed slowly, limits, random words, lines of what is sent, workers, want of memory, and a
+//! station as a driver holds it.
 #![tactic(auto)]
 
 #[cfg(test)]
@@ -24,6 +25,8 @@ mod refused;
 mod scripts;
 #[cfg(test)]
 mod sent_lines;
+#[cfg(test)]
+mod stations;
 #[cfg(test)]
 mod watched;
 #[cfg(test)]

@@ -19,10 +19,10 @@ use Rattle.wb_gaps.specs.declared.page_reports.PageReport.{PageReport}
 use Rattle.wb_recovery.specs.declared.action.Action.{Action}
 use Rattle.wb_recovery.specs.declared.action.Action.TheVariants.{Ask, Answer}
 use Rattle.wb_host.specs.Hearing.{answers_to, asks_for_pages, asks_for_held, page_states}
-use Rattle.wb_host.specs.Keeper.{KeeperCall, SetDelay, Hear, Arrive, Miss, GoOn, Report}
+use Rattle.wb_host.specs.Keeper.{KeeperCall, SetDelay, Hear, Arrive, Miss, GoOn, Report, GiveUp}
 use Rattle.wb_host.specs.Ticks.{drawop_of, sent_for, sends_for}
 use Rattle.wb_host.proofs.TickSends.{sent_from}
-use Rattle.wb_session.specs.Session.{Member, Act, Draws, Takes, Hears, SetsDelay, Misses, Ticks, Reports, AsksForPages, next_drawop, after, sends, ComesFrom, Event, Group, member}
+use Rattle.wb_session.specs.Session.{Member, Act, Draws, Takes, Hears, SetsDelay, Misses, GivesUp, Ticks, Reports, AsksForPages, next_drawop, after, sends, ComesFrom, Event, Group, member}
 
 -- an act takes this drawop
 abbrev pub IsTaking : Act → DrawopValue → Type 0
@@ -162,6 +162,9 @@ module _ (at : ℕ) (x : Datagram) (word : ℕ) (held : Bool) where
   not_miss : (now : ℕ) (names : List NameValue) (words : List ℕ) → Miss now names words ≡ heard → ⊥
   not_miss now names words e = cc
 
+  not_given_up : (now : ℕ) (name : NameValue) (asked : Bool) → GiveUp now name asked ≡ heard → ⊥
+  not_given_up now name asked e = cc
+
   not_tick : (now : ℕ) (words : List ℕ) (names : List NameValue) → GoOn now words names ≡ heard → ⊥
   not_tick now words names e = cc
 
@@ -175,6 +178,7 @@ module _ (at : ℕ) (x : Datagram) (word : ℕ) (held : Bool) where
     same b e = cc
   heard_after (SetsDelay source micros) m c = other_call _ m.calls ⊥ (not_delay source micros) c
   heard_after (Misses now names words) m c = other_call _ m.calls ⊥ (not_miss now names words) c
+  heard_after (GivesUp now name) m c = other_call _ m.calls ⊥ (not_given_up now name _) c
   heard_after (Ticks now words) m c = other_call _ m.calls ⊥ (not_tick now words _) c
   heard_after (Reports now page) m c = other_call _ m.calls ⊥ (not_report now) c
   heard_after (Draws page time op) m c = inl c

@@ -8,9 +8,11 @@ use Rattle.wb_names.specs.declared.drawop.Op.{Op}
 use Rattle.wb_names.specs.declared.name.PageId.{PageId}
 use Rattle.wb_codec.specs.declared.datagram.Datagram.{Datagram}
 use Rattle.wb_codec.specs.declared.datagram.Datagram.TheVariants.{Draw, AskPages}
+use Rattle.wb_recovery.specs.Events.{timers_of}
 use Rattle.wb_recovery.specs.declared.tuning.Tuning.{Tuning}
 use Rattle.wb_gaps.specs.Answers.{gaps_of}
-use Rattle.wb_host.specs.Keeper.{KeeperCall, SetDelay, Hear, Arrive, Miss, GoOn, Report, holds}
+use Rattle.wb_host.specs.GivingUp.{is_asked}
+use Rattle.wb_host.specs.Keeper.{KeeperCall, SetDelay, Hear, Arrive, Miss, GoOn, Report, GiveUp, events_of, holds}
 use Rattle.wb_host.specs.Hearing.{marks_heard, asks_for_held, answers_to}
 use Rattle.wb_host.specs.Sessions.{message_of}
 use Rattle.wb_host.specs.Ticks.{sent_by_tick, stopped_after}
@@ -36,6 +38,7 @@ pub data Act : Type 0 where
   Hears : (now : ℕ) (datagram : Datagram) (word : ℕ) → Act
   SetsDelay : (source micros : ℕ) → Act
   Misses : (now : ℕ) (names : List NameValue) (words : List ℕ) → Act
+  GivesUp : (now : ℕ) (name : NameValue) → Act
   Ticks : (now : ℕ) (words : List ℕ) → Act
   Reports : (now : ℕ) (page : PageId) → Act
   AsksForPages : Act
@@ -59,6 +62,7 @@ after (Takes now batch order) m = holding now batch (history_after m.cells m.hel
 after (Hears now datagram word) m = calling (Hear now datagram word (asks_for_held m.held datagram)) m
 after (SetsDelay source micros) m = calling (SetDelay source micros) m
 after (Misses now names words) m = calling (Miss now names words) m
+after (GivesUp now name) m = calling (GiveUp now name (is_asked (timers_of m.constants (events_of m.number m.calls)) name)) m
 after (Ticks now words) m = calling (GoOn now words (stopped_after m.number m.constants m.calls m.held)) m
 after (Reports now page) m = calling (Report now) m
 after AsksForPages m = m
@@ -70,6 +74,7 @@ sends (Takes now batch order) m = []
 sends (Hears now datagram word) m = answers_to m.number m.held datagram
 sends (SetsDelay source micros) m = []
 sends (Misses now names words) m = []
+sends (GivesUp now name) m = []
 sends (Ticks now words) m = sent_by_tick m.number m.constants m.calls m.held now
 sends (Reports now page) m = message_of m.number m.calls now m.held page ∷ []
 sends AsksForPages m = AskPages m.number ∷ []

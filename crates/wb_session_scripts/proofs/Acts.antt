@@ -1,5 +1,5 @@
 -- What a line does is what its act does.
-use Rattle.std.proofs.Common.{◌≡◌, ℕ, Bool, true, false, cond, List, [], ◌∷◌, length, refl, sym, ap, subst}
+use Rattle.std.proofs.Common.{◌≡◌, ℕ, Bool, true, false, cond, List, [], ◌∷◌, Some, None, length, refl, sym, ap, subst}
 use Rattle.std.specs.Prelude.{◌||◌, nat_lt}
 use Rattle.std.proofs.lemmas.List.{append-nil}
 use Rattle.wb_names.specs.Values.{DrawopValue}
@@ -8,20 +8,33 @@ use Rattle.wb_host.specs.Keeper.{SetDelay, Hear, Miss, GoOn, Report as Reported,
 use Rattle.wb_host.specs.Hearing.{marks_heard, has_room, asks_for_held, answers_to}
 use Rattle.wb_host.specs.Sessions.{message_of}
 use Rattle.wb_script.specs.Hosts.{Opened, present, calling, does, fails, due_count, stopped, sent_by, wanted_of, words_for, word_at, act}
-use Rattle.wb_script.specs.Random.{words_of}
+use Rattle.wb_script.specs.Driving.{may_ask}
+use Rattle.wb_script.specs.Random.{word_of, words_of}
 use Rattle.wb_script.specs.SentLines.{sends_text, look_line}
 use Rattle.wb_script.specs.declared.fault.LineFault.TheVariants as faults
 use Rattle.wb_script.specs.declared.line.Line.{Line}
 use Rattle.wb_script.specs.declared.line.Line.TheVariants.{Skip, Board, Arrive, Hear as Heard, Distance, Tick, Look, Session, Show, Gaps, Report, Pages}
 use Rattle.wb_script.specs.declared.query.Query.TheVariants as queries
-use Rattle.wb_session.specs.Session.{Member}
-use Rattle.wb_session_scripts.specs.Hosts.{answered, OpenedIsNewcomer, BatchesAreActs, IsDone, LinesAreActs}
+use Rattle.wb_session.specs.Session.{Member, Misses}
+use Rattle.wb_session_scripts.specs.Hosts.{answered, member_of, after_any, OpenedIsNewcomer, BatchesAreActs, GivingUpIsAnAct, AskingIsAnAct, IsDone, LinesAreActs}
 
 pub opened_is_newcomer : OpenedIsNewcomer
-opened_is_newcomer group i seed same = ap (λ (c : Tuning). let m : Member = record { number = group.number i; cells = group.cells i; constants = c; drawn = []; held = []; calls = [] } in m) (sym same)
+opened_is_newcomer group i seed constants same = ap (λ (c : Tuning). let m : Member = record { number = group.number i; cells = group.cells i; constants = c; drawn = []; held = []; calls = [] } in m) (sym same)
 
 pub batches_are_acts : BatchesAreActs
 batches_are_acts drawn host d ds order = refl
+
+pub giving_up_is_an_act : GivingUpIsAnAct
+giving_up_is_an_act drawn host name = refl
+
+pub asking_is_an_act : AskingIsAnAct
+asking_is_an_act drawn host name = from (may_ask name host) where
+  begun : Opened
+  begun = calling (Miss (present host) (name ∷ []) (word_of host.random ∷ [])) 1 host
+
+  from : (may : Bool) → member_of drawn (cond may begun host) ≡ after_any (cond may (Some (Misses (present host) (name ∷ []) (word_of host.random ∷ []))) None) (member_of drawn host)
+  from true = refl
+  from false = refl
 
 same_host : (host next : Opened) (text printed : List ℕ) → does host text ≡ does next printed → host ≡ next
 same_host host next text printed e = cc

@@ -1,23 +1,25 @@
 -- Which member of a session a host of a script is, and which act a line is.
-use Rattle.std.specs.Prelude.{◌≡◌, ℕ, List, [], ◌∷◌, ◌++◌, length, Option, Some, None}
-use Rattle.wb_names.specs.Values.{DrawopValue}
+use Rattle.std.specs.Prelude.{◌≡◌, ℕ, List, [], ◌∷◌, ◌++◌, length, Option, Some, None, if◌then◌else◌}
+use Rattle.wb_names.specs.Values.{NameValue, DrawopValue}
 use Rattle.wb_names.specs.declared.name.PageId.{PageId}
 use Rattle.wb_codec.specs.declared.datagram.Datagram.{Datagram}
+use Rattle.wb_recovery.specs.declared.tuning.Tuning.{Tuning}
 use Rattle.wb_gaps.specs.Answers.{report_of}
 use Rattle.wb_host.specs.Hearing.{marks_heard}
 use Rattle.wb_script.specs.Answers.{answer_text}
-use Rattle.wb_script.specs.Hosts.{Opened, constants, opened, present, host_after, does, act, due_count, wanted_of, word_at}
-use Rattle.wb_script.specs.Random.{words_of}
+use Rattle.wb_script.specs.Hosts.{Opened, opened_with, present, host_after, does, act, due_count, wanted_of, word_at}
+use Rattle.wb_script.specs.Driving.{may_ask, with_asked, with_stopped}
+use Rattle.wb_script.specs.Random.{word_of, words_of}
 use Rattle.wb_script.specs.SentLines.{sends_text, look_line}
 use Rattle.wb_script.specs.declared.line.Line.{Line}
 use Rattle.wb_script.specs.declared.line.Line.TheVariants as lines
 use Rattle.wb_script.specs.declared.query.Query.{Query}
 use Rattle.wb_script.specs.declared.query.Query.TheVariants as queries
-use Rattle.wb_session.specs.Session.{Member, Act, Takes, Hears, SetsDelay, Misses, Ticks, Reports, after, sends, Event, Group, IsDistinct, member, newcomer, IsSession, LacksNothing}
+use Rattle.wb_session.specs.Session.{Member, Act, Takes, Hears, SetsDelay, Misses, GivesUp, Ticks, Reports, after, sends, Event, Group, IsDistinct, member, newcomer, IsSession, LacksNothing}
 
 -- the member that a host is, which drew these drawops: a script draws none itself, and they come to it as any do
 abbrev pub member_of : List DrawopValue → Opened → Member
-member_of drawn host = record { number = host.me; cells = host.board.cells; constants = constants; drawn = drawn; held = host.board.drawops; calls = host.calls }
+member_of drawn host = record { number = host.me; cells = host.board.cells; constants = host.constants; drawn = drawn; held = host.board.drawops; calls = host.calls }
 
 -- The act of a line, once its batch has ended. A question and a skipped line are none, nor are the line of the board and an arrival, which only joins a batch.
 abbrev pub act_of : Line → Opened → Option Act
@@ -50,13 +52,23 @@ said line host = []
 
 -- ---- laws
 
--- A host that was just opened is a member that did nothing.
+-- A host that was just opened is a member with the constants of its timers that did nothing.
 abbrev pub OpenedIsNewcomer : Type 0
-OpenedIsNewcomer = (group : Group) (i seed : ℕ) → group.constants i ≡ constants → member_of [] (opened (group.number i) (group.cells i) seed) ≡ newcomer group i
+OpenedIsNewcomer = (group : Group) (i seed : ℕ) (constants : Tuning) → group.constants i ≡ constants → member_of [] (opened_with constants (group.number i) (group.cells i) seed) ≡ newcomer group i
 
 -- A batch, whoever takes it in whatever order, is one act.
 abbrev pub BatchesAreActs : Type 0
 BatchesAreActs = (drawn : List DrawopValue) (host : Opened) (d : DrawopValue) (ds order : List DrawopValue) → member_of drawn (host_after host (d ∷ ds) order) ≡ after (Takes (present host) (d ∷ ds) order) (member_of drawn host)
+
+-- A driver that gives up a name does one act; one that asks for a name that may be asked for does one, and else none.
+abbrev pub GivingUpIsAnAct : Type 0
+GivingUpIsAnAct = (drawn : List DrawopValue) (host : Opened) (name : NameValue) → member_of drawn (with_stopped name host) ≡ after (GivesUp (present host) name) (member_of drawn host)
+
+abbrev pub asks_any : NameValue → Opened → Option Act
+asks_any name host = if may_ask name host then Some (Misses (present host) (name ∷ []) (word_of host.random ∷ [])) else None
+
+abbrev pub AskingIsAnAct : Type 0
+AskingIsAnAct = (drawn : List DrawopValue) (host : Opened) (name : NameValue) → member_of drawn (with_asked name host) ≡ after_any (asks_any name host) (member_of drawn host)
 
 -- the host has done what the member does by the act, and has printed what it sends
 pub record IsDone (drawn : List DrawopValue) (line : Line) (host next : Opened) (printed : List ℕ) : Type 0 where

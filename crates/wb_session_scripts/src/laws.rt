@@ -1,7 +1,7 @@
 //! Laws of hosts as members of a session. Each function does nothing: its contract is a law, for proofs
 //! to cite.
 
-ghost use Rattle.wb_session_scripts.specs.Hosts.{BatchesAreActs, LinesAreActs, OpenedIsNewcomer, ShowsAgree};
+ghost use Rattle.wb_session_scripts.specs.Hosts.{AskingIsAnAct, BatchesAreActs, GivingUpIsAnAct, LinesAreActs, OpenedIsNewcomer, ShowsAgree};
 
 /// A host is a member of a session: just opened, one that did nothing; after a batch, one that took it
 /// in the order of its workers; after a line, one that did the act of the line. What the line prints are
@@ -10,6 +10,13 @@ pub fn hosts_are_members()
     ensures opened { OpenedIsNewcomer }
     ensures batches { BatchesAreActs }
     ensures lines { LinesAreActs }
+{}
+
+/// What a driver does beside the lines is an act as well: it gives up a name, or asks for one that may be
+/// asked for.
+pub fn drivers_act_as_members()
+    ensures stopped { GivingUpIsAnAct }
+    ensures asked { AskingIsAnAct }
 {}
 
 /// Two hosts of one session that have one report of a page, and no gaps there, print the same for each

@@ -4,3 +4,4 @@ pub mod Spelling
 pub mod Reading
 pub mod Grammar
 pub mod Laws
+pub mod FaultText

@@ -7,6 +7,7 @@
 mod drawing;
 mod entries;
 mod fault;
+mod fault_text;
 mod fields;
 pub mod laws;
 mod number;
@@ -16,6 +17,7 @@ mod text;
 mod writing;
 
 pub use fault::{WordFault, WordsFault, WrongWord};
+pub use fault_text::wrong_text;
 pub use reading::read_words;
 pub use rest::parted;
 pub use writing::write_words;

@@ -8,6 +8,7 @@ ghost use Rattle.wb_host.specs.Hearing.{answers_to, asks_for_held, hear_fault, m
 ghost use Rattle.wb_host.specs.Keeper.{KeeperCall, Arrive, GoOn, Hear, Report, come_of, delay_to, events_of, holds};
 ghost use Rattle.wb_host.specs.Keeping.{Keeps, StandsFor, marks_at};
 ghost use Rattle.wb_host.specs.KeepFaults.{IsKeptBy};
+ghost use Rattle.wb_host.specs.Known.{known_pages, known_number};
 ghost use Rattle.wb_host.specs.Missing.{wanted_of};
 ghost use Rattle.wb_host.specs.Sessions.{message_of};
 ghost use Rattle.wb_host.specs.Ticks.{sends_for, stopped_in};
@@ -67,6 +68,21 @@ impl Whiteboard {
             Err(KeepFault::Memory) => Err(AllocError),
             Err(_) => unreachable!(),
         }
+    }
+
+    /// The pages that have a drawop or of which a keeper at this board heard some mark.
+    pub fn known_pages(&mut self, alloc: Global, keeper: &Keeper) -> Result<Vec<PageId>, AllocError>
+        ensures same { self.new ≡ self.old }
+        ensures known { IfOk result (λ pages. (me : ℕ) (constants : Constants) (calls : List KeeperCall) → StandsFor me constants calls keeper.now → pages.items ≡ known_pages me calls self.old.drawops) }
+    {
+        keeper.known_pages(alloc, &self.board, &mut self.desk)
+    }
+
+    /// The greatest number of a source on a page that is held or that a keeper at this board heard, or 0.
+    pub fn known_number(&self, keeper: &Keeper, page: PageId, source: u32) -> u32
+        ensures { (me : ℕ) (constants : Constants) (calls : List KeeperCall) → StandsFor me constants calls keeper.now → result ≡ known_number me calls self.now.drawops page source }
+    {
+        keeper.known_number(&self.desk, page, source)
     }
 
     /// A keeper at this board hears a datagram, at the moment of its last call: what is to be sent at

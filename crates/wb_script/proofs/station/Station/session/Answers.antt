@@ -2,7 +2,7 @@ use Rattle.std.proofs.Common.{Ok, ◌∙◌, refl, sym, subst, [], ◌∷◌}
 use Rattle.std.proofs.lemmas.List.{append-nil}
 use Rattle.std.proofs.lemmas.Result.{err_from_is_err_and}
 use Rattle.wb_script.specs.Board.{Held}
-use Rattle.wb_script.specs.Hosts.{constants, reported}
+use Rattle.wb_script.specs.Hosts.{reported}
 use Rattle.wb_script.specs.SentLines.{sends_text}
 use Rattle.wb_script.specs.Stations.{StationValue, IsOpenAt, DoesAct}
 use Rattle.wb_script.proofs.Acts.{station, act_at_once}
@@ -27,5 +27,5 @@ returns-clause-text c =
       λ host at number.
           let there = subst (λ (v : StationValue). IsOpenAt v host) (sym c.self.view_is) at in
           subst (λ (b : Held). DoesAct {U = Unit {0}} number host (station b c.session.new.keeper c.self.inside.words) (sends_text (message ∷ [])) (Ok tt) (reported c.args.page host)) (sym c.session.ensures.same)
-          (session_done number c.self.inside.board c.self.inside.keeper c.session.new.keeper c.self.inside.words host c.args.page message (sends_text (message ∷ [])) there (c.in_ok-session.ensures.message host.me constants host.calls there.keeper) c.in_ok-session.ensures.ok refl),
+          (session_done number c.self.inside.board c.self.inside.keeper c.session.new.keeper c.self.inside.words host c.args.page message (sends_text (message ∷ [])) there (c.in_ok-session.ensures.message host.me host.constants host.calls there.keeper) c.in_ok-session.ensures.ok refl),
     )

@@ -1,7 +1,7 @@
 use Rattle.std.proofs.Common.{◌<◌, ◌≤◌, ◌∙◌, [], Ok, ap, sym, subst, ℕ}
 use Rattle.std.proofs.lemmas.List.{append-nil}
 use Rattle.wb_script.specs.Board.{Held}
-use Rattle.wb_script.specs.Hosts.{constants, ticked}
+use Rattle.wb_script.specs.Hosts.{ticked}
 use Rattle.wb_script.specs.SentLines.{sends_text}
 use Rattle.wb_script.specs.Stations.{StationValue, IsOpenAt, DoesAct}
 use Rattle.wb_script.proofs.Acts.{station, tick_early, tick_done}
@@ -21,11 +21,11 @@ returns-clause-text c = (
       subst (λ (b : Held). DoesAct {U = Unit {0}} c.args.number host (station b c.tick.new.keeper c.take.new.self) (sends_text c.deref-2.result.now) (Ok tt) (ticked c.args.now host)) (sym c.tick.ensures.same)
       (tick_done c.args.number c.self.inside.board c.self.inside.keeper c.tick.new.keeper c.self.inside.words c.take.new.self host c.args.now c.due_count-count.result c.deref.result.now (sends_text c.deref-2.result.now) c.in_ok-sent.sent.items there
       (subst (λ (n : ℕ). n ≤ c.args.now) c.moment.ensures.moment c.if-now-moment.false)
-      (c.due_count-count.ensures.calls host.me constants host.calls there.keeper)
-      (c.due_count-count.ensures.stopped host.me constants host.calls there.keeper host.board.drawops)
+      (c.due_count-count.ensures.calls host.me host.constants host.calls there.keeper)
+      (c.due_count-count.ensures.stopped host.me host.constants host.calls there.keeper host.board.drawops)
       (c.deref.ensures.value ∙ c.in_ok-words.ensures.words)
       c.in_ok-words.ensures.rest
-      (c.in_ok-sent.ensures.sent host.me constants host.calls there.keeper)
+      (c.in_ok-sent.ensures.sent host.me host.constants host.calls there.keeper)
       c.in_ok-sent.ensures.ok
       (ap sends_text c.deref-2.ensures.value)),
 )

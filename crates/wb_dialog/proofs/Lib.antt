@@ -1,0 +1,6 @@
+pub mod Fronts
+pub mod Closings
+pub mod Transcripts
+pub mod DialogLaws
+pub mod OwnNumbers
+pub mod SaidLines

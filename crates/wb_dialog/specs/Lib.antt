@@ -1,0 +1,4 @@
+pub mod Lines
+pub mod Dialog
+pub mod Doing
+pub mod Laws

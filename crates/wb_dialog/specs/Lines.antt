@@ -1,0 +1,114 @@
+-- What a line of a driver says, or its first fault.
+use Rattle.std.specs.Prelude.{◌≡◌, ℕ, ◌-◌, ◌^◌, List, [], ◌∷◌, Bool, Option, Some, None, Result, Ok, Err, if◌then◌else◌, nat_eq, codes}
+use Rattle.std.specs.Str.{bytes_eq}
+use Rattle.wb_names.specs.Values.{NameValue}
+use Rattle.wb_codec.specs.declared.datagram.Datagram.{Datagram as DatagramValue}
+use Rattle.wb_words.specs.declared.fault.WrongWord.{WrongWord}
+use Rattle.wb_words.specs.Words.{parted}
+use Rattle.wb_words.specs.Reading.{reading as reading_words}
+use Rattle.wb_lines.specs.Words.{words}
+use Rattle.wb_codec.specs.declared.datagram.Datagram.TheVariants as datagrams
+use Rattle.wb_script.specs.declared.line.Line.{Line}
+use Rattle.wb_script.specs.declared.line.Line.TheVariants as lines
+use Rattle.wb_script.specs.declared.fault.LineFault.{LineFault}
+use Rattle.wb_script.specs.declared.fault.LineFault.TheVariants as faults
+use Rattle.wb_script.specs.declared.fault.ParseFault.{ParseFault}
+use Rattle.wb_script.specs.declared.fault.ParseFault.TheVariants as parse_faults
+use Rattle.wb_script.specs.Parsing.{or_fault, number, none_of, four_of, page, datagram, ◌>>=◌, line_of as script_line_of, IsWithin as IsScriptWithin}
+use Rattle.wb_dialog.specs.declared.line.DriverLine.{DriverLine}
+use Rattle.wb_dialog.specs.declared.line.DriverLine.TheVariants.{Script, Say, Next, View, Known, Ask, Stop}
+use Rattle.wb_dialog.specs.declared.fault.Refusal.{Refusal}
+use Rattle.wb_dialog.specs.declared.fault.Refusal.TheVariants as refusals
+use Rattle.wb_dialog.specs.declared.fault.Unanswered.{Unanswered}
+use Rattle.wb_dialog.specs.declared.fault.Unanswered.TheVariants as unanswered
+
+-- what stands behind the word `say`, with which a line begins
+abbrev pub said_part : Option (List ℕ × List ℕ) → Option (List ℕ)
+said_part None = None
+said_part (Some parts) = if bytes_eq parts.0 (codes "say") then Some parts.1 else None
+
+-- a line of these words, or the fault of a script's line
+abbrev pub by_words : {A : Type 0} → (A → DriverLine) → Result A LineFault → Result DriverLine Refusal
+by_words line (Ok x) = Ok (line x)
+by_words line (Err e) = Err (refusals.Line e)
+
+-- a name, by the creator and the number of its page, its source and its own number, from 1
+unfoldable pub name : List (List ℕ) → Result NameValue LineFault
+name arguments = do
+  words' ← or_fault faults.Words (four_of arguments)
+  creator ← number 0 (2 ^ 32 - 1) words'.0
+  number' ← number 0 (2 ^ 32 - 1) words'.1
+  source ← number 0 (2 ^ 32 - 1) words'.2
+  seq ← number 1 (2 ^ 32 - 1) words'.3
+  Ok (record { source = source; page = record { creator = creator; number = number' }; seq = seq })
+
+-- The line of a script that hands in a datagram: drawops arrive, and every other datagram is heard.
+abbrev pub handed_in : DatagramValue → DriverLine
+handed_in (datagrams.Draw d) = Script (lines.Arrive d)
+handed_in v = Script (lines.Hear v)
+
+abbrev pub bytes_line : List (List ℕ) → Result DriverLine Refusal
+bytes_line arguments = by_words handed_in (datagram arguments)
+
+abbrev pub known_line : List (List ℕ) → Result DriverLine Refusal
+known_line arguments = by_words (λ nothing. Known) (or_fault faults.Words (none_of arguments))
+
+-- The line with this first word and these further ones. One that is not a driver's own is a script's. The words behind
+-- `say` stand one space after it, so where they do not, they are wrong.
+unfoldable pub command : List ℕ → List ℕ → List (List ℕ) → Result DriverLine Refusal
+command line word arguments =
+    if bytes_eq word (codes "datagram") then bytes_line arguments
+    else (if bytes_eq word (codes "say") then Err (refusals.Line faults.Words)
+    else (if bytes_eq word (codes "next") then by_words Next (page arguments)
+    else (if bytes_eq word (codes "view") then by_words View (page arguments)
+    else (if bytes_eq word (codes "known") then known_line arguments
+    else (if bytes_eq word (codes "ask") then by_words Ask (name arguments)
+    else (if bytes_eq word (codes "stop") then by_words Stop (name arguments)
+    else by_words Script (script_line_of line)))))))
+
+abbrev pub line_of_words : List ℕ → List (List ℕ) → Result DriverLine Refusal
+line_of_words line [] = by_words Script (script_line_of line)
+line_of_words line (word ∷ arguments) = command line word arguments
+
+-- a line whose first word is no kind of datagram is none in words
+abbrev pub unless_other : List ℕ → WrongWord → Result DriverLine Refusal
+unless_other line wrong = if nat_eq wrong.place 1 then line_of_words line (words line) else Err (refusals.Word wrong)
+
+abbrev pub came_in : List ℕ → Result DatagramValue WrongWord → Result DriverLine Refusal
+came_in line (Ok v) = Ok (handed_in v)
+came_in line (Err wrong) = unless_other line wrong
+
+abbrev pub said_by : Result DatagramValue WrongWord → Result DriverLine Refusal
+said_by (Ok v) = Ok (Say v)
+said_by (Err wrong) = Err (refusals.Word wrong)
+
+abbrev pub line_behind : List ℕ → Option (List ℕ) → Result DriverLine Refusal
+line_behind line None = came_in line (reading_words line)
+line_behind line (Some rest) = said_by (reading_words rest)
+
+-- the line, which stands without its end
+abbrev pub line_of : List ℕ → Result DriverLine Refusal
+line_of line = line_behind line (said_part (parted 32 line))
+
+-- ---- what the code answers
+
+-- what a line of a script carries is in its range
+abbrev pub IsWithin : DriverLine → Type 0
+IsWithin (Script line) = IsScriptWithin line
+IsWithin (Say v) = Unit {0}
+IsWithin (Next p) = Unit {0}
+IsWithin (View p) = Unit {0}
+IsWithin Known = Unit {0}
+IsWithin (Ask n) = Unit {0}
+IsWithin (Stop n) = Unit {0}
+
+-- why a line of a script was not parsed
+abbrev pub unanswered_by : ParseFault → Unanswered
+unanswered_by (parse_faults.Line e) = unanswered.Refused (refusals.Line e)
+unanswered_by parse_faults.Memory = unanswered.Memory
+
+-- what a line says, its first fault, or want of memory
+abbrev pub Parses : {X : Type 0} → Result X Unanswered → Result X Refusal → Type 0
+Parses (Ok x) said = said ≡ Ok x
+Parses (Err (unanswered.Refused e)) said = said ≡ Err e
+Parses (Err unanswered.Memory) said = Unit {0}

@@ -1,0 +1,235 @@
+//! What the lines of a driver do at an open station.
+ghost use Rattle.std.specs.Prelude.{◌≡◌, ◌++◌, List, ℕ, OnOk, OnErr};
+ghost use Rattle.wb_script.specs.Driving.{next_number};
+ghost use Rattle.wb_script.specs.Hosts.{Opened, act};
+ghost use Rattle.wb_script.specs.Stations.{IsOpenAt};
+ghost use Rattle.wb_script.specs.Parsing.{IsWithin as IsScriptWithin};
+ghost use Rattle.wb_dialog.specs.Lines.{IsWithin};
+ghost use Rattle.wb_script.specs.SentLines.{send_line};
+ghost use Rattle.wb_dialog.specs.Dialog.{answered, arrives, batch_of, goes_out, speaker, says, script_answer, numbered, answer_at};
+ghost use Rattle.wb_dialog.specs.Doing.{DoesAt};
+
+use crate::blocks::{ask_line, known_text, next_line, stop_line, view_text};
+use crate::fault::{Refusal, Unanswered};
+use crate::line::DriverLine;
+use std::alloc::{AllocError, Global};
+use wb_codec::Datagram;
+use wb_lines::Output;
+use wb_names::{Drawop, Name, PageId};
+use wb_script::{Acceptance, Line, LineFault, RunFault, Station, batch_line, send_line};
+
+/// What a line of a script does here, but for arrivals and boards.
+fn act(
+    alloc: Global,
+    station: &mut Station,
+    line: &Line,
+    output: &mut Output,
+) -> Result<(), Unanswered>
+    requires { IsScriptWithin line.now }
+    ensures text { (written : List ℕ) × (output.new ≡ output.old ++ written) × DoesAt station.old station.new written result (λ host. answered (act line.now host)) }
+{
+    match station.act(alloc, 0, line, output) {
+        Ok(()) => Ok(()),
+        Err(RunFault::Line(_, fault)) => Err(Unanswered::Refused(Refusal::Line(fault))),
+        Err(_) => Err(Unanswered::Memory),
+    }
+}
+
+/// A drawop comes in.
+fn arrive(
+    alloc: Global,
+    station: &mut Station,
+    drawop: &Drawop,
+    output: &mut Output,
+) -> Result<(), Unanswered>
+    ensures text { (written : List ℕ) × (output.new ≡ output.old ++ written) × DoesAt station.old station.new written result (λ host. arrives drawop.now host) }
+{
+    let became = station.accept(drawop)?;
+    count(alloc, became, output)?;
+    Ok(())
+}
+
+/// What a line of a script does here.
+fn script(
+    alloc: Global,
+    station: &mut Station,
+    line: &Line,
+    output: &mut Output,
+) -> Result<(), Unanswered>
+    requires { IsScriptWithin line.now }
+    ensures text { (written : List ℕ) × (output.new ≡ output.old ++ written) × DoesAt station.old station.new written result (λ host. script_answer line.now host) }
+{
+    match line {
+        Line::Arrive(drawop) => arrive(alloc, station, drawop, output),
+        Line::Board { .. } => Err(Unanswered::Refused(Refusal::Line(LineFault::SecondBoard))),
+        _ => act(alloc, station, line, output),
+    }
+}
+
+/// The member that a datagram names as its source, sender or asker.
+fn speaker(datagram: &Datagram) -> u32
+    ensures { result ≡ speaker datagram.now }
+{
+    match datagram {
+        Datagram::Draw(drawop) => drawop.name().source(),
+        Datagram::Session { sender, .. } => *sender,
+        Datagram::Request { asker, .. } => *asker,
+        Datagram::AskPages { asker } => *asker,
+        Datagram::PageState { sender, .. } => *sender,
+    }
+}
+
+/// Prints the line of a datagram that is sent. Without memory it prints nothing.
+fn send(alloc: Global, datagram: &Datagram, output: &mut Output) -> Result<(), AllocError>
+    ensures ok { OnOk result (output.new ≡ output.old ++ send_line datagram.now) }
+    ensures err { OnErr result (output.new ≡ output.old) }
+{
+    let text = send_line(alloc, datagram)?;
+    output.add(text.as_bytes())
+}
+
+/// Prints the batch that one drawop is. Without memory it prints nothing.
+fn count(alloc: Global, became: Acceptance, output: &mut Output) -> Result<(), AllocError>
+    ensures ok { OnOk result (output.new ≡ output.old ++ batch_of became) }
+    ensures err { OnErr result (output.new ≡ output.old) }
+{
+    let text = batch_line(alloc, became.counted())?;
+    output.add(text.as_bytes())
+}
+
+/// A drawop of ours is accepted, and goes out where it is new or was held already.
+fn publish(
+    alloc: Global,
+    station: &mut Station,
+    drawop: &Drawop,
+    output: &mut Output,
+) -> Result<(), Unanswered>
+    ensures text { (written : List ℕ) × (output.new ≡ output.old ++ written) × DoesAt station.old station.new written result (λ host. goes_out (Datagram.Draw drawop.now) host) }
+{
+    let became = station.accept(drawop)?;
+    match became {
+        Acceptance::New => send(alloc, &Datagram::Draw(*drawop), output)?,
+        Acceptance::Again => send(alloc, &Datagram::Draw(*drawop), output)?,
+        Acceptance::Clash => count(alloc, became, output)?,
+        Acceptance::Left => count(alloc, became, output)?,
+    }
+    Ok(())
+}
+
+/// A datagram of ours goes out. A drawop is accepted first.
+fn go_out(
+    alloc: Global,
+    station: &mut Station,
+    datagram: &Datagram,
+    output: &mut Output,
+) -> Result<(), Unanswered>
+    ensures text { (written : List ℕ) × (output.new ≡ output.old ++ written) × DoesAt station.old station.new written result (λ host. goes_out datagram.now host) }
+{
+    if let Datagram::Draw(drawop) = datagram {
+        return publish(alloc, station, drawop, output);
+    }
+    send(alloc, datagram, output)?;
+    Ok(())
+}
+
+/// A datagram is to be said.
+fn say(
+    alloc: Global,
+    station: &mut Station,
+    datagram: &Datagram,
+    output: &mut Output,
+) -> Result<(), Unanswered>
+    ensures text { (written : List ℕ) × (output.new ≡ output.old ++ written) × DoesAt station.old station.new written result (λ host. says datagram.now host) }
+{
+    if speaker(datagram) != station.me() {
+        return Err(Unanswered::Refused(Refusal::Member));
+    }
+    go_out(alloc, station, datagram, output)
+}
+
+/// The number of our next drawop on a page is asked for.
+fn next(
+    alloc: Global,
+    station: &Station,
+    page: PageId,
+    output: &mut Output,
+) -> Result<(), Unanswered>
+    ensures text { (written : List ℕ) × (output.new ≡ output.old ++ written) × DoesAt station.now station.now written result (λ host. numbered host (next_number page host)) }
+{
+    let Some(number) = station.next_number(page) else {
+        return Err(Unanswered::Refused(Refusal::Line(LineFault::TooMany)));
+    };
+    output.add(next_line(alloc, number)?.as_bytes())?;
+    Ok(())
+}
+
+/// The drawops that a page shows are asked for.
+fn view(
+    alloc: Global,
+    station: &mut Station,
+    page: PageId,
+    output: &mut Output,
+) -> Result<(), Unanswered>
+    ensures text { (written : List ℕ) × (output.new ≡ output.old ++ written) × DoesAt station.old station.new written result (λ host. answer_at (DriverLine.View page) host) }
+{
+    let drawops = station.view(alloc, page)?;
+    output.add(view_text(alloc, &drawops)?.as_slice())?;
+    Ok(())
+}
+
+/// The pages that are known are asked for.
+fn known(
+    alloc: Global,
+    station: &mut Station,
+    output: &mut Output,
+) -> Result<(), Unanswered>
+    ensures text { (written : List ℕ) × (output.new ≡ output.old ++ written) × DoesAt station.old station.new written result (λ host. answer_at DriverLine.Known host) }
+{
+    let pages = station.known(alloc)?;
+    output.add(known_text(alloc, &pages)?.as_bytes())?;
+    Ok(())
+}
+
+/// It begins to ask for a name.
+fn ask(
+    alloc: Global,
+    station: &mut Station,
+    name: &Name,
+    output: &mut Output,
+) -> Result<(), Unanswered>
+    ensures text { (written : List ℕ) × (output.new ≡ output.old ++ written) × DoesAt station.old station.new written result (λ host. answer_at (DriverLine.Ask name.now) host) }
+{
+    let begun = station.ask(alloc, name)?;
+    output.add(ask_line(begun))?;
+    Ok(())
+}
+
+/// It gives up asking for a name.
+fn stop(station: &mut Station, name: &Name, output: &mut Output) -> Result<(), Unanswered>
+    ensures text { (written : List ℕ) × (output.new ≡ output.old ++ written) × DoesAt station.old station.new written result (λ host. answer_at (DriverLine.Stop name.now) host) }
+{
+    let asked = station.stop(name);
+    output.add(stop_line(asked))?;
+    Ok(())
+}
+
+/// What a line does at an open station: it prints, or it is refused, and then the station stays as it is.
+pub(crate) fn answer(
+    alloc: Global,
+    station: &mut Station,
+    line: &DriverLine,
+    output: &mut Output,
+) -> Result<(), Unanswered>
+    requires { IsWithin line.now }
+    ensures text { (written : List ℕ) × (output.new ≡ output.old ++ written) × DoesAt station.old station.new written result (λ host. answer_at line.now host) }
+{
+    match line {
+        DriverLine::Script(line) => script(alloc, station, line, output),
+        DriverLine::Say(datagram) => say(alloc, station, datagram, output),
+        DriverLine::Next(page) => next(alloc, station, *page, output),
+        DriverLine::View(page) => view(alloc, station, *page, output),
+        DriverLine::Known => known(alloc, station, output),
+        DriverLine::Ask(name) => ask(alloc, station, name, output),
+        DriverLine::Stop(name) => stop(station, name, output),
+    }
+}

@@ -1,0 +1,121 @@
+//! The texts of a block.
+ghost use Rattle.std.specs.Prelude.{◌≡◌, IfOk};
+ghost use Rattle.std.specs.String.{string_bytes};
+ghost use Rattle.wb_dialog.specs.Dialog.{view_text, known_text, words_line, next_line, ask_line, stop_line, line_text, refusal_text, due_word, ok_line, refused_line};
+
+use crate::fault::Refusal;
+use std::alloc::{AllocError, Global};
+use wb_codec::Datagram;
+use wb_names::{Drawop, PageId};
+use wb_script::{LineFault, pair_line};
+use wb_words::{write_words, wrong_text};
+
+/// The number of our next drawop on a page.
+pub(crate) fn next_line(alloc: Global, number: u32) -> Result<String, AllocError>
+    ensures { IfOk result (λ text. string_bytes text ≡ next_line number) }
+{
+    format!(in alloc; "next {number}\n")
+}
+
+/// A drawop in words, with a line feed.
+fn words_line(alloc: Global, drawop: &Drawop) -> Result<Vec<u8>, AllocError>
+    ensures { IfOk result (λ line. line.items ≡ words_line drawop.now) }
+{
+    let mut line = write_words(alloc, &Datagram::Draw(*drawop))?;
+    line.push(b'\n')?;
+    Ok(line)
+}
+
+/// How many drawops a page shows, and each in words.
+pub(crate) fn view_text(alloc: Global, drawops: &[Drawop]) -> Result<Vec<u8>, AllocError>
+    ensures { IfOk result (λ text. text.items ≡ view_text drawops.now) }
+{
+    let count = drawops.len();
+    let mut text = format!(in alloc; "view {count}\n")?.into_bytes();
+    for drawop in drawops {
+        text.extend_from_slice(words_line(alloc, drawop)?.as_slice())?;
+    }
+    Ok(text)
+}
+
+/// How many pages are known, and which.
+pub(crate) fn known_text(alloc: Global, pages: &[PageId]) -> Result<String, AllocError>
+    ensures { IfOk result (λ text. string_bytes text ≡ known_text pages.now) }
+{
+    let count = pages.len();
+    let mut text = format!(in alloc; "known {count}\n")?;
+    for page in pages {
+        text.push_str(pair_line(alloc, page.creator, page.number)?.as_str())?;
+    }
+    Ok(text)
+}
+
+/// Whether it began to ask for a name.
+pub(crate) fn ask_line(begun: bool) -> &'static [u8]
+    ensures { result.now ≡ ask_line begun }
+{
+    if begun { b"ask 1\n" } else { b"ask 0\n" }
+}
+
+/// Whether it gave up asking for a name.
+pub(crate) fn stop_line(asked: bool) -> &'static [u8]
+    ensures { result.now ≡ stop_line asked }
+{
+    if asked { b"stop 1\n" } else { b"stop 0\n" }
+}
+
+fn line_text(alloc: Global, fault: LineFault) -> Result<String, AllocError>
+    ensures { IfOk result (λ text. string_bytes text ≡ line_text fault) }
+{
+    match fault {
+        LineFault::Unknown => format!(in alloc; "unknown"),
+        LineFault::Words => format!(in alloc; "words"),
+        LineFault::Number => format!(in alloc; "number"),
+        LineFault::Hex => format!(in alloc; "hex"),
+        LineFault::Datagram(fault) => {
+            let code = fault.code();
+            format!(in alloc; "datagram {code}")
+        }
+        LineFault::Kind => format!(in alloc; "kind"),
+        LineFault::NoBoard => format!(in alloc; "no board"),
+        LineFault::SecondBoard => format!(in alloc; "second board"),
+        LineFault::BackInTime => format!(in alloc; "back in time"),
+        LineFault::TooMany => format!(in alloc; "too many"),
+    }
+}
+
+fn refusal_text(alloc: Global, refusal: Refusal) -> Result<String, AllocError>
+    ensures { IfOk result (λ text. string_bytes text ≡ refusal_text refusal) }
+{
+    match refusal {
+        Refusal::Line(fault) => line_text(alloc, fault),
+        Refusal::Word(wrong) => wrong_text(alloc, wrong),
+        Refusal::Member => format!(in alloc; "member"),
+        Refusal::Endless => format!(in alloc; "endless"),
+    }
+}
+
+/// The line that closes the block of a line that is refused.
+pub(crate) fn refused_line(alloc: Global, refusal: Refusal) -> Result<String, AllocError>
+    ensures { IfOk result (λ text. string_bytes text ≡ refused_line refusal) }
+{
+    let fault = refusal_text(alloc, refusal)?;
+    format!(in alloc; "refused {fault}\n")
+}
+
+fn due_word(alloc: Global, due: Option<u64>) -> Result<String, AllocError>
+    ensures { IfOk result (λ text. string_bytes text ≡ due_word due) }
+{
+    match due {
+        Some(moment) => format!(in alloc; "{moment}"),
+        None => format!(in alloc; "never"),
+    }
+}
+
+/// The line that closes the block of a line that was taken, with the next moment at which a timer is due.
+pub(crate) fn ok_line(alloc: Global, due: Option<u64>) -> Result<String, AllocError>
+    ensures { IfOk result (λ text. string_bytes text ≡ ok_line due) }
+{
+    let word = due_word(alloc, due)?;
+    format!(in alloc; "ok {word}\n")
+}

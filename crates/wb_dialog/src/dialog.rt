@@ -1,0 +1,192 @@
+ghost use Rattle.std.specs.Prelude.{◌≡◌, ◌++◌, List, [], ℕ, None, Option, Err, true};
+ghost use Rattle.wb_recovery.specs.Timing.{are_constants};
+ghost use Rattle.wb_script.specs.Hosts.{Opened};
+ghost use Rattle.wb_script.specs.Stations.{MayBeOpenAt};
+ghost use Rattle.wb_dialog.specs.Lines.{IsWithin, line_of};
+ghost use Rattle.wb_dialog.specs.Dialog.{answer_first, answer_to, answer, after, due, ok_line};
+ghost use Rattle.wb_dialog.specs.Doing.{DoesAnswer, Prints, Blocks};
+
+use crate::answering::answer;
+use crate::blocks::{ok_line, refused_line};
+use crate::fault::{Refusal, Unanswered};
+use crate::line::DriverLine;
+use crate::parsing::read_line;
+use std::alloc::{AllocError, Global};
+use std::convert::Infallible;
+use std::marker::Model;
+use wb_lines::{Handler, Output, Stop, without_end};
+use wb_recovery::Tuning;
+use wb_script::{Line, LineFault, Station};
+
+/// A host that answers the lines of a driver, one at a time. What its keeper holds stands for the calls that it
+/// accepted, so the contracts speak of each host at which it may be.
+#[derive(Drop)]
+pub struct Dialog {
+    tuning: Tuning,
+    station: Option<Station>,
+}
+
+impl Model for Dialog {
+    ghost use Rattle.std.specs.Prelude.{◌≡◌, true};
+    ghost use Rattle.wb_recovery.specs.Timing.{are_constants};
+    ghost use Rattle.wb_dialog.specs.Doing.{DialogValue};
+
+    ghost Value = { DialogValue };
+
+    ghost view = { λ d. record { tuning = d.tuning; station = d.station } };
+
+    ghost invariant = { λ d. are_constants d.tuning ≡ true };
+}
+
+impl Dialog {
+    /// No board is open. The timers of the one that will be have these constants, each from 1 to 16.
+    pub fn new(tuning: Tuning) -> Self
+        requires { are_constants tuning ≡ true }
+        ensures { result ≡ record { tuning = tuning; station = None } }
+    {
+        Dialog {
+            tuning,
+            station: None,
+        }
+    }
+
+    /// The next moment at which a timer is due, in microseconds. None where no timer stands.
+    fn next_due(&self) -> Option<u64>
+        ensures { (s : Option Opened) → MayBeOpenAt self.now.station s → result ≡ due s }
+    {
+        match &self.station {
+            Some(station) => station.next_due(),
+            None => None,
+        }
+    }
+
+    /// What a line does before a board is open.
+    fn begin(&mut self, alloc: Global, line: &DriverLine) -> Result<(), Unanswered>
+        requires line { IsWithin line.now }
+        requires closed { self.old.station ≡ None }
+        ensures does { DoesAnswer None self.new.station [] result (answer_first self.old.tuning line.now) }
+        ensures tuning { self.new.tuning ≡ self.old.tuning }
+    {
+        match line {
+            DriverLine::Script(Line::Skip) => Ok(()),
+            DriverLine::Script(Line::Board {
+                member,
+                cells,
+                seed,
+                ..
+            }) => {
+                self.station = Some(Station::open(alloc, *member, *cells, *seed, self.tuning)?);
+                Ok(())
+            }
+            _ => Err(Unanswered::Refused(Refusal::Line(LineFault::NoBoard))),
+        }
+    }
+
+    /// What a line does.
+    fn act(
+        &mut self,
+        alloc: Global,
+        line: &DriverLine,
+        output: &mut Output,
+    ) -> Result<(), Unanswered>
+        requires { IsWithin line.now }
+        ensures text { (written : List ℕ) × (output.new ≡ output.old ++ written) × ((s : Option Opened) → MayBeOpenAt self.old.station s → DoesAnswer s self.new.station written result (answer_to self.old.tuning s line.now)) }
+        ensures tuning { self.new.tuning ≡ self.old.tuning }
+    {
+        match &mut self.station {
+            Some(station) => answer(alloc, station, line, output),
+            None => self.begin(alloc, line),
+        }
+    }
+
+    /// Reads a line, which stands without its end, and does what it says.
+    fn take(
+        &mut self,
+        alloc: Global,
+        content: &[u8],
+        output: &mut Output,
+    ) -> Result<(), Unanswered>
+        ensures text { (written : List ℕ) × (output.new ≡ output.old ++ written) × ((s : Option Opened) → MayBeOpenAt self.old.station s → DoesAnswer s self.new.station written result (answer self.old.tuning s (line_of content.now))) }
+        ensures tuning { self.new.tuning ≡ self.old.tuning }
+    {
+        let line = read_line(alloc, content)?;
+        self.act(alloc, &line, output)
+    }
+
+    /// Closes the block of a line that was taken.
+    fn close(&self, alloc: Global, output: &mut Output) -> Result<(), AllocError>
+        ensures { (written : List ℕ) × (output.new ≡ output.old ++ written) × ((s : Option Opened) → MayBeOpenAt self.now.station s → Prints written result (ok_line (due s))) }
+    {
+        let text = ok_line(alloc, self.next_due())?;
+        output.add(text.as_bytes())
+    }
+
+    /// Prints the block of a line, which stands without its end: what it prints, and `ok DUE`; or, where the line is
+    /// refused, `refused FAULT`, and nothing changes. Where memory runs out, a front of the block is printed, and the
+    /// host is to be given up.
+    pub fn answer(
+        &mut self,
+        alloc: Global,
+        content: &[u8],
+        output: &mut Output,
+    ) -> Result<(), AllocError>
+        ensures text { (written : List ℕ) × (output.new ≡ output.old ++ written) × ((s : Option Opened) → MayBeOpenAt self.old.station s → (let a = answer self.old.tuning s (line_of content.now) in Blocks self.new.station written result (after s a) a)) }
+        ensures tuning { self.new.tuning ≡ self.old.tuning }
+    {
+        match self.take(alloc, content, output) {
+            Ok(()) => self.close(alloc, output),
+            Err(Unanswered::Refused(refusal)) => self.refuse(alloc, refusal, output),
+            Err(Unanswered::Memory) => Err(AllocError),
+        }
+    }
+
+    /// Prints the block of a line that is refused.
+    pub fn refuse(
+        &mut self,
+        alloc: Global,
+        refusal: Refusal,
+        output: &mut Output,
+    ) -> Result<(), AllocError>
+        ensures same { self.new ≡ self.old }
+        ensures text { (written : List ℕ) × (output.new ≡ output.old ++ written) × ((s : Option Opened) → MayBeOpenAt self.old.station s → (let a = answer self.old.tuning s (Err refusal) in Blocks self.new.station written result (after s a) a)) }
+    {
+        let text = refused_line(alloc, refusal)?;
+        output.add(text.as_bytes())
+    }
+}
+
+/// No line stops a dialog: each is answered, also one that is too long.
+impl Handler for Dialog {
+    type Fault = Infallible;
+
+    ghost use Rattle.wb_dialog.specs.Dialog.{State, step};
+    ghost use Rattle.wb_dialog.specs.Doing.{IsAt};
+
+    ghost State = { State };
+
+    ghost is_at = { IsAt };
+
+    ghost step = { step };
+
+    fn take(
+        &mut self,
+        alloc: Global,
+        _number: u64,
+        line: &[u8],
+        ended: bool,
+        output: &mut Output,
+    ) -> Result<(), Stop<Infallible>> {
+        self.answer(alloc, without_end(line, ended), output)?;
+        Ok(())
+    }
+
+    fn take_too_long(
+        &mut self,
+        alloc: Global,
+        _number: u64,
+        output: &mut Output,
+    ) -> Result<(), Stop<Infallible>> {
+        self.refuse(alloc, Refusal::Endless, output)?;
+        Ok(())
+    }
+}

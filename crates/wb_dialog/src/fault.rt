@@ -1,0 +1,86 @@
+ghost use Rattle.std.specs.Prelude.{◌≡◌};
+ghost use Rattle.wb_dialog.specs.declared.fault.Unanswered.TheVariants as unanswered;
+ghost use Rattle.wb_dialog.specs.declared.fault.Refusal.TheVariants as refusals;
+
+use std::alloc::{AllocError, AllocFailed};
+use thiserror::Error;
+use wb_script::LineFault;
+use wb_words::WrongWord;
+
+/// Why a line of a driver is refused.
+#[derive(Clone, Copy, Debug, PartialEq, Eq, Error)]
+pub enum Refusal {
+    /// As a script's line is: `unknown`, `words`, `number`, `hex`, `datagram N`, `kind`, `no board`, `second
+    /// board`, `back in time` or `too many`.
+    #[error("{0}")]
+    Line(LineFault),
+    /// A word of a datagram in words is wrong, by its place among them.
+    #[error("{0}")]
+    Word(WrongWord),
+    /// What is to be said names another member as its source, sender or asker.
+    #[error("member")]
+    Member,
+    /// The line has over 65,536 bytes before its line feed.
+    #[error("endless")]
+    Endless,
+}
+
+/// Why a line was not answered with what it does.
+#[derive(Clone, Copy, Debug, PartialEq, Eq, Error)]
+pub(crate) enum Unanswered {
+    /// It is refused.
+    #[error("{0}")]
+    Refused(Refusal),
+    /// Memory ran out. This says nothing of the line.
+    #[error("memory")]
+    Memory,
+}
+
+impl From<Refusal> for Unanswered {
+    ghost from_gives = { λ e f. f ≡ unanswered.Refused e };
+
+    fn from(refusal: Refusal) -> Unanswered {
+        Unanswered::Refused(refusal)
+    }
+}
+
+impl From<LineFault> for Unanswered {
+    ghost from_gives = { λ e f. f ≡ unanswered.Refused (refusals.Line e) };
+
+    fn from(fault: LineFault) -> Unanswered {
+        Unanswered::Refused(Refusal::Line(fault))
+    }
+}
+
+impl From<AllocError> for Unanswered {
+    ghost from_gives = { λ _ f. f ≡ unanswered.Memory };
+
+    fn from(_error: AllocError) -> Unanswered {
+        Unanswered::Memory
+    }
+}
+
+impl<T: Drop> From<AllocFailed<T>> for Unanswered {
+    ghost from_gives = { λ _ f. f ≡ unanswered.Memory };
+
+    fn from(_error: AllocFailed<T>) -> Unanswered {
+        Unanswered::Memory
+    }
+}
+
+/// Why a host did not come to the end of its input.
+#[derive(Clone, Copy, Debug, PartialEq, Eq, Error)]
+pub enum HostFault {
+    /// The source has failed.
+    #[error("read")]
+    Read,
+    /// The sink has failed.
+    #[error("write")]
+    Write,
+    /// Memory ran out.
+    #[error("memory")]
+    Memory,
+    /// The input has 2^64 - 1 lines or more, or a line that has so many bytes.
+    #[error("endless")]
+    Endless,
+}

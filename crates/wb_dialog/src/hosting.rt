@@ -1,0 +1,54 @@
+ghost use Rattle.std.specs.Prelude.{◌≡◌, List, ℕ, true, false, Err, OnOk};
+ghost use Rattle.std.specs.Io.KnownBytes.{Appends};
+ghost use Rattle.wb_recovery.specs.Timing.{are_constants};
+ghost use Rattle.wb_lines.specs.Driving.{Gave};
+ghost use Rattle.wb_dialog.specs.Dialog.{transcript};
+ghost use Rattle.wb_dialog.specs.Doing.{fault_of, Writes};
+
+use crate::dialog::Dialog;
+use crate::fault::HostFault;
+use std::alloc::Global;
+use std::convert::Infallible;
+use wb_lines::{DriveFault, drive};
+use wb_names::{Sink, Source};
+use wb_recovery::Tuning;
+
+/// Why a host stopped, by why the driver of its lines did. No line stops one.
+fn fault_of(fault: DriveFault<Infallible>) -> HostFault
+    ensures { result ≡ fault_of fault }
+{
+    match fault {
+        DriveFault::Line(_, never) => match never {},
+        DriveFault::Read => HostFault::Read,
+        DriveFault::Write => HostFault::Write,
+        DriveFault::Memory => HostFault::Memory,
+        DriveFault::Endless => HostFault::Endless,
+    }
+}
+
+/// Answers the lines that a source has left, and writes their blocks to a sink: each before more is read. The
+/// timers of the host have these constants, each from 1 to 16.
+///
+/// What is written is the transcript of the input, which ends where the source does or where it fails. Where
+/// memory runs out, the sink fails, or there are 2^64 - 1 lines or bytes, a front of it is written.
+pub fn host<R: Source, W: Sink>(
+    alloc: Global,
+    tuning: Tuning,
+    source: &mut R,
+    sink: &mut W,
+) -> Result<(), HostFault>
+    requires { are_constants tuning ≡ true }
+    ensures text { (input : List ℕ) × (written : List ℕ)
+        × Gave (R.left source.old) (R.left source.new) (R.has_failed source.new) input
+        × Appends (W.taken sink.old) (W.taken sink.new) written
+        × Writes (transcript tuning (R.has_failed source.new) input) written result }
+    ensures whole { OnOk result (R.has_failed source.new ≡ false) }
+    ensures read { result ≡ Err HostFault.Read → R.has_failed source.new ≡ true }
+    ensures write { result ≡ Err HostFault.Write → W.has_failed sink.new ≡ true }
+{
+    let mut dialog = Dialog::new(tuning);
+    match drive(alloc, u64::MAX, &mut dialog, source, sink) {
+        Ok(_) => Ok(()),
+        Err(fault) => Err(fault_of(fault)),
+    }
+}

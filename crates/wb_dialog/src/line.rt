@@ -1,0 +1,22 @@
+use wb_codec::Datagram;
+use wb_names::{Name, PageId};
+use wb_script::Line;
+
+/// A line of a driver, with its words as fields.
+#[derive(Debug, Drop)]
+pub enum DriverLine {
+    /// A line of a script, or one that hands in a datagram: `datagram HEX`, or a datagram in words.
+    Script(Line),
+    /// `say WORDS`: a datagram of ours is to go out.
+    Say(Datagram),
+    /// `next C N` asks for the number of our next drawop on a page.
+    Next(PageId),
+    /// `view C N` asks for the drawops that a page shows.
+    View(PageId),
+    /// `known` asks for the pages that were heard of.
+    Known,
+    /// `ask C N SOURCE NUMBER` begins to miss a drawop.
+    Ask(Name),
+    /// `stop C N SOURCE NUMBER` gives up asking for a drawop.
+    Stop(Name),
+}

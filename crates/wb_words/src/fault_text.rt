@@ -1,0 +1,51 @@
+//! What is said of a word that is wrong.
+ghost use Rattle.std.specs.Prelude.{◌≡◌, IfOk};
+ghost use Rattle.std.specs.String.{string_bytes};
+ghost use Rattle.wb_words.specs.FaultText.{field_text, word_text, wrong_text};
+
+use crate::fault::{WordFault, WrongWord};
+use std::alloc::{AllocError, Global};
+use wb_names::FieldFault;
+
+fn field_text(fault: FieldFault) -> &'static str
+    ensures { result.now ≡ field_text fault }
+{
+    match fault {
+        FieldFault::SeqZero => "sequence number 0",
+        FieldFault::Coordinate => "coordinate over 4095",
+        FieldFault::Glyph => "glyph outside ! to ~",
+        FieldFault::TextLength => "text of 0 or over 64 bytes",
+        FieldFault::TextByte => "text byte outside space to ~",
+        FieldFault::TargetZero => "target sequence number 0",
+        FieldFault::TargetSelf => "target is the drawop itself",
+    }
+}
+
+fn word_text(fault: WordFault) -> &'static str
+    ensures { result.now ≡ word_text fault }
+{
+    match fault {
+        WordFault::Missing => "missing",
+        WordFault::Extra => "one too many",
+        WordFault::Unknown => "unknown",
+        WordFault::Operation => "operation",
+        WordFault::Number => "number",
+        WordFault::Page => "page",
+        WordFault::Glyph => "glyph",
+        WordFault::Text => "text",
+        WordFault::Mark => "mark",
+        WordFault::Echo => "echo",
+        WordFault::Order => "order",
+        WordFault::TooMany => "too many",
+        WordFault::Field(fault) => field_text(fault),
+    }
+}
+
+/// What is said of a word that is wrong: `word PLACE: FAULT`.
+pub fn wrong_text(alloc: Global, wrong: WrongWord) -> Result<String, AllocError>
+    ensures { IfOk result (λ text. string_bytes text ≡ wrong_text wrong) }
+{
+    let place = wrong.place;
+    let text = word_text(wrong.fault);
+    format!(in alloc; "word {place}: {text}")
+}

@@ -1,0 +1,21 @@
+"""What the published analysis says, and the exact means for the timers that wb has. The unit of delays is the distance."""
+from __future__ import annotations
+
+
+def published_requests(group: int, c2: int) -> float:
+    """Requests for a loss on the source's link of a star of so many members."""
+    return 1 + (group - 2) / c2
+
+
+def published_first_request(group: int, c1: int, c2: int) -> float:
+    """The mean wait until the first of the group - 1 members that lack the drawop asks."""
+    return c1 + c2 / group
+
+
+def exact_senders(timers: int, width: int) -> float:
+    """How many of so many timers fire, where each is uniform over `width` distances and the first stops those more than one distance later.
+
+    With n timers and p = 1/width: 1 + n p - p^n.
+    """
+    share = 1 / width
+    return 1 + timers * share - share ** timers

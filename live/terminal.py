@@ -1,0 +1,113 @@
+"""The page in a terminal, painted as it changes, and a line at its foot that is typed into."""
+from __future__ import annotations
+
+import json
+import shutil
+import sys
+import threading
+from concurrent.futures import TimeoutError as TooLate
+from typing import Any, Callable, Dict
+
+from .events import Events, Watcher
+from .member import OPERATIONS, Member, Refused
+from .telling import NOTICE
+from .views import page_of
+
+HELP = 'line X0 Y0 X1 Y1 GLYPH | frame .. | text X Y "TEXT" | delete SOURCE SEQ | restore .. | undo | page C/N | new | who | wire | quit'
+
+# rows at the foot: the state, what was last said, and the line that is typed
+FOOT = 3
+
+# seconds that a line may take
+PATIENCE = 10
+
+
+class Terminal:
+    """One thread paints and one reads lines; a lock parts what they write."""
+
+    def __init__(self, member: Member, events: Events) -> None:
+        self.member = member
+        self.watcher = Watcher(events)
+        self.state: Dict[str, Any] = {"board": {"rows": []}, "health": {}, "members": {"members": []}}
+        self.said = NOTICE
+        self.shows_wire = False
+        self.lock = threading.Lock()
+
+    def begin(self) -> None:
+        foot = shutil.get_terminal_size().lines
+        self.write("\x1b[2J\x1b[%d;%dr\x1b[%d;1H> " % (foot, foot, foot))
+        for work in (self.watch, self.read):
+            threading.Thread(target=work, daemon=True).start()
+
+    def write(self, text: str) -> None:
+        with self.lock:
+            sys.stdout.write(text)
+            sys.stdout.flush()
+
+    def end(self) -> None:
+        """Gives the terminal back."""
+        self.write("\x1b[r\x1b[%d;1H\n" % shutil.get_terminal_size().lines)
+
+    # ---- painting
+
+    def watch(self) -> None:
+        while True:
+            news = self.watcher.wait(3600)
+            if news is None:
+                return
+            self.state.update((name, json.loads(text)) for name, text in news)
+            if self.shows_wire and "wire" in dict(news):
+                self.said = self.state["wire"]["entries"][-1]["words"] or "no datagram"
+            self.paint()
+
+    def paint(self) -> None:
+        """Paints all rows above the line that is typed, and leaves the cursor where it is."""
+        columns, lines = shutil.get_terminal_size()
+        height = max(0, lines - FOOT)
+        rows = self.state["board"]["rows"][:height]
+        rows = rows + [""] * (height - len(rows)) + [self.status(), self.said]
+        painted = ["\x1b[%d;1H%s\x1b[K" % (y + 1, row[:columns]) for y, row in enumerate(rows)]
+        painted[-2] = "\x1b[%d;1H\x1b[7m%s\x1b[0m\x1b[K" % (height + 1, rows[-2][:columns])
+        self.write("\x1b7" + "".join(painted) + "\x1b8")
+
+    def status(self) -> str:
+        health, others = self.state["health"], len(self.state["members"]["members"])
+        there = "member %d and %d other%s" % (self.member.me, others, "" if others == 1 else "s")
+        return " | ".join(["page " + health.get("page", ""), health.get("phrase", ""), there] + health.get("warnings", [])[-1:])
+
+    # ---- what is typed
+
+    def read(self) -> None:
+        for line in sys.stdin:
+            self.said = self.answer(line.strip())
+            self.paint()
+            self.write("\r\x1b[K> ")
+        self.member.end()
+
+    def answer(self, line: str) -> str:
+        """Does what a line says, and gives what to say of it."""
+        member, word = self.member, line.split(" ", 1)[0]
+        commands: Dict[str, Callable[[], str]] = {
+            "undo": lambda: member.call(member.undo).result(PATIENCE)["words"],
+            "page": lambda: "page " + member.call(member.turn_to, page_of(line[5:])).result(PATIENCE)["page"],
+            "new": lambda: "page " + member.call(member.new_page).result(PATIENCE)["page"],
+            "who": self.who, "wire": self.turn_wire, "quit": self.quit,
+        }
+        try:
+            if word in OPERATIONS:
+                return member.draw(member.page, line).result(PATIENCE)["words"]
+            return commands.get(word, lambda: HELP)()
+        except (Refused, ValueError, TooLate) as fault:
+            return "refused: %s" % (str(fault) or "busy")
+
+    def who(self) -> str:
+        told = ["%d%s" % (m["member"], "" if m["distance"] is None else " (%.1f ms)" % m["distance"]) for m in self.state["members"]["members"]]
+        return ", ".join(told) or "nobody else is heard"
+
+    def turn_wire(self) -> str:
+        self.shows_wire = not self.shows_wire
+        return "datagrams are %sshown here" % ("" if self.shows_wire else "not ")
+
+    def quit(self) -> str:
+        self.member.end()
+        return "ended"

@@ -1,0 +1,120 @@
+"""Bad input: random and mutated datagrams, too many sources, and a flood change nothing that is shown."""
+from __future__ import annotations
+
+import random
+import socket
+import struct
+import time
+from typing import List
+
+from .members import SLOW_FROM, Process, milliseconds_a_line
+
+FIRST_PORT = 26_080
+PAGE = "1/1"
+
+
+def draw_datagram(source: int, seq: int, moment: int, glyph: bytes) -> bytes:
+    """A line from (0, 1) to (4, 1), by docs/FORMAT.md."""
+    body = struct.pack(">IIIIQB", source, 1, 1, seq, moment, 1) + struct.pack(">HHHH", 0, 1, 4, 1) + glyph
+    return struct.pack(">2sBBI", b"WB", 1, 1, len(body)) + body
+
+
+def report(sender: int, page: int, sources: range, high: int) -> bytes:
+    """A page state with one mark for each source."""
+    body = struct.pack(">IIIH", sender, 1, page, len(sources))
+    body += b"".join(struct.pack(">II", source, high) for source in sources)
+    return struct.pack(">2sBBI", b"WB", 1, 5, len(body)) + body
+
+
+def mutated(chance: random.Random, data: bytes) -> bytes:
+    """The datagram with bytes that are other ones, gone, or added: none is a drawop any more."""
+    bad = bytearray(data)
+    kind = chance.randrange(3)
+    if kind == 0:
+        bad[chance.choice([0, 1, 2, 4, 5, 6])] ^= 1 << chance.randrange(1, 7)
+    elif kind == 1:
+        del bad[chance.randrange(1, len(bad)):]
+    else:
+        bad += bytes(chance.randrange(256) for _ in range(chance.randrange(1, 40)))
+    return bytes(bad)
+
+
+class Attacker:
+    """A socket on this machine that sends to one member."""
+
+    def __init__(self, port: int) -> None:
+        self.socket = socket.socket(socket.AF_INET, socket.SOCK_DGRAM)
+        self.socket.bind(("127.0.0.1", 0))
+        self.target = ("127.0.0.1", port)
+
+    def send(self, datagrams: List[bytes], pause: float) -> None:
+        for datagram in datagrams:
+            self.socket.sendto(datagram, self.target)
+            time.sleep(pause)
+
+
+def shows(states, start: str) -> bool:
+    """Whether a row begins so."""
+    return any(row.startswith(start) for row in states["board"]["rows"])
+
+
+def came(member: Process, count: int) -> bool:
+    """Whether so many datagrams came in or were dropped."""
+    return member.wait_for(lambda states: states["health"]["counts"]["in"] + states["health"]["counts"]["dropped"] >= count, 20)
+
+
+def test_noise(judge, member: Process, attacker: Attacker) -> None:
+    """A thousand datagrams that are none."""
+    chance = random.Random(7)
+    good = draw_datagram(9, 1, 10, b"*")
+    noise = [bytes(chance.randrange(256) for _ in range(chance.randrange(1, 300))) for _ in range(500)]
+    noise += [mutated(chance, good) for _ in range(500)]
+    before, refused = member.rows(PAGE), member.counts()["refused"]
+    attacker.send(noise, 0.001)
+    judge("a thousand bad datagrams come in", came(member, 1000), True)
+    judge("each is refused by name", member.counts()["refused"] - refused, 1000)
+    faults = {entry["refused"] for entry in member.entries if entry["refused"]}
+    judge("with a fault of the host", (faults - {"datagram %d" % number for number in range(1, 10)}, len(faults) > 3), (set(), True))
+    judge("bad datagrams change nothing that is shown", member.rows(PAGE), before)
+
+
+def test_too_many_sources(judge, member: Process, attacker: Attacker) -> None:
+    """Reports of 72,000 sources of a page: those above the limit are refused, and the page is drawn on as before."""
+    before, count = member.rows(PAGE), member.counts()["in"]
+    crowd = [report(77, 1, range(first, first + 4000), 3) for first in range(1000, 73_000, 4000)]
+    attacker.send(crowd, 0.05)
+    judge("reports of too many sources come in", came(member, count + len(crowd)), True)
+    judge("too many sources are refused", "too many" in {entry["refused"] for entry in member.entries}, True)
+    judge("too many sources change nothing that is shown", member.rows(PAGE), before)
+    attacker.send([draw_datagram(9, 1, 1 << 52, b"*")], 0)
+    drawn = member.wait_for(lambda states: shows(states, "*****"), 30)
+    judge("beside too many sources a drawop is shown", drawn, True)
+    judge("beside too many sources one draws", member.draw(PAGE, "line 0 3 4 3 =")[0], 200)
+
+
+def test_flood(judge, member: Process, attacker: Attacker) -> None:
+    """Twenty thousand datagrams at once: some are dropped and counted, and the member still answers."""
+    attacker.send([draw_datagram(9, 1, 1 << 52, b"*")] * 20_000, 0)
+    began = time.monotonic()
+    judge("in a flood one draws", member.draw(PAGE, "line 0 4 4 4 ~")[0], 200)
+    print("in a flood a drawing took %.2f s" % (time.monotonic() - began))
+    shown = member.wait_for(lambda states: shows(states, "~~~~~"), 20)
+    judge("in a flood the page is shown", shown, True)
+
+
+def test(judge) -> None:
+    member = Process(["--ports", str(FIRST_PORT), "--speed", "10"])
+    other = Process(["--ports", str(FIRST_PORT), "--speed", "10"])
+    attacker = Attacker(FIRST_PORT)
+    try:
+        judge("a first drawing", member.draw(PAGE, "frame 0 0 9 5 #")[0], 200)
+        judge("is shown by the other", other.wait_for(lambda states: "##########" in states["board"]["rows"]), True)
+        test_noise(judge, member, attacker)
+        if milliseconds_a_line() < SLOW_FROM:
+            test_too_many_sources(judge, member, attacker)
+        else:
+            print("skipped: too many sources, since this program is a slow build")
+        test_flood(judge, member, attacker)
+        judge("the host was never started again", member.counts()["starts"], 1)
+    finally:
+        judge("both end with 0", [member.end(), other.end()], [0, 0])

@@ -1,0 +1,185 @@
+"""Members as processes of their own, spoken to over HTTP as their page does."""
+from __future__ import annotations
+
+import http.client
+import json
+import os
+import re
+import signal
+import subprocess
+import sys
+import threading
+import time
+from pathlib import Path
+from typing import Any, Dict, List, Optional, Tuple
+
+TOP = Path(__file__).resolve().parent.parent.parent
+
+# no test waits longer for one thing, in seconds
+PATIENCE = 60
+
+
+class Process:
+    """One start of ./wb-live, and the newest state that it told."""
+
+    def __init__(self, words: List[str], web: bool = True) -> None:
+        self.process = subprocess.Popen(
+            [sys.executable, str(TOP / "wb-live"), *words] + (["--web", "0"] if web else []),
+            stdin=subprocess.DEVNULL, stdout=subprocess.PIPE, stderr=subprocess.PIPE, text=True,
+        )
+        assert self.process.stdout is not None
+        self.lines: List[str] = []
+        self.changed = threading.Condition()
+        self.states: Dict[str, Any] = {}
+        self.entries: List[Dict[str, Any]] = []
+        for line in self.process.stdout:
+            self.lines.append(line.rstrip("\n"))
+            if line.startswith("page "):
+                self.port = int(re.findall(r":(\d+)/", line)[0])
+                break
+        if web and self.lines and self.lines[-1].startswith("page "):
+            self.token = re.findall("[0-9a-f]{32}", self.get("/")[1])[0]
+            threading.Thread(target=self.watch, daemon=True).start()
+
+    @property
+    def me(self) -> int:
+        return int(self.lines[1].split()[1].rstrip(","))
+
+    def get(self, path: str) -> Tuple[int, str]:
+        connection = http.client.HTTPConnection("127.0.0.1", self.port, timeout=PATIENCE)
+        connection.request("GET", path)
+        answer = connection.getresponse()
+        text = answer.read().decode()
+        connection.close()
+        return answer.status, text
+
+    def watch(self) -> None:
+        """Takes in what is told, until the process ends."""
+        connection = http.client.HTTPConnection("127.0.0.1", self.port, timeout=PATIENCE)
+        try:
+            connection.request("GET", "/events?token=" + self.token)
+            self.take_in(connection.getresponse())
+        except (OSError, http.client.HTTPException, ValueError):
+            pass
+
+    def take_in(self, stream: Any) -> None:
+        name = ""
+        for line in stream:
+            if line.startswith(b"event: "):
+                name = line[7:].strip().decode()
+            if line.startswith(b"data: "):
+                self.learn(name, json.loads(line[6:]))
+
+    def learn(self, name: str, value: Dict[str, Any]) -> None:
+        with self.changed:
+            if name == "wire":
+                self.entries += value["entries"]
+            self.states[name] = value
+            self.changed.notify_all()
+
+    def wait_for(self, is_so, seconds: float = PATIENCE) -> bool:
+        """Whether something comes to be so, of the states that are told."""
+        with self.changed:
+            return self.changed.wait_for(lambda: self.holds(is_so), seconds)
+
+    def holds(self, is_so) -> bool:
+        try:
+            return bool(is_so(self.states))
+        except KeyError:
+            return False
+
+    def post(self, path: str, value: Any, headers: Optional[Dict[str, str]] = None) -> Tuple[int, Dict[str, Any]]:
+        """The status and the answer of a request, as the page sends it unless other headers are given."""
+        body = value if isinstance(value, bytes) else json.dumps(value).encode()
+        given = {"Content-Type": "application/json", "X-Wb-Token": self.token}
+        given.update(headers or {})
+        connection = http.client.HTTPConnection("127.0.0.1", self.port, timeout=PATIENCE)
+        try:
+            connection.request("POST", path, body, {name: text for name, text in given.items() if text})
+            answer = connection.getresponse()
+            return answer.status, json.loads(answer.read())
+        finally:
+            connection.close()
+
+    def draw(self, page: str, operation: str) -> Tuple[int, Dict[str, Any]]:
+        return self.post("/draw", {"page": page, "op": operation})
+
+    def turn(self, page: str) -> None:
+        self.post("/page", {"page": page})
+        self.wait_for(lambda states: states["board"]["page"] == page)
+
+    def rows(self, page: str) -> List[str]:
+        """What the page shows."""
+        self.turn(page)
+        return list(self.states["board"]["rows"])
+
+    def counts(self) -> Dict[str, int]:
+        return dict(self.states["health"]["counts"])
+
+    def kill(self) -> None:
+        """Ends it at once, as a crash would."""
+        self.process.kill()
+        self.process.wait()
+        self.close()
+
+    def end(self) -> int:
+        """Ends it as a person does, and gives its status."""
+        self.process.send_signal(signal.SIGINT)
+        try:
+            status = self.process.wait(10)
+        except subprocess.TimeoutExpired:
+            self.process.kill()
+            status = self.process.wait()
+        self.close()
+        return status
+
+    def close(self) -> None:
+        for stream in (self.process.stdout, self.process.stderr):
+            if stream:
+                stream.close()
+
+
+SLOW_FROM = 0.2
+
+
+def program() -> str:
+    """The program, as ./wb-live finds it."""
+    sys.path.insert(0, str(TOP))
+    from live.host import find_program
+
+    found = find_program()
+    os.environ["WB_PROGRAM"] = found
+    return found
+
+
+def milliseconds_a_line() -> float:
+    """What a line costs round the host's pipes. The proved program takes some hundredths, a build that is checked while
+    it runs many times that: then tests are smaller, and say so."""
+    from live.host import Host
+
+    host = Host(os.environ["WB_PROGRAM"])
+    began = time.monotonic()
+    for _ in range(200):
+        host.ask("")
+    host.end()
+    return (time.monotonic() - began) * 1000 / 200
+
+
+def answers(record: str, questions: List[str]) -> str:
+    """What a host that is given a record answers to these lines after it."""
+    given = Path(record).read_text() + "# questions\n" + "".join(line + "\n" for line in questions)
+    told = subprocess.run([os.environ["WB_PROGRAM"], "host"], input=given, stdout=subprocess.PIPE, text=True, check=True).stdout
+    rest = told.split("\n")
+    return "\n".join(rest[-1 - sum_of_lines(rest, len(questions)):])
+
+
+def sum_of_lines(lines: List[str], blocks: int) -> int:
+    """How many lines the last blocks have together."""
+    count = 0
+    for line in reversed(lines[:-1]):
+        if line.startswith(("ok ", "refused ")):
+            blocks -= 1
+            if blocks < 0:
+                break
+        count += 1
+    return count

@@ -1,0 +1,166 @@
+"""The requests of a browser, and of what is none: by HTTP on 127.0.0.1."""
+from __future__ import annotations
+
+import http.client
+import json
+import socket
+import time
+from typing import Dict, List, Optional, Tuple
+
+from .members import Process
+
+FIRST_PORT = 26_120
+
+
+def status_of(member: Process, method: str, path: str, headers: Dict[str, str], body: Optional[bytes] = None) -> int:
+    """The status of a request with these headers and no others but its length."""
+    connection = http.client.HTTPConnection("127.0.0.1", member.port, timeout=20)
+    try:
+        connection.putrequest(method, path, skip_host=True, skip_accept_encoding=True)
+        for name, value in headers.items():
+            connection.putheader(name, value)
+        if body is not None and "Content-Length" not in headers:
+            connection.putheader("Content-Length", str(len(body)))
+        connection.endheaders(body)
+        return connection.getresponse().status
+    finally:
+        connection.close()
+
+
+def raw_status(member: Process, request: bytes) -> str:
+    """The first line of the answer to these bytes."""
+    with socket.create_connection(("127.0.0.1", member.port), timeout=20) as connection:
+        connection.sendall(request)
+        return connection.makefile("rb").readline().decode().strip()
+
+
+def test_page(judge, member: Process) -> None:
+    connection = http.client.HTTPConnection("127.0.0.1", member.port, timeout=20)
+    connection.request("GET", "/")
+    answer = connection.getresponse()
+    policy = answer.getheader("Content-Security-Policy", "")
+    judge("the page is served", (answer.status, member.token in answer.read().decode()), (200, True))
+    judge("with a policy", [part for part in ("default-src 'none'", "frame-ancestors 'none'", "connect-src 'self'") if part not in policy], [])
+    judge("and no inline code but its own", "unsafe" in policy, False)
+    judge("and no referrer", answer.getheader("Referrer-Policy"), "no-referrer")
+
+
+def test_strangers(judge, member: Process) -> None:
+    """Who may not read or draw."""
+    host = "127.0.0.1:%d" % member.port
+    ours: Dict[str, str] = {"Host": host, "X-Wb-Token": member.token, "Content-Type": "application/json"}
+    good = json.dumps({"page": "1/1", "op": "line 0 0 1 0 x"}).encode()
+    cases: List[Tuple[str, int, str, str, Dict[str, str]]] = [
+        ("localhost is our name too", 200, "GET", "/", {"Host": "localhost:%d" % member.port}),
+        ("another host", 403, "GET", "/", {"Host": "example.org"}),
+        ("another host by our port", 403, "GET", "/", {"Host": "example.org:%d" % member.port}),
+        ("another port", 403, "GET", "/", {"Host": "127.0.0.1:1"}),
+        ("no host", 403, "GET", "/", {}),
+        ("events without a token", 403, "GET", "/events", {"Host": host}),
+        ("events with a wrong token", 403, "GET", "/events?token=" + "0" * 32, {"Host": host}),
+        ("events for another origin", 403, "GET", "/events?token=" + member.token, {"Host": host, "Origin": "http://example.org"}),
+        ("a path that is none", 404, "GET", "/../wb", {"Host": host}),
+        ("a method that is none", 501, "PUT", "/draw", ours),
+        ("reading where one draws", 405, "GET", "/draw", ours),
+        ("a page that opens no slider", 404, "POST", "/worsen", ours),
+        ("a drawing", 200, "POST", "/draw", ours),
+        ("a drawing of our own page", 200, "POST", "/draw", dict(ours, Origin="http://" + host)),
+        ("a drawing for another origin", 403, "POST", "/draw", dict(ours, Origin="http://example.org")),
+        ("a drawing for an unknown origin", 403, "POST", "/draw", dict(ours, Origin="null")),
+        ("a drawing for another host", 403, "POST", "/draw", dict(ours, Host="example.org")),
+        ("a drawing without a token", 403, "POST", "/draw", {"Host": host}),
+        ("a drawing with a wrong token", 403, "POST", "/draw", dict(ours, **{"X-Wb-Token": "0" * 32})),
+        ("a length that is none", 411, "POST", "/draw", dict(ours, **{"Content-Length": "-1"})),
+        ("a body that is too long by its length", 413, "POST", "/draw", dict(ours, **{"Content-Length": "1025"})),
+    ]
+    for name, wanted, method, path, headers in cases:
+        judge(name, status_of(member, method, path, headers, good if method == "POST" else None), wanted)
+
+
+def test_bodies(judge, member: Process) -> None:
+    """What is drawn, and what is refused."""
+    def fault(value) -> Tuple[int, str]:
+        status, answer = member.post("/draw", value)
+        return status, answer.get("fault", "")
+
+    judge("a long body", member.post("/draw", b" " * 1025)[0], 413)
+    judge("a body that is no JSON", fault(b"line 0 0 4 4 *"), (400, "not JSON"))
+    judge("a deep body", fault(b"[" * 1000), (400, "not JSON"))
+    judge("a list", fault([]), (400, "not an object"))
+    judge("a field too few", fault({"page": "1/1"}), (400, "fields"))
+    judge("a field too many", fault({"page": "1/1", "op": "line 0 0 4 4 *", "x": "1"}), (400, "fields"))
+    judge("a field of another kind", fault({"page": 1, "op": "line 0 0 4 4 *"}), (400, "fields"))
+    judge("a page that is none", fault({"page": "1", "op": "line 0 0 4 4 *"}), (400, "page"))
+    judge("a page out of range", fault({"page": "4294967296/1", "op": "line 0 0 4 4 *"}), (400, "page"))
+    judge("a line feed", fault({"page": "1/1", "op": "line 0 0 4 4 *\nsay ask-pages 1"}), (400, "control characters"))
+    judge("an operation that is none", fault({"page": "1/1", "op": "circle 0 0 4 *"}), (422, "unknown"))
+    judge("a word that is wrong", fault({"page": "1/1", "op": "line 0 0 4 4096 *"}), (422, "word 5: number"))
+    judge("a text that is too long", fault({"page": "1/1", "op": 'text 0 0 "%s"' % ("x" * 65)})[0], 422)
+    judge("letters of another alphabet", fault({"page": "1/1", "op": 'text 0 0 "\u00e4"'})[0], 422)
+    judge("a text like HTML", member.draw("1/1", 'text 3 2 "<b>hi</b> \\"\\\\"')[0], 200)
+    shown = member.wait_for(lambda states: any(d.get("text") == '<b>hi</b> "\\' for d in states["board"]["drawops"]))
+    judge("is shown as it is", shown, True)
+    judge("and as the canvas has it", member.states["board"]["rows"][2], '   <b>hi</b> "\\')
+
+
+def test_pages(judge, member: Process) -> None:
+    judge("a new page", member.post("/page", {"new": True}), (200, {"page": "1/2", "ok": True}))
+    judge("is in view", member.wait_for(lambda states: states["board"]["page"] == "1/2"), True)
+    judge("an empty one stays the new one", member.post("/page", {"new": True})[1]["page"], "1/2")
+    judge("a page is turned back", member.post("/page", {"page": "1/1"})[1]["page"], "1/1")
+    judge("a page that is none is not turned to", member.post("/page", {"page": "x"})[0], 400)
+    status, answer = member.draw("1/1", "line 0 9 5 9 u")
+    member.draw("1/1", "delete %d %d" % (answer["source"], answer["seq"]))
+    hidden = member.wait_for(lambda states: any(d["seq"] == answer["seq"] for d in states["board"]["hidden"]))
+    judge("what is deleted can be restored", (status, hidden), (200, True))
+    member.draw("1/1", "restore %d %d" % (answer["source"], answer["seq"]))
+    judge("and is shown again", member.wait_for(lambda states: "uuuuuu" in states["board"]["rows"]), True)
+
+
+def test_crowds(judge, member: Process) -> None:
+    """Idle connections, too many streams, and lines without end."""
+    idle = [socket.create_connection(("127.0.0.1", member.port), timeout=20) for _ in range(200)]
+    began = time.monotonic()
+    judge("beside 200 idle connections the page is served", member.get("/")[0], 200)
+    judge("and one draws", member.draw("1/1", "line 0 8 5 8 i")[0], 200)
+    print("beside 200 idle connections a page and a drawing took %.0f ms" % ((time.monotonic() - began) * 1000))
+    for connection in idle:
+        connection.close()
+    judge("a line without end", raw_status(member, b"GET /" + b"a" * 70_000).split(" ")[1], "414")
+    judge("too many headers", raw_status(member, b"GET / HTTP/1.1\r\n" + b"a: b\r\n" * 200 + b"\r\n").split(" ")[1], "431")
+    streams = []
+    for _ in range(80):
+        connection = socket.create_connection(("127.0.0.1", member.port), timeout=20)
+        connection.sendall(b"GET /events?token=%s HTTP/1.1\r\nHost: 127.0.0.1:%d\r\n\r\n" % (member.token.encode(), member.port))
+        streams.append((connection, connection.makefile("rb").readline().split()[1]))
+    judge("64 streams are open at most", sorted({status for _, status in streams}), [b"200", b"503"])
+    judge("one of them is the test's own", sum(status == b"200" for _, status in streams), 63)
+    for connection, _ in streams:
+        connection.close()
+    judge("beside streams that ended one draws", member.draw("1/1", "line 0 7 5 7 j")[0], 200)
+
+
+def test_teaching(judge) -> None:
+    """A page that opens sliders may make the network worse, in range."""
+    member = Process(["--ports", str(FIRST_PORT + 40), "--speed", "10", "--teach"])
+    try:
+        worse = {"lose": 0.5, "delay": 20, "twice": 0.1, "mix": True}
+        judge("a network made worse", member.post("/worsen", worse), (200, dict(worse, ok=True)))
+        judge("is told", member.wait_for(lambda states: states["hello"]["worsen"] == worse), True)
+        for wrong in ({"lose": 1.5}, {"lose": True}, {"mix": 1}, {"delay": "20"}, {"speed": 1}):
+            judge("not made worse by %s" % wrong, member.post("/worsen", wrong)[0], 400)
+        judge("a page that is shown elsewhere needs the token too", member.post("/worsen", {"lose": 0}, {"X-Wb-Token": ""})[0], 403)
+    finally:
+        judge("it ends with 0", member.end(), 0)
+
+
+def test(judge) -> None:
+    member = Process(["--ports", str(FIRST_PORT), "--speed", "10"])
+    try:
+        judge("the first line says what is proved", "which is proved; live/" in member.lines[0], True)
+        judge("the states come in order", list(member.states)[:5] if member.wait_for(lambda s: len(s) >= 5) else [], ["hello", "board", "pages", "members", "health"])
+        for part in (test_page, test_strangers, test_bodies, test_pages, test_crowds):
+            part(judge, member)
+    finally:
+        judge("the member ends with 0", member.end(), 0)
+    test_teaching(judge)
