@@ -119,8 +119,8 @@ long_too cut l m unended on taken =
       ap (λ (x : Bool). if x then whole m else too_long) long' ∙ sym (ap (λ (x : Bool). if x then whole l else too_long) long),
     )
   where
-  longer : (l m : InputLine) (more : List ℕ) → m.bytes ≡ l.bytes ++ more → is_short l ≡ false → is_short m ≡ false
-  longer l m more is long = let len : length m.bytes ≡ length l.bytes + length more = ap length is ∙ length-append l.bytes more in grind (arith, nat_tests)
+    longer : (l m : InputLine) (more : List ℕ) → m.bytes ≡ l.bytes ++ more → is_short l ≡ false → is_short m ≡ false
+    longer l m more is long = let len : length m.bytes ≡ length l.bytes + length more = ap length is ∙ length-append l.bytes more in grind (arith, nat_tests)
 
 abbrev Begins : State → List InputLine → List InputLine → Type 0
 Begins s ls ms = BeginsWith (concat (blocks_from s ms)) (concat (blocks_from s ls))
@@ -132,7 +132,7 @@ begins_line true false s l m ls ms same rest = absurd (let e = (same refl).0 in 
 begins_line true true s l m ls ms same rest =
     let a = answer_of s (met l) in
     subst (λ (x : Met). BeginsWith (block (answer_of s x) ++ concat (blocks_from (state_after s (answer_of s x)) ms)) (block a ++ concat (blocks_from (state_after s a) ls))) (sym (same refl).1)
-        (begins_behind (block a) (concat (blocks_from (state_after s a) ms)) (concat (blocks_from (state_after s a) ls)) (rest (state_after s a)))
+    (begins_behind (block a) (concat (blocks_from (state_after s a) ms)) (concat (blocks_from (state_after s a) ls)) (rest (state_after s a)))
 
 begins_from : (cut : Bool) (s : State) (ls ms : List InputLine) → GoesOn ls ms → Begins s (answered_lines true ls) (answered_lines cut ms)
 begins_from cut s [] ms on = begins_empty (concat (blocks_from s (answered_lines cut ms)))
@@ -141,7 +141,7 @@ begins_from cut s (l ∷ ls) (m ∷ ms) (inl on) =
     begins_line (is_taken true l) (is_taken cut m) s l m (answered_lines true ls) (answered_lines cut ms) (ended_too cut l m on.0 on.1) (λ next. begins_from cut next ls ms on.2)
 begins_from cut s (l ∷ ls) (m ∷ ms) (inr on) =
     begins_line (is_taken true l) (is_taken cut m) s l m (answered_lines true ls) (answered_lines cut ms) (long_too cut l m on.0 on.2)
-        (λ next. subst (λ (x : List InputLine). Begins next (answered_lines true x) (answered_lines cut ms)) (sym on.1) (begins_empty (concat (blocks_from next (answered_lines cut ms)))))
+    (λ next. subst (λ (x : List InputLine). Begins next (answered_lines true x) (answered_lines cut ms)) (sym on.1) (begins_empty (concat (blocks_from next (answered_lines cut ms)))))
 
 pub fronts_are_fronts : FrontsAreFronts
 fronts_are_fronts tuning cut front rest = begins_from cut (unopened tuning) (input_lines front) (input_lines (front ++ rest)) (input_goes_on front rest)

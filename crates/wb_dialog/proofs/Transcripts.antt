@@ -55,8 +55,8 @@ outcome_tells most n false s [] = (refl, refl)
 outcome_tells most n cut s (line ∷ lines) =
     let a = answer_of s (met line) in
     subst (λ (blocks : List (List ℕ)). Tells (concat blocks) cut (outcome_from (rules_of step most) cut n s (line ∷ lines)))
-        (blocks_of_taken (is_taken cut line) s line (answered_lines cut lines))
-        (turn (nat_lt n most) (is_taken cut line) (is_passed line) cut (block a) (blocks_from (state_after s a) (answered_lines cut lines)) (outcome_from (rules_of step most) cut (n + 1) (state_after s a) lines) (outcome_tells most (n + 1) cut (state_after s a) lines))
+    (blocks_of_taken (is_taken cut line) s line (answered_lines cut lines))
+    (turn (nat_lt n most) (is_taken cut line) (is_passed line) cut (block a) (blocks_from (state_after s a) (answered_lines cut lines)) (outcome_from (rules_of step most) cut (n + 1) (state_after s a) lines) (outcome_tells most (n + 1) cut (state_after s a) lines))
 
 -- ---- what a host wrote
 

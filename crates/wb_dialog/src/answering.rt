@@ -178,11 +178,7 @@ fn view(
 }
 
 /// The pages that are known are asked for.
-fn known(
-    alloc: Global,
-    station: &mut Station,
-    output: &mut Output,
-) -> Result<(), Unanswered>
+fn known(alloc: Global, station: &mut Station, output: &mut Output) -> Result<(), Unanswered>
     ensures text { (written : List ℕ) × (output.new ≡ output.old ++ written) × DoesAt station.old station.new written result (λ host. answer_at DriverLine.Known host) }
 {
     let pages = station.known(alloc)?;

@@ -69,12 +69,14 @@ impl Dialog {
     {
         match line {
             DriverLine::Script(Line::Skip) => Ok(()),
-            DriverLine::Script(Line::Board {
-                member,
-                cells,
-                seed,
-                ..
-            }) => {
+            DriverLine::Script(
+                Line::Board {
+                    member,
+                    cells,
+                    seed,
+                    ..
+                },
+            ) => {
                 self.station = Some(Station::open(alloc, *member, *cells, *seed, self.tuning)?);
                 Ok(())
             }
@@ -100,12 +102,7 @@ impl Dialog {
     }
 
     /// Reads a line, which stands without its end, and does what it says.
-    fn take(
-        &mut self,
-        alloc: Global,
-        content: &[u8],
-        output: &mut Output,
-    ) -> Result<(), Unanswered>
+    fn take(&mut self, alloc: Global, content: &[u8], output: &mut Output) -> Result<(), Unanswered>
         ensures text { (written : List ℕ) × (output.new ≡ output.old ++ written) × ((s : Option Opened) → MayBeOpenAt self.old.station s → DoesAnswer s self.new.station written result (answer self.old.tuning s (line_of content.now))) }
         ensures tuning { self.new.tuning ≡ self.old.tuning }
     {

@@ -84,12 +84,7 @@ fn bytes_line(alloc: Global, rest: &[u8]) -> Result<DriverLine, Unanswered>
 
 /// The line with this first word and these further ones.
 #[tactic(auto, unfolding(crate::specs::Lines::command))]
-fn command(
-    alloc: Global,
-    line: &[u8],
-    word: &[u8],
-    rest: &[u8],
-) -> Result<DriverLine, Unanswered>
+fn command(alloc: Global, line: &[u8], word: &[u8], rest: &[u8]) -> Result<DriverLine, Unanswered>
     ensures line { Parses result (command line.now word.now (words rest.now)) }
     ensures within { IfOk result IsWithin }
 {
