@@ -10,7 +10,7 @@ use std::alloc::{AllocError, Global};
 use wb_names::{Drawop, Marks, PageId};
 
 /// The report of a page: for each source that has a drawop there, ascending, its greatest sequence
-/// number, as session messages tell it (Floyd and others, 1997, section III). The list has at most
+/// number, as session messages tell it (Floyd and others, 1997). The list has at most
 /// 65,535 drawops, so that there are not too many marks.
 pub fn report(alloc: Global, list: &[Drawop], page: PageId) -> Result<Marks, AllocError>
     requires { length list.now ≤ 65535 }

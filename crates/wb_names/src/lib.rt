@@ -7,7 +7,7 @@
 //! know datagrams, boards or threads.
 //!
 //! The words are those of Floyd, Jacobson, Liu, McCanne and Zhang, "A Reliable Multicast Framework
-//! for Light-weight Sessions and Application Level Framing", 1997, sections II and III.
+//! for Light-weight Sessions and Application Level Framing", 1997.
 #![tactic(auto)]
 
 mod drawop;

@@ -10,8 +10,7 @@
 //! member and the random word are handed in with each call, and `tick` answers what is to be sent.
 //!
 //! The rules are those of Floyd, Jacobson, Liu, McCanne and Zhang, "A Reliable Multicast Framework
-//! for Light-weight Sessions and Application Level Framing", 1997, sections IV and V, with constants
-//! that do not adapt.
+//! for Light-weight Sessions and Application Level Framing", 1997, with constants that do not adapt.
 #![tactic(auto)]
 
 mod action;
