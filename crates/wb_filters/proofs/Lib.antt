@@ -4,3 +4,4 @@ pub mod Visible
 pub mod InputText
 pub mod WholeScripts
 pub mod OtherLines
+pub mod KeepingOn

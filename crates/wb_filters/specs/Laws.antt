@@ -1,5 +1,5 @@
 -- Laws of the two filters.
-use Rattle.std.specs.Prelude.{◌≡◌, ◌≢◌, ◌≤◌, ◌⊎◌, ℕ, List, [], ◌∷◌, length, All, codes, Bool, true, false, Ok}
+use Rattle.std.specs.Prelude.{◌≡◌, ◌≢◌, ◌≤◌, ◌⊎◌, ℕ, List, [], ◌∷◌, length, All, codes, Bool, true, false, Ok, Err}
 use Rattle.wb_codec.specs.declared.datagram.Datagram.{Datagram}
 use Rattle.wb_codec.specs.Ranges.{IsDatagram}
 use Rattle.wb_words.specs.Words.{words}
@@ -8,7 +8,10 @@ use Rattle.wb_filters.specs.declared.carrier.Carrier.{Carrier}
 use Rattle.wb_filters.specs.declared.filtering.Direction.{Direction}
 use Rattle.wb_filters.specs.declared.filtering.Direction.TheVariants.{Hex, Words}
 use Rattle.wb_filters.specs.Turning.{takes, digits_line, words_behind, hexed, worded}
+use Rattle.wb_lines.specs.declared.fault.DriveFault.TheVariants as faults
 use Rattle.wb_lines.specs.Driving.{writes}
+use Rattle.wb_filters.specs.declared.fault.LineFault.{LineFault}
+use Rattle.wb_filters.specs.declared.filtering.Filter.{Filter}
 use Rattle.wb_filters.specs.Filtering.{most_lines, outcome}
 
 -- the words of a datagram that comes in or is sent become the line that carries it
@@ -66,3 +69,8 @@ WordsComeBack = (keeps keeps' : Bool) (script : List ℕ) → IsWritten script �
 abbrev pub DigitsComeBack : Type 0
 DigitsComeBack = (keeps keeps' : Bool) (script : List ℕ) → IsPrinted script → IsWithinLimits script
     → (text : List ℕ) × Turns Words keeps script text × IsWritten text × (IsWithinLimits text → Turns Hex keeps' text script)
+
+-- A filter that keeps going does not end at a line that can't be turned, whatever the input.
+abbrev pub NoLineIsRefused : Type 0
+NoLineIsRefused = (filter : Filter) (cut : Bool) (input : List ℕ) → filter.keeps_going ≡ true
+    → (text : List ℕ) (number : ℕ) (e : LineFault) → outcome filter cut input ≢ writes text (Err (faults.Line number e))

@@ -1,4 +1,4 @@
-ghost use Rattle.std.specs.Prelude.{◌≡◌, List, ℕ, true, Err};
+ghost use Rattle.std.specs.Prelude.{◌≡◌, ◌≢◌, List, ℕ, true, Err};
 ghost use Rattle.std.specs.Io.KnownBytes.{Appends};
 ghost use Rattle.wb_lines.specs.declared.fault.DriveFault.TheVariants as faults;
 ghost use Rattle.wb_lines.specs.Driving.{Gave, Meets};
@@ -114,7 +114,8 @@ impl Handler for Filter {
 
 /// Turns the lines that a source has left, and writes what they become to a sink, with their ends as
 /// they were. Before it waits for more it has written what it has. Answers how many lines there were,
-/// or the first fault in their order; each line before it is written.
+/// or the first fault in their order; each line before it is written. One that keeps going never answers
+/// that a line can't be turned.
 ///
 /// Where memory runs out or the sink fails, a front of the text is written.
 pub fn run_filter<R: Source, W: Sink>(
@@ -127,6 +128,7 @@ pub fn run_filter<R: Source, W: Sink>(
         × Gave (R.left source.old) (R.left source.new) (R.has_failed source.new) input
         × Appends (W.taken sink.old) (W.taken sink.new) written
         × Meets (outcome filter (R.has_failed source.new) input) written result }
+    ensures keeps { filter.keeps_going ≡ true → (number : ℕ) (fault : LineFault) → result ≢ Err (faults.Line number fault) }
     ensures read { result ≡ Err faults.Read → R.has_failed source.new ≡ true }
     ensures write { result ≡ Err faults.Write → W.has_failed sink.new ≡ true }
 {

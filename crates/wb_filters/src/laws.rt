@@ -1,7 +1,7 @@
 //! Laws of the two filters, proved for all datagrams and scripts. The functions do nothing: each stands here for
 //! its clauses.
 
-ghost use Rattle.wb_filters.specs.Laws.{WordsAreTurned, DigitsAreTurned, OtherLinesStay, WordsComeBack, DigitsComeBack};
+ghost use Rattle.wb_filters.specs.Laws.{WordsAreTurned, DigitsAreTurned, OtherLinesStay, WordsComeBack, DigitsComeBack, NoLineIsRefused};
 
 /// Each datagram that comes in or is sent has one line in words and one in digits, and each filter
 /// turns the one into the other.
@@ -20,4 +20,9 @@ pub fn other_lines_stay()
 pub fn scripts_come_back()
     ensures words { WordsComeBack }
     ensures digits { DigitsComeBack }
+{}
+
+/// A filter that keeps going ends at no line that can't be turned.
+pub fn kept_filters_refuse_no_line()
+    ensures { NoLineIsRefused }
 {}

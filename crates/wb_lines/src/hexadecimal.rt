@@ -18,7 +18,7 @@ fn are_hex_digits(word: &[u8]) -> bool
 }
 
 /// Whether a word is an even number of hexadecimal digits, of either case.
-pub fn is_hex(word: &[u8]) -> bool
+fn is_hex(word: &[u8]) -> bool
     ensures { result ≡ is_hex word.now }
 {
     word.len() % 2 == 0 && are_hex_digits(word)

@@ -21,7 +21,7 @@ pub use content::{without_carriage_return, without_end};
 pub use driving::drive;
 pub use fault::DriveFault;
 pub use handler::{Handler, Stop};
-pub use hexadecimal::{is_hex, unhex};
+pub use hexadecimal::unhex;
 pub use line_reader::{Found, LineReader, Pulled};
 pub use numbers::number;
 pub use output::{Output, Unwritten};

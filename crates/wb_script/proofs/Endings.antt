@@ -1,23 +1,21 @@
 -- From all lines of a run to its outcome.
-use Rattle.std.proofs.Common.{subst, ◌≡◌, ℕ, ◌-◌, Bool, true, false, List, [], ◌++◌, length, take, Result, Ok, Err, inl, inr, refl, sym, ap, ◌∙◌, append_assoc, arith}
-use Rattle.std.specs.Prelude.{Option, Some, None}
-use Rattle.std.specs.Io.KnownBytes.{Appends, Consumes, IsAtEnd}
+use Rattle.std.proofs.Common.{subst, ◌≡◌, ℕ, Bool, true, false, List, [], ◌++◌, Result, Ok, Err, inl, inr, refl, sym, ap, ◌∙◌, append_assoc}
+use Rattle.std.specs.Prelude.{Option}
 use Rattle.std.proofs.lemmas.Bool.{false≢true}
-use Rattle.std.proofs.lemmas.List.{append-nil, length-append, take_at}
+use Rattle.std.proofs.lemmas.List.{append-nil}
 use Rattle.wb_script.specs.declared.fault.RunFault.{RunFault}
 use Rattle.wb_script.specs.declared.fault.RunFault.TheVariants as run_faults
 use Rattle.wb_script.specs.declared.summary.Summary.{Summary}
 use Rattle.wb_lines.specs.Ahead.{Ahead, Pulls}
 use Rattle.wb_lines.specs.Input.{input_lines}
 use Rattle.wb_script.specs.Script.{State, start, Outcome, prints, before, outcome, Finishes, IsOutcome, IsStop}
-use Rattle.wb_lines.specs.Output.{Sends}
 use Rattle.wb_lines.specs.Input.{MayFollow, MayRemain}
-use Rattle.wb_script.specs.Running.{Leads, Begins, MayBegin, RunsLines, RunsAll, Meets, Settles, Closes, given_of, Runs}
-use Rattle.wb_lines.proofs.KnownBytes.{Sends-then}
+use Rattle.wb_script.specs.Running.{Leads, Begins, MayBegin, RunsLines, RunsAll, Meets, Settles, Closes}
+use Rattle.wb_script.specs.Runs.{Runs}
+use Rattle.wb_lines.proofs.Endings.{fresh, input_from}
 use Rattle.wb_script.proofs.Outcomes.{one_thread}
-
-abbrev fresh : Ahead
-fresh = record { bytes = []; ended = false }
+use Rattle.wb_script.proofs.OneWorker.{one_worker_is_one_thread}
+use Rattle.wb_script.proofs.Reordered.{workers_are_one_thread}
 
 settles_behind : (o : Outcome) (x y left : List ℕ) (result : Result Summary RunFault) → Settles o y left result → Settles (before x o) (x ++ y) left result
 settles_behind (prints t e) x y left result (inl m) = inl (ap (λ (s : List ℕ). x ++ s) m.0, m.1, m.2)
@@ -68,32 +66,25 @@ sent_of : (o : Outcome) (text sent left : List ℕ) (result : Result Summary Run
 sent_of (prints t end) text sent left result e (inl m) = inl (sym (append-nil sent) ∙ ap (λ (x : List ℕ). sent ++ x) (sym m.1) ∙ sym e ∙ m.0, m.2)
 sent_of (prints t end) text sent left result e (inr m) = inr (m.0, (left ++ m.1.0, m.1.1 ∙ ap (λ (x : List ℕ). x ++ m.1.0) e ∙ append_assoc sent left m.1.0))
 
--- what was given, by what is left
-meets_outcome : (k : Option ℕ) (failed ended : Bool) (input rest given text sent left : List ℕ) (result : Result Summary RunFault) → text ≡ sent ++ left → input ≡ given ++ rest → (ended ≡ true → rest ≡ []) → RunsAll k ended failed given text left result
-    → (o : Outcome) × IsOutcome k failed (given_of input rest failed) o × Meets o sent result
-meets_outcome k true ended input rest given text sent left result split e at_end all =
-    let len : length input - length rest ≡ length given = rw e (omega (arith, length-append given rest)) in
-    let front : take (length input - length rest) input ≡ given = rw (len, e) (take_at given rest (length given) refl) in
-    let a : SettlesOne (IsOutcome k true (given ++ [])) text left result = all [] (record { none_after_end = λ h. refl; none_after_failure = λ h. refl }) in
-    (a.0, subst (λ (t : List ℕ). IsOutcome k true t a.0) (append-nil given ∙ sym front) a.1, sent_of a.0 text sent left result split a.2)
-meets_outcome k false ended input rest given text sent left result split e at_end all =
-    let a : SettlesOne (IsOutcome k false (given ++ rest)) text left result = all rest (record { none_after_end = at_end; none_after_failure = λ h. absurd (false≢true h) }) in
-    (a.0, subst (λ (t : List ℕ). IsOutcome k false t a.0) (sym e) a.1, sent_of a.0 text sent left result split a.2)
+-- ---- what it promises
 
-runs_known : (k : Option ℕ) (rest rest' : Option (List ℕ)) (ended failed : Bool) (taken taken' : Option (List ℕ)) (given text sent left : List ℕ) (result : Result Summary RunFault) → Consumes rest rest' given → Appends taken taken' sent → text ≡ sent ++ left → (ended ≡ true → IsAtEnd rest') → RunsAll k ended failed given text left result → Runs k rest rest' failed taken taken' result
-runs_known k None rest' ended failed taken taken' given text sent left result c a split at_end all = tt
-runs_known k (Some input) None ended failed taken taken' given text sent left result c a split at_end all = absurd c
-runs_known k (Some input) (Some rest) ended failed None taken' given text sent left result c a split at_end all = tt
-runs_known k (Some input) (Some rest) ended failed (Some taken) None given text sent left result c a split at_end all = absurd a
-runs_known k (Some input) (Some rest) ended failed (Some taken) (Some taken') given text sent left result c a split at_end all = (sent, a, meets_outcome k failed ended input rest given text sent left result split c at_end all)
+runs_so : (k : Option ℕ) (cut : Bool) (input written : List ℕ) (result : Result Summary RunFault) (o : Outcome) → IsOutcome k cut input o → Meets o written result → Runs k cut input written result
+runs_so k cut input written result o is meets =
+    let Meeting : Outcome → Type 0 = λ x. Meets x written result in
+    let other = workers_are_one_thread k cut input o is in
+    record {
+      some = (o, is, meets);
+      alone = λ one. subst Meeting (one_worker_is_one_thread k cut input o one is) meets;
+      reordered = (other.0, other.1, subst Meeting other.2 meets);
+    }
 
-pub runs : (k : Option ℕ) (rest rest' : Option (List ℕ)) (failed failed' : Bool) (taken taken' taken'' : Option (List ℕ)) (s : State) (r : Ahead) (given w w1 x y : List ℕ) (ending : Result ℕ RunFault) (result : Result Summary RunFault)
-    → Pulls fresh r rest rest' failed failed' given → Sends taken [] taken' x w → Sends taken' x taken'' y w1 → RunsLines (start k) fresh given w s r failed' ending → Closes s ending w1 y result → Runs k rest rest' failed' taken taken'' result
-runs k rest rest' failed failed' taken taken' taken'' s r given w w1 x y ending result pulls a a1 p q =
-    let sends = Sends-then taken taken' taken'' [] x y w w1 a a1 in
-    runs_known k rest rest' r.ended failed' taken taken'' given (w ++ w1) sends.0 y result pulls.consumes sends.1 sends.2
-    (pulls.at_end (λ e. absurd (false≢true e)))
-    (runs_all k s r failed' given w w1 y ending result (pulls.working_at_end (λ e. absurd (false≢true e))) p q)
+pub runs : (k : Option ℕ) (s : State) (left left' : Option (List ℕ)) (failed failed' : Bool) (r : Ahead) (given w w1 sent y : List ℕ) (ending : Result ℕ RunFault) (result : Result Summary RunFault)
+    → (pulls : Pulls fresh r left left' failed failed' given) → w ++ w1 ≡ sent ++ y → RunsLines (start k) fresh given w s r failed' ending → Closes s ending w1 y result
+    → Runs k failed' (given ++ (input_from r left left' failed failed' given pulls).more) sent result
+runs k s left left' failed failed' r given w w1 sent y ending result pulls split p q =
+    let input = input_from r left left' failed failed' given pulls in
+    let met = runs_all k s r failed' given w w1 y ending result (pulls.working_at_end (λ e. absurd (false≢true e))) p q input.more input.remains in
+    runs_so k failed' (given ++ input.more) sent result met.0 met.1 (sent_of met.0 (w ++ w1) sent y result split met.2)
 
 -- reading failed only where the source has
 pub read_failed : (s t : State) (r r' : Ahead) (given w : List ℕ) (failed : Bool) (ending : Result ℕ RunFault) → RunsLines s r given w t r' failed ending → ending ≡ Err run_faults.Read → failed ≡ true
@@ -103,10 +94,5 @@ read_failed s t r r' given w failed ending p e = (subst (λ (x : Result ℕ RunF
 meets_nothing : (o : Outcome) → Meets o [] (Err run_faults.Memory)
 meets_nothing (prints text end) = inr (tt, (text, refl))
 
-pub runs_nothing : (k : Option ℕ) (rest : Option (List ℕ)) (failed : Bool) (taken : Option (List ℕ)) → Runs k rest rest failed taken taken (Err run_faults.Memory)
-runs_nothing k None failed taken = tt
-runs_nothing k (Some input) failed None = tt
-runs_nothing k (Some input) failed (Some taken) =
-    let given : List ℕ = given_of input input failed in
-    let o : Outcome = outcome k failed given in
-    ([], sym (append-nil taken), (o, one_thread failed 0 (start k) (input_lines given), meets_nothing o))
+pub runs_nothing : (k : Option ℕ) (cut : Bool) (input : List ℕ) → Runs k cut input [] (Err run_faults.Memory)
+runs_nothing k cut input = runs_so k cut input [] (Err run_faults.Memory) (outcome k cut input) (one_thread cut 0 (start k) (input_lines input)) (meets_nothing (outcome k cut input))

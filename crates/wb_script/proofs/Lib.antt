@@ -18,7 +18,7 @@ pub mod OneArrival
 pub mod NextNumbers
 pub mod HeardActs
 pub mod Echoed
-pub mod LineCounts
+pub mod CheckEnds
 pub mod CountLaws
 pub mod BatchLaws
 pub mod ScriptLaws

@@ -1,43 +1,48 @@
 -- How many lines a script has, where each of them parses, or else its first fault. Nothing is run.
-use Rattle.std.specs.Prelude.{◌≡◌, ℕ, ◌+◌, ◌-◌, ◌≤◌, ◌↔◌, ◌⊎◌, List, [], ◌∷◌, ◌++◌, length, take, All, Bool, true, false, nat_le, nat_lt, ◌&&◌, ◌||◌, not, Option, Some, None, Result, Ok, Err, IsOk, if◌then◌else◌}
+use Rattle.std.specs.Prelude.{◌≡◌, ℕ, ◌≤◌, ◌↔◌, ◌⊎◌, List, [], length, All, Bool, false, Result, Ok, Err, IsOk}
+use Rattle.wb_lines.specs.declared.fault.DriveFault.{DriveFault}
+use Rattle.wb_lines.specs.declared.fault.DriveFault.TheVariants as drive_faults
+use Rattle.wb_lines.specs.Input.{InputLine, input_lines, content, most_bytes}
+use Rattle.wb_lines.specs.Handling.{Met, whole, too_long, Step, goes, stops, ends}
+use Rattle.wb_lines.specs.Driving.{Outcome, writes, rules_of, outcome}
 use Rattle.wb_script.specs.declared.fault.LineFault.{LineFault}
 use Rattle.wb_script.specs.declared.fault.RunFault.{RunFault}
 use Rattle.wb_script.specs.declared.fault.RunFault.TheVariants as run_faults
 use Rattle.wb_script.specs.declared.line.Line.{Line}
 use Rattle.wb_script.specs.Parsing.{line_of}
-use Rattle.wb_lines.specs.Input.{InputLine, input_lines, content, most_bytes}
 use Rattle.wb_script.specs.Script.{most_lines}
-use Rattle.wb_lines.specs.Ahead.{Ahead}
-use Rattle.wb_lines.specs.Input.{MayFollow}
 
--- the fault of the line of this number, or what the rest answers
-abbrev pub counted_before : ℕ → Result Line LineFault → Result ℕ RunFault → Result ℕ RunFault
-counted_before number (Ok line) rest = rest
-counted_before number (Err e) rest = Err (run_faults.Line number e)
+-- A line that parses is passed over, and another stops the check. Nothing is remembered or printed.
+abbrev pub parsed_step : Result Line LineFault → Step (Unit {0}) LineFault
+parsed_step (Ok line) = goes [] tt
+parsed_step (Err e) = stops [] e
 
--- After so many lines, the count of all or the first fault of those that are left. Where the input is cut off, reading fails after them.
-abbrev pub checked_from : Bool → ℕ → List InputLine → Result ℕ RunFault
-checked_from cut n [] = if cut then Err run_faults.Read else Ok n
-checked_from cut n (line ∷ lines) =
-    if nat_lt n most_lines && nat_le (length line.bytes) most_bytes
-    then (if line.ended || not cut
-    then counted_before (n + 1) (line_of (content line)) (checked_from cut (n + 1) lines)
-    else Err run_faults.Read)
-    else Err run_faults.Endless
+abbrev pub check_step : Unit {0} → ℕ → Met → Step (Unit {0}) LineFault
+check_step s number (whole line) = parsed_step (line_of (content line))
+check_step s number too_long = ends []
 
--- the same of an input, which is cut off where reading fails after it
+-- why a check stops, by why its driver does
+abbrev pub fault_of : DriveFault LineFault → RunFault
+fault_of (drive_faults.Line number e) = run_faults.Line number e
+fault_of drive_faults.Read = run_faults.Read
+fault_of drive_faults.Write = run_faults.Write
+fault_of drive_faults.Memory = run_faults.Memory
+fault_of drive_faults.Endless = run_faults.Endless
+
+abbrev pub answer_of : Result ℕ (DriveFault LineFault) → Result ℕ RunFault
+answer_of (Ok lines) = Ok lines
+answer_of (Err e) = Err (fault_of e)
+
+abbrev pub answer_at_end : Outcome LineFault → Result ℕ RunFault
+answer_at_end (writes text end) = answer_of end
+
+-- What a check answers of an input: how many lines it has, or its first fault. Where the input is cut off, reading fails after it.
 abbrev pub checked : Bool → List ℕ → Result ℕ RunFault
-checked cut input = checked_from cut 0 (input_lines input)
+checked cut input = answer_at_end (outcome (rules_of check_step most_lines) cut tt input)
 
--- Of what a source has to give. Where it has failed, that is what it gave, cut off there.
-abbrev pub checked_of : List ℕ → List ℕ → Bool → Result ℕ RunFault
-checked_of input left failed = if failed then checked true (take (length input - length left) input) else checked false input
-
--- A check of the script that a source has left, where its bytes are known. Memory may run out.
-abbrev pub Checks : Option (List ℕ) → Option (List ℕ) → Bool → Result ℕ RunFault → Type 0
-Checks (Some input) (Some left) failed result = (result ≡ checked_of input left failed) ⊎ (result ≡ Err run_faults.Memory)
-Checks (Some input) None failed result = ⊥
-Checks None left failed result = Unit {0}
+-- A check answers that, or memory ran out.
+abbrev pub Checks : Bool → List ℕ → Result ℕ RunFault → Type 0
+Checks cut input result = (result ≡ checked cut input) ⊎ (result ≡ Err run_faults.Memory)
 
 -- ---- what it means
 
@@ -54,52 +59,10 @@ EachLineParses input = All (λ line. IsOk (line_of (content line))) (input_lines
 abbrev pub CountsLines : Type 0
 CountsLines = (input : List ℕ) (n : ℕ) → (checked false input ≡ Ok n) ↔ ((n ≡ length (input_lines input)) × IsWithinLimits input × EachLineParses input)
 
--- ---- how far a check has come
-
--- What parsing answers to the line of a number.
-abbrev pub ParsesAs : {U : Type 0} → ℕ → Result U RunFault → Result Line LineFault → Type 0
-ParsesAs number (Ok u) said = (line : Line) × (said ≡ Ok line)
-ParsesAs number (Err run_faults.Memory) said = Unit {0}
-ParsesAs number (Err (run_faults.Line k e)) said = (k ≡ number) × (said ≡ Err e)
-ParsesAs number (Err run_faults.Read) said = ⊥
-ParsesAs number (Err run_faults.Write) said = ⊥
-ParsesAs number (Err run_faults.Start) said = ⊥
-ParsesAs number (Err run_faults.Endless) said = ⊥
-
--- After n lines, with bytes at hand and others pulled: the answer of the check from here on.
-abbrev pub answer_ahead : Bool → ℕ → Ahead → List ℕ → Result ℕ RunFault
-answer_ahead cut n reader pulled = checked_from cut n (input_lines (reader.bytes ++ pulled))
-
--- From one moment to a later one, the answer stays the same.
-abbrev pub Counts : ℕ → Ahead → List ℕ → ℕ → Ahead → Type 0
-Counts n reader given m reader' =
-    (more : List ℕ) (cut : Bool) → MayFollow reader'.ended more cut → answer_ahead cut n reader (given ++ more) ≡ answer_ahead cut m reader' more
-
--- Whatever follows, the answer is this one.
-abbrev pub Answers : ℕ → Ahead → List ℕ → Ahead → Result ℕ RunFault → Type 0
-Answers n reader given reader' answer =
-    (more : List ℕ) (cut : Bool) → MayFollow reader'.ended more cut → answer_ahead cut n reader (given ++ more) ≡ answer
-
--- A check stops with a fault.
-abbrev pub StopsCheck : ℕ → Ahead → List ℕ → Ahead → Bool → RunFault → Type 0
-StopsCheck n reader given reader' failed run_faults.Memory = Unit {0}
-StopsCheck n reader given reader' failed run_faults.Write = ⊥
-StopsCheck n reader given reader' failed run_faults.Start = ⊥
-StopsCheck n reader given reader' failed run_faults.Read = (failed ≡ true) × (reader'.ended ≡ false) × (answer_ahead true n reader given ≡ Err run_faults.Read)
-StopsCheck n reader given reader' failed run_faults.Endless = Answers n reader given reader' (Err run_faults.Endless)
-StopsCheck n reader given reader' failed (run_faults.Line k e) = Answers n reader given reader' (Err (run_faults.Line k e))
-
--- The end of the input, after m lines.
-abbrev pub EndsCheck : ℕ → Ahead → List ℕ → ℕ → Ahead → Type 0
-EndsCheck n reader given m reader' = (reader'.ended ≡ true) × (answer_ahead false n reader given ≡ Ok m)
-
--- One line, or the end.
-abbrev pub ChecksLine : ℕ → Ahead → List ℕ → Ahead → Bool → Result Bool RunFault → Type 0
-ChecksLine n reader given reader' failed (Ok true) = Counts n reader given (n + 1) reader'
-ChecksLine n reader given reader' failed (Ok false) = EndsCheck n reader given n reader'
-ChecksLine n reader given reader' failed (Err e) = StopsCheck n reader given reader' failed e
-
--- All lines.
-abbrev pub ChecksLines : Ahead → List ℕ → Ahead → Bool → Result ℕ RunFault → Type 0
-ChecksLines reader given reader' failed (Ok m) = EndsCheck 0 reader given m reader'
-ChecksLines reader given reader' failed (Err e) = StopsCheck 0 reader given reader' failed e
+-- A line that stops a driver of at most so many lines is one of those.
+abbrev pub IsCounted : ℕ → DriveFault LineFault → Type 0
+IsCounted most (drive_faults.Line number e) = number ≤ most
+IsCounted most drive_faults.Read = Unit {0}
+IsCounted most drive_faults.Write = Unit {0}
+IsCounted most drive_faults.Memory = Unit {0}
+IsCounted most drive_faults.Endless = Unit {0}

@@ -18,6 +18,7 @@ pub mod Laws
 pub mod ScriptLaws
 pub mod Shows
 pub mod Reordering
+pub mod Runs
 pub mod FreeWorkers
 pub mod Checking
 pub use Rattle.wb_names.specs.Values

@@ -1,5 +1,5 @@
 -- How far a run has come: what was pulled and written, and what follows.
-use Rattle.std.specs.Prelude.{◌≡◌, ℕ, ◌-◌, List, [], ◌++◌, length, take, Bool, true, false, Option, Some, None, Result, Ok, Err, ◌⊎◌, if◌then◌else◌}
+use Rattle.std.specs.Prelude.{◌≡◌, ℕ, List, [], ◌++◌, Bool, true, false, Option, Result, Ok, Err, ◌⊎◌}
 use Rattle.wb_script.specs.declared.fault.RunFault.{RunFault}
 use Rattle.wb_script.specs.declared.fault.RunFault.TheVariants as run_faults
 use Rattle.wb_script.specs.declared.summary.Summary.{Summary}
@@ -80,20 +80,6 @@ Settles (prints text end) written waiting result = ((written ≡ text) × (waiti
 -- A run of all that was given, whatever remains, by so many workers where a number is given.
 abbrev pub RunsAll : Option ℕ → Bool → Bool → List ℕ → List ℕ → List ℕ → Result Summary RunFault → Type 0
 RunsAll workers ended failed given written waiting result = (more : List ℕ) → MayRemain ended failed more → (o : Outcome) × IsOutcome workers failed (given ++ more) o × Settles o written waiting result
-
--- What a source had to give. Where it has failed, that is what it gave, and it is cut off there.
-abbrev pub given_of : List ℕ → List ℕ → Bool → List ℕ
-given_of input left failed = if failed then take (length input - length left) input else input
-
--- A run of the script that a source has left, where its bytes are known, and those that the sink takes: it meets an outcome of the
--- script by so many workers, where a number is given, and else by those of the board.
-abbrev pub Runs : Option ℕ → Option (List ℕ) → Option (List ℕ) → Bool → Option (List ℕ) → Option (List ℕ) → Result Summary RunFault → Type 0
-Runs workers (Some input) (Some left) failed (Some taken) (Some taken') result =
-    (written : List ℕ) × (taken' ≡ taken ++ written) × ((o : Outcome) × IsOutcome workers failed (given_of input left failed) o × Meets o written result)
-Runs workers (Some input) (Some left) failed (Some taken) None result = ⊥
-Runs workers (Some input) (Some left) failed None taken' result = Unit {0}
-Runs workers (Some input) None failed taken taken' result = ⊥
-Runs workers None left failed taken taken' result = Unit {0}
 
 -- The end of a run: of the present batch, unless the run had to stop.
 abbrev pub ClosesAfter : Bool → State → RunFault → List ℕ → List ℕ → Result Summary RunFault → Type 0

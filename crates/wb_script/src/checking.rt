@@ -1,71 +1,81 @@
-ghost use Rattle.std.specs.Prelude.{◌≡◌, ◌≢◌, ◌≤◌, ◌<◌, [], List, ℕ, true, IfOk, None, Err};
-ghost use Rattle.wb_lines.specs.Ahead.{Pulls};
-ghost use Rattle.wb_script.specs.Parsing.{line_of};
-ghost use Rattle.wb_script.specs.Script.{most_lines};
-ghost use Rattle.wb_script.specs.Checking.{ParsesAs, ChecksLine, Checks, CountsLines};
+ghost use Rattle.std.specs.Prelude.{◌≡◌, ◌≢◌, ◌≤◌, List, ℕ, true, IfOk, Err};
+ghost use Rattle.wb_lines.specs.Driving.{Gave};
+ghost use Rattle.wb_script.specs.Checking.{Checks, CountsLines, IsCounted, fault_of};
 
-use crate::fault::{ParseFault, RunFault};
+use crate::fault::{LineFault, ParseFault, RunFault};
 use crate::parsing::parse_line;
 use crate::script_lines::MAX_LINES;
 use std::alloc::Global;
-use wb_lines::{Found, LineReader, Output, Pulled, without_carriage_return};
+use wb_lines::{DriveFault, Handler, Output, Stop, drive, without_end};
 use wb_names::{Sink, Source};
 
-/// Where nothing is written.
+/// Takes all that it is handed, and keeps nothing.
 #[derive(Drop)]
 struct Nowhere;
 
 impl Sink for Nowhere {
+    ghost use Rattle.std.specs.Prelude.{None, false};
+
     ghost taken = { λ _. None };
 
-    ghost has_failed = { λ _. true };
+    ghost has_failed = { λ _. false };
 
-    fn push(&mut self, _bytes: &[u8]) -> Option<usize> {
-        None
+    fn push(&mut self, bytes: &[u8]) -> Option<usize> {
+        Some(bytes.len())
     }
 }
 
-fn check_content(alloc: Global, number: u32, content: &[u8]) -> Result<(), RunFault>
-    ensures { ParsesAs number result (line_of content.now) }
-{
-    match parse_line(alloc, content) {
-        Ok(_) => Ok(()),
-        Err(ParseFault::Line(fault)) => Err(RunFault::Line(number, fault)),
-        Err(ParseFault::Memory) => Err(RunFault::Memory),
+/// Parses lines, and prints nothing.
+#[derive(Drop)]
+struct Checker;
+
+impl Handler for Checker {
+    type Fault = LineFault;
+
+    ghost use Rattle.wb_script.specs.Checking.{check_step};
+
+    ghost State = { Unit {0} };
+
+    ghost is_at = { λ checker state. Unit {0} };
+
+    ghost step = { check_step };
+
+    fn take(
+        &mut self,
+        alloc: Global,
+        _number: u64,
+        line: &[u8],
+        ended: bool,
+        _output: &mut Output,
+    ) -> Result<(), Stop<LineFault>> {
+        match parse_line(alloc, without_end(line, ended)) {
+            Ok(_) => Ok(()),
+            Err(ParseFault::Line(fault)) => Err(Stop::Fault(fault)),
+            Err(ParseFault::Memory) => Err(Stop::Memory),
+        }
+    }
+
+    fn take_too_long(
+        &mut self,
+        _alloc: Global,
+        _number: u64,
+        _output: &mut Output,
+    ) -> Result<(), Stop<LineFault>> {
+        Err(Stop::Endless)
     }
 }
 
-/// Parses the next line, which is read into `line`. Answers whether there was one.
-fn check_line<R: Source>(
-    alloc: Global,
-    done: u32,
-    reader: &mut LineReader,
-    line: &mut Vec<u8>,
-    source: &mut R,
-    output: &mut Output,
-) -> Result<bool, RunFault>
-    requires few { done < most_lines }
-    requires output { output.old ≡ [] }
-    ensures line { (given : List ℕ)
-        × Pulls reader.old reader.new (R.left source.old) (R.left source.new) (R.has_failed source.old) (R.has_failed source.new) given
-        × ChecksLine done reader.old given reader.new (R.has_failed source.new) result }
-    ensures output { output.new ≡ [] }
-    ensures read { result ≡ Err RunFault.Read → R.has_failed source.new ≡ true }
-    ensures write { result ≢ Err RunFault.Write }
+/// Why a check stops, by why its driver does.
+fn fault_of(fault: DriveFault<LineFault>) -> RunFault
+    requires { IsCounted 1048576 fault }
+    ensures { result ≡ fault_of fault }
 {
-    match reader.next_line(source, line, output, &mut Nowhere)? {
-        Found::Unwritten => unreachable!(),
-        Found::End => Ok(false),
-        Found::Failed => Err(RunFault::Read),
-        Found::TooLong => Err(RunFault::Endless),
-        Found::Last => {
-            check_content(alloc, done + 1, line)?;
-            Ok(true)
-        }
-        Found::Whole => {
-            check_content(alloc, done + 1, without_carriage_return(line))?;
-            Ok(true)
-        }
+    match fault {
+        DriveFault::Line(number, fault) => RunFault::Line(number as u32, fault),
+        DriveFault::Read => RunFault::Read,
+        DriveFault::Write => RunFault::Write,
+        DriveFault::Memory => RunFault::Memory,
+        DriveFault::Endless => RunFault::Endless,
     }
 }
 
@@ -73,25 +83,17 @@ fn check_line<R: Source>(
 /// and the limits hold; else the first fault in the order of the lines, or want of memory. Nothing is
 /// run.
 pub fn check<R: Source>(alloc: Global, source: &mut R) -> Result<u32, RunFault>
-    ensures script { Checks (R.left source.old) (R.left source.new) (R.has_failed source.new) result }
+    ensures script { (input : List ℕ)
+        × Gave (R.left source.old) (R.left source.new) (R.has_failed source.new) input
+        × Checks (R.has_failed source.new) input result }
     ensures counts { CountsLines }
     ensures few { IfOk result (λ lines. lines ≤ 1048576) }
     ensures read { result ≡ Err RunFault.Read → R.has_failed source.new ≡ true }
     ensures write { result ≢ Err RunFault.Write }
 {
-    let mut reader = LineReader::new(alloc)?;
-    let mut output = Output::new(alloc);
-    let mut line = Vec::new(alloc);
-    for done in 0..MAX_LINES {
-        let goes_on = check_line(alloc, done, &mut reader, &mut line, source, &mut output)?;
-        if !goes_on {
-            return Ok(done);
-        }
-    }
-    match reader.next_byte(source, &mut output, &mut Nowhere) {
-        Pulled::End => Ok(MAX_LINES),
-        Pulled::Failed => Err(RunFault::Read),
-        Pulled::Unwritten => unreachable!(),
-        Pulled::Byte(_) => Err(RunFault::Endless),
+    let most_lines = u64::from(MAX_LINES);
+    match drive(alloc, most_lines, &mut Checker, source, &mut Nowhere) {
+        Ok(lines) => Ok(lines as u32),
+        Err(fault) => Err(fault_of(fault)),
     }
 }

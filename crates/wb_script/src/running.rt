@@ -1,10 +1,13 @@
 ghost use Rattle.std.specs.Prelude.{◌≡◌, ◌<◌, List, ℕ, true, Ok, Err};
+ghost use Rattle.std.specs.Io.KnownBytes.{Appends};
+ghost use Rattle.wb_lines.specs.Driving.{Gave};
 ghost use Rattle.wb_lines.specs.Output.{Sends};
 ghost use Rattle.wb_lines.specs.Ahead.{Pulls};
 ghost use Rattle.wb_script.specs.Lines.{IsSeen};
 ghost use Rattle.wb_script.specs.Script.{State, most_lines};
 ghost use Rattle.wb_script.specs.Stations.{IsLeftAt, Moves};
-ghost use Rattle.wb_script.specs.Running.{RunsOn, RunsLine, RunsLines, Closes, Runs};
+ghost use Rattle.wb_script.specs.Running.{RunsOn, RunsLine, RunsLines, Closes};
+ghost use Rattle.wb_script.specs.Runs.{Runs};
 
 use crate::fault::{ParseFault, RunFault};
 use crate::host::Host;
@@ -141,9 +144,10 @@ fn close<W: Sink>(
 /// many workers: the number that is handed in, or else that of the board; 0 counts as 1, and more than 8 as
 /// 8. They call the gate round each accept.
 ///
-/// What is written, and the answer, are those of the script, each of whose batches may be taken in any order;
-/// one worker takes it as it came. Where memory runs out, a thread is refused or the sink fails, a front of
-/// it is written.
+/// What is written, and the answer, are those of the script, each of whose batches may be taken in any order:
+/// what one thread prints for its lines with the arrivals of each batch in some order. One worker takes a batch as it
+/// came, and then they are those of one thread for the script. Where memory runs out, a thread is refused or the sink
+/// fails, a front of it is written, and the answer is `Memory`, `Start` or `Write`.
 pub fn run<T: Threads + Wait + Sync, R: Source, W: Sink, G: Gate + Sync>(
     rt: &T,
     alloc: Global,
@@ -152,7 +156,10 @@ pub fn run<T: Threads + Wait + Sync, R: Source, W: Sink, G: Gate + Sync>(
     workers: Option<u32>,
     gate: &G,
 ) -> Result<Summary, RunFault>
-    ensures script { Runs workers (R.left source.old) (R.left source.new) (R.has_failed source.new) (W.taken sink.old) (W.taken sink.new) result }
+    ensures script { (input : List ℕ) × (written : List ℕ)
+        × Gave (R.left source.old) (R.left source.new) (R.has_failed source.new) input
+        × Appends (W.taken sink.old) (W.taken sink.new) written
+        × Runs workers (R.has_failed source.new) input written result }
     ensures read { result ≡ Err RunFault.Read → R.has_failed source.new ≡ true }
     ensures write { result ≡ Err RunFault.Write → W.has_failed sink.new ≡ true }
 {
