@@ -87,16 +87,19 @@ module _ (first now new : RecoveryValue) (missed : List Missed) (n : NameValue) 
   module _ (t : Tuning) (time i : ℕ) (m : Missed) (lt : i < length missed) (is : m ≡ get_or missed i m) (here : m.name ≡ n) where
     set_here : is_none (timers_in now m.name).ask ≡ true → record_in new n ≡ Some (noticed t time m.delay m.word (timers_in now m.name)) → (record_in now n ≡ record_in first n) ⊎ IsSet 0 i missed first now n
         → without_ask (timers_in now n) ≡ without_ask (timers_in first n) → (without_ask (timers_in new n) ≡ without_ask (timers_in first n)) × ((record_in new n ≡ record_in first n) ⊎ IsSet 0 (i + 1) missed first new n)
-    set_here c r so_far rest = (ap without_ask timers ∙ ap (λ (k : NameValue). without_ask (timers_in now k)) here ∙ rest, inr (record {
-      none = was so_far;
-      some = ap (λ (s : Timers). is_some s.ask) timers;
-      place = i;
-      from = omega arith;
-      to = omega arith;
-      m = m;
-      at = slice_get-get_or missed i m lt ∙ ap Some (sym is);
-      named = here;
-    })) where
+    set_here c r so_far rest = (
+      ap without_ask timers ∙ ap (λ (k : NameValue). without_ask (timers_in now k)) here ∙ rest,
+      inr (record {
+        none = was so_far;
+        some = ap (λ (s : Timers). is_some s.ask) timers;
+        place = i;
+        from = omega arith;
+        to = omega arith;
+        m = m;
+        at = slice_get-get_or missed i m lt ∙ ap Some (sym is);
+        named = here;
+      }),
+    ) where
       timers : timers_in new n ≡ record (timers_in now m.name) { ask = Some (new_ask t time m.delay m.word) }
       timers = ap (λ (o : Option Timers). unwrap_or o no_timers) r ∙ ap (λ (b : Bool). cond b (record (timers_in now m.name) { ask = Some (new_ask t time m.delay m.word) }) (timers_in now m.name)) c
 

@@ -69,7 +69,11 @@ impl Recovery {
     }
 
     /// The records of the names, as they are before any is noticed.
-    fn records_of(&self, alloc: Global, missed: &[Missed]) -> Result<Vec<Option<Timers>>, AllocError>
+    fn records_of(
+        &self,
+        alloc: Global,
+        missed: &[Missed],
+    ) -> Result<Vec<Option<Timers>>, AllocError>
         ensures ordered { IsStrictlySortedBy name_cmp (names_in self.now) }
         ensures records { IfOk result (λ records. records.items ≡ records_of self.now missed.now) }
     {
@@ -114,7 +118,10 @@ impl Recovery {
         if had.ask.is_none() && timers.ask.is_some() {
             self.asks.clear(name, timers.ask_due());
             if before.is_some() {
-                let after = Timers { ask: None, ..timers };
+                let after = Timers {
+                    ask: None,
+                    ..timers
+                };
                 rewrite(&mut self.records, name, after);
             } else {
                 self.answers.clear(name, timers.answer_due());
