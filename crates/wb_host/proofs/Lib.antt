@@ -6,6 +6,7 @@ pub mod SentEchoes
 pub mod FoundDrawops
 pub mod KeeperAnswers
 pub mod WantedNames
+pub mod FirstWanted
 pub mod OneMessage
 pub mod MessageValue
 pub mod FreeArrivals

@@ -8,7 +8,6 @@ use Rattle.wb_names.specs.Orders.{page_cmp}
 use Rattle.wb_names.specs.Marks.{mark_of}
 use Rattle.wb_names.specs.declared.name.PageId.{PageId}
 use Rattle.wb_recovery.specs.Values.{RecoveryValue}
-use Rattle.wb_recovery.specs.Noticing.{IsAlike}
 use Rattle.wb_recovery.specs.Standing as timers
 use Rattle.wb_recovery.specs.declared.tuning.Tuning.{Tuning}
 use Rattle.wb_host.specs.Keeper.{KeeperCall, moment_at, high_heard, delay_to, senders_of, last_heard, events_of}
@@ -48,11 +47,6 @@ pub record StandsFor (me : ℕ) (tuning : Tuning) (calls : List KeeperCall) (val
 -- the call is accepted: what stood for some calls stands for these and this one
 abbrev pub Keeps : KeeperCall → KeeperValue → KeeperValue → Type 0
 Keeps call old new = (me : ℕ) (tuning : Tuning) (calls : List KeeperCall) → StandsFor me tuning calls old → StandsFor me tuning (call ∷ calls) new
-
--- nothing that a caller can see has changed: at most there is room for more timers
-pub record IsAsBefore (old new : KeeperValue) : Type 0 where
-  pub alike : IsAlike old.recovery new.recovery
-  pub rest : new ≡ record old { recovery = new.recovery }
 
 -- what holds of every keeper
 pub record IsSound (last : ℕ) (recovery : RecoveryValue) (delays : BTreeMap ℕ ℕ) (heard : BTreeMap ℕ Heard) (none : List MarkValue) : Type 0 where

@@ -1,12 +1,14 @@
 -- Which names a keeper would ask for.
-use Rattle.std.specs.Prelude.{◌≡◌, ℕ, zero, suc, ◌+◌, ◌-◌, Bool, not, List, [], ◌∷◌, length, map, filter, take, is_some}
+use Rattle.std.specs.Prelude.{◌≡◌, ℕ, zero, suc, ◌+◌, ◌-◌, Bool, true, not, List, [], ◌∷◌, length, map, filter, take, is_some}
 use Rattle.std.specs.List.{flat_map}
 use Rattle.wb_names.specs.Values.{NameValue, DrawopValue, MarkValue}
 use Rattle.wb_names.specs.History.{name_of}
+use Rattle.wb_names.specs.Listing.{Lists}
+use Rattle.wb_names.specs.Orders.{name_cmp}
 use Rattle.wb_names.specs.declared.name.PageId.{PageId}
 use Rattle.wb_names.specs.declared.gap.Gap.{Gap}
 use Rattle.wb_gaps.specs.Answers.{gaps_of}
-use Rattle.wb_gaps.specs.Gaps.{AreGaps}
+use Rattle.wb_gaps.specs.Gaps.{AreGaps, IsMissing}
 use Rattle.wb_recovery.specs.Events.{Event, asking, names_of, timers_of}
 use Rattle.wb_recovery.specs.declared.tuning.Tuning.{Tuning}
 use Rattle.wb_recovery.specs.declared.timers.Timers.{Timers}
@@ -47,3 +49,16 @@ wanted_of constants events history page marks = wanted (timers_of constants even
 -- it is the one such list
 abbrev pub WantedOfPage : Type 0
 WantedOfPage = (constants : Tuning) (events : List Event) (history : List DrawopValue) (page : PageId) (marks : List MarkValue) → AreWanted constants events history page marks (wanted_of constants events history page marks)
+
+-- ---- what it means
+
+-- a name of the page that is known of and not held, and for which no request timer stands
+pub record IsWanted (timers : NameValue → Timers) (history : List DrawopValue) (page : PageId) (marks : List MarkValue) (n : NameValue) : Type 0 where
+  pub on_page : n.page ≡ page
+  pub missing : IsMissing history page marks n.source n.seq
+  pub unasked : is_unasked timers n ≡ true
+
+-- The names that are wanted are the first of all these in their order, as many as bring the standing request timers to 64.
+abbrev pub FirstAreWanted : Type 0
+FirstAreWanted = (constants : Tuning) (events : List Event) (history : List DrawopValue) (page : PageId) (marks : List MarkValue)
+    → (all : List NameValue) × Lists name_cmp (IsWanted (timers_of constants events) history page marks) all × (wanted_of constants events history page marks ≡ take (64 - length (asking (names_of events) (timers_of constants events))) all)

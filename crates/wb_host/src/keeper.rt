@@ -156,7 +156,8 @@ impl Keeper {
 
     /// How many request timers stand.
     pub fn asks(&self) -> usize
-        ensures { result ≡ length (asking (names_in self.now.recovery) (timers_in self.now.recovery)) }
+        ensures count { result ≡ length (asking (names_in self.now.recovery) (timers_in self.now.recovery)) }
+        ensures calls { (me : ℕ) (constants : Constants) (calls : List KeeperCall) → StandsFor me constants calls self.now → result ≡ length (asking (names_of (events_of me calls)) (timers_of constants (events_of me calls))) }
     {
         self.recovery.asks()
     }

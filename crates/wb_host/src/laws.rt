@@ -2,7 +2,7 @@
 //! for proofs to cite.
 
 ghost use Rattle.wb_host.specs.Hearing.{OneSent, AnswersAreSent};
-ghost use Rattle.wb_host.specs.Missing.{OneWanted, WantedOfPage};
+ghost use Rattle.wb_host.specs.Missing.{FirstAreWanted, OneWanted, WantedOfPage};
 ghost use Rattle.std.specs.Prelude.{◌≡◌, All, Ok};
 ghost use Rattle.wb_codec.specs.Ranges.{IsDatagram};
 ghost use Rattle.wb_codec.specs.Reading.{reading};
@@ -49,6 +49,12 @@ pub fn keepers_answer_alike()
     ensures wanted { OneWanted }
     ensures answers { AnswersAreSent }
     ensures names { WantedOfPage }
+{}
+
+/// The names that a keeper wants of a page are, ascending, those of the page that are known of, not held
+/// and without a request timer: the first of them, as many as bring the standing request timers to 64.
+pub fn first_are_wanted()
+    ensures { FirstAreWanted }
 {}
 
 /// There is one session message of a moment, and a function gives it: `session` has no choice in what it

@@ -13,6 +13,7 @@ pub mod NameRows
 pub mod FiredTimers
 pub mod DueNames
 pub mod TimerLaws
+pub mod SameRecords
 pub mod NoticedNames
 pub mod StoppedNames
 pub mod FiredThese

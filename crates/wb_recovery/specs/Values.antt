@@ -1,5 +1,5 @@
 -- A recovery, as contracts see it.
-use Rattle.std.specs.Prelude.{◌≡◌, ℕ, List, unwrap_or, if◌then◌else◌}
+use Rattle.std.specs.Prelude.{◌≡◌, ℕ, List, Option, unwrap_or, if◌then◌else◌}
 use Rattle.std.specs.BTreeMap.{is_at}
 use Rattle.std.specs.Map.{lookup, keys_of}
 use Rattle.wb_names.specs.Values.{NameValue}
@@ -14,9 +14,16 @@ pub record RecoveryValue : Type 0 where
   pub moment : ℕ
   pub records : List (NameValue × Timers)
 
+-- the record of a name, where it ever had a timer
+abbrev pub record_at : List (NameValue × Timers) → NameValue → Option Timers
+record_at records n = lookup (is_at (name_cmp n)) records
+
+abbrev pub record_in : RecoveryValue → NameValue → Option Timers
+record_in value = record_at value.records
+
 -- the timers of a name
 abbrev pub timers_at : List (NameValue × Timers) → NameValue → Timers
-timers_at records n = unwrap_or (lookup (is_at (name_cmp n)) records) no_timers
+timers_at records n = unwrap_or (record_at records n) no_timers
 
 abbrev pub timers_in : RecoveryValue → NameValue → Timers
 timers_in value = timers_at value.records

@@ -1,10 +1,10 @@
-ghost use Rattle.std.specs.Prelude.{◌≡◌, ◌+◌, ◌*◌, ◌<◌, ◌≤◌, ◌^◌, ◌∷◌, [], ℕ, List, Option, false, true, if◌then◌else◌, IsTrue, IsOk, IfOk, OnOk, OnErr, IfSome, MatchOption, MatchResult, length};
+ghost use Rattle.std.specs.Prelude.{◌≡◌, ◌+◌, ◌*◌, ◌<◌, ◌≤◌, ◌^◌, ◌∷◌, ◌&&◌, [], ℕ, List, Option, is_some, false, true, if◌then◌else◌, IsTrue, IsOk, IfOk, OnOk, OnErr, IfSome, MatchOption, MatchResult, length};
 ghost use Rattle.std.specs.List.Sorted.{IsStrictlySortedBy};
 ghost use Rattle.wb_names.specs.Values.{NameValue};
 ghost use Rattle.wb_names.specs.Orders.{same_name, name_cmp};
 ghost use Rattle.wb_recovery.specs.Faults.{call_fault, IsCheckedBy};
 ghost use Rattle.wb_recovery.specs.Timing.{are_constants, is_standing, AreDelays, with_ask, with_answer};
-ghost use Rattle.wb_recovery.specs.Values.{timers_in, names_in, Replaces};
+ghost use Rattle.wb_recovery.specs.Values.{record_in, timers_in, names_in, Replaces};
 ghost use Rattle.std.specs.Prelude.{Some as some, None as none};
 ghost use Rattle.wb_recovery.specs.Events.{Event, Notice, Asked, Got, Tick, names_of, timers_of, asking, due_asks, actions_of, IsNextDue};
 ghost use Rattle.wb_recovery.specs.Standing.{StandsFor, Accepts};
@@ -235,6 +235,7 @@ impl Recovery {
     fn timers(&self, name: &Name) -> Timers
         ensures timers { result ≡ timers_in self.now name.now }
         ensures delays { AreDelays result }
+        ensures ordered { IsStrictlySortedBy name_cmp (names_in self.now) }
     {
         timers_of(&self.records, name)
     }
@@ -265,6 +266,7 @@ impl Recovery {
         requires before { before ≡ timers_in self.old name }
         requires delay { IfSome ask (λ timer. timer.delay < 2 ^ 24) }
         ensures ok { OnOk result (Replaces self.old self.new name (with_ask before ask)) }
+        ensures records { OnOk result ((n : NameValue) → record_in self.new n ≡ (if same_name name n && is_some ask then some (with_ask before ask) else record_in self.old n)) }
         ensures err { OnErr result (self.new ≡ self.old) }
     {
         let Some(ask) = ask else {

@@ -1,4 +1,4 @@
-ghost use Rattle.std.specs.Prelude.{◌≡◌, ◌^◌, ◌<◌, false, true, IsTrue, IfSome};
+ghost use Rattle.std.specs.Prelude.{◌≡◌, ◌^◌, ◌<◌, false, true, IsTrue, IfSome, is_none, is_some};
 ghost use Rattle.wb_recovery.specs.Timing.{are_constants, backed_off, noticed, asked, fired_ask, fired_answer, quiet_after, with_ask, with_answer, ask_due, answer_due, is_standing, AreDelays};
 
 use crate::draw::draw;
@@ -77,6 +77,7 @@ impl Timers {
         requires moment { now < 2 ^ 48 }
         requires delay { delay < 2 ^ 24 }
         ensures timers { with_ask self.now result ≡ noticed tuning now delay word self.now }
+        ensures set { is_some result ≡ is_none self.now.ask }
         ensures delay { IfSome result (λ ask. ask.delay < 2 ^ 24) }
     {
         if self.ask.is_some() {

@@ -1,6 +1,6 @@
 //! What is heard of others, and answered at once.
 
-ghost use Rattle.std.specs.Prelude.{◌≡◌, ◌<◌, ◌≤◌, ◌^◌, ◌⊎◌, ◌∷◌, [], ℕ, None as none, Some as some, IsTrue, IfOk, OnOk, OnErr, IsOk, IsSome, false, nat_eq, nat_le, if◌then◌else◌};
+ghost use Rattle.std.specs.Prelude.{◌≡◌, ◌≢◌, ◌<◌, ◌≤◌, ◌^◌, ◌⊎◌, ◌∷◌, [], ℕ, None as none, Some as some, IsTrue, IfErr, IfOk, OnOk, OnErr, IsOk, IsSome, false, nat_eq, nat_le, if◌then◌else◌};
 ghost use Rattle.std.specs.List.{find};
 ghost use Rattle.wb_history.specs.Passes.{IsPassOf, IsCaughtUp, IsSound as IsSoundDesk};
 ghost use Rattle.wb_names.specs.Ascending.{AreMarks};
@@ -14,7 +14,7 @@ ghost use Rattle.wb_host.specs.Keeper.{Hear, distance_by, is_own};
 ghost use Rattle.wb_host.specs.Keeping.{Keeps, marks_at};
 ghost use Rattle.wb_host.specs.KeepFaults.{IsKeptBy};
 ghost use Rattle.wb_host.specs.TakingIn.{AreMerged};
-ghost use Rattle.wb_host.specs.declared.keep_fault.KeepFault.TheVariants.{TooMany};
+ghost use Rattle.wb_host.specs.declared.keep_fault.KeepFault.TheVariants.{Memory, TooMany};
 
 use crate::board::Board;
 use crate::desk::Desk;
@@ -36,7 +36,8 @@ impl Keeper {
     /// and what this member sent itself, changes nothing but the moment.
     ///
     /// Refused with `BackInTime`, `Range`, `TooMany` (of the marks of its page) or `Memory`, in this order.
-    /// A refused call leaves the keeper as it was; the desk may have seen more.
+    /// A refused call leaves the keeper as it was, and the desk too, but that it may have seen more where
+    /// memory ran out. The moment is in microseconds.
     pub fn hear(
         &mut self,
         alloc: Global,
@@ -49,8 +50,8 @@ impl Keeper {
         requires desk { IsPassOf board.now desk.old }
         ensures fault { IsKeptBy (hear_fault self.old.me self.old.moment (marks_at self.old.marks) now datagram.now) result }
         ensures desk { (desk.new ≡ desk.old) ⊎ ReadsOn desk.old desk.new }
+        ensures untouched { IfErr result (λ fault. fault ≢ Memory → desk.new ≡ desk.old) }
         ensures end { OnOk result (ReadsOn desk.old desk.new × IsCaughtUp desk.old desk.new) }
-        ensures sent { IfOk result (λ sent. IsSent self.old.me desk.new.seen datagram.now sent.items) }
         ensures answers { IfOk result (λ sent. sent.items ≡ answers_to self.old.me desk.new.seen datagram.now) }
         ensures ok { OnOk result (Keeps (Hear now datagram.now word (asks_for_held desk.new.seen datagram.now)) self.old self.new) }
         ensures err { OnErr result (self.new ≡ self.old) }

@@ -2,7 +2,7 @@
 
 ghost use Rattle.std.specs.Prelude.{◌≡◌, IfOk, OnOk, OnErr, length};
 ghost use Rattle.wb_host.specs.Keeper.{Miss, missed_of};
-ghost use Rattle.wb_host.specs.Keeping.{Keeps, IsAsBefore, delay_at};
+ghost use Rattle.wb_host.specs.Keeping.{Keeps, delay_at};
 ghost use Rattle.wb_host.specs.KeepFaults.{moment_fault, IsKeptBy};
 
 use crate::keep_fault::KeepFault;
@@ -13,7 +13,7 @@ use wb_recovery::Missed;
 
 impl Keeper {
     /// Names are missed: sets a request timer for each of which none stands, with the delay to its
-    /// source and the word beside it. All are set or none; a refused call leaves at most room for them.
+    /// source and the word beside it. All are set or none. The moment is in microseconds.
     ///
     /// Refused with `BackInTime`, `Range` or `Memory`, in this order.
     pub fn notice(
@@ -26,7 +26,7 @@ impl Keeper {
         requires { length names.now ≡ length words.now }
         ensures fault { IsKeptBy (moment_fault self.old.moment now) result }
         ensures ok { OnOk result (Keeps (Miss now names.now words.now) self.old self.new) }
-        ensures err { OnErr result (IsAsBefore self.old self.new) }
+        ensures err { OnErr result (self.new ≡ self.old) }
     {
         self.check(now)?;
         let missed = self.missed(alloc, names, words)?;

@@ -1,6 +1,6 @@
 //! The session message that a keeper sends.
 
-ghost use Rattle.std.specs.Prelude.{◌≡◌, ◌≤◌, ◌⊎◌, ℕ, List, length, IfOk, OnOk, OnErr};
+ghost use Rattle.std.specs.Prelude.{◌≡◌, ◌≢◌, ◌≤◌, ◌⊎◌, ℕ, List, length, IfErr, IfOk, OnOk, OnErr};
 ghost use Rattle.std.specs.Ordering.{nat_cmp};
 ghost use Rattle.std.specs.List.Sorted.{IsStrictlySortedBy};
 ghost use Rattle.std.specs.Map.{keys_of};
@@ -10,7 +10,8 @@ ghost use Rattle.wb_host.specs.Desks.{ReadsOn};
 ghost use Rattle.wb_host.specs.Keeper.{KeeperCall, Report};
 ghost use Rattle.wb_host.specs.Keeping.{StandsFor, Keeps};
 ghost use Rattle.wb_host.specs.KeepFaults.{moment_fault, IsKeptBy};
-ghost use Rattle.wb_host.specs.Sessions.{IsSession, echoes_at, message_of};
+ghost use Rattle.wb_host.specs.Sessions.{echoes_at, message_of};
+ghost use Rattle.wb_host.specs.declared.keep_fault.KeepFault.TheVariants.{Memory};
 
 use crate::board::Board;
 use crate::desk::Desk;
@@ -23,7 +24,8 @@ use wb_names::{Echo, Echoes, PageId};
 impl Keeper {
     /// The session message of this moment: the report of a page at the list that the desk then sees,
     /// and an echo to each member whose session messages are remembered. It reads the history to its
-    /// end first. A refused call leaves the keeper as it was; the desk may have seen more.
+    /// end first. A refused call leaves the keeper as it was, and the desk too, but that it may have seen
+    /// more where memory ran out. The moment is in microseconds.
     ///
     /// Refused with `BackInTime`, `Range` or `Memory`, in this order.
     pub fn session(
@@ -37,8 +39,8 @@ impl Keeper {
         requires desk { IsPassOf board.now desk.old }
         ensures fault { IsKeptBy (moment_fault self.old.moment now) result }
         ensures desk { (desk.new ≡ desk.old) ⊎ ReadsOn desk.old desk.new }
+        ensures untouched { IfErr result (λ fault. fault ≢ Memory → desk.new ≡ desk.old) }
         ensures end { OnOk result (ReadsOn desk.old desk.new × IsCaughtUp desk.old desk.new) }
-        ensures message { IfOk result (λ message. (me : ℕ) (constants : Constants) (calls : List KeeperCall) → StandsFor me constants calls self.old → IsSession me calls now desk.new.seen page message) }
         ensures value { IfOk result (λ message. (me : ℕ) (constants : Constants) (calls : List KeeperCall) → StandsFor me constants calls self.old → message ≡ message_of me calls now desk.new.seen page) }
         ensures ok { OnOk result (Keeps (Report now) self.old self.new) }
         ensures err { OnErr result (self.new ≡ self.old) }

@@ -1,6 +1,6 @@
 //! Time goes on: what a keeper then asks for and answers.
 
-ghost use Rattle.std.specs.Prelude.{◌≡◌, ◌≤◌, ◌⊎◌, ◌∷◌, ℕ, List, filter, length, IfOk, OnOk, OnErr};
+ghost use Rattle.std.specs.Prelude.{◌≡◌, ◌≢◌, ◌≤◌, ◌⊎◌, ◌∷◌, ℕ, List, filter, length, IfErr, IfOk, OnOk, OnErr};
 ghost use Rattle.wb_history.specs.Passes.{IsPassOf, IsSound, IsCaughtUp};
 ghost use Rattle.wb_recovery.specs.Events.{due_asks, actions_of, asking};
 ghost use Rattle.wb_recovery.specs.Stopping.{gots};
@@ -11,6 +11,7 @@ ghost use Rattle.wb_host.specs.Keeper.{KeeperCall, GoOn, come_of, delay_to, even
 ghost use Rattle.wb_host.specs.Keeping.{StandsFor, Keeps, delay_at};
 ghost use Rattle.wb_host.specs.KeepFaults.{moment_fault, IsKeptBy};
 ghost use Rattle.wb_host.specs.Ticks.{sent_for, sends_for, stopped_in};
+ghost use Rattle.wb_host.specs.declared.keep_fault.KeepFault.TheVariants.{Memory};
 
 use crate::board::Board;
 use crate::desk::Desk;
@@ -27,7 +28,8 @@ impl Keeper {
     /// timer fires, ascending, and then the drawop of each name whose answer timer fires, ascending.
     /// It reads the history to its end first, and the request timers of what is held then are stopped,
     /// as by `arrived`, before any fires. The first word goes to the smallest name that is asked for.
-    /// A refused call leaves the keeper as it was; the desk may have seen more.
+    /// A refused call leaves the keeper as it was, and the desk too, but that it may have seen more where
+    /// memory ran out. The moment is in microseconds.
     ///
     /// Refused with `BackInTime`, `Range` or `Memory`, in this order.
     pub fn tick(
@@ -43,6 +45,7 @@ impl Keeper {
         requires words { length (due_asks (names_in self.old.recovery) (timers_in self.old.recovery) now) ≤ length words.now }
         ensures fault { IsKeptBy (moment_fault self.old.moment now) result }
         ensures desk { (desk.new ≡ desk.old) ⊎ ReadsOn desk.old desk.new }
+        ensures untouched { IfErr result (λ fault. fault ≢ Memory → desk.new ≡ desk.old) }
         ensures end { OnOk result (ReadsOn desk.old desk.new × IsCaughtUp desk.old desk.new) }
         ensures sent { IfOk result (λ sent. (me : ℕ) (constants : Constants) (calls : List KeeperCall) → StandsFor me constants calls self.old → sent.items ≡ sends_for me desk.new.seen (actions_of constants (gots now (events_of me calls) (come_of (delay_to me calls) (stopped_in desk.new.seen self.old.recovery))) now)) }
         ensures ok { OnOk result (Keeps (GoOn now words.now (stopped_in desk.new.seen self.old.recovery)) self.old self.new) }

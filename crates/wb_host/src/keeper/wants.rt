@@ -9,7 +9,7 @@ ghost use Rattle.wb_host.specs.Hearing.{marks_heard};
 ghost use Rattle.wb_host.specs.Keeper.{KeeperCall, events_of};
 ghost use Rattle.wb_host.specs.Keeping.{StandsFor};
 ghost use Rattle.wb_host.specs.KeepFaults.{IsKeptBy};
-ghost use Rattle.wb_host.specs.Missing.{AreWanted, wanted_of, is_unasked, names_in_gap, names_in_gaps};
+ghost use Rattle.wb_host.specs.Missing.{wanted_of, is_unasked, names_in_gap, names_in_gaps};
 
 use crate::board::Board;
 use crate::desk::Desk;
@@ -39,7 +39,6 @@ impl Keeper {
         ensures fault { IsKeptBy none result }
         ensures desk { ReadsOn desk.old desk.new }
         ensures end { OnOk result (IsCaughtUp desk.old desk.new) }
-        ensures wanted { IfOk result (λ names. (me : ℕ) (constants : Constants) (calls : List KeeperCall) → StandsFor me constants calls self.now → AreWanted constants (events_of me calls) desk.new.seen page (marks_heard me calls page) names.items) }
         ensures value { IfOk result (λ names. (me : ℕ) (constants : Constants) (calls : List KeeperCall) → StandsFor me constants calls self.now → names.items ≡ wanted_of constants (events_of me calls) desk.new.seen page (marks_heard me calls page)) }
     {
         let gaps = board.gaps(alloc, desk, page, self.marks(page))?;

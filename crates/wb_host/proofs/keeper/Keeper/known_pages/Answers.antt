@@ -1,4 +1,4 @@
-use Rattle.std.proofs.Common.{◌++◌, List, take, ap, ◌∙◌}
+use Rattle.std.proofs.Common.{◌++◌, List, ap, ◌∙◌}
 use Rattle.std.proofs.lemmas.List.{take_all}
 use Rattle.std.proofs.lemmas.List.Filters.{dedup_is}
 use Rattle.wb_names.specs.declared.name.PageId.{PageId}

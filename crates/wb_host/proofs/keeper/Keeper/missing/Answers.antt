@@ -18,16 +18,14 @@ unasked-requires-clause-first c = subst (λ (gs : List Gap). All (λ g. 1 ≤ g.
 pub unasked-requires-clause-filled : goal.unasked-requires-clause-filled
 unasked-requires-clause-filled c = subst (λ (gs : List Gap). All (λ g. g.first ≤ g.last) gs) (sym c.as_slice.ensures.value) c.in_ok-gaps.ensures.answer.filled
 
-pub returns-clause-wanted : goal.returns-clause-wanted
-returns-clause-wanted c = λ me constants calls s.
+pub returns-clause-value : goal.returns-clause-value
+returns-clause-value c = λ me constants calls s.
     let events = events_of me calls in
     let gaps = c.in_ok-gaps.gaps.items in
-    let stands = subst (λ (v : KeeperValue). timers.StandsFor constants events v.recovery) (sym c.self.view_is) s.timed in (
+    let stands = subst (λ (v : KeeperValue). timers.StandsFor constants events v.recovery) (sym c.self.view_is) s.timed in
+    only_wanted constants events _ c.args.page _ _ (
       gaps,
       subst (λ (marks : List MarkValue). AreGaps c.gaps.new.desk.seen c.args.page marks gaps) (c.marks.ensures ∙ s.merged c.args.page) c.in_ok-gaps.ensures.answer,
       wanted_as c.self.inside.recovery constants events c.asks.result c.saturating_sub-room.result c.args.page c.as_slice.result.now gaps _ stands (c.asks.ensures.events constants events stands) c.saturating_sub-room.ensures c.as_slice.ensures.value
           (c.in_ok-unasked.ensures ∙ ap (λ (v : KeeperValue). take c.saturating_sub-room.result (filter (is_unasked (timers_in v.recovery)) (names_in_gaps c.args.page c.as_slice.result.now))) (sym c.self.view_is)),
     )
-
-pub returns-clause-value : goal.returns-clause-value
-returns-clause-value c = λ me constants calls s. only_wanted constants (events_of me calls) _ c.args.page _ _ (returns-clause-wanted c me constants calls s)

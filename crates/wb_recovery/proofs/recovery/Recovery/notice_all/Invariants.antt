@@ -3,15 +3,12 @@ use Rattle.wb_names.specs.Values.{NameValue}
 use Rattle.wb_recovery.specs.Values.{timers_in}
 use Rattle.wb_recovery.specs.Events.{Event, timers_of}
 use Rattle.wb_recovery.specs.Standing.{StandsFor}
-use Rattle.wb_recovery.specs.Noticing.{notices}
+use Rattle.wb_recovery.specs.Noticing.{notices, SetsOf}
 use Rattle.wb_recovery.specs.declared.tuning.Tuning.{Tuning}
-use Rattle.wb_recovery.proofs.NoticedNames.{undone}
 use Rattle.wb_recovery.proofs.recovery.Recovery.notice_all.Given as goal
 
 abbrev pub invariant-loop-one : goal.invariant-loop-one
 invariant-loop-one l = record {
-  tuning : l.self.tuning ≡ l.initial.self.tuning;
-  moment : l.self.moment ≡ l.initial.self.moment;
   events : (constants : Tuning) (events : List Event) → StandsFor constants events l.initial.self → (n : NameValue) → timers_in l.self n ≡ timers_of constants (notices l.now events (take l.one-index l.missed)) n;
-  undone : (n : NameValue) → undone l.unasked.items (timers_in l.self) n ≡ timers_in l.initial.self n;
+  set : SetsOf 0 l.one-index l.missed l.initial.self l.self;
 }
