@@ -1,6 +1,7 @@
 pub mod PageOrder
 pub mod HeldNumbers
 pub mod GreatestNumbers
+pub mod SingleRuns
 pub mod TakenIn
 pub mod Reports
 pub mod WordOrder

@@ -27,6 +27,7 @@ mod missing;
 mod page_list;
 mod page_report;
 mod page_reports;
+mod run;
 
 pub use holdings::Holdings;
 pub use merged::{MergeFault, merge_marks};
