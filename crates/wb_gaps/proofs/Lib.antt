@@ -22,3 +22,4 @@ pub mod AllReports
 pub mod Starts
 pub mod Adding
 pub mod HeldRanges
+pub mod PageRanges

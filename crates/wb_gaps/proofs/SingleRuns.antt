@@ -19,7 +19,7 @@ use Rattle.wb_gaps.specs.declared.run.Run.{Run}
 use Rattle.wb_gaps.proofs.HeldNumbers.{number_parts}
 use Rattle.wb_gaps.proofs.GreatestNumbers.{number_cases, number_here, number_none, number_there}
 
-less_parts : (a b c d : ℕ) → ordering_then (nat_cmp a b) (nat_cmp c d) ≡ Less → (a < b) ⊎ ((a ≡ b) × (c < d))
+pub less_parts : (a b c d : ℕ) → ordering_then (nat_cmp a b) (nat_cmp c d) ≡ Less → (a < b) ⊎ ((a ≡ b) × (c < d))
 less_parts a b c d e = ⊎_elim
     (λ (lt : a < b). inl lt)
     (λ (le : b ≤ a). ⊎_elim

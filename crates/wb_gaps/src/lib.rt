@@ -15,6 +15,7 @@
 //! order of the list, and a name may stand twice in it.
 #![tactic(auto)]
 
+mod asked;
 mod candidates;
 mod held;
 mod highest;
