@@ -40,6 +40,13 @@ impl Holdings {
         Ok(as_marks(marks))
     }
 
+    /// How many ranges are held: where nothing is missing, one of each page and source.
+    pub fn range_count(&self) -> usize
+        ensures { result ≡ length self.now }
+    {
+        self.ranges.len()
+    }
+
     /// The pages that have drawops, ascending, each once. It costs what is held of ranges.
     pub fn pages(&self, alloc: Global) -> Result<Vec<PageId>, AllocError>
         ensures { (history : List DrawopValue) → HoldNamesOf history self.now → IfOk result (λ pages. ArePages history pages.items) }
