@@ -44,7 +44,8 @@ impl Model for Holdings {
 impl Holdings {
     /// Nothing is held.
     pub fn new(alloc: Global) -> Holdings
-        ensures { HoldNamesOf [] result }
+        ensures none { result ≡ [] }
+        ensures names { HoldNamesOf [] result }
     {
         Holdings {
             ranges: BTreeMap::new(alloc),
