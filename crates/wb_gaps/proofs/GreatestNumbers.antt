@@ -1,61 +1,69 @@
--- The walk over ascending numbers that keeps the last one of each source.
-use Rattle.std.proofs.Common.{◌≡◌, ℕ, suc, ◌<◌, ◌≤◌, true, false, cond, List, [], ◌∷◌, length, refl, ap, ◌∙◌, sym, subst, arith, ◌⊎◌, inl, inr, ⊎_elim, eqb-true}
+-- The walk over ascending runs that keeps the last one of each source.
+use Rattle.std.proofs.Common.{◌≡◌, ℕ, suc, ◌<◌, ◌≤◌, true, false, cond, List, [], ◌∷◌, length, refl, ◌∙◌, sym, subst, arith, ◌⊎◌, inl, inr, ⊎_elim, eqb-true}
 use Rattle.std.proofs.lemmas.Bool.{cases_lt}
-use Rattle.std.specs.Ordering.{nat_cmp, ordering_then}
-use Rattle.std.specs.Prelude.{◌≢◌, All, AllPairs, nat_eq}
-use Rattle.std.specs.List.Sorted.{IsStrictlySortedBy}
+use Rattle.std.specs.Prelude.{◌≢◌, All, AllPairs, Contains, nat_eq}
 use Rattle.std.proofs.lemmas.Bool.Decides.{nat_tests}
-use Rattle.std.proofs.lemmas.List.Elements.{All-nil, All-cons, All-head, All-tail, All-weaker, All-contains, All-from_recursion}
+use Rattle.std.proofs.lemmas.List.Elements.{All-nil, All-cons, All-head, All-tail, All-weaker, All-contains}
 use Rattle.std.proofs.lemmas.List.Kept.{AllPairs-cons}
-use Rattle.std.proofs.lemmas.Map.Keys.{sorted_head, sorted_tail}
-use Rattle.std.specs.declared.cmp.Ordering.TheVariants.{Less, Greater}
 use Rattle.wb_names.specs.Values.{MarkValue}
 use Rattle.wb_names.specs.Marks.{mark_of}
 use Rattle.wb_names.proofs.Listings.{Contains-here, Contains-there, Contains-cases, Contains-none}
-use Rattle.wb_gaps.specs.Numbers.{number_cmp}
-use Rattle.wb_gaps.specs.LastNumbers.{continues, HasNumber, AreGreatest}
+use Rattle.wb_gaps.specs.LastNumbers.{continues, AreGreatest}
 use Rattle.wb_gaps.specs.Greatest.{IsGreatest}
-use Rattle.wb_gaps.specs.declared.held.Number.{Number}
+use Rattle.wb_gaps.specs.Runs.{AreRuns, InRuns, IsBelow}
+use Rattle.wb_gaps.specs.declared.run.Run.{Run}
 
 pub same_or_not : (a b : ℕ) → (a ≡ b) ⊎ (a ≢ b)
 same_or_not a b = ⊎_elim (λ (lt : a < b). inr (omega arith)) (λ (le : b ≤ a). ⊎_elim (λ (lt : b < a). inr (omega arith)) (λ (ge : a ≤ b). inl (omega arith)) (cases_lt b a)) (cases_lt a b)
 
-abbrev pub mark : Number → MarkValue
-mark n = record { source = n.source; high = n.seq }
+-- ---- the first of some runs, and the later ones
 
--- the last number of each source
-abbrev pub last_marks : List Number → List MarkValue
+pub first_counted : (x : Run) (xs : List Run) → AreRuns (x ∷ xs) → 1 ≤ x.first
+first_counted x xs r = All-head (λ (y : Run). 1 ≤ y.first) x xs r.counted
+
+pub first_filled : (x : Run) (xs : List Run) → AreRuns (x ∷ xs) → x.first ≤ x.last
+first_filled x xs r = All-head (λ (y : Run). y.first ≤ y.last) x xs r.filled
+
+pub later_all : (x : Run) (xs : List Run) → AreRuns (x ∷ xs) → All (IsBelow x) xs
+later_all x xs r k d lt = r.ascending 0 (suc k) d (omega arith) (omega arith)
+
+pub later_runs : (x : Run) (xs : List Run) → AreRuns (x ∷ xs) → AreRuns xs
+later_runs x xs r = record {
+  counted = All-tail (λ (y : Run). 1 ≤ y.first) x xs r.counted;
+  filled = All-tail (λ (y : Run). y.first ≤ y.last) x xs r.filled;
+  ascending = λ i j d ij lt. r.ascending (suc i) (suc j) d (omega arith) (omega arith);
+}
+
+-- of the first run: the number lies in it, or in a later one
+pub number_cases : (x : Run) (xs : List Run) (s n : ℕ) → InRuns (x ∷ xs) s n → ((x.source ≡ s) × (x.first ≤ n) × (n ≤ x.last)) ⊎ InRuns xs s n
+number_cases x xs s n h = ⊎_elim
+    (λ (e : x ≡ h.0). inl (subst (λ (r : Run). (r.source ≡ s) × (r.first ≤ n) × (n ≤ r.last)) (sym e) (h.2, h.3, h.4)))
+    (λ (c : Contains xs h.0). inr (h.0, c, h.2, h.3, h.4))
+    (Contains-cases x h.0 xs h.1)
+
+pub number_here : (x : Run) (xs : List Run) (s n : ℕ) → x.source ≡ s → x.first ≤ n → n ≤ x.last → InRuns (x ∷ xs) s n
+number_here x xs s n e low high = (x, Contains-here x xs, e, low, high)
+
+pub number_there : (x : Run) (xs : List Run) (s n : ℕ) → InRuns xs s n → InRuns (x ∷ xs) s n
+number_there x xs s n h = (h.0, Contains-there x h.0 xs h.1, h.2, h.3, h.4)
+
+pub number_none : (s n : ℕ) → InRuns [] s n → ⊥
+number_none s n h = Contains-none h.0 h.1
+
+-- ---- the last run of each source
+
+abbrev pub mark : Run → MarkValue
+mark r = record { source = r.source; high = r.last }
+
+-- the end of the last run of each source
+abbrev pub last_marks : List Run → List MarkValue
 last_marks [] = []
-last_marks (n ∷ ns) = cond (continues n.source ns) (last_marks ns) (mark n ∷ last_marks ns)
+last_marks (r ∷ rs) = cond (continues r.source rs) (last_marks rs) (mark r ∷ last_marks rs)
 
--- m stands before n
-pub record Precedes (m n : Number) : Type 0 where
-  pub order : (m.source < n.source) ⊎ ((m.source ≡ n.source) × (m.seq < n.seq))
-
-less_parts : (a b c d : ℕ) → ordering_then (nat_cmp a b) (nat_cmp c d) ≡ Less → (a < b) ⊎ ((a ≡ b) × (c < d))
-less_parts a b c d e = ⊎_elim
-    (λ (lt : a < b). inl lt)
-    (λ (le : b ≤ a). ⊎_elim
-    (λ (lt : b < a). absurd (let r : ordering_then (nat_cmp a b) (nat_cmp c d) ≡ Greater = grind (arith, nat_tests) in cc))
-    (λ (ge : a ≤ b). let same : a ≡ b = omega arith in ⊎_elim
-    (λ (lt : c < d). inr (same, lt))
-    (λ (le : d ≤ c). absurd (not_less a b c d same le e))
-    (cases_lt c d))
-    (cases_lt b a))
-    (cases_lt a b) where
-      not_less : (a b c d : ℕ) → a ≡ b → d ≤ c → ordering_then (nat_cmp a b) (nat_cmp c d) ≡ Less → ⊥
-      not_less a b c d same le e = grind (arith, nat_tests)
-
-less_is : (m n : Number) → number_cmp m n ≡ Less → Precedes m n
-less_is m n e = record { order = less_parts _ _ _ _ e }
-
-pub later_all : (x : Number) (xs : List Number) → IsStrictlySortedBy number_cmp (x ∷ xs) → All (Precedes x) xs
-later_all x xs s = All-weaker (λ (y : Number). number_cmp x y ≡ Less) (Precedes x) (less_is x) xs (All-from_recursion _ xs (sorted_head number_cmp x xs s))
-
-above_last : (b : ℕ) (xs : List Number) → All (λ n. b < n.source) xs → All (λ m. b < m.source) (last_marks xs)
+above_last : (b : ℕ) (xs : List Run) → All (λ r. b < r.source) xs → All (λ m. b < m.source) (last_marks xs)
 above_last b [] all = All-nil _
 above_last b (x ∷ xs) all =
-    let P : Number → Type 0 = λ n. b < n.source in
+    let P : Run → Type 0 = λ r. b < r.source in
     let Q : MarkValue → Type 0 = λ m. b < m.source in
     let rest : All Q (last_marks xs) = above_last b xs (All-tail P x xs all) in
     elim (continues x.source xs) as (λ c. All Q (cond c (last_marks xs) (mark x ∷ last_marks xs))) [
@@ -63,28 +71,28 @@ above_last b (x ∷ xs) all =
       | false ↦ All-cons Q (mark x) _ (All-head P x xs all) rest
     ]
 
--- where the source ends, all later numbers are of greater sources
-ended : (x : Number) (xs : List Number) → IsStrictlySortedBy number_cmp (x ∷ xs) → continues x.source xs ≡ false → All (λ n. x.source < n.source) xs
+-- where the source ends, all later runs are of greater sources
+ended : (x : Run) (xs : List Run) → AreRuns (x ∷ xs) → continues x.source xs ≡ false → All (λ r. x.source < r.source) xs
 ended x [] s e = All-nil _
 ended x (y ∷ ys) s e =
-    let first = All-head (Precedes x) y ys (later_all x (y ∷ ys) s) in
+    let first = All-head (IsBelow x) y ys (later_all x (y ∷ ys) s) in
     let other : y.source ≢ x.source = grind (arith, nat_tests) in
-    let here : x.source < y.source = ⊎_elim (λ (lt : x.source < y.source). lt) (λ (p : (x.source ≡ y.source) × (x.seq < y.seq)). absurd (other (sym p.0))) first.order in
-    All-cons (λ (n : Number). x.source < n.source) y ys here (All-weaker (Precedes y) (λ (n : Number). x.source < n.source)
-    (λ n p. ⊎_elim (λ (lt : y.source < n.source). omega arith) (λ (q : (y.source ≡ n.source) × (y.seq < n.seq)). let same = q.0 in omega arith) p.order)
-    ys (later_all y ys (sorted_tail number_cmp x (y ∷ ys) s)))
+    let here : x.source < y.source = ⊎_elim (λ (lt : x.source < y.source). lt) (λ (p : (x.source ≡ y.source) × (x.last < y.first)). absurd (other (sym p.0))) first.order in
+    All-cons (λ (r : Run). x.source < r.source) y ys here (All-weaker (IsBelow y) (λ (r : Run). x.source < r.source)
+    (λ r p. ⊎_elim (λ (lt : y.source < r.source). omega arith) (λ (q : (y.source ≡ r.source) × (y.last < r.first)). let same = q.0 in omega arith) p.order)
+    ys (later_all y ys (later_runs x (y ∷ ys) s)))
 
-rises_last : (xs : List Number) → IsStrictlySortedBy number_cmp xs → AllPairs (λ m n. m.source < n.source) (last_marks xs)
+rises_last : (xs : List Run) → AreRuns xs → AllPairs (λ m n. m.source < n.source) (last_marks xs)
 rises_last [] s = λ i j d ij h. omega arith
 rises_last (x ∷ xs) s =
     let R : MarkValue → MarkValue → Type 0 = λ m n. m.source < n.source in
-    let rest : AllPairs R (last_marks xs) = rises_last xs (sorted_tail number_cmp x xs s) in
+    let rest : AllPairs R (last_marks xs) = rises_last xs (later_runs x xs s) in
     elim (continues x.source xs) as (λ c. continues x.source xs ≡ c → AllPairs R (cond c (last_marks xs) (mark x ∷ last_marks xs))) [
       | true ↦ λ e. rest
       | false ↦ λ e. AllPairs-cons R (mark x) (last_marks xs) (above_last x.source xs (ended x xs s e)) rest
     ] refl
 
-few_last : (xs : List Number) → length (last_marks xs) ≤ length xs
+few_last : (xs : List Run) → length (last_marks xs) ≤ length xs
 few_last [] = omega arith
 few_last (x ∷ xs) =
     let rest = few_last xs in
@@ -93,81 +101,70 @@ few_last (x ∷ xs) =
       | false ↦ omega arith
     ]
 
--- of the first number: its source is the one asked for, or not
-pub number_cases : (x : Number) (xs : List Number) (s n : ℕ) → HasNumber (x ∷ xs) s n → ((x.source ≡ s) × (x.seq ≡ n)) ⊎ HasNumber xs s n
-number_cases x xs s n h = ⊎_elim
-    (λ (e : x ≡ record { source = s; seq = n }). inl (ap (λ (v : Number). v.source) e, ap (λ (v : Number). v.seq) e))
-    (λ (c : HasNumber xs s n). inr c)
-    (Contains-cases x _ xs h)
-
-pub number_here : (x : Number) (xs : List Number) (s : ℕ) → x.source ≡ s → HasNumber (x ∷ xs) s x.seq
-number_here x xs s e = subst (λ (v : ℕ). HasNumber (x ∷ xs) v x.seq) e (Contains-here x xs)
-
-pub number_there : (x : Number) (xs : List Number) (s n : ℕ) → HasNumber xs s n → HasNumber (x ∷ xs) s n
-number_there x xs s n h = Contains-there x _ xs h
-
--- a first number that the next one of its source passes
-greatest_passed : (x y : Number) (ys : List Number) (s high : ℕ) → IsStrictlySortedBy number_cmp (x ∷ y ∷ ys) → y.source ≡ x.source → IsGreatest (HasNumber (y ∷ ys) s) high → IsGreatest (HasNumber (x ∷ y ∷ ys) s) high
-greatest_passed x y ys s high sorted same g = record {
+-- a first run that the next one of its source passes
+greatest_passed : (x y : Run) (ys : List Run) (s high : ℕ) → AreRuns (x ∷ y ∷ ys) → y.source ≡ x.source → IsGreatest (InRuns (y ∷ ys) s) high → IsGreatest (InRuns (x ∷ y ∷ ys) s) high
+greatest_passed x y ys s high runs same g = record {
   bound = λ n h. ⊎_elim
-      (λ (p : (x.source ≡ s) × (x.seq ≡ n)).
+      (λ (p : (x.source ≡ s) × (x.first ≤ n) × (n ≤ x.last)).
       let source = p.0 in
-      let seq = p.1 in
-      let first = All-head (Precedes x) y ys (later_all x (y ∷ ys) sorted) in
-      let above : x.seq < y.seq = ⊎_elim (λ (lt : x.source < y.source). absurd (omega arith)) (λ (q : (x.source ≡ y.source) × (x.seq < y.seq)). q.1) first.order in
-      let le : y.seq ≤ high = g.bound y.seq (number_here y ys s (same ∙ source)) in
+      let within = p.2 in
+      let first = All-head (IsBelow x) y ys (later_all x (y ∷ ys) runs) in
+      let above : x.last < y.first = ⊎_elim (λ (lt : x.source < y.source). absurd (omega arith)) (λ (q : (x.source ≡ y.source) × (x.last < y.first)). q.1) first.order in
+      let full : y.first ≤ y.last = first_filled y ys (later_runs x (y ∷ ys) runs) in
+      let le : y.last ≤ high = g.bound y.last (number_here y ys s y.last (same ∙ source) full (omega arith)) in
       omega arith)
-      (λ (c : HasNumber (y ∷ ys) s n). g.bound n c)
+      (λ (c : InRuns (y ∷ ys) s n). g.bound n c)
       (number_cases x (y ∷ ys) s n h);
-  reached = ⊎_elim (λ (e : high ≡ 0). inl e) (λ (c : HasNumber (y ∷ ys) s high). inr (number_there x (y ∷ ys) s high c)) g.reached;
+  reached = ⊎_elim (λ (e : high ≡ 0). inl e) (λ (c : InRuns (y ∷ ys) s high). inr (number_there x (y ∷ ys) s high c)) g.reached;
 }
 
--- a first number that is the last one of its source
-greatest_kept : (x : Number) (xs : List Number) (marks : List MarkValue) (s : ℕ) → All (λ n. x.source < n.source) xs → IsGreatest (HasNumber xs s) (mark_of marks s) → IsGreatest (HasNumber (x ∷ xs) s) (mark_of (mark x ∷ marks) s)
-greatest_kept x xs marks s apart g = ⊎_elim
+-- a first run that is the last one of its source
+greatest_kept : (x : Run) (xs : List Run) (marks : List MarkValue) (s : ℕ) → x.first ≤ x.last → All (λ r. x.source < r.source) xs → IsGreatest (InRuns xs s) (mark_of marks s) → IsGreatest (InRuns (x ∷ xs) s) (mark_of (mark x ∷ marks) s)
+greatest_kept x xs marks s full apart g = ⊎_elim
     (λ (e : x.source ≡ s).
-    let high : mark_of (mark x ∷ marks) s ≡ x.seq = grind (arith, nat_tests) in
-    subst (IsGreatest (HasNumber (x ∷ xs) s)) (sym high) (record {
+    let high : mark_of (mark x ∷ marks) s ≡ x.last = grind (arith, nat_tests) in
+    subst (IsGreatest (InRuns (x ∷ xs) s)) (sym high) (record {
       bound = λ n h. ⊎_elim
-          (λ (p : (x.source ≡ s) × (x.seq ≡ n)). let seq = p.1 in omega arith)
-          (λ (c : HasNumber xs s n). let lt : x.source < s = All-contains (λ (v : Number). x.source < v.source) xs _ apart c in absurd (omega arith))
+          (λ (p : (x.source ≡ s) × (x.first ≤ n) × (n ≤ x.last)). p.2)
+          (λ (c : InRuns xs s n). let lt : x.source < c.0.source = All-contains (λ (v : Run). x.source < v.source) xs c.0 apart c.1 in let is = c.2 in absurd (omega arith))
           (number_cases x xs s n h);
-      reached = inr (number_here x xs s e);
+      reached = inr (number_here x xs s x.last e full (omega arith));
     }))
     (λ (other : x.source ≢ s).
     let high : mark_of (mark x ∷ marks) s ≡ mark_of marks s = grind (arith, nat_tests) in
-    subst (IsGreatest (HasNumber (x ∷ xs) s)) (sym high) (record {
+    subst (IsGreatest (InRuns (x ∷ xs) s)) (sym high) (record {
       bound = λ n h. ⊎_elim
-          (λ (p : (x.source ≡ s) × (x.seq ≡ n)). absurd (other p.0))
-          (λ (c : HasNumber xs s n). g.bound n c)
+          (λ (p : (x.source ≡ s) × (x.first ≤ n) × (n ≤ x.last)). absurd (other p.0))
+          (λ (c : InRuns xs s n). g.bound n c)
           (number_cases x xs s n h);
-      reached = ⊎_elim (λ (e : mark_of marks s ≡ 0). inl e) (λ (c : HasNumber xs s (mark_of marks s)). inr (number_there x xs s _ c)) g.reached;
+      reached = ⊎_elim (λ (e : mark_of marks s ≡ 0). inl e) (λ (c : InRuns xs s (mark_of marks s)). inr (number_there x xs s _ c)) g.reached;
     }))
     (same_or_not x.source s)
 
-greatest_last : (xs : List Number) (s : ℕ) → IsStrictlySortedBy number_cmp xs → IsGreatest (HasNumber xs s) (mark_of (last_marks xs) s)
-greatest_last [] s sorted = record { bound = λ n h. absurd (Contains-none _ h); reached = inl refl }
-greatest_last (x ∷ []) s sorted = greatest_kept x [] [] s (All-nil _) (greatest_last [] s (sorted_tail number_cmp x [] sorted))
-greatest_last (x ∷ y ∷ ys) s sorted =
-    let rest = greatest_last (y ∷ ys) s (sorted_tail number_cmp x (y ∷ ys) sorted) in
-    elim (nat_eq y.source x.source) as (λ c. nat_eq y.source x.source ≡ c → IsGreatest (HasNumber (x ∷ y ∷ ys) s) (mark_of (cond c (last_marks (y ∷ ys)) (mark x ∷ last_marks (y ∷ ys))) s)) [
-      | true ↦ λ e. greatest_passed x y ys s _ sorted (eqb-true _ _ e) rest
-      | false ↦ λ e. greatest_kept x (y ∷ ys) (last_marks (y ∷ ys)) s (ended x (y ∷ ys) sorted e) rest
+greatest_last : (xs : List Run) (s : ℕ) → AreRuns xs → IsGreatest (InRuns xs s) (mark_of (last_marks xs) s)
+greatest_last [] s runs = record { bound = λ n h. absurd (number_none s n h); reached = inl refl }
+greatest_last (x ∷ []) s runs = greatest_kept x [] [] s (first_filled x [] runs) (All-nil _) (greatest_last [] s (later_runs x [] runs))
+greatest_last (x ∷ y ∷ ys) s runs =
+    let rest = greatest_last (y ∷ ys) s (later_runs x (y ∷ ys) runs) in
+    elim (nat_eq y.source x.source) as (λ c. nat_eq y.source x.source ≡ c → IsGreatest (InRuns (x ∷ y ∷ ys) s) (mark_of (cond c (last_marks (y ∷ ys)) (mark x ∷ last_marks (y ∷ ys))) s)) [
+      | true ↦ λ e. greatest_passed x y ys s _ runs (eqb-true _ _ e) rest
+      | false ↦ λ e. greatest_kept x (y ∷ ys) (last_marks (y ∷ ys)) s (first_filled x (y ∷ ys) runs) (ended x (y ∷ ys) runs e) rest
     ] refl
 
-positive_last : (xs : List Number) → All (λ n. 1 ≤ n.seq) xs → All (λ m. 1 ≤ m.high) (last_marks xs)
-positive_last [] all = All-nil _
-positive_last (x ∷ xs) all =
-    let P : Number → Type 0 = λ n. 1 ≤ n.seq in
+positive_last : (xs : List Run) → AreRuns xs → All (λ m. 1 ≤ m.high) (last_marks xs)
+positive_last [] runs = All-nil _
+positive_last (x ∷ xs) runs =
     let Q : MarkValue → Type 0 = λ m. 1 ≤ m.high in
-    let rest : All Q (last_marks xs) = positive_last xs (All-tail P x xs all) in
+    let rest : All Q (last_marks xs) = positive_last xs (later_runs x xs runs) in
+    let low = first_counted x xs runs in
+    let full = first_filled x xs runs in
     elim (continues x.source xs) as (λ c. All Q (cond c (last_marks xs) (mark x ∷ last_marks xs))) [
       | true ↦ rest
-      | false ↦ All-cons Q (mark x) _ (All-head P x xs all) rest
+      | false ↦ All-cons Q (mark x) _ (omega arith) rest
     ]
 
-pub are_greatest : (xs : List Number) → IsStrictlySortedBy number_cmp xs → All (λ n. 1 ≤ n.seq) xs → AreGreatest xs (last_marks xs)
-are_greatest xs sorted positive = record { ascending = rises_last xs sorted; positive = positive_last xs positive; greatest = λ s. greatest_last xs s sorted; few = few_last xs }
+pub are_greatest : (xs : List Run) → AreRuns xs → AreGreatest xs (last_marks xs)
+are_greatest xs runs = record { ascending = rises_last xs runs; positive = positive_last xs runs; greatest = λ s. greatest_last xs s runs; few = few_last xs }
 
 -- two tests of one thing give one greatest number
 pub one_greatest : (P Q : ℕ → Type 0) (a b : ℕ) → IsGreatest P a → IsGreatest Q b → ((n : ℕ) → P n → Q n) → ((n : ℕ) → Q n → P n) → a ≡ b

@@ -1,6 +1,7 @@
 pub mod PageOrder
 pub mod HeldNumbers
 pub mod GreatestNumbers
+pub mod SingleRuns
 pub mod TakenIn
 pub mod Reports
 pub mod WordOrder
@@ -21,3 +22,4 @@ pub mod AllReports
 pub mod Starts
 pub mod Adding
 pub mod HeldRanges
+pub mod PageRanges

@@ -14,7 +14,7 @@ use Rattle.wb_names.proofs.Listings.{Contains-none}
 use Rattle.wb_gaps.specs.Candidates.{HasGreatest, IsTakenIn}
 use Rattle.wb_gaps.specs.Numbers.{number_cmp}
 use Rattle.wb_gaps.specs.Greatest.{IsGreatest}
-use Rattle.wb_gaps.specs.LastNumbers.{HasNumber}
+use Rattle.wb_gaps.specs.Numbers.{HasNumber}
 use Rattle.wb_gaps.specs.declared.held.Number.{Number}
 use Rattle.wb_gaps.proofs.HeldNumbers.{number_parts}
 use Rattle.wb_gaps.proofs.GreatestNumbers.{same_or_not}

@@ -4,7 +4,7 @@ use Rattle.wb_names.specs.Values.{DrawopValue}
 use Rattle.wb_names.specs.History.{highest}
 use Rattle.wb_names.specs.declared.name.PageId.{PageId}
 use Rattle.wb_gaps.specs.Greatest.{IsGreatest}
-use Rattle.wb_gaps.specs.LastNumbers.{HasNumber}
+use Rattle.wb_gaps.specs.Numbers.{HasNumber}
 use Rattle.wb_gaps.specs.declared.held.Number.{Number}
 
 -- of each source, the greatest of these numbers is the greatest that is held on the page

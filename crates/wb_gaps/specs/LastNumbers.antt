@@ -1,22 +1,19 @@
--- The last of each source's numbers, which is its greatest.
-use Rattle.std.specs.Prelude.{ℕ, ◌<◌, ◌≤◌, List, [], ◌∷◌, Bool, false, nat_eq, All, AllPairs, Contains, length}
+-- The last number of each source's runs, which is its greatest.
+use Rattle.std.specs.Prelude.{ℕ, ◌<◌, ◌≤◌, List, [], ◌∷◌, Bool, false, nat_eq, All, AllPairs, length}
 use Rattle.wb_names.specs.Values.{MarkValue}
 use Rattle.wb_names.specs.Marks.{mark_of}
 use Rattle.wb_gaps.specs.Greatest.{IsGreatest}
-use Rattle.wb_gaps.specs.declared.held.Number.{Number}
+use Rattle.wb_gaps.specs.Runs.{InRuns}
+use Rattle.wb_gaps.specs.declared.run.Run.{Run}
 
--- the first of these numbers is of this source
-abbrev pub continues : ℕ → List Number → Bool
+-- the first of these runs is of this source
+abbrev pub continues : ℕ → List Run → Bool
 continues source [] = false
-continues source (n ∷ numbers) = nat_eq n.source source
+continues source (r ∷ runs) = nat_eq r.source source
 
--- the source has this number
-abbrev pub HasNumber : List Number → ℕ → ℕ → Type 0
-HasNumber numbers source n = Contains numbers (record { source = source; seq = n })
-
--- one mark for each source of the numbers, ascending, with its greatest number
-pub record AreGreatest (numbers : List Number) (marks : List MarkValue) : Type 0 where
+-- one mark for each source of the runs, ascending, with its greatest number
+pub record AreGreatest (runs : List Run) (marks : List MarkValue) : Type 0 where
   pub ascending : AllPairs (λ m n. m.source < n.source) marks
   pub positive : All (λ m. 1 ≤ m.high) marks
-  pub greatest : (source : ℕ) → IsGreatest (HasNumber numbers source) (mark_of marks source)
-  pub few : length marks ≤ length numbers
+  pub greatest : (source : ℕ) → IsGreatest (InRuns runs source) (mark_of marks source)
+  pub few : length marks ≤ length runs

@@ -13,5 +13,6 @@ pub mod LastNumbers
 pub mod Joining
 pub mod Candidates
 pub mod Ranges
+pub mod Runs
 pub mod Starts
 pub mod Holdings

@@ -1,13 +1,15 @@
 -- The ranges of numbers that are kept, by page, source and first number.
-use Rattle.std.specs.Prelude.{◌≡◌, ℕ, ◌+◌, ◌<◌, ◌≤◌, List, Option, Some, None, map}
+use Rattle.std.specs.Prelude.{◌≡◌, ℕ, ◌+◌, ◌<◌, ◌≤◌, Bool, List, Option, Some, None, filter, map}
+use Rattle.std.specs.List.{dedup}
 use Rattle.std.specs.Map.{lookup}
 use Rattle.std.specs.BTreeMap.{is_at}
 use Rattle.std.specs.Ordering.{nat_cmp, ordering_then}
 use Rattle.std.specs.declared.cmp.Ordering.{Ordering}
-use Rattle.wb_names.specs.Orders.{page_cmp}
+use Rattle.wb_names.specs.Orders.{page_cmp, same_page}
 use Rattle.wb_names.specs.declared.name.PageId.{PageId}
 use Rattle.wb_gaps.specs.Holdings.{HeldRange}
 use Rattle.wb_gaps.specs.declared.holdings.Start.{Start}
+use Rattle.wb_gaps.specs.declared.run.Run.{Run}
 
 -- by page, then by source, then by first number
 abbrev pub start_cmp : Start → Start → Ordering
@@ -21,6 +23,20 @@ range_of e = record { page = e.0.page; source = e.0.source; first = e.0.first; l
 
 abbrev pub ranges_of : List (Start × ℕ) → List HeldRange
 ranges_of entries = map range_of entries
+
+-- the ranges of a page, as runs
+abbrev pub run_of : Start × ℕ → Run
+run_of e = record { source = e.0.source; first = e.0.first; last = e.1 }
+
+abbrev pub is_on : PageId → Start × ℕ → Bool
+is_on page e = same_page page e.0.page
+
+abbrev pub runs_on : PageId → List (Start × ℕ) → List Run
+runs_on page entries = map run_of (filter (is_on page) entries)
+
+-- the pages of ranges, each that is not the page of the range before
+abbrev pub pages_in : List (Start × ℕ) → List PageId
+pages_in entries = dedup same_page (map (λ e. e.0.page) entries)
 
 -- the last number of the range that begins there, if one does
 abbrev pub last_at : List (Start × ℕ) → PageId → ℕ → ℕ → Option ℕ

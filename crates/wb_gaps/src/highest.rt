@@ -1,16 +1,15 @@
 //! The greatest number of each source.
 
-ghost use Rattle.std.specs.Prelude.{◌≡◌, ◌≤◌, All, IfOk};
-ghost use Rattle.std.specs.List.Sorted.{IsStrictlySortedBy};
+ghost use Rattle.std.specs.Prelude.{◌≡◌, IfOk};
 ghost use Rattle.wb_gaps.specs.LastNumbers.{continues, AreGreatest};
-ghost use Rattle.wb_gaps.specs.Numbers.{number_cmp};
+ghost use Rattle.wb_gaps.specs.Runs.{AreRuns};
 
-use crate::held::Number;
+use crate::run::Run;
 use std::alloc::{AllocError, Global};
 use wb_names::Mark;
 
-/// Whether the first of these numbers is of the source.
-fn goes_on(source: u32, later: &[Number]) -> bool
+/// Whether the first of these runs is of the source.
+fn goes_on(source: u32, later: &[Run]) -> bool
     ensures { result ≡ continues source later.now }
 {
     match later {
@@ -19,16 +18,15 @@ fn goes_on(source: u32, later: &[Number]) -> bool
     }
 }
 
-/// One mark for each source of ascending numbers, with its greatest number: the last one that it has.
-pub(crate) fn highs(alloc: Global, numbers: &[Number]) -> Result<Vec<Mark>, AllocError>
-    requires ascending { IsStrictlySortedBy number_cmp numbers.now }
-    requires positive { All (λ n. 1 ≤ n.seq) numbers.now }
-    ensures { IfOk result (λ marks. AreGreatest numbers.now marks.items) }
+/// One mark for each source of ascending runs, with its greatest number: the end of its last run.
+pub(crate) fn highs(alloc: Global, runs: &[Run]) -> Result<Vec<Mark>, AllocError>
+    requires { AreRuns runs.now }
+    ensures { IfOk result (λ marks. AreGreatest runs.now marks.items) }
 {
     let mut marks = Vec::new(alloc);
-    for (place, number) in numbers.iter().enumerate() {
-        if !goes_on(number.source, &numbers[place + 1..]) {
-            marks.push(Mark::new(number.source, number.seq).unwrap())?;
+    for (place, run) in runs.iter().enumerate() {
+        if !goes_on(run.source, &runs[place + 1..]) {
+            marks.push(Mark::new(run.source, run.last).unwrap())?;
         }
     }
     Ok(marks)

@@ -1,6 +1,6 @@
 //! What is held, kept as drawops come: the ranges of numbers of each page and source.
 
-ghost use Rattle.std.specs.Prelude.{◌≡◌, ◌+◌, ◌<◌, ◌≤◌, [], ◌∷◌, ◌++◌, List, OnOk, OnErr, IsOk, IsTrue, Some as some, None as none, MatchOption, ℕ};
+ghost use Rattle.std.specs.Prelude.{◌≡◌, ◌+◌, ◌<◌, ◌≤◌, [], ◌∷◌, ◌++◌, List, OnOk, OnErr, IsOk, IsTrue, Some as some, None as none, MatchOption, ℕ, length};
 ghost use Rattle.std.specs.BTreeMap.{IsOrdered};
 ghost use Rattle.wb_names.specs.Values.{DrawopValue};
 ghost use Rattle.wb_names.specs.History.{highest, name_of};
@@ -44,18 +44,20 @@ impl Model for Holdings {
 impl Holdings {
     /// Nothing is held.
     pub fn new(alloc: Global) -> Holdings
-        ensures { HoldNamesOf [] result }
+        ensures none { result ≡ [] }
+        ensures names { HoldNamesOf [] result }
     {
         Holdings {
             ranges: BTreeMap::new(alloc),
         }
     }
 
-    /// Takes in a drawop. One whose name was put before changes nothing and takes no memory. Where memory
-    /// is refused nothing has changed.
+    /// Takes in a drawop, by which there is at most one range more. One whose name was put before changes
+    /// nothing and takes no memory. Where memory is refused nothing has changed.
     pub fn put(&mut self, drawop: &Drawop) -> Result<(), AllocError>
         ensures ok { OnOk result ((history : List DrawopValue) → HoldNamesOf history self.old → HoldNamesOf (history ++ drawop.now ∷ []) self.new) }
         ensures again { IsTrue (holds self.old drawop.now.name) → IsOk result × (self.new ≡ self.old) }
+        ensures few { length self.new ≤ length self.old + 1 }
         ensures err { OnErr result (self.new ≡ self.old) }
     {
         let name = drawop.name();
@@ -154,6 +156,7 @@ fn add(ranges: &mut BTreeMap<Start, u32>, at: Start) -> Result<(), AllocError>
     ensures ranges { AreRanges ranges.new.entries }
     ensures ok { OnOk result (HoldsToo (ranges_of ranges.old.entries) (name_of at.page at.source at.first) (ranges_of ranges.new.entries)) }
     ensures again { IsTrue (holds (ranges_of ranges.old.entries) (name_of at.page at.source at.first)) → IsOk result × (ranges.new.entries ≡ ranges.old.entries) }
+    ensures few { length ranges.new.entries ≤ length ranges.old.entries + 1 }
     ensures err { OnErr result (ranges.new.entries ≡ ranges.old.entries) }
 {
     let Some(start) = begin(ranges, at) else {

@@ -4,17 +4,18 @@
 //! list of drawops this crate answers which pages it has (`page_list`), the greatest number of each
 //! source on a page (`page_report`) and on every page (`page_reports`), and which numbers are missing on
 //! a page (`missing`); and it merges what two members reported (`merged`). Each answer is a walk over
-//! sorted numbers, of which gaps want all that the page holds (`held`) and a report those that may be the
-//! greatest of their source (`candidates`), the last of each source (`highest`), or two lists of marks
-//! taken as one (`joined`).
+//! ascending runs of numbers (`run`), of which gaps want all that the page holds (`held`) and a report
+//! those that may be the greatest of their source (`candidates`), the last of each source (`highest`), or
+//! two lists of marks taken as one (`joined`).
 //!
-//! Who takes in drawops one by one keeps what is held as ranges of numbers (`holdings`), which tell the
-//! greatest number of a source without a walk.
+//! Who takes in drawops one by one keeps what is held as ranges of numbers (`holdings`), which answer the
+//! same questions by the same walk (`asked`), at the cost of what a page has of ranges.
 //!
 //! It knows no board, no clock and no datagram, and it asks for nothing that is missing. It needs no
 //! order of the list, and a name may stand twice in it.
 #![tactic(auto)]
 
+mod asked;
 mod candidates;
 mod held;
 mod highest;
@@ -27,6 +28,7 @@ mod missing;
 mod page_list;
 mod page_report;
 mod page_reports;
+mod run;
 
 pub use holdings::Holdings;
 pub use merged::{MergeFault, merge_marks};

@@ -7,4 +7,4 @@ use Rattle.wb_gaps.proofs.highest.highs.Goals as goal
 pub returns : goal.returns
 returns c =
     let all = sym (append-nil _) ∙ ap (λ ns. c.loop-place.marks.items ++ last_marks ns) (sym (drop_all _ _ c.loop-place-test.false)) ∙ c.loop-place.invariant in
-    subst (AreGreatest c.args.numbers.now) (sym all) (are_greatest _ c.requires.ascending c.requires.positive)
+    subst (AreGreatest c.args.runs.now) (sym all) (are_greatest _ c.requires)

@@ -3,4 +3,4 @@ use Rattle.wb_gaps.proofs.GreatestNumbers.{last_marks}
 use Rattle.wb_gaps.proofs.highest.highs.Given as goal
 
 abbrev pub invariant-loop-place : goal.invariant-loop-place
-invariant-loop-place l = l.marks.items ++ last_marks (drop l.place l.numbers) ≡ last_marks l.numbers
+invariant-loop-place l = l.marks.items ++ last_marks (drop l.place l.runs) ≡ last_marks l.runs

@@ -1,10 +1,18 @@
-use Rattle.std.proofs.Common.{subst, sym}
+use Rattle.std.proofs.Common.{◌∙◌, ap, map, subst, sym}
 use Rattle.wb_names.specs.Marks.{IsReport}
 use Rattle.wb_gaps.specs.LastNumbers.{AreGreatest}
+use Rattle.wb_gaps.specs.Runs.{AreRuns, single}
 use Rattle.wb_gaps.proofs.Reports.{is_report}
+use Rattle.wb_gaps.proofs.SingleRuns.{single_are}
 use Rattle.wb_gaps.proofs.page_report.report.Goals as goal
+
+pub highs-requires : goal.highs-requires
+highs-requires c =
+    let is = c.as_slice-2.ensures.value ∙ c.in_ok-runs.ensures ∙ ap (map single) c.as_slice.ensures.value in
+    subst AreRuns (sym is) (single_are c.in_ok-numbers.numbers.items c.in_ok-numbers.ensures.rising c.in_ok-numbers.ensures.positive)
 
 pub returns : goal.returns
 returns c =
+    let is = c.in_ok-runs.ensures ∙ ap (map single) c.as_slice.ensures.value in
     subst (IsReport c.args.list.now c.args.page) (sym c.as_marks.ensures.marks)
-    (is_report _ _ _ _ c.in_ok-numbers.ensures.greatest (subst (λ ns. AreGreatest ns c.in_ok-marks.marks.items) c.as_slice.ensures.value c.in_ok-marks.ensures) c.in_ok-numbers.ensures.few c.requires)
+    (is_report _ _ _ c.in_ok-runs.runs.items _ c.in_ok-numbers.ensures.greatest is (subst (λ rs. AreGreatest rs c.in_ok-marks.marks.items) c.as_slice-2.ensures.value c.in_ok-marks.ensures) c.in_ok-numbers.ensures.few c.requires)
