@@ -2,7 +2,7 @@
 use Rattle.std.specs.Prelude.{◌≡◌, ℕ, ◌≤◌, ◌↔◌, ◌⊎◌, List, [], length, All, Bool, false, Result, Ok, Err, IsOk}
 use Rattle.wb_lines.specs.declared.fault.DriveFault.{DriveFault}
 use Rattle.wb_lines.specs.declared.fault.DriveFault.TheVariants as drive_faults
-use Rattle.wb_lines.specs.Input.{InputLine, input_lines, content, most_bytes}
+use Rattle.wb_lines.specs.Input.{input_lines, content, most_bytes}
 use Rattle.wb_lines.specs.Handling.{Met, whole, too_long, Step, goes, stops, ends}
 use Rattle.wb_lines.specs.Driving.{Outcome, writes, rules_of, outcome}
 use Rattle.wb_script.specs.declared.fault.LineFault.{LineFault}

@@ -1,5 +1,5 @@
 -- What a run makes of a script.
-use Rattle.std.specs.Prelude.{◌≡◌, ℕ, List, Bool, Option, Result}
+use Rattle.std.specs.Prelude.{ℕ, List, Bool, Option, Result}
 use Rattle.wb_script.specs.declared.fault.RunFault.{RunFault}
 use Rattle.wb_script.specs.declared.summary.Summary.{Summary}
 use Rattle.wb_lines.specs.Input.{InputLine, input_lines}
