@@ -1,4 +1,5 @@
 pub mod StandingLayers
+pub mod KeptHoldings
 pub mod InOrder
 pub mod Agreement
 pub mod KeptCalls

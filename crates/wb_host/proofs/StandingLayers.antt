@@ -1,6 +1,6 @@
 -- Layers that stand at a beginning of a list: as the list grows, and as one of them takes in the rest of it.
 use Rattle.std.proofs.Common.{◌≡◌, ℕ, ◌-◌, Bool, true, false, cond, List, [], length, take, drop, fold, refl, sym, ap, subst, ◌∙◌, arith}
-use Rattle.std.specs.Prelude.{Some, Result, Ok, Err, MatchResult}
+use Rattle.std.specs.Prelude.{Some}
 use Rattle.std.proofs.lemmas.List.{take-append-drop, take-append-le, length-append, length-drop}
 use Rattle.std.proofs.lemmas.List.Sums.{fold-append}
 use Rattle.std.proofs.Math.Seq.{take-length}
@@ -13,10 +13,6 @@ use Rattle.wb_display.specs.Layer.{LayerValue, held_with, held_after}
 use Rattle.wb_names.specs.History.{IsHistory}
 use Rattle.wb_display.specs.Display.{IsView}
 use Rattle.wb_display.proofs.Pages.{stands_alone, holds_its_page}
-use Rattle.wb_history.specs.Passes.{PassValue}
-use Rattle.wb_history.specs.Sharing.{IsSplit, IsSplitFault, IsJoined}
-use Rattle.wb_history.specs.declared.parts.SplitFault.{SplitFault}
-use Rattle.wb_history.specs.declared.parts.JoinFault.{JoinFault}
 use Rattle.wb_host.specs.Layers.{StandsAt, AllStand, IsUpTo, layer_of}
 use Rattle.wb_host.specs.declared.layers.Standing.{Standing}
 
@@ -82,16 +78,3 @@ shows_all list page layers shown once up lent =
     let of_layer = lent up.standing up.found in
     let of_page = subst (λ (p : PageId). IsView up.standing.layer.held p shown) up.page_is of_layer in
     (stands_alone list page shown).0 (subst (λ (held : List DrawopValue). IsView held page shown) (up.held ∙ holds_its_page list page once) of_page)
-
-pub same_stand : (list other : List DrawopValue) (layers : List (PageId × Standing)) → other ≡ list → AllStand list layers → AllStand other layers
-same_stand list other layers same all = subst (λ (l : List DrawopValue). AllStand l layers) (sym same) all
-
--- a split leaves the list
-pub split_stand : (r : Result PassValue SplitFault) (n : ℕ) (p q : PassValue) (layers : List (PageId × Standing)) → MatchResult r (IsSplit p n q) (λ e. (q ≡ p) × IsSplitFault p n e) → AllStand p.seen layers → AllStand q.seen layers
-split_stand (Ok new) n p q layers parts all = same_stand p.seen q.seen layers (ap (λ (v : PassValue). v.seen) parts.rest) all
-split_stand (Err fault) n p q layers parts all = same_stand p.seen q.seen layers (ap (λ (v : PassValue). v.seen) parts.0) all
-
--- a join makes it longer, or leaves it
-pub join_stand : (r : Result (Unit {0}) (JoinFault × PassValue)) (p other q : PassValue) (layers : List (PageId × Standing)) → MatchResult r (λ _. IsJoined p other q) (λ e. (q ≡ p) × (e.1 ≡ other)) → AllStand p.seen layers → AllStand q.seen layers
-join_stand (Ok u) p other q layers joined all = still_stand p.seen q.seen layers joined.first all
-join_stand (Err e) p other q layers joined all = same_stand p.seen q.seen layers (ap (λ (v : PassValue). v.seen) joined.0) all

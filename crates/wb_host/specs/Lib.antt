@@ -1,6 +1,7 @@
 pub mod Replies
 pub mod Faults
 pub mod Layers
+pub mod Held
 pub mod Board
 pub mod Desks
 pub mod Runs

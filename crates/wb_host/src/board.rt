@@ -66,9 +66,9 @@ impl Board {
         ensures sound { IsSound desk.new × IfErr result (λ e. IsSound e.1) }
         ensures joined { MatchResult result (λ _. IsJoined desk.old other desk.new) (λ e. (desk.new ≡ desk.old) × (e.1 ≡ other)) }
     {
-        let Desk { pass, layers } = other;
+        let Desk { pass, layers, held } = other;
         if let Err((fault, pass)) = self.history.join(&mut desk.pass, pass) {
-            return Err((fault, Desk { pass, layers }));
+            return Err((fault, Desk { pass, layers, held }));
         }
         Ok(())
     }

@@ -3,15 +3,19 @@ ghost use Rattle.std.specs.Prelude.{◌≡◌, ◌↔◌, ⊤, IsTrue, IfOk, Mat
 ghost use Rattle.std.specs.Borrow.{sem, follows_so};
 ghost use mathlib.Core.Option.{none};
 ghost use Rattle.wb_names.specs.History.{HoldsName};
+ghost use Rattle.wb_names.specs.Marks.{IsReport};
+ghost use Rattle.wb_gaps.specs.Gaps.{AreGaps};
+ghost use Rattle.wb_gaps.specs.Pages.{ArePages};
 ghost use Rattle.wb_history.specs.Passes.{IsPassOf, IsSound, IsWhole, IsCaughtUp};
 
 use crate::board::Board;
+use crate::held::Held;
 use crate::layers::{Layers, bring_up, lent};
 use indexmap::IndexMap;
 use std::alloc::{AllocError, Global};
 use std::marker::Model;
 use wb_history::Pass;
-use wb_names::{Drawop, Name, PageId};
+use wb_names::{Drawop, Gap, Marks, Name, PageId};
 
 /// What one caller knows of a board and owns in it: the drawops that it has seen, the places of those
 /// that it added, and rows for more. It changes only when it is lent to a call of the board that it
@@ -22,6 +26,8 @@ pub struct Desk {
     pub(crate) pass: Pass,
     /// For each page that was viewed, what it shows of a beginning of the list.
     pub(crate) layers: Layers,
+    /// Which numbers of each page and source a beginning of the list has.
+    pub(crate) held: Held,
 }
 
 impl Model for Desk {
@@ -29,11 +35,11 @@ impl Model for Desk {
 
     ghost Value = { PassValue };
 
-    ghost use Rattle.wb_host.specs.Layers.{AllStand};
+    ghost use Rattle.wb_host.specs.Held.{AreKeptOf};
 
     ghost view = { λ d. d.pass };
 
-    ghost invariant = { λ d. AllStand d.pass.seen d.layers.entries };
+    ghost invariant = { λ d. AreKeptOf d.pass.seen d.layers.entries d.held };
 }
 
 impl Desk {
@@ -48,6 +54,7 @@ impl Desk {
         Desk {
             pass,
             layers: IndexMap::new(alloc),
+            held: Held::new(alloc),
         }
     }
 
@@ -67,6 +74,41 @@ impl Desk {
         board.refresh(self)?;
         bring_up(&mut self.layers, alloc, page, self.pass.list())?;
         Ok(lent(&self.layers, page))
+    }
+
+    /// Which numbers of a page are missing, of what it has seen.
+    pub(crate) fn gaps(
+        &mut self,
+        alloc: Global,
+        page: PageId,
+        marks: &Marks,
+    ) -> Result<Vec<Gap>, AllocError>
+        ensures same { self.new ≡ self.old }
+        ensures gaps { IfOk result (λ gaps. AreGaps self.old.seen page marks.now gaps.items) }
+    {
+        self.held.catch_up(self.pass.list())?;
+        let gaps = self.held.holdings.gaps(alloc, page, marks)?;
+        Ok(gaps)
+    }
+
+    /// The report of a page, of what it has seen.
+    pub(crate) fn report(&mut self, alloc: Global, page: PageId) -> Result<Marks, AllocError>
+        ensures same { self.new ≡ self.old }
+        ensures report { IfOk result (λ marks. IsReport self.old.seen page marks) }
+    {
+        self.held.catch_up(self.pass.list())?;
+        let marks = self.held.holdings.report(alloc, page)?;
+        Ok(marks)
+    }
+
+    /// The pages of what it has seen.
+    pub(crate) fn pages(&mut self, alloc: Global) -> Result<Vec<PageId>, AllocError>
+        ensures same { self.new ≡ self.old }
+        ensures pages { IfOk result (λ pages. ArePages self.old.seen pages.items) }
+    {
+        self.held.catch_up(self.pass.list())?;
+        let pages = self.held.holdings.pages(alloc)?;
+        Ok(pages)
     }
 
     /// The drawops that it has seen, in order of place.

@@ -10,12 +10,13 @@
 //!
 //! In reading order: `board` has the calls that open, divide and extend a board, `queries` what it
 //! answers of pages, `desk` what a desk tells by itself, and `reply` the answers to an arrival;
-//! `layers` keeps what viewed pages show. `keeper` has what a member hears and answers, misses and asks
+//! `layers` keeps what viewed pages show, and `held` which numbers there are. `keeper` has what a member hears and answers, misses and asks
 //! for. `laws` says what follows for many callers, and for two boards.
 #![tactic(auto)]
 
 mod board;
 mod desk;
+mod held;
 mod keep_fault;
 mod keeper;
 pub mod laws;

@@ -27,7 +27,7 @@ impl Board {
         ensures answer { IfOk result (λ gaps. IsAnswer desk.new.seen (AskGaps page marks.now) (Gaps gaps.items)) }
     {
         self.refresh(desk)?;
-        wb_gaps::gaps(alloc, desk.list(), page, marks)
+        desk.gaps(alloc, page, marks)
     }
 
     /// The report of a page: for each source that has a drawop there, ascending, its greatest number.
@@ -39,7 +39,7 @@ impl Board {
         ensures answer { IfOk result (λ marks. IsAnswer desk.new.seen (AskReport page) (ReportOf marks)) }
     {
         self.refresh(desk)?;
-        wb_gaps::report(alloc, desk.list(), page)
+        desk.report(alloc, page)
     }
 
     /// The pages that have drawops, ascending, each once. After a fault the desk may have seen more.
@@ -50,7 +50,7 @@ impl Board {
         ensures answer { IfOk result (λ pages. IsAnswer desk.new.seen AskPages (Pages pages.items)) }
     {
         self.refresh(desk)?;
-        wb_gaps::pages(alloc, desk.list())
+        desk.pages(alloc)
     }
 
     /// What a page shows, in the order of display: a copy of what `Desk::shown` lends. After a fault the

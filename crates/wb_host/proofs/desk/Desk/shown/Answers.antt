@@ -9,13 +9,13 @@ use Rattle.wb_host.proofs.StandingLayers.{shows_all}
 use Rattle.wb_host.proofs.desk.Desk.shown.Goals as goal
 
 pub bring_up-requires : goal.bring_up-requires
-bring_up-requires c = subst (λ (list : List DrawopValue). AllStand list c.self.inside.layers.entries) (sym c.list.ensures.value) c.self.invariant
+bring_up-requires c = subst (λ (list : List DrawopValue). AllStand list c.self.inside.layers.entries) (sym c.list.ensures.value) c.self.invariant.shown
 
 pub invariant_of-self : goal.invariant_of-self
-invariant_of-self c = subst (λ (list : List DrawopValue). AllStand list c.bring_up.new.layers.entries) c.list.ensures.value c.bring_up.ensures.stand
+invariant_of-self c = record { shown = subst (λ (list : List DrawopValue). AllStand list c.bring_up.new.layers.entries) c.list.ensures.value c.bring_up.ensures.stand; holds = c.self.invariant.holds }
 
 pub invariant_of-self-2 : goal.invariant_of-self-2
-invariant_of-self-2 c = subst (λ (list : List DrawopValue). AllStand list c.bring_up.new.layers.entries) c.list.ensures.value c.bring_up.ensures.stand
+invariant_of-self-2 c = record { shown = subst (λ (list : List DrawopValue). AllStand list c.bring_up.new.layers.entries) c.list.ensures.value c.bring_up.ensures.stand; holds = c.self.invariant.holds }
 
 -- the list of the desk is that of its pass
 pub returns : goal.returns
