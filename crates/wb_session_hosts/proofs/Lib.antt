@@ -5,3 +5,6 @@ pub mod Members
 pub mod Inputs
 pub mod Telling
 pub mod Sent
+pub mod Texts
+pub mod Clashes
+pub mod Agreeing

@@ -1,18 +1,23 @@
 -- Laws of sessions of hosts.
-use Rattle.std.specs.Prelude.{◌≡◌, ℕ, List, [], ◌∷◌, ◌++◌, Contains, Bool, Option, Some, None, Ok}
+use Rattle.std.specs.Prelude.{◌≡◌, ◌≢◌, ◌⊎◌, ℕ, List, [], ◌∷◌, ◌++◌, Contains, Bool, Option, Some, None, Result, Ok}
 use Rattle.std.specs.List.{concat}
 use Rattle.wb_names.specs.Values.{DrawopValue}
+use Rattle.wb_names.specs.declared.name.PageId.{PageId}
 use Rattle.wb_codec.specs.declared.datagram.Datagram.{Datagram}
 use Rattle.wb_codec.specs.declared.datagram.Datagram.TheVariants.{Draw}
-use Rattle.wb_lines.specs.Input.{input_lines}
+use Rattle.wb_lines.specs.Input.{InputLine, input_lines}
+use Rattle.wb_lines.specs.Taking.{met}
+use Rattle.wb_script.specs.Answers.{gaps_text}
 use Rattle.wb_script.specs.Hosts.{Opened}
 use Rattle.wb_script.specs.SentLines.{send_line, sends_text}
+use Rattle.wb_script.specs.declared.acceptance.Acceptance.TheVariants as became
+use Rattle.wb_script.specs.declared.line.Line.TheVariants as lines
 use Rattle.wb_session.specs.Session.{Event, Group, IsDistinct, member, newcomer, IsSession}
 use Rattle.wb_session.specs.Session as members
 use Rattle.wb_session_scripts.specs.Hosts.{IsMember}
 use Rattle.wb_dialog.specs.declared.line.DriverLine.{DriverLine}
-use Rattle.wb_dialog.specs.declared.line.DriverLine.TheVariants.{Say}
-use Rattle.wb_dialog.specs.Dialog.{gives, answer_at, answered_lines, transcript}
+use Rattle.wb_dialog.specs.declared.line.DriverLine.TheVariants.{Script, Say}
+use Rattle.wb_dialog.specs.Dialog.{gives, answer_at, answered_lines, batch_of, says_line, transcript}
 use Rattle.wb_dialog.specs.Doing.{text_of}
 use Rattle.wb_session_hosts.specs.Hosts.{LineAt, saying, host_at, reply_at, lines_at, blocks_at, sends_at, told_at, sent, IsHonest}
 
@@ -44,6 +49,16 @@ BlocksAreTranscripts = (group : Group) (lines : List LineAt) (i : ℕ) (cut : Bo
 abbrev pub TextsTellSends : Type 0
 TextsTellSends = (line : DriverLine) (host : Opened) (next : Option Opened) (text : List ℕ) → answer_at line host ≡ gives next text → text ≡ sends_text (sends_at line host) ++ told_at line host
 
+-- ---- no clash
+
+-- a line hands in a drawop, or says it
+abbrev pub BringsDrawop : InputLine → DrawopValue → Type 0
+BringsDrawop line d = (says_line (met line) ≡ Ok (Script (lines.Arrive d))) ⊎ (says_line (met line) ≡ Ok (Say (Draw d)))
+
+-- No line of a session that hands in a drawop, or says one, prints a batch that counts a clash.
+abbrev pub BatchesCountNoClash : Type 0
+BatchesCountNoClash = (group : Group) (older : List LineAt) (e : LineAt) (d : DrawopValue) → IsDistinct group → IsHonest group (e ∷ older) → BringsDrawop e.line d → text_of (reply_at group older e.place e.line) ≢ batch_of became.Clash
+
 -- ---- what is sent, at once or as a repair
 
 -- At some point the host of its source was handed a line that says it, and printed the line of its bytes.
@@ -63,3 +78,21 @@ SentWasSaid = (group : Group) (lines : List LineAt) → IsDistinct group → IsH
 -- Of each name one drawop is ever sent.
 abbrev pub SentOnce : Type 0
 SentOnce = (group : Group) (lines : List LineAt) → IsDistinct group → IsHonest group lines → (d e : DrawopValue) → Contains (sent group lines) (Draw d) → Contains (sent group lines) (Draw e) → d.name ≡ e.name → d ≡ e
+
+-- ---- agreement
+
+-- what a host would print now for a line, before the line that closes the block
+abbrev pub prints_at : Group → List LineAt → ℕ → InputLine → List ℕ
+prints_at group lines i line = text_of (reply_at group lines i line)
+
+-- Lines that ask for the report, the gaps and the canvas of a page. The spellings of their words may differ.
+pub record AskOf (page : PageId) (width height : ℕ) (report gaps show : InputLine) : Type 0 where
+  pub asks_report : says_line (met report) ≡ Ok (Script (lines.Report page))
+  pub asks_gaps : says_line (met gaps) ≡ Ok (Script (lines.Gaps page))
+  pub asks_show : says_line (met show) ≡ Ok (Script (lines.Show page width height))
+
+-- Two hosts that would print the same for `report C N`, and `gaps 0` for `gaps C N`, print the same for `show C N W H`.
+abbrev pub ReportsTellShows : Type 0
+ReportsTellShows = (group : Group) (lines : List LineAt) (i j : ℕ) (page : PageId) (width height : ℕ) (report gaps show : InputLine) → IsDistinct group → IsHonest group lines → AskOf page width height report gaps show
+    → prints_at group lines i report ≡ prints_at group lines j report → prints_at group lines i gaps ≡ gaps_text [] → prints_at group lines j gaps ≡ gaps_text []
+    → prints_at group lines i show ≡ prints_at group lines j show
