@@ -1,0 +1,119 @@
+-- No batch counts a clash.
+use Rattle.std.proofs.Common.{◌≡◌, ◌<◌, ℕ, Bool, true, false, cond, List, [], ◌∷◌, ◌++◌, Option, Some, None, Result, Ok, Err, refl, sym, ap, ◌∙◌, subst, arith, ◌⊎◌, inl, inr, ⊎_elim, eqb-true}
+use Rattle.std.specs.Prelude.{Contains, nat_eq, get_or, codes, decimal, if◌then◌else◌}
+use Rattle.wb_names.specs.Values.{NameValue, DrawopValue}
+use Rattle.wb_names.specs.History.{IsHeld, name_of}
+use Rattle.wb_names.proofs.Orders.{name_parts}
+use Rattle.wb_codec.specs.declared.datagram.Datagram.{Datagram}
+use Rattle.wb_codec.specs.declared.datagram.Datagram.TheVariants as datagrams
+use Rattle.wb_script.specs.Driving.{acceptance, next_number}
+use Rattle.wb_script.specs.Hosts.{Opened}
+use Rattle.wb_script.specs.SentLines.{send_line}
+use Rattle.wb_script.specs.declared.acceptance.Acceptance.{Acceptance}
+use Rattle.wb_script.specs.declared.acceptance.Acceptance.TheVariants as became
+use Rattle.wb_script.specs.declared.line.Line.TheVariants as lines
+use Rattle.wb_session.specs.Session.{Member, Group, IsDistinct, member, IsDrawn}
+use Rattle.wb_session.proofs.Drawn.{holds_name, drawn_is_once, held_is_drawn, sent_is_drawn}
+use Rattle.wb_session_scripts.specs.Hosts.{member_of}
+use Rattle.wb_dialog.specs.declared.fault.Refusal.{Refusal}
+use Rattle.wb_dialog.specs.declared.fault.Refusal.TheVariants as refusals
+use Rattle.wb_dialog.specs.declared.line.DriverLine.{DriverLine}
+use Rattle.wb_dialog.specs.declared.line.DriverLine.TheVariants.{Script, Say}
+use Rattle.wb_dialog.specs.Dialog.{answer, batch_of, goes_out, refuses, said_text}
+use Rattle.wb_dialog.specs.Doing.{text_of}
+use Rattle.wb_dialog.proofs.OwnNumbers.{next_is_new}
+use Rattle.wb_session_hosts.specs.Hosts.{LineAt, saying, host_at, reply_at, sent, MaySay, IsHonestBy, IsHonest}
+use Rattle.wb_session_hosts.specs.Laws.{BatchesCountNoClash}
+use Rattle.wb_session_hosts.proofs.Outcomes.{Found, found}
+use Rattle.wb_session_hosts.proofs.Texts.{digit_0, digit_1, differ}
+use Rattle.wb_session_hosts.proofs.Turns.{IsAt}
+use Rattle.wb_session_hosts.proofs.Members.{events_of, Follows, follows}
+
+-- ---- texts
+
+-- two texts with one byte at a place
+byte_of : (k : ℕ) (a b : List ℕ) → a ≡ b → get_or a k 0 ≡ get_or b k 0
+byte_of k a b e = ap (λ (t : List ℕ). get_or t k 0) e
+
+-- a batch of these four numbers
+abbrev line_of : List ℕ → List ℕ → List ℕ → List ℕ → List ℕ
+line_of a b c d = codes "batch " ++ (a ++ (codes " " ++ (b ++ (codes " " ++ (c ++ (codes " " ++ (d ++ codes "\n")))))))
+
+new_text : batch_of became.New ≡ line_of (49 ∷ []) (48 ∷ []) (48 ∷ []) (48 ∷ [])
+new_text = ap (λ (x : List ℕ). line_of x (decimal 0) (decimal 0) (decimal 0)) digit_1 ∙ ap (λ (z : List ℕ). line_of (49 ∷ []) z z z) digit_0
+
+again_text : batch_of became.Again ≡ line_of (48 ∷ []) (49 ∷ []) (48 ∷ []) (48 ∷ [])
+again_text = ap (λ (x : List ℕ). line_of (decimal 0) x (decimal 0) (decimal 0)) digit_1 ∙ ap (λ (z : List ℕ). line_of z (49 ∷ []) z z) digit_0
+
+clash_text : batch_of became.Clash ≡ line_of (48 ∷ []) (48 ∷ []) (49 ∷ []) (48 ∷ [])
+clash_text = ap (λ (x : List ℕ). line_of (decimal 0) (decimal 0) x (decimal 0)) digit_1 ∙ ap (λ (z : List ℕ). line_of z z (49 ∷ []) z) digit_0
+
+left_text : batch_of became.Left ≡ line_of (48 ∷ []) (48 ∷ []) (48 ∷ []) (49 ∷ [])
+left_text = ap (λ (x : List ℕ). line_of (decimal 0) (decimal 0) (decimal 0) x) digit_1 ∙ ap (λ (z : List ℕ). line_of z z z (49 ∷ [])) digit_0
+
+no_text : [] ≡ batch_of became.Clash → ⊥
+no_text e = differ 0 98 (omega arith) (byte_of 0 [] (batch_of became.Clash) e)
+
+only_clash : (a : Acceptance) → batch_of a ≡ batch_of became.Clash → a ≡ became.Clash
+only_clash became.New e = absurd (differ 48 49 (omega arith) (sym (byte_of 6 _ _ (sym new_text ∙ e ∙ clash_text))))
+only_clash became.Again e = absurd (differ 48 49 (omega arith) (sym (byte_of 8 _ _ (sym again_text ∙ e ∙ clash_text))))
+only_clash became.Clash e = refl
+only_clash became.Left e = absurd (differ 48 49 (omega arith) (byte_of 10 _ _ (sym left_text ∙ e ∙ clash_text)))
+
+not_sent : (v : Datagram) → send_line v ≡ batch_of became.Clash → ⊥
+not_sent v e = differ 98 115 (omega arith) (sym (byte_of 0 (send_line v) (batch_of became.Clash) e))
+
+only_clash_said : (d : DrawopValue) (a : Acceptance) → said_text d a ≡ batch_of became.Clash → a ≡ became.Clash
+only_clash_said d became.New e = absurd (not_sent (datagrams.Draw d) e)
+only_clash_said d became.Again e = absurd (not_sent (datagrams.Draw d) e)
+only_clash_said d became.Clash e = refl
+only_clash_said d became.Left e = only_clash became.Left e
+
+-- ---- no clash
+
+module _ (group : Group) (is : IsDistinct group) (older : List LineAt) (f : Follows group is older) (i : ℕ) (host : Opened) (at : IsAt group i (Some host) (member group (events_of group older) i)) (d : DrawopValue) where
+  held_drawn : (x : DrawopValue) → Contains host.board.drawops x → IsDrawn group (events_of group older) x
+  held_drawn x c = held_is_drawn group (events_of group older) f.session i x (subst (λ (n : Member). Contains n.held x) (sym at.1) c)
+
+  -- what was drawn clashes with nothing that is held
+  none_of_drawn : IsDrawn group (events_of group older) d → acceptance d host ≡ became.Clash → ⊥
+  none_of_drawn drawn e =
+      let clash = subst (Found host.board.drawops d) e (found host.board.cells 0 host.board.drawops d) in
+      clash.3 (drawn_is_once group (events_of group older) is clash.0 d (held_drawn clash.0 clash.1) drawn clash.2)
+
+  sent_none : Contains (sent group older) (datagrams.Draw d) → acceptance d host ≡ became.Clash → ⊥
+  sent_none c e = none_of_drawn (sent_is_drawn group (events_of group older) f.session d (f.sent (datagrams.Draw d) c)) e
+
+  said_none : d.name.source ≡ host.me → MaySay (datagrams.Draw d) host → acceptance d host ≡ became.Clash → ⊥
+  said_none mine fair e = ⊎_elim
+      (λ (next : next_number d.name.page host ≡ Some d.name.seq).
+      let clash = subst (Found host.board.drawops d) e (found host.board.cells 0 host.board.drawops d) in
+      let named : d.name ≡ name_of d.name.page host.me d.name.seq = name_parts _ _ _ _ _ _ mine refl refl in
+      let lt : d.name.seq < d.name.seq = (next_is_new d.name.page host d.name.seq next).0 d.name.seq (holds_name host.board.drawops clash.0 (name_of d.name.page host.me d.name.seq) clash.1 (clash.2 ∙ named)) in
+      omega arith)
+      (λ (held : Contains host.board.drawops d). none_of_drawn (held_drawn d held) e)
+      fair
+
+module _ (group : Group) (is : IsDistinct group) (older : List LineAt) (f : Follows group is older) (i : ℕ) (d : DrawopValue) where
+  arrives : (s : Option Opened) → IsAt group i s (member group (events_of group older) i) → IsHonestBy group (sent group older) i s (Ok (Script (lines.Arrive d))) → text_of (answer (group.constants i) s (Ok (Script (lines.Arrive d)))) ≡ batch_of became.Clash → ⊥
+  arrives None at fair e = no_text e
+  arrives (Some host) at fair e = sent_none group is older f i host at d fair (only_clash (acceptance d host) e)
+
+  says : (s : Option Opened) → IsAt group i s (member group (events_of group older) i) → IsHonestBy group (sent group older) i s (Ok (Say (datagrams.Draw d))) → text_of (answer (group.constants i) s (Ok (Say (datagrams.Draw d)))) ≡ batch_of became.Clash → ⊥
+  says None at fair e = no_text e
+  says (Some host) at fair e = from (nat_eq d.name.source host.me) refl e where
+    from : (b : Bool) → nat_eq d.name.source host.me ≡ b → text_of (if b then goes_out (datagrams.Draw d) host else refuses refusals.Member) ≡ batch_of became.Clash → ⊥
+    from true own g = let mine = eqb-true d.name.source host.me own in said_none group is older f i host at d mine (fair mine) (only_clash_said d (acceptance d host) g)
+    from false own g = no_text g
+
+pub batches_count_no_clash : BatchesCountNoClash
+batches_count_no_clash group older e d is fair brings text =
+    let f = follows group is older fair.1 in
+    let i = e.place in
+    let s = host_at group older i in
+    ⊎_elim
+    (λ (b : saying e ≡ Ok (Script (lines.Arrive d))).
+    arrives group is older f i d s (f.at i) (subst (IsHonestBy group (sent group older) i s) b fair.0) (sym (ap (λ (r : Result DriverLine Refusal). text_of (answer (group.constants i) s r)) b) ∙ text))
+    (λ (b : saying e ≡ Ok (Say (datagrams.Draw d))).
+    says group is older f i d s (f.at i) (subst (IsHonestBy group (sent group older) i s) b fair.0) (sym (ap (λ (r : Result DriverLine Refusal). text_of (answer (group.constants i) s r)) b) ∙ text))
+    brings

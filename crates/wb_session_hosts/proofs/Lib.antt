@@ -1,0 +1,10 @@
+pub mod Outcomes
+pub mod Several
+pub mod Turns
+pub mod Members
+pub mod Inputs
+pub mod Telling
+pub mod Sent
+pub mod Texts
+pub mod Clashes
+pub mod Agreeing

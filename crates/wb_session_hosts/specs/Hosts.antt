@@ -1,0 +1,153 @@
+-- A session of hosts: programs, each at a place, that their drivers hand lines. What one sends may be lost, and a driver may
+-- hand it in to any of them, at any later point, any number of times.
+use Rattle.std.specs.Prelude.{◌≡◌, ◌⊎◌, ℕ, List, [], ◌∷◌, ◌++◌, Contains, nat_eq, Option, Some, None, Result, Ok, Err, if◌then◌else◌}
+use Rattle.wb_names.specs.Values.{DrawopValue}
+use Rattle.wb_recovery.specs.declared.tuning.Tuning.{Tuning}
+use Rattle.wb_codec.specs.declared.datagram.Datagram.{Datagram}
+use Rattle.wb_codec.specs.declared.datagram.Datagram.TheVariants.{Draw, Session, Request, AskPages, PageState}
+use Rattle.wb_lines.specs.Input.{InputLine}
+use Rattle.wb_lines.specs.Taking.{met}
+use Rattle.wb_script.specs.Driving.{acceptance, shown, pages_known, next_number, may_ask, asks_for}
+use Rattle.wb_script.specs.Hosts.{Opened, Act, does, fails, act}
+use Rattle.wb_script.specs.declared.acceptance.Acceptance.{Acceptance}
+use Rattle.wb_script.specs.declared.acceptance.Acceptance.TheVariants as became
+use Rattle.wb_script.specs.declared.line.Line.{Line}
+use Rattle.wb_script.specs.declared.line.Line.TheVariants as lines
+use Rattle.wb_session.specs.Session.{Group}
+use Rattle.wb_session_scripts.specs.Hosts.{act_of, member_of, said, sends_any}
+use Rattle.wb_dialog.specs.declared.fault.Refusal.{Refusal}
+use Rattle.wb_dialog.specs.declared.line.DriverLine.{DriverLine}
+use Rattle.wb_dialog.specs.declared.line.DriverLine.TheVariants.{Script, Say, Next, View, Known, Ask, Stop}
+use Rattle.wb_dialog.specs.Dialog.{Answer, State, answer, answer_of, block, after, says_line, speaker, batch_of, next_line, view_text, known_text, ask_line, stop_line}
+
+-- ---- hosts and their lines
+
+-- the host at a place is handed a line of its input
+pub record LineAt : Type 0 where
+  pub place : ℕ
+  pub line : InputLine
+
+abbrev pub saying : LineAt → Result DriverLine Refusal
+saying e = says_line (met e.line)
+
+-- the host at a place after lines, of which the newest is the first, once it opened a board
+abbrev pub host_at : Group → List LineAt → ℕ → Option Opened
+host_at group [] i = None
+host_at group (e ∷ older) i = if nat_eq e.place i then after (host_at group older i) (answer (group.constants i) (host_at group older i) (saying e)) else host_at group older i
+
+abbrev pub state_at : Group → List LineAt → ℕ → State
+state_at group lines i = record { tuning = group.constants i; host = host_at group lines i }
+
+-- what the host at a place would answer to a line now
+abbrev pub reply_at : Group → List LineAt → ℕ → InputLine → Answer
+reply_at group lines i line = answer_of (state_at group lines i) (met line)
+
+-- the lines of a place, in their order
+abbrev pub lines_at : List LineAt → ℕ → List InputLine
+lines_at [] i = []
+lines_at (e ∷ older) i = if nat_eq e.place i then lines_at older i ++ e.line ∷ [] else lines_at older i
+
+-- the blocks that the host there writes
+abbrev pub blocks_at : Group → List LineAt → ℕ → List (List ℕ)
+blocks_at group [] i = []
+blocks_at group (e ∷ older) i = if nat_eq e.place i then blocks_at group older i ++ block (reply_at group older i e.line) ∷ [] else blocks_at group older i
+
+-- ---- what a line sends
+
+-- the line of a script, which leads to this; a refused line sends nothing
+abbrev pub sends_by_act : Line → Opened → Act → List Datagram
+sends_by_act line host (does next text) = sends_any (act_of line host) (member_of [] host)
+sends_by_act line host (fails e) = []
+
+-- a drawing that is said is sent where it is new or held already
+abbrev pub sends_drawing : DrawopValue → Acceptance → List Datagram
+sends_drawing d became.New = Draw d ∷ []
+sends_drawing d became.Again = Draw d ∷ []
+sends_drawing d became.Clash = []
+sends_drawing d became.Left = []
+
+abbrev pub sends_said : Datagram → Opened → List Datagram
+sends_said (Draw d) host = sends_drawing d (acceptance d host)
+sends_said v host = v ∷ []
+
+-- a line of a driver, at an open host
+abbrev pub sends_at : DriverLine → Opened → List Datagram
+sends_at (Script line) host = sends_by_act line host (act line host)
+sends_at (Say v) host = if nat_eq (speaker v) host.me then sends_said v host else []
+sends_at line host = []
+
+abbrev pub sends_by : Option Opened → Result DriverLine Refusal → List Datagram
+sends_by None line = []
+sends_by (Some host) (Ok line) = sends_at line host
+sends_by (Some host) (Err e) = []
+
+-- ---- what it prints behind the lines of what it sends
+
+-- why a drawing that was said is not sent
+abbrev pub told_unsent : Acceptance → List ℕ
+told_unsent became.New = []
+told_unsent became.Again = []
+told_unsent became.Clash = batch_of became.Clash
+told_unsent became.Left = batch_of became.Left
+
+abbrev pub told_said : Datagram → Opened → List ℕ
+told_said (Draw d) host = told_unsent (acceptance d host)
+told_said v host = []
+
+abbrev pub told_script : Line → Opened → List ℕ
+told_script (lines.Arrive d) host = batch_of (acceptance d host)
+told_script line host = said line host
+
+abbrev pub told_number : Option ℕ → List ℕ
+told_number None = []
+told_number (Some n) = next_line n
+
+abbrev pub told_at : DriverLine → Opened → List ℕ
+told_at (Script line) host = told_script line host
+told_at (Say v) host = told_said v host
+told_at (Next page) host = told_number (next_number page host)
+told_at (View page) host = view_text (shown page host)
+told_at Known host = known_text (pages_known host)
+told_at (Ask name) host = ask_line (may_ask name host)
+told_at (Stop name) host = stop_line (asks_for name host)
+
+-- ---- a session
+
+-- all that anyone sent
+abbrev pub sent : Group → List LineAt → List Datagram
+sent group [] = []
+sent group (e ∷ older) = sends_by (host_at group older e.place) (saying e) ++ sent group older
+
+-- ---- what drivers keep to
+
+-- A driver says drawings of its own, each under the number that `next` gives, or one that is held already once more; and it asks
+-- for the pages. It leaves session messages, requests and page states to the host.
+abbrev pub MaySay : Datagram → Opened → Type 0
+MaySay (Draw d) host = (next_number d.name.page host ≡ Some d.name.seq) ⊎ Contains host.board.drawops d
+MaySay (AskPages asker) host = Unit {0}
+MaySay v host = ⊥
+
+-- At an open host: a datagram that comes in was sent before.
+abbrev pub IsHonestAt : List Datagram → Opened → DriverLine → Type 0
+IsHonestAt datagrams host (Script (lines.Arrive d)) = Contains datagrams (Draw d)
+IsHonestAt datagrams host (Script (lines.Hear v)) = Contains datagrams v
+IsHonestAt datagrams host (Say v) = speaker v ≡ host.me → MaySay v host
+IsHonestAt datagrams host line = Unit {0}
+
+-- The line that opens the board at a place names its number and cells.
+abbrev pub IsHonestFirst : Group → ℕ → DriverLine → Type 0
+IsHonestFirst group i (Script (lines.Board member cells workers seed)) = (member ≡ group.number i) × (cells ≡ group.cells i)
+IsHonestFirst group i line = Unit {0}
+
+abbrev pub IsHonestBy : Group → List Datagram → ℕ → Option Opened → Result DriverLine Refusal → Type 0
+IsHonestBy group datagrams i s (Err e) = Unit {0}
+IsHonestBy group datagrams i None (Ok line) = IsHonestFirst group i line
+IsHonestBy group datagrams i (Some host) (Ok line) = IsHonestAt datagrams host line
+
+abbrev pub IsHonestNext : Group → List LineAt → LineAt → Type 0
+IsHonestNext group older e = IsHonestBy group (sent group older) e.place (host_at group older e.place) (saying e)
+
+-- each line, at the point at which it is handed in
+abbrev pub IsHonest : Group → List LineAt → Type 0
+IsHonest group [] = Unit {0}
+IsHonest group (e ∷ older) = IsHonestNext group older e × IsHonest group older

@@ -1,0 +1,38 @@
+//! Laws of sessions of hosts. Each function does nothing: its contract is a law, for proofs to cite.
+
+ghost use Rattle.wb_session_hosts.specs.Laws.{BatchesCountNoClash, BlocksAreTranscripts, HostsAreMembers, ReportsTellShows, SentOnce, SentWasSaid, TextsTellSends};
+
+/// A session of hosts is one of members: at each place the host is the member, and what hosts sent the
+/// members sent. So what holds of sessions of members holds of hosts and their drivers.
+pub fn hosts_are_members()
+    ensures { HostsAreMembers }
+{}
+
+/// The blocks at a place are the transcript of the input whose lines are handed in there.
+pub fn blocks_are_transcripts()
+    ensures { BlocksAreTranscripts }
+{}
+
+/// What an open host prints for a line that is not refused is a `send` line of each datagram that it
+/// sends, and then what else it tells.
+pub fn texts_tell_sends()
+    ensures { TextsTellSends }
+{}
+
+/// No line that hands in a drawop, or says one, prints a batch that counts a clash.
+pub fn batches_count_no_clash()
+    ensures { BatchesCountNoClash }
+{}
+
+/// What anyone sends, as a repair or at once, is in every byte what its source said and sent, and of
+/// each name one drawop is ever sent.
+pub fn repairs_are_what_was_said()
+    ensures said { SentWasSaid }
+    ensures once { SentOnce }
+{}
+
+/// Two hosts that would print the same for `report C N`, and `gaps 0` for `gaps C N`, print the same for
+/// `show C N W H`, byte for byte.
+pub fn reports_tell_shows()
+    ensures { ReportsTellShows }
+{}
