@@ -1,7 +1,8 @@
 -- Laws of scripts in which each arrival is a batch of its own: what a run of one prints, and what a host prints for its lines.
-use Rattle.std.specs.Prelude.{◌≡◌, ◌≤◌, ◌-◌, ℕ, List, [], ◌∷◌, ◌++◌, length, take, All, Bool, false, Option, Ok, Err}
+use Rattle.std.specs.Prelude.{◌≡◌, ◌≤◌, ◌-◌, ℕ, List, [], ◌∷◌, ◌++◌, length, take, All, Bool, Option, Result, Ok, Err}
 use Rattle.wb_lines.specs.Input.{InputLine, input_lines}
 use Rattle.wb_script.specs.declared.fault.LineFault.{LineFault}
+use Rattle.wb_script.specs.declared.fault.RunFault.{RunFault}
 use Rattle.wb_script.specs.declared.fault.RunFault.TheVariants as run_faults
 use Rattle.wb_script.specs.declared.line.Line.{Line}
 use Rattle.wb_script.specs.declared.summary.Summary.{Summary}
@@ -35,10 +36,20 @@ blocks_of lines = blocks_from (unopened script_constants) lines
 abbrev pub AloneIsOneOrder : Type 0
 AloneIsOneOrder = (workers : Option ℕ) (cut : Bool) (input : List ℕ) (o : Outcome) → ArriveAlone cut input → IsOutcome workers cut input o → o ≡ outcome workers cut input
 
--- Where it is run to its end, what it prints is the transcript of a host without the lines `ok DUE`.
+-- a run came to the end of its input, or to where reading fails
+abbrev pub IsRunOut : Result Summary RunFault → Type 0
+IsRunOut (Ok summary) = Unit {0}
+IsRunOut (Err run_faults.Read) = Unit {0}
+IsRunOut (Err run_faults.Write) = ⊥
+IsRunOut (Err run_faults.Memory) = ⊥
+IsRunOut (Err run_faults.Start) = ⊥
+IsRunOut (Err run_faults.Endless) = ⊥
+IsRunOut (Err (run_faults.Line number fault)) = ⊥
+
+-- Then what it prints is the transcript of a host without the lines `ok DUE`.
 abbrev pub RunIsWithoutOks : Type 0
-RunIsWithoutOks = (workers : Option ℕ) (input text : List ℕ) (summary : Summary) → ArriveAlone false input → IsOutcome workers false input (prints text (Ok summary))
-    → IsWithoutOks (blocks_of (answered_lines false (input_lines input))) text
+RunIsWithoutOks = (workers : Option ℕ) (cut : Bool) (input text : List ℕ) (end : Result Summary RunFault) → IsRunOut end → ArriveAlone cut input → IsOutcome workers cut input (prints text end)
+    → IsWithoutOks (blocks_of (answered_lines cut (input_lines input))) text
 
 -- Where a line of it is refused, it prints what a host prints for the lines before that one.
 abbrev pub RefusedIsWithoutOks : Type 0

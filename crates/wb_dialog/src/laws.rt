@@ -33,10 +33,11 @@ pub fn said_is_read()
     ensures { SaidIsRead }
 {}
 
-/// A line that a script takes is read the same by a host. A script in which each arrival is a batch of its own
-/// prints, by `run` with any number of workers, what `host` prints for its lines, without the lines `ok DUE`;
-/// where a line is refused, which ends the run, what `host` prints for the lines before it. The timers of both
-/// have the constants of a script.
+/// A script in which each arrival is a batch of its own prints, by `run` with any number of workers, what `host`
+/// prints for it, without the lines `ok DUE`. This is so where the run comes to the end of the script, or to
+/// where reading fails. Where a line is refused, which ends the run, it prints what `host` prints for the lines
+/// before it. A line that a script takes is read the same by a host. The timers of the host have the constants
+/// of a script.
 pub fn runs_are_transcripts()
     ensures lines { ScriptLinesAreRead }
     ensures order { AloneIsOneOrder }
