@@ -1,59 +1,44 @@
 #!/usr/bin/env python3
-"""Two members draw on one page, and every third datagram of the first is lost, until both show the same page.
+"""Two hosts draw on one page over pipes that take 20 ms, one of which loses each third datagram, until both show the same."""
+import itertools, os, pathlib, subprocess
 
-Each member is a `wb host`. This driver is their network, which takes 20 ms, and their clock, so each run is the same.
-"""
-import os, pathlib, subprocess
-
-top = pathlib.Path(__file__).resolve().parent.parent
-program = os.environ.get("WB_PROGRAM") or subprocess.check_output([top / "wb", "--where"], text=True).rstrip("\n")
-
-
-class Host:
-    def __init__(self, member: int) -> None:
-        self.member, self.sent = member, 0
-        self.child = subprocess.Popen([program, "host"], text=True, stdin=subprocess.PIPE, stdout=subprocess.PIPE)
-        self.tell(f"board {member} 100 1 {member}")
-
-    def tell(self, line: str, rows: int = 0) -> list[str]:
-        """Writes a line and reads its block: the rows of a canvas, what else there is, and when a timer is due."""
-        print(line, file=self.child.stdin, flush=True)
-        block = [next(self.child.stdout).rstrip("\n") for _ in range(rows)]
-        while not (last := next(self.child.stdout).rstrip("\n")).startswith(("ok ", "refused ")):
-            block.append(last)
-        assert last.startswith("ok "), f"{line}: {last}"
-        self.due = float(last.removeprefix("ok ").replace("never", "inf"))
-        return block
+wb = os.environ.get("WB_PROGRAM") or pathlib.Path(__file__).resolve().parents[1] / "wb"
+hosts = {member: subprocess.Popen([wb, "host"], text=True, stdin=subprocess.PIPE, stdout=subprocess.PIPE) for member in (1, 2)}
+due, flying, now, report, count = {}, [], 0, 0, itertools.count(1)
+SHAPES = ["frame 0 0 25 4 #", 'text 2 1 "Tuesday"', "line 2 2 23 2 -", 'text 2 3 "at three"', 'text 12 3 "I will come"']
 
 
-def give(host: Host, line: str) -> None:
-    """Tells a host a line. What it sends then comes to the other, but for every third datagram of the first."""
-    for sent in host.tell(line):
-        if sent.startswith("send "):
-            host.sent += 1
-            lost = host is first and host.sent % 3 == 0
-            if not lost:
-                flying.append((now + 20_000, second if host is first else first, sent.replace("send", "datagram")))
-            words = subprocess.run([program, "words"], input=sent, text=True, stdout=subprocess.PIPE).stdout
-            print(f"{now / 1e6:.3f} s  member {host.member} {words}{'  (lost)' if lost else ''}")
+def tell(member: int, line: str, rows: int = 0) -> list:
+    """Writes a line and reads its block: the rows of a canvas, what else it prints, and when a timer is due."""
+    print(line, file=hosts[member].stdin, flush=True)
+    block = [next(hosts[member].stdout) for _ in range(rows)]
+    while not (last := next(hosts[member].stdout)).startswith(("ok ", "refused ")):
+        block.append(last)
+    due[member] = float(last.split()[1].replace("never", "inf"))  # no number where the line was refused: the session ends
+    return block
 
 
-first, second, flying, now, report = Host(1), Host(2), [], 0, 0
-shapes = ["frame 0 0 25 4 #", 'text 2 1 "Tuesday"', "line 2 2 23 2 -", 'text 2 3 "at three"', 'text 12 3 "I will come"']
-for host, shape in zip([first] * 4 + [second], shapes):
-    number = host.tell("next 1 1")[0].split()[1]
-    give(host, f"say draw {host.member} 1/1 {number} 0 {shape}")
-while first.tell("show 1 1 26 5", rows=5) != second.tell("show 1 1 26 5", rows=5):
-    now = min([report, first.due, second.due] + [moment for moment, _, _ in flying])
-    for host in first, second:
-        give(host, f"tick {now:.0f}")
-    while flying and flying[0][0] == now:
-        _, host, datagram = flying.pop(0)
-        give(host, datagram)
-        give(host, "look 1 1")
-    if now == report:  # once a second
-        report += 1_000_000
-        for host in first, second:
-            give(host, "session 1 1")
-for host in first, second:
-    print(f"member {host.member} shows", *host.tell("show 1 1 26 5", rows=5), sep="\n")
+def give(member: int, line: str) -> None:
+    """Tells a line. What the host sends then comes to the other one, but for each third datagram of member 1."""
+    for sent in [it.strip() for it in tell(member, line) if it.startswith("send ")]:
+        lost = member == 1 and next(count) % 3 == 0
+        words = subprocess.check_output([wb, "words"], text=True, input=sent)
+        print(f"{now / 1e6:.3f} s  member {member} {words}{'  (lost)' * lost}")
+        if not lost:
+            flying.append((now + 20_000, 3 - member, sent.replace("send", "datagram")))
+
+
+for member in hosts:
+    tell(member, f"board {member} 100 1 {member}")
+for member, shape in zip([1, 1, 1, 1, 2], SHAPES):
+    give(member, f"say draw {member} 1/1 {tell(member, 'next 1 1')[0].split()[1]} 0 {shape}")
+while (page := tell(1, "show 1 1 26 5", rows=5)) != tell(2, "show 1 1 26 5", rows=5):
+    now = int(min([report, *due.values(), *(moment for moment, _, _ in flying)]))
+    lines = [(member, f"tick {now}") for member in hosts]
+    lines += [(member, line) for moment, member, datagram in flying if moment == now for line in (datagram, "look 1 1")]
+    lines += [(member, "session 1 1") for member in hosts if now == report]  # once a second
+    flying = [it for it in flying if it[0] > now]
+    report += 1_000_000 * (now == report)
+    for member, line in lines:
+        give(member, line)
+print("both show\n" + "".join(page), end="")

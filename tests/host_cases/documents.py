@@ -39,7 +39,7 @@ def judge_example(judge: Judge) -> None:
     environment = {**os.environ, "WB_PROGRAM": program()}
     command = [sys.executable, TOP / "examples" / "session.py"]
     ended = subprocess.run(command, env=environment, capture_output=True, text=True, timeout=PATIENCE, check=False)
-    want = f"{SENT}member 1 shows\n{PAGE}member 2 shows\n{PAGE}"
+    want = f"{SENT}both show\n{PAGE}"
     judge.equal("examples/session.py", (ended.returncode, ended.stderr), (0, ""))
     judge.equal("what examples/session.py prints", ended.stdout, want)
 

@@ -4,3 +4,7 @@ pub mod Transcripts
 pub mod DialogLaws
 pub mod OwnNumbers
 pub mod SaidLines
+pub mod FirstWords
+pub mod ScriptLines
+pub mod LoneArrivals
+pub mod RunTexts

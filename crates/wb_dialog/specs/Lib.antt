@@ -2,3 +2,4 @@ pub mod Lines
 pub mod Dialog
 pub mod Doing
 pub mod Laws
+pub mod RunLaws
