@@ -22,8 +22,8 @@ class Fault(Exception):
 class Member:
     """A member's host, the lines that it was given, and those that wait.
 
-    `due` is when its next timer is due, or None. While lines wait it is no later than that: until they are answered, their timers may
-    only have ended. `asks` says that lines wait which set timers, or print what is sent. `moment` is that of the last tick.
+    `due` is when its next timer is due, or None. While lines wait, no timer is due before it, and none stands where it is None, but for
+    those of lines that have to be answered now, as `asks` says. `moment` is that of the last tick.
     """
 
     number: int

@@ -1,8 +1,8 @@
 """A session in virtual time. Time moves to the next event, a datagram that comes or a timer that is due, and nothing is waited for.
 
 Events are taken in windows as long as the least delay of a link. What happens within a window at one member can't reach another
-in the same window, so all members are at work at once, and what comes of it does not hang on which is first. A host answers when
-it sends something or sets a timer, and else later: a drawop that comes can only end timers.
+in the same window, so all members are at work at once, and what comes of it does not hang on which is first. A host is asked only when
+it may send something: a drawop that comes can only end timers, and a request sets one that is due a distance later at the earliest.
 """
 from __future__ import annotations
 
@@ -111,12 +111,14 @@ class Session:
         """The moment of the next event, or at which the next timer is due. Whoever may be due in its window has said when by then."""
         while (start := self.first_moment()) is not None:
             due = self.take_due(start + self.window)
-            unsure = [number for number in due if self.members[number].waiting]
-            sent = self.ask(unsure)
-            assert not sent
+            is_sure = not any(self.members[number].waiting for number in due)
+            if not is_sure:
+                unsure = [number for number, member in self.members.items() if member.waiting and member.due is not None]
+                self.ask(unsure)  # which sends nothing: no timer was due
+                due += unsure
             for number in due:
                 self.list_due(number)
-            if not unsure:
+            if is_sure:
                 break
         return start
 
@@ -182,16 +184,21 @@ class Session:
         return True
 
     def happens(self, member: Member, event: Event) -> None:
-        """Has the lines of an event wait. A drawop to a member without timers needs no moment, and no answer before others do."""
-        lines = self.lines_of(event)
+        """Has the lines of an event wait. A drawop alone sets no timer, and needs no moment where the member has none; a request may set
+        one, which is due a distance later at the earliest. Any other line is answered in this window."""
+        lines, moment, what = self.lines_of(event), event.moment, event.what
         if not lines:
             return
-        is_drawop = isinstance(event.what, Datagram) and lines[-1] is event.what.line and event.what.kind == "drawop"
-        if member.asks or member.due is not None or not is_drawop:
-            member.tick(event.moment)
+        kind = what.kind if isinstance(what, Datagram) and lines[-1] is what.line else "any other"
+        if member.asks or member.due is not None or kind != "drawop":
+            member.tick(moment)
         for line in lines:
-            member.add(event.moment, line)
-        member.asks = member.asks or not is_drawop
+            member.add(moment, line)
+        if kind == "request":
+            earliest = moment + self.least_distance(member.number, what)
+            member.due = earliest if member.due is None else min(member.due, earliest)
+        elif kind != "drawop":
+            member.asks = True
 
     def ask(self, numbers: list[int]) -> list[tuple[int, int, bytes]]:
         """Members answer the lines that wait. What they send comes back, with its moment and its sender."""
@@ -253,6 +260,11 @@ class Session:
             return []
         self.told[member] = told | datagram.tells
         return [b"distance %d %d" % (other, self.network.distance(member, other)) for other in sorted(datagram.tells - told)]
+
+    def least_distance(self, member: int, request: Datagram) -> int:
+        """The lesser of the distances that a timer for a request may go by: from the asker, and from the source of what is asked for."""
+        others = (request.author, request.name[0])
+        return min(DEFAULT_DISTANCE, *(self.network.distance(member, other) for other in others if other != member))
 
     def send(self, moment: int, sender: int, digits: bytes) -> None:
         """Puts a datagram on its way to all others that are there."""
