@@ -195,7 +195,7 @@ class Session:
         for line in lines:
             member.add(moment, line)
         if kind == "request":
-            earliest = moment + self.least_distance(member.number, what)
+            earliest = moment + self.distance_of_timer(member.number, what)
             member.due = earliest if member.due is None else min(member.due, earliest)
         elif kind != "drawop":
             member.asks = True
@@ -261,10 +261,10 @@ class Session:
         self.told[member] = told | datagram.tells
         return [b"distance %d %d" % (other, self.network.distance(member, other)) for other in sorted(datagram.tells - told)]
 
-    def least_distance(self, member: int, request: Datagram) -> int:
-        """The lesser of the distances that a timer for a request may go by: from the asker, and from the source of what is asked for."""
-        others = (request.author, request.name[0])
-        return min(DEFAULT_DISTANCE, *(self.network.distance(member, other) for other in others if other != member))
+    def distance_of_timer(self, member: int, request: Datagram) -> int:
+        """The distance that a timer goes by which a request sets: from the asker, where it is for a repair, and else from the source."""
+        other = request.name[0] if self.book.is_lacking(member, request.name) else request.author
+        return min(DEFAULT_DISTANCE, self.network.distance(member, other))
 
     def send(self, moment: int, sender: int, digits: bytes) -> None:
         """Puts a datagram on its way to all others that are there."""
