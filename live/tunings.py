@@ -6,6 +6,7 @@ from typing import Tuple
 # the constants of a group of up to so many members, from what `lab/figures --only tunings` measured; `lab/test` holds them to that
 TUNINGS: Tuple[Tuple[int, str], ...] = (
     (50, "2,2,1,1"),
+    (100, "2,4,1,8"),
     (500, "2,8,1,8"),
 )
 

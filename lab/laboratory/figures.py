@@ -26,7 +26,7 @@ class Scale:
     networks: int = 10
     chain: int = 20
     losses: int = 40
-    classes: tuple[int, ...] = (10, 50, 100, 200, 500)
+    classes: tuple[int, ...] = (10, 50, 100, 500)
     class_losses: int = 10
 
 
