@@ -9,6 +9,7 @@ from .clock import Clock
 from .host import Block, Host, HostEnded
 from .options import Options
 from .record import Record, RecordFault
+from .tunings import tuning_for
 from .views import Drawop, Page, drawop_of
 
 # is told each line that the host took in, and its block
@@ -43,23 +44,45 @@ class Board:
         self.listener = listener
         self.moment = 0
         self.due: Optional[int] = None
-        self.starts: List[float] = []
+        self.ends: List[float] = []
+        self.tuning, self.members = record.constants()
 
     def open(self, me: int) -> None:
-        """Starts the host: from the lines of the record, or with a new board."""
-        if first_board(self.record) is None:
+        """Starts the host: from the lines of the record, or with a new board. Its constants are those for the members that
+        are expected, where it is said how many are, and else those of the record."""
+        is_new = first_board(self.record) is None
+        expected = self.options.members or self.members or 1
+        if is_new or expected != self.members:
+            self.choose(expected)
+        if is_new:
             self.record.add("board %d %d 1 %d" % (me, self.options.cells, secrets.randbits(64)))
         self.record.note("started")
         self.start()
         self.clock = Clock(self.moment + 1, self.options.speed)
 
+    def choose(self, members: int) -> None:
+        """The constants from the next start on are those for so many members."""
+        self.tuning, self.members = tuning_for(members), members
+        self.record.note("constants %s for %d members" % (self.tuning, members))
+
+    def fit(self, members: int) -> None:
+        """Where so many members want other constants than the fewer before, starts the host from its record with those."""
+        if members > self.members and tuning_for(members) != self.tuning:
+            self.choose(members)
+            self.host.end()
+            self.start()
+
+    def start_again(self) -> None:
+        """Starts a host in the place of one that ended."""
+        now = time.monotonic()
+        self.ends.append(now)
+        if sum(now - end < 60 for end in self.ends) >= MOST_STARTS:
+            raise BoardFault("the host ended %d times within a minute" % MOST_STARTS)
+        self.start()
+
     def start(self) -> None:
         """Gives a new host all lines of the record that change one."""
-        now = time.monotonic()
-        self.starts.append(now)
-        if sum(now - start < 60 for start in self.starts) > MOST_STARTS:
-            raise BoardFault("the host ended %d times within a minute" % MOST_STARTS)
-        self.host = Host(self.program)
+        self.host = Host(self.program, self.tuning)
         for line in self.record.acts():
             self.keep(line, self.host.ask(line))
 
@@ -79,7 +102,7 @@ class Board:
         except HostEnded:
             self.host.end()
             self.record.note("the host ended at: %s .." % line[:60])
-            self.start()
+            self.start_again()
             raise
         self.record.add(line)
         self.keep(line, block)

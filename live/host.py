@@ -7,6 +7,8 @@ from dataclasses import dataclass
 from pathlib import Path
 from typing import List, Optional, Tuple
 
+from .tunings import FIRST_TUNING
+
 # a line of the program has 65,536 bytes at most
 MOST_DIGITS = 65_536 - len("send ")
 
@@ -80,10 +82,10 @@ class Block:
 
 
 class Host(Child):
-    """`wb host`. Each line that goes to it comes back as one block, so writing and reading take turns."""
+    """`wb host` with these constants. Each line that goes to it comes back as one block, so writing and reading take turns."""
 
-    def __init__(self, program: str) -> None:
-        super().__init__([program, "host"])
+    def __init__(self, program: str, tuning: str = FIRST_TUNING) -> None:
+        super().__init__([program, "host", "--tuning", tuning])
 
     def ask(self, line: str, rows: int = 0) -> Block:
         """The block of a line. `rows` says how many rows of a canvas come first, since these may look like anything."""

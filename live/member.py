@@ -13,7 +13,7 @@ from .events import Events
 from .host import Block, HostEnded, Words
 from .network import MOST_BYTES, Arrival, Inbox, Network
 from .options import Options
-from .pacing import LEAST_INTERVAL, SECOND, Heard, Questions, session_interval
+from .pacing import LEAST_INTERVAL, SECOND, Heard, Questions, mean_interval, session_interval
 from .record import Record
 from .telling import Telling
 from .views import Drawn, Page, distance_told, drawop_of, page_text, reported_page, speaker_of
@@ -230,14 +230,17 @@ class Member:
         self.questions.asked(self.board.clock.now())
 
     def say_session(self) -> None:
-        """The session message of the page in view, and each other time of one of the pages that are drawn on, in turn."""
+        """The session message of the page in view, and each other time of one of the pages that are drawn on, in turn.
+        Before it the host gets the constants for the members that were heard."""
+        members = len(self.heard.present(self.board.clock.now())) + 1
+        self.board.fit(members)
         self.advance()
         turn = next(self.rotation)
         pages = list(self.drawn.pages) if turn % 2 else []
         page = pages[turn // 2 % len(pages)] if pages else self.page
-        sent = self.tell("session %d %d" % page).sent()
-        members = len(self.heard.present(self.board.moment)) + 1
-        self.session_at = self.board.clock.now() + session_interval(members, sum(map(len, sent)) // 2)
+        size = sum(map(len, self.tell("session %d %d" % page).sent())) // 2
+        self.session_at = self.board.clock.now() + session_interval(members, size)
+        self.heard.expect(mean_interval(members, size))
 
     def look(self) -> None:
         """Asks for what is missing on the pages of which something was heard, and gives up what nobody answers."""

@@ -26,6 +26,7 @@ class Options(argparse.Namespace):
     record: Optional[str]
     replay: Optional[str]
     cells: int
+    members: int  # 0: nobody says
     lose: float
     delay: float
     twice: float
@@ -79,6 +80,7 @@ def parser() -> argparse.ArgumentParser:
     net("--peer", type=address, action="append", metavar="HOST:PORT", help="another member, which listens there; as often as there are")
     net("--ports", type=within(1, 65_535 - PORTS, int), default=FIRST_PORT, metavar="FIRST", help="the first of the %d ports of this machine, else %d" % (PORTS, FIRST_PORT))
     net("--me", type=within(0, 2**32 - 1, int), metavar="N", help="the number of this member, which no other has; else by the port, or at random")
+    net("--members", type=within(1, 10**6, int), default=0, metavar="N", help="how many are expected: the constants of the timers are those for N members, until more are heard")
     seen = made.add_argument_group("where it is seen").add_argument
     seen("--web", type=web_address, default=("127.0.0.1", -1), metavar="PORT", help="serves the page on this port of 127.0.0.1, or with ADDRESS:PORT elsewhere")
     seen("--no-web", dest="web", action="store_const", const=None, help="serves no page, and paints it in the terminal")

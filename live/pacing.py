@@ -13,8 +13,10 @@ SECOND = 1_000_000
 SHARED_BITS = 3_200
 LEAST_INTERVAL = 2 * SECOND
 
-# a member that was not heard for so long is gone; of more members than this, those last heard are remembered
+# a member that was not heard for so long is gone, and for so many intervals, since many members speak more seldom than that;
+# of more members than MOST_MEMBERS, those last heard are remembered
 GONE_AFTER = 60 * SECOND
+GONE_AFTER_INTERVALS = 3
 MOST_MEMBERS = 4_096
 
 # questions for pages come more and more seldom, up to this interval
@@ -35,6 +37,7 @@ class Heard:
 
     def __init__(self) -> None:
         self.others: Dict[int, Other] = {}
+        self.patience = GONE_AFTER
 
     def hear(self, member: int, now: int) -> bool:
         """Whether it is heard for the first time."""
@@ -47,13 +50,21 @@ class Heard:
 
     def present(self, now: int) -> Dict[int, Other]:
         """The members that were heard lately."""
-        return {member: other for member, other in self.others.items() if now - other.at < GONE_AFTER}
+        return {member: other for member, other in self.others.items() if now - other.at < self.patience}
+
+    def expect(self, interval: int) -> None:
+        """The members speak once in such an interval, in the mean."""
+        self.patience = max(GONE_AFTER, GONE_AFTER_INTERVALS * interval)
+
+
+def mean_interval(members: int, size: int) -> int:
+    """Microseconds from one session message of a member to the next, in the mean, where each has so many bytes."""
+    return max(LEAST_INTERVAL, members * size * 8 * SECOND // SHARED_BITS)
 
 
 def session_interval(members: int, size: int) -> int:
-    """Microseconds from one session message of ours to the next, where each has so many bytes."""
-    least = max(LEAST_INTERVAL, members * size * 8 * SECOND // SHARED_BITS)
-    return int(least * random.uniform(0.5, 1.5))
+    """Microseconds from one session message of ours to the next: at random, so that members do not speak all at once."""
+    return int(mean_interval(members, size) * random.uniform(0.5, 1.5))
 
 
 class Questions:

@@ -3,15 +3,22 @@ from __future__ import annotations
 
 import fcntl
 import os
+import re
 import tempfile
 import time
-from typing import Iterator, Optional
+from typing import Iterator, Optional, Tuple
+
+from .tunings import FIRST_TUNING
 
 # no line of a record is longer than this: the longest has a datagram of 65,507 bytes
 MOST_LINE = 131_072
 
 # lines that ask and change nothing, so a host that is started again needs none of them
 QUERIES = ("view", "show", "gaps", "report", "pages", "known", "next", "#")
+
+
+# a comment that says by which constants the host answers from here on, and for how many members they were chosen
+CONSTANTS = re.compile(r"# constants ([0-9,]{1,20}) for ([0-9]{1,9}) members ")
 
 
 class RecordFault(Exception):
@@ -43,13 +50,22 @@ class Record:
             raise RecordFault("the file is no record")
         self.file.truncate(start + end)
 
-    def acts(self) -> Iterator[str]:
-        """The lines that change a host, from the first."""
+    def lines(self) -> Iterator[str]:
+        """All lines, from the first."""
         with open(os.dup(self.file.fileno()), "rb") as reader:
             reader.seek(0)
-            for line in (line.rstrip(b"\r\n").decode("latin-1") for line in reader):
-                if line and not line.startswith(QUERIES):
-                    yield line
+            yield from (line.rstrip(b"\r\n").decode("latin-1") for line in reader)
+
+    def acts(self) -> Iterator[str]:
+        """The lines that change a host, from the first."""
+        return (line for line in self.lines() if line and not line.startswith(QUERIES))
+
+    def constants(self) -> Tuple[str, int]:
+        """The constants by which the host answered last, and for how many members they were chosen."""
+        last = FIRST_TUNING, 0
+        for found in filter(None, map(CONSTANTS.match, self.lines())):
+            last = found[1], int(found[2])
+        return last
 
     def add(self, line: str) -> None:
         """Puts a line into the file: a crash of this process does not lose it from now on."""

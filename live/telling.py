@@ -92,7 +92,7 @@ class Telling:
         elif page in self.missing:
             self.missing.remove(page)
             self.caught_up[page] = member.board.clock.now()
-        counts = dict(member.wire.counts, dropped=member.inbox.dropped, starts=len(member.board.starts))
+        counts = dict(member.wire.counts, dropped=member.inbox.dropped, starts=1 + len(member.board.ends))
         self.events.tell("health", {
             "page": page_text(page), "phrase": self.phrase(missing, asking, given_up), "missing": missing,
             "asking": asking, "given_up": given_up, "warnings": member.warnings, "counts": counts,

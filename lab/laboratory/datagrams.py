@@ -10,7 +10,8 @@ KINDS = {1: "drawop", 2: "session", 3: "request", 4: "ask-pages", 5: "page-state
 class Datagram:
     """A datagram as it was printed. `author` is the source of a drawop, and else who sends it.
 
-    `name` is the source and number of the drawop that it is or asks for; `marks` the greatest numbers that it tells.
+    `name` is the source and number of the drawop that it is or asks for; `marks` the greatest numbers that it tells, of a drawop its
+    own. `tells` are the members of whom it tells: the author, and the sources of its marks.
     """
 
     line: bytes
@@ -18,6 +19,7 @@ class Datagram:
     author: int
     name: tuple[int, int] | None
     marks: tuple[tuple[int, int], ...]
+    tells: frozenset[int]
 
     @property
     def size(self) -> int:
@@ -31,11 +33,12 @@ def read_datagram(digits: bytes) -> Datagram:
     name, marks = None, ()
     if kind == "drawop":
         name = author, int(digits[40:48], 16)
+        marks = (name,)
     elif kind == "request":
         name = int(digits[24:32], 16), int(digits[48:56], 16)
     elif kind in ("session", "page-state"):
         marks = read_marks(digits, 56 if kind == "session" else 40)
-    return Datagram(b"datagram " + digits, kind, author, name, marks)
+    return Datagram(b"datagram " + digits, kind, author, name, marks, frozenset([author, *(source for source, _ in marks)]))
 
 
 def read_marks(digits: bytes, start: int) -> tuple[tuple[int, int], ...]:

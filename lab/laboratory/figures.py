@@ -1,8 +1,10 @@
 """The figures: what is run for each, and how it is shown."""
 from __future__ import annotations
 
+import math
 from collections.abc import Callable
 from dataclasses import dataclass, replace
+from itertools import groupby
 from typing import Any
 
 from laboratory.measures import summary
@@ -24,7 +26,7 @@ class Scale:
     networks: int = 10
     chain: int = 20
     losses: int = 40
-    classes: tuple[int, ...] = (10, 50, 500)
+    classes: tuple[int, ...] = (10, 50, 100, 500)
     class_losses: int = 10
 
 
@@ -172,7 +174,7 @@ def tunings(scale: Scale) -> Figure:
     candidates = CANDIDATES if len(scale.constants) > 3 else CANDIDATES[:3]
 
     def settings(group: int, tuning: str, case: str) -> Settings:
-        losses = scale.losses if group <= 100 else scale.class_losses
+        losses = scale.losses if group < 100 else scale.class_losses
         return replace(star_of(group, cases[case] or group, tuning, losses), delay=(0.005, 0.05), every=2.0)
 
     keys = [(group, tuning) for group in scale.classes for tuning in candidates]
@@ -192,16 +194,31 @@ def tunings(scale: Scale) -> Figure:
     def plots(measures: dict[str, Measured]) -> dict[str, Plot]:
         plot = Plot("Tunings: datagrams beside delay", "delay of the last repair, in distances (mean of both losses)", "requests and repairs (mean of both losses)")
         for group in scale.classes:
-            rows = [row for row in table(measures) if row["group"] == group]
-            points = [
-                ((row["source_delay"] + row["member_delay"]) / 2,
-                 (row["source_requests"] + row["source_repairs"] + row["member_requests"] + row["member_repairs"]) / 2)
-                for row in rows
-            ]
+            points = [wait_and_datagrams(row) for row in table(measures) if row["group"] == group]
             plot.series.append(Series(f"{group} members", sorted(points)))
         return {"tunings": plot}
 
     return Figure(runs, plots, table)
+
+
+def wait_and_datagrams(row: Measured) -> tuple[float, float]:
+    """The wait until the last repair, and the requests and repairs for a loss: means of both losses of a row of the tunings."""
+    datagrams = row["source_requests"] + row["source_repairs"] + row["member_requests"] + row["member_repairs"]
+    return (row["source_delay"] + row["member_delay"]) / 2, datagrams / 2
+
+
+def chosen(rows: list[Measured]) -> list[tuple[int, str]]:
+    """For groups of up to so many members the constants with the least product of wait and datagrams, of the rows of the tunings.
+
+    Sizes that follow one another with the same constants are one entry, by the greatest.
+    """
+    best: list[tuple[int, str]] = []
+    for group, own in groupby(rows, key=lambda row: row["group"]):
+        tuning = min(own, key=lambda row: math.prod(wait_and_datagrams(row)))["tuning"].replace(" ", ",")
+        if best and best[-1][1] == tuning:
+            best.pop()
+        best.append((group, tuning))
+    return best
 
 
 def all_figures(scale: Scale) -> dict[str, Figure]:

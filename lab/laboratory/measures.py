@@ -64,6 +64,9 @@ class Book:
             for member in lost:
                 self.lacks.setdefault((member, name[0]), set()).add(name[1])
 
+    def is_lacking(self, member: int, name: Name) -> bool:
+        return name[1] in self.lacks.get((member, name[0]), ())
+
     def learns(self, member: int, source: int, number: int, moment: int) -> bool:
         """A member learns that the source has drawn up to this number. Whether it newly lacks a drawop."""
         known = self.greatest.get((member, source), 0)

@@ -1,4 +1,4 @@
-"""The members of a session: one `wb host` each, with many lines on their way at once."""
+"""The members of a session: one `wb host` each. Lines wait until an answer is needed, and then go to all of them at once."""
 from __future__ import annotations
 
 import os
@@ -10,32 +10,49 @@ from pathlib import Path
 PIECE = 16_384
 DEFAULT_TUNING = "2,2,1,1"
 
+# a line that a host is given or prints, with its moment
+Line = tuple[int, bytes]
+
 
 class Fault(Exception):
     """What a session showed that must not be."""
 
 
 @dataclass
-class Answer:
-    """What a line printed. `due` is when the member's next timer is due, or None."""
-
-    printed: list[bytes]
-    due: int | None
-
-
-@dataclass
 class Member:
-    """A member's host, and the lines that it was given."""
+    """A member's host, the lines that it was given, and those that wait.
+
+    `due` is when its next timer is due, or None. While lines wait, no timer is due before it, and none stands where it is None, but for
+    those of lines that have to be answered now, as `asks` says. `moment` is that of the last tick.
+    """
 
     number: int
     process: subprocess.Popen[bytes]
     due: int | None = None
+    asks: bool = False
+    moment: int = -1
+    waiting: list[Line] = field(default_factory=list)
+    given: list[Line] = field(default_factory=list)
     lines: list[bytes] = field(default_factory=list)
+    answers: list[bytes] = field(default_factory=list)
     unread: bytes = b""
 
-    def write(self, lines: list[bytes]) -> None:
-        assert self.process.stdin
+    def add(self, moment: int, line: bytes) -> None:
+        """The line waits until an exchange."""
+        self.waiting.append((moment, line))
+
+    def tick(self, moment: int) -> None:
+        """Makes this the present moment, where it is not."""
+        if self.moment != moment:
+            self.moment = moment
+            self.waiting.append((moment, b"tick %d" % moment))
+
+    def give(self) -> None:
+        """Writes lines that wait, as many as a pipe takes while nobody reads."""
+        self.given, self.waiting = first_piece(self.waiting)
+        lines = [line for _, line in self.given]
         self.lines += lines
+        assert self.process.stdin
         text = memoryview(b"\n".join(lines) + b"\n")
         try:
             while text:
@@ -43,44 +60,46 @@ class Member:
         except BrokenPipeError as error:
             raise Fault(f"member {self.number} ended at '{lines[0][:60].decode()}'") from error
 
-    def next_line(self, waiting: list[bytes]) -> bytes:
-        """The next line that it printed; `waiting` holds, last first, those that were read with it."""
+    def read(self) -> list[Line]:
+        """What the lines that were given last print, without the line that closes each block."""
+        printed = []
+        for moment, line in self.given:
+            rows = int(line.split()[4]) if line.startswith(b"show ") else 0
+            printed += [(moment, self.next_line()) for _ in range(rows)]
+            while not (answer := self.next_line()).startswith(b"ok "):
+                if answer.startswith(b"refused "):
+                    raise Fault(f"member {self.number}: '{line[:60].decode()}' is {answer.decode()}")
+                printed.append((moment, answer))
+        self.due = None if answer == b"ok never" else int(answer[3:])
+        self.asks = bool(self.waiting) and self.asks
+        return printed
+
+    def next_line(self) -> bytes:
+        """The next line that it printed; `answers` holds, last first, those that were read with it."""
         assert self.process.stdout
-        while not waiting:
+        while not self.answers:
             more = os.read(self.process.stdout.fileno(), 65_536)
             if not more:
                 raise Fault(f"member {self.number} ended at '{self.lines[-1][:60].decode()}'")
             *whole, self.unread = (self.unread + more).split(b"\n")
-            waiting.extend(reversed(whole))
-        return waiting.pop()
-
-    def read(self, lines: list[bytes]) -> list[Answer]:
-        """The answers to the lines that were written last."""
-        waiting: list[bytes] = []
-        return [self.read_answer(line, waiting) for line in lines]
-
-    def read_answer(self, line: bytes, waiting: list[bytes]) -> Answer:
-        rows = int(line.split()[4]) if line.startswith(b"show ") else 0
-        printed: list[bytes] = []
-        while True:
-            given = self.next_line(waiting)
-            if len(printed) >= rows and given.startswith(b"ok "):
-                self.due = None if given == b"ok never" else int(given[3:])
-                return Answer(printed, self.due)
-            if len(printed) >= rows and given.startswith(b"refused "):
-                raise Fault(f"member {self.number}: '{line[:60].decode()}' is {given.decode()}")
-            printed.append(given)
-
-    def ask(self, line: str) -> list[bytes]:
-        """What one line prints."""
-        self.write([line.encode()])
-        return self.read([line.encode()])[0].printed
+            self.answers = whole[::-1]
+        return self.answers.pop()
 
     def close(self) -> None:
         assert self.process.stdin and self.process.stdout
         self.process.stdin.close()
         self.process.stdout.close()
         self.process.wait()
+
+
+def first_piece(lines: list[Line]) -> tuple[list[Line], list[Line]]:
+    """The first lines, of a size that a pipe takes, and the rest; a line that is too long for that stands alone."""
+    size = 0
+    for at, (_, line) in enumerate(lines):
+        size += len(line) + 1
+        if size > PIECE and at:
+            return lines[:at], lines[at:]
+    return lines, []
 
 
 def start_members(path: str, words: dict[int, int], tuning: str, cells: int) -> dict[int, Member]:
@@ -90,7 +109,8 @@ def start_members(path: str, words: dict[int, int], tuning: str, cells: int) -> 
     for number in words:
         process = subprocess.Popen(command, stdin=subprocess.PIPE, stdout=subprocess.PIPE, bufsize=0)
         members[number] = Member(number, process)
-    exchange([(member, [b"board %d %d 1 %d" % (number, cells, words[number])]) for number, member in members.items()])
+        members[number].add(0, b"board %d %d 1 %d" % (number, cells, words[number]))
+    exchange(list(members.values()))
     return members
 
 
@@ -102,30 +122,17 @@ def allow_many(members: int) -> None:
         resource.setrlimit(resource.RLIMIT_NOFILE, (wanted if hard == resource.RLIM_INFINITY else min(wanted, hard), hard))
 
 
-def in_pieces(lines: list[bytes]) -> list[list[bytes]]:
-    """The lines in groups that a pipe takes while nobody reads; a line that is too long for that stands alone."""
-    groups: list[list[bytes]] = [[]]
-    size = 0
-    for line in lines:
-        if groups[-1] and size + len(line) > PIECE:
-            groups.append([])
-            size = 0
-        groups[-1].append(line)
-        size += len(line) + 1
-    return groups
-
-
-def exchange(work: list[tuple[Member, list[bytes]]]) -> list[list[Answer]]:
-    """Gives each member its lines, all members at once, and reads all answers."""
-    pieces = [in_pieces(lines) for _, lines in work]
-    answers: list[list[Answer]] = [[] for _ in work]
-    for turn in range(max((len(groups) for groups in pieces), default=0)):
-        busy = [at for at in range(len(work)) if turn < len(pieces[at])]
-        for at in busy:
-            work[at][0].write(pieces[at][turn])
-        for at in busy:
-            answers[at] += work[at][0].read(pieces[at][turn])
-    return answers
+def exchange(members: list[Member]) -> list[list[Line]]:
+    """Gives each of these members the lines that wait, all members at once, and reads what they print."""
+    printed: dict[int, list[Line]] = {member.number: [] for member in members}
+    busy = [member for member in members if member.waiting]
+    while busy:
+        for member in busy:
+            member.give()
+        for member in busy:
+            printed[member.number] += member.read()
+        busy = [member for member in busy if member.waiting]
+    return list(printed.values())
 
 
 def write_record(directory: Path, members: list[Member]) -> None:

@@ -95,12 +95,14 @@ class Network:
             self.neighbours[link.other].append((link.one, number))
         self.member_at = {node: member for member, node in enumerate(self.tree.places, 1)}
         self.distances: dict[int, dict[int, int]] = {}
+        self.all_others: dict[int, list[tuple[int, int]]] = {}
 
     def way(self, sender: int) -> list[Step]:
         """The way from a sender to all others. Links behind which there is no member are left out."""
         if sender not in self.ways:
             self.ways[sender] = self.walk(self.tree.places[sender - 1])
-            self.distances[sender] = {step.member: step.delay for step in self.ways[sender] if step.member}
+            self.all_others[sender] = [(step.member, step.delay) for step in self.ways[sender] if step.member]
+            self.distances[sender] = dict(self.all_others[sender])
         return self.ways[sender]
 
     def distance(self, one: int, other: int) -> int:
@@ -142,6 +144,8 @@ class Network:
         """The members that get it, each with the delay, and those that do not."""
         way = self.way(sending.sender)
         places = self.loss.places(way, sending)
+        if not places and self.deaf is None:
+            return self.all_others[sending.sender], []
         given: list[tuple[int, int]] = []
         lost: list[int] = []
         start = 0
