@@ -1,6 +1,6 @@
 -- Hosts that print one report and no gaps print one canvas.
-use Rattle.std.proofs.Common.{◌≡◌, ◌<◌, ◌≤◌, ◌^◌, ℕ, Bool, true, false, List, [], ◌∷◌, length, Option, Some, None, Result, Ok, Err, refl, sym, ap, ◌∙◌, subst, arith, ◌⊎◌, inl, inr, ⊎_elim}
-use Rattle.std.specs.Prelude.{Contains, All, IsTrue, filter, map, nat_eq, nat_lt, get_or, codes, if◌then◌else◌}
+use Rattle.std.proofs.Common.{◌≡◌, ◌<◌, ◌≤◌, ◌^◌, ℕ, Bool, true, false, List, [], ◌∷◌, length, Option, Some, None, Result, Ok, Err, sym, ap, ◌∙◌, subst, arith, ⊎_elim}
+use Rattle.std.specs.Prelude.{Contains, All, IsTrue, map, nat_eq, nat_lt, get_or, codes, if◌then◌else◌}
 use Rattle.std.specs.Str.{bytes_eq}
 use Rattle.std.proofs.lemmas.Bool.{ltb-true}
 use Rattle.std.proofs.lemmas.List.Elements.{Contains-get_or}
@@ -8,7 +8,7 @@ use Rattle.wb_names.specs.Values.{NameValue, DrawopValue, MarkValue}
 use Rattle.wb_names.specs.History.{IsHeld, name_of, highest}
 use Rattle.wb_names.specs.declared.name.PageId.{PageId}
 use Rattle.wb_names.proofs.Listings.{Contains-from_filter, Any-from_map}
-use Rattle.wb_codec.specs.Ranges.{IsDatagram, IsDrawop}
+use Rattle.wb_codec.specs.Ranges.{IsDrawop}
 use Rattle.wb_codec.specs.declared.datagram.Datagram.{Datagram}
 use Rattle.wb_codec.specs.declared.datagram.Datagram.TheVariants as datagrams
 use Rattle.wb_gaps.specs.Answers.{gaps_of, report_of, sources_of, top_mark}
@@ -16,18 +16,17 @@ use Rattle.wb_gaps.proofs.PageAnswers.{report_of_page}
 use Rattle.wb_gaps.proofs.Reports.{greatest_held}
 use Rattle.wb_host.specs.Hearing.{marks_heard}
 use Rattle.wb_lines.specs.Handling.{Met, whole, too_long}
-use Rattle.wb_lines.specs.Input.{InputLine, content}
+use Rattle.wb_lines.specs.Input.{content}
 use Rattle.wb_lines.specs.Taking.{met}
-use Rattle.wb_script.specs.Answers.{gaps_text, report_text}
+use Rattle.wb_script.specs.Answers.{gaps_text}
 use Rattle.wb_script.specs.Hosts.{Opened}
 use Rattle.wb_script.specs.Parsing.{datagram, line_of as script_line_of, none_of, or_fault, page as page_of}
 use Rattle.wb_script.specs.declared.fault.LineFault.{LineFault}
 use Rattle.wb_script.specs.declared.fault.LineFault.TheVariants as faults
 use Rattle.wb_script.specs.declared.line.Line.TheVariants as lines
-use Rattle.wb_session.specs.Session.{Member, Group, IsDistinct, member, IsDrawn, LacksNothing}
+use Rattle.wb_session.specs.Session.{Member, Group, IsDistinct, IsDrawn}
 use Rattle.wb_session.proofs.Drawn.{of_name, held_is_drawn}
 use Rattle.wb_session.proofs.Truth.{few_held}
-use Rattle.wb_session_scripts.specs.Hosts.{member_of, answered, HasNoGaps}
 use Rattle.wb_session_scripts.proofs.Shows.{shows_agree}
 use Rattle.wb_words.proofs.LineLaws.{reading_takes}
 use Rattle.wb_words.proofs.Parting.{NoSpaces-words}
@@ -42,8 +41,8 @@ use Rattle.wb_dialog.specs.declared.line.DriverLine.TheVariants.{Script, Say, Ne
 use Rattle.wb_dialog.specs.Dialog.{answer, says_line}
 use Rattle.wb_dialog.specs.Doing.{text_of}
 use Rattle.wb_dialog.specs.Lines.{line_behind, said_part, said_by, by_words, bytes_line, known_line, handed_in, name as name_of_words, command, line_of_words, came_in}
-use Rattle.wb_session_hosts.specs.Hosts.{LineAt, host_at, saying}
-use Rattle.wb_session_hosts.specs.Laws.{IsMemberAt, WasSaid, AskOf, ReportsTellShows}
+use Rattle.wb_session_hosts.specs.Hosts.{LineAt, host_at}
+use Rattle.wb_session_hosts.specs.Laws.{IsMemberAt, ReportsTellShows}
 use Rattle.wb_session_hosts.proofs.Members.{events_of, Follows, follows, member_at}
 use Rattle.wb_session_hosts.proofs.Texts.{IsSmall, report_once, some_printed, none_are_told}
 

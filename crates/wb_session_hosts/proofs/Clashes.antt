@@ -1,8 +1,8 @@
 -- No batch counts a clash.
-use Rattle.std.proofs.Common.{◌≡◌, ◌<◌, ℕ, Bool, true, false, cond, List, [], ◌∷◌, ◌++◌, Option, Some, None, Result, Ok, Err, refl, sym, ap, ◌∙◌, subst, arith, ◌⊎◌, inl, inr, ⊎_elim, eqb-true}
+use Rattle.std.proofs.Common.{◌≡◌, ◌<◌, ℕ, Bool, true, false, List, [], ◌∷◌, ◌++◌, Option, Some, None, Result, Ok, refl, sym, ap, ◌∙◌, subst, arith, ⊎_elim, eqb-true}
 use Rattle.std.specs.Prelude.{Contains, nat_eq, get_or, codes, decimal, if◌then◌else◌}
-use Rattle.wb_names.specs.Values.{NameValue, DrawopValue}
-use Rattle.wb_names.specs.History.{IsHeld, name_of}
+use Rattle.wb_names.specs.Values.{DrawopValue}
+use Rattle.wb_names.specs.History.{name_of}
 use Rattle.wb_names.proofs.Orders.{name_parts}
 use Rattle.wb_codec.specs.declared.datagram.Datagram.{Datagram}
 use Rattle.wb_codec.specs.declared.datagram.Datagram.TheVariants as datagrams
@@ -14,7 +14,6 @@ use Rattle.wb_script.specs.declared.acceptance.Acceptance.TheVariants as became
 use Rattle.wb_script.specs.declared.line.Line.TheVariants as lines
 use Rattle.wb_session.specs.Session.{Member, Group, IsDistinct, member, IsDrawn}
 use Rattle.wb_session.proofs.Drawn.{holds_name, drawn_is_once, held_is_drawn, sent_is_drawn}
-use Rattle.wb_session_scripts.specs.Hosts.{member_of}
 use Rattle.wb_dialog.specs.declared.fault.Refusal.{Refusal}
 use Rattle.wb_dialog.specs.declared.fault.Refusal.TheVariants as refusals
 use Rattle.wb_dialog.specs.declared.line.DriverLine.{DriverLine}
@@ -22,7 +21,7 @@ use Rattle.wb_dialog.specs.declared.line.DriverLine.TheVariants.{Script, Say}
 use Rattle.wb_dialog.specs.Dialog.{answer, batch_of, goes_out, refuses, said_text}
 use Rattle.wb_dialog.specs.Doing.{text_of}
 use Rattle.wb_dialog.proofs.OwnNumbers.{next_is_new}
-use Rattle.wb_session_hosts.specs.Hosts.{LineAt, saying, host_at, reply_at, sent, MaySay, IsHonestBy, IsHonest}
+use Rattle.wb_session_hosts.specs.Hosts.{LineAt, saying, host_at, sent, MaySay, IsHonestBy}
 use Rattle.wb_session_hosts.specs.Laws.{BatchesCountNoClash}
 use Rattle.wb_session_hosts.proofs.Outcomes.{Found, found}
 use Rattle.wb_session_hosts.proofs.Texts.{digit_0, digit_1, differ}

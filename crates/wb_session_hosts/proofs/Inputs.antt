@@ -2,10 +2,10 @@
 use Rattle.std.proofs.Common.{◌≡◌, ℕ, Bool, true, false, cond, List, [], ◌∷◌, ◌++◌, refl, sym, ap, ◌∙◌}
 use Rattle.std.specs.Prelude.{nat_eq}
 use Rattle.std.specs.List.{concat}
-use Rattle.wb_lines.specs.Input.{InputLine, input_lines}
+use Rattle.wb_lines.specs.Input.{InputLine}
 use Rattle.wb_lines.specs.Taking.{met}
 use Rattle.wb_session.specs.Session.{Group}
-use Rattle.wb_dialog.specs.Dialog.{State, after, answer, answer_of, answered_lines, block, blocks_from, state_after, state_from, unopened}
+use Rattle.wb_dialog.specs.Dialog.{State, after, answer, answer_of, block, blocks_from, state_after, state_from, unopened}
 use Rattle.wb_session_hosts.specs.Hosts.{LineAt, saying, host_at, state_at, reply_at, lines_at, blocks_at}
 use Rattle.wb_session_hosts.specs.Laws.{BlocksAreTranscripts}
 

@@ -1,13 +1,12 @@
 -- A session of hosts is one of members.
-use Rattle.std.proofs.Common.{◌≡◌, ℕ, Bool, true, false, cond, List, [], ◌∷◌, ◌++◌, Option, Some, None, Result, Ok, Err, refl, sym, ap, ◌∙◌, subst, true≢false, ◌⊎◌, inl, inr, ⊎_elim, eqb-true, eq-eqb}
-use Rattle.std.specs.Prelude.{Contains, nat_eq, if◌then◌else◌}
+use Rattle.std.proofs.Common.{◌≡◌, ℕ, true, false, cond, List, [], ◌∷◌, Option, Some, None, Result, Ok, Err, refl, sym, ap, ◌∙◌, subst, true≢false, inl, inr, ⊎_elim, eqb-true, eq-eqb}
+use Rattle.std.specs.Prelude.{Contains, nat_eq}
 use Rattle.std.proofs.lemmas.List.Elements.{Contains-append_cases}
 use Rattle.wb_names.specs.Values.{DrawopValue}
 use Rattle.wb_names.proofs.Listings.{Contains-none}
 use Rattle.wb_codec.specs.declared.datagram.Datagram.{Datagram}
 use Rattle.wb_codec.specs.declared.datagram.Datagram.TheVariants as datagrams
 use Rattle.wb_script.specs.Hosts.{Opened}
-use Rattle.wb_script.specs.SentLines.{send_line}
 use Rattle.wb_script.specs.declared.line.Line.{Line}
 use Rattle.wb_script.specs.declared.line.Line.TheVariants as lines
 use Rattle.wb_session.specs.Session.{Member, Act, Event, Group, IsDistinct, member, IsSession, IsDrawn}
@@ -16,13 +15,13 @@ use Rattle.wb_session.proofs.Drawn.{number_of}
 use Rattle.wb_session_scripts.specs.Hosts.{member_of}
 use Rattle.wb_dialog.specs.declared.fault.Refusal.{Refusal}
 use Rattle.wb_dialog.specs.declared.line.DriverLine.{DriverLine}
-use Rattle.wb_dialog.specs.declared.line.DriverLine.TheVariants.{Script, Say, Next, View, Known, Ask, Stop}
-use Rattle.wb_dialog.specs.Dialog.{answer, answer_at, answer_to, after}
+use Rattle.wb_dialog.specs.declared.line.DriverLine.TheVariants.{Script}
+use Rattle.wb_dialog.specs.Dialog.{answer, answer_at, after}
 use Rattle.wb_dialog.specs.Doing.{text_of}
-use Rattle.wb_session_hosts.specs.Hosts.{LineAt, saying, host_at, reply_at, sends_by, sent, IsHonestAt, IsHonestBy, IsHonest}
-use Rattle.wb_session_hosts.specs.Laws.{IsMemberAt, AreMembers, HostsAreMembers, WasSaid}
+use Rattle.wb_session_hosts.specs.Hosts.{LineAt, saying, host_at, sends_by, sent, IsHonestAt, IsHonestBy, IsHonest}
+use Rattle.wb_session_hosts.specs.Laws.{IsMemberAt, HostsAreMembers, WasSaid}
 use Rattle.wb_session_hosts.proofs.Several.{ats, after_all, member_here, member_there, sent_more}
-use Rattle.wb_session_hosts.proofs.Turns.{acts_at, Owns, IsAt, IsSaid, Turns, turns, turns_first}
+use Rattle.wb_session_hosts.proofs.Turns.{acts_at, IsAt, IsSaid, Turns, turns, turns_first}
 
 abbrev pub acts_by : Option Opened → Result DriverLine Refusal → List Act
 acts_by None said = []

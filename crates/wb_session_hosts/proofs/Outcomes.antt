@@ -1,9 +1,9 @@
 -- What the outcome of one arrival says of what is held.
-use Rattle.std.proofs.Common.{◌≡◌, ℕ, ◌+◌, Bool, true, false, cond, List, [], ◌∷◌, ◌++◌, refl, sym, ap, ◌∙◌, subst, arith, true≢false, ⊎_elim}
-use Rattle.std.specs.Prelude.{Contains, nat_lt, if◌then◌else◌}
+use Rattle.std.proofs.Common.{◌≡◌, ℕ, ◌+◌, Bool, true, false, cond, List, [], ◌∷◌, refl, sym, ap, ◌∙◌, subst, arith, true≢false, ⊎_elim}
+use Rattle.std.specs.Prelude.{Contains, nat_lt}
 use Rattle.std.proofs.lemmas.Bool.Decides.{nat_tests}
 use Rattle.wb_names.specs.Values.{NameValue, DrawopValue}
-use Rattle.wb_names.specs.Arrivals.{Outcome, Fresh, Known, Clashed, Left, outcome_from, outcome_of}
+use Rattle.wb_names.specs.Arrivals.{Fresh, Known, Clashed, Left, outcome_from}
 use Rattle.wb_names.specs.Orders.{same_name}
 use Rattle.wb_names.specs.Same.{same_drawop, same_drawop-Decides}
 use Rattle.wb_names.proofs.Listings.{Contains-here, Contains-there, Contains-cases, Contains-none}

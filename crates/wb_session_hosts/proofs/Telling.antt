@@ -1,5 +1,5 @@
 -- What a line prints tells what it sends.
-use Rattle.std.proofs.Common.{◌≡◌, ℕ, Bool, true, false, cond, List, [], ◌∷◌, ◌++◌, Option, Some, None, refl, sym, ap, ◌∙◌, subst}
+use Rattle.std.proofs.Common.{◌≡◌, ℕ, Bool, true, false, List, [], ◌∷◌, ◌++◌, Option, Some, None, refl, sym, ◌∙◌}
 use Rattle.std.specs.Prelude.{nat_eq, if◌then◌else◌}
 use Rattle.std.proofs.lemmas.List.{append-nil}
 use Rattle.wb_names.specs.Values.{DrawopValue}
@@ -18,7 +18,7 @@ use Rattle.wb_session_scripts.proofs.Acts.{lines_are_acts}
 use Rattle.wb_dialog.specs.declared.fault.Refusal.TheVariants as refusals
 use Rattle.wb_dialog.specs.declared.line.DriverLine.{DriverLine}
 use Rattle.wb_dialog.specs.declared.line.DriverLine.TheVariants.{Script, Say, Next, View, Known, Ask, Stop}
-use Rattle.wb_dialog.specs.Dialog.{Answer, gives, refuses, answered, answer_at, batch_of, goes_out, numbered, said_text, speaker}
+use Rattle.wb_dialog.specs.Dialog.{gives, refuses, answered, answer_at, batch_of, goes_out, numbered, said_text, speaker}
 use Rattle.wb_session_hosts.specs.Hosts.{sends_by_act, sends_drawing, sends_said, sends_at, told_unsent, told_said, told_number, told_at}
 use Rattle.wb_session_hosts.specs.Laws.{TextsTellSends}
 

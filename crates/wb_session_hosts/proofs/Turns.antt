@@ -1,14 +1,13 @@
 -- What one line does is acts of the member that the host is.
-use Rattle.std.proofs.Common.{◌≡◌, ℕ, ◌+◌, ◌<◌, Bool, true, false, cond, max, List, [], ◌∷◌, ◌++◌, Option, Some, None, Ok, Err, refl, sym, ap, ◌∙◌, subst, arith, ◌⊎◌, inl, inr, ⊎_elim, eqb-true}
-use Rattle.std.specs.Prelude.{Contains, All, nat_eq, nat_lt, unwrap_or, if◌then◌else◌}
-use Rattle.std.proofs.lemmas.List.Elements.{Contains-append_left, Contains-append_right, Contains-push_cases, All-nil, All-cons}
+use Rattle.std.proofs.Common.{◌≡◌, ℕ, ◌+◌, Bool, true, false, cond, max, List, [], ◌∷◌, ◌++◌, Option, Some, None, refl, sym, ap, ◌∙◌, subst, arith, ◌⊎◌, inl, inr, ⊎_elim, eqb-true}
+use Rattle.std.specs.Prelude.{Contains, nat_eq, nat_lt, unwrap_or, if◌then◌else◌}
+use Rattle.std.proofs.lemmas.List.Elements.{Contains-append_left, Contains-append_right, All-nil, All-cons}
 use Rattle.wb_names.specs.Values.{NameValue, DrawopValue}
 use Rattle.wb_names.specs.Arrivals.{Outcome, Fresh, Known, Clashed, Left, outcome_of, history_with}
-use Rattle.wb_names.specs.History.{name_of, highest}
+use Rattle.wb_names.specs.History.{highest}
 use Rattle.wb_names.specs.Marks.{mark_of}
-use Rattle.wb_names.specs.declared.drawop.Op.{Op}
 use Rattle.wb_names.specs.declared.name.PageId.{PageId}
-use Rattle.wb_names.proofs.Listings.{Contains-here, Contains-there, Contains-cases, Contains-none}
+use Rattle.wb_names.proofs.Listings.{Contains-here, Contains-cases, Contains-none}
 use Rattle.wb_names.proofs.Orders.{name_parts}
 use Rattle.wb_codec.specs.declared.datagram.Datagram.{Datagram}
 use Rattle.wb_codec.specs.declared.datagram.Datagram.TheVariants as datagrams
@@ -25,12 +24,12 @@ use Rattle.wb_script.specs.declared.line.Line.{Line}
 use Rattle.wb_script.specs.declared.line.Line.TheVariants as lines
 use Rattle.wb_session.specs.Session.{Member, Act, Draws, Takes, Misses, GivesUp, AsksForPages, next_drawop, holding, after, sends, ComesFrom, Event, Group, IsDistinct, member, newcomer, IsSession}
 use Rattle.wb_session.specs.Session as members
-use Rattle.wb_session.proofs.Drawn.{held_is_drawn, number_of}
-use Rattle.wb_session.proofs.Members.{IsDrawing, drawn_after, held_grows}
+use Rattle.wb_session.proofs.Drawn.{held_is_drawn}
+use Rattle.wb_session.proofs.Members.{IsDrawing, held_grows}
 use Rattle.wb_session.proofs.Quiet.{next_is_known}
 use Rattle.wb_session.proofs.Truth.{heard_marks}
 use Rattle.wb_session_scripts.specs.Hosts.{act_of, asks_any, after_any, member_of, sends_any}
-use Rattle.wb_session_scripts.proofs.Acts.{asking_is_an_act, lines_are_acts}
+use Rattle.wb_session_scripts.proofs.Acts.{lines_are_acts}
 use Rattle.wb_dialog.specs.declared.fault.Refusal.TheVariants as refusals
 use Rattle.wb_dialog.specs.declared.line.DriverLine.{DriverLine}
 use Rattle.wb_dialog.specs.declared.line.DriverLine.TheVariants.{Script, Say, Next, View, Known as KnownPages, Ask, Stop}
@@ -39,7 +38,7 @@ use Rattle.wb_dialog.specs.Dialog.{Answer, answered, answer_at, speaker}
 use Rattle.wb_dialog.specs.Doing.{text_of}
 use Rattle.wb_session_hosts.specs.Hosts.{sends_by_act, sends_drawing, sends_said, sends_at, MaySay, IsHonestAt, IsHonestFirst}
 use Rattle.wb_session_hosts.proofs.Outcomes.{Found, found}
-use Rattle.wb_session_hosts.proofs.Several.{ats, after_all, drawn_sent, sent_more}
+use Rattle.wb_session_hosts.proofs.Several.{ats, after_all, drawn_sent}
 
 -- ---- the acts of a line, the newest first
 

@@ -2,9 +2,8 @@
 -- hand it in to any of them, at any later point, any number of times.
 use Rattle.std.specs.Prelude.{◌≡◌, ◌⊎◌, ℕ, List, [], ◌∷◌, ◌++◌, Contains, nat_eq, Option, Some, None, Result, Ok, Err, if◌then◌else◌}
 use Rattle.wb_names.specs.Values.{DrawopValue}
-use Rattle.wb_recovery.specs.declared.tuning.Tuning.{Tuning}
 use Rattle.wb_codec.specs.declared.datagram.Datagram.{Datagram}
-use Rattle.wb_codec.specs.declared.datagram.Datagram.TheVariants.{Draw, Session, Request, AskPages, PageState}
+use Rattle.wb_codec.specs.declared.datagram.Datagram.TheVariants.{Draw, AskPages}
 use Rattle.wb_lines.specs.Input.{InputLine}
 use Rattle.wb_lines.specs.Taking.{met}
 use Rattle.wb_script.specs.Driving.{acceptance, shown, pages_known, next_number, may_ask, asks_for}

@@ -1,5 +1,5 @@
 -- Laws of sessions of hosts.
-use Rattle.std.specs.Prelude.{◌≡◌, ◌≢◌, ◌⊎◌, ℕ, List, [], ◌∷◌, ◌++◌, Contains, Bool, Option, Some, None, Result, Ok}
+use Rattle.std.specs.Prelude.{◌≡◌, ◌≢◌, ◌⊎◌, ℕ, List, [], ◌∷◌, ◌++◌, Contains, Bool, Option, Some, None, Ok}
 use Rattle.std.specs.List.{concat}
 use Rattle.wb_names.specs.Values.{DrawopValue}
 use Rattle.wb_names.specs.declared.name.PageId.{PageId}
