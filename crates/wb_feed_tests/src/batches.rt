@@ -1,6 +1,6 @@
 //! Worked batches: counts, lists and rows.
 
-use crate::gates::{AllTogether, Meeting, TellsAfter};
+use crate::gates::{AcceptsInside, AllTogether, Inside, Meeting};
 use crate::samples::{are_letters, drawop, drawops};
 use crate::sources::{Listed, Waits};
 use std::alloc::Global;
@@ -54,21 +54,18 @@ fn holds_three(list: &[Drawop]) -> bool {
     list.len() == 3 && has(list, b'a') && has(list, b'd') && has(list, b'e')
 }
 
-/// Whether these eight, by so many workers who are all at work at once, are three new ones and five that
-/// were held.
+/// Whether these eight, by so many workers who are all at work at once and call the gate round each accept, are
+/// three new ones and five that were held.
 fn is_taken_together<R: Threads + Wait + Sync>(
     rt: &R,
     alloc: Global,
     workers: u32,
 ) -> Option<bool> {
-    let gate = AllTogether {
-        workers: u64::from(workers),
-        meeting: Meeting::new(),
-    };
+    let gate = AllTogether::new(workers);
     let (batch, desk) = take_all(rt, alloc, 16, workers, drawops(alloc, EIGHT)?, &gate)?;
     let counted = batch == counts(3, 5, 0, 0) && holds_three(desk.list());
     let owned = desk.rows_left() == 13 && desk.is_whole();
-    Some(counted && owned && gate.meeting.late() == 0)
+    Some(counted && owned && gate.saw_all(8))
 }
 
 fn are_taken_together<R: Threads + Wait + Sync>(rt: &R, alloc: Global) -> bool {
@@ -152,26 +149,31 @@ fn faults_of_a_batch_are_numbered(rt: HostRuntime) {
     assert!(rt; [workers.code(), start.code(), memory.code()] == [1, 2, 3]);
 }
 
-/// Whether a batch of a source that waits for the first accept before it gives its last drawop takes all, and
-/// the source does not wait in vain.
-fn is_drawn_while_taken<R: Threads + Wait + Sync>(rt: &R, alloc: Global) -> Option<bool> {
-    let all = [drawop(b'a')?, drawop(b'd')?, drawop(b'e')?];
-    let meeting = Arc::new(alloc, Meeting::new()).ok()?;
-    let gate = TellsAfter {
-        meeting: Arc::try_clone(&meeting).ok()?,
+/// Whether one worker accepts the first of two drawops while the source is asked for the second, which it gives
+/// only then.
+fn is_accepted_inside_next<R: Threads + Wait + Sync>(rt: &R, alloc: Global) -> Option<bool> {
+    let all = [drawop(b'a')?, drawop(b'd')?];
+    let inside = Inside {
+        begun: Meeting::new(),
+        accepted: Meeting::new(),
+    };
+    let call = Arc::new(alloc, inside).ok()?;
+    let gate = AcceptsInside {
+        call: Arc::try_clone(&call).ok()?,
     };
     let mut source = Waits {
         all,
         next: 0,
         ended: false,
-        meeting,
+        call,
     };
     let (board, mut desk) = Board::open(alloc, 4).ok()?;
     let batch = run_batch(rt, alloc, &board, &mut desk, 1, &mut source, &gate);
-    Some(batch == counts(3, 0, 0, 0) && gate.meeting.late() == 0)
+    let in_time = gate.call.begun.late() == 0 && gate.call.accepted.late() == 0;
+    Some(batch == counts(2, 0, 0, 0) && in_time)
 }
 
 #[test]
-fn accepts_begin_before_all_is_drawn(rt: HostRuntime) {
-    assert!(rt; is_drawn_while_taken(&rt, rt.alloc()) == Some(true));
+fn one_worker_accepts_while_the_source_is_asked(rt: HostRuntime) {
+    assert!(rt; is_accepted_inside_next(&rt, rt.alloc()) == Some(true));
 }

@@ -3,7 +3,7 @@
 ghost use Rattle.wb_history.specs.Passes.{IsPassOf};
 
 use crate::batches::counts;
-use crate::gates::{Meeting, TURNS, WaitsForOne};
+use crate::gates::{Meeting, OneFirst, TURNS};
 use crate::samples::{Answer, PAGE, accepts, are_letters, drawop, drawops, open_two};
 use crate::sources::Listed;
 use std::alloc::Global;
@@ -123,13 +123,13 @@ fn rows_of_a_dropped_desk_are_lost(rt: HostRuntime) {
     assert!(rt; loses_a_row(rt.alloc()) == Some(true));
 }
 
-/// Views the page until it shows just this drawop, for some turns at most, and tells of it.
-fn watch(board: &Board, alloc: Global, mut desk: Desk, wanted: Drawop, meeting: &Meeting) -> bool
+/// Views the page until it has one drawop, for some turns at most, and tells of it.
+fn watch(board: &Board, alloc: Global, mut desk: Desk, meeting: &Meeting) -> bool
     requires { IsPassOf board.now desk }
 {
     for turn in 0..TURNS {
         if let Ok(shown) = board.view(alloc, &mut desk, PAGE) {
-            if shown.as_slice() == [wanted].as_slice() {
+            if shown.len() == 1 {
                 meeting.come();
                 return true;
             }
@@ -139,43 +139,54 @@ fn watch(board: &Board, alloc: Global, mut desk: Desk, wanted: Drawop, meeting: 
     false
 }
 
-/// Takes the drawops as a batch by one worker.
+/// Takes the drawops as a batch by so many workers.
 fn take_all<R: Threads + Wait + Sync>(
     rt: &R,
     alloc: Global,
     board: &Board,
     mut desk: Desk,
+    workers: u32,
     mut source: Listed,
-    gate: &WaitsForOne,
+    gate: &OneFirst,
 ) -> Result<Batch, FeedFault>
     requires { IsPassOf board.now desk }
 {
-    run_batch(rt, alloc, board, &mut desk, 1, &mut source, gate)
+    run_batch(rt, alloc, board, &mut desk, workers, &mut source, gate)
 }
 
-/// Whether a batch of two drawops is taken by one worker, who is held before the second until a thread beside it
-/// has viewed the first.
-fn is_viewed_meanwhile<R: Threads + Wait + Sync>(rt: &R, alloc: Global) -> Option<bool> {
-    let source = Listed::new(drawops(alloc, "ad")?);
-    let first = drawop(b'a')?;
-    let (board, root, viewer) = open_two(alloc, 4, 0)?;
-    let gate = WaitsForOne {
-        meeting: Meeting::new(),
-    };
+/// Whether a batch is taken by so many workers, who are all held after the first accept until a thread beside them
+/// has viewed what that one added.
+fn is_viewed_meanwhile<R: Threads + Wait + Sync>(
+    rt: &R,
+    alloc: Global,
+    workers: u32,
+) -> Option<bool> {
+    let source = Listed::new(drawops(alloc, "adeadead")?);
+    let (board, root, viewer) = open_two(alloc, 16, 0)?;
+    let gate = OneFirst::new();
     let (shared, told) = (&board, &gate);
     let (viewed, batch) = thread::join(
         rt,
         move ||
             requires { IsPassOf shared.now viewer }
-        { watch(shared, alloc, viewer, first, &told.meeting) },
+        { watch(shared, alloc, viewer, &told.meeting) },
         move ||
             requires { IsPassOf shared.now root }
-        { take_all(rt, alloc, shared, root, source, told) },
+        { take_all(rt, alloc, shared, root, workers, source, told) },
     );
-    Some(batch == counts(2, 0, 0, 0) && viewed && gate.meeting.late() == 0)
+    Some(batch == counts(3, 5, 0, 0) && viewed && gate.meeting.late() == 0)
+}
+
+fn are_viewed_meanwhile<R: Threads + Wait + Sync>(rt: &R, alloc: Global) -> bool {
+    for workers in [1, 2, 8] {
+        if is_viewed_meanwhile(rt, alloc, workers) != Some(true) {
+            return false;
+        }
+    }
+    true
 }
 
 #[test]
 fn a_page_is_viewed_while_a_batch_is_taken(rt: HostRuntime) {
-    assert!(rt; is_viewed_meanwhile(&rt, rt.alloc()) == Some(true));
+    assert!(rt; are_viewed_meanwhile(&rt, rt.alloc()));
 }

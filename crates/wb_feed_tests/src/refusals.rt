@@ -1,23 +1,37 @@
-//! Batches of which a growth or the start of a thread is refused, and those after them.
+//! Batches and relays of which a growth or the start of a thread is refused, and those after them.
 
 ghost use Rattle.std.specs.Prelude.{IfSome};
 ghost use Rattle.wb_history.specs.Passes.{IsPassOf, IsSamePass};
 
-use crate::samples::drawops;
+use crate::samples::{are_letters, drawop, open_two};
 use crate::sources::Listed;
 use std::alloc::Global;
 use std::process::Abort;
 use std::sync::Wait;
 use std::thread::Threads;
-use wb_feed::{FeedFault, NoGate, run_batch};
-use wb_host::{Board, Desk};
+use wb_feed::{FeedFault, NoGate, RelayFault, relay, run_batch};
+use wb_host::{Board, Desk, Reply};
 use wb_names::Drawop;
 
-/// Eight arrivals of three drawops, by a second call where the first is refused.
-fn eight_again(alloc: Global) -> Option<Vec<Drawop>> {
-    match drawops(alloc, "adeadead") {
+/// How many arrivals a batch has: more than wait for the workers at once, so that a worker which went away where
+/// memory was refused would leave the sender waiting.
+const ARRIVALS: u32 = 200;
+
+/// So many arrivals of three drawops.
+fn arrivals(alloc: Global) -> Option<Vec<Drawop>> {
+    let three = [drawop(b'a')?, drawop(b'd')?, drawop(b'e')?];
+    let mut all = Vec::with_capacity(alloc, ARRIVALS as usize).ok()?;
+    for at in 0..ARRIVALS as usize {
+        all.push(three[at % 3]).ok()?;
+    }
+    Some(all)
+}
+
+/// The arrivals, by a second call where the first is refused.
+fn arrivals_again(alloc: Global) -> Option<Vec<Drawop>> {
+    match arrivals(alloc) {
         Some(all) => Some(all),
-        None => drawops(alloc, "adeadead"),
+        None => arrivals(alloc),
     }
 }
 
@@ -44,8 +58,8 @@ fn keeps_rows(desk: &Desk, workers: u32) -> bool {
     lost <= most && (lost == 0 || !desk.is_whole())
 }
 
-/// Whether eight arrivals are taken, or None where the batch is refused memory or a thread.
-fn takes_eight<R: Threads + Wait + Sync>(
+/// Whether all arrivals are taken, or None where the batch is refused memory or a thread.
+fn takes_all<R: Threads + Wait + Sync>(
     rt: &R,
     alloc: Global,
     board: &Board,
@@ -55,20 +69,22 @@ fn takes_eight<R: Threads + Wait + Sync>(
     requires { IsPassOf board.now desk.old }
     ensures { IsSamePass desk.old desk.new }
 {
-    let Some(arrivals) = eight_again(alloc) else {
+    let Some(arrivals) = arrivals_again(alloc) else {
         return Some(false);
     };
     let mut source = Listed::new(arrivals);
     match run_batch(rt, alloc, board, desk, workers, &mut source, &NoGate) {
         Ok(batch) => Some(
-            batch.clash == 0 && batch.left == 0 && batch.fresh.saturating_add(batch.again) == 8,
+            batch.clash == 0
+                && batch.left == 0
+                && batch.fresh.saturating_add(batch.again) == ARRIVALS,
         ),
         Err(FeedFault::Workers) => Some(false),
         Err(FeedFault::Start | FeedFault::Memory) => None,
     }
 }
 
-/// Whether the batch takes eight arrivals, by a second call where the first is refused.
+/// Whether the batch takes all arrivals, by a second call where the first is refused.
 fn takes_again<R: Threads + Wait + Sync>(
     rt: &R,
     alloc: Global,
@@ -79,10 +95,10 @@ fn takes_again<R: Threads + Wait + Sync>(
     requires { IsPassOf board.now desk.old }
     ensures { IsSamePass desk.old desk.new }
 {
-    let taken = match takes_eight(rt, alloc, board, desk, workers) {
+    let taken = match takes_all(rt, alloc, board, desk, workers) {
         Some(taken) => taken,
         None => {
-            keeps_rows(desk, workers) && takes_eight(rt, alloc, board, desk, workers) == Some(true)
+            keeps_rows(desk, workers) && takes_all(rt, alloc, board, desk, workers) == Some(true)
         }
     };
     taken && desk.list().len() == 3 && keeps_rows(desk, workers)
@@ -105,4 +121,50 @@ fn all_go_on<R: Threads + Wait + Sync>(rt: &R, alloc: Global) -> bool {
 #[test]
 fn each_growth_and_start_may_be_refused(rt: HostRuntime) {
     assert!(rt; all_go_on(&rt, rt.alloc()));
+}
+
+/// A board of 16 cells and two desks, by a second call where the first is refused.
+fn open_two_again(alloc: Global) -> Option<(Board, Desk, Desk)>
+    ensures { IfSome result (λ t. IsPassOf t.0 t.1 × IsPassOf t.0 t.2) }
+{
+    match open_two(alloc, 16, 8) {
+        Some(opened) => Some(opened),
+        None => open_two(alloc, 16, 8),
+    }
+}
+
+/// Whether the drawop is relayed, by a second call where memory is refused. The first may have accepted it.
+fn relays_again<R: Threads + Sync>(
+    rt: &R,
+    alloc: Global,
+    board: &Board,
+    teller: &mut Desk,
+    hearer: &mut Desk,
+    drawop: &Drawop,
+) -> bool
+    requires { IsPassOf board.now teller.old × IsPassOf board.now hearer.old }
+    ensures { IsSamePass teller.old teller.new × IsSamePass hearer.old hearer.new }
+{
+    match relay(rt, alloc, board, teller, hearer, drawop) {
+        Ok(reply) => matches!(reply, Reply::New(_)),
+        Err(RelayFault::NoRow) => false,
+        Err(RelayFault::Memory) => matches!(
+            relay(rt, alloc, board, teller, hearer, drawop),
+            Ok(Reply::New(_) | Reply::Again(_))
+        ),
+    }
+}
+
+/// Whether two desks tell one another of a drawop each, and have seen both then.
+fn tell_again<R: Threads + Sync>(rt: &R, alloc: Global) -> Option<bool> {
+    let (first, second) = (drawop(b'a')?, drawop(b'd')?);
+    let (board, mut one, mut two) = open_two_again(alloc)?;
+    let to = relays_again(rt, alloc, &board, &mut one, &mut two, &first);
+    let fro = relays_again(rt, alloc, &board, &mut two, &mut one, &second);
+    Some(to && fro && are_letters(one.list(), "ad") && are_letters(two.list(), "ad"))
+}
+
+#[test]
+fn each_growth_and_start_of_a_relay_may_be_refused(rt: HostRuntime) {
+    assert!(rt; tell_again(&rt, rt.alloc()) == Some(true));
 }

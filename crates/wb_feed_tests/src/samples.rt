@@ -69,7 +69,8 @@ fn open_board(alloc: Global, cells: u32) -> Option<(Board, Desk)>
     Board::open(alloc, cells).ok()
 }
 
-fn split_rows(board: &Board, alloc: Global, desk: &mut Desk, rows: u32) -> Option<Desk>
+/// A desk with so many rows of this one.
+pub(crate) fn split_rows(board: &Board, alloc: Global, desk: &mut Desk, rows: u32) -> Option<Desk>
     requires { IsPassOf board.now desk.old }
     ensures same { IsSamePass desk.old desk.new }
     ensures new { IfSome result (λ other. IsPassOf board.now other) }

@@ -2,7 +2,7 @@
 
 ghost use Rattle.std.specs.Prelude.{take, ◌-◌};
 
-use crate::gates::Meeting;
+use crate::gates::Inside;
 use std::alloc::Global;
 use std::sync::Arc;
 use wb_feed::Arrivals;
@@ -57,13 +57,13 @@ impl Arrivals for Listed {
     }
 }
 
-/// Gives three drawops, and waits before the last until someone came.
+/// Gives two drawops. Inside the call for the second it waits until a drawop was accepted.
 #[derive(Drop)]
 pub(crate) struct Waits {
-    pub(crate) all: [Drawop; 3],
+    pub(crate) all: [Drawop; 2],
     pub(crate) next: u32,
     pub(crate) ended: bool,
-    pub(crate) meeting: Arc<Meeting, Global>,
+    pub(crate) call: Arc<Inside, Global>,
 }
 
 impl Arrivals for Waits {
@@ -71,7 +71,7 @@ impl Arrivals for Waits {
 
     ghost has_ended = { λ s. s.ended };
 
-    ghost most_to_come = { λ s. 3 - s.next };
+    ghost most_to_come = { λ s. 2 - s.next };
 
     ghost follows = { λ _ _. Unit {0} };
 
@@ -80,12 +80,13 @@ impl Arrivals for Waits {
     ghost follows_on = { λ _ _ _ _ _. tt };
 
     fn next(&mut self) -> Option<Drawop> {
-        if self.next >= 3 {
+        if self.next >= 2 {
             self.ended = true;
             return None;
         }
-        if self.next == 2 {
-            self.meeting.wait_for(1);
+        if self.next == 1 {
+            self.call.begun.come();
+            self.call.accepted.wait_for(1);
         }
         let at = self.next as usize;
         self.next += 1;
@@ -93,6 +94,6 @@ impl Arrivals for Waits {
     }
 
     fn most(&self) -> u32 {
-        3u32.saturating_sub(self.next)
+        2u32.saturating_sub(self.next)
     }
 }
