@@ -3,20 +3,21 @@ use Rattle.std.proofs.Common.{◌≡◌, ℕ, ◌<◌, ◌≤◌, ◌^◌, true,
 use Rattle.std.specs.List.{list_all}
 use Rattle.std.proofs.lemmas.Bool.Decides.{nat_tests}
 use Rattle.wb_names.specs.Values.{NameValue}
-use Rattle.wb_names.specs.declared.drawop.Op.{Op}
-use Rattle.wb_names.specs.declared.drawop.Op.TheVariants.{Line, Frame, Text, Delete, Restore}
+use Rattle.wb_names.specs.declared.parts.Stroke.{Stroke}
+use Rattle.wb_names.specs.declared.parts.Op.{Op}
+use Rattle.wb_names.specs.declared.parts.Op.TheVariants.{Drawn, Text, Aimed}
 use Rattle.wb_names.specs.Drawing.{text_of, IsLawful, stroke_fault, text_fault, is_printable}
 use Rattle.wb_codec.proofs.Bytes.{IsBytes, IsBytes-printable}
 
-pub record IsStroke (x0 y0 x1 y1 glyph : ℕ) : Type 0 where
-  pub x0-fits : x0 < 2 ^ 12
-  pub y0-fits : y0 < 2 ^ 12
-  pub x1-fits : x1 < 2 ^ 12
-  pub y1-fits : y1 < 2 ^ 12
-  pub glyph-fits : glyph < 2 ^ 8
+pub record IsStroke (s : Stroke) : Type 0 where
+  pub x0-fits : s.x0 < 2 ^ 12
+  pub y0-fits : s.y0 < 2 ^ 12
+  pub x1-fits : s.x1 < 2 ^ 12
+  pub y1-fits : s.y1 < 2 ^ 12
+  pub glyph-fits : s.glyph < 2 ^ 8
 
-pub lawful_stroke : (x0 y0 x1 y1 glyph : ℕ) → stroke_fault x0 y0 x1 y1 glyph ≡ None → IsStroke x0 y0 x1 y1 glyph
-lawful_stroke x0 y0 x1 y1 glyph e = record {
+pub lawful_stroke : (s : Stroke) → stroke_fault s ≡ None → IsStroke s
+lawful_stroke s e = record {
   x0-fits = grind (arith, nat_tests);
   y0-fits = grind (arith, nat_tests);
   x1-fits = grind (arith, nat_tests);
@@ -44,8 +45,6 @@ lawful_text x y text e =
 
 -- the bytes of a lawful operation's text are few
 pub text_fits : (name : NameValue) (op : Op) → IsLawful name op → length (text_of op) ≤ 64
-text_fits name (Line x0 y0 x1 y1 glyph) e = omega arith
-text_fits name (Frame x0 y0 x1 y1 glyph) e = omega arith
+text_fits name (Drawn figure s) e = omega arith
 text_fits name (Text x y text) e = (lawful_text x y text e).few_bytes
-text_fits name (Delete source seq) e = omega arith
-text_fits name (Restore source seq) e = omega arith
+text_fits name (Aimed change t) e = omega arith

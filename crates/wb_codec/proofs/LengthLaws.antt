@@ -6,8 +6,8 @@ use Rattle.wb_names.specs.Values.{DrawopValue, MarkValue}
 use Rattle.wb_names.specs.Drawing.{IsLawful}
 use Rattle.wb_names.specs.declared.name.PageId.{PageId}
 use Rattle.wb_names.specs.declared.echo.Echo.{Echo}
-use Rattle.wb_names.specs.declared.drawop.Op.{Op}
-use Rattle.wb_names.specs.declared.drawop.Op.TheVariants.{Line, Frame, Text, Delete, Restore}
+use Rattle.wb_names.specs.declared.parts.Op.{Op}
+use Rattle.wb_names.specs.declared.parts.Op.TheVariants.{Drawn, Text, Aimed}
 use Rattle.wb_codec.specs.declared.datagram.Datagram.{Datagram}
 use Rattle.wb_codec.specs.declared.datagram.Datagram.TheVariants.{Draw, Session, Request, AskPages, PageState}
 use Rattle.wb_codec.specs.Ranges.{IsDrawop, IsDatagram}
@@ -29,11 +29,9 @@ pub page_state_length : (sender : ℕ) (page : PageId) (marks : List MarkValue) 
 page_state_length sender page marks = omega (arith, marks_length marks)
 
 drawop_short : (d : DrawopValue) (op : Op) → d.op ≡ op → IsDrawop d → length (op_bytes op) < 256
-drawop_short d (Line x0 y0 x1 y1 glyph) e fits = omega arith
-drawop_short d (Frame x0 y0 x1 y1 glyph) e fits = omega arith
+drawop_short d (Drawn figure s) e fits = omega arith
 drawop_short d (Text x y text) e fits = let t = lawful_text x y text (subst (λ (o : Op). IsLawful d.name o) e fits.lawful) in omega (arith, t.few_bytes)
-drawop_short d (Delete source seq) e fits = omega arith
-drawop_short d (Restore source seq) e fits = omega arith
+drawop_short d (Aimed change t) e fits = omega arith
 
 -- four bytes can tell how long a body is
 pub body_short : (v : Datagram) → IsDatagram v → length (body v) < 2 ^ 32

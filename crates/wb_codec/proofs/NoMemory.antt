@@ -3,8 +3,11 @@ use Rattle.std.proofs.Common.{ℕ, zero, suc, Bool, true, false, cond, List, [],
 use Rattle.std.specs.Prelude.{◌≢◌, nat_eq, nat_le}
 use Rattle.std.specs.Int.{Width, byte_len, from_be_bytes, w16, w32, w64}
 use Rattle.wb_names.specs.Drawing.{seq_fault}
-use Rattle.wb_names.specs.declared.drawop.Op.{Op}
-use Rattle.wb_names.specs.declared.drawop.Op.TheVariants.{Line, Frame, Text, Delete, Restore}
+use Rattle.wb_names.specs.declared.parts.Figure.{Figure}
+use Rattle.wb_names.specs.declared.parts.Figure.TheVariants.{Line, Frame}
+use Rattle.wb_names.specs.declared.parts.Change.{Change}
+use Rattle.wb_names.specs.declared.parts.Change.TheVariants.{Delete, Restore}
+use Rattle.wb_names.specs.declared.parts.Op.TheVariants.{Drawn, Text, Aimed}
 use Rattle.wb_names.specs.declared.fault.FieldFault.{FieldFault}
 use Rattle.wb_codec.specs.declared.datagram.Datagram.{Datagram}
 use Rattle.wb_codec.specs.declared.header.Kind.{Kind}
@@ -66,17 +69,17 @@ name : (bytes : List ℕ) → Tells (Reading.name_at bytes)
 unfolding Reading.name_at
 name bytes = next (Reading.number_at w32 bytes) _ (number w32 bytes) (λ a. next (Reading.page_at a.1) _ (page a.1) (λ b. next (Reading.number_at w32 b.1) _ (number w32 b.1) (λ c. tt)))
 
-stroke : (make : ℕ → ℕ → ℕ → ℕ → ℕ → Op) (bytes : List ℕ) → Tells (Reading.stroke_at make bytes)
+stroke : (figure : Figure) (bytes : List ℕ) → Tells (Reading.stroke_at figure bytes)
 unfolding Reading.stroke_at
-stroke make bytes = next (Reading.number_at w16 bytes) _ (number w16 bytes) (λ a. next (Reading.number_at w16 a.1) _ (number w16 a.1) (λ b. next (Reading.number_at w16 b.1) _ (number w16 b.1) (λ c. next (Reading.number_at w16 c.1) _ (number w16 c.1) (λ d. next (Reading.byte_at d.1) _ (byte d.1) (λ g. tt)))))
+stroke figure bytes = next (Reading.number_at w16 bytes) _ (number w16 bytes) (λ a. next (Reading.number_at w16 a.1) _ (number w16 a.1) (λ b. next (Reading.number_at w16 b.1) _ (number w16 b.1) (λ c. next (Reading.number_at w16 c.1) _ (number w16 c.1) (λ d. next (Reading.byte_at d.1) _ (byte d.1) (λ g. tt)))))
 
 text : (bytes : List ℕ) → Tells (Reading.text_at bytes)
 unfolding Reading.text_at
 text bytes = next (Reading.number_at w16 bytes) _ (number w16 bytes) (λ a. next (Reading.number_at w16 a.1) _ (number w16 a.1) (λ b. next (Reading.byte_at b.1) _ (byte b.1) (λ n. checks (nat_le n.0 (length n.1)) Length (Text a.0 b.0 (take n.0 n.1), drop n.0 n.1) tt)))
 
-target : (make : ℕ → ℕ → Op) (bytes : List ℕ) → Tells (Reading.target_at make bytes)
+target : (change : Change) (bytes : List ℕ) → Tells (Reading.target_at change bytes)
 unfolding Reading.target_at
-target make bytes = next (Reading.number_at w32 bytes) _ (number w32 bytes) (λ a. next (Reading.number_at w32 a.1) _ (number w32 a.1) (λ b. tt))
+target change bytes = next (Reading.number_at w32 bytes) _ (number w32 bytes) (λ a. next (Reading.number_at w32 a.1) _ (number w32 a.1) (λ b. tt))
 
 fields : (version : Version) (n : ℕ) (bytes : List ℕ) → Tells (Reading.fields_at version n bytes)
 unfolding Reading.fields_at

@@ -15,11 +15,18 @@ use Rattle.wb_names.specs.declared.fault.FieldFault.{FieldFault}
 use Rattle.wb_names.specs.declared.fault.FieldFault.TheVariants.{SeqZero}
 use Rattle.wb_names.proofs.Orders.{name_parts}
 use Rattle.wb_names.specs.Drawing.{IsLawful, op_fault, seq_fault}
-use Rattle.wb_names.specs.declared.drawop.Op.{Op}
-use Rattle.wb_names.specs.declared.drawop.Op.TheVariants.{Line, Frame, Text, Delete, Restore}
+use Rattle.wb_names.specs.declared.parts.Figure.{Figure}
+use Rattle.wb_names.specs.declared.parts.Figure.TheVariants.{Line, Frame}
+use Rattle.wb_names.specs.declared.parts.Stroke.{Stroke}
+use Rattle.wb_names.specs.declared.parts.Change.{Change}
+use Rattle.wb_names.specs.declared.parts.Change.TheVariants.{Delete, Restore}
+use Rattle.wb_names.specs.declared.parts.Target.{Target}
+use Rattle.wb_names.specs.declared.parts.Op.{Op}
+use Rattle.wb_names.specs.declared.parts.Op.TheVariants.{Drawn, Text, Aimed}
 use Rattle.wb_codec.specs.Ranges.{IsName, IsDrawop, HasTarget}
 use Rattle.wb_codec.specs.Rows.{row_words, row, op_words, text_word, text_words, op_word, pair_word}
-use Rattle.wb_codec.specs.RowReading.{high_half, low_half, kind_in, byte_in, p_in, q_in, r_in, s_in, op_in}
+use Rattle.wb_codec.specs.RowReading.{high_half, low_half, kind_in, byte_in, p_in, q_in, r_in, s_in, stroke_in, target_in, op_in}
+use Rattle.wb_codec.specs.Spelling.{figure_code, change_code}
 use Rattle.wb_codec.proofs.Bytes.{IsBytes, IsBytes-take, IsBytes-drop, IsBytes-append, IsBytes-zeros}
 use Rattle.wb_codec.proofs.Lawful.{IsText, lawful_stroke, lawful_text}
 
@@ -64,8 +71,8 @@ parts_back kind byte p q r s hb hp hq hr hs = record {
   s-is = omega arith;
 }
 
-stroke_back : (make : ℕ → ℕ → ℕ → ℕ → ℕ → Op) (word x0 y0 x1 y1 glyph kind : ℕ) → HasParts word kind glyph x0 y0 x1 y1 → make (p_in word) (q_in word) (r_in word) (s_in word) (byte_in word) ≡ make x0 y0 x1 y1 glyph
-stroke_back make word x0 y0 x1 y1 glyph kind h = rw (h.p-is, h.q-is, h.r-is, h.s-is, h.byte-is) refl
+stroke_back : (word kind : ℕ) (s : Stroke) → HasParts word kind s.glyph s.x0 s.y0 s.x1 s.y1 → stroke_in word ≡ s
+stroke_back word kind s h = rw (h.p-is, h.q-is, h.r-is, h.s-is, h.byte-is) refl
 
 -- the text's words read back: its front is the text
 text_front : (x y n : ℕ) (text bytes : List ℕ) (word : ℕ) → HasParts word 3 (length text) x y 0 0 → bytes ≡ padded text → Text (p_in word) (q_in word) (take (byte_in word) bytes) ≡ Text x y text
@@ -73,57 +80,45 @@ text_front x y n text bytes word h e =
     let front : take (length text) bytes ≡ text = ap (take (length text)) e ∙ take_at text (replicate (64 - length text) 0) (length text) refl in
     rw (h.p-is, h.q-is, h.byte-is, front) refl
 
-target_back : (make : ℕ → ℕ → Op) (source seq : ℕ) → source < 2 ^ 32 → seq < 2 ^ 32 → make (high_half (pair_word source seq)) (low_half (pair_word source seq)) ≡ make source seq
-target_back make source seq hs hn =
-    let high : high_half (pair_word source seq) ≡ source = omega arith in
-    let low : low_half (pair_word source seq) ≡ seq = omega arith in
-    rw (high, low) refl
+target_back : (t : Target) → t.source < 2 ^ 32 → t.seq < 2 ^ 32 → target_in (pair_word t.source t.seq) ≡ t
+target_back t hs hn =
+    let h : high_half (pair_word t.source t.seq) ≡ t.source = omega arith in
+    let l : low_half (pair_word t.source t.seq) ≡ t.seq = omega arith in
+    rw (h, l) refl
 
-line_in : (word target : ℕ) (bytes : List ℕ) → kind_in word ≡ 1 → op_in word target bytes ≡ Some (Line (p_in word) (q_in word) (r_in word) (s_in word) (byte_in word))
+drawn_in : (figure : Figure) (word target : ℕ) (bytes : List ℕ) → kind_in word ≡ figure_code figure → op_in word target bytes ≡ Some (Drawn figure (stroke_in word))
 unfolding op_in
-line_in word target bytes e = rw e refl
-
-frame_in : (word target : ℕ) (bytes : List ℕ) → kind_in word ≡ 2 → op_in word target bytes ≡ Some (Frame (p_in word) (q_in word) (r_in word) (s_in word) (byte_in word))
-unfolding op_in
-frame_in word target bytes e = rw e refl
+drawn_in Line word target bytes e = rw e refl
+drawn_in Frame word target bytes e = rw e refl
 
 text_in : (word target : ℕ) (bytes : List ℕ) → kind_in word ≡ 3 → nat_le (byte_in word) 64 ≡ true → op_in word target bytes ≡ Some (Text (p_in word) (q_in word) (take (byte_in word) bytes))
 unfolding op_in
 text_in word target bytes e le = rw (e, le) refl
 
-delete_in : (word target : ℕ) (bytes : List ℕ) → kind_in word ≡ 4 → op_in word target bytes ≡ Some (Delete (high_half target) (low_half target))
+aimed_in : (change : Change) (word target : ℕ) (bytes : List ℕ) → kind_in word ≡ change_code change → op_in word target bytes ≡ Some (Aimed change (target_in target))
 unfolding op_in
-delete_in word target bytes e = rw e refl
-
-restore_in : (word target : ℕ) (bytes : List ℕ) → kind_in word ≡ 5 → op_in word target bytes ≡ Some (Restore (high_half target) (low_half target))
-unfolding op_in
-restore_in word target bytes e = rw e refl
+aimed_in Delete word target bytes e = rw e refl
+aimed_in Restore word target bytes e = rw e refl
 
 -- the operation's words read back
 abbrev pub op_in_words : List ℕ → Option Op
 op_in_words words = op_in (get_or words 0 0) (get_or words 1 0) (flat_map (to_be_bytes w64) (take 8 (drop 1 words)))
 
 pub op_back : (name : NameValue) (op : Op) → IsLawful name op → HasTarget op → op_in_words (op_words op) ≡ Some op
-op_back name (Line x0 y0 x1 y1 glyph) lawful fits =
-    let s = lawful_stroke x0 y0 x1 y1 glyph lawful in
-    let h = parts_back 1 glyph x0 y0 x1 y1 s.glyph-fits s.x0-fits s.y0-fits s.x1-fits s.y1-fits in
-    line_in (op_word 1 glyph x0 y0 x1 y1) _ _ h.kind-is ∙ ap Some (stroke_back Line (op_word 1 glyph x0 y0 x1 y1) x0 y0 x1 y1 glyph 1 h)
-op_back name (Frame x0 y0 x1 y1 glyph) lawful fits =
-    let s = lawful_stroke x0 y0 x1 y1 glyph lawful in
-    let h = parts_back 2 glyph x0 y0 x1 y1 s.glyph-fits s.x0-fits s.y0-fits s.x1-fits s.y1-fits in
-    frame_in (op_word 2 glyph x0 y0 x1 y1) _ _ h.kind-is ∙ ap Some (stroke_back Frame (op_word 2 glyph x0 y0 x1 y1) x0 y0 x1 y1 glyph 2 h)
+op_back name (Drawn figure s) lawful fits =
+    let f = lawful_stroke s lawful in
+    let word = op_word (figure_code figure) s.glyph s.x0 s.y0 s.x1 s.y1 in
+    let h = parts_back (figure_code figure) s.glyph s.x0 s.y0 s.x1 s.y1 f.glyph-fits f.x0-fits f.y0-fits f.x1-fits f.y1-fits in
+    drawn_in figure word _ _ h.kind-is ∙ ap (λ (t : Stroke). Some (Drawn figure t)) (stroke_back word (figure_code figure) s h)
 op_back name (Text x y text) lawful fits =
     let t = lawful_text x y text lawful in
     let word = op_word 3 (length text) x y 0 0 in
     let h = parts_back 3 (length text) x y 0 0 (omega (arith, t.few_bytes)) t.x-fits t.y-fits (omega arith) (omega arith) in
     let few : nat_le (byte_in word) 64 ≡ true = le-leb _ _ (omega (arith, h.byte-is, t.few_bytes)) in
     text_in word (get_or (text_words text) 0 0) (flat_map (to_be_bytes w64) (text_words text)) h.kind-is few ∙ ap Some (text_front x y 0 text (flat_map (to_be_bytes w64) (text_words text)) word h (text_back x y text t))
-op_back name (Delete source seq) lawful fits =
-    let h = parts_back 4 0 0 0 0 0 (omega arith) (omega arith) (omega arith) (omega arith) (omega arith) in
-    delete_in (op_word 4 0 0 0 0 0) (pair_word source seq) _ h.kind-is ∙ ap Some (target_back Delete source seq fits.0 fits.1)
-op_back name (Restore source seq) lawful fits =
-    let h = parts_back 5 0 0 0 0 0 (omega arith) (omega arith) (omega arith) (omega arith) (omega arith) in
-    restore_in (op_word 5 0 0 0 0 0) (pair_word source seq) _ h.kind-is ∙ ap Some (target_back Restore source seq fits.0 fits.1)
+op_back name (Aimed change t) lawful fits =
+    let h = parts_back (change_code change) 0 0 0 0 0 (omega arith) (omega arith) (omega arith) (omega arith) (omega arith) in
+    aimed_in change (op_word (change_code change) 0 0 0 0 0) (pair_word t.source t.seq) _ h.kind-is ∙ ap (λ (u : Target). Some (Aimed change u)) (target_back t fits.0 fits.1)
 
 -- the operation read from the words of a record
 pub row_op_back : (d : DrawopValue) (words bytes : List ℕ) (o : Option Op) → IsDrawop d → row d ≡ words → bytes ≡ flat_map (to_be_bytes w64) (take 8 (drop 4 words)) → o ≡ op_in (get_or words 3 0) (get_or words 4 0) bytes → o ≡ Some d.op
@@ -176,11 +171,9 @@ some_op o p e = cc
 pub row_length : (d : DrawopValue) → length (row d) ≡ row_words
 row_length d = ap (λ (n : ℕ). suc (suc (suc n))) (op_length d.op) where
   op_length : (op : Op) → length (op_words op) ≡ 9
-  op_length (Line x0 y0 x1 y1 glyph) = refl
-  op_length (Frame x0 y0 x1 y1 glyph) = refl
+  op_length (Drawn figure s) = refl
   op_length (Text x y text) = refl
-  op_length (Delete source seq) = refl
-  op_length (Restore source seq) = refl
+  op_length (Aimed change t) = refl
 
 pair_back : (a b c d : ℕ) → b < 2 ^ 32 → d < 2 ^ 32 → pair_word a b ≡ pair_word c d → (a ≡ c) × (b ≡ d)
 pair_back a b c d hb hd e = (omega arith, omega arith)

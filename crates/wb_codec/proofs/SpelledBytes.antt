@@ -6,13 +6,21 @@ use Rattle.std.specs.Int.{w16, w32, w64, to_be_bytes}
 use Rattle.wb_names.specs.Values.{NameValue, MarkValue}
 use Rattle.wb_names.specs.declared.name.PageId.{PageId}
 use Rattle.wb_names.specs.declared.echo.Echo.{Echo}
-use Rattle.wb_names.specs.declared.drawop.Op.{Op}
-use Rattle.wb_names.specs.declared.drawop.Op.TheVariants.{Line, Frame, Text, Delete, Restore}
+use Rattle.wb_names.specs.declared.parts.Figure.{Figure}
+use Rattle.wb_names.specs.declared.parts.Figure.TheVariants.{Line, Frame}
+use Rattle.wb_names.specs.declared.parts.Stroke.{Stroke}
+use Rattle.wb_names.specs.declared.parts.Change.{Change}
+use Rattle.wb_names.specs.declared.parts.Change.TheVariants.{Delete, Restore}
+use Rattle.wb_names.specs.declared.parts.Target.{Target}
+use Rattle.wb_names.specs.declared.parts.Op.{Op}
+use Rattle.wb_names.specs.declared.parts.Op.TheVariants.{Drawn, Text, Aimed}
 use Rattle.wb_names.specs.Drawing.{IsLawful}
 use Rattle.wb_codec.specs.declared.datagram.Datagram.{Datagram}
 use Rattle.wb_codec.specs.declared.datagram.Datagram.TheVariants.{Draw, Session, Request, AskPages, PageState}
+use Rattle.wb_codec.specs.declared.version.Version.{Version}
+use Rattle.wb_codec.specs.declared.version.Version.TheVariants.{One, Two}
 use Rattle.wb_codec.specs.Ranges.{IsDatagram}
-use Rattle.wb_codec.specs.Spelling.{page_bytes, name_bytes, stroke_bytes, target_bytes, op_bytes, mark_bytes, echo_bytes, body, kind_code, op_version, version_of, version_code, spelling}
+use Rattle.wb_codec.specs.Spelling.{page_bytes, name_bytes, stroke_bytes, target_bytes, figure_code, change_code, op_bytes, mark_bytes, echo_bytes, body, kind_code, version_of, version_code, spelling}
 use Rattle.wb_codec.proofs.Lawful.{lawful_stroke, lawful_text}
 
 abbrev Below : List ℕ → Type 0
@@ -54,20 +62,26 @@ page_are p = cat _ _ (be32 p.creator) (be32 p.number)
 name_are : (n : NameValue) → AreBytes (name_bytes n)
 name_are n = cat _ _ (cat _ _ (be32 n.source) (page_are n.page)) (be32 n.seq)
 
-stroke_are : (x0 y0 x1 y1 glyph : ℕ) → glyph < 256 → AreBytes (stroke_bytes x0 y0 x1 y1 glyph)
-stroke_are x0 y0 x1 y1 glyph lt = cat _ _ (cat _ _ (cat _ _ (cat _ _ (be16 x0) (be16 y0)) (be16 x1)) (be16 y1)) (one glyph lt)
+stroke_are : (s : Stroke) → s.glyph < 256 → AreBytes (stroke_bytes s)
+stroke_are s lt = cat _ _ (cat _ _ (cat _ _ (cat _ _ (be16 s.x0) (be16 s.y0)) (be16 s.x1)) (be16 s.y1)) (one s.glyph lt)
 
-target_are : (source seq : ℕ) → AreBytes (target_bytes source seq)
-target_are source seq = cat _ _ (be32 source) (be32 seq)
+target_are : (t : Target) → AreBytes (target_bytes t)
+target_are t = cat _ _ (be32 t.source) (be32 t.seq)
+
+figure_below : (figure : Figure) → figure_code figure < 256
+figure_below Line = omega arith
+figure_below Frame = omega arith
+
+change_below : (change : Change) → change_code change < 256
+change_below Delete = omega arith
+change_below Restore = omega arith
 
 op_are : (name : NameValue) (op : Op) → IsLawful name op → AreBytes (op_bytes op)
-op_are name (Line x0 y0 x1 y1 glyph) e = put 1 _ (omega arith) (stroke_are x0 y0 x1 y1 glyph (lawful_stroke x0 y0 x1 y1 glyph e).glyph-fits)
-op_are name (Frame x0 y0 x1 y1 glyph) e = put 2 _ (omega arith) (stroke_are x0 y0 x1 y1 glyph (lawful_stroke x0 y0 x1 y1 glyph e).glyph-fits)
+op_are name (Drawn figure s) e = put (figure_code figure) _ (figure_below figure) (stroke_are s (lawful_stroke s e).glyph-fits)
 op_are name (Text x y text) e =
     let t = lawful_text x y text e in
     put 3 _ (omega arith) (cat _ _ (cat _ _ (cat _ _ (be16 x) (be16 y)) (one (length text) (omega (arith, t.few_bytes)))) (record { each = text_below text t.bytes }))
-op_are name (Delete source seq) e = put 4 _ (omega arith) (target_are source seq)
-op_are name (Restore source seq) e = put 5 _ (omega arith) (target_are source seq)
+op_are name (Aimed change t) e = put (change_code change) _ (change_below change) (target_are t)
 
 marks_are : (marks : List MarkValue) → AreBytes (flat_map mark_bytes marks)
 marks_are [] = record { each = tt }
@@ -85,23 +99,9 @@ body_are (Request asker name) fits = cat _ _ (be32 asker) (name_are name)
 body_are (AskPages asker) fits = be32 asker
 body_are (PageState sender page marks) fits = cat _ _ (cat _ _ (be32 sender) (page_are page)) (cat _ _ (be16 (length marks)) (marks_are marks))
 
-op_version_below : (op : Op) → version_code (op_version op) < 256
-op_version_below (Line x0 y0 x1 y1 glyph) = omega arith
-op_version_below (Frame x0 y0 x1 y1 glyph) = omega arith
-op_version_below (Text x y text) =
-    elim (nat_le (length text) 40) as (λ b. nat_le (length text) 40 ≡ b → version_code (op_version (Text x y text)) < 256) [
-      | true ↦ λ e. rw e (omega arith)
-      | false ↦ λ e. rw e (omega arith)
-    ] refl
-op_version_below (Delete source seq) = omega arith
-op_version_below (Restore source seq) = omega arith
-
-version_below : (v : Datagram) → version_code (version_of v) < 256
-version_below (Draw d) = op_version_below d.op
-version_below (Session sender sent page marks echoes) = omega arith
-version_below (Request asker name) = omega arith
-version_below (AskPages asker) = omega arith
-version_below (PageState sender page marks) = omega arith
+version_below : (v : Version) → version_code v < 256
+version_below One = omega arith
+version_below Two = omega arith
 
 kind_below : (v : Datagram) → kind_code v < 256
 kind_below (Draw d) = omega arith
@@ -111,7 +111,7 @@ kind_below (AskPages asker) = omega arith
 kind_below (PageState sender page marks) = omega arith
 
 spelling_are : (v : Datagram) → IsDatagram v → AreBytes (spelling v)
-spelling_are v fits = put 0x57 _ (omega arith) (put 0x42 _ (omega arith) (put (version_code (version_of v)) _ (version_below v) (put (kind_code v) _ (kind_below v) (cat _ _ (be32 (length (body v))) (body_are v fits)))))
+spelling_are v fits = put 0x57 _ (omega arith) (put 0x42 _ (omega arith) (put (version_code (version_of v)) _ (version_below (version_of v)) (put (kind_code v) _ (kind_below v) (cat _ _ (be32 (length (body v))) (body_are v fits)))))
 
 below_at : (bytes : List ℕ) → Below bytes → (i : ℕ) → slice_index bytes i < 256
 below_at [] p i = omega arith

@@ -6,8 +6,8 @@ use Rattle.wb_names.specs.Ascending.{AreMarks}
 use Rattle.wb_names.specs.AscendingEchoes.{AreEchoes}
 use Rattle.wb_names.specs.declared.name.PageId.{PageId}
 use Rattle.wb_names.specs.declared.echo.Echo.{Echo}
-use Rattle.wb_names.specs.declared.drawop.Op.{Op}
-use Rattle.wb_names.specs.declared.drawop.Op.TheVariants.{Line, Frame, Text, Delete, Restore}
+use Rattle.wb_names.specs.declared.parts.Op.{Op}
+use Rattle.wb_names.specs.declared.parts.Op.TheVariants.{Drawn, Text, Aimed}
 use Rattle.wb_codec.specs.declared.datagram.Datagram.{Datagram}
 use Rattle.wb_codec.specs.declared.datagram.Datagram.TheVariants.{Draw, Session, Request, AskPages, PageState}
 
@@ -23,11 +23,9 @@ pub record IsName (n : NameValue) : Type 0 where
 
 -- the target's source and number fit four bytes; what a lawful operation draws is in narrower ranges
 abbrev pub HasTarget : Op → Type 0
-HasTarget (Line x0 y0 x1 y1 glyph) = Unit {0}
-HasTarget (Frame x0 y0 x1 y1 glyph) = Unit {0}
+HasTarget (Drawn figure s) = Unit {0}
 HasTarget (Text x y text) = Unit {0}
-HasTarget (Delete source seq) = (source < 2 ^ 32) × (seq < 2 ^ 32)
-HasTarget (Restore source seq) = (source < 2 ^ 32) × (seq < 2 ^ 32)
+HasTarget (Aimed change t) = (t.source < 2 ^ 32) × (t.seq < 2 ^ 32)
 
 pub record IsDrawop (d : DrawopValue) : Type 0 where
   pub name : IsName d.name

@@ -4,13 +4,17 @@ use Rattle.std.specs.List.{list_all}
 use Rattle.std.specs.Int.{Width, w16, w32, w64, byte_len, from_be_bytes}
 use Rattle.wb_names.specs.Values.{NameValue, DrawopValue, MarkValue}
 use Rattle.wb_names.specs.Faults.{first_of, fault_unless}
-use Rattle.wb_names.specs.Drawing.{seq_fault, op_fault, is_coordinate, is_printable}
+use Rattle.wb_names.specs.Drawing.{seq_fault, stroke_fault, target_fault, is_coordinate, is_printable}
 use Rattle.wb_names.specs.declared.name.PageId.{PageId}
 use Rattle.wb_names.specs.declared.fault.FieldFault.{FieldFault}
 use Rattle.wb_names.specs.declared.fault.FieldFault.TheVariants.{Coordinate, TextLength, TextByte}
 use Rattle.wb_names.specs.declared.echo.Echo.{Echo}
-use Rattle.wb_names.specs.declared.drawop.Op.{Op}
-use Rattle.wb_names.specs.declared.drawop.Op.TheVariants.{Line, Frame, Text, Delete, Restore}
+use Rattle.wb_names.specs.declared.parts.Figure.{Figure}
+use Rattle.wb_names.specs.declared.parts.Figure.TheVariants.{Line, Frame}
+use Rattle.wb_names.specs.declared.parts.Change.{Change}
+use Rattle.wb_names.specs.declared.parts.Change.TheVariants.{Delete, Restore}
+use Rattle.wb_names.specs.declared.parts.Op.{Op}
+use Rattle.wb_names.specs.declared.parts.Op.TheVariants.{Drawn, Text, Aimed}
 use Rattle.wb_codec.specs.declared.datagram.Datagram.{Datagram}
 use Rattle.wb_codec.specs.declared.datagram.Datagram.TheVariants as datagrams
 use Rattle.wb_codec.specs.declared.version.Version.{Version}
@@ -64,14 +68,14 @@ end_of rest x = require (nat_eq (length rest) 0) faults.Length x
 
 -- ---- operations, their fields not yet checked
 
-unfoldable pub stroke_at : (ℕ → ℕ → ℕ → ℕ → ℕ → Op) → List ℕ → Result (Op × List ℕ) ReadFault
-stroke_at make bytes = do
+unfoldable pub stroke_at : Figure → List ℕ → Result (Op × List ℕ) ReadFault
+stroke_at figure bytes = do
   x0 ← number_at w16 bytes
   y0 ← number_at w16 x0.1
   x1 ← number_at w16 y0.1
   y1 ← number_at w16 x1.1
   glyph ← byte_at y1.1
-  Ok (make x0.0 y0.0 x1.0 y1.0 glyph.0, glyph.1)
+  Ok (Drawn figure (record { x0 = x0.0; y0 = y0.0; x1 = x1.0; y1 = y1.0; glyph = glyph.0 }), glyph.1)
 
 unfoldable pub text_at : List ℕ → Result (Op × List ℕ) ReadFault
 text_at bytes = do
@@ -80,11 +84,11 @@ text_at bytes = do
   n ← byte_at y.1
   require (nat_le n.0 (length n.1)) faults.Length (Text x.0 y.0 (take n.0 n.1), drop n.0 n.1)
 
-unfoldable pub target_at : (ℕ → ℕ → Op) → List ℕ → Result (Op × List ℕ) ReadFault
-target_at make bytes = do
+unfoldable pub target_at : Change → List ℕ → Result (Op × List ℕ) ReadFault
+target_at change bytes = do
   source ← number_at w32 bytes
   seq ← number_at w32 source.1
-  Ok (make source.0 seq.0, seq.1)
+  Ok (Aimed change (record { source = source.0; seq = seq.0 }), seq.1)
 
 -- the fields of the operation of this number, if the version has it
 unfoldable pub fields_at : Version → ℕ → List ℕ → Result (Op × List ℕ) ReadFault
@@ -113,15 +117,13 @@ is_length_of Two n = nat_le 41 n && nat_le n 64
 
 -- The first fault of an operation that this version tells. The length of a text stands where lengths are checked.
 abbrev pub told_fault : Version → NameValue → Op → Option FieldFault
-told_fault version name (Line x0 y0 x1 y1 glyph) = op_fault name (Line x0 y0 x1 y1 glyph)
-told_fault version name (Frame x0 y0 x1 y1 glyph) = op_fault name (Frame x0 y0 x1 y1 glyph)
+told_fault version name (Drawn figure s) = stroke_fault s
 told_fault version name (Text x y text) = first_of (
     fault_unless (is_coordinate x && is_coordinate y) Coordinate
     ∷ fault_unless (is_length_of version (length text)) TextLength
     ∷ fault_unless (list_all is_printable text) TextByte
     ∷ [])
-told_fault version name (Delete source seq) = op_fault name (Delete source seq)
-told_fault version name (Restore source seq) = op_fault name (Restore source seq)
+told_fault version name (Aimed change t) = target_fault name t
 
 -- the value, where no field has a fault
 abbrev pub in_range : {A : Type 0} → Option FieldFault → A → Result A ReadFault

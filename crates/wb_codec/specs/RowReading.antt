@@ -1,7 +1,11 @@
 -- What the words of a record say, read back from left to right. That it undoes the record is a law.
 use Rattle.std.specs.Prelude.{ℕ, ◌/◌, ◌%◌, ◌^◌, List, take, Option, Some, None, nat_eq, nat_le, if◌then◌else◌}
-use Rattle.wb_names.specs.declared.drawop.Op.{Op}
-use Rattle.wb_names.specs.declared.drawop.Op.TheVariants.{Line, Frame, Text, Delete, Restore}
+use Rattle.wb_names.specs.declared.parts.Figure.TheVariants.{Line, Frame}
+use Rattle.wb_names.specs.declared.parts.Stroke.{Stroke}
+use Rattle.wb_names.specs.declared.parts.Change.TheVariants.{Delete, Restore}
+use Rattle.wb_names.specs.declared.parts.Target.{Target}
+use Rattle.wb_names.specs.declared.parts.Op.{Op}
+use Rattle.wb_names.specs.declared.parts.Op.TheVariants.{Drawn, Text, Aimed}
 
 abbrev pub high_half : ℕ → ℕ
 high_half word = word / 2 ^ 32
@@ -28,11 +32,17 @@ r_in word = word / 2 ^ 12 % 2 ^ 12
 abbrev pub s_in : ℕ → ℕ
 s_in word = word % 2 ^ 12
 
+abbrev pub stroke_in : ℕ → Stroke
+stroke_in word = record { x0 = p_in word; y0 = q_in word; x1 = r_in word; y1 = s_in word; glyph = byte_in word }
+
+abbrev pub target_in : ℕ → Target
+target_in word = record { source = high_half word; seq = low_half word }
+
 -- the operation with this word, this target's word and these bytes of text
 unfoldable pub op_in : ℕ → ℕ → List ℕ → Option Op
 op_in word target bytes =
-    if nat_eq (kind_in word) 1 then Some (Line (p_in word) (q_in word) (r_in word) (s_in word) (byte_in word))
-    else (if nat_eq (kind_in word) 2 then Some (Frame (p_in word) (q_in word) (r_in word) (s_in word) (byte_in word))
+    if nat_eq (kind_in word) 1 then Some (Drawn Line (stroke_in word))
+    else (if nat_eq (kind_in word) 2 then Some (Drawn Frame (stroke_in word))
     else (if nat_eq (kind_in word) 3 then (if nat_le (byte_in word) 64 then Some (Text (p_in word) (q_in word) (take (byte_in word) bytes)) else None)
-    else (if nat_eq (kind_in word) 4 then Some (Delete (high_half target) (low_half target))
-    else (if nat_eq (kind_in word) 5 then Some (Restore (high_half target) (low_half target)) else None))))
+    else (if nat_eq (kind_in word) 4 then Some (Aimed Delete (target_in target))
+    else (if nat_eq (kind_in word) 5 then Some (Aimed Restore (target_in target)) else None))))

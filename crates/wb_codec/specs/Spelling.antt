@@ -5,8 +5,14 @@ use Rattle.std.specs.Int.{w16, w32, w64, to_be_bytes}
 use Rattle.wb_names.specs.Values.{NameValue, DrawopValue, MarkValue}
 use Rattle.wb_names.specs.declared.name.PageId.{PageId}
 use Rattle.wb_names.specs.declared.echo.Echo.{Echo}
-use Rattle.wb_names.specs.declared.drawop.Op.{Op}
-use Rattle.wb_names.specs.declared.drawop.Op.TheVariants.{Line, Frame, Text, Delete, Restore}
+use Rattle.wb_names.specs.declared.parts.Figure.{Figure}
+use Rattle.wb_names.specs.declared.parts.Figure.TheVariants.{Line, Frame}
+use Rattle.wb_names.specs.declared.parts.Stroke.{Stroke}
+use Rattle.wb_names.specs.declared.parts.Change.{Change}
+use Rattle.wb_names.specs.declared.parts.Change.TheVariants.{Delete, Restore}
+use Rattle.wb_names.specs.declared.parts.Target.{Target}
+use Rattle.wb_names.specs.declared.parts.Op.{Op}
+use Rattle.wb_names.specs.declared.parts.Op.TheVariants.{Drawn, Text, Aimed}
 use Rattle.wb_codec.specs.declared.datagram.Datagram.{Datagram}
 use Rattle.wb_codec.specs.declared.datagram.Datagram.TheVariants.{Draw, Session, Request, AskPages, PageState}
 use Rattle.wb_codec.specs.declared.version.Version.{Version}
@@ -18,22 +24,29 @@ page_bytes p = to_be_bytes w32 p.creator ++ to_be_bytes w32 p.number
 abbrev pub name_bytes : NameValue → List ℕ
 name_bytes n = to_be_bytes w32 n.source ++ page_bytes n.page ++ to_be_bytes w32 n.seq
 
-abbrev pub stroke_bytes : ℕ → ℕ → ℕ → ℕ → ℕ → List ℕ
-stroke_bytes x0 y0 x1 y1 glyph = to_be_bytes w16 x0 ++ to_be_bytes w16 y0 ++ to_be_bytes w16 x1 ++ to_be_bytes w16 y1 ++ glyph ∷ []
+abbrev pub stroke_bytes : Stroke → List ℕ
+stroke_bytes s = to_be_bytes w16 s.x0 ++ to_be_bytes w16 s.y0 ++ to_be_bytes w16 s.x1 ++ to_be_bytes w16 s.y1 ++ s.glyph ∷ []
 
 abbrev pub text_bytes : ℕ → ℕ → List ℕ → List ℕ
 text_bytes x y text = to_be_bytes w16 x ++ to_be_bytes w16 y ++ length text ∷ [] ++ text
 
-abbrev pub target_bytes : ℕ → ℕ → List ℕ
-target_bytes source seq = to_be_bytes w32 source ++ to_be_bytes w32 seq
+abbrev pub target_bytes : Target → List ℕ
+target_bytes t = to_be_bytes w32 t.source ++ to_be_bytes w32 t.seq
+
+-- the numbers of operations; a text has the number 3
+abbrev pub figure_code : Figure → ℕ
+figure_code Line = 1
+figure_code Frame = 2
+
+abbrev pub change_code : Change → ℕ
+change_code Delete = 4
+change_code Restore = 5
 
 -- an operation's number, and its fields
 abbrev pub op_bytes : Op → List ℕ
-op_bytes (Line x0 y0 x1 y1 glyph) = 1 ∷ stroke_bytes x0 y0 x1 y1 glyph
-op_bytes (Frame x0 y0 x1 y1 glyph) = 2 ∷ stroke_bytes x0 y0 x1 y1 glyph
+op_bytes (Drawn figure s) = figure_code figure ∷ stroke_bytes s
 op_bytes (Text x y text) = 3 ∷ text_bytes x y text
-op_bytes (Delete source seq) = 4 ∷ target_bytes source seq
-op_bytes (Restore source seq) = 5 ∷ target_bytes source seq
+op_bytes (Aimed change t) = change_code change ∷ target_bytes t
 
 abbrev pub drawop_bytes : DrawopValue → List ℕ
 drawop_bytes d = name_bytes d.name ++ to_be_bytes w64 d.time ++ op_bytes d.op
@@ -66,12 +79,18 @@ kind_code (AskPages asker) = 4
 kind_code (PageState sender page marks) = 5
 
 -- Version 2 is used for what version 1 cannot say: a restore, and a text of over 40 bytes.
+abbrev pub figure_version : Figure → Version
+figure_version Line = One
+figure_version Frame = One
+
+abbrev pub change_version : Change → Version
+change_version Delete = One
+change_version Restore = Two
+
 abbrev pub op_version : Op → Version
-op_version (Line x0 y0 x1 y1 glyph) = One
-op_version (Frame x0 y0 x1 y1 glyph) = One
+op_version (Drawn figure s) = figure_version figure
 op_version (Text x y text) = if nat_le (length text) 40 then One else Two
-op_version (Delete source seq) = One
-op_version (Restore source seq) = Two
+op_version (Aimed change t) = change_version change
 
 abbrev pub version_of : Datagram → Version
 version_of (Draw d) = op_version d.op

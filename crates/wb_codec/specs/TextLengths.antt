@@ -4,19 +4,17 @@ use Rattle.wb_names.specs.Values.{NameValue, DrawopValue}
 use Rattle.wb_names.specs.Drawing.{seq_fault}
 use Rattle.wb_names.specs.declared.fault.FieldFault.{FieldFault}
 use Rattle.wb_names.specs.declared.fault.FieldFault.TheVariants.{SeqZero, Coordinate, Glyph, TextLength, TextByte, TargetZero, TargetSelf}
-use Rattle.wb_names.specs.declared.drawop.Op.{Op}
-use Rattle.wb_names.specs.declared.drawop.Op.TheVariants.{Line, Frame, Text, Delete, Restore}
+use Rattle.wb_names.specs.declared.parts.Op.{Op}
+use Rattle.wb_names.specs.declared.parts.Op.TheVariants.{Drawn, Text, Aimed}
 use Rattle.wb_codec.specs.declared.version.Version.{Version}
 use Rattle.wb_codec.specs.declared.fault.ReadFault.{ReadFault}
 use Rattle.wb_codec.specs.Reading.{◌>>=◌, is_length_of, in_range, told_fault}
 
 -- the version says texts of this length
 abbrev pub is_length_told : Version → Op → Bool
-is_length_told version (Line x0 y0 x1 y1 glyph) = true
-is_length_told version (Frame x0 y0 x1 y1 glyph) = true
+is_length_told version (Drawn figure s) = true
 is_length_told version (Text x y text) = is_length_of version (length text)
-is_length_told version (Delete source seq) = true
-is_length_told version (Restore source seq) = true
+is_length_told version (Aimed change t) = true
 
 -- The fault of a text whose length is not told, by what is wrong with the operation else: it stands where lengths are checked, after the coordinates and before the bytes.
 abbrev pub fault_at_length : Option FieldFault → FieldFault

@@ -2,8 +2,10 @@
 use Rattle.std.specs.Prelude.{ℕ, List, [], ◌∷◌, ◌++◌, replicate}
 use Rattle.wb_names.specs.Values.{DrawopValue}
 use Rattle.wb_names.specs.declared.name.PageId.{PageId}
-use Rattle.wb_names.specs.declared.drawop.Op.{Op}
-use Rattle.wb_names.specs.declared.drawop.Op.TheVariants.{Line, Text, Delete, Restore}
+use Rattle.wb_names.specs.declared.parts.Op.{Op}
+use Rattle.wb_names.specs.declared.parts.Figure.TheVariants.{Line}
+use Rattle.wb_names.specs.declared.parts.Change.TheVariants.{Delete, Restore}
+use Rattle.wb_names.specs.declared.parts.Op.TheVariants.{Drawn, Text, Aimed}
 use Rattle.wb_codec.specs.declared.datagram.Datagram.{Datagram}
 use Rattle.wb_codec.specs.declared.datagram.Datagram.TheVariants.{Session, Request, AskPages, PageState}
 
@@ -17,7 +19,7 @@ drawn member n moment op = record { name = record { source = member; page = page
 
 -- a line of five stars
 abbrev pub line : DrawopValue
-line = drawn 7 1 10 (Line 0 1 4 1 0x2a)
+line = drawn 7 1 10 (Drawn Line (record { x0 = 0; y0 = 1; x1 = 4; y1 = 1; glyph = 0x2a }))
 
 abbrev pub line_bytes : List ℕ
 line_bytes =
@@ -31,14 +33,14 @@ line_row = 0x0000000700000001 ∷ 0x0000000700000001 ∷ 10 ∷ 0x012a0000010040
 
 -- its delete
 abbrev pub delete : DrawopValue
-delete = drawn 7 2 5 (Delete 7 1)
+delete = drawn 7 2 5 (Aimed Delete (record { source = 7; seq = 1 }))
 
 abbrev pub delete_row : List ℕ
 delete_row = 0x0000000700000002 ∷ 0x0000000700000001 ∷ 5 ∷ 0x0400000000000000 ∷ 0x0000000700000001 ∷ replicate 7 0
 
 -- its restore, which only version 2 says
 abbrev pub restore : DrawopValue
-restore = drawn 8 4 6 (Restore 7 1)
+restore = drawn 8 4 6 (Aimed Restore (record { source = 7; seq = 1 }))
 
 abbrev pub restore_bytes : List ℕ
 restore_bytes =

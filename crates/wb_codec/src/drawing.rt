@@ -1,62 +1,43 @@
+//! Drawops from bytes.
+
 ghost use Rattle.std.specs.Prelude.{◌≡◌};
 ghost use Rattle.std.specs.Result.{result_err};
-ghost use Rattle.wb_names.specs.Shapes.{op_of};
-ghost use Rattle.wb_names.specs.declared.drawop.Op.TheVariants.{Line as LineOp, Frame as FrameOp, Delete as DeleteOp, Restore as RestoreOp};
+ghost use Rattle.wb_names.specs.Shapes.{op_of_parts};
 ghost use Rattle.wb_codec.specs.Reading.{Gives, stroke_at, text_at, target_at, fields_at, op_at, drawop_at};
 ghost use Rattle.wb_codec.specs.TextLengths.{is_length_told, fault_at_length, drawop_told};
 
 use crate::fault::ReadFault;
 use crate::fields::{NameFields, name_of, u8_of, u16_of, u32_of, u64_of};
 use crate::version::Version;
-use wb_names::{Drawop, FieldFault, Name, Shape};
+use wb_names::{Change, Drawop, FieldFault, Figure, Name, Parts, Stroke, Target};
 
-// Each reader of a shape takes its fields from the front, not yet checked, and gives the bytes
+// Each reader takes the parts of an operation from the front, not yet checked, and gives the bytes
 // after them.
 
 #[inline(always)]
 #[tactic(auto, unfolding(crate::specs::Reading::stroke_at))]
-fn line_of(bytes: &[u8]) -> Result<(Shape<'_>, &[u8]), ReadFault>
-    ensures { Gives (λ x. (op_of x.0, x.1.now)) result (stroke_at LineOp bytes.now) }
+fn stroke_of(figure: Figure, bytes: &[u8]) -> Result<(Parts<'_>, &[u8]), ReadFault>
+    ensures { Gives (λ x. (op_of_parts x.0, x.1.now)) result (stroke_at figure bytes.now) }
 {
     let (x0, rest) = u16_of(bytes)?;
     let (y0, rest) = u16_of(rest)?;
     let (x1, rest) = u16_of(rest)?;
     let (y1, rest) = u16_of(rest)?;
     let (glyph, rest) = u8_of(rest)?;
-    let line = Shape::Line {
+    let stroke = Stroke {
         x0,
         y0,
         x1,
         y1,
         glyph,
     };
-    Ok((line, rest))
-}
-
-#[inline(always)]
-#[tactic(auto, unfolding(crate::specs::Reading::stroke_at))]
-fn frame_of(bytes: &[u8]) -> Result<(Shape<'_>, &[u8]), ReadFault>
-    ensures { Gives (λ x. (op_of x.0, x.1.now)) result (stroke_at FrameOp bytes.now) }
-{
-    let (x0, rest) = u16_of(bytes)?;
-    let (y0, rest) = u16_of(rest)?;
-    let (x1, rest) = u16_of(rest)?;
-    let (y1, rest) = u16_of(rest)?;
-    let (glyph, rest) = u8_of(rest)?;
-    let frame = Shape::Frame {
-        x0,
-        y0,
-        x1,
-        y1,
-        glyph,
-    };
-    Ok((frame, rest))
+    Ok((Parts::Drawn(figure, stroke), rest))
 }
 
 #[inline(always)]
 #[tactic(auto, unfolding(crate::specs::Reading::text_at))]
-fn text_of(bytes: &[u8]) -> Result<(Shape<'_>, &[u8]), ReadFault>
-    ensures { Gives (λ x. (op_of x.0, x.1.now)) result (text_at bytes.now) }
+fn text_of(bytes: &[u8]) -> Result<(Parts<'_>, &[u8]), ReadFault>
+    ensures { Gives (λ x. (op_of_parts x.0, x.1.now)) result (text_at bytes.now) }
 {
     let (x, rest) = u16_of(bytes)?;
     let (y, rest) = u16_of(rest)?;
@@ -65,49 +46,39 @@ fn text_of(bytes: &[u8]) -> Result<(Shape<'_>, &[u8]), ReadFault>
         return Err(ReadFault::Length);
     }
     let (bytes, rest) = rest.split_at(n as usize);
-    Ok((Shape::Text { x, y, bytes }, rest))
+    Ok((Parts::Text { x, y, bytes }, rest))
 }
 
 #[inline(always)]
 #[tactic(auto, unfolding(crate::specs::Reading::target_at))]
-fn delete_of(bytes: &[u8]) -> Result<(Shape<'_>, &[u8]), ReadFault>
-    ensures { Gives (λ x. (op_of x.0, x.1.now)) result (target_at DeleteOp bytes.now) }
+fn target_of(change: Change, bytes: &[u8]) -> Result<(Parts<'_>, &[u8]), ReadFault>
+    ensures { Gives (λ x. (op_of_parts x.0, x.1.now)) result (target_at change bytes.now) }
 {
     let (source, rest) = u32_of(bytes)?;
     let (seq, rest) = u32_of(rest)?;
-    Ok((Shape::Delete { source, seq }, rest))
-}
-
-#[inline(always)]
-#[tactic(auto, unfolding(crate::specs::Reading::target_at))]
-fn restore_of(bytes: &[u8]) -> Result<(Shape<'_>, &[u8]), ReadFault>
-    ensures { Gives (λ x. (op_of x.0, x.1.now)) result (target_at RestoreOp bytes.now) }
-{
-    let (source, rest) = u32_of(bytes)?;
-    let (seq, rest) = u32_of(rest)?;
-    Ok((Shape::Restore { source, seq }, rest))
+    Ok((Parts::Aimed(change, Target { source, seq }), rest))
 }
 
 /// The fields of the operation of this number, if the version has it.
 #[inline(always)]
 #[tactic(auto, unfolding(crate::specs::Reading::fields_at))]
-fn fields_of(version: Version, number: u8, bytes: &[u8]) -> Result<(Shape<'_>, &[u8]), ReadFault>
-    ensures { Gives (λ x. (op_of x.0, x.1.now)) result (fields_at version number bytes.now) }
+fn fields_of(version: Version, number: u8, bytes: &[u8]) -> Result<(Parts<'_>, &[u8]), ReadFault>
+    ensures { Gives (λ x. (op_of_parts x.0, x.1.now)) result (fields_at version number bytes.now) }
 {
     match (version, number) {
-        (Version::One, 1) => line_of(bytes),
-        (Version::One, 2) => frame_of(bytes),
+        (Version::One, 1) => stroke_of(Figure::Line, bytes),
+        (Version::One, 2) => stroke_of(Figure::Frame, bytes),
         (_, 3) => text_of(bytes),
-        (Version::One, 4) => delete_of(bytes),
-        (Version::Two, 5) => restore_of(bytes),
+        (Version::One, 4) => target_of(Change::Delete, bytes),
+        (Version::Two, 5) => target_of(Change::Restore, bytes),
         _ => Err(ReadFault::OpKind),
     }
 }
 
 #[inline(always)]
 #[tactic(auto, unfolding(crate::specs::Reading::op_at))]
-fn shape_of(version: Version, bytes: &[u8]) -> Result<(Shape<'_>, &[u8]), ReadFault>
-    ensures { Gives (λ x. (op_of x.0, x.1.now)) result (op_at version bytes.now) }
+fn parts_of(version: Version, bytes: &[u8]) -> Result<(Parts<'_>, &[u8]), ReadFault>
+    ensures { Gives (λ x. (op_of_parts x.0, x.1.now)) result (op_at version bytes.now) }
 {
     let (number, rest) = u8_of(bytes)?;
     fields_of(version, number, rest)
@@ -115,10 +86,10 @@ fn shape_of(version: Version, bytes: &[u8]) -> Result<(Shape<'_>, &[u8]), ReadFa
 
 /// Whether the version says texts of this length. Other operations have no length.
 #[inline(always)]
-fn is_length_said(version: Version, shape: &Shape<'_>) -> bool
-    ensures { result ≡ is_length_told version (op_of shape.now) }
+fn is_length_said(version: Version, parts: &Parts<'_>) -> bool
+    ensures { result ≡ is_length_told version (op_of_parts parts.now) }
 {
-    let Shape::Text { bytes, .. } = *shape else {
+    let Parts::Text { bytes, .. } = *parts else {
         return true;
     };
     match version {
@@ -145,13 +116,13 @@ fn drawop_from(
     version: Version,
     fields: NameFields,
     time: u64,
-    shape: Shape<'_>,
+    parts: Parts<'_>,
 ) -> Result<Drawop, ReadFault>
-    ensures { result ≡ drawop_told version (record { source = fields.source; page = fields.page; seq = fields.seq }) time (op_of shape.entry) }
+    ensures { result ≡ drawop_told version (record { source = fields.source; page = fields.page; seq = fields.seq }) time (op_of_parts parts.entry) }
 {
     let name = Name::new(fields.source, fields.page, fields.seq)?;
-    let made = Drawop::new(name, time, shape);
-    if !is_length_said(version, &shape) {
+    let made = Drawop::of_parts(name, time, parts);
+    if !is_length_said(version, &parts) {
         return Err(ReadFault::Field(length_fault(&made)));
     }
     let drawop = made?;
@@ -166,9 +137,9 @@ pub(crate) fn drawop_of(version: Version, bytes: &[u8]) -> Result<Drawop, ReadFa
 {
     let (fields, rest) = name_of(bytes)?;
     let (time, rest) = u64_of(rest)?;
-    let (shape, rest) = shape_of(version, rest)?;
+    let (parts, rest) = parts_of(version, rest)?;
     if !rest.is_empty() {
         return Err(ReadFault::Length);
     }
-    drawop_from(version, fields, time, shape)
+    drawop_from(version, fields, time, parts)
 }

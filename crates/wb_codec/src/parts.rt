@@ -1,11 +1,15 @@
+//! The bytes of what has as many in each datagram.
+
 ghost use Rattle.std.specs.Prelude.{◌≡◌, [], ◌∷◌, ◌++◌};
 ghost use Rattle.std.specs.List.{flat_map};
 ghost use Rattle.std.specs.Int.{w16, w32, w64, to_be_bytes};
+ghost use Rattle.wb_codec.specs.Spelling;
 ghost use Rattle.wb_codec.specs.Spelling.{page_bytes, name_bytes, stroke_bytes, target_bytes, mark_bytes, echo_bytes};
 
-use wb_names::{Drawop, Echo, Mark, Name, PageId};
+use crate::version::{change_code, figure_code};
+use wb_names::{Change, Drawop, Echo, Figure, Mark, Name, PageId, Stroke, Target};
 
-// The bytes of what has as many in each datagram. Each is added to a datagram as a whole, so that the
+// Each of these is added to a datagram as a whole, so that the
 // room for it is looked at once, and not at each field.
 
 /// What stands in front of a body of so many bytes.
@@ -41,26 +45,27 @@ pub(crate) fn drawop_front(drawop: &Drawop) -> [[u8; 8]; 3]
     ]
 }
 
-/// The operation of this number, whose fields are two points and a glyph.
+/// What is drawn between two ends.
 #[inline(always)]
-pub(crate) fn stroke_part(number: u8, x0: u16, y0: u16, x1: u16, y1: u16, glyph: u8) -> [u8; 10]
-    ensures { result ≡ number ∷ stroke_bytes x0 y0 x1 y1 glyph }
+pub(crate) fn stroke_part(figure: Figure, stroke: Stroke) -> [u8; 10]
+    ensures { result ≡ Spelling.figure_code figure ∷ stroke_bytes stroke }
 {
-    let [a0, a1] = x0.to_be_bytes();
-    let [b0, b1] = y0.to_be_bytes();
-    let [c0, c1] = x1.to_be_bytes();
-    let [d0, d1] = y1.to_be_bytes();
-    [number, a0, a1, b0, b1, c0, c1, d0, d1, glyph]
+    let [a0, a1] = stroke.x0.to_be_bytes();
+    let [b0, b1] = stroke.y0.to_be_bytes();
+    let [c0, c1] = stroke.x1.to_be_bytes();
+    let [d0, d1] = stroke.y1.to_be_bytes();
+    let number = figure_code(figure);
+    [number, a0, a1, b0, b1, c0, c1, d0, d1, stroke.glyph]
 }
 
-/// The operation of this number, whose fields are a source and a sequence number.
+/// A change of a target.
 #[inline(always)]
-pub(crate) fn target_part(number: u8, source: u32, seq: u32) -> [u8; 9]
-    ensures { result ≡ number ∷ target_bytes source seq }
+pub(crate) fn target_part(change: Change, target: Target) -> [u8; 9]
+    ensures { result ≡ Spelling.change_code change ∷ target_bytes target }
 {
-    let [s0, s1, s2, s3] = source.to_be_bytes();
-    let [q0, q1, q2, q3] = seq.to_be_bytes();
-    [number, s0, s1, s2, s3, q0, q1, q2, q3]
+    let [s0, s1, s2, s3] = target.source.to_be_bytes();
+    let [q0, q1, q2, q3] = target.seq.to_be_bytes();
+    [change_code(change), s0, s1, s2, s3, q0, q1, q2, q3]
 }
 
 /// A text's number, its point and how many bytes it has.

@@ -1,15 +1,18 @@
+//! Drawops as rows of words.
+
 ghost use Rattle.std.specs.Prelude.{◌≡◌, ◌<◌, ◌≤◌, ◌*◌, ◌^◌, ◌/◌, ◌%◌, ◌∷◌, length, option_map, IfSome, drop, replicate};
 ghost use Rattle.std.specs.List.{flat_map};
 ghost use Rattle.std.specs.Int.{w64, to_be_bytes};
 ghost use Rattle.wb_names.specs.Values.{DrawopValue};
 ghost use Rattle.wb_names.specs.Drawing.{IsLawful};
-ghost use Rattle.wb_names.specs.Shapes.{op_of, TextFits};
+ghost use Rattle.wb_names.specs.Shapes.{op_of_parts, TextFits};
 ghost use Rattle.wb_names.specs.TextFields.{padded as padded_text};
 ghost use Rattle.wb_codec.specs.Ranges.{IsDrawop, HasTarget};
 ghost use Rattle.wb_codec.specs.Rows.{row, row_words, pair_word, op_word as op_word_of, op_words as op_words_of, text_word as text_word_of, text_words};
 ghost use Rattle.wb_codec.specs.RowReading.{high_half, low_half, op_in};
 
-use wb_names::{Drawop, Name, Op, PageId, Shape};
+use crate::version::{change_code, figure_code};
+use wb_names::{Change, Drawop, Figure, Name, Op, PageId, Parts, Stroke, Target};
 
 /// How many words the record of a drawop has.
 pub const ROW_WORDS: usize = 12;
@@ -98,29 +101,17 @@ fn op_words(drawop: &Drawop) -> [u64; 9]
     ensures target { HasTarget drawop.now.op }
 {
     match drawop.op() {
-        Op::Line {
-            x0,
-            y0,
-            x1,
-            y1,
-            glyph,
-        } => short_words(op_word(1, *glyph, *x0, *y0, *x1, *y1), 0),
-        Op::Frame {
-            x0,
-            y0,
-            x1,
-            y1,
-            glyph,
-        } => short_words(op_word(2, *glyph, *x0, *y0, *x1, *y1), 0),
+        Op::Drawn(figure, s) => {
+            let kind = figure_code(*figure);
+            short_words(op_word(kind, s.glyph, s.x0, s.y0, s.x1, s.y1), 0)
+        }
         Op::Text { x, y, text } => {
             let text = text.as_slice();
             long_words(op_word(3, text.len() as u8, *x, *y, 0, 0), text)
         }
-        Op::Delete { source, seq } => {
-            short_words(op_word(4, 0, 0, 0, 0, 0), pair(*source, *seq))
-        }
-        Op::Restore { source, seq } => {
-            short_words(op_word(5, 0, 0, 0, 0, 0), pair(*source, *seq))
+        Op::Aimed(change, target) => {
+            let word = op_word(change_code(*change), 0, 0, 0, 0, 0);
+            short_words(word, pair(target.source, target.seq))
         }
     }
 }
@@ -163,41 +154,32 @@ fn text_bytes(words: &[u64]) -> [u8; 64]
     bytes
 }
 
-/// The shape that these words tell, its fields not yet checked.
+/// The parts of the operation that these words tell, not yet checked.
 #[inline(always)]
 #[tactic(auto, unfolding(crate::specs::RowReading::op_in))]
-fn shape_in<'a>(word: u64, target: u64, bytes: &'a [u8; 64]) -> Option<Shape<'a>>
-    ensures { option_map op_of result ≡ op_in word target bytes.now }
+fn parts_in<'a>(word: u64, target: u64, bytes: &'a [u8; 64]) -> Option<Parts<'a>>
+    ensures { option_map op_of_parts result ≡ op_in word target bytes.now }
 {
     let kind = word >> 56;
-    let byte = ((word >> 48) % (1 << 8)) as u8;
-    let x0 = ((word >> 36) % (1 << 12)) as u16;
-    let y0 = ((word >> 24) % (1 << 12)) as u16;
-    let x1 = ((word >> 12) % (1 << 12)) as u16;
-    let y1 = (word % (1 << 12)) as u16;
+    let stroke = Stroke {
+        x0: ((word >> 36) % (1 << 12)) as u16,
+        y0: ((word >> 24) % (1 << 12)) as u16,
+        x1: ((word >> 12) % (1 << 12)) as u16,
+        y1: (word % (1 << 12)) as u16,
+        glyph: ((word >> 48) % (1 << 8)) as u8,
+    };
     let (source, seq) = halves(target);
+    let target = Target { source, seq };
     match kind {
-        1 => Some(Shape::Line {
-            x0,
-            y0,
-            x1,
-            y1,
-            glyph: byte,
+        1 => Some(Parts::Drawn(Figure::Line, stroke)),
+        2 => Some(Parts::Drawn(Figure::Frame, stroke)),
+        3 if stroke.glyph <= 64 => Some(Parts::Text {
+            x: stroke.x0,
+            y: stroke.y0,
+            bytes: &bytes[..stroke.glyph as usize],
         }),
-        2 => Some(Shape::Frame {
-            x0,
-            y0,
-            x1,
-            y1,
-            glyph: byte,
-        }),
-        3 if byte <= 64 => Some(Shape::Text {
-            x: x0,
-            y: y0,
-            bytes: &bytes[..byte as usize],
-        }),
-        4 => Some(Shape::Delete { source, seq }),
-        5 => Some(Shape::Restore { source, seq }),
+        4 => Some(Parts::Aimed(Change::Delete, target)),
+        5 => Some(Parts::Aimed(Change::Restore, target)),
         _ => None,
     }
 }
@@ -211,8 +193,8 @@ fn drawop_in(words: &[u64; 12]) -> Option<Drawop>
     let (creator, number) = halves(words[1]);
     let name = Name::new(source, PageId { creator, number }, seq).ok()?;
     let bytes = text_bytes(&words[4..]);
-    let shape = shape_in(words[3], words[4], &bytes)?;
-    Drawop::new(name, words[2], shape).ok()
+    let parts = parts_in(words[3], words[4], &bytes)?;
+    Drawop::of_parts(name, words[2], parts).ok()
 }
 
 /// The drawop whose record these words are, and none where they are no drawop's record.

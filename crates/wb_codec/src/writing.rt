@@ -1,3 +1,5 @@
+//! Datagrams to bytes.
+
 ghost use Rattle.std.specs.Prelude.{◌≡◌, ◌<◌, ◌≤◌, ◌^◌, ◌∷◌, ◌++◌, length, IfOk, OnOk};
 ghost use Rattle.wb_names.specs.Drawing.{text_of};
 ghost use Rattle.wb_codec.specs.declared.datagram.Datagram.{Datagram as DatagramValue};
@@ -8,7 +10,7 @@ use crate::parts::{
     drawop_front, echo_part, header, mark_part, page_state_front, request_part, session_front,
     stroke_part, target_part, text_front,
 };
-use crate::version::Version;
+use crate::version::{Version, change_version, figure_version};
 use std::alloc::{AllocError, Global};
 use wb_names::{Drawop, Echo, Echoes, Marks, Name, Op, PageId};
 
@@ -30,23 +32,9 @@ fn put_op(out: &mut Vec<u8>, op: &Op) -> Result<(), AllocError>
     ensures { OnOk result (out.new.items ≡ out.old.items ++ op_bytes op.now) }
 {
     match op {
-        Op::Line {
-            x0,
-            y0,
-            x1,
-            y1,
-            glyph,
-        } => out.extend_from_slice(&stroke_part(1, *x0, *y0, *x1, *y1, *glyph)),
-        Op::Frame {
-            x0,
-            y0,
-            x1,
-            y1,
-            glyph,
-        } => out.extend_from_slice(&stroke_part(2, *x0, *y0, *x1, *y1, *glyph)),
+        Op::Drawn(figure, stroke) => out.extend_from_slice(&stroke_part(*figure, *stroke)),
         Op::Text { x, y, text } => put_text(out, *x, *y, text.as_slice()),
-        Op::Delete { source, seq } => out.extend_from_slice(&target_part(4, *source, *seq)),
-        Op::Restore { source, seq } => out.extend_from_slice(&target_part(5, *source, *seq)),
+        Op::Aimed(change, target) => out.extend_from_slice(&target_part(*change, *target)),
     }
 }
 
@@ -156,9 +144,9 @@ fn op_len(op: &Op) -> usize
     ensures short { result < 256 }
 {
     match op {
-        Op::Line { .. } | Op::Frame { .. } => 10,
+        Op::Drawn(..) => 10,
         Op::Text { text, .. } => 6 + text.as_slice().len(),
-        Op::Delete { .. } | Op::Restore { .. } => 9,
+        Op::Aimed(..) => 9,
     }
 }
 
@@ -186,7 +174,7 @@ fn version_of(op: &Op) -> Version
     ensures { result ≡ op_version op.now }
 {
     match op {
-        Op::Line { .. } | Op::Frame { .. } | Op::Delete { .. } => Version::One,
+        Op::Drawn(figure, _) => figure_version(*figure),
         Op::Text { text, .. } => {
             if text.as_slice().len() <= 40 {
                 Version::One
@@ -194,7 +182,7 @@ fn version_of(op: &Op) -> Version
                 Version::Two
             }
         }
-        Op::Restore { .. } => Version::Two,
+        Op::Aimed(change, _) => change_version(*change),
     }
 }
 

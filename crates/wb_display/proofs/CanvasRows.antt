@@ -9,7 +9,7 @@ use Rattle.std.proofs.lemmas.Bool.{cases_lt}
 use Rattle.std.proofs.lemmas.Bool.Decides.{nat_tests}
 use Rattle.std.proofs.lemmas.Nat.{div_below, mod_below, div-add-mod', mul-add-lt, same_from_place}
 use Rattle.wb_names.specs.Values.{DrawopValue}
-use Rattle.wb_names.specs.declared.drawop.Op.{Op}
+use Rattle.wb_names.specs.declared.parts.Op.{Op}
 use Rattle.wb_display.specs.Canvas.{covers, glyph_of, glyph_at, row_text, canvas_text}
 use Rattle.wb_display.specs.Cells.{place, Overlays, Shows}
 

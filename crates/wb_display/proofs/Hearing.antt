@@ -10,8 +10,8 @@ use Rattle.std.proofs.lemmas.List.Elements.{Contains-append_left, Contains-push,
 use Rattle.wb_names.specs.Values.{DrawopValue}
 use Rattle.wb_names.specs.Orders.{same_page}
 use Rattle.wb_names.specs.declared.name.PageId.{PageId}
-use Rattle.wb_names.specs.declared.drawop.Op.{Op}
-use Rattle.wb_names.specs.declared.drawop.Op.TheVariants.{Line, Frame, Text, Delete, Restore}
+use Rattle.wb_names.specs.declared.parts.Op.{Op}
+use Rattle.wb_names.specs.declared.parts.Op.TheVariants.{Line, Frame, Text, Delete, Restore}
 use Rattle.wb_names.proofs.Orders.{and_both}
 use Rattle.wb_display.specs.Display.{has_target}
 use Rattle.wb_display.specs.LastWord.{same_label, target_label, word_cmp, word_of, later_word, speaks_of, IsLastWord}

@@ -3,7 +3,7 @@ use Rattle.std.proofs.Common.{◌≡◌, ℕ, zero, suc, ◌<◌, List, [], ◌�
 use mathlib.Core.List.{IsPrefix}
 use Rattle.wb_names.specs.Values.{DrawopValue}
 use Rattle.wb_names.specs.History.{IsHistory, HoldsName}
-use Rattle.wb_names.specs.declared.drawop.Op.TheVariants.{Delete}
+use Rattle.wb_names.specs.declared.parts.Op.TheVariants.{Delete}
 
 -- some drawop, which stands for what is at no place
 abbrev pub nothing : DrawopValue

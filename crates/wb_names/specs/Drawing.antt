@@ -5,8 +5,10 @@ use Rattle.wb_names.specs.Values.{NameValue}
 use Rattle.wb_names.specs.Faults.{first_of, fault_unless}
 use Rattle.wb_names.specs.declared.fault.FieldFault.{FieldFault}
 use Rattle.wb_names.specs.declared.fault.FieldFault.TheVariants.{SeqZero, Coordinate, Glyph, TextLength, TextByte, TargetZero, TargetSelf}
-use Rattle.wb_names.specs.declared.drawop.Op.{Op}
-use Rattle.wb_names.specs.declared.drawop.Op.TheVariants.{Line, Frame, Text, Delete, Restore}
+use Rattle.wb_names.specs.declared.parts.Stroke.{Stroke}
+use Rattle.wb_names.specs.declared.parts.Target.{Target}
+use Rattle.wb_names.specs.declared.parts.Op.{Op}
+use Rattle.wb_names.specs.declared.parts.Op.TheVariants.{Drawn, Text, Aimed}
 
 -- sequence numbers begin at 1
 abbrev pub seq_fault : ℕ → Option FieldFault
@@ -28,10 +30,10 @@ abbrev pub is_text_length : ℕ → Bool
 is_text_length n = nat_le 1 n && nat_le n 64
 
 -- of two corners or ends, and the glyph that is drawn
-abbrev pub stroke_fault : ℕ → ℕ → ℕ → ℕ → ℕ → Option FieldFault
-stroke_fault x0 y0 x1 y1 glyph = first_of (
-    fault_unless (is_coordinate x0 && is_coordinate y0 && is_coordinate x1 && is_coordinate y1) Coordinate
-    ∷ fault_unless (is_glyph glyph) Glyph
+abbrev pub stroke_fault : Stroke → Option FieldFault
+stroke_fault s = first_of (
+    fault_unless (is_coordinate s.x0 && is_coordinate s.y0 && is_coordinate s.x1 && is_coordinate s.y1) Coordinate
+    ∷ fault_unless (is_glyph s.glyph) Glyph
     ∷ [])
 
 abbrev pub text_fault : ℕ → ℕ → List ℕ → Option FieldFault
@@ -42,19 +44,17 @@ text_fault x y bytes = first_of (
     ∷ [])
 
 -- of the source and number that a delete or a restore of this name is aimed at
-abbrev pub target_fault : NameValue → ℕ → ℕ → Option FieldFault
-target_fault name source seq = first_of (
-    fault_unless (nat_le 1 seq) TargetZero
-    ∷ fault_unless (not (nat_eq source name.source && nat_eq seq name.seq)) TargetSelf
+abbrev pub target_fault : NameValue → Target → Option FieldFault
+target_fault name t = first_of (
+    fault_unless (nat_le 1 t.seq) TargetZero
+    ∷ fault_unless (not (nat_eq t.source name.source && nat_eq t.seq name.seq)) TargetSelf
     ∷ [])
 
 -- the first fault of an operation under a name
 abbrev pub op_fault : NameValue → Op → Option FieldFault
-op_fault name (Line x0 y0 x1 y1 glyph) = stroke_fault x0 y0 x1 y1 glyph
-op_fault name (Frame x0 y0 x1 y1 glyph) = stroke_fault x0 y0 x1 y1 glyph
+op_fault name (Drawn figure s) = stroke_fault s
 op_fault name (Text x y text) = text_fault x y text
-op_fault name (Delete source seq) = target_fault name source seq
-op_fault name (Restore source seq) = target_fault name source seq
+op_fault name (Aimed change t) = target_fault name t
 
 -- a drawop of this name may carry this operation
 abbrev pub IsLawful : NameValue → Op → Type 0
@@ -62,8 +62,6 @@ IsLawful name op = op_fault name op ≡ None
 
 -- the bytes that an operation writes: none, where it is no text
 abbrev pub text_of : Op → List ℕ
-text_of (Line x0 y0 x1 y1 glyph) = []
-text_of (Frame x0 y0 x1 y1 glyph) = []
+text_of (Drawn figure s) = []
 text_of (Text x y text) = text
-text_of (Delete source seq) = []
-text_of (Restore source seq) = []
+text_of (Aimed change t) = []

@@ -8,15 +8,35 @@ use Rattle.std.proofs.lemmas.Bool.Decides.{nat_tests}
 use Rattle.wb_names.specs.Values.{DrawopValue}
 use Rattle.wb_names.specs.Orders.{same_name, same_page}
 use Rattle.wb_names.specs.declared.name.PageId.{PageId}
-use Rattle.wb_names.specs.declared.drawop.Op.{Op}
-use Rattle.wb_names.specs.declared.drawop.Op.TheVariants.{Line, Frame, Text, Delete, Restore}
+use Rattle.wb_names.specs.declared.parts.Figure.{Figure}
+use Rattle.wb_names.specs.declared.parts.Figure.TheVariants.{Line, Frame}
+use Rattle.wb_names.specs.declared.parts.Stroke.{Stroke}
+use Rattle.wb_names.specs.declared.parts.Change.{Change}
+use Rattle.wb_names.specs.declared.parts.Change.TheVariants.{Delete, Restore}
+use Rattle.wb_names.specs.declared.parts.Target.{Target}
+use Rattle.wb_names.specs.declared.parts.Op.{Op}
+use Rattle.wb_names.specs.declared.parts.Op.TheVariants.{Drawn, Text, Aimed}
+
+abbrev pub same_figure : Figure → Figure → Bool
+same_figure Line Line = true
+same_figure Frame Frame = true
+same_figure figure other = false
+
+abbrev pub same_stroke : Stroke → Stroke → Bool
+same_stroke s t = nat_eq s.x0 t.x0 && nat_eq s.y0 t.y0 && nat_eq s.x1 t.x1 && nat_eq s.y1 t.y1 && nat_eq s.glyph t.glyph
+
+abbrev pub same_change : Change → Change → Bool
+same_change Delete Delete = true
+same_change Restore Restore = true
+same_change change other = false
+
+abbrev pub same_target : Target → Target → Bool
+same_target t u = nat_eq t.source u.source && nat_eq t.seq u.seq
 
 abbrev pub same_op : Op → Op → Bool
-same_op (Line x0 y0 x1 y1 glyph) (Line a0 b0 a1 b1 g) = nat_eq x0 a0 && nat_eq y0 b0 && nat_eq x1 a1 && nat_eq y1 b1 && nat_eq glyph g
-same_op (Frame x0 y0 x1 y1 glyph) (Frame a0 b0 a1 b1 g) = nat_eq x0 a0 && nat_eq y0 b0 && nat_eq x1 a1 && nat_eq y1 b1 && nat_eq glyph g
+same_op (Drawn figure s) (Drawn f t) = same_figure figure f && same_stroke s t
 same_op (Text x y text) (Text a b bytes) = nat_eq x a && nat_eq y b && pointwise nat_eq text bytes
-same_op (Delete source seq) (Delete s n) = nat_eq source s && nat_eq seq n
-same_op (Restore source seq) (Restore s n) = nat_eq source s && nat_eq seq n
+same_op (Aimed change t) (Aimed c u) = same_change change c && same_target t u
 same_op op other = false
 
 abbrev pub same_drawop : DrawopValue → DrawopValue → Bool
@@ -26,27 +46,47 @@ both : (a b : Bool) → (a && b) ≡ true → (a ≡ true) × (b ≡ true)
 both true b e = (refl, e)
 both false b e = cc
 
-one_stroke : (x0 y0 x1 y1 g a0 b0 a1 b1 h : ℕ) → (nat_eq x0 a0 && nat_eq y0 b0 && nat_eq x1 a1 && nat_eq y1 b1 && nat_eq g h) ≡ true → (x0 ≡ a0) × (y0 ≡ b0) × (x1 ≡ a1) × (y1 ≡ b1) × (g ≡ h)
-one_stroke x0 y0 x1 y1 g a0 b0 a1 b1 h e =
-    let p = both _ (nat_eq g h) e in
-    let q = both _ (nat_eq y1 b1) p.0 in
-    let r = both _ (nat_eq x1 a1) q.0 in
-    let s = both _ (nat_eq y0 b0) r.0 in
-    (eqb-true x0 a0 s.0, eqb-true y0 b0 s.1, eqb-true x1 a1 r.1, eqb-true y1 b1 q.1, eqb-true g h p.1)
+same_figure-is : (f g : Figure) → same_figure f g ≡ true → f ≡ g
+same_figure-is Line Line e = refl
+same_figure-is Frame Frame e = refl
+same_figure-is f g e = cc
+
+same_stroke-is : (s t : Stroke) → same_stroke s t ≡ true → s ≡ t
+same_stroke-is s t e =
+    let p = both _ (nat_eq s.glyph t.glyph) e in
+    let q = both _ (nat_eq s.y1 t.y1) p.0 in
+    let r = both _ (nat_eq s.x1 t.x1) q.0 in
+    let o = both _ (nat_eq s.y0 t.y0) r.0 in
+    one _ _ _ _ _ _ _ _ _ _ (eqb-true _ _ o.0) (eqb-true _ _ o.1) (eqb-true _ _ r.1) (eqb-true _ _ q.1) (eqb-true _ _ p.1) where
+      one : (x0 y0 x1 y1 g a0 b0 a1 b1 h : ℕ) → x0 ≡ a0 → y0 ≡ b0 → x1 ≡ a1 → y1 ≡ b1 → g ≡ h → let v : Stroke = record { x0 = x0; y0 = y0; x1 = x1; y1 = y1; glyph = g } in let w : Stroke = record { x0 = a0; y0 = b0; x1 = a1; y1 = b1; glyph = h } in v ≡ w
+      one x0 y0 x1 y1 g a0 b0 a1 b1 h i j k l m = cc
+
+same_change-is : (c d : Change) → same_change c d ≡ true → c ≡ d
+same_change-is Delete Delete e = refl
+same_change-is Restore Restore e = refl
+same_change-is c d e = cc
+
+same_target-is : (t u : Target) → same_target t u ≡ true → t ≡ u
+same_target-is t u e = let p = both (nat_eq t.source u.source) _ e in one _ _ _ _ (eqb-true _ _ p.0) (eqb-true _ _ p.1) where
+  one : (s n a b : ℕ) → s ≡ a → n ≡ b → let v : Target = record { source = s; seq = n } in let w : Target = record { source = a; seq = b } in v ≡ w
+  one s n a b e f = cc
 
 -- the same operation passes the test
 same_op-here : (a : Op) → same_op a a ≡ true
-same_op-here (Line x0 y0 x1 y1 glyph) = grind (arith, nat_tests)
-same_op-here (Frame x0 y0 x1 y1 glyph) = grind (arith, nat_tests)
+same_op-here (Drawn Line s) = grind (arith, nat_tests)
+same_op-here (Drawn Frame s) = grind (arith, nat_tests)
 same_op-here (Text x y text) = simp (same_bytes text) (grind (arith, nat_tests)) where
   same_bytes : (bytes : List ℕ) → pointwise nat_eq bytes bytes ≡ true
   same_bytes bytes = (bytes_decides bytes bytes).1 refl
-same_op-here (Delete source seq) = grind (arith, nat_tests)
-same_op-here (Restore source seq) = grind (arith, nat_tests)
+same_op-here (Aimed Delete t) = grind (arith, nat_tests)
+same_op-here (Aimed Restore t) = grind (arith, nat_tests)
 
 same_op-is : (a b : Op) → same_op a b ≡ true → a ≡ b
-same_op-is (Line x0 y0 x1 y1 glyph) (Line a0 b0 a1 b1 g) e = let f = one_stroke x0 y0 x1 y1 glyph a0 b0 a1 b1 g e in cc
-same_op-is (Frame x0 y0 x1 y1 glyph) (Frame a0 b0 a1 b1 g) e = let f = one_stroke x0 y0 x1 y1 glyph a0 b0 a1 b1 g e in cc
+same_op-is (Drawn figure s) (Drawn f t) e =
+    let p = both (same_figure figure f) _ e in
+    let h : figure ≡ f = same_figure-is figure f p.0 in
+    let k : s ≡ t = same_stroke-is s t p.1 in
+    cc
 same_op-is (Text x y text) (Text a b bytes) e =
     let p = both (nat_eq x a && nat_eq y b) _ e in
     let q = both (nat_eq x a) _ p.0 in
@@ -54,8 +94,11 @@ same_op-is (Text x y text) (Text a b bytes) e =
     let k : y ≡ b = eqb-true y b q.1 in
     let l : text ≡ bytes = (bytes_decides text bytes).0 p.1 in
     cc
-same_op-is (Delete source seq) (Delete s n) e = let p = both (nat_eq source s) _ e in let h : source ≡ s = eqb-true source s p.0 in let k : seq ≡ n = eqb-true seq n p.1 in cc
-same_op-is (Restore source seq) (Restore s n) e = let p = both (nat_eq source s) _ e in let h : source ≡ s = eqb-true source s p.0 in let k : seq ≡ n = eqb-true seq n p.1 in cc
+same_op-is (Aimed change t) (Aimed c u) e =
+    let p = both (same_change change c) _ e in
+    let h : change ≡ c = same_change-is change c p.0 in
+    let k : t ≡ u = same_target-is t u p.1 in
+    cc
 same_op-is a b e = cc
 
 -- the test tells whether they are equal

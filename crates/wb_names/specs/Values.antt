@@ -1,7 +1,7 @@
 -- Names, drawops and marks, as contracts see them.
 use Rattle.std.specs.Prelude.{ℕ}
 use Rattle.wb_names.specs.declared.name.PageId.{PageId}
-use Rattle.wb_names.specs.declared.drawop.Op.{Op}
+use Rattle.wb_names.specs.declared.parts.Op.{Op}
 
 -- the name of a drawop
 pub record NameValue : Type 0 where

@@ -1,48 +1,11 @@
+//! Drawops: each has a name, a time and an operation.
+
 ghost use Rattle.std.specs.Prelude.{◌≡◌};
 ghost use Rattle.wb_names.specs.Drawing.{IsLawful, text_of};
 
 use crate::name::Name;
-use crate::text::Text;
+use crate::parts::Op;
 use std::marker::Model;
-
-/// What a drawop does. Coordinates are cells from 0 to 4095, x to the right and y down; a glyph is
-/// a visible character of ASCII. A target is a source and a sequence number on the drawop's own
-/// page.
-#[derive(Clone, Copy, Debug)]
-pub enum Op {
-    /// A line between two points, both of them drawn.
-    Line {
-        x0: u16,
-        y0: u16,
-        x1: u16,
-        y1: u16,
-        glyph: u8,
-    },
-    /// The four sides of the rectangle with two opposite corners.
-    Frame {
-        x0: u16,
-        y0: u16,
-        x1: u16,
-        y1: u16,
-        glyph: u8,
-    },
-    /// A row of 1 to 64 characters that begins at a point.
-    Text {
-        x: u16,
-        y: u16,
-        text: Text,
-    },
-    /// Hides the drawop that it names, unless a later restore of it is held.
-    Delete {
-        source: u32,
-        seq: u32,
-    },
-    /// Shows the drawop that it names again, unless a later delete of it is held.
-    Restore {
-        source: u32,
-        seq: u32,
-    },
-}
 
 impl Op {
     /// The bytes of a text, and none where the operation is no text.

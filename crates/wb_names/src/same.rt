@@ -1,8 +1,11 @@
+//! When two operations, and two drawops, are the same.
+
 ghost use Rattle.std.specs.Prelude.{◌≡◌, ◌↔◌, IsTrue};
 ghost use Rattle.wb_names.specs.Same.{same_op, same_drawop, same_op_laws, same_drawop_laws};
 ghost use Rattle.std.specs.Cmp.{partial_equiv_from_equiv};
 
-use crate::drawop::{Drawop, Op};
+use crate::drawop::Drawop;
+use crate::parts::Op;
 
 /// Two operations are the same where they are of one kind and all fields are equal.
 impl PartialEq for Op {
@@ -15,55 +18,18 @@ impl PartialEq for Op {
         ensures value { result ≡ same_op self.now other.now }
         ensures same { IsTrue result ↔ (self.now ≡ other.now) }
     {
-        match self {
-            Op::Line {
-                x0,
-                y0,
-                x1,
-                y1,
-                glyph,
-            } => match other {
-                Op::Line {
-                    x0: a0,
-                    y0: b0,
-                    x1: a1,
-                    y1: b1,
-                    glyph: g,
-                } => x0 == a0 && y0 == b0 && x1 == a1 && y1 == b1 && glyph == g,
-                _ => false,
-            },
-            Op::Frame {
-                x0,
-                y0,
-                x1,
-                y1,
-                glyph,
-            } => match other {
-                Op::Frame {
-                    x0: a0,
-                    y0: b0,
-                    x1: a1,
-                    y1: b1,
-                    glyph: g,
-                } => x0 == a0 && y0 == b0 && x1 == a1 && y1 == b1 && glyph == g,
-                _ => false,
-            },
-            Op::Text { x, y, text } => match other {
+        match (self, other) {
+            (Op::Drawn(figure, stroke), Op::Drawn(f, s)) => figure == f && stroke == s,
+            (
+                Op::Text { x, y, text },
                 Op::Text {
                     x: a,
                     y: b,
                     text: bytes,
-                } => x == a && y == b && text.as_slice() == bytes.as_slice(),
-                _ => false,
-            },
-            Op::Delete { source, seq } => match other {
-                Op::Delete { source: s, seq: n } => source == s && seq == n,
-                _ => false,
-            },
-            Op::Restore { source, seq } => match other {
-                Op::Restore { source: s, seq: n } => source == s && seq == n,
-                _ => false,
-            },
+                },
+            ) => x == a && y == b && text.as_slice() == bytes.as_slice(),
+            (Op::Aimed(change, target), Op::Aimed(c, t)) => change == c && target == t,
+            _ => false,
         }
     }
 }

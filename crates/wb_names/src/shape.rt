@@ -1,12 +1,15 @@
+//! Operations as callers hand them in, and their checks.
+
 ghost use Rattle.std.specs.Prelude.{◌≡◌, None, Some, OnOk, nat_le};
 ghost use Rattle.std.specs.List.{list_all};
 ghost use Rattle.wb_names.specs.Faults.{value_unless};
 ghost use Rattle.wb_names.specs.Drawing.{IsLawful, op_fault, stroke_fault, text_fault, target_fault, is_coordinate as is_coordinate_number, is_glyph as is_glyph_code, is_printable as is_printable_code};
-ghost use Rattle.wb_names.specs.Shapes.{op_of, TextFits};
+ghost use Rattle.wb_names.specs.Shapes.{op_of, op_of_parts, TextFits};
 
-use crate::drawop::{Drawop, Op};
+use crate::drawop::Drawop;
 use crate::fault::FieldFault;
 use crate::name::Name;
+use crate::parts::{Change, Figure, Op, Parts, Stroke, Target};
 use crate::text::Text;
 
 /// An operation as a caller hands it in, its fields not yet checked. Coordinates are cells, x to the
@@ -58,9 +61,16 @@ fn is_coordinate(number: u16) -> bool
 }
 
 #[inline(always)]
-fn check_stroke(x0: u16, y0: u16, x1: u16, y1: u16, glyph: u8) -> Option<FieldFault>
-    ensures { result ≡ stroke_fault x0 y0 x1 y1 glyph }
+fn check_stroke(stroke: Stroke) -> Option<FieldFault>
+    ensures { result ≡ stroke_fault stroke }
 {
+    let Stroke {
+        x0,
+        y0,
+        x1,
+        y1,
+        glyph,
+    } = stroke;
     if !(is_coordinate(x0) && is_coordinate(y0) && is_coordinate(x1) && is_coordinate(y1)) {
         return Some(FieldFault::Coordinate);
     }
@@ -94,84 +104,90 @@ fn check_text(x: u16, y: u16, bytes: &[u8]) -> Option<FieldFault>
 }
 
 #[inline(always)]
-fn check_target(name: Name, source: u32, seq: u32) -> Option<FieldFault>
-    ensures { result ≡ target_fault name source seq }
+fn check_target(name: Name, target: Target) -> Option<FieldFault>
+    ensures { result ≡ target_fault name target }
 {
-    if seq == 0 {
+    if target.seq == 0 {
         return Some(FieldFault::TargetZero);
     }
-    if source == name.source() && seq == name.seq() {
+    if target.source == name.source() && target.seq == name.seq() {
         return Some(FieldFault::TargetSelf);
     }
     None
 }
 
-/// The first fault of a shape under a name.
+/// The first fault of an operation of these parts under a name.
 #[inline(always)]
-fn fault_of(name: Name, shape: &Shape<'_>) -> Option<FieldFault>
-    ensures { result ≡ op_fault name (op_of shape.now) }
+fn fault_of(name: Name, parts: &Parts<'_>) -> Option<FieldFault>
+    ensures { result ≡ op_fault name (op_of_parts parts.now) }
 {
-    match *shape {
-        Shape::Line {
-            x0,
-            y0,
-            x1,
-            y1,
-            glyph,
-        } => check_stroke(x0, y0, x1, y1, glyph),
-        Shape::Frame {
-            x0,
-            y0,
-            x1,
-            y1,
-            glyph,
-        } => check_stroke(x0, y0, x1, y1, glyph),
-        Shape::Text { x, y, bytes } => check_text(x, y, bytes),
-        Shape::Delete { source, seq } => check_target(name, source, seq),
-        Shape::Restore { source, seq } => check_target(name, source, seq),
+    match *parts {
+        Parts::Drawn(_, stroke) => check_stroke(stroke),
+        Parts::Text { x, y, bytes } => check_text(x, y, bytes),
+        Parts::Aimed(_, target) => check_target(name, target),
     }
 }
 
-/// The operation of a shape whose text fits.
+/// The operation of these parts, whose text fits.
 #[inline(always)]
-fn op_from(shape: Shape<'_>) -> Op
-    requires { TextFits shape }
-    ensures { result ≡ op_of shape.entry }
+fn op_from(parts: Parts<'_>) -> Op
+    requires { TextFits parts }
+    ensures { result ≡ op_of_parts parts.entry }
 {
-    match shape {
-        Shape::Line {
-            x0,
-            y0,
-            x1,
-            y1,
-            glyph,
-        } => Op::Line {
-            x0,
-            y0,
-            x1,
-            y1,
-            glyph,
-        },
-        Shape::Frame {
-            x0,
-            y0,
-            x1,
-            y1,
-            glyph,
-        } => Op::Frame {
-            x0,
-            y0,
-            x1,
-            y1,
-            glyph,
-        },
-        Shape::Text { x, y, bytes } => Op::Text {
+    match parts {
+        Parts::Drawn(figure, stroke) => Op::Drawn(figure, stroke),
+        Parts::Text { x, y, bytes } => Op::Text {
             x,
             y,
             text: Text::new(bytes),
         },
-        Shape::Delete { source, seq } => Op::Delete { source, seq },
-        Shape::Restore { source, seq } => Op::Restore { source, seq },
+        Parts::Aimed(change, target) => Op::Aimed(change, target),
+    }
+}
+
+impl<'a> Shape<'a> {
+    /// What the operation is made of.
+    #[inline(always)]
+    pub fn parts(self) -> Parts<'a>
+        ensures { op_of_parts result ≡ op_of self.entry }
+    {
+        match self {
+            Shape::Line {
+                x0,
+                y0,
+                x1,
+                y1,
+                glyph,
+            } => Parts::Drawn(
+                Figure::Line,
+                Stroke {
+                    x0,
+                    y0,
+                    x1,
+                    y1,
+                    glyph,
+                },
+            ),
+            Shape::Frame {
+                x0,
+                y0,
+                x1,
+                y1,
+                glyph,
+            } => Parts::Drawn(
+                Figure::Frame,
+                Stroke {
+                    x0,
+                    y0,
+                    x1,
+                    y1,
+                    glyph,
+                },
+            ),
+            Shape::Text { x, y, bytes } => Parts::Text { x, y, bytes },
+            Shape::Delete { source, seq } => Parts::Aimed(Change::Delete, Target { source, seq }),
+            Shape::Restore { source, seq } => Parts::Aimed(Change::Restore, Target { source, seq }),
+        }
     }
 }
 
@@ -183,9 +199,18 @@ impl Drawop {
         ensures drawop { let op = op_of shape.entry in result ≡ value_unless (op_fault name op) (record { name = name; time = time; op = op }) }
         ensures lawful { OnOk result (IsLawful name (op_of shape.entry)) }
     {
-        if let Some(fault) = fault_of(name, &shape) {
+        Drawop::of_parts(name, time, shape.parts())
+    }
+
+    /// The drawop of this name, time and parts of an operation, or their first fault, as for `new`.
+    #[inline(always)]
+    pub fn of_parts(name: Name, time: u64, parts: Parts<'_>) -> Result<Drawop, FieldFault>
+        ensures drawop { let op = op_of_parts parts.entry in result ≡ value_unless (op_fault name op) (record { name = name; time = time; op = op }) }
+        ensures lawful { OnOk result (IsLawful name (op_of_parts parts.entry)) }
+    {
+        if let Some(fault) = fault_of(name, &parts) {
             return Err(fault);
         }
-        Ok(Drawop::from_parts(name, time, op_from(shape)))
+        Ok(Drawop::from_parts(name, time, op_from(parts)))
     }
 }

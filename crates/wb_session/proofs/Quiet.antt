@@ -5,7 +5,7 @@ use Rattle.std.proofs.lemmas.Bool.{cases_lt}
 use Rattle.wb_names.specs.Values.{NameValue, DrawopValue}
 use Rattle.wb_names.specs.History.{IsHeld, name_of, is_of, highest}
 use Rattle.wb_names.specs.Marks.{mark_of, known}
-use Rattle.wb_names.specs.declared.drawop.Op.{Op}
+use Rattle.wb_names.specs.declared.parts.Op.{Op}
 use Rattle.wb_names.specs.declared.name.PageId.{PageId}
 use Rattle.wb_names.proofs.Listings.{Contains-here, Contains-there}
 use Rattle.wb_names.proofs.Orders.{and_both, same_page-is}

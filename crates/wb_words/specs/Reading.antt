@@ -6,8 +6,8 @@ use Rattle.wb_names.specs.Drawing.{seq_fault, op_fault}
 use Rattle.wb_names.specs.declared.name.PageId.{PageId}
 use Rattle.wb_names.specs.declared.fault.FieldFault.{FieldFault}
 use Rattle.wb_names.specs.declared.echo.Echo.{Echo}
-use Rattle.wb_names.specs.declared.drawop.Op.{Op}
-use Rattle.wb_names.specs.declared.drawop.Op.TheVariants.{Line, Frame, Text, Delete, Restore}
+use Rattle.wb_names.specs.declared.parts.Op.{Op}
+use Rattle.wb_names.specs.declared.parts.Op.TheVariants.{Line, Frame, Text, Delete, Restore}
 use Rattle.wb_codec.specs.declared.datagram.Datagram.{Datagram}
 use Rattle.wb_codec.specs.declared.datagram.Datagram.TheVariants.{Draw, Session, Request, AskPages, PageState}
 use Rattle.wb_codec.specs.Reading.{is_above}

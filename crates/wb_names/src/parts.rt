@@ -1,0 +1,61 @@
+//! What operations are made of: what is drawn between two ends, a text at a place, and a change of a target.
+
+use crate::text::Text;
+
+/// What is drawn between two ends.
+#[derive(Clone, Copy, Debug, PartialEq, Eq)]
+pub enum Figure {
+    /// A line between the ends, both of them drawn.
+    Line,
+    /// The four sides of the rectangle of which the ends are opposite corners.
+    Frame,
+}
+
+/// Two ends in cells, x to the right and y down, and the character that is drawn.
+#[derive(Clone, Copy, Debug, PartialEq, Eq)]
+pub struct Stroke {
+    pub x0: u16,
+    pub y0: u16,
+    pub x1: u16,
+    pub y1: u16,
+    pub glyph: u8,
+}
+
+/// What becomes of a target.
+#[derive(Clone, Copy, Debug, PartialEq, Eq)]
+pub enum Change {
+    /// It is hidden, unless a later restore of it is held.
+    Delete,
+    /// It is shown again, unless a later delete of it is held.
+    Restore,
+}
+
+/// A source and a sequence number on the page of the drawop that names them.
+#[derive(Clone, Copy, Debug, PartialEq, Eq)]
+pub struct Target {
+    pub source: u32,
+    pub seq: u32,
+}
+
+/// What a drawop does. Coordinates are cells from 0 to 4095; a glyph is a visible character of
+/// ASCII.
+#[derive(Clone, Copy, Debug)]
+pub enum Op {
+    /// Draws between two ends.
+    Drawn(Figure, Stroke),
+    /// Draws a row of 1 to 64 characters that begins at a point.
+    Text { x: u16, y: u16, text: Text },
+    /// Hides or shows another drawop of its page.
+    Aimed(Change, Target),
+}
+
+/// The parts of an operation, not yet checked.
+#[derive(Clone, Copy, Debug)]
+pub enum Parts<'a> {
+    /// Draws between two ends.
+    Drawn(Figure, Stroke),
+    /// Draws a row of characters that begins at a point.
+    Text { x: u16, y: u16, bytes: &'a [u8] },
+    /// Hides or shows another drawop of its page.
+    Aimed(Change, Target),
+}
