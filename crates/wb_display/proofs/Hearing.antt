@@ -11,7 +11,7 @@ use Rattle.wb_names.specs.Values.{DrawopValue}
 use Rattle.wb_names.specs.Orders.{same_page}
 use Rattle.wb_names.specs.declared.name.PageId.{PageId}
 use Rattle.wb_names.specs.declared.parts.Op.{Op}
-use Rattle.wb_names.specs.declared.parts.Op.TheVariants.{Line, Frame, Text, Delete, Restore}
+use Rattle.wb_names.specs.declared.parts.Op.TheVariants.{Drawn, Text, Aimed}
 use Rattle.wb_names.proofs.Orders.{and_both}
 use Rattle.wb_display.specs.Display.{has_target}
 use Rattle.wb_display.specs.LastWord.{same_label, target_label, word_cmp, word_of, later_word, speaks_of, IsLastWord}
@@ -76,18 +76,14 @@ same_label-is l k e = let h = and_both (nat_eq l.source k.source) _ e in label_p
 
 -- an operation has the target that it names, and no other
 pub aims_where : (op : Op) (l k : Label) → target_label op ≡ Some l → has_target op k.source k.seq ≡ same_label l k
-aims_where (Line x0 y0 x1 y1 glyph) l k e = cc
-aims_where (Frame x0 y0 x1 y1 glyph) l k e = cc
+aims_where (Drawn figure s) l k e = cc
 aims_where (Text x y text) l k e = cc
-aims_where (Delete source seq) l k e = let f : record { source = source; seq = seq } ≡ l = cc in ap (λ (m : Label). same_label m k) f
-aims_where (Restore source seq) l k e = let f : record { source = source; seq = seq } ≡ l = cc in ap (λ (m : Label). same_label m k) f
+aims_where (Aimed change t) l k e = let f : record { source = t.source; seq = t.seq } ≡ l = cc in ap (λ (m : Label). same_label m k) f
 
 pub aims_nowhere : (op : Op) (k : Label) → target_label op ≡ None → has_target op k.source k.seq ≡ false
-aims_nowhere (Line x0 y0 x1 y1 glyph) k e = refl
-aims_nowhere (Frame x0 y0 x1 y1 glyph) k e = refl
+aims_nowhere (Drawn figure s) k e = refl
 aims_nowhere (Text x y text) k e = refl
-aims_nowhere (Delete source seq) k e = cc
-aims_nowhere (Restore source seq) k e = cc
+aims_nowhere (Aimed change t) k e = cc
 
 and_true : (a b : Bool) → a ≡ true → (a && b) ≡ b
 and_true true b e = refl

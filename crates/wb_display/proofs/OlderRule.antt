@@ -6,8 +6,9 @@ use Rattle.std.proofs.lemmas.List.Elements.{All-contains}
 use Rattle.wb_names.specs.Values.{DrawopValue}
 use Rattle.wb_names.specs.Orders.{same_page, display_cmp}
 use Rattle.wb_names.specs.declared.name.PageId.{PageId}
+use Rattle.wb_names.specs.declared.parts.Change.TheVariants.{Delete, Restore}
 use Rattle.wb_names.specs.declared.parts.Op.{Op}
-use Rattle.wb_names.specs.declared.parts.Op.TheVariants.{Line, Frame, Text, Delete, Restore}
+use Rattle.wb_names.specs.declared.parts.Op.TheVariants.{Drawn, Text, Aimed}
 use Rattle.wb_names.proofs.Listings.{lists_same}
 use Rattle.wb_names.proofs.Orders.{and_both}
 use Rattle.wb_display.specs.Display.{is_drawing, is_delete, is_restore, has_target, is_aimed_at, is_last_word, is_hidden_in, is_shown}
@@ -19,11 +20,10 @@ use Rattle.wb_display.proofs.Deciding.{display_total, and_true, list_any_here, l
 use Rattle.wb_display.proofs.Putting.{last_word_of}
 
 deletes_unless : (op : Op) (s n : ℕ) → has_target op s n ≡ true → is_restore op ≡ false → is_delete op ≡ true
-deletes_unless (Line x0 y0 x1 y1 glyph) s n t r = cc
-deletes_unless (Frame x0 y0 x1 y1 glyph) s n t r = cc
+deletes_unless (Drawn figure stroke) s n t r = cc
 deletes_unless (Text x y text) s n t r = cc
-deletes_unless (Delete source seq) s n t r = refl
-deletes_unless (Restore source seq) s n t r = cc
+deletes_unless (Aimed Delete target) s n t r = refl
+deletes_unless (Aimed Restore target) s n t r = cc
 
 module _ (history : List DrawopValue) (nothing : All (λ e. is_restore e.op ≡ false) history) (d : DrawopValue) where
   hidden_as_before : (r : Option LastWord) → IsLastWord history d.name.page (label_of d) r → is_hidden_in history d ≡ is_deleted_in history d

@@ -10,7 +10,7 @@ use Rattle.wb_names.specs.Orders.{same_page}
 use Rattle.wb_names.specs.Same.{same_drawop, same_drawop-Decides}
 use Rattle.wb_names.specs.declared.name.PageId.{PageId}
 use Rattle.wb_names.specs.declared.parts.Op.{Op}
-use Rattle.wb_names.specs.declared.parts.Op.TheVariants.{Line, Frame, Text, Delete, Restore}
+use Rattle.wb_names.specs.declared.parts.Op.TheVariants.{Drawn, Text, Aimed}
 use Rattle.wb_names.proofs.Listings.{Contains-none}
 use Rattle.wb_names.proofs.Orders.{and_both, name_parts, same_page-is}
 use Rattle.wb_display.specs.Display.{is_drawing, is_shown, IsView}
@@ -39,11 +39,9 @@ pub last_word_of : (history : List DrawopValue) (page : PageId) (label : Label) 
 last_word_of history page label = more_words page label [] history (None, λ e c. absurd (Contains-none e c))
 
 pub drawing_names_nothing : (op : Op) → is_drawing op ≡ true → target_label op ≡ None
-drawing_names_nothing (Line x0 y0 x1 y1 glyph) e = refl
-drawing_names_nothing (Frame x0 y0 x1 y1 glyph) e = refl
+drawing_names_nothing (Drawn figure s) e = refl
 drawing_names_nothing (Text x y text) e = refl
-drawing_names_nothing (Delete source seq) e = cc
-drawing_names_nothing (Restore source seq) e = cc
+drawing_names_nothing (Aimed change t) e = cc
 
 -- a drawop says nothing of a label other than the one at its stake
 silent : (page : PageId) (d : DrawopValue) (l : Label) → same_label (stake_label d) l ≡ false → speaks_of page l d ≡ false

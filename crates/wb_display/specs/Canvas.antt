@@ -3,8 +3,9 @@ use Rattle.std.specs.Prelude.{ℕ, ◌+◌, ◌-◌, ◌*◌, ◌/◌, Bool, fal
 use Rattle.std.specs.List.{list_any, range_with_len, flat_map}
 use Rattle.std.specs.Option.{option_map_or}
 use Rattle.wb_names.specs.Values.{DrawopValue}
+use Rattle.wb_names.specs.declared.parts.Figure.TheVariants.{Line, Frame}
 use Rattle.wb_names.specs.declared.parts.Op.{Op}
-use Rattle.wb_names.specs.declared.parts.Op.TheVariants.{Line, Frame, Text, Delete, Restore}
+use Rattle.wb_names.specs.declared.parts.Op.TheVariants.{Drawn, Text, Aimed}
 
 -- how far two numbers are apart
 abbrev pub distance : ℕ → ℕ → ℕ
@@ -53,19 +54,16 @@ text_glyph x0 text x = slice_index text (x - x0)
 
 -- whether an operation puts a glyph at a point
 abbrev pub covers : Op → ℕ → ℕ → Bool
-covers (Line x0 y0 x1 y1 glyph) x y = is_on_line x0 y0 x1 y1 x y
-covers (Frame x0 y0 x1 y1 glyph) x y = is_on_frame x0 y0 x1 y1 x y
+covers (Drawn Line s) x y = is_on_line s.x0 s.y0 s.x1 s.y1 x y
+covers (Drawn Frame s) x y = is_on_frame s.x0 s.y0 s.x1 s.y1 x y
 covers (Text x0 y0 text) x y = is_on_text x0 y0 (length text) x y
-covers (Delete source seq) x y = false
-covers (Restore source seq) x y = false
+covers (Aimed change t) x y = false
 
 -- the glyph that an operation puts in the column x
 abbrev pub glyph_of : Op → ℕ → ℕ
-glyph_of (Line x0 y0 x1 y1 glyph) x = glyph
-glyph_of (Frame x0 y0 x1 y1 glyph) x = glyph
+glyph_of (Drawn figure s) x = s.glyph
 glyph_of (Text x0 y0 text) x = text_glyph x0 text x
-glyph_of (Delete source seq) x = 32
-glyph_of (Restore source seq) x = 32
+glyph_of (Aimed change t) x = 32
 
 -- the glyph of the last drawop that covers the point, and a space where none does
 abbrev pub glyph_at : List DrawopValue → ℕ → ℕ → ℕ

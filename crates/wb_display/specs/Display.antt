@@ -6,38 +6,33 @@ use Rattle.wb_names.specs.Values.{DrawopValue}
 use Rattle.wb_names.specs.Orders.{same_page, display_cmp}
 use Rattle.wb_names.specs.Listing.{Lists}
 use Rattle.wb_names.specs.declared.name.PageId.{PageId}
+use Rattle.wb_names.specs.declared.parts.Change.TheVariants.{Delete, Restore}
 use Rattle.wb_names.specs.declared.parts.Op.{Op}
-use Rattle.wb_names.specs.declared.parts.Op.TheVariants.{Line, Frame, Text, Delete, Restore}
+use Rattle.wb_names.specs.declared.parts.Op.TheVariants.{Drawn, Text, Aimed}
 
 -- an operation that puts glyphs on the page
 abbrev pub is_drawing : Op → Bool
-is_drawing (Line x0 y0 x1 y1 glyph) = true
-is_drawing (Frame x0 y0 x1 y1 glyph) = true
+is_drawing (Drawn figure s) = true
 is_drawing (Text x y text) = true
-is_drawing (Delete source seq) = false
-is_drawing (Restore source seq) = false
+is_drawing (Aimed change t) = false
 
 abbrev pub is_delete : Op → Bool
-is_delete (Line x0 y0 x1 y1 glyph) = false
-is_delete (Frame x0 y0 x1 y1 glyph) = false
+is_delete (Drawn figure s) = false
 is_delete (Text x y text) = false
-is_delete (Delete source seq) = true
-is_delete (Restore source seq) = false
+is_delete (Aimed Delete t) = true
+is_delete (Aimed Restore t) = false
 
 abbrev pub is_restore : Op → Bool
-is_restore (Line x0 y0 x1 y1 glyph) = false
-is_restore (Frame x0 y0 x1 y1 glyph) = false
+is_restore (Drawn figure s) = false
 is_restore (Text x y text) = false
-is_restore (Delete source seq) = false
-is_restore (Restore source seq) = true
+is_restore (Aimed Delete t) = false
+is_restore (Aimed Restore t) = true
 
 -- a delete or a restore of this number of this source
 abbrev pub has_target : Op → ℕ → ℕ → Bool
-has_target (Line x0 y0 x1 y1 glyph) s n = false
-has_target (Frame x0 y0 x1 y1 glyph) s n = false
-has_target (Text x y text) s n = false
-has_target (Delete source seq) s n = nat_eq source s && nat_eq seq n
-has_target (Restore source seq) s n = nat_eq source s && nat_eq seq n
+has_target (Drawn figure s) source n = false
+has_target (Text x y text) source n = false
+has_target (Aimed change t) source n = nat_eq t.source source && nat_eq t.seq n
 
 -- e is a delete or a restore of d: it is on the page of d and names it
 abbrev pub is_aimed_at : DrawopValue → DrawopValue → Bool

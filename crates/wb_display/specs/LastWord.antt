@@ -6,7 +6,7 @@ use Rattle.wb_names.specs.Values.{DrawopValue}
 use Rattle.wb_names.specs.Orders.{same_page}
 use Rattle.wb_names.specs.declared.name.PageId.{PageId}
 use Rattle.wb_names.specs.declared.parts.Op.{Op}
-use Rattle.wb_names.specs.declared.parts.Op.TheVariants.{Line, Frame, Text, Delete, Restore}
+use Rattle.wb_names.specs.declared.parts.Op.TheVariants.{Drawn, Text, Aimed}
 use Rattle.wb_display.specs.Display.{is_delete, is_drawing, has_target}
 use Rattle.wb_display.specs.declared.last_words.Label.{Label}
 use Rattle.wb_display.specs.declared.last_words.LastWord.{LastWord}
@@ -33,11 +33,9 @@ word_of e = record { time = e.time; source = e.name.source; seq = e.name.seq; hi
 
 -- the label that a delete or a restore names
 abbrev pub target_label : Op → Option Label
-target_label (Line x0 y0 x1 y1 glyph) = None
-target_label (Frame x0 y0 x1 y1 glyph) = None
+target_label (Drawn figure s) = None
 target_label (Text x y text) = None
-target_label (Delete source seq) = Some (record { source = source; seq = seq })
-target_label (Restore source seq) = Some (record { source = source; seq = seq })
+target_label (Aimed change t) = Some (record { source = t.source; seq = t.seq })
 
 -- the label of the one drawop whose showing d may change: its target, or itself where it names none
 abbrev pub stake_label : DrawopValue → Label

@@ -13,7 +13,7 @@ ghost use Rattle.wb_display.specs.LastWords.{AreLastWords, word_on};
 
 use std::alloc::{AllocError, Global};
 use std::collections::HashMap;
-use wb_names::{Drawop, Op, PageId};
+use wb_names::{Change, Drawop, Op, PageId, Target};
 
 /// What tells a drawop from the others of its page: its source and its number.
 #[derive(Clone, Copy, PartialEq, Eq, Hash)]
@@ -75,7 +75,7 @@ impl LastWord {
 fn is_delete(op: &Op) -> bool
     ensures { result ≡ is_delete_op op.now }
 {
-    matches!(op, Op::Delete { .. })
+    matches!(op, Op::Aimed(Change::Delete, _))
 }
 
 /// Whether an operation puts glyphs on its page.
@@ -83,7 +83,7 @@ fn is_delete(op: &Op) -> bool
 pub(crate) fn is_drawing(op: &Op) -> bool
     ensures { result ≡ is_drawing_op op.now }
 {
-    matches!(op, Op::Line { .. } | Op::Frame { .. } | Op::Text { .. })
+    matches!(op, Op::Drawn(..) | Op::Text { .. })
 }
 
 /// The label that a delete or a restore names.
@@ -92,8 +92,7 @@ fn target_of(op: &Op) -> Option<Label>
     ensures { result ≡ target_label op.now }
 {
     match *op {
-        Op::Delete { source, seq } => Some(Label { source, seq }),
-        Op::Restore { source, seq } => Some(Label { source, seq }),
+        Op::Aimed(_, Target { source, seq }) => Some(Label { source, seq }),
         _ => None,
     }
 }

@@ -7,7 +7,7 @@ ghost use Rattle.wb_display.specs.Cells.{Overlays, is_at, is_on_row, is_on_colum
 ghost use Rattle.wb_display.specs.Walks.{AreInside};
 
 use crate::line_points::{Steps, Walk, along, steps_inside};
-use wb_names::Op;
+use wb_names::{Figure, Op, Stroke};
 
 /// How many columns and rows a canvas has. In memory each row has one cell more, its line feed.
 #[derive(Clone, Copy)]
@@ -180,33 +180,22 @@ pub(crate) fn draw(cells: &mut [u8], size: Size, op: &Op)
     ensures { Overlays size.width size.height (covers op.now) (glyph_of op.now) cells.old cells.new }
 {
     match *op {
-        Op::Line {
-            x0,
-            y0,
-            x1,
-            y1,
-            glyph,
-        } => draw_line(
-            cells,
-            size,
-            Point { x: x0, y: y0 },
-            Point { x: x1, y: y1 },
-            glyph,
-        ),
-        Op::Frame {
-            x0,
-            y0,
-            x1,
-            y1,
-            glyph,
-        } => draw_frame(
-            cells,
-            size,
-            Point { x: x0, y: y0 },
-            Point { x: x1, y: y1 },
-            glyph,
-        ),
+        Op::Drawn(figure, stroke) => {
+            let Stroke {
+                x0,
+                y0,
+                x1,
+                y1,
+                glyph,
+            } = stroke;
+            let from = Point { x: x0, y: y0 };
+            let to = Point { x: x1, y: y1 };
+            match figure {
+                Figure::Line => draw_line(cells, size, from, to, glyph),
+                Figure::Frame => draw_frame(cells, size, from, to, glyph),
+            }
+        }
         Op::Text { x, y, text } => draw_text(cells, size, Point { x, y }, text.as_slice()),
-        Op::Delete { .. } | Op::Restore { .. } => {}
+        Op::Aimed(..) => {}
     }
 }

@@ -3,11 +3,12 @@ use Rattle.std.proofs.Common.{◌≡◌, ℕ, zero, suc, ◌<◌, List, [], ◌�
 use mathlib.Core.List.{IsPrefix}
 use Rattle.wb_names.specs.Values.{DrawopValue}
 use Rattle.wb_names.specs.History.{IsHistory, HoldsName}
-use Rattle.wb_names.specs.declared.parts.Op.TheVariants.{Delete}
+use Rattle.wb_names.specs.declared.parts.Change.TheVariants.{Delete}
+use Rattle.wb_names.specs.declared.parts.Op.TheVariants.{Aimed}
 
 -- some drawop, which stands for what is at no place
 abbrev pub nothing : DrawopValue
-nothing = record { name = record { source = 0; page = record { creator = 0; number = 0 }; seq = 0 }; time = 0; op = Delete 0 0 }
+nothing = record { name = record { source = 0; page = record { creator = 0; number = 0 }; seq = 0 }; time = 0; op = Aimed Delete (record { source = 0; seq = 0 }) }
 
 pub get_at : (h : List DrawopValue) (i : ℕ) (d z : DrawopValue) → slice_get h i ≡ Some d → get_or h i z ≡ d
 get_at [] i d z e = absurd cc

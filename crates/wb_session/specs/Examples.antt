@@ -2,7 +2,9 @@
 use Rattle.std.specs.Prelude.{◌≡◌, ℕ, ◌+◌, List, [], ◌∷◌, Contains}
 use Rattle.wb_names.specs.Values.{DrawopValue}
 use Rattle.wb_names.specs.History.{IsClashAt, name_of}
-use Rattle.wb_names.specs.declared.parts.Op.TheVariants.{Delete}
+use Rattle.wb_names.specs.declared.parts.Change.TheVariants.{Delete}
+use Rattle.wb_names.specs.declared.parts.Op.{Op}
+use Rattle.wb_names.specs.declared.parts.Op.TheVariants.{Aimed}
 use Rattle.wb_names.specs.declared.name.PageId.{PageId}
 use Rattle.wb_codec.specs.declared.datagram.Datagram.{Datagram}
 use Rattle.wb_codec.specs.declared.datagram.Datagram.TheVariants.{Draw, Session, Request}
@@ -12,6 +14,9 @@ use Rattle.wb_session.specs.Session.{Act, Draws, Takes, Hears, Ticks, Misses, Re
 
 abbrev pub page : PageId
 page = record { creator = 10; number = 1 }
+
+abbrev pub deletes : ℕ → ℕ → Op
+deletes source seq = Aimed Delete (record { source = source; seq = seq })
 
 abbrev pub at : ℕ → Act → Event
 at place act = record { place = place; act = act }
@@ -27,14 +32,14 @@ twins = record { number = λ i. 7; cells = λ i. 4; constants = λ i. record { c
 
 -- the first drawop of number 7, drawn at this time
 abbrev pub first_of_seven : ℕ → DrawopValue
-first_of_seven time = record { name = name_of page 7 1; time = time; op = Delete 7 1 }
+first_of_seven time = record { name = name_of page 7 1; time = time; op = deletes 7 1 }
 
 -- both draw, and one takes its own; the newest comes first
 abbrev pub both_draw : List Event
 both_draw =
     at 0 (takes 30 (first_of_seven 10))
-    ∷ at 1 (Draws page 20 (Delete 7 1))
-    ∷ at 0 (Draws page 10 (Delete 7 1))
+    ∷ at 1 (Draws page 20 (deletes 7 1))
+    ∷ at 0 (Draws page 10 (deletes 7 1))
     ∷ []
 
 -- What the other sent clashes with what that one holds.
@@ -48,14 +53,14 @@ abbrev pub trio : Group
 trio = record { number = λ i. 10 + i; cells = λ i. 4; constants = λ i. record { c1 = 2; c2 = 2; d1 = 1; d2 = 1 } }
 
 abbrev pub drawing : DrawopValue
-drawing = record { name = name_of page 10 1; time = 5; op = Delete 10 1 }
+drawing = record { name = name_of page 10 1; time = 5; op = deletes 10 1 }
 
 -- 10 draws, which comes to itself and to 11, and is lost on the way to 12
 abbrev pub lossy : List Event
 lossy =
     at 1 (takes 500 drawing)
     ∷ at 0 (takes 10 drawing)
-    ∷ at 0 (Draws page 5 (Delete 10 1))
+    ∷ at 0 (Draws page 5 (deletes 10 1))
     ∷ []
 
 -- 10 reports the page

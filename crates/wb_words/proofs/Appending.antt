@@ -4,6 +4,7 @@ use Rattle.std.specs.Prelude.{map, codes, decimal, OnOk, Result, Ok, Err}
 use Rattle.std.proofs.lemmas.List.{take_more, map-append}
 use Rattle.std.proofs.lemmas.Grind.{flat_map-append}
 use Rattle.wb_words.specs.Words.{words, joined}
+use Rattle.wb_names.specs.declared.parts.Stroke.{Stroke}
 use Rattle.wb_words.specs.Spelling.{stroke_words, quoted, tailed}
 use Rattle.wb_words.proofs.Parting.{has_word, joined_words}
 
@@ -34,11 +35,8 @@ entry_added f xs i x o a b text lt is e g h =
 pub entry_added_at : {X : Type 0} (f : X → List ℕ) (xs : List X) (i : ℕ) (d : X) (o a b : List ℕ) → i < length xs → a ≡ o ++ tailed (map f (take i xs)) → b ≡ a ++ 32 ∷ f (get_or xs i d) → b ≡ o ++ tailed (map f (take (i + 1) xs))
 entry_added_at f xs i d o a b lt e g = glued o a b (tailed (map f (take i xs))) (32 ∷ f (get_or xs i d)) _ e g (sym (tailed_more f xs i d lt))
 
-pub line_text : (x0 y0 x1 y1 glyph : ℕ) → (codes " line " ++ (decimal x0 ++ (codes " " ++ (decimal y0 ++ (codes " " ++ (decimal x1 ++ (codes " " ++ (decimal y1 ++ codes " ")))))))) ++ glyph ∷ [] ≡ tailed (codes "line" ∷ stroke_words x0 y0 x1 y1 glyph)
-line_text x0 y0 x1 y1 glyph = simp append_assoc
-
-pub frame_text : (x0 y0 x1 y1 glyph : ℕ) → (codes " frame " ++ (decimal x0 ++ (codes " " ++ (decimal y0 ++ (codes " " ++ (decimal x1 ++ (codes " " ++ (decimal y1 ++ codes " ")))))))) ++ glyph ∷ [] ≡ tailed (codes "frame" ∷ stroke_words x0 y0 x1 y1 glyph)
-frame_text x0 y0 x1 y1 glyph = simp append_assoc
+pub stroke_text : (word : List ℕ) (s : Stroke) → (codes " " ++ (word ++ (codes " " ++ (decimal s.x0 ++ (codes " " ++ (decimal s.y0 ++ (codes " " ++ (decimal s.x1 ++ (codes " " ++ (decimal s.y1 ++ codes " ")))))))))) ++ s.glyph ∷ [] ≡ tailed (word ∷ stroke_words s)
+stroke_text word s = simp append_assoc
 
 pub text_text : (x y : ℕ) (text : List ℕ) → (codes " text " ++ (decimal x ++ (codes " " ++ decimal y))) ++ 32 ∷ quoted text ≡ tailed (codes "text" ∷ decimal x ∷ decimal y ∷ words (quoted text))
 text_text x y text = ap (λ t. (codes " text " ++ (decimal x ++ (codes " " ++ decimal y))) ++ t) (sym (tailed_words (quoted text))) ∙ simp append_assoc

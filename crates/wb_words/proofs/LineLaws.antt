@@ -9,20 +9,26 @@ use Rattle.wb_names.specs.Drawing.{IsLawful, seq_fault, op_fault}
 use Rattle.wb_names.specs.declared.name.PageId.{PageId}
 use Rattle.wb_names.specs.declared.echo.Echo.{Echo}
 use Rattle.wb_names.specs.declared.fault.FieldFault.{FieldFault}
+use Rattle.wb_names.specs.declared.parts.Figure.{Figure}
+use Rattle.wb_names.specs.declared.parts.Figure.TheVariants.{Line, Frame}
+use Rattle.wb_names.specs.declared.parts.Stroke.{Stroke}
+use Rattle.wb_names.specs.declared.parts.Change.{Change}
+use Rattle.wb_names.specs.declared.parts.Change.TheVariants.{Delete, Restore}
+use Rattle.wb_names.specs.declared.parts.Target.{Target}
 use Rattle.wb_names.specs.declared.parts.Op.{Op}
-use Rattle.wb_names.specs.declared.parts.Op.TheVariants.{Line, Frame, Text, Delete, Restore}
+use Rattle.wb_names.specs.declared.parts.Op.TheVariants.{Drawn, Text, Aimed}
 use Rattle.wb_codec.specs.declared.datagram.Datagram.{Datagram}
 use Rattle.wb_codec.specs.declared.datagram.Datagram.TheVariants as datagrams
 use Rattle.wb_codec.specs.Ranges.{IsPage, IsName, HasTarget, IsDrawop, IsEcho, IsMarkList, IsEchoList, IsDatagram}
 use Rattle.wb_codec.proofs.DrawopLaws.{seq_counted, seq_free}
 use Rattle.wb_codec.proofs.EntryLaws.{MarkFits, mark_source, echo_source}
-use Rattle.wb_codec.proofs.Lawful.{lawful_stroke, lawful_text}
+use Rattle.wb_codec.proofs.Lawful.{IsStroke, lawful_stroke, lawful_text}
 use Rattle.wb_words.specs.declared.fault.WordFault.{WordFault}
 use Rattle.wb_words.specs.declared.fault.WordFault.TheVariants as faults
 use Rattle.wb_words.specs.declared.fault.WrongWord.{WrongWord}
 use Rattle.wb_words.specs.Words.{words, joined, most32, most64, number_in, page_in, glyph_in, text_in}
-use Rattle.wb_words.specs.Spelling.{page_word, mark_word, echo_word, quoted, stroke_words, op_words, name_words, word_list}
-use Rattle.wb_words.specs.Reading.{◌>>=◌, said, in_range, word_at, end_at, number_at, page_at, glyph_at, text_at, name_at, named, drawn, Stroke, stroke_at, line_at, frame_at, written_at, delete_at, restore_at, op_at, drawop_at, mark_at, echo_at, is_echo, left_at, marks_at, echoes_at, draw_at, session_at, request_at, ask_pages_at, page_state_at, datagram_at, reading_of}
+use Rattle.wb_words.specs.Spelling.{page_word, mark_word, echo_word, quoted, stroke_words, figure_word, change_word, op_words, name_words, word_list}
+use Rattle.wb_words.specs.Reading.{◌>>=◌, said, in_range, word_at, end_at, number_at, page_at, glyph_at, text_at, name_at, named, drawn, stroke_at, figure_at, written_at, change_at, op_at, drawop_at, mark_at, echo_at, is_echo, left_at, marks_at, echoes_at, draw_at, session_at, request_at, ask_pages_at, page_state_at, datagram_at, reading_of}
 use Rattle.wb_words.proofs.Numerals.{number_takes, number_again}
 use Rattle.wb_words.proofs.Parting.{NoSpaces, words_joined, text_words}
 use Rattle.wb_words.proofs.TextLaws.{text_takes, text_again}
@@ -177,29 +183,19 @@ stroke_ok ws x e =
 back12 : (place n : ℕ) (ws : List (List ℕ)) → n < 2 ^ 12 → number_at place 4095 (decimal n ∷ ws) ≡ Ok (n, ws)
 back12 place n ws lt = let le : n ≤ 4095 = omega arith in number_back place 4095 n ws (number_again 4095 n le (omega arith))
 
-stroke_back : (x0 y0 x1 y1 glyph : ℕ) → x0 < 2 ^ 12 → y0 < 2 ^ 12 → x1 < 2 ^ 12 → y1 < 2 ^ 12 → stroke_at (stroke_words x0 y0 x1 y1 glyph) ≡ Ok (record { x0 = x0; y0 = y0; x1 = x1; y1 = y1; glyph = glyph }, [])
+stroke_back : (s : Stroke) → IsStroke s → stroke_at (stroke_words s) ≡ Ok (s, [])
 unfolding stroke_at
-stroke_back x0 y0 x1 y1 glyph hx hy kx ky = rw (back12 7 x0 (decimal y0 ∷ decimal x1 ∷ decimal y1 ∷ (glyph ∷ []) ∷ []) hx, back12 8 y0 (decimal x1 ∷ decimal y1 ∷ (glyph ∷ []) ∷ []) hy, back12 9 x1 (decimal y1 ∷ (glyph ∷ []) ∷ []) kx, back12 10 y1 ((glyph ∷ []) ∷ []) ky, glyph_back 11 glyph []) refl
+stroke_back s fits = rw (back12 7 s.x0 (decimal s.y0 ∷ decimal s.x1 ∷ decimal s.y1 ∷ (s.glyph ∷ []) ∷ []) fits.x0-fits, back12 8 s.y0 (decimal s.x1 ∷ decimal s.y1 ∷ (s.glyph ∷ []) ∷ []) fits.y0-fits, back12 9 s.x1 (decimal s.y1 ∷ (s.glyph ∷ []) ∷ []) fits.x1-fits, back12 10 s.y1 ((s.glyph ∷ []) ∷ []) fits.y1-fits, glyph_back 11 s.glyph []) refl
 
-line_ok : (name : NameValue) (time : ℕ) (ws : List (List ℕ)) (d : DrawopValue) → line_at name time ws ≡ Ok d → OpRead name time (codes "line") ws d
-unfolding line_at
-line_ok name time ws d e =
+figure_ok : (figure : Figure) (name : NameValue) (time : ℕ) (ws : List (List ℕ)) (d : DrawopValue) → figure_at figure name time ws ≡ Ok d → OpRead name time (figure_word figure) ws d
+unfolding figure_at
+figure_ok figure name time ws d e =
     let s = bind_ok (stroke_at ws) _ d e in
-    let op = Line s.0.0.x0 s.0.0.y0 s.0.0.x1 s.0.0.y1 s.0.0.glyph in
+    let op = Drawn figure s.0.0 in
     let r = bind_ok (drawn 11 name time op) _ d s.2 in
     let ended = end_ok 12 s.0.1 r.0 d r.2 in
     let spelled = (stroke_ok ws s.0 s.1).words-are ∙ ap (λ v. decimal s.0.0.x0 ∷ decimal s.0.0.y0 ∷ decimal s.0.0.x1 ∷ decimal s.0.0.y1 ∷ (s.0.0.glyph ∷ []) ∷ v) ended.0 in
-    subst (λ (v : DrawopValue). OpRead name time (codes "line") ws v) ended.1 (drawn_ok 11 name time op r.0 (codes "line") ws r.1 (ap (λ v. codes "line" ∷ v) spelled) tt)
-
-frame_ok : (name : NameValue) (time : ℕ) (ws : List (List ℕ)) (d : DrawopValue) → frame_at name time ws ≡ Ok d → OpRead name time (codes "frame") ws d
-unfolding frame_at
-frame_ok name time ws d e =
-    let s = bind_ok (stroke_at ws) _ d e in
-    let op = Frame s.0.0.x0 s.0.0.y0 s.0.0.x1 s.0.0.y1 s.0.0.glyph in
-    let r = bind_ok (drawn 11 name time op) _ d s.2 in
-    let ended = end_ok 12 s.0.1 r.0 d r.2 in
-    let spelled = (stroke_ok ws s.0 s.1).words-are ∙ ap (λ v. decimal s.0.0.x0 ∷ decimal s.0.0.y0 ∷ decimal s.0.0.x1 ∷ decimal s.0.0.y1 ∷ (s.0.0.glyph ∷ []) ∷ v) ended.0 in
-    subst (λ (v : DrawopValue). OpRead name time (codes "frame") ws v) ended.1 (drawn_ok 11 name time op r.0 (codes "frame") ws r.1 (ap (λ v. codes "frame" ∷ v) spelled) tt)
+    subst (λ (v : DrawopValue). OpRead name time (figure_word figure) ws v) ended.1 (drawn_ok 11 name time op r.0 (figure_word figure) ws r.1 (ap (λ v. figure_word figure ∷ v) spelled) tt)
 
 written_ok : (name : NameValue) (time : ℕ) (ws : List (List ℕ)) (d : DrawopValue) → NoSpaces ws → written_at name time ws ≡ Ok d → OpRead name time (codes "text") ws d
 unfolding written_at
@@ -214,31 +210,19 @@ written_ok name time ws d none e =
     let text = text_ok 9 b.0.1 t.0 left.1.1 t.1 in
     drawn_ok 9 name time (Text a.0.0 b.0.0 t.0) d (codes "text") ws t.2 (ap (λ v. codes "text" ∷ v) (front ∙ ap (λ v. decimal a.0.0 ∷ decimal b.0.0 ∷ v) text)) tt
 
-delete_ok : (name : NameValue) (time : ℕ) (ws : List (List ℕ)) (d : DrawopValue) → delete_at name time ws ≡ Ok d → OpRead name time (codes "delete") ws d
-unfolding delete_at
-delete_ok name time ws d e =
+change_ok : (change : Change) (name : NameValue) (time : ℕ) (ws : List (List ℕ)) (d : DrawopValue) → change_at change name time ws ≡ Ok d → OpRead name time (change_word change) ws d
+unfolding change_at
+change_ok change name time ws d e =
     let a = bind_ok (number_at 7 most32 ws) _ d e in
     let b = bind_ok (number_at 8 most32 a.0.1) _ d a.2 in
-    let op = Delete a.0.0 b.0.0 in
+    let target : Target = record { source = a.0.0; seq = b.0.0 } in
+    let op = Aimed change target in
     let r = bind_ok (drawn 8 name time op) _ d b.2 in
     let ended = end_ok 9 b.0.1 r.0 d r.2 in
     let ta = number_ok 7 most32 ws a.0 a.1 in
     let tb = number_ok 8 most32 a.0.1 b.0 b.1 in
     let spelled = ta.0 ∙ ap (λ v. decimal a.0.0 ∷ v) tb.0 ∙ ap (λ v. decimal a.0.0 ∷ decimal b.0.0 ∷ v) ended.0 in
-    subst (λ (v : DrawopValue). OpRead name time (codes "delete") ws v) ended.1 (drawn_ok 8 name time op r.0 (codes "delete") ws r.1 (ap (λ v. codes "delete" ∷ v) spelled) (omega (arith, ta.1), omega (arith, tb.1)))
-
-restore_ok : (name : NameValue) (time : ℕ) (ws : List (List ℕ)) (d : DrawopValue) → restore_at name time ws ≡ Ok d → OpRead name time (codes "restore") ws d
-unfolding restore_at
-restore_ok name time ws d e =
-    let a = bind_ok (number_at 7 most32 ws) _ d e in
-    let b = bind_ok (number_at 8 most32 a.0.1) _ d a.2 in
-    let op = Restore a.0.0 b.0.0 in
-    let r = bind_ok (drawn 8 name time op) _ d b.2 in
-    let ended = end_ok 9 b.0.1 r.0 d r.2 in
-    let ta = number_ok 7 most32 ws a.0 a.1 in
-    let tb = number_ok 8 most32 a.0.1 b.0 b.1 in
-    let spelled = ta.0 ∙ ap (λ v. decimal a.0.0 ∷ v) tb.0 ∙ ap (λ v. decimal a.0.0 ∷ decimal b.0.0 ∷ v) ended.0 in
-    subst (λ (v : DrawopValue). OpRead name time (codes "restore") ws v) ended.1 (drawn_ok 8 name time op r.0 (codes "restore") ws r.1 (ap (λ v. codes "restore" ∷ v) spelled) (omega (arith, ta.1), omega (arith, tb.1)))
+    subst (λ (v : DrawopValue). OpRead name time (change_word change) ws v) ended.1 (drawn_ok 8 name time op r.0 (change_word change) ws r.1 (ap (λ v. change_word change ∷ v) spelled) (omega (arith, ta.1), omega (arith, tb.1)))
 
 -- a choice by the first word
 by_word : {A : Type 0} (word text : List ℕ) (x y : Result A WrongWord) (z : A) (P : List ℕ → Type 0) → (x ≡ Ok z → P text) → (y ≡ Ok z → P word) → cond (bytes_eq word text) x y ≡ Ok z → P word
@@ -251,27 +235,21 @@ op_ok : (name : NameValue) (time : ℕ) (word : List ℕ) (ws : List (List ℕ))
 unfolding op_at
 op_ok name time word ws d none e =
     let P : List ℕ → Type 0 = λ w. OpRead name time w ws d in
-    by_word word (codes "line") _ _ d P (line_ok name time ws d)
-    (by_word word (codes "frame") _ _ d P (frame_ok name time ws d)
+    by_word word (codes "line") _ _ d P (figure_ok Line name time ws d)
+    (by_word word (codes "frame") _ _ d P (figure_ok Frame name time ws d)
     (by_word word (codes "text") _ _ d P (written_ok name time ws d none)
-    (by_word word (codes "delete") _ _ d P (delete_ok name time ws d)
-    (by_word word (codes "restore") _ _ d P (restore_ok name time ws d) (λ f. absurd cc))))) e
+    (by_word word (codes "delete") _ _ d P (change_ok Delete name time ws d)
+    (by_word word (codes "restore") _ _ d P (change_ok Restore name time ws d) (λ f. absurd cc))))) e
 
 op_back : (name : NameValue) (time : ℕ) (op : Op) → IsLawful name op → HasTarget op → (word_at 6 (op_words op) >>= λ word. op_at name time word.0 word.1) ≡ Ok (record { name = name; time = time; op = op })
-unfolding op_at line_at frame_at written_at delete_at restore_at
-op_back name time (Line x0 y0 x1 y1 glyph) lawful target =
-    let s = lawful_stroke x0 y0 x1 y1 glyph lawful in
-    rw (stroke_back x0 y0 x1 y1 glyph s.x0-fits s.y0-fits s.x1-fits s.y1-fits, drawn_back 11 name time (Line x0 y0 x1 y1 glyph) lawful) refl
-op_back name time (Frame x0 y0 x1 y1 glyph) lawful target =
-    let s = lawful_stroke x0 y0 x1 y1 glyph lawful in
-    rw (stroke_back x0 y0 x1 y1 glyph s.x0-fits s.y0-fits s.x1-fits s.y1-fits, drawn_back 11 name time (Frame x0 y0 x1 y1 glyph) lawful) refl
+unfolding op_at figure_at written_at change_at
+op_back name time (Drawn Line s) lawful target = rw (stroke_back s (lawful_stroke s lawful), drawn_back 11 name time (Drawn Line s) lawful) refl
+op_back name time (Drawn Frame s) lawful target = rw (stroke_back s (lawful_stroke s lawful), drawn_back 11 name time (Drawn Frame s) lawful) refl
 op_back name time (Text x y text) lawful target =
     let t = lawful_text x y text lawful in
     rw (back12 7 x (decimal y ∷ words (quoted text)) t.x-fits, back12 8 y (words (quoted text)) t.y-fits, text_back 9 text, drawn_back 9 name time (Text x y text) lawful) refl
-op_back name time (Delete source seq) lawful target =
-    rw (back32 7 source (decimal seq ∷ []) target.0, back32 8 seq [] target.1, drawn_back 8 name time (Delete source seq) lawful) refl
-op_back name time (Restore source seq) lawful target =
-    rw (back32 7 source (decimal seq ∷ []) target.0, back32 8 seq [] target.1, drawn_back 8 name time (Restore source seq) lawful) refl
+op_back name time (Aimed Delete t) lawful target = rw (back32 7 t.source (decimal t.seq ∷ []) target.0, back32 8 t.seq [] target.1, drawn_back 8 name time (Aimed Delete t) lawful) refl
+op_back name time (Aimed Restore t) lawful target = rw (back32 7 t.source (decimal t.seq ∷ []) target.0, back32 8 t.seq [] target.1, drawn_back 8 name time (Aimed Restore t) lawful) refl
 
 -- ---- drawops
 

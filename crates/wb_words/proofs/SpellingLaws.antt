@@ -6,8 +6,13 @@ use Rattle.std.proofs.lemmas.Bool.Decides.{nat_tests}
 use Rattle.std.proofs.lemmas.List.Elements.{All-cons, All-nil}
 use Rattle.wb_names.specs.Values.{NameValue}
 use Rattle.wb_names.specs.Drawing.{IsLawful, stroke_fault}
+use Rattle.wb_names.specs.declared.parts.Figure.{Figure}
+use Rattle.wb_names.specs.declared.parts.Figure.TheVariants.{Line, Frame}
+use Rattle.wb_names.specs.declared.parts.Stroke.{Stroke}
+use Rattle.wb_names.specs.declared.parts.Change.{Change}
+use Rattle.wb_names.specs.declared.parts.Change.TheVariants.{Delete, Restore}
 use Rattle.wb_names.specs.declared.parts.Op.{Op}
-use Rattle.wb_names.specs.declared.parts.Op.TheVariants.{Line, Frame, Text, Delete, Restore}
+use Rattle.wb_names.specs.declared.parts.Op.TheVariants.{Drawn, Text, Aimed}
 use Rattle.wb_codec.specs.declared.datagram.Datagram.{Datagram}
 use Rattle.wb_codec.specs.declared.datagram.Datagram.TheVariants.{Draw, Session, Request, AskPages, PageState}
 use Rattle.wb_codec.specs.Ranges.{IsName, HasTarget, IsMarkList, IsEcho, IsDatagram}
@@ -16,7 +21,7 @@ use Rattle.wb_words.specs.declared.fault.WordsFault.{WordsFault}
 use Rattle.wb_words.specs.declared.fault.WordsFault.TheVariants.{Word, Memory}
 use Rattle.wb_words.specs.declared.fault.WrongWord.{WrongWord}
 use Rattle.wb_words.specs.Words.{words, joined}
-use Rattle.wb_words.specs.Spelling.{page_word, mark_word, echo_word, quoted, stroke_words, op_words, name_words, word_list, spelled}
+use Rattle.wb_words.specs.Spelling.{page_word, mark_word, echo_word, quoted, stroke_words, figure_word, change_word, op_words, name_words, word_list, spelled}
 use Rattle.wb_words.specs.Reading.{MayGive, datagram_at, reading_of, reading}
 use Rattle.wb_words.specs.Grammar.{Says}
 use Rattle.wb_words.proofs.Numerals.{both}
@@ -44,20 +49,26 @@ space32 n lt = decimal_space n (omega arith)
 space12 : (n : ℕ) → n < 2 ^ 12 → NoSpace (decimal n)
 space12 n lt = decimal_space n (omega arith)
 
-visible : (x0 y0 x1 y1 glyph : ℕ) → stroke_fault x0 y0 x1 y1 glyph ≡ None → nat_eq glyph 32 ≡ false
-visible x0 y0 x1 y1 glyph e = grind (arith, nat_tests)
+visible : (s : Stroke) → stroke_fault s ≡ None → nat_eq s.glyph 32 ≡ false
+visible s e = grind (arith, nat_tests)
 
-stroke_space : (x0 y0 x1 y1 glyph : ℕ) → stroke_fault x0 y0 x1 y1 glyph ≡ None → NoSpaces (stroke_words x0 y0 x1 y1 glyph)
-stroke_space x0 y0 x1 y1 glyph e =
-    let s = lawful_stroke x0 y0 x1 y1 glyph e in
-    (space12 x0 s.x0-fits, (space12 y0 s.y0-fits, (space12 x1 s.x1-fits, (space12 y1 s.y1-fits, (All-cons (λ b. nat_eq b 32 ≡ false) glyph [] (visible x0 y0 x1 y1 glyph e) (All-nil (λ b. nat_eq b 32 ≡ false)), tt)))))
+stroke_space : (s : Stroke) → stroke_fault s ≡ None → NoSpaces (stroke_words s)
+stroke_space s e =
+    let f = lawful_stroke s e in
+    (space12 s.x0 f.x0-fits, (space12 s.y0 f.y0-fits, (space12 s.x1 f.x1-fits, (space12 s.y1 f.y1-fits, (All-cons (λ b. nat_eq b 32 ≡ false) s.glyph [] (visible s e) (All-nil (λ b. nat_eq b 32 ≡ false)), tt)))))
+
+figure_space : (figure : Figure) → NoSpace (figure_word figure)
+figure_space Line = tested (codes "line") refl
+figure_space Frame = tested (codes "frame") refl
+
+change_space : (change : Change) → NoSpace (change_word change)
+change_space Delete = tested (codes "delete") refl
+change_space Restore = tested (codes "restore") refl
 
 op_space : (name : NameValue) (op : Op) → IsLawful name op → HasTarget op → NoSpaces (op_words op)
-op_space name (Line x0 y0 x1 y1 glyph) lawful target = (tested (codes "line") refl, stroke_space x0 y0 x1 y1 glyph lawful)
-op_space name (Frame x0 y0 x1 y1 glyph) lawful target = (tested (codes "frame") refl, stroke_space x0 y0 x1 y1 glyph lawful)
+op_space name (Drawn figure s) lawful target = (figure_space figure, stroke_space s lawful)
 op_space name (Text x y text) lawful target = let t = lawful_text x y text lawful in (tested (codes "text") refl, (space12 x t.x-fits, (space12 y t.y-fits, NoSpaces-words (quoted text))))
-op_space name (Delete source seq) lawful target = (tested (codes "delete") refl, (space32 source target.0, (space32 seq target.1, tt)))
-op_space name (Restore source seq) lawful target = (tested (codes "restore") refl, (space32 source target.0, (space32 seq target.1, tt)))
+op_space name (Aimed change t) lawful target = (change_space change, (space32 t.source target.0, (space32 t.seq target.1, tt)))
 
 name_space : (n : NameValue) (more : List (List ℕ)) → IsName n → NoSpaces more → NoSpaces (name_words n more)
 name_space n more fits h = (space32 n.source fits.source, (page_space n.page fits.page, (space32 n.seq fits.seq, h)))

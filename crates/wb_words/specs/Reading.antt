@@ -6,8 +6,13 @@ use Rattle.wb_names.specs.Drawing.{seq_fault, op_fault}
 use Rattle.wb_names.specs.declared.name.PageId.{PageId}
 use Rattle.wb_names.specs.declared.fault.FieldFault.{FieldFault}
 use Rattle.wb_names.specs.declared.echo.Echo.{Echo}
+use Rattle.wb_names.specs.declared.parts.Figure.{Figure}
+use Rattle.wb_names.specs.declared.parts.Figure.TheVariants.{Line, Frame}
+use Rattle.wb_names.specs.declared.parts.Stroke.{Stroke}
+use Rattle.wb_names.specs.declared.parts.Change.{Change}
+use Rattle.wb_names.specs.declared.parts.Change.TheVariants.{Delete, Restore}
 use Rattle.wb_names.specs.declared.parts.Op.{Op}
-use Rattle.wb_names.specs.declared.parts.Op.TheVariants.{Line, Frame, Text, Delete, Restore}
+use Rattle.wb_names.specs.declared.parts.Op.TheVariants.{Drawn, Text, Aimed}
 use Rattle.wb_codec.specs.declared.datagram.Datagram.{Datagram}
 use Rattle.wb_codec.specs.declared.datagram.Datagram.TheVariants.{Draw, Session, Request, AskPages, PageState}
 use Rattle.wb_codec.specs.Reading.{is_above}
@@ -101,13 +106,6 @@ named place name = in_range place (seq_fault name.seq) name
 abbrev pub drawn : ℕ → NameValue → ℕ → Op → Result DrawopValue WrongWord
 drawn place name time op = in_range place (op_fault name op) (record { name = name; time = time; op = op })
 
-pub record Stroke : Type 0 where
-  pub x0 : ℕ
-  pub y0 : ℕ
-  pub x1 : ℕ
-  pub y1 : ℕ
-  pub glyph : ℕ
-
 unfoldable pub stroke_at : List (List ℕ) → Result (Stroke × List (List ℕ)) WrongWord
 stroke_at ws = do
   x0 ← number_at 7 4095 ws
@@ -117,16 +115,10 @@ stroke_at ws = do
   glyph ← glyph_at 11 y1.1
   Ok (record { x0 = x0.0; y0 = y0.0; x1 = x1.0; y1 = y1.0; glyph = glyph.0 }, glyph.1)
 
-unfoldable pub line_at : NameValue → ℕ → List (List ℕ) → Result DrawopValue WrongWord
-line_at name time ws = do
+unfoldable pub figure_at : Figure → NameValue → ℕ → List (List ℕ) → Result DrawopValue WrongWord
+figure_at figure name time ws = do
   s ← stroke_at ws
-  d ← drawn 11 name time (Line s.0.x0 s.0.y0 s.0.x1 s.0.y1 s.0.glyph)
-  end_at 12 s.1 d
-
-unfoldable pub frame_at : NameValue → ℕ → List (List ℕ) → Result DrawopValue WrongWord
-frame_at name time ws = do
-  s ← stroke_at ws
-  d ← drawn 11 name time (Frame s.0.x0 s.0.y0 s.0.x1 s.0.y1 s.0.glyph)
+  d ← drawn 11 name time (Drawn figure s.0)
   end_at 12 s.1 d
 
 unfoldable pub written_at : NameValue → ℕ → List (List ℕ) → Result DrawopValue WrongWord
@@ -136,28 +128,21 @@ written_at name time ws = do
   text ← text_at 9 y.1
   drawn 9 name time (Text x.0 y.0 text)
 
-unfoldable pub delete_at : NameValue → ℕ → List (List ℕ) → Result DrawopValue WrongWord
-delete_at name time ws = do
+unfoldable pub change_at : Change → NameValue → ℕ → List (List ℕ) → Result DrawopValue WrongWord
+change_at change name time ws = do
   source ← number_at 7 most32 ws
   seq ← number_at 8 most32 source.1
-  d ← drawn 8 name time (Delete source.0 seq.0)
-  end_at 9 seq.1 d
-
-unfoldable pub restore_at : NameValue → ℕ → List (List ℕ) → Result DrawopValue WrongWord
-restore_at name time ws = do
-  source ← number_at 7 most32 ws
-  seq ← number_at 8 most32 source.1
-  d ← drawn 8 name time (Restore source.0 seq.0)
+  d ← drawn 8 name time (Aimed change (record { source = source.0; seq = seq.0 }))
   end_at 9 seq.1 d
 
 -- the operation of this word
 unfoldable pub op_at : NameValue → ℕ → List ℕ → List (List ℕ) → Result DrawopValue WrongWord
 op_at name time word ws =
-    if bytes_eq word (codes "line") then line_at name time ws
-    else (if bytes_eq word (codes "frame") then frame_at name time ws
+    if bytes_eq word (codes "line") then figure_at Line name time ws
+    else (if bytes_eq word (codes "frame") then figure_at Frame name time ws
     else (if bytes_eq word (codes "text") then written_at name time ws
-    else (if bytes_eq word (codes "delete") then delete_at name time ws
-    else (if bytes_eq word (codes "restore") then restore_at name time ws
+    else (if bytes_eq word (codes "delete") then change_at Delete name time ws
+    else (if bytes_eq word (codes "restore") then change_at Restore name time ws
     else wrong 6 faults.Operation))))
 
 unfoldable pub drawop_at : List (List ℕ) → Result DrawopValue WrongWord

@@ -3,8 +3,14 @@ use Rattle.std.specs.Prelude.{ℕ, List, [], ◌∷◌, ◌++◌, map, flat_map,
 use Rattle.wb_names.specs.Values.{NameValue, MarkValue}
 use Rattle.wb_names.specs.declared.name.PageId.{PageId}
 use Rattle.wb_names.specs.declared.echo.Echo.{Echo}
+use Rattle.wb_names.specs.declared.parts.Figure.{Figure}
+use Rattle.wb_names.specs.declared.parts.Figure.TheVariants.{Line, Frame}
+use Rattle.wb_names.specs.declared.parts.Stroke.{Stroke}
+use Rattle.wb_names.specs.declared.parts.Change.{Change}
+use Rattle.wb_names.specs.declared.parts.Change.TheVariants.{Delete, Restore}
+use Rattle.wb_names.specs.declared.parts.Target.{Target}
 use Rattle.wb_names.specs.declared.parts.Op.{Op}
-use Rattle.wb_names.specs.declared.parts.Op.TheVariants.{Line, Frame, Text, Delete, Restore}
+use Rattle.wb_names.specs.declared.parts.Op.TheVariants.{Drawn, Text, Aimed}
 use Rattle.wb_codec.specs.declared.datagram.Datagram.{Datagram}
 use Rattle.wb_codec.specs.declared.datagram.Datagram.TheVariants.{Draw, Session, Request, AskPages, PageState}
 use Rattle.wb_words.specs.Words.{words, joined, is_special}
@@ -29,18 +35,24 @@ escaped byte = if is_special byte then 92 ∷ byte ∷ [] else byte ∷ []
 abbrev pub quoted : List ℕ → List ℕ
 quoted text = 34 ∷ (flat_map escaped text ++ 34 ∷ [])
 
-abbrev pub stroke_words : ℕ → ℕ → ℕ → ℕ → ℕ → List (List ℕ)
-stroke_words x0 y0 x1 y1 glyph = decimal x0 ∷ decimal y0 ∷ decimal x1 ∷ decimal y1 ∷ (glyph ∷ []) ∷ []
+abbrev pub stroke_words : Stroke → List (List ℕ)
+stroke_words s = decimal s.x0 ∷ decimal s.y0 ∷ decimal s.x1 ∷ decimal s.y1 ∷ (s.glyph ∷ []) ∷ []
 
-abbrev pub target_words : ℕ → ℕ → List (List ℕ)
-target_words source seq = decimal source ∷ decimal seq ∷ []
+abbrev pub target_words : Target → List (List ℕ)
+target_words t = decimal t.source ∷ decimal t.seq ∷ []
+
+abbrev pub figure_word : Figure → List ℕ
+figure_word Line = codes "line"
+figure_word Frame = codes "frame"
+
+abbrev pub change_word : Change → List ℕ
+change_word Delete = codes "delete"
+change_word Restore = codes "restore"
 
 abbrev pub op_words : Op → List (List ℕ)
-op_words (Line x0 y0 x1 y1 glyph) = codes "line" ∷ stroke_words x0 y0 x1 y1 glyph
-op_words (Frame x0 y0 x1 y1 glyph) = codes "frame" ∷ stroke_words x0 y0 x1 y1 glyph
+op_words (Drawn figure s) = figure_word figure ∷ stroke_words s
 op_words (Text x y text) = codes "text" ∷ decimal x ∷ decimal y ∷ words (quoted text)
-op_words (Delete source seq) = codes "delete" ∷ target_words source seq
-op_words (Restore source seq) = codes "restore" ∷ target_words source seq
+op_words (Aimed change t) = change_word change ∷ target_words t
 
 abbrev pub name_words : NameValue → List (List ℕ) → List (List ℕ)
 name_words n more = decimal n.source ∷ page_word n.page ∷ decimal n.seq ∷ more

@@ -1,3 +1,5 @@
+//! Lists of marks and of echoes from words.
+
 ghost use Rattle.std.specs.Prelude.{◌≡◌, ◌≤◌, ◌<◌, option_map, [], length};
 ghost use Rattle.wb_codec.specs.Reading.{is_above as above};
 ghost use Rattle.wb_words.specs.Words.{mark_in as mark_in_word, echo_in as echo_in_word};

@@ -1,3 +1,5 @@
+//! What is wrong with a word, and with a line.
+
 ghost use Rattle.std.specs.Prelude.{◌≡◌};
 ghost use Rattle.wb_words.specs.declared.fault.WordsFault.TheVariants as words_faults;
 

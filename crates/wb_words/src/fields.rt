@@ -1,3 +1,5 @@
+//! The fields of a datagram from words.
+
 ghost use Rattle.std.specs.Prelude.{◌≡◌, ◌≤◌, IfOk};
 ghost use Rattle.wb_words.specs.Words.{number_in, page_in as page_in_word, most32, most64};
 ghost use Rattle.wb_words.specs.Rests.{words_left};

@@ -1,3 +1,5 @@
+//! Numbers from their decimal digits.
+
 ghost use Rattle.std.specs.Prelude.{◌≡◌, ◌≤◌, IfSome};
 ghost use Rattle.wb_words.specs.Words.{number_in, is_plain};
 

@@ -1,3 +1,5 @@
+//! The words of a line, one after another.
+
 ghost use Rattle.std.specs.Prelude.{◌≡◌, ◌∷◌};
 ghost use Rattle.std.specs.Option.{option_map};
 ghost use Rattle.wb_words.specs.Words.{words, parted};

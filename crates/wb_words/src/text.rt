@@ -1,3 +1,5 @@
+//! Texts in quotes.
+
 ghost use Rattle.std.specs.Prelude.{◌≡◌, IfOk, option_map};
 ghost use Rattle.wb_words.specs.Words.{text_in, is_special};
 

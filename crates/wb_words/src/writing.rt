@@ -1,11 +1,14 @@
+//! Datagrams to words.
+
 ghost use Rattle.std.specs.Prelude.{◌≡◌, ◌∷◌, ◌++◌, IfOk, OnOk, map};
 ghost use Rattle.wb_codec.specs.declared.datagram.Datagram.{Datagram as DatagramValue};
+ghost use Rattle.wb_words.specs.Spelling;
 ghost use Rattle.wb_words.specs.Spelling.{quoted, mark_word, echo_word, op_words, spelled, tailed};
 
 use crate::text::is_special;
 use std::alloc::{AllocError, Global};
 use wb_codec::Datagram;
-use wb_names::{Drawop, Echo, Mark, Name, Op, PageId};
+use wb_names::{Change, Drawop, Echo, Figure, Mark, Name, Op, PageId, Stroke, Target};
 
 /// Adds a space and a text in quotes.
 fn put_text(out: &mut Vec<u8>, text: &[u8]) -> Result<(), AllocError>
@@ -22,33 +25,43 @@ fn put_text(out: &mut Vec<u8>, text: &[u8]) -> Result<(), AllocError>
     Ok(())
 }
 
+/// The word of what is drawn between two ends.
+fn figure_word(figure: Figure) -> &'static str
+    ensures { result.now ≡ Spelling.figure_word figure }
+{
+    match figure {
+        Figure::Line => "line",
+        Figure::Frame => "frame",
+    }
+}
+
+/// The word of a change of a target.
+fn change_word(change: Change) -> &'static str
+    ensures { result.now ≡ Spelling.change_word change }
+{
+    match change {
+        Change::Delete => "delete",
+        Change::Restore => "restore",
+    }
+}
+
 /// Adds the words of an operation, a space before each.
 fn put_op(alloc: Global, out: &mut Vec<u8>, op: &Op) -> Result<(), AllocError>
     ensures { OnOk result (out.new.items ≡ out.old.items ++ tailed (op_words op.now)) }
 {
     match op {
-        Op::Line {
-            x0,
-            y0,
-            x1,
-            y1,
-            glyph,
-        } => {
-            let text = format!(in alloc; " line {x0} {y0} {x1} {y1} ")?;
+        Op::Drawn(figure, stroke) => {
+            let word = figure_word(*figure);
+            let Stroke {
+                x0,
+                y0,
+                x1,
+                y1,
+                glyph,
+            } = *stroke;
+            let text = format!(in alloc; " {word} {x0} {y0} {x1} {y1} ")?;
             out.extend_from_slice(text.as_bytes())?;
-            out.push(*glyph)?;
-            Ok(())
-        }
-        Op::Frame {
-            x0,
-            y0,
-            x1,
-            y1,
-            glyph,
-        } => {
-            let text = format!(in alloc; " frame {x0} {y0} {x1} {y1} ")?;
-            out.extend_from_slice(text.as_bytes())?;
-            out.push(*glyph)?;
+            out.push(glyph)?;
             Ok(())
         }
         Op::Text { x, y, text } => {
@@ -56,12 +69,10 @@ fn put_op(alloc: Global, out: &mut Vec<u8>, op: &Op) -> Result<(), AllocError>
             out.extend_from_slice(front.as_bytes())?;
             put_text(out, text.as_slice())
         }
-        Op::Delete { source, seq } => {
-            let text = format!(in alloc; " delete {source} {seq}")?;
-            out.extend_from_slice(text.as_bytes())
-        }
-        Op::Restore { source, seq } => {
-            let text = format!(in alloc; " restore {source} {seq}")?;
+        Op::Aimed(change, target) => {
+            let word = change_word(*change);
+            let Target { source, seq } = *target;
+            let text = format!(in alloc; " {word} {source} {seq}")?;
             out.extend_from_slice(text.as_bytes())
         }
     }
