@@ -26,6 +26,7 @@ mod members;
 mod parts;
 mod pass;
 mod rule;
+mod spares;
 mod steps;
 mod walk;
 

@@ -11,9 +11,12 @@ ghost use Rattle.wb_history.specs.declared.parts.SplitFault.TheVariants as fault
 use crate::cells::CellTable;
 use crate::hand::Hand;
 use crate::history::History;
+use crate::members::Members;
 use crate::pass::Pass;
+use crate::spares::{another, keep};
 use std::alloc::{AllocError, Global};
 use std::marker::Brand;
+use std::mem::replace;
 use thiserror::Error;
 
 /// Why a pass was not split, in the order of the checks.
@@ -76,7 +79,7 @@ impl History {
         if have < rows as usize {
             return Err(SplitFault::TooMany(have as u32));
         }
-        let Ok(seen) = pass.hand.seen.copied(alloc) else {
+        let Ok(seen) = another(&mut pass.spares, &pass.hand.seen) else {
             return Err(SplitFault::Memory);
         };
         let Ok(free) = pass.hand.free.split_off(have - rows as usize) else {
@@ -92,6 +95,7 @@ impl History {
         };
         Ok(Pass {
             hand,
+            spares: Vec::new(alloc),
             cells: pass.cells,
         })
     }
@@ -109,12 +113,13 @@ fn append(to: &mut Vec<u32>, from: &[u32])
 
 impl CellTable {
     /// Makes two hands one. The load of the first cell tells what the join of the seats does not: that
-    /// the longer list begins with the shorter, and that no place was of both.
-    fn take_in(&self, hand: &mut Hand, other: Hand)
+    /// the longer list begins with the shorter, and that no place was of both. The shorter comes back.
+    fn take_in(&self, hand: &mut Hand, other: Hand) -> Members
         requires hand { SitsAt self.now hand.old.seat × InOrder hand.old }
         requires other { SitsAt self.now other.seat × InOrder other }
         requires room { (vec_len hand.old.mine + vec_len other.mine ≤ vec_capacity hand.old.mine) × (vec_len hand.old.free + vec_len other.free ≤ vec_capacity hand.old.free) }
-        ensures { United hand.old other hand.new }
+        ensures united { United hand.old other hand.new }
+        ensures front { IsPrefix result.items hand.new.seen.items }
     {
         let Hand {
             seat,
@@ -128,8 +133,9 @@ impl CellTable {
         append(&mut hand.mine, mine.as_slice());
         append(&mut hand.free, free.as_slice());
         if hand.seen.len() < seen.len() {
-            hand.seen = seen;
+            return replace(&mut hand.seen, seen);
         }
+        seen
     }
 }
 
@@ -148,8 +154,13 @@ impl History {
         if pass.hand.free.reserve(other.hand.free.len()).is_err() {
             return Err((JoinFault::Memory, other));
         }
-        let Pass { hand, cells: _ } = other;
-        self.cells.take_in(&mut pass.hand, hand);
+        let Pass {
+            hand,
+            spares: _spares,
+            cells: _,
+        } = other;
+        let shorter = self.cells.take_in(&mut pass.hand, hand);
+        keep(&mut pass.spares, shorter);
         Ok(())
     }
 
