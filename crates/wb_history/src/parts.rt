@@ -106,9 +106,9 @@ fn append(to: &mut Vec<u32>, from: &[u32])
     requires { vec_len to.old + length from.now ≤ vec_capacity to.old }
     ensures { to.new.items ≡ to.old.items ++ from.now }
 {
-    for number in from {
-        to.push_reserved(*number);
-    }
+    let Ok(()) = to.extend_from_slice(from) else {
+        unreachable!()
+    };
 }
 
 impl CellTable {
