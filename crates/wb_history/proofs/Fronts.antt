@@ -1,19 +1,10 @@
 -- Spare lists stay fronts of what their pass has seen.
-use Rattle.std.proofs.Common.{◌≡◌, ℕ, refl, Bool, true, false, List, [], ◌∷◌, ◌++◌, length, take, sym, ap, subst, ◌∙◌, arith, append_assoc}
+use Rattle.std.proofs.Common.{◌≡◌, Bool, true, false, List, [], ◌∷◌, ◌++◌, sym, ap, subst, ◌∙◌, append_assoc}
 use Rattle.std.specs.Prelude.{All, if◌then◌else◌}
-use Rattle.std.proofs.lemmas.List.{take-append-le}
 use Rattle.std.proofs.lemmas.List.Elements.{All-nil, All-same, All-push, All-weaker}
 use mathlib.Core.List.{IsPrefix}
 use Rattle.wb_names.specs.Values.{DrawopValue}
 use Rattle.wb_history.specs.Indexed.{MembersValue, AreFronts}
-
--- a front is the list up to its own length
-pub front_is : {A : Type 0} (l whole : List A) → IsPrefix l whole → l ≡ take (length l) whole
-front_is l whole b = sym (take_whole l) ∙ (sym (take-append-le (length l) l b.0 (omega arith)) ∙ ap (take (length l)) b.1)
-  where
-    take_whole : {A : Type 0} (l : List A) → take (length l) l ≡ l
-    take_whole [] = refl
-    take_whole (x ∷ xs) = λ i. x ∷ take_whole xs i
 
 pub none_are_fronts : (lists : List MembersValue) (whole : List DrawopValue) → lists ≡ [] → AreFronts lists whole
 none_are_fronts lists whole none = All-same (λ (m : MembersValue). IsPrefix m.items whole) lists [] none (All-nil (λ (m : MembersValue). IsPrefix m.items whole))

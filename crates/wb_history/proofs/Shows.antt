@@ -23,6 +23,7 @@ use Rattle.wb_history.specs.declared.hand.ClaimFault.TheVariants.{NoRow, Memory}
 use mathlib.Core.List.{IsPrefix}
 use Rattle.wb_history.specs.Lists.{Has, Once}
 use Rattle.wb_history.specs.Members.{AllValid, NamesOnce}
+use Rattle.wb_history.specs.Indexed.{MembersValue}
 use Rattle.wb_history.specs.Lawful.{Sane}
 use Rattle.wb_history.specs.declared.cells.CellTable.{CellTable}
 use Rattle.wb_history.specs.Seats.{SitsAt, SameSeat}
@@ -59,6 +60,14 @@ sound h i =
 
 pub sound_pass : {p : PassValue} (h : Hand) → view_of h ≡ p → IsHeld h → IsSound p
 sound_pass h is i = subst IsSound is (sound h i)
+
+pub on_ok : {A E P : Type 0} (r : Result A E) → P → OnOk r P
+on_ok (Ok a) p = p
+on_ok (Err e) p = tt
+
+-- more room for the list is not seen
+pub roomier : (h : Hand) (m : MembersValue) → m.items ≡ h.seen.items → IsHeld h → IsHeld (record h { seen = m })
+roomier h m same i = let o = i.0 in (record { slots = o.slots; seen = o.seen ∙ sym same; mine = o.mine; free = o.free; sane = o.sane }, i.1, i.2, i.3)
 
 -- a pass is told what another has seen, or both stay as they were
 pub sound_told : {A E : Type 0} (p q : PassValue) (Teller : Type 0) (r : Result A E) → OnOk r (IsSound q) → OnErr r (Teller × (q ≡ p)) → IsSound p → IsSound q

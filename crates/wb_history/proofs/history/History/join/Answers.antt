@@ -16,7 +16,7 @@ invariant_of-pass-2 c =
 pub returns-clause-joined : goal.returns-clause-joined
 returns-clause-joined c =
     let p = same_view (record c.pass.inside.hand { mine = c.reserve.new.self; free = c.reserve-2.new.self }) c.pass.inside.hand refl refl c.reserve.ensures.items c.reserve-2.ensures.items refl in
-    joined c.args.pass.now c.args.other _ c.other.inside.hand c.take_in-shorter.new.hand (p ∙ c.pass.view_is) c.other.view_is c.take_in-shorter.ensures.united
+    joined c.args.pass.now c.args.other _ c.other.inside.hand c.take_in-shorter.new.hand (p ∙ c.pass.view_is) c.other.view_is c.other.invariant.0.0 c.take_in-shorter.ensures.united
 
 pub returns-then-is_err-clause-sound : goal.returns-then-is_err-clause-sound
 returns-then-is_err-clause-sound c =
