@@ -106,7 +106,7 @@ impl Members {
         }
     }
 
-    /// The same members again, each name looked up by the hash that it has.
+    /// The same members again. The copied index keeps the hashes that it has.
     pub(crate) fn copied(&self) -> Result<Members, AllocError>
         ensures { IfOk result (λ copy. copy.items ≡ self.now.items) }
     {

@@ -13,6 +13,9 @@ use wb_names::{Drawop, Name};
 /// those that it added, and rows for more. It takes steps only when it is lent to a call of the
 /// history that it came from, and it may go to another thread. A pass that is dropped keeps its
 /// rows, so they are lost.
+///
+/// Of each pass that was joined to it it keeps a list of drawops, with its index, for its next split: at
+/// most eight, which are given back when it is dropped.
 #[derive(Drop)]
 pub struct Pass {
     pub(crate) hand: Hand,

@@ -1,4 +1,5 @@
-//! Lists that came back from joined passes. A split takes one and adds what came since, so that it copies no list.
+//! Lists that came back from joined passes. A split takes one and adds what came since, so that it
+//! copies no list.
 ghost use Rattle.std.specs.Prelude.{◌≡◌, List, IfOk};
 ghost use mathlib.Core.List.{IsPrefix};
 ghost use Rattle.wb_names.specs.Values.{DrawopValue};
@@ -8,10 +9,11 @@ ghost use Rattle.wb_history.specs.Indexed.{AreFronts};
 use crate::members::Members;
 use std::alloc::AllocError;
 
-/// How many lists a pass keeps.
+/// How many lists a pass keeps: as many as a batch has workers.
 const MOST: usize = 8;
 
-/// The members that were seen, in a list of its own: a spare list with what came since, or a copy where there is none.
+/// Another list of the members that were seen: a spare one with what came since, or a copy where there
+/// is none. After a fault the spare is gone.
 pub(crate) fn another(spares: &mut Vec<Members>, seen: &Members) -> Result<Members, AllocError>
     requires spares { AreFronts spares.old.items seen.now.items }
     requires once { NamesOnce seen.now.items }
@@ -26,7 +28,7 @@ pub(crate) fn another(spares: &mut Vec<Members>, seen: &Members) -> Result<Membe
     Ok(list)
 }
 
-/// Keeps a list for a later split, while there are few and memory lasts.
+/// Keeps a list for a later split, while there are few and memory lasts. Otherwise it goes.
 pub(crate) fn keep(spares: &mut Vec<Members>, list: Members)
     ensures { (seen : List DrawopValue) → AreFronts spares.old.items seen → IsPrefix list.items seen → AreFronts spares.new.items seen }
 {
