@@ -9,3 +9,4 @@ pub mod Ownership
 pub mod Shows
 pub mod Unions
 pub mod Portions
+pub mod Fronts

@@ -23,6 +23,7 @@ use Rattle.wb_history.specs.declared.hand.ClaimFault.TheVariants.{NoRow, Memory}
 use mathlib.Core.List.{IsPrefix}
 use Rattle.wb_history.specs.Lists.{Has, Once}
 use Rattle.wb_history.specs.Members.{AllValid, NamesOnce}
+use Rattle.wb_history.specs.Indexed.{MembersValue}
 use Rattle.wb_history.specs.Lawful.{Sane}
 use Rattle.wb_history.specs.declared.cells.CellTable.{CellTable}
 use Rattle.wb_history.specs.Seats.{SitsAt, SameSeat}
@@ -59,6 +60,14 @@ sound h i =
 
 pub sound_pass : {p : PassValue} (h : Hand) → view_of h ≡ p → IsHeld h → IsSound p
 sound_pass h is i = subst IsSound is (sound h i)
+
+pub on_ok : {A E P : Type 0} (r : Result A E) → P → OnOk r P
+on_ok (Ok a) p = p
+on_ok (Err e) p = tt
+
+-- more room for the list is not seen
+pub roomier : (h : Hand) (m : MembersValue) → m.items ≡ h.seen.items → IsHeld h → IsHeld (record h { seen = m })
+roomier h m same i = let o = i.0 in (record { slots = o.slots; seen = o.seen ∙ sym same; mine = o.mine; free = o.free; sane = o.sane }, i.1, i.2, i.3)
 
 -- a pass is told what another has seen, or both stay as they were
 pub sound_told : {A E : Type 0} (p q : PassValue) (Teller : Type 0) (r : Result A E) → OnOk r (IsSound q) → OnErr r (Teller × (q ≡ p)) → IsSound p → IsSound q
@@ -118,23 +127,27 @@ shown_claim h d extra h' (Added i) o s = ((s.0 ++ d ∷ [], sym (s.1.seen ∙ ap
 shown_claim h d extra h' (Present i) o s = (starts h s.0 extra h' s.1, (get_is h'.seen.items i d s.2, adds_nothing h s.0 extra h' o s.1))
 shown_claim h d extra h' (Clash i) o s = (starts h s.0 extra h' s.1, ((s.2.0, get_is h'.seen.items i s.2.0 s.2.1, s.2.2, s.2.3), adds_nothing h s.0 extra h' o s.1))
 
-pub walked_held : (h : Hand) (more : List DrawopValue) (k : ℕ) (h' : Hand) → IsHeld h → Walked h more k h' → IsHeld h'
-walked_held h more k h' i w = held_on h h' i w.order w.seat w.cells
+-- the parts of a pass after a call that reads or adds: they agree, and it has seen all that it had seen
+abbrev pub GoesOn : Hand → Hand → Type 0
+GoesOn h h' = IsHeld h' × (h'.seat.me.0.cells ≡ h.seat.me.0.cells) × IsPrefix h.seen.items h'.seen.items
 
-pub end_held : (cells : ℕ) (h : Hand) (more : List DrawopValue) (h' : Hand) → IsHeld h → AtEnd cells h more h' → IsHeld h'
+pub walked_held : (h : Hand) (more : List DrawopValue) (k : ℕ) (h' : Hand) → IsHeld h → Walked h more k h' → GoesOn h h'
+walked_held h more k h' i w = (held_on h h' i w.order w.seat w.cells, w.cells, starts h more k h' w)
+
+pub end_held : (cells : ℕ) (h : Hand) (more : List DrawopValue) (h' : Hand) → IsHeld h → AtEnd cells h more h' → GoesOn h h'
 end_held cells h more h' i e = ⊎_elim (λ x. walked_held h more 1 h' i x.0) (λ x. walked_held h more 0 h' i x.0) e
 
-claim_held : (h : Hand) (d : DrawopValue) (extra : ℕ) (h' : Hand) (c : Claim) → IsHeld h → Settled h d extra h' c → IsHeld h'
-claim_held h d extra h' (Added k) i s = held_on h h' i s.1.order s.1.seat s.1.cells
+claim_held : (h : Hand) (d : DrawopValue) (extra : ℕ) (h' : Hand) (c : Claim) → IsHeld h → Settled h d extra h' c → GoesOn h h'
+claim_held h d extra h' (Added k) i s = (held_on h h' i s.1.order s.1.seat s.1.cells, s.1.cells, (s.0 ++ d ∷ [], sym (s.1.seen ∙ append_assoc h.seen.items s.0 (d ∷ []))))
 claim_held h d extra h' (Present k) i s = walked_held h s.0 extra h' i s.1
 claim_held h d extra h' (Clash k) i s = walked_held h s.0 extra h' i s.1
 
-fault_held : (cells : ℕ) (h : Hand) (d : DrawopValue) (h' : Hand) (f : ClaimFault) → IsHeld h → Refused cells h d h' f → IsHeld h'
+fault_held : (cells : ℕ) (h : Hand) (d : DrawopValue) (h' : Hand) (f : ClaimFault) → IsHeld h → Refused cells h d h' f → GoesOn h h'
 fault_held cells h d h' NoRow i r = end_held cells h r.0 h' i r.1
 fault_held cells h d h' Memory i r = walked_held h r.0 r.1 h' i r.3
 
 -- the parts of a pass after a claim
-pub held_after : (cells : ℕ) (h : Hand) (d : DrawopValue) (h' : Hand) (r : Result Claim ClaimFault) → IsHeld h → MatchResult r (λ c. (extra : ℕ) × (extra ≤ member_steps) × Settled h d extra h' c) (Refused cells h d h') → IsHeld h'
+pub held_after : (cells : ℕ) (h : Hand) (d : DrawopValue) (h' : Hand) (r : Result Claim ClaimFault) → IsHeld h → MatchResult r (λ c. (extra : ℕ) × (extra ≤ member_steps) × Settled h d extra h' c) (Refused cells h d h') → GoesOn h h'
 held_after cells h d h' (Ok c) i m = claim_held h d m.0 h' c i m.2
 held_after cells h d h' (Err f) i m = fault_held cells h d h' f i m
 

@@ -4,7 +4,7 @@ use Rattle.std.proofs.lemmas.List.{append-nil}
 use Rattle.std.proofs.lemmas.Bool.{cases_lt, cond_below, cond_above}
 use Rattle.std.specs.Prelude.{Contains}
 use Rattle.atomic_table.proofs.Lists.{at_longer}
-use Rattle.wb_history.proofs.Lists.{at_read, at_after}
+use Rattle.wb_history.proofs.Lists.{at_read, at_after, both_start}
 use mathlib.Core.Option.{some, none}
 use mathlib.Core.List.{IsPrefix}
 use Rattle.atomic_table.specs.Table.{Me, step}
@@ -36,39 +36,41 @@ both_begin xs ys h = ⊎_elim
     (subst (λ (z : List DrawopValue). IsPrefix xs z) (sym l) ([], append-nil xs), subst (λ (z : List DrawopValue). IsPrefix ys z) (sym l) b))
     (cases_lt (length xs) (length ys))
 
--- the hand after its seat took in the other's, and a load told what the join did not
-pub took_in : (h g h' : Hand) (u : Me DrawopValue Knowledge) (word found : ℕ) → InOrder h → InOrder g → u.1 ≡ h.seat.me.1 → u.0 ≡ united h.seat.me.0 g.seat.me.0 → confirmed (step 0 word 0 0 none) u found h'.seat.me
-    → h'.seat.table_id ≡ h.seat.table_id → h'.seat.id ≡ h.seat.id → h'.seen.items ≡ longer h.seen.items g.seen.items → h'.mine.items ≡ h.mine.items ++ g.mine.items → h'.free.items ≡ h.free.items ++ g.free.items → h'.steps ≡ h.steps → United h g h'
-took_in h g h' u word found o q slots is told table id seen mine free steps =
-    let after : h'.seat.me.0 ≡ after_confirm (united h.seat.me.0 g.seat.me.0) word found = told.1 ∙ ap (λ (v : Knowledge). after_confirm v word found) is in
-    let long = seat_longer in
+-- of the lists of two seats that were united each begins the longer, as a load tells
+begins : (h : Hand) (w : Knowledge) (u : Me DrawopValue Knowledge) (word found : ℕ) (m : Me DrawopValue Knowledge) → InOrder h → u.0 ≡ united h.seat.me.0 w → confirmed (step 0 word 0 0 none) u found m
+    → IsPrefix h.seen.items (longer h.seen.items w.seen) × IsPrefix w.seen (longer h.seen.items w.seen)
+begins h w u word found m o is told =
     let starts = subst (λ (v : Knowledge). length v.told ≤ length v.seen → IsPrefix v.told v.seen) is told.2 in
+    both_begin h.seen.items w.seen (subst (λ (l : List DrawopValue). length (shorter l w.seen) ≤ length (longer l w.seen) → IsPrefix (shorter l w.seen) (longer l w.seen)) o.seen starts)
+
+-- the hand has seen a front of what the other has, where that is no shorter
+pub told_front : (h : Hand) (w : Knowledge) (u : Me DrawopValue Knowledge) (word found : ℕ) (m : Me DrawopValue Knowledge) → InOrder h → u.0 ≡ united h.seat.me.0 w → confirmed (step 0 word 0 0 none) u found m → length h.seen.items ≤ length w.seen
+    → IsPrefix h.seen.items w.seen
+told_front h w u word found m o is told few = let b = begins h w u word found m o is told in both_start (longer h.seen.items w.seen) w.seen h.seen.items b.1 b.0 few
+
+-- the hand after its seat took in the other, and a load told what the join did not
+pub took_in : (h : Hand) (w : Knowledge) (h' : Hand) (u : Me DrawopValue Knowledge) (word found : ℕ) → InOrder h → u.1 ≡ h.seat.me.1 → u.0 ≡ united h.seat.me.0 w → confirmed (step 0 word 0 0 none) u found h'.seat.me
+    → h'.seat.table_id ≡ h.seat.table_id → h'.seat.id ≡ h.seat.id → h'.seen.items ≡ longer h.seen.items w.seen → h'.mine.items ≡ h.mine.items ++ w.mine → h'.free.items ≡ h.free.items ++ w.free → h'.steps ≡ h.steps → United h w h'
+took_in h w h' u word found o slots is told table id seen mine free steps =
+    let after : h'.seat.me.0 ≡ after_confirm (united h.seat.me.0 w) word found = told.1 ∙ ap (λ (v : Knowledge). after_confirm v word found) is in
+    let b = begins h w u word found h'.seat.me o is told in
     record {
       order = record {
         slots = told.0 ∙ (slots ∙ o.slots);
-        seen = ap (λ (v : Knowledge). v.seen) after ∙ (seat_longer ∙ sym seen);
-        mine = ap (λ (v : Knowledge). v.mine) after ∙ (both_lists (λ (k : Knowledge). k.mine) h.mine.items g.mine.items o.mine q.mine ∙ sym mine);
-        free = ap (λ (v : Knowledge). v.free) after ∙ (both_lists (λ (k : Knowledge). k.free) h.free.items g.free.items o.free q.free ∙ sym free);
+        seen = ap (λ (v : Knowledge). v.seen) after ∙ (ap (λ (l : List DrawopValue). longer l w.seen) o.seen ∙ sym seen);
+        mine = ap (λ (v : Knowledge). v.mine) after ∙ (ap (λ (l : List ℕ). l ++ w.mine) o.mine ∙ sym mine);
+        free = ap (λ (v : Knowledge). v.free) after ∙ (ap (λ (l : List ℕ). l ++ w.free) o.free ∙ sym free);
         sane = told.3;
       };
       seat = (table, id, told.0 ∙ slots);
       cells = ap (λ (v : Knowledge). v.cells) after;
       seen = seen;
-      first = subst (λ (l : List DrawopValue). IsPrefix h.seen.items l) (sym seen) (both_begin h.seen.items g.seen.items (subst2 (λ (a b : List DrawopValue). length (shorter a b) ≤ length (longer a b) → IsPrefix (shorter a b) (longer a b)) o.seen q.seen starts)).0;
-      second = subst (λ (l : List DrawopValue). IsPrefix g.seen.items l) (sym seen) (both_begin h.seen.items g.seen.items (subst2 (λ (a b : List DrawopValue). length (shorter a b) ≤ length (longer a b) → IsPrefix (shorter a b) (longer a b)) o.seen q.seen starts)).1;
+      first = subst (λ (l : List DrawopValue). IsPrefix h.seen.items l) (sym seen) b.0;
+      second = subst (λ (l : List DrawopValue). IsPrefix w.seen l) (sym seen) b.1;
       mine = mine;
       free = free;
       steps = steps;
     }
-  where
-    subst2 : (P : List DrawopValue → List DrawopValue → Type 0) {a a' b b' : List DrawopValue} → a ≡ a' → b ≡ b' → P a b → P a' b'
-    subst2 P e f p = subst (λ (x : List DrawopValue × List DrawopValue). P x.0 x.1) (λ i. (e i, f i)) p
-
-    seat_longer : longer h.seat.me.0.seen g.seat.me.0.seen ≡ longer h.seen.items g.seen.items
-    seat_longer = λ i. longer (o.seen i) (q.seen i)
-
-    both_lists : (f : Knowledge → List ℕ) (a b : List ℕ) → f h.seat.me.0 ≡ a → f g.seat.me.0 ≡ b → f h.seat.me.0 ++ f g.seat.me.0 ≡ a ++ b
-    both_lists f a b x y = λ i. x i ++ y i
 
 -- where no element of two lists together stands twice, they share none
 shared_none : (xs ys : List ℕ) → Once (xs ++ ys) → (i : ℕ) → Contains xs i → Contains ys i → ⊥
@@ -93,18 +95,21 @@ same_view h k seat seen mine free steps = λ i. record {
   steps = steps i;
 }
 
-pub joined : (p q : PassValue) (h g h' : Hand) → view_of h ≡ p → view_of g ≡ q → United h g h' → IsJoined p q (view_of h')
-joined p q h g h' is_p is_q u = subst (λ (v : PassValue). IsJoined v q (view_of h')) is_p (subst (λ (v : PassValue). IsJoined (view_of h) v (view_of h')) is_q record {
-  seen = u.seen;
+pub joined : (p q : PassValue) (h g h' : Hand) → view_of h ≡ p → view_of g ≡ q → InOrder g → United h g.seat.me.0 h' → IsJoined p q (view_of h')
+joined p q h g h' is_p is_q o u = subst (λ (v : PassValue). IsJoined v q (view_of h')) is_p (subst (λ (v : PassValue). IsJoined (view_of h) v (view_of h')) is_q record {
+  seen = u.seen ∙ ap (λ (l : List DrawopValue). longer h.seen.items l) o.seen;
   first = u.first;
-  second = u.second;
-  mine = u.mine;
+  second = subst (λ (l : List DrawopValue). IsPrefix l h'.seen.items) o.seen u.second;
+  mine = mine;
   free = ap length u.free ∙ long;
-  apart = λ i a b. shared_none h.mine.items g.mine.items (subst Once (u.order.mine ∙ u.mine) u.order.sane.mine_once) i a b;
+  apart = λ i a b. shared_none h.mine.items g.mine.items (subst Once (u.order.mine ∙ mine) u.order.sane.mine_once) i a b;
 })
   where
-    long : length (h.free.items ++ g.free.items) ≡ length h.free.items + length g.free.items
-    long = omega (arith, length-append h.free.items g.free.items)
+    mine : h'.mine.items ≡ h.mine.items ++ g.mine.items
+    mine = u.mine ∙ ap (λ (l : List ℕ). h.mine.items ++ l) o.mine
+
+    long : length (h.free.items ++ g.seat.me.0.free) ≡ length h.free.items + length g.free.items
+    long = omega (arith, length-append h.free.items g.seat.me.0.free, ap length o.free)
 
 -- a pass that took in one with no rows and no places keeps its own
 pub keeps_own : (p q r : PassValue) → q.mine ≡ [] → q.free ≡ 0 → IsJoined p q r → KeepsRows p r

@@ -4,6 +4,7 @@ use Rattle.std.specs.Prelude.{◌≡◌, ◌≢◌, ◌⊎◌, ℕ, ◌+◌, ◌
 use mathlib.Core.Option.{some}
 use lib.ListN.{get_elem?}
 use Rattle.wb_names.specs.Values.{DrawopValue}
+use Rattle.wb_history.specs.declared.knowledge.Knowledge.{Knowledge}
 use Rattle.wb_history.specs.declared.hand.Hand.{Hand}
 use Rattle.wb_history.specs.declared.hand.Claim.{Claim}
 use Rattle.wb_history.specs.declared.hand.ClaimFault.{ClaimFault}
@@ -78,14 +79,14 @@ abbrev pub Refused : ℕ → Hand → DrawopValue → Hand → ClaimFault → Ty
 Refused cells h d h' NoRow = (more : List DrawopValue) × AtEnd cells h more h' × Lacks h'.seen.items d.name × (h.free.items ≡ [])
 Refused cells h d h' Memory = (more : List DrawopValue) × (extra : ℕ) × (extra ≤ row_words + 2) × Walked h more extra h'
 
--- the hand after it took in another
-pub record United (h g h' : Hand) : Type 0 where
+-- the hand after it took in what another seat knows
+pub record United (h : Hand) (w : Knowledge) (h' : Hand) : Type 0 where
   pub order : InOrder h'
   pub seat : SameSeat h.seat h'.seat
   pub cells : h'.seat.me.0.cells ≡ h.seat.me.0.cells
-  pub seen : h'.seen.items ≡ longer h.seen.items g.seen.items
+  pub seen : h'.seen.items ≡ longer h.seen.items w.seen
   pub first : IsPrefix h.seen.items h'.seen.items
-  pub second : IsPrefix g.seen.items h'.seen.items
-  pub mine : h'.mine.items ≡ h.mine.items ++ g.mine.items
-  pub free : h'.free.items ≡ h.free.items ++ g.free.items
+  pub second : IsPrefix w.seen h'.seen.items
+  pub mine : h'.mine.items ≡ h.mine.items ++ w.mine
+  pub free : h'.free.items ≡ h.free.items ++ w.free
   pub steps : h'.steps ≡ h.steps

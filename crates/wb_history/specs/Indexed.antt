@@ -1,5 +1,6 @@
 -- A list of drawops with an index of their names.
-use Rattle.std.specs.Prelude.{◌≡◌, ℕ, ◌-◌, List, map, min, vec_len, vec_capacity}
+use Rattle.std.specs.Prelude.{◌≡◌, ℕ, ◌-◌, List, All, map, min, vec_len, vec_capacity}
+use mathlib.Core.List.{IsPrefix}
 use Rattle.indexmap.specs.IndexSet.{spare}
 use Rattle.wb_names.specs.Values.{DrawopValue}
 use Rattle.wb_history.specs.declared.members.Members.TheInside.{Inside}
@@ -15,3 +16,7 @@ members_of m = record { items = m.list.items; room = min (vec_capacity m.list - 
 -- the index has the names in order of place
 abbrev pub IsIndexed : Inside → Type 0
 IsIndexed m = m.names.keys ≡ map (λ d. d.name) m.list.items
+
+-- each list is a front of the list
+abbrev pub AreFronts : List MembersValue → List DrawopValue → Type 0
+AreFronts lists whole = All (λ l. IsPrefix l.items whole) lists

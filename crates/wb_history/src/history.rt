@@ -92,7 +92,12 @@ impl History {
             free,
             steps: 0,
         };
-        Ok((History { cells: table }, Pass { hand, cells }))
+        let pass = Pass {
+            hand,
+            spares: Vec::new(alloc),
+            cells,
+        };
+        Ok((History { cells: table }, pass))
     }
 
     /// Adds a drawop at the next place, unless a member has its name: then it tells where, and

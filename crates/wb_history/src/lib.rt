@@ -13,8 +13,8 @@
 //! used again, a drawop never leaves, and nothing is kept on disk. Callers see drawops by place; the
 //! words, the contents of cells and the numbers of rows stay inside.
 //!
-//! In reading order: `history`, `parts` and `pass` have the public calls; `hand`, `members`, `walk`
-//! and `claims` what a pass does in them; `cells`, `steps`, `rule` and `knowledge` the table.
+//! In reading order: `history`, `parts` and `pass` have the public calls; `hand`, `members`, `spares`,
+//! `walk` and `claims` what a pass does in them; `cells`, `steps`, `rule` and `knowledge` the table.
 #![tactic(auto)]
 
 mod cells;
@@ -26,6 +26,7 @@ mod members;
 mod parts;
 mod pass;
 mod rule;
+mod spares;
 mod steps;
 mod walk;
 

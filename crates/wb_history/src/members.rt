@@ -1,5 +1,6 @@
 //! The members of a history that a pass has seen, with an index of their names.
 ghost use Rattle.std.specs.Prelude.{◌≡◌, ◌+◌, ◌<◌, ◌≤◌, ◌-◌, take, [], ◌∷◌, ◌++◌, length, IfOk, OnOk, MatchOption};
+ghost use mathlib.Core.List.{IsPrefix};
 ghost use mathlib.Core.Option.{some};
 ghost use lib.ListN.{get_elem?};
 ghost use Rattle.wb_names.specs.Values.{DrawopValue};
@@ -94,16 +95,24 @@ impl Members {
         self.names.truncate(kept);
     }
 
-    /// The same members again.
-    pub(crate) fn copied(&self, alloc: Global) -> Result<Members, AllocError>
-        requires { NamesOnce self.now.items }
+    /// Puts in what a longer list has more, for which there is room.
+    pub(crate) fn extend_to(&mut self, longer: &[Drawop])
+        requires front { IsPrefix self.old.items longer.now × NamesOnce longer.now }
+        requires room { length longer.now ≤ length self.old.items + self.old.room }
+        ensures { self.new.items ≡ longer.now }
+    {
+        for place in self.len()..longer.len() {
+            self.put(&longer[place]);
+        }
+    }
+
+    /// The same members again. The copied index keeps the hashes that it has.
+    pub(crate) fn copied(&self) -> Result<Members, AllocError>
         ensures { IfOk result (λ copy. copy.items ≡ self.now.items) }
     {
-        let mut copy = Members::new(alloc);
-        copy.reserve(self.len())?;
-        for member in self.as_slice() {
-            copy.put(member);
-        }
-        Ok(copy)
+        Ok(Members {
+            list: self.list.clone()?,
+            names: self.names.clone()?,
+        })
     }
 }

@@ -1,20 +1,25 @@
 //! How a pass is split, how two are joined, and how two tell each other what they have seen.
-ghost use Rattle.std.specs.Prelude.{◌≡◌, ◌+◌, ◌<◌, ◌≤◌, ◌++◌, Err, IfOk, IfErr, OnOk, OnErr, MatchResult, length, vec_len, vec_capacity};
+ghost use Rattle.std.specs.Prelude.{◌≡◌, ◌+◌, ◌<◌, ◌≤◌, [], ◌++◌, Err, IfOk, IfErr, OnOk, OnErr, MatchResult, length, vec_len, vec_capacity};
 ghost use mathlib.Core.List.{IsPrefix};
 ghost use Rattle.wb_history.specs.Hands.{InOrder, United};
 ghost use Rattle.wb_history.specs.Lists.{longer};
+ghost use Rattle.wb_history.specs.Members.{NamesOnce};
 ghost use Rattle.wb_history.specs.Seats.{SitsAt};
 ghost use Rattle.wb_history.specs.Sharing.{IsSplit, IsSplitFault, IsJoined};
 ghost use Rattle.wb_history.specs.Passes.{IsPassOf, IsSamePass, IsSound, KeepsRows};
 ghost use Rattle.wb_history.specs.declared.parts.SplitFault.TheVariants as fault;
 
-use crate::cells::CellTable;
+use crate::cells::{CellTable, Chair};
 use crate::hand::Hand;
 use crate::history::History;
+use crate::members::Members;
 use crate::pass::Pass;
+use crate::spares::{another, keep};
 use std::alloc::{AllocError, Global};
 use std::marker::Brand;
+use std::mem::replace;
 use thiserror::Error;
+use wb_names::Drawop;
 
 /// Why a pass was not split, in the order of the checks.
 #[derive(Clone, Copy, Debug, PartialEq, Eq, Error)]
@@ -76,7 +81,7 @@ impl History {
         if have < rows as usize {
             return Err(SplitFault::TooMany(have as u32));
         }
-        let Ok(seen) = pass.hand.seen.copied(alloc) else {
+        let Ok(seen) = another(&mut pass.spares, &pass.hand.seen) else {
             return Err(SplitFault::Memory);
         };
         let Ok(free) = pass.hand.free.split_off(have - rows as usize) else {
@@ -92,6 +97,7 @@ impl History {
         };
         Ok(Pass {
             hand,
+            spares: Vec::new(alloc),
             cells: pass.cells,
         })
     }
@@ -102,19 +108,20 @@ fn append(to: &mut Vec<u32>, from: &[u32])
     requires { vec_len to.old + length from.now ≤ vec_capacity to.old }
     ensures { to.new.items ≡ to.old.items ++ from.now }
 {
-    for number in from {
-        to.push_reserved(*number);
-    }
+    let Ok(()) = to.extend_from_slice(from) else {
+        unreachable!()
+    };
 }
 
 impl CellTable {
     /// Makes two hands one. The load of the first cell tells what the join of the seats does not: that
-    /// the longer list begins with the shorter, and that no place was of both.
-    fn take_in(&self, hand: &mut Hand, other: Hand)
+    /// the longer list begins with the shorter, and that no place was of both. The shorter comes back.
+    fn take_in(&self, hand: &mut Hand, other: Hand) -> Members
         requires hand { SitsAt self.now hand.old.seat × InOrder hand.old }
         requires other { SitsAt self.now other.seat × InOrder other }
         requires room { (vec_len hand.old.mine + vec_len other.mine ≤ vec_capacity hand.old.mine) × (vec_len hand.old.free + vec_len other.free ≤ vec_capacity hand.old.free) }
-        ensures { United hand.old other hand.new }
+        ensures united { United hand.old other.seat.me.0 hand.new }
+        ensures front { IsPrefix result.items hand.new.seen.items }
     {
         let Hand {
             seat,
@@ -128,8 +135,23 @@ impl CellTable {
         append(&mut hand.mine, mine.as_slice());
         append(&mut hand.free, free.as_slice());
         if hand.seen.len() < seen.len() {
-            hand.seen = seen;
+            return replace(&mut hand.seen, seen);
         }
+        seen
+    }
+
+    /// Takes in a seat that owns nothing and has seen this list, which is no shorter. The hand's own
+    /// list gets what the other has more; there is room for it.
+    fn hear(&self, hand: &mut Hand, seat: Chair, list: &[Drawop])
+        requires hand { SitsAt self.now hand.old.seat × InOrder hand.old }
+        requires seat { SitsAt self.now seat × (seat.me.1 ≡ []) × (seat.me.0.mine ≡ []) × (seat.me.0.free ≡ []) }
+        requires list { (seat.me.0.seen ≡ list.now) × NamesOnce list.now }
+        requires room { (length hand.old.seen.items ≤ length list.now) × (length list.now ≤ length hand.old.seen.items + hand.old.seen.room) }
+        ensures { United hand.old seat.me.0 hand.new }
+    {
+        self.unite(&mut hand.seat, seat);
+        self.confirm(&mut hand.seat);
+        hand.seen.extend_to(list);
     }
 }
 
@@ -148,32 +170,43 @@ impl History {
         if pass.hand.free.reserve(other.hand.free.len()).is_err() {
             return Err((JoinFault::Memory, other));
         }
-        let Pass { hand, cells: _ } = other;
-        self.cells.take_in(&mut pass.hand, hand);
+        let Pass {
+            hand,
+            spares: _spares,
+            cells: _,
+        } = other;
+        let shorter = self.cells.take_in(&mut pass.hand, hand);
+        keep(&mut pass.spares, shorter);
         Ok(())
     }
 
-    /// Lets the hearer know what the teller has seen. A refused call changes nothing.
-    fn tell(&self, alloc: Global, teller: &mut Pass, hearer: &mut Pass) -> Result<(), AllocError>
+    /// Lets the hearer, whose list is no longer, know what the teller has seen. A refused call changes
+    /// nothing.
+    fn tell(&self, teller: &mut Pass, hearer: &mut Pass) -> Result<(), AllocError>
         requires passes { IsPassOf self.now teller.old × IsPassOf self.now hearer.old }
+        requires longer { length hearer.old.seen ≤ length teller.old.seen }
         ensures same { IsSamePass teller.old teller.new × IsSamePass hearer.old hearer.new }
         ensures sound { IsSound teller.new × OnOk result (IsSound hearer.new) }
         ensures teller { KeepsRows teller.old teller.new × (teller.new.seen ≡ teller.old.seen) × (teller.new.steps ≡ teller.old.steps) }
         ensures told { OnOk result (KeepsRows hearer.old hearer.new × (hearer.new.seen ≡ longer hearer.old.seen teller.old.seen) × IsPrefix hearer.old.seen hearer.new.seen × IsPrefix teller.old.seen hearer.new.seen × (hearer.new.steps ≡ hearer.old.steps)) }
         ensures refused { OnErr result ((teller.new ≡ teller.old) × (hearer.new ≡ hearer.old)) }
     {
-        let Ok(message) = self.split(alloc, teller, 0) else {
-            return Err(AllocError);
-        };
-        match self.join(hearer, message) {
-            Ok(()) => Ok(()),
-            Err(_) => Err(AllocError),
-        }
+        let more = teller.hand.seen.len() - hearer.hand.seen.len();
+        hearer.hand.seen.reserve(more)?;
+        let message = self.cells.cut::<Brand>(&mut teller.hand.seat, 0);
+        self.cells
+            .hear(&mut hearer.hand, message, teller.hand.seen.as_slice());
+        Ok(())
     }
 
-    /// Both passes have then seen the same list, the longer of their two. A refused call changes
-    /// nothing.
-    pub fn meet(&self, alloc: Global, first: &mut Pass, second: &mut Pass) -> Result<(), AllocError>
+    /// Both passes have then seen the same list, the longer of their two: the shorter grows where it
+    /// lies, by its own allocator. A refused call changes nothing.
+    pub fn meet(
+        &self,
+        _alloc: Global,
+        first: &mut Pass,
+        second: &mut Pass,
+    ) -> Result<(), AllocError>
         requires passes { IsPassOf self.now first.old × IsPassOf self.now second.old }
         ensures sound { IsSound first.new × IsSound second.new }
         ensures first { IsSamePass first.old first.new × KeepsRows first.old first.new × IsPrefix first.old.seen first.new.seen × (first.new.steps ≡ first.old.steps) }
@@ -182,9 +215,9 @@ impl History {
         ensures refused { OnErr result ((first.new ≡ first.old) × (second.new ≡ second.old)) }
     {
         if first.hand.seen.len() < second.hand.seen.len() {
-            self.tell(alloc, second, first)
+            self.tell(second, first)
         } else {
-            self.tell(alloc, first, second)
+            self.tell(first, second)
         }
     }
 }

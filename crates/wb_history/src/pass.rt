@@ -5,6 +5,7 @@ ghost use Rattle.wb_names.specs.History.{HoldsName};
 ghost use Rattle.wb_history.specs.Passes.{IsSound, IsWhole};
 
 use crate::hand::Hand;
+use crate::members::Members;
 use std::marker::Model;
 use wb_names::{Drawop, Name};
 
@@ -12,22 +13,28 @@ use wb_names::{Drawop, Name};
 /// those that it added, and rows for more. It takes steps only when it is lent to a call of the
 /// history that it came from, and it may go to another thread. A pass that is dropped keeps its
 /// rows, so they are lost.
+///
+/// Of each pass that was joined to it it keeps a list of drawops, with its index, for its next split: at
+/// most eight, which are given back when it is dropped.
 #[derive(Drop)]
 pub struct Pass {
     pub(crate) hand: Hand,
+    /// Lists that joined passes brought back, each a front of its own.
+    pub(crate) spares: Vec<Members>,
     pub(crate) cells: u32,
 }
 
 impl Model for Pass {
     ghost use Rattle.std.specs.Prelude.{◌≡◌};
     ghost use Rattle.wb_history.specs.Passes.{PassValue};
+    ghost use Rattle.wb_history.specs.Indexed.{AreFronts};
     ghost use Rattle.wb_history.specs.Shown.{view_of, IsHeld};
 
     ghost Value = { PassValue };
 
     ghost view = { λ p. view_of p.hand };
 
-    ghost invariant = { λ p. IsHeld p.hand × (p.cells ≡ p.hand.seat.me.0.cells) };
+    ghost invariant = { λ p. IsHeld p.hand × (p.cells ≡ p.hand.seat.me.0.cells) × AreFronts p.spares.items p.hand.seen.items };
 }
 
 impl Pass {

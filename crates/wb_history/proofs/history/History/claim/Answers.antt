@@ -4,19 +4,23 @@ use Rattle.wb_history.specs.Passes.{PassValue}
 use Rattle.wb_history.specs.Replies.{Claimed, NotClaimed, ClaimSteps, FaultSteps}
 use Rattle.wb_names.specs.History.{HoldsName}
 use Rattle.wb_history.proofs.Words.{holds}
+use Rattle.wb_history.proofs.Fronts.{fronts_on}
 use Rattle.wb_history.specs.Shown.{view_of}
 use Rattle.wb_history.proofs.Shows.{from_there, shown, shown_steps, fresh, sits, sound, held_after}
 use Rattle.wb_history.proofs.history.History.claim.Goals as goal
 
+pub invariant_of-pass : goal.invariant_of-pass
+invariant_of-pass c =
+    let on = held_after c.self.inside.cells.cells (record c.pass.inside.hand { steps = 0 }) c.args.drawop.now c.claim_with.new.hand c.claim_with.result (fresh c.pass.inside.hand c.pass.invariant.0) c.claim_with.ensures.done in
+    (on.0, c.pass.invariant.1 ∙ sym on.1, fronts_on c.pass.inside.spares.items c.pass.inside.hand.seen.items c.claim_with.new.hand.seen.items on.2 c.pass.invariant.2)
+
 pub returns-clause-sound : goal.returns-clause-sound
-returns-clause-sound c =
-    sound c.claim_with.new.hand (held_after c.self.inside.cells.cells (record c.pass.inside.hand { steps = 0 }) c.args.drawop.now c.claim_with.new.hand c.claim_with.result (fresh c.pass.inside.hand c.pass.invariant.0) c.claim_with.ensures.done)
+returns-clause-sound c = sound c.claim_with.new.hand (invariant_of-pass c).0
 
 pub returns-clause-grows : goal.returns-clause-grows
 returns-clause-grows c =
-    let at = sits c.self.inside.cells c.pass.inside.hand c.self.view_is c.pass.view_is c.pass.invariant.0 c.requires.pass in
-    let s = shown c.self.inside.cells.cells (record c.pass.inside.hand { steps = 0 }) c.args.drawop.now c.claim_with.new.hand c.claim_with.result (fresh c.pass.inside.hand c.pass.invariant.0).0 at.1 c.claim_with.ensures.done in
-    subst (λ (p : PassValue). IsPrefix p.seen c.claim_with.new.hand.seen.items) c.pass.view_is s.0
+    let on = held_after c.self.inside.cells.cells (record c.pass.inside.hand { steps = 0 }) c.args.drawop.now c.claim_with.new.hand c.claim_with.result (fresh c.pass.inside.hand c.pass.invariant.0) c.claim_with.ensures.done in
+    subst (λ (p : PassValue). IsPrefix p.seen c.claim_with.new.hand.seen.items) c.pass.view_is on.2
 
 pub returns-clause-answer : goal.returns-clause-answer
 returns-clause-answer c =

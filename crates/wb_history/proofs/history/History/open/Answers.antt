@@ -2,12 +2,13 @@ use Rattle.std.proofs.Common.{length, refl, sym, ap, ◌∙◌, arith}
 use Rattle.atomic_table.specs.Table.{Me}
 use Rattle.wb_names.specs.Values.{DrawopValue}
 use Rattle.wb_history.specs.declared.knowledge.Knowledge.{Knowledge}
+use Rattle.wb_history.proofs.Fronts.{none_are_fronts}
 use Rattle.wb_history.proofs.Opens.{length-numbers}
 use Rattle.wb_history.proofs.Shows.{first_order, sound}
 use Rattle.wb_history.proofs.history.History.open.Goals as goal
 
-pub invariant_of-result : goal.invariant_of-result
-invariant_of-result c =
+pub invariant_of-pass : goal.invariant_of-pass
+invariant_of-pass c =
     let m = c.in-Ok-make.ensures in
     let none = c.if-cells-eq0.false in
     let many = c.if-cells-gt65535.false in
@@ -17,10 +18,11 @@ invariant_of-result c =
     let same = m.0 in (
       (first_order (record { seat = c.in-Ok-make.seat; seen = c.new.result; mine = c.new-2.result; free = c.in-Ok.free; steps = 0 }) c.args.cells (omega arith) m.2 c.new.ensures c.new-2.ensures.items c.in-Ok.ensures, (omega arith), (omega arith), (omega arith)),
       sym cells,
+      none_are_fronts c.new-3.result.items c.new.result.items c.new-3.ensures.items,
     )
 
 pub returns-clause-opened : goal.returns-clause-opened
 returns-clause-opened c =
     let m = c.in-Ok-make.ensures in
     let cells = ap (λ (x : Me DrawopValue Knowledge). x.0.cells) m.2 in
-    (m.1, cells, c.new.ensures, c.new-2.ensures.items, (ap length c.in-Ok.ensures ∙ length-numbers c.args.cells), refl, m.0, sound (record { seat = c.in-Ok-make.seat; seen = c.new.result; mine = c.new-2.result; free = c.in-Ok.free; steps = 0 }) (invariant_of-result c).0)
+    (m.1, cells, c.new.ensures, c.new-2.ensures.items, (ap length c.in-Ok.ensures ∙ length-numbers c.args.cells), refl, m.0, sound (record { seat = c.in-Ok-make.seat; seen = c.new.result; mine = c.new-2.result; free = c.in-Ok.free; steps = 0 }) (invariant_of-pass c).0)

@@ -4,6 +4,7 @@ use Rattle.wb_names.specs.Values.{DrawopValue}
 use Rattle.wb_history.specs.declared.knowledge.Knowledge.{Knowledge}
 use Rattle.wb_history.specs.Passes.{IsSound}
 use Rattle.wb_history.proofs.Shows.{sound, sound_pass}
+use Rattle.wb_history.proofs.Fronts.{none_are_fronts}
 use Rattle.wb_history.proofs.Unions.{same_view}
 use Rattle.wb_history.proofs.Portions.{left_order, right_order}
 use Rattle.wb_history.proofs.history.History.split.Goals as goal
@@ -20,13 +21,14 @@ invariant_of-result c =
     let few_cells = i.0.3 in
     let same = i.1 in (
       (
-        right_order c.pass.inside.hand (record { seat = c.cut-seat.result; seen = c.in-Ok.seen; mine = c.new.result; free = c.in-Ok-split_off.free; steps = 0 }) c.args.rows i.0.0 n.1 c.in-Ok.ensures c.new.ensures.items
+        right_order c.pass.inside.hand (record { seat = c.cut-seat.result; seen = c.in-Ok.seen; mine = c.new.result; free = c.in-Ok-split_off.free; steps = 0 }) c.args.rows i.0.0 n.1 c.in-Ok.ensures.list c.new.ensures.items
             (c.in-Ok-split_off.ensures.tail ∙ ap (λ (k : ℕ). drop (k - c.args.rows) c.pass.inside.hand.free.items) have),
         (omega arith),
         (omega arith),
         (omega arith),
       ),
       (omega arith),
+      none_are_fronts c.new-2.result.items c.in-Ok.seen.items c.new-2.ensures.items,
     )
 
 pub invariant_of-pass-2 : goal.invariant_of-pass-2
@@ -48,13 +50,14 @@ invariant_of-pass-2 c =
         (omega arith),
       ),
       (omega arith),
+      c.another.ensures.spares,
     )
 
 pub returns-then-have-rows-clause-sound : goal.returns-then-have-rows-clause-sound
 returns-then-have-rows-clause-sound c = (sound_pass c.pass.inside.hand c.pass.view_is c.pass.invariant.0, tt)
 
 pub returns-in_default-clause-sound : goal.returns-in_default-clause-sound
-returns-in_default-clause-sound c = (sound_pass c.pass.inside.hand c.pass.view_is c.pass.invariant.0, tt)
+returns-in_default-clause-sound c = (sound c.pass.inside.hand c.pass.invariant.0, tt)
 
 pub returns-in_default-split_off-clause-sound : goal.returns-in_default-split_off-clause-sound
 returns-in_default-split_off-clause-sound c =

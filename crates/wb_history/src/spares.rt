@@ -1,0 +1,38 @@
+//! Lists that came back from joined passes. A split takes one and adds what came since, so that it
+//! copies no list.
+ghost use Rattle.std.specs.Prelude.{◌≡◌, List, IfOk};
+ghost use mathlib.Core.List.{IsPrefix};
+ghost use Rattle.wb_names.specs.Values.{DrawopValue};
+ghost use Rattle.wb_history.specs.Members.{NamesOnce};
+ghost use Rattle.wb_history.specs.Indexed.{AreFronts};
+
+use crate::members::Members;
+use std::alloc::AllocError;
+
+/// How many lists a pass keeps: as many as a batch has workers.
+const MOST: usize = 8;
+
+/// Another list of the members that were seen: a spare one with what came since, or a copy where there
+/// is none. After a fault the spare is gone.
+pub(crate) fn another(spares: &mut Vec<Members>, seen: &Members) -> Result<Members, AllocError>
+    requires spares { AreFronts spares.old.items seen.now.items }
+    requires once { NamesOnce seen.now.items }
+    ensures list { IfOk result (λ list. list.items ≡ seen.now.items) }
+    ensures spares { AreFronts spares.new.items seen.now.items }
+{
+    let Some(mut list) = spares.pop() else {
+        return seen.copied();
+    };
+    list.reserve(seen.len() - list.len())?;
+    list.extend_to(seen.as_slice());
+    Ok(list)
+}
+
+/// Keeps a list for a later split, while there are few and memory lasts. Otherwise it goes.
+pub(crate) fn keep(spares: &mut Vec<Members>, list: Members)
+    ensures { (seen : List DrawopValue) → AreFronts spares.old.items seen → IsPrefix list.items seen → AreFronts spares.new.items seen }
+{
+    if spares.len() < MOST {
+        let _kept = spares.push(list);
+    }
+}
