@@ -28,7 +28,8 @@ use wb_names::Name;
 
 impl Recovery {
     /// Names have come, and time goes on to a moment: stops the timers of these names, each as `got`
-    /// does, and then fires what is due as `tick` does, as one call. Answers what to send.
+    /// does, and then fires what is due as `tick` does, as one call. Answers what to send. The moment is
+    /// in microseconds. There are at least as many words as `due_count` says at this moment.
     ///
     /// Refused with `BackInTime`, `Range` (a delay of any of them) or `Memory`, in this order.
     pub fn stop_and_tick(
@@ -38,7 +39,6 @@ impl Recovery {
         now: u64,
         words: &[u64],
     ) -> Result<Vec<Action>, RecoveryFault>
-        // as many words as `due_count` says
         requires { length (due_asks (names_in self.old) (timers_in self.old) now) ≤ length words.now }
         ensures fault { IsCheckedBy (gots_fault self.old.moment now come.now) result }
         ensures actions { IfOk result (λ actions. (constants : Constants) (events : List Event) → StandsFor constants events self.old → actions.items ≡ actions_of constants (gots now events come.now) now) }
@@ -51,7 +51,8 @@ impl Recovery {
     }
 
     /// What `stop_and_tick` would do at this moment, in microseconds. It changes nothing: `commit` does
-    /// it. Where nothing is due and no name has come, it takes no memory.
+    /// it. Where nothing is due and no name has come, it takes no memory. There are at least as many
+    /// words as `due_count` says at this moment.
     ///
     /// Refused as `stop_and_tick`.
     pub fn plan(
@@ -61,7 +62,6 @@ impl Recovery {
         now: u64,
         words: &[u64],
     ) -> Result<Plan, RecoveryFault>
-        // as many words as `due_count` says
         requires { length (due_asks (names_in self.now) (timers_in self.now) now) ≤ length words.now }
         ensures fault { IsCheckedBy (gots_fault self.now.moment now come.now) result }
         ensures actions { IfOk result (λ plan. (constants : Constants) (events : List Event) → StandsFor constants events self.now → plan.actions.items ≡ actions_of constants (gots now events come.now) now) }
