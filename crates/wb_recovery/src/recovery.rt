@@ -16,6 +16,7 @@ mod stopping;
 use crate::action::Action;
 use crate::alarms::Alarms;
 use crate::fault::{RecoveryFault, TuningFault};
+use crate::limits::{DELAY_LIMIT, MOMENT_LIMIT};
 use crate::missed::Missed;
 use crate::records::{rewrite, timers_of};
 use crate::timers::{AnswerTimer, AskTimer, Timers};
@@ -252,7 +253,7 @@ impl Recovery {
         if now < self.moment {
             return Err(RecoveryFault::BackInTime);
         }
-        if now >= 1 << 48 || delay >= 1 << 24 {
+        if now >= MOMENT_LIMIT || delay >= DELAY_LIMIT {
             return Err(RecoveryFault::Range);
         }
         Ok(())

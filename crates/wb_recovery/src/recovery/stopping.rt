@@ -19,6 +19,7 @@ use crate::action::Action;
 use crate::come::Come;
 use crate::fault::RecoveryFault;
 use crate::firing::{actions, answer_all, back_off_all};
+use crate::limits::{DELAY_LIMIT, MOMENT_LIMIT};
 use crate::plan::Plan;
 use crate::records::rewrite_all;
 use crate::recovery::Recovery;
@@ -120,7 +121,7 @@ impl Recovery {
         if now < self.moment {
             return Err(RecoveryFault::BackInTime);
         }
-        if now >= 1 << 48 || !are_delays(come) {
+        if now >= MOMENT_LIMIT || !are_delays(come) {
             return Err(RecoveryFault::Range);
         }
         Ok(())
@@ -163,7 +164,7 @@ impl Recovery {
 fn are_delays(come: &[Come]) -> bool
     ensures { result ≡ list_all (λ c. is_delay c.delay) come.now }
 {
-    come.iter().all(|one| one.delay < 1 << 24)
+    come.iter().all(|one| one.delay < DELAY_LIMIT)
 }
 
 /// The names that have come, to be looked up in.
