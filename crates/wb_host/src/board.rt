@@ -36,6 +36,8 @@ impl Model for Board {
 impl Board {
     /// An empty board of so many cells, from 1 to 65,535, and as many rows; and the desk that owns all
     /// rows. There is room for as many drawops as there are cells.
+    ///
+    /// Refused with `Cells`, just where the number is not from 1 to 65,535, or `Memory`.
     pub fn open(alloc: Global, cells: u32) -> Result<(Board, Desk), OpenFault>
         ensures opened { IfOk result (λ t. IsPassOf t.0 t.1 × (t.1.cells ≡ cells) × (t.1.seen ≡ []) × (t.1.mine ≡ []) × (t.1.free ≡ cells) × (t.1.steps ≡ 0) × (t.0.cells ≡ cells) × IsSound t.1) }
         ensures refused { (cells ≡ 0) ⊎ (65535 < cells) → result ≡ Err opening.Cells }
@@ -47,6 +49,8 @@ impl Board {
 
     /// A new desk, which has seen the same and gets so many of the free rows. With no rows it can tell
     /// another thread what was seen. A refused call changes nothing.
+    ///
+    /// Refused with `TooMany` and how many rows are free, just where it has fewer, or `Memory`.
     pub fn split(&self, alloc: Global, desk: &mut Desk, rows: u32) -> Result<Desk, SplitFault>
         requires desk { IsPassOf self.now desk.old }
         ensures same { IsSamePass desk.old desk.new }
@@ -59,7 +63,9 @@ impl Board {
     }
 
     /// Takes in another desk of the board: the desk has then seen the longer list, and owns the rows
-    /// and places of both. Where it is refused both are as before, and the other comes back.
+    /// and places of both.
+    ///
+    /// Refused with `Memory` alone: both are then as before, and the other comes back.
     pub fn join(&self, desk: &mut Desk, other: Desk) -> Result<(), (JoinFault, Desk)>
         requires desks { IsPassOf self.now desk.old × IsPassOf self.now other }
         ensures same { IsSamePass desk.old desk.new × (desk.new.steps ≡ desk.old.steps) }
@@ -73,7 +79,8 @@ impl Board {
         Ok(())
     }
 
-    /// Both desks have then seen the same list, the longer of their two. A refused call changes nothing.
+    /// Both desks have then seen the same list, the longer of their two. Only memory can be refused, and
+    /// both are then as before.
     pub fn meet(&self, alloc: Global, first: &mut Desk, second: &mut Desk) -> Result<(), AllocError>
         requires desks { IsPassOf self.now first.old × IsPassOf self.now second.old }
         ensures sound { IsSound first.new × IsSound second.new }
@@ -87,8 +94,10 @@ impl Board {
 
     /// Accepts a drawop: it becomes the next member, unless a member has its name. Then the reply
     /// tells where, and whether that member is the same drawop. A name that the desk has seen is
-    /// answered without a step and without memory. After a fault the desk may have seen more, and
-    /// nothing of this call stands in the history.
+    /// answered without a step and without memory.
+    ///
+    /// Refused with `NoRow`, where no row is free and the name stands nowhere, or `Memory`. The desk may
+    /// then have seen more, and nothing of this call stands in the history.
     pub fn accept(&self, desk: &mut Desk, drawop: &Drawop) -> Result<Reply, BoardFault>
         requires desk { IsPassOf self.now desk.old }
         ensures same { IsSamePass desk.old desk.new }

@@ -1,4 +1,8 @@
 //! A keeper: what one member asks for, answers and reports.
+//!
+//! Its requests, repairs and session messages are those of Floyd, Jacobson, Liu, McCanne and Zhang,
+//! "A Reliable Multicast Framework for Light-weight Sessions and Application Level Framing", 1997.
+
 ghost use Rattle.std.specs.Prelude.{◌≡◌, ◌<◌, ◌≤◌, ◌^◌, [], ℕ, List, false, IsTrue, IsOk, IfOk, OnOk, OnErr, MatchOption, MatchResult, length};
 ghost use Rattle.wb_names.specs.Values.{DrawopValue};
 ghost use Rattle.wb_recovery.specs.Timing.{are_constants};
@@ -45,7 +49,7 @@ pub(crate) struct Heard {
 #[derive(Debug, Drop)]
 pub struct Keeper {
     me: u32,
-    /// The moment of the last accepted call that has one.
+    /// The moment of the last accepted call that has one, in microseconds.
     moment: u64,
     recovery: Recovery,
     /// The delays that were set or told, by source, in microseconds.
@@ -144,8 +148,8 @@ impl Keeper {
         }
     }
 
-    /// How many request timers are due at a moment, and so how many words `tick` then wants. Which of
-    /// them a tick stops, since what they ask for is held, the accepted calls tell too.
+    /// How many request timers are due at a moment, in microseconds, and so how many words `tick` then
+    /// wants. Which of them a tick stops, since what they ask for is held, the accepted calls tell too.
     pub fn due_count(&self, now: u64) -> usize
         ensures count { result ≡ length (due_asks (names_in self.now.recovery) (timers_in self.now.recovery) now) }
         ensures calls { (me : ℕ) (constants : Constants) (calls : List KeeperCall) → StandsFor me constants calls self.now → result ≡ length (due_asks (names_of (events_of me calls)) (timers_of constants (events_of me calls)) now) }
@@ -162,7 +166,8 @@ impl Keeper {
         self.recovery.asks()
     }
 
-    /// The least moment at which a timer is due, and so when the next `tick` has something to do.
+    /// The least moment at which a timer is due, in microseconds, and so when the next `tick` has
+    /// something to do.
     /// None where no timer stands.
     pub fn next_due(&self) -> Option<u64>
         ensures due { IsNextDue (timers_in self.now.recovery) result }

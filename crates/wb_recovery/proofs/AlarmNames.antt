@@ -1,6 +1,6 @@
 -- The names of the alarms: each once, and just those with a timer.
-use Rattle.std.proofs.Common.{◌≡◌, ℕ, ◌≤◌, Bool, true, false, cond, List, [], ◌∷◌, length, refl, ap, ◌∙◌, sym, subst, Option, Some, None, arith, eqb-true, true≢false}
-use Rattle.std.specs.Prelude.{nat_eq, nat_le, Contains, filter, map, take_while, is_some, IsPermutation}
+use Rattle.std.proofs.Common.{◌≡◌, ℕ, ◌≤◌, Bool, true, false, cond, List, [], ◌∷◌, ◌++◌, length, refl, ap, ◌∙◌, sym, subst, Option, Some, None, arith, eqb-true, true≢false}
+use Rattle.std.specs.Prelude.{◌&&◌, nat_eq, nat_le, Contains, filter, map, take_while, is_some, IsPermutation}
 use Rattle.std.specs.Bool.{Decides, one_answer}
 use Rattle.std.specs.Cmp.{eq_by_cmp_equiv}
 use Rattle.std.specs.List.{list_any, AllByRecursion, IsDistinct}
@@ -10,7 +10,7 @@ use Rattle.std.specs.Ordering.{is_eq, eq_by_cmp, nat_cmp, ordering_then}
 use Rattle.std.specs.declared.cmp.Ordering.{Ordering}
 use Rattle.std.specs.declared.cmp.Ordering.TheVariants.{Less}
 use Rattle.std.proofs.lemmas.Bool.Decides.{nat_tests}
-use Rattle.std.proofs.lemmas.List.{length-map}
+use Rattle.std.proofs.lemmas.List.{length-map, append_assoc}
 use Rattle.std.proofs.lemmas.List.Kept.{IsStrictlySortedBy-filter}
 use Rattle.std.proofs.lemmas.List.Sorted.{Contains-permutation, IsPermutation-sym}
 use Rattle.std.proofs.lemmas.List.Sums.{take_while-cons}
@@ -76,41 +76,45 @@ module _ (dues : NameValue → Option ℕ) where
     has_due : (d : ℕ) (n : NameValue) → dues n ≡ Some d → Contains ks (alarm d n)
     has_due d n is = Contains-from_any same_alarm-is (alarm d n) ks (keep d n ∙ ap (is_set_to d) is ∙ is_set_to-here d)
 
-    module _ (p : ℕ → Bool) where
+    module _ (p : Alarm → Bool) where
+      -- a test of alarms, of that of a name
+      abbrev passes : NameValue → Bool
+      passes n = is_due_where (λ d. p (alarm d n)) (dues n)
+
       abbrev pub names : List NameValue
-      names = map (λ (a : Alarm). a.name) (filter (λ (a : Alarm). p a.due) ks)
+      names = map (λ (a : Alarm). a.name) (filter p ks)
 
       pub names_distinct : IsDistinct (eq_by_cmp name_cmp) names
-      names_distinct = distinct_names (filter (λ (a : Alarm). p a.due) ks) (IsStrictlySortedBy-filter alarm_cmp _ ks s) (λ a h. due_of a (Contains-from_filter (λ (b : Alarm). p b.due) ks a h).0)
+      names_distinct = distinct_names (filter p ks) (IsStrictlySortedBy-filter alarm_cmp _ ks s) (λ a h. due_of a (Contains-from_filter p ks a h).0)
 
-      pub name_passes : (n : NameValue) → Contains names n → is_due_where p (dues n) ≡ true
+      pub name_passes : (n : NameValue) → Contains names n → passes n ≡ true
       name_passes n h =
-          let found = Any-from_map (λ (a : Alarm). a.name) (filter (λ (a : Alarm). p a.due) ks) n h in
+          let found = Any-from_map (λ (a : Alarm). a.name) (filter p ks) n h in
           passed found.1 (found.0, found.2, found.3) found.4 where
-            passed : (a : Alarm) → Contains (filter (λ (b : Alarm). p b.due) ks) a → a.name ≡ n → is_due_where p (dues n) ≡ true
+            passed : (a : Alarm) → Contains (filter p ks) a → a.name ≡ n → passes n ≡ true
             passed a g e =
-                let r = Contains-from_filter (λ (b : Alarm). p b.due) ks a g in
-                subst (λ (m : NameValue). is_due_where p (dues m) ≡ true) e (ap (is_due_where p) (due_of a r.0) ∙ r.1)
+                let r = Contains-from_filter p ks a g in
+                subst (λ (m : NameValue). passes m ≡ true) e (ap (is_due_where (λ d. p (alarm d a.name))) (due_of a r.0) ∙ r.1)
 
-      pub passes_name : (n : NameValue) → is_due_where p (dues n) ≡ true → Contains names n
+      pub passes_name : (n : NameValue) → passes n ≡ true → Contains names n
       passes_name n = from (dues n) refl where
-        from : (o : Option ℕ) → dues n ≡ o → is_due_where p o ≡ true → Contains names n
+        from : (o : Option ℕ) → dues n ≡ o → is_due_where (λ d. p (alarm d n)) o ≡ true → Contains names n
         from None e h = absurd (true≢false (sym h))
-        from (Some d) e h = there (Contains-filter (λ (b : Alarm). p b.due) ks (alarm d n) (has_due d n e) h) where
-          there : Contains (filter (λ (b : Alarm). p b.due) ks) (alarm d n) → Contains names n
-          there g = Contains-map (λ (a : Alarm). a.name) (filter (λ (a : Alarm). p a.due) ks) n (g.0, alarm d n, g.1, g.2, refl)
+        from (Some d) e h = there (Contains-filter p ks (alarm d n) (has_due d n e) h) where
+          there : Contains (filter p ks) (alarm d n) → Contains names n
+          there g = Contains-map (λ (a : Alarm). a.name) (filter p ks) n (g.0, alarm d n, g.1, g.2, refl)
 
       -- sorted, they are the list of the names that pass
-      pub names_listed : (sorted : List NameValue) → IsPermutation names sorted → IsSorted name_cmp sorted → Lists name_cmp (λ n. is_due_where p (dues n) ≡ true) sorted
+      pub names_listed : (sorted : List NameValue) → IsPermutation names sorted → IsSorted name_cmp sorted → Lists name_cmp (λ n. passes n ≡ true) sorted
       names_listed sorted moved rises = record {
         rising = strictly_sorted name_total sorted rises (IsDistinct-IsPermutation (eq_by_cmp name_cmp) (eq_by_cmp_equiv name_total).symm names sorted moved names_distinct);
         members = λ n. ((λ h. name_passes n (Contains-permutation sorted names n (IsPermutation-sym _ _ moved) h)), (λ h. Contains-permutation names sorted n moved (passes_name n h)));
       }
 
       -- they are as many as such a list has
-      pub names_counted : (listed : List NameValue) → Lists name_cmp (λ n. is_due_where p (dues n) ≡ true) listed → length (filter (λ (a : Alarm). p a.due) ks) ≡ length listed
+      pub names_counted : (listed : List NameValue) → Lists name_cmp (λ n. passes n ≡ true) listed → length (filter p ks) ≡ length listed
       names_counted listed l =
-          sym (length-map (filter (λ (a : Alarm). p a.due) ks) (λ (a : Alarm). a.name))
+          sym (length-map (filter p ks) (λ (a : Alarm). a.name))
           ∙ length-from_same_keys (eq_by_cmp_equiv name_total) names listed names_distinct (IsDistinct-from_sorted name_cmp listed l.rising)
           (λ q. let a = is_member-Decides name_decides names q in let b = is_member-Decides name_decides listed q in
           one_answer (is_member (eq_by_cmp name_cmp) names q) (is_member (eq_by_cmp name_cmp) listed q)
@@ -142,3 +146,44 @@ all_pass (k ∷ ks) = ap (λ xs. k ∷ xs) (all_pass ks)
 pub is_some_where : (o : Option ℕ) → is_some o ≡ is_due_where (λ d. true) o
 is_some_where None = refl
 is_some_where (Some d) = refl
+
+-- of those that pass one test, those that pass another
+pub filter_both : {X : Type 0} (p q : X → Bool) (xs : List X) → filter q (filter p xs) ≡ filter (λ x. q x && p x) xs
+filter_both p q [] = refl
+filter_both {X} p q (x ∷ xs) = from (filter_both p q xs) (p x) where
+  from : filter q (filter p xs) ≡ filter (λ x. q x && p x) xs → (a : Bool) → filter q (cond a (x ∷ filter p xs) (filter p xs)) ≡ cond (q x && a) (x ∷ filter (λ x. q x && p x) xs) (filter (λ x. q x && p x) xs)
+  from rest true = both (q x) where
+    both : (b : Bool) → cond b (x ∷ filter q (filter p xs)) (filter q (filter p xs)) ≡ cond (b && true) (x ∷ filter (λ x. q x && p x) xs) (filter (λ x. q x && p x) xs)
+    both true = ap (λ (ys : List X). x ∷ ys) rest
+    both false = rest
+  from rest false = rest ∙ one (q x) where
+    one : (b : Bool) → filter (λ x. q x && p x) xs ≡ cond (b && false) (x ∷ filter (λ x. q x && p x) xs) (filter (λ x. q x && p x) xs)
+    one true = refl
+    one false = refl
+
+-- a timer whose moment passes a test, where another test holds
+pub due_and : (b : Bool) (test : ℕ → Bool) (o : Option ℕ) → is_due_where (λ d. b && test d) o ≡ (b && is_due_where test o)
+due_and true test None = refl
+due_and false test None = refl
+due_and b test (Some d) = refl
+
+pub is_some_and : (b : Bool) (o : Option ℕ) → is_due_where (λ d. b) o ≡ (b && is_some o)
+is_some_and true None = refl
+is_some_and false None = refl
+is_some_and true (Some d) = refl
+is_some_and false (Some d) = refl
+
+-- the names of those alarms that pass, one alarm after another
+module _ (p : NameValue → Bool) where
+  abbrev pub names_of_those : List Alarm → List NameValue
+  names_of_those alarms = map (λ (a : Alarm). a.name) (filter (λ (a : Alarm). p a.name) alarms)
+
+  module _ (all names : List NameValue) (rest after : List Alarm) (a : Alarm) (so_far : all ≡ names ++ names_of_those rest) (next : rest ≡ a ∷ after) where
+    at_next : (b : Bool) → b ≡ p a.name → all ≡ names ++ map (λ (a : Alarm). a.name) (cond b (a ∷ filter (λ (a : Alarm). p a.name) after) (filter (λ (a : Alarm). p a.name) after))
+    at_next b is = so_far ∙ ap (λ (ks : List Alarm). names ++ names_of_those ks) next ∙ ap (λ (c : Bool). names ++ map (λ (a : Alarm). a.name) (cond c (a ∷ filter (λ (a : Alarm). p a.name) after) (filter (λ (a : Alarm). p a.name) after))) (sym is)
+
+    pub name_put : (new : List NameValue) (b : Bool) → b ≡ p a.name → b ≡ true → new ≡ names ++ a.name ∷ [] → all ≡ new ++ names_of_those after
+    name_put new b is told put = at_next true (sym told ∙ is) ∙ sym (append_assoc names (a.name ∷ []) (names_of_those after)) ∙ ap (λ (ns : List NameValue). ns ++ names_of_those after) (sym put)
+
+    pub name_left : (b : Bool) → b ≡ p a.name → b ≡ false → all ≡ names ++ names_of_those after
+    name_left b is told = at_next false (sym told ∙ is)

@@ -1,8 +1,10 @@
 -- What firing some requests and some answers leaves.
-use Rattle.std.proofs.Common.{◌≡◌, ℕ, Bool, true, false, cond, List, refl, ap, ◌∙◌, sym}
-use Rattle.std.specs.Prelude.{◌&&◌, not}
+use Rattle.std.proofs.Common.{◌≡◌, ℕ, ◌<◌, ◌^◌, Bool, true, false, cond, Option, Some, None, List, refl, ap, ◌∙◌, sym}
+use Rattle.std.specs.Prelude.{◌&&◌, not, nat_le, IfSome}
 use Rattle.wb_names.specs.Values.{NameValue}
-use Rattle.wb_recovery.specs.Timing.{ask_due, answer_due, is_set_to}
+use Rattle.wb_recovery.specs.Timing.{ask_due, answer_due, is_set_to, fired_ask, backed_off, AreDelays}
+use Rattle.wb_recovery.specs.Events.{word_for}
+use Rattle.wb_recovery.specs.declared.timers.AskTimer.{AskTimer}
 use Rattle.wb_recovery.specs.Alarms.{among, Keep, AreLeft, AreMoved}
 use Rattle.wb_recovery.specs.Firing.{with_ask_fired, with_answer_fired}
 use Rattle.wb_recovery.specs.Stopping.{with_asks_fired, with_these_fired}
@@ -11,6 +13,20 @@ use Rattle.wb_recovery.specs.declared.timers.Timers.{Timers}
 use Rattle.wb_recovery.specs.declared.alarms.Alarm.{Alarm}
 use Rattle.wb_recovery.specs.declared.alarms.Alarms.{Alarms}
 use Rattle.wb_recovery.proofs.Soundness.{keep_alike}
+
+-- the delays of timers that back off stay
+pub fired_delays : (t : Tuning) (now : ℕ) (words : List ℕ) (asking : List NameValue) (f : NameValue → Timers) → ((n : NameValue) → AreDelays (f n)) → (n : NameValue) → AreDelays (with_asks_fired t now words asking f n)
+fired_delays t now words asking f h n = from (among asking n) where
+  ask : (word : ℕ) (o : Option AskTimer) → IfSome o (λ a. a.delay < 2 ^ 24) → IfSome (fired_ask t now word o) (λ a. a.delay < 2 ^ 24)
+  ask word None e = e
+  ask word (Some a) e = at (nat_le a.due now) where
+    at : (b : Bool) → (cond b (backed_off t a now a.delay word) a).delay < 2 ^ 24
+    at true = e
+    at false = e
+
+  from : (b : Bool) → AreDelays (cond b (with_ask_fired t now words asking f n) (f n))
+  from true = (ask (word_for words asking n) (f n).ask (h n).0, (h n).1)
+  from false = h n
 
 not_both : (b : Bool) → (b && not b) ≡ false
 not_both true = refl

@@ -17,9 +17,12 @@ due_answer_stands now s h = or_right (is_some s.ask) (is_some s.answer) (from s.
   from None e = absurd (true≢false (sym e))
   from (Some a) e = refl
 
-pub due_ask_stands : (now : ℕ) (o : Option AskTimer) → is_ask_due now o ≡ true → is_some o ≡ true
+due_ask_stands : (now : ℕ) (o : Option AskTimer) → is_ask_due now o ≡ true → is_some o ≡ true
 due_ask_stands now None e = absurd (true≢false (sym e))
 due_ask_stands now (Some a) e = refl
+
+pub due_request_stands : (now : ℕ) (s : Timers) → is_ask_due now s.ask ≡ true → is_standing s ≡ true
+due_request_stands now s h = ap (λ (b : Bool). b || is_some s.answer) (due_ask_stands now s.ask h)
 
 pub due_answer_ends : (now : ℕ) (o : Option AnswerTimer) → is_answer_due now o ≡ true → fired_answer now o ≡ None
 due_answer_ends now None e = refl

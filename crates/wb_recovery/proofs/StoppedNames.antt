@@ -1,5 +1,5 @@
 -- Names that have come: what becomes of their timers, and what then fires.
-use Rattle.std.proofs.Common.{◌≡◌, ℕ, ◌+◌, ◌*◌, ◌<◌, ◌≤◌, ◌^◌, Bool, true, false, cond, Option, Some, None, List, [], ◌∷◌, length, get_or, take, refl, ap, ◌∙◌, sym, subst, arith, true≢false}
+use Rattle.std.proofs.Common.{◌≡◌, ℕ, ◌+◌, ◌*◌, ◌<◌, ◌≤◌, ◌^◌, Bool, true, false, cond, Option, Some, None, List, [], ◌∷◌, length, get_or, take, refl, ap, ◌∙◌, sym, arith, true≢false}
 use Rattle.std.specs.Prelude.{◌||◌, ◌&&◌, not, filter, is_some}
 use Rattle.std.specs.List.{list_all}
 use Rattle.std.specs.List.Sorted.{IsStrictlySortedBy}
@@ -27,9 +27,9 @@ use Rattle.wb_recovery.specs.declared.timers.Timers.{Timers}
 use Rattle.wb_recovery.specs.declared.timers.AskTimer.{AskTimer}
 use Rattle.wb_recovery.specs.declared.timers.AnswerTimer.{AnswerTimer}
 use Rattle.wb_recovery.proofs.AlarmOrder.{name_ties}
-use Rattle.wb_recovery.proofs.Counting.{list_due_asks}
+use Rattle.wb_recovery.proofs.Counting.{until_ask, until_answer}
 use Rattle.wb_recovery.proofs.NameLists.{listed_of, listed_in}
-use Rattle.wb_recovery.proofs.DueNames.{among_listed, asks_until, answers_until}
+use Rattle.wb_recovery.proofs.DueNames.{among_listed}
 use Rattle.wb_recovery.proofs.FiredTimers.{ask_stays, answer_stays, quiet_stays}
 
 -- ---- one name after another
@@ -128,14 +128,11 @@ pub names_gots : (now : ℕ) (events : List Event) (come : List Come) → names_
 names_gots now events [] = refl
 names_gots now events (c ∷ come) = names_gots now (Got c.name now c.delay ∷ events) come
 
--- ---- those of the due names that have not come
-abbrev pub others_of : List Come → List NameValue → List NameValue
-others_of come names = filter (λ n. not (has_come come n)) names
-
-pub listed_others : (come : List Come) (p : NameValue → Bool) (names : List NameValue) → Lists name_cmp (λ n. p n ≡ true) names → Lists name_cmp (λ n. (not (has_come come n) && p n) ≡ true) (others_of come names)
-listed_others come p names l = record {
+-- ---- those of some names that pass one more test
+pub listed_those : (q p : NameValue → Bool) (names : List NameValue) → Lists name_cmp (λ n. p n ≡ true) names → Lists name_cmp (λ n. (q n && p n) ≡ true) (filter q names)
+listed_those q p names l = record {
   rising = IsStrictlySortedBy-filter name_cmp _ names l.rising;
-  members = λ n. ((λ h. let g = Contains-from_filter (λ m. not (has_come come m)) names n h in both _ _ g.1 ((l.members n).0 g.0)), (λ h. let g = and_both _ _ h in Contains-filter (λ m. not (has_come come m)) names n ((l.members n).1 g.1) g.0));
+  members = λ n. ((λ h. let g = Contains-from_filter q names n h in both _ _ g.1 ((l.members n).0 g.0)), (λ h. let g = and_both _ _ h in Contains-filter q names n ((l.members n).1 g.1) g.0));
 } where
   both : (a b : Bool) → a ≡ true → b ≡ true → (a && b) ≡ true
   both a b e f = ap (λ (c : Bool). c && b) e ∙ f
@@ -199,17 +196,10 @@ module _ (t : Tuning) (now : ℕ) (words : List ℕ) (come : List Come) (f : Nam
         ∙ not_come now n (ticked t now (word_for words asking n) (f n)) come e
         ∙ ap (ticked t now (word_for words asking n)) (sym (not_come now n (f n) come e))
 
--- the names that fire, told of a set that holds those that have come
-pub others_same : (come : List Come) (test : NameValue → Bool) (names : List NameValue) → ((n : NameValue) → test n ≡ has_come come n) → filter (λ n. not (test n)) names ≡ others_of come names
-others_same come test [] h = refl
-others_same come test (n ∷ names) h =
-    ap (λ (b : Bool). cond (not b) (n ∷ filter (λ m. not (test m)) names) (filter (λ m. not (test m)) names)) (h n)
-    ∙ ap (λ (ms : List NameValue). cond (not (has_come come n)) (n ∷ ms) ms) (others_same come test names h)
-
-pub fewer_others : (come : List Come) (names : List NameValue) → length (others_of come names) ≤ length names
-fewer_others come [] = omega arith
-fewer_others come (n ∷ names) = from (fewer_others come names) (not (has_come come n)) where
-  from : length (others_of come names) ≤ length names → (b : Bool) → length (cond b (n ∷ others_of come names) (others_of come names)) ≤ length (n ∷ names)
+pub fewer_those : (q : NameValue → Bool) (names : List NameValue) → length (filter q names) ≤ length names
+fewer_those q [] = omega arith
+fewer_those q (n ∷ names) = from (fewer_those q names) (q n) where
+  from : length (filter q names) ≤ length names → (b : Bool) → length (cond b (n ∷ filter q names) (filter q names)) ≤ length (n ∷ names)
   from rest true = omega arith
   from rest false = omega arith
 
@@ -238,35 +228,35 @@ pub got_stands : (now : ℕ) (c : Come) (old new : RecoveryValue) (after : Timer
 got_stands now c old new after mid is r e n = ap (λ (v : RecoveryValue). timers_in v n) is ∙ r.timers n ∙ ap (λ (s : Timers). cond (same_name c.name n) s (timers_in old n)) e
 
 -- the requests, and the answers, that are due of names that have not come, told of a recovery's alarms
-module _ (now : ℕ) (inside value : RecoveryValue) (is : inside ≡ value) (come : List Come) (test : NameValue → Bool) (tests : (n : NameValue) → test n ≡ has_come come n) (due now_due xs : List NameValue) (same : now_due ≡ due) (left : xs ≡ filter (λ n. not (test n)) now_due) where
-  left_over : xs ≡ others_of come due
-  left_over = left ∙ ap (filter (λ n. not (test n))) same ∙ others_same come test due tests
+module _ (now : ℕ) (value : RecoveryValue) (come : List Come) (test : NameValue → Bool) (tests : (n : NameValue) → test n ≡ has_come come n) (xs : List NameValue) where
+  due_left : (due : NameValue → Option ℕ) (is_due : NameValue → Bool) → ((n : NameValue) → is_until now (due n) ≡ is_due n) → Lists name_cmp (λ n. (not (test n) && is_until now (due n)) ≡ true) xs → Lists name_cmp (λ n. (not (has_come come n) && is_due n) ≡ true) xs
+  due_left due is_due same l = lists_same name_total _ _ xs (λ n h. sym (one n) ∙ h) (λ n h. one n ∙ h) l where
+    one : (n : NameValue) → (not (test n) && is_until now (due n)) ≡ (not (has_come come n) && is_due n)
+    one n = ap (λ (b : Bool). not b && is_until now (due n)) (tests n) ∙ ap (λ (b : Bool). not (has_come come n) && b) (same n)
 
-  pub asking_left : Lists name_cmp (λ n. is_until now (ask_due (timers_in inside n)) ≡ true) due → Lists name_cmp (λ n. (not (has_come come n) && is_ask_due now (timers_in value n).ask) ≡ true) xs
-  asking_left l = subst (λ (v : RecoveryValue). Lists name_cmp (λ n. (not (has_come come n) && is_ask_due now (timers_in v n).ask) ≡ true) xs) is
-      (subst (λ (ys : List NameValue). Lists name_cmp (λ n. (not (has_come come n) && is_ask_due now (timers_in inside n).ask) ≡ true) ys) (sym left_over)
-      (listed_others come (λ n. is_ask_due now (timers_in inside n).ask) due (asks_until now inside due l)))
+  pub asking_left : Lists name_cmp (λ n. (not (test n) && is_until now (ask_due (timers_in value n))) ≡ true) xs → Lists name_cmp (λ n. (not (has_come come n) && is_ask_due now (timers_in value n).ask) ≡ true) xs
+  asking_left l = due_left (λ n. ask_due (timers_in value n)) (λ n. is_ask_due now (timers_in value n).ask) (λ n. until_ask now (timers_in value n).ask) l
 
-  pub answering_left : Lists name_cmp (λ n. is_until now (answer_due (timers_in inside n)) ≡ true) due → Lists name_cmp (λ n. (not (has_come come n) && is_answer_due now (timers_in value n).answer) ≡ true) xs
-  answering_left l = subst (λ (v : RecoveryValue). Lists name_cmp (λ n. (not (has_come come n) && is_answer_due now (timers_in v n).answer) ≡ true) xs) is
-      (subst (λ (ys : List NameValue). Lists name_cmp (λ n. (not (has_come come n) && is_answer_due now (timers_in inside n).answer) ≡ true) ys) (sym left_over)
-      (listed_others come (λ n. is_answer_due now (timers_in inside n).answer) due (answers_until now inside due l)))
+  pub answering_left : Lists name_cmp (λ n. (not (test n) && is_until now (answer_due (timers_in value n))) ≡ true) xs → Lists name_cmp (λ n. (not (has_come come n) && is_answer_due now (timers_in value n).answer) ≡ true) xs
+  answering_left l = due_left (λ n. answer_due (timers_in value n)) (λ n. is_answer_due now (timers_in value n).answer) (λ n. until_answer now (timers_in value n).answer) l
 
-  -- there are words for all
-  pub words_left : IsStrictlySortedBy name_cmp (names_in inside) → (words : ℕ) → Lists name_cmp (λ n. is_until now (ask_due (timers_in inside n)) ≡ true) due → length (due_asks (names_in value) (timers_in value) now) ≤ words → length xs ≤ words
-  words_left rises words l h =
-      let all : due ≡ due_asks (names_in inside) (timers_in inside) now = one_list name_total _ _ _ l (list_due_asks inside rises now) in
-      let there : length due ≡ length (due_asks (names_in value) (timers_in value) now) = ap length all ∙ ap (λ (v : RecoveryValue). length (due_asks (names_in v) (timers_in v) now)) is in
-      let here : length xs ≡ length (others_of come due) = ap length left_over in
-      let fewer = fewer_others come due in
-      omega arith
+-- there are words for all
+pub words_left : (now words : ℕ) (value : RecoveryValue) (come : List Come) (xs : List NameValue) → IsStrictlySortedBy name_cmp (names_in value) → Lists name_cmp (λ n. (not (has_come come n) && is_ask_due now (timers_in value n).ask) ≡ true) xs → length (due_asks (names_in value) (timers_in value) now) ≤ words → length xs ≤ words
+words_left now words value come xs rises l h =
+    let due = due_asks (names_in value) (timers_in value) now in
+    let left : length xs ≡ length (filter (λ n. not (has_come come n)) due) = ap length (one_list name_total _ _ _ l
+    (listed_those (λ n. not (has_come come n)) (λ n. is_ask_due now (timers_in value n).ask) due (listed_in (λ (s : Timers). is_ask_due now s.ask) refl value rises))) in
+    let fewer = fewer_those (λ n. not (has_come come n)) due in
+    omega arith
 
 -- the names with a request timer, told of a recovery's alarms
 some_ask : (o : Option AskTimer) → is_some (ask_moment o) ≡ is_some o
 some_ask None = refl
 some_ask (Some a) = refl
 
-pub names_asking : (value : RecoveryValue) → IsStrictlySortedBy name_cmp (names_in value) → (xs : List NameValue) → Lists name_cmp (λ n. is_some (ask_due (timers_in value n)) ≡ true) xs → xs ≡ asking (names_in value) (timers_in value)
-names_asking value rises xs l = one_list name_total _ _ _
-    (lists_same name_total _ _ _ (λ n h. sym (some_ask (timers_in value n).ask) ∙ h) (λ n h. some_ask (timers_in value n).ask ∙ h) l)
-    (listed_in (λ (s : Timers). is_some s.ask) refl value rises)
+pub names_asking : (value : RecoveryValue) → IsStrictlySortedBy name_cmp (names_in value) → (p : NameValue → Bool) (xs : List NameValue) → Lists name_cmp (λ n. (p n && is_some (ask_due (timers_in value n))) ≡ true) xs → xs ≡ filter p (asking (names_in value) (timers_in value))
+names_asking value rises p xs l = one_list name_total _ _ _
+    (lists_same name_total _ _ _ (λ n h. sym (same n) ∙ h) (λ n h. same n ∙ h) l)
+    (listed_those p (λ n. is_some (timers_in value n).ask) (asking (names_in value) (timers_in value)) (listed_in (λ (s : Timers). is_some s.ask) refl value rises)) where
+      same : (n : NameValue) → (p n && is_some (ask_due (timers_in value n))) ≡ (p n && is_some (timers_in value n).ask)
+      same n = ap (λ (b : Bool). p n && b) (some_ask (timers_in value n).ask)

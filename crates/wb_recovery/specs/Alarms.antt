@@ -47,6 +47,10 @@ is_due_where test (Some e) = test e
 abbrev pub is_until : ℕ → Option ℕ → Bool
 is_until now = is_due_where (λ e. nat_le e now)
 
+-- what is told of a name is what a test of it gives
+abbrev pub Tells : (NameValue → Bool → Type 0) → (NameValue → Bool) → Type 0
+Tells told test = (n : NameValue) (b : Bool) → told n b → b ≡ test n
+
 -- there is an alarm for each timer, at its moment, and no other
 pub record Keep (dues : NameValue → Option ℕ) (alarms : Alarms) : Type 0 where
   pub each : (d : ℕ) (n : NameValue) → has_alarm alarms d n ≡ is_set_to d (dues n)

@@ -1,18 +1,20 @@
 -- Names that have come, told of before a tick.
-use Rattle.std.specs.Prelude.{◌≡◌, ℕ, Bool, ◌&&◌, nat_le, Option, List, [], ◌∷◌, if◌then◌else◌}
+use Rattle.std.specs.Prelude.{◌≡◌, ℕ, ◌<◌, ◌^◌, Bool, true, not, ◌&&◌, nat_le, Option, List, [], ◌∷◌, map, if◌then◌else◌}
 use Rattle.std.specs.List.{fold, list_all, list_any}
 use Rattle.wb_names.specs.Faults.{first_of, fault_unless}
 use Rattle.wb_names.specs.Values.{NameValue}
-use Rattle.wb_names.specs.Orders.{same_name}
-use Rattle.wb_recovery.specs.Alarms.{among}
+use Rattle.wb_names.specs.Orders.{same_name, name_cmp}
+use Rattle.wb_names.specs.Listing.{Lists}
+use Rattle.wb_recovery.specs.Alarms.{among, AreMoved}
 use Rattle.wb_recovery.specs.Events.{Event, Got}
 use Rattle.wb_recovery.specs.Faults.{is_moment, is_delay}
-use Rattle.wb_recovery.specs.Timing.{got}
+use Rattle.wb_recovery.specs.Timing.{got, is_ask_due, is_answer_due, ask_due}
 use Rattle.wb_recovery.specs.Firing.{with_ask_fired, with_answer_fired}
 use Rattle.wb_recovery.specs.Values.{RecoveryValue, timers_in}
 use Rattle.wb_recovery.specs.declared.fault.RecoveryFault.{RecoveryFault}
 use Rattle.wb_recovery.specs.declared.fault.RecoveryFault.TheVariants.{BackInTime, Range}
 use Rattle.wb_recovery.specs.declared.come.Come.{Come}
+use Rattle.wb_recovery.specs.declared.plan.Plan.{Plan}
 use Rattle.wb_recovery.specs.declared.tuning.Tuning.{Tuning}
 use Rattle.wb_recovery.specs.declared.timers.Timers.{Timers}
 
@@ -52,3 +54,17 @@ pub record FiresThese (now : ℕ) (words : List ℕ) (asking answering : List Na
   pub tuning : new.tuning ≡ old.tuning
   pub moment : new.moment ≡ old.moment
   pub timers : (n : NameValue) → timers_in new n ≡ with_these_fired old.tuning now words asking answering (timers_in old) n
+
+-- What a plan says of a recovery and of names that have come: those that fire, what their requests become, and which alarms move.
+pub record IsPlanOf (value : RecoveryValue) (come : List Come) (words : List ℕ) (plan : Plan) : Type 0 where
+  pub moment : plan.moment < 2 ^ 48
+  pub delays : list_all (λ c. is_delay c.delay) come ≡ true
+  pub asking : Lists name_cmp (λ n. (not (has_come come n) && is_ask_due plan.moment (timers_in value n).ask) ≡ true) plan.asking.items
+  pub answering : Lists name_cmp (λ n. (not (has_come come n) && is_answer_due plan.moment (timers_in value n).answer) ≡ true) plan.answering.items
+  pub after : plan.back_offs.after.items ≡ map (with_ask_fired value.tuning plan.moment words plan.asking.items (timers_in value)) plan.asking.items
+  pub left : AreMoved plan.asking.items (λ n. ask_due (timers_in value n)) (λ n. ask_due (with_ask_fired value.tuning plan.moment words plan.asking.items (timers_in value) n)) plan.back_offs.left.items
+  pub taken : AreMoved plan.asking.items (λ n. ask_due (with_ask_fired value.tuning plan.moment words plan.asking.items (timers_in value) n)) (λ n. ask_due (timers_in value n)) plan.back_offs.taken.items
+
+-- with some words
+abbrev pub IsPlan : RecoveryValue → List Come → Plan → Type 0
+IsPlan value come plan = (words : List ℕ) × IsPlanOf value come words plan

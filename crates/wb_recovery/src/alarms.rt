@@ -1,12 +1,13 @@
-ghost use Rattle.std.specs.Prelude.{◌≡◌, is_some, ℕ, Option, true, map, take_while, nat_le, length, IfOk, OnOk, OnErr};
+ghost use Rattle.std.specs.Prelude.{◌≡◌, is_some, ℕ, Bool, Option, true, map, filter, take_while, nat_le, length, IfOk, OnOk, OnErr};
 ghost use Rattle.std.specs.Prelude.{Some as some, None as none};
 ghost use Rattle.std.specs.Prelude.{◌||◌, ◌&&◌, not, false};
 ghost use Rattle.std.specs.BTreeSet.{contains, IsOrdered};
+ghost use Rattle.std.specs.Fn.{FnReturnsAt};
 ghost use Rattle.wb_names.specs.Values.{NameValue};
 ghost use Rattle.wb_names.specs.Orders.{name_cmp};
 ghost use Rattle.wb_names.specs.Listing.{Lists};
 ghost use Rattle.wb_recovery.specs.declared.alarms.Alarm.{Alarm as AnAlarm};
-ghost use Rattle.wb_recovery.specs.Alarms.{alarm, alarm_cmp, has, Keep, AreLeft, is_until, with_due, CountsAll, CountsUntil, IsFirst};
+ghost use Rattle.wb_recovery.specs.Alarms.{alarm, alarm_cmp, has, Keep, AreLeft, Tells, is_until, with_due, CountsAll, CountsUntil, IsFirst};
 
 use std::alloc::{AllocError, Global};
 use std::collections::BTreeSet;
@@ -84,40 +85,67 @@ impl Alarms {
         self.set.iter().take_while(|alarm| alarm.due <= now).count()
     }
 
-    /// The names whose timers are due by this moment, ascending. It looks at these alone, and at the
-    /// next one.
-    pub(crate) fn names_until(&self, alloc: Global, now: u64) -> Result<Vec<Name>, AllocError>
-        ensures { (dues : NameValue → Option ℕ) → Keep dues self.now → IfOk result (λ v. Lists name_cmp (λ n. is_until now (dues n) ≡ true) v.items) }
+    /// The names whose timers are due by this moment, ascending, without the stopped ones. It looks at
+    /// these timers alone, and at the next one.
+    pub(crate) fn names_until(
+        &self,
+        alloc: Global,
+        now: u64,
+        stopped: &BTreeSet<Name>,
+    ) -> Result<Vec<Name>, AllocError>
+        ensures { (dues : NameValue → Option ℕ) → Keep dues self.now → IfOk result (λ v. Lists name_cmp (λ n. (not (contains name_cmp stopped.now n) && is_until now (dues n)) ≡ true) v.items) }
     {
-        let mut names = self.due_names(alloc, now)?;
+        let mut names = self.due_names(alloc, now, stopped)?;
         names.sort_unstable();
         Ok(names)
     }
 
     /// The same, in the order of the alarms.
-    fn due_names(&self, alloc: Global, now: u64) -> Result<Vec<Name>, AllocError>
+    fn due_names(
+        &self,
+        alloc: Global,
+        now: u64,
+        stopped: &BTreeSet<Name>,
+    ) -> Result<Vec<Name>, AllocError>
         ensures ordered { IsOrdered alarm_cmp self.now.set }
-        ensures names { IfOk result (λ v. v.items ≡ map (λ a. a.name) (take_while (λ a. nat_le a.due now) self.now.set.keys)) }
+        ensures names { IfOk result (λ v. v.items ≡ map (λ a. a.name) (filter (λ a. not (contains name_cmp stopped.now a.name)) (take_while (λ a. nat_le a.due now) self.now.set.keys))) }
     {
         let due = self.set.iter().take_while(|alarm| alarm.due <= now);
-        due.map(|alarm| alarm.name).collect(alloc)
+        let left = due.filter(|alarm| !stopped.contains(&alarm.name));
+        left.map(|alarm| alarm.name).collect(alloc)
     }
 
-    /// The names that have a timer, ascending.
-    pub(crate) fn names(&self, alloc: Global) -> Result<Vec<Name>, AllocError>
-        ensures { (dues : NameValue → Option ℕ) → Keep dues self.now → IfOk result (λ v. Lists name_cmp (λ n. is_some (dues n) ≡ true) v.items) }
+    /// The names that have a timer and pass a test, ascending. It copies and sorts these alone.
+    pub(crate) fn names_where<F: Fn(&Name) -> bool>(
+        &self,
+        alloc: Global,
+        test: F,
+    ) -> Result<Vec<Name>, AllocError>
+        requires { F.IsAlwaysCallable test }
+        ensures { (p : NameValue → Bool) → Tells (FnReturnsAt F.Fn test) p → (dues : NameValue → Option ℕ) → Keep dues self.now → IfOk result (λ v. Lists name_cmp (λ n. (p n && is_some (dues n)) ≡ true) v.items) }
     {
-        let mut names = self.all_names(alloc)?;
+        let mut names = self.some_names(alloc, test)?;
         names.sort_unstable();
         Ok(names)
     }
 
     /// The same, in the order of the alarms.
-    fn all_names(&self, alloc: Global) -> Result<Vec<Name>, AllocError>
+    fn some_names<F: Fn(&Name) -> bool>(
+        &self,
+        alloc: Global,
+        test: F,
+    ) -> Result<Vec<Name>, AllocError>
+        requires { F.IsAlwaysCallable test }
         ensures ordered { IsOrdered alarm_cmp self.now.set }
-        ensures names { IfOk result (λ v. v.items ≡ map (λ a. a.name) self.now.set.keys) }
+        ensures names { (p : NameValue → Bool) → Tells (FnReturnsAt F.Fn test) p → IfOk result (λ v. v.items ≡ map (λ a. a.name) (filter (λ a. p a.name) self.now.set.keys)) }
     {
-        self.set.iter().map(|alarm| alarm.name).collect(alloc)
+        let mut names = Vec::new(alloc);
+        for alarm in self.set.iter() {
+            if test(&alarm.name) {
+                names.push(alarm.name)?;
+            }
+        }
+        Ok(names)
     }
 
     /// Moves the alarm of a name.

@@ -1,4 +1,4 @@
-ghost use Rattle.std.specs.Prelude.{◌≡◌, ◌<◌, ◌≤◌, ◌^◌, ◌&&◌, ◌||◌, ◌++◌, ℕ, length, map, not, true, IsTrue, IfOk, OnOk, Contains, is_some, if◌then◌else◌};
+ghost use Rattle.std.specs.Prelude.{◌≡◌, ◌<◌, ◌≤◌, ◌^◌, ◌&&◌, ◌||◌, ◌++◌, ℕ, length, map, not, true, IsTrue, IfOk, OnOk, Contains, if◌then◌else◌};
 ghost use Rattle.std.specs.BTreeMap.{IsOrdered};
 ghost use Rattle.std.specs.List.Sorted.{IsStrictlySortedBy};
 ghost use Rattle.wb_names.specs.Values.{NameValue};
@@ -31,31 +31,6 @@ pub(crate) fn actions(
     requests.chain(answers).collect(alloc)
 }
 
-/// Backs the request timers of these names off, which are due, each with its own word.
-pub(crate) fn back_off_all(
-    tuning: Tuning,
-    records: &mut BTreeMap<Name, Timers>,
-    asking: &[Name],
-    now: u64,
-    words: &[u64],
-)
-    requires tuning { IsTrue (are_constants tuning) }
-    requires moment { now < 2 ^ 48 }
-    requires ordered { IsOrdered name_cmp records.old }
-    requires delays { (n : NameValue) → AreDelays (timers_at records.old.entries n) }
-    requires rising { IsStrictlySortedBy name_cmp asking.now }
-    requires standing { (n : NameValue) → Contains asking.now n → is_some (timers_at records.old.entries n).ask ≡ true }
-    requires words { length asking.now ≤ length words.now }
-    ensures written { (n : NameValue) → timers_at records.new.entries n ≡ (if among asking.now n then with_ask_fired tuning now words.now asking.now (timers_at records.old.entries) n else timers_at records.old.entries n) }
-    ensures delays { (n : NameValue) → AreDelays (timers_at records.new.entries n) }
-    ensures ordered { IsOrdered name_cmp records.new }
-{
-    for (count, name) in asking.iter().enumerate() {
-        let timers = timers_of(records, name);
-        rewrite(records, *name, timers.ask_fired(tuning, now, words[count]));
-    }
-}
-
 /// Ends the answer timers of these names, which are due, and their alarms.
 pub(crate) fn answer_all(
     records: &mut BTreeMap<Name, Timers>,
@@ -81,39 +56,44 @@ pub(crate) fn answer_all(
     }
 }
 
-/// The alarms that request timers leave when they fire, and those that they take.
+/// What becomes of request timers that fire: what is then kept of their names, in order, and the
+/// alarms that they leave and take.
 #[derive(Debug, Drop)]
-pub(crate) struct Moves {
+pub(crate) struct BackOffs {
+    pub(crate) after: Vec<Timers>,
     pub(crate) left: Vec<Alarm>,
     pub(crate) taken: Vec<Alarm>,
 }
 
-/// What becomes of the alarms when the request timers of these names fire.
-pub(crate) fn alarms_moved(
+/// The back-offs of the request timers of these names, where they are due, each with its own word.
+pub(crate) fn back_off_all(
     alloc: Global,
     tuning: Tuning,
     records: &BTreeMap<Name, Timers>,
     asking: &[Name],
     now: u64,
     words: &[u64],
-) -> Result<Moves, AllocError>
+) -> Result<BackOffs, AllocError>
     requires tuning { IsTrue (are_constants tuning) }
     requires moment { now < 2 ^ 48 }
     requires delays { (n : NameValue) → AreDelays (timers_at records.now.entries n) }
     requires rising { IsStrictlySortedBy name_cmp asking.now }
     requires words { length asking.now ≤ length words.now }
-    ensures left { IfOk result (λ moves. AreMoved asking.now (λ n. ask_due (timers_at records.now.entries n)) (λ n. ask_due (with_ask_fired tuning now words.now asking.now (timers_at records.now.entries) n)) moves.left.items) }
-    ensures taken { IfOk result (λ moves. AreMoved asking.now (λ n. ask_due (with_ask_fired tuning now words.now asking.now (timers_at records.now.entries) n)) (λ n. ask_due (timers_at records.now.entries n)) moves.taken.items) }
+    ensures after { IfOk result (λ r. r.after.items ≡ map (with_ask_fired tuning now words.now asking.now (timers_at records.now.entries)) asking.now) }
+    ensures left { IfOk result (λ r. AreMoved asking.now (λ n. ask_due (timers_at records.now.entries n)) (λ n. ask_due (with_ask_fired tuning now words.now asking.now (timers_at records.now.entries) n)) r.left.items) }
+    ensures taken { IfOk result (λ r. AreMoved asking.now (λ n. ask_due (with_ask_fired tuning now words.now asking.now (timers_at records.now.entries) n)) (λ n. ask_due (timers_at records.now.entries n)) r.taken.items) }
 {
+    let mut after = Vec::new(alloc);
     let mut left = Vec::new(alloc);
     let mut taken = Vec::new(alloc);
     for (count, name) in asking.iter().enumerate() {
         let before = timers_of(records, name);
-        let after = before.ask_fired(tuning, now, words[count]);
-        push_unless(&mut left, *name, before.ask_due(), after.ask_due())?;
-        push_unless(&mut taken, *name, after.ask_due(), before.ask_due())?;
+        let fired = before.ask_fired(tuning, now, words[count]);
+        push_unless(&mut left, *name, before.ask_due(), fired.ask_due())?;
+        push_unless(&mut taken, *name, fired.ask_due(), before.ask_due())?;
+        after.push(fired)?;
     }
-    Ok(Moves { left, taken })
+    Ok(BackOffs { after, left, taken })
 }
 
 /// Adds the alarm of a name at a moment, unless the other moment is the same.

@@ -16,6 +16,7 @@ mod stopping;
 use crate::action::Action;
 use crate::alarms::Alarms;
 use crate::fault::{RecoveryFault, TuningFault};
+use crate::limits::{DELAY_LIMIT, MOMENT_LIMIT};
 use crate::missed::Missed;
 use crate::records::{rewrite, timers_of};
 use crate::timers::{AnswerTimer, AskTimer, Timers};
@@ -33,7 +34,7 @@ use wb_names::Name;
 #[derive(Debug, Drop)]
 pub struct Recovery {
     tuning: Tuning,
-    /// The moment of the last accepted call.
+    /// The moment of the last accepted call, in microseconds.
     moment: u64,
     /// What is kept of each name that ever had a timer.
     records: BTreeMap<Name, Timers>,
@@ -72,7 +73,7 @@ impl Recovery {
         })
     }
 
-    /// A name is missed: sets its request timer, unless one stands.
+    /// A name is missed: sets its request timer, unless one stands. `now` and `delay` are in microseconds.
     ///
     /// Refused with `BackInTime`, `Range` or `Memory`, in this order.
     pub fn notice(
@@ -94,7 +95,8 @@ impl Recovery {
 
     /// Another member asks for a name. Where it is not held, a request timer of it that is not deaf
     /// backs off; `delay` is that to the name's source. Where it is held, an answer timer is set,
-    /// unless one stands or the name is quiet; `delay` is that to the member who asks.
+    /// unless one stands or the name is quiet; `delay` is that to the member who asks. `now` and `delay`
+    /// are in microseconds.
     ///
     /// Refused with `BackInTime`, `Range` or `Memory`, in this order.
     pub fn asked(
@@ -124,7 +126,7 @@ impl Recovery {
     }
 
     /// A name has come: its timers end, and where one stood the name is quiet for three delays to
-    /// its source.
+    /// its source. `now` and `delay` are in microseconds.
     ///
     /// Refused with `BackInTime` or `Range`, in this order. It takes no memory.
     pub fn got(&mut self, name: Name, now: u64, delay: u64) -> Result<(), RecoveryFault>
@@ -148,7 +150,8 @@ impl Recovery {
     ///
     /// A request timer that fires backs off with its own delay, and takes a word: the first word goes
     /// to the smallest name. An answer timer that fires takes none; it ends, and its name is quiet for
-    /// three of its delays. Where nothing is due, no timer is looked at but the next ones.
+    /// three of its delays. Where nothing is due, no timer is looked at but the next ones. The moment is
+    /// in microseconds. There are at least as many words as `due_count` says at this moment.
     ///
     /// Refused with `BackInTime`, `Range` or `Memory`, in this order.
     pub fn tick(
@@ -157,7 +160,6 @@ impl Recovery {
         now: u64,
         words: &[u64],
     ) -> Result<Vec<Action>, RecoveryFault>
-        // as many words as `due_count` says
         requires { length (due_asks (names_in self.old) (timers_in self.old) now) ≤ length words.now }
         ensures fault { IsCheckedBy (call_fault self.old.moment now 0) result }
         ensures actions { IfOk result (λ actions. (constants : Constants) (events : List Event) → StandsFor constants events self.old → actions.items ≡ actions_of constants events now) }
@@ -167,8 +169,8 @@ impl Recovery {
         self.stop_and_tick(alloc, &[], now, words)
     }
 
-    /// How many request timers are due at a moment, and so how many words `tick` then wants. It looks
-    /// at these timers alone, and at the next one.
+    /// How many request timers are due at a moment, in microseconds, and so how many words `tick` then
+    /// wants. It looks at these timers alone, and at the next one.
     pub fn due_count(&self, now: u64) -> usize
         ensures count { result ≡ length (due_asks (names_in self.now) (timers_in self.now) now) }
         ensures events { (constants : Constants) (events : List Event) → StandsFor constants events self.now → result ≡ length (due_asks (names_of events) (timers_of constants events) now) }
@@ -185,7 +187,8 @@ impl Recovery {
         self.asks.len()
     }
 
-    /// The least moment at which a timer is due, and so when the next `tick` has something to do.
+    /// The least moment at which a timer is due, in microseconds, and so when the next `tick` has
+    /// something to do.
     /// None where no timer stands.
     pub fn next_due(&self) -> Option<u64>
         ensures { IsNextDue (timers_in self.now) result }
@@ -211,7 +214,7 @@ impl Recovery {
         self.timers(name).answer
     }
 
-    /// The moment before which the name is not answered, or 0.
+    /// The moment before which the name is not answered, in microseconds, or 0.
     pub fn quiet_of(&self, name: &Name) -> u64
         ensures { result ≡ (timers_in self.now name.now).quiet }
     {
@@ -250,7 +253,7 @@ impl Recovery {
         if now < self.moment {
             return Err(RecoveryFault::BackInTime);
         }
-        if now >= 1 << 48 || delay >= 1 << 24 {
+        if now >= MOMENT_LIMIT || delay >= DELAY_LIMIT {
             return Err(RecoveryFault::Range);
         }
         Ok(())

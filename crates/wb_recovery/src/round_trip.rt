@@ -1,6 +1,8 @@
 ghost use Rattle.std.specs.Prelude.{◌≡◌};
 ghost use Rattle.wb_recovery.specs.Distance.{distance_of};
 
+use crate::limits::DELAY_LIMIT;
+
 /// The delay to another member, in microseconds, from an echo of one's own session message: it was
 /// sent at `sent`, lay with the other member for `held`, and its echo came at `come`. It is half of
 /// the time on the way. None where the times do not fit together, or the delay would not be below
@@ -10,5 +12,5 @@ pub fn distance(sent: u64, held: u64, come: u64) -> Option<u64>
 {
     let left = sent.checked_add(held)?;
     let delay = come.checked_sub(left)? / 2;
-    (delay < 1 << 24).then_some(delay)
+    (delay < DELAY_LIMIT).then_some(delay)
 }

@@ -11,7 +11,7 @@ pub struct AskTimer {
     pub level: u32,
     /// The moment at which it fires, in microseconds.
     pub due: u64,
-    /// Before this moment requests of others are ignored.
+    /// Before this moment, in microseconds, requests of others are ignored.
     pub deaf: u64,
     /// The delay that it was last set or backed off with, in microseconds.
     pub delay: u64,
@@ -31,7 +31,7 @@ pub struct AnswerTimer {
 pub(crate) struct Timers {
     pub(crate) ask: Option<AskTimer>,
     pub(crate) answer: Option<AnswerTimer>,
-    /// Before this moment no answer timer is set.
+    /// Before this moment, in microseconds, no answer timer is set.
     pub(crate) quiet: u64,
 }
 

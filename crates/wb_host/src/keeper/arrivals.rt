@@ -17,7 +17,8 @@ use wb_names::Name;
 
 impl Keeper {
     /// Drawops of these names were taken to the board: of each that the desk holds the timers end,
-    /// as by `Recovery::got` with the delay to its source. It takes no memory.
+    /// as by `Recovery::got` with the delay to its source. It takes no memory. The moment is in
+    /// microseconds.
     ///
     /// Refused with `BackInTime` or `Range`, in this order.
     pub fn arrived(&mut self, desk: &Desk, now: u64, names: &[Name]) -> Result<(), KeepFault>

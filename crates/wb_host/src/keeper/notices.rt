@@ -13,7 +13,8 @@ use wb_recovery::Missed;
 
 impl Keeper {
     /// Names are missed: sets a request timer for each of which none stands, with the delay to its
-    /// source and the word beside it. All are set or none. The moment is in microseconds.
+    /// source and the word beside it, so there are as many words as names. All are set or none. The moment
+    /// is in microseconds.
     ///
     /// Refused with `BackInTime`, `Range` or `Memory`, in this order.
     pub fn notice(

@@ -1,13 +1,13 @@
 //! Time goes on: what a keeper then asks for and answers.
 
-ghost use Rattle.std.specs.Prelude.{◌≡◌, ◌≢◌, ◌≤◌, ◌⊎◌, ◌∷◌, ℕ, List, filter, length, IfErr, IfOk, OnOk, OnErr};
+ghost use Rattle.std.specs.Prelude.{◌≡◌, ◌≢◌, ◌≤◌, ◌⊎◌, ◌∷◌, ℕ, List, length, IfErr, IfOk, OnOk, OnErr};
 ghost use Rattle.wb_history.specs.Passes.{IsPassOf, IsSound, IsCaughtUp};
-ghost use Rattle.wb_recovery.specs.Events.{due_asks, actions_of, asking};
+ghost use Rattle.wb_recovery.specs.Events.{due_asks, actions_of};
 ghost use Rattle.wb_recovery.specs.Stopping.{gots};
 ghost use Rattle.wb_recovery.specs.Values.{timers_in, names_in};
 ghost use Rattle.wb_recovery.specs.declared.tuning.Tuning.{Tuning as Constants};
 ghost use Rattle.wb_host.specs.Desks.{ReadsOn};
-ghost use Rattle.wb_host.specs.Keeper.{KeeperCall, GoOn, come_of, delay_to, events_of, holds};
+ghost use Rattle.wb_host.specs.Keeper.{KeeperCall, GoOn, come_of, delay_to, events_of};
 ghost use Rattle.wb_host.specs.Keeping.{StandsFor, Keeps, delay_at};
 ghost use Rattle.wb_host.specs.KeepFaults.{moment_fault, IsKeptBy};
 ghost use Rattle.wb_host.specs.Ticks.{sent_for, sends_for, stopped_in};
@@ -29,7 +29,8 @@ impl Keeper {
     /// It reads the history to its end first, and the request timers of what is held then are stopped,
     /// as by `arrived`, before any fires. The first word goes to the smallest name that is asked for.
     /// A refused call leaves the keeper as it was, and the desk too, but that it may have seen more where
-    /// memory ran out. The moment is in microseconds.
+    /// memory ran out. The moment is in microseconds. There are at least as many words as `due_count` says
+    /// at this moment.
     ///
     /// Refused with `BackInTime`, `Range` or `Memory`, in this order.
     pub fn tick(
@@ -41,7 +42,6 @@ impl Keeper {
         words: &[u64],
     ) -> Result<Vec<Datagram>, KeepFault>
         requires desk { IsPassOf board.now desk.old }
-        // as many words as `due_count` says
         requires words { length (due_asks (names_in self.old.recovery) (timers_in self.old.recovery) now) ≤ length words.now }
         ensures fault { IsKeptBy (moment_fault self.old.moment now) result }
         ensures desk { (desk.new ≡ desk.old) ⊎ ReadsOn desk.old desk.new }
@@ -54,15 +54,11 @@ impl Keeper {
         self.check(now)?;
         board.refresh(desk)?;
         let come = self.stopped(alloc, desk)?;
-        let actions = self.recovery.actions_after(alloc, &come, now)?;
-        let sent = self.sends(alloc, desk, &actions)?;
-        if self
-            .recovery
-            .stop_and_tick(alloc, &come, now, words)
-            .is_err()
-        {
+        let Ok(plan) = self.recovery.plan(alloc, &come, now, words) else {
             return Err(KeepFault::Memory);
-        }
+        };
+        let sent = self.sends(alloc, desk, plan.actions())?;
+        self.recovery.commit(plan, &come)?;
         self.moment = now;
         Ok(sent)
     }
@@ -71,8 +67,9 @@ impl Keeper {
     fn stopped(&self, alloc: Global, desk: &Desk) -> Result<Vec<Come>, AllocError>
         ensures { IfOk result (λ come. come.items ≡ come_of (delay_at self.now.delays) (stopped_in desk.now.seen self.now.recovery)) }
     {
-        let asked = self.recovery.asked_names(alloc)?;
-        let held = held_of(alloc, desk, &asked)?;
+        let held = self
+            .recovery
+            .asked_where(alloc, |name| is_held(desk, name))?;
         self.come_from(alloc, &held)
     }
 
@@ -119,12 +116,4 @@ impl Keeper {
             },
         }
     }
-}
-
-/// Those of the names that the desk holds.
-fn held_of(alloc: Global, desk: &Desk, names: &[Name]) -> Result<Vec<Name>, AllocError>
-    ensures { IfOk result (λ held. held.items ≡ filter (holds desk.now.seen) names.now) }
-{
-    let held = names.iter().filter(|name| is_held(desk, name));
-    held.copied().collect(alloc)
 }

@@ -15,6 +15,7 @@ ghost use Rattle.wb_recovery.specs.Noticing.{notices, notices_fault, records_of,
 ghost use Rattle.wb_recovery.specs.declared.tuning.Tuning.{Tuning as Constants};
 
 use crate::fault::RecoveryFault;
+use crate::limits::{DELAY_LIMIT, MOMENT_LIMIT};
 use crate::missed::Missed;
 use crate::records::rewrite;
 use crate::recovery::Recovery;
@@ -62,7 +63,7 @@ impl Recovery {
         if now < self.moment {
             return Err(RecoveryFault::BackInTime);
         }
-        if now >= 1 << 48 || !are_delays(missed) {
+        if now >= MOMENT_LIMIT || !are_delays(missed) {
             return Err(RecoveryFault::Range);
         }
         Ok(())
@@ -135,5 +136,5 @@ impl Recovery {
 fn are_delays(missed: &[Missed]) -> bool
     ensures { result ≡ list_all (λ m. is_delay m.delay) missed.now }
 {
-    missed.iter().all(|one| one.delay < 1 << 24)
+    missed.iter().all(|one| one.delay < DELAY_LIMIT)
 }

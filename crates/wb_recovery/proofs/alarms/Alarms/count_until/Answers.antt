@@ -7,4 +7,4 @@ pub returns : goal.returns
 returns c = λ dues keep names listed.
     c.due_len.ensures.len
     ∙ ap length (prefix_due c.args.now c.args.self.now.set.keys c.due_len.ensures.ordered)
-    ∙ names_counted dues c.args.self.now.set.keys c.due_len.ensures.ordered keep.each (λ d. nat_le d c.args.now) names listed
+    ∙ names_counted dues c.args.self.now.set.keys c.due_len.ensures.ordered keep.each (λ a. nat_le a.due c.args.now) names listed

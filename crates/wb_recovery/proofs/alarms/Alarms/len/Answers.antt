@@ -8,5 +8,5 @@ pub returns : goal.returns
 returns c = λ dues keep names listed.
     c.len.ensures.len
     ∙ ap length (sym (all_pass c.args.self.now.set.keys))
-    ∙ names_counted dues c.args.self.now.set.keys c.len.ensures.ordered keep.each (λ d. true) names
+    ∙ names_counted dues c.args.self.now.set.keys c.len.ensures.ordered keep.each (λ a. true) names
     (lists_same name_total _ _ names (λ n h. sym (is_some_where (dues n)) ∙ h) (λ n h. is_some_where (dues n) ∙ h) listed)

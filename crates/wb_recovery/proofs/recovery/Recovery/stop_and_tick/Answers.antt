@@ -1,66 +1,12 @@
-use Rattle.std.proofs.Common.{◌≡◌, ◌≤◌, List, ◌++◌, length, ap, sym, subst, ◌∙◌, refl, true}
-use Rattle.std.specs.Prelude.{map, not, ◌&&◌}
-use Rattle.std.specs.BTreeSet.{contains}
-use Rattle.wb_names.specs.Values.{NameValue}
-use Rattle.wb_names.specs.Orders.{name_cmp}
-use Rattle.wb_names.specs.Listing.{Lists}
-use Rattle.wb_names.proofs.Orders.{and_both}
-use Rattle.wb_recovery.specs.Timing.{is_ask_due, is_answer_due}
-use Rattle.wb_recovery.specs.Values.{RecoveryValue, timers_in}
-use Rattle.wb_recovery.specs.Events.{names_of, timers_of, due_asks}
-use Rattle.wb_recovery.specs.Stopping.{gots, has_come}
-use Rattle.wb_recovery.specs.declared.action.Action.{Action}
-use Rattle.wb_recovery.specs.declared.action.Action.TheVariants.{Ask, Answer}
-use Rattle.wb_recovery.proofs.FiredTimers.{due_ask_stands}
-use Rattle.wb_recovery.proofs.StoppedNames.{asking_left, answering_left, words_left, others_asking, others_answering, stops_and_ticks}
+use Rattle.std.proofs.Common.{ℕ, ◌∷◌, ◌∙◌, ap, subst}
+use Rattle.wb_recovery.specs.Events.{Tick}
+use Rattle.wb_recovery.specs.Standing.{StandsFor}
+use Rattle.wb_recovery.specs.Stopping.{gots}
 use Rattle.wb_recovery.proofs.recovery.Recovery.stop_and_tick.Goals as goal
 
-pub fire_these-requires-clause-asking : goal.fire_these-requires-clause-asking
-fire_these-requires-clause-asking c =
-    let view : RecoveryValue = record { tuning = c.self.inside.tuning; moment = c.self.inside.moment; records = c.self.inside.records.entries } in
-    let asking : Lists name_cmp (λ n. (not (has_come c.args.come.now n) && is_ask_due c.args.now (timers_in c.args.self.now n).ask) ≡ true) c.deref-5.result.now = subst (λ (xs : List NameValue). Lists name_cmp (λ n. (not (has_come c.args.come.now n) && is_ask_due c.args.now (timers_in c.args.self.now n).ask) ≡ true) xs) (sym c.deref-5.ensures.value) (asking_left c.args.now view c.args.self.now c.self.view_is c.args.come.now (contains name_cmp c.in_ok-stopped.stopped) c.in_ok-stopped.ensures c.in_ok-due.due.items c.deref.result.now c.in_ok-asking.asking.items c.deref.ensures.value c.in_ok-asking.ensures (c.in_ok-due.ensures _ c.self.invariant.asks)) in
-    asking.rising
-
-pub fire_these-requires-clause-standing : goal.fire_these-requires-clause-standing
-fire_these-requires-clause-standing c = λ n h.
-    let view : RecoveryValue = record { tuning = c.self.inside.tuning; moment = c.self.inside.moment; records = c.self.inside.records.entries } in
-    let asking : Lists name_cmp (λ n. (not (has_come c.args.come.now n) && is_ask_due c.args.now (timers_in c.args.self.now n).ask) ≡ true) c.deref-5.result.now = subst (λ (xs : List NameValue). Lists name_cmp (λ n. (not (has_come c.args.come.now n) && is_ask_due c.args.now (timers_in c.args.self.now n).ask) ≡ true) xs) (sym c.deref-5.ensures.value) (asking_left c.args.now view c.args.self.now c.self.view_is c.args.come.now (contains name_cmp c.in_ok-stopped.stopped) c.in_ok-stopped.ensures c.in_ok-due.due.items c.deref.result.now c.in_ok-asking.asking.items c.deref.ensures.value c.in_ok-asking.ensures (c.in_ok-due.ensures _ c.self.invariant.asks)) in
-    due_ask_stands c.args.now (timers_in c.args.self.now n).ask (and_both _ _ ((asking.members n).0 h)).1
-
-pub fire_these-requires-clause-answering : goal.fire_these-requires-clause-answering
-fire_these-requires-clause-answering c =
-    let view : RecoveryValue = record { tuning = c.self.inside.tuning; moment = c.self.inside.moment; records = c.self.inside.records.entries } in
-    let answering : Lists name_cmp (λ n. (not (has_come c.args.come.now n) && is_answer_due c.args.now (timers_in c.args.self.now n).answer) ≡ true) c.deref-6.result.now = subst (λ (xs : List NameValue). Lists name_cmp (λ n. (not (has_come c.args.come.now n) && is_answer_due c.args.now (timers_in c.args.self.now n).answer) ≡ true) xs) (sym c.deref-6.ensures.value) (answering_left c.args.now view c.args.self.now c.self.view_is c.args.come.now (contains name_cmp c.in_ok-stopped.stopped) c.in_ok-stopped.ensures c.in_ok-ready.ready.items c.deref-2.result.now c.in_ok-answering.answering.items c.deref-2.ensures.value c.in_ok-answering.ensures (c.in_ok-ready.ensures _ c.self.invariant.answers)) in
-    answering.rising
-
-pub fire_these-requires-clause-due : goal.fire_these-requires-clause-due
-fire_these-requires-clause-due c = λ n h.
-    let view : RecoveryValue = record { tuning = c.self.inside.tuning; moment = c.self.inside.moment; records = c.self.inside.records.entries } in
-    let answering : Lists name_cmp (λ n. (not (has_come c.args.come.now n) && is_answer_due c.args.now (timers_in c.args.self.now n).answer) ≡ true) c.deref-6.result.now = subst (λ (xs : List NameValue). Lists name_cmp (λ n. (not (has_come c.args.come.now n) && is_answer_due c.args.now (timers_in c.args.self.now n).answer) ≡ true) xs) (sym c.deref-6.ensures.value) (answering_left c.args.now view c.args.self.now c.self.view_is c.args.come.now (contains name_cmp c.in_ok-stopped.stopped) c.in_ok-stopped.ensures c.in_ok-ready.ready.items c.deref-2.result.now c.in_ok-answering.answering.items c.deref-2.ensures.value c.in_ok-answering.ensures (c.in_ok-ready.ensures _ c.self.invariant.answers)) in
-    (and_both (not (has_come c.args.come.now n)) (is_answer_due c.args.now (timers_in c.args.self.now n).answer) ((answering.members n).0 h)).1
-
-pub fire_these-requires-clause-words : goal.fire_these-requires-clause-words
-fire_these-requires-clause-words c =
-    let view : RecoveryValue = record { tuning = c.self.inside.tuning; moment = c.self.inside.moment; records = c.self.inside.records.entries } in
-    subst (λ (xs : List NameValue). length xs ≤ length c.args.words.now) (sym c.deref-5.ensures.value)
-    (words_left c.args.now view c.args.self.now c.self.view_is c.args.come.now (contains name_cmp c.in_ok-stopped.stopped) c.in_ok-stopped.ensures c.in_ok-due.due.items c.deref.result.now c.in_ok-asking.asking.items c.deref.ensures.value c.in_ok-asking.ensures c.self.invariant.ordered (length c.args.words.now) (c.in_ok-due.ensures _ c.self.invariant.asks) c.requires)
-
 pub returns-clause-actions : goal.returns-clause-actions
-returns-clause-actions c = λ constants events s.
-    let view : RecoveryValue = record { tuning = c.self.inside.tuning; moment = c.self.inside.moment; records = c.self.inside.records.entries } in
-    let asking = asking_left c.args.now view c.args.self.now c.self.view_is c.args.come.now (contains name_cmp c.in_ok-stopped.stopped) c.in_ok-stopped.ensures c.in_ok-due.due.items c.deref.result.now c.in_ok-asking.asking.items c.deref.ensures.value c.in_ok-asking.ensures (c.in_ok-due.ensures _ c.self.invariant.asks) in
-    let answering = answering_left c.args.now view c.args.self.now c.self.view_is c.args.come.now (contains name_cmp c.in_ok-stopped.stopped) c.in_ok-stopped.ensures c.in_ok-ready.ready.items c.deref-2.result.now c.in_ok-answering.answering.items c.deref-2.ensures.value c.in_ok-answering.ensures (c.in_ok-ready.ensures _ c.self.invariant.answers) in
-    let a = c.deref-3.ensures.value ∙ others_asking constants c.args.now c.args.come.now events c.args.self.now s c.in_ok-asking.asking.items asking in
-    let b = c.deref-4.ensures.value ∙ others_answering constants c.args.now c.args.come.now events c.args.self.now s c.in_ok-answering.answering.items answering in
-    c.in_ok-actions.ensures
-    ∙ ap (λ (xs : List NameValue). map {B = Action} Ask xs ++ map {B = Action} Answer c.deref-4.result.now) a
-    ∙ ap (λ (xs : List NameValue). map {B = Action} Ask (due_asks (names_of (gots c.args.now events c.args.come.now)) (timers_of constants (gots c.args.now events c.args.come.now)) c.args.now) ++ map {B = Action} Answer xs) b
+returns-clause-actions c = λ constants events s. ap (λ v. v.items) c.in_ok-commit.ensures.actions ∙ c.in_ok-plan.ensures.actions constants events s
 
 pub returns-clause-ok : goal.returns-clause-ok
-returns-clause-ok c =
-    let view : RecoveryValue = record { tuning = c.self.inside.tuning; moment = c.self.inside.moment; records = c.self.inside.records.entries } in
-    let new : RecoveryValue = record { tuning = c.self-2.inside.tuning; moment = c.args.now; records = c.self-2.inside.records.entries } in
-    let asking : Lists name_cmp (λ n. (not (has_come c.args.come.now n) && is_ask_due c.args.now (timers_in c.args.self.now n).ask) ≡ true) c.deref-5.result.now = subst (λ (xs : List NameValue). Lists name_cmp (λ n. (not (has_come c.args.come.now n) && is_ask_due c.args.now (timers_in c.args.self.now n).ask) ≡ true) xs) (sym c.deref-5.ensures.value) (asking_left c.args.now view c.args.self.now c.self.view_is c.args.come.now (contains name_cmp c.in_ok-stopped.stopped) c.in_ok-stopped.ensures c.in_ok-due.due.items c.deref.result.now c.in_ok-asking.asking.items c.deref.ensures.value c.in_ok-asking.ensures (c.in_ok-due.ensures _ c.self.invariant.asks)) in
-    let answering : Lists name_cmp (λ n. (not (has_come c.args.come.now n) && is_answer_due c.args.now (timers_in c.args.self.now n).answer) ≡ true) c.deref-6.result.now = subst (λ (xs : List NameValue). Lists name_cmp (λ n. (not (has_come c.args.come.now n) && is_answer_due c.args.now (timers_in c.args.self.now n).answer) ≡ true) xs) (sym c.deref-6.ensures.value) (answering_left c.args.now view c.args.self.now c.self.view_is c.args.come.now (contains name_cmp c.in_ok-stopped.stopped) c.in_ok-stopped.ensures c.in_ok-ready.ready.items c.deref-2.result.now c.in_ok-answering.answering.items c.deref-2.ensures.value c.in_ok-answering.ensures (c.in_ok-ready.ensures _ c.self.invariant.answers)) in
-    stops_and_ticks c.args.now c.args.words.now c.args.come.now c.deref-5.result.now c.deref-6.result.now c.args.self.now c.fire_these.new.self c.end_all.new.self new asking answering c.in_ok-fire_these.ensures.ok c.end_all.ensures
-    (ap (λ (v : RecoveryValue). v.tuning) c.self-2.view_is) (ap (λ (v : RecoveryValue). v.records) c.self-2.view_is) refl
+returns-clause-ok c = λ constants events s. subst (λ (now : ℕ). StandsFor constants (Tick now c.args.words.now ∷ gots now events c.args.come.now) c.commit.new.self) c.in_ok-plan.ensures.moment
+    (c.in_ok-commit.ensures.ok c.args.words.now c.in_ok-plan.ensures.plan constants events s)

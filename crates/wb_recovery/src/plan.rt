@@ -1,0 +1,29 @@
+//! What a tick is to do.
+
+use crate::action::Action;
+use crate::firing::BackOffs;
+use wb_names::Name;
+
+/// What a tick will do: `Recovery::plan` works it out and changes nothing, `Recovery::commit` does it.
+#[derive(Debug, Drop)]
+pub struct Plan {
+    /// The moment of the tick, in microseconds.
+    pub(crate) moment: u64,
+    pub(crate) actions: Vec<Action>,
+    /// The names whose request timers fire, ascending, and what becomes of these timers.
+    pub(crate) asking: Vec<Name>,
+    pub(crate) back_offs: BackOffs,
+    /// The names whose answer timers fire, ascending.
+    pub(crate) answering: Vec<Name>,
+}
+
+impl Plan {
+    ghost use Rattle.std.specs.Prelude.{◌≡◌};
+
+    /// What is to be sent, as `Recovery::tick` answers it.
+    pub fn actions(&self) -> &[Action]
+        ensures { result.now ≡ self.now.actions.items }
+    {
+        &self.actions
+    }
+}
