@@ -16,14 +16,14 @@ use Rattle.wb_script.specs.declared.line.Line.TheVariants as lines
 use Rattle.wb_script.specs.declared.summary.Summary.{Summary}
 use Rattle.wb_script.specs.Answers.{batch_line}
 use Rattle.wb_script.specs.Driving.{acceptance_of, counts_with}
-use Rattle.wb_script.specs.Hosts.{Opened, host_after, script_constants, Act, does, fails, act}
+use Rattle.wb_script.specs.Hosts.{Opened, host_after, batch_text, script_constants, Act, does, fails, act}
 use Rattle.wb_script.specs.Parsing.{line_of as script_line_of}
-use Rattle.wb_script.specs.Reordering.{Arrival, part_said, part_unless, batches_with, batches_of}
-use Rattle.wb_script.specs.Script.{State as Board, start, closing_text, after_batch, Step, goes, refused, step_by, line_step, said_step, step_of, Outcome, prints, before, finish, proceed, most_lines, outcome_from, IsOutcome}
+use Rattle.wb_script.specs.Reordering.{part_unless, batches_with, batches_of}
+use Rattle.wb_script.specs.Script.{State as Board, start, closing_text, after_batch, Part, Arrival, part_of, Step, goes, refused, step_by, part_step, said_step, step_of, Outcome, prints, before, finish, proceed, most_lines, outcome_from, IsOutcome}
 use Rattle.wb_dialog.specs.declared.line.DriverLine.TheVariants.{Script}
 use Rattle.wb_dialog.specs.Dialog.{State, Answer, gives, answered, arrives, answer_to, answer_of, block, state_after, blocks_from, answered_lines, answer, due}
 use Rattle.wb_dialog.specs.RunLaws.{ArriveAlone, IsWithoutOks, blocks_of, IsRunOut, RunIsWithoutOks, RefusedIsWithoutOks}
-use Rattle.wb_dialog.proofs.LoneArrivals.{Waits, step_waits, HasOne, has_batch, Fits, fits_all, fits_after, none_before, alone_is_one_order}
+use Rattle.wb_dialog.proofs.LoneArrivals.{Waits, step_waits, Batches, HasOne, has_batch, Fits, fits_all, fits_after, none_before, alone_is_one_order}
 use Rattle.wb_dialog.proofs.ScriptLines.{script_lines_are_read}
 
 -- what the end of the present batch prints
@@ -62,7 +62,7 @@ acts_as k s (does next printed) host = (printed, refl, append-nil (closing s ++ 
 acts_as k s (fails e) host = append-nil (closing s)
 
 -- by the host, and the arrivals that wait
-line_as : (k : Option ℕ) (host : Option Opened) (waiting : List DrawopValue) (line : Line) → (part_said (Ok line) ≡ Arrival → waiting ≡ []) → DoesAs (board k host waiting) (answer_to script_constants (host_of (board k host waiting)) (Script line)) (line_step (board k host waiting) waiting line)
+line_as : (k : Option ℕ) (host : Option Opened) (waiting : List DrawopValue) (line : Line) → ((d : DrawopValue) → part_of (Ok line) ≡ Arrival d → waiting ≡ []) → DoesAs (board k host waiting) (answer_to script_constants (host_of (board k host waiting)) (Script line)) (said_step (board k host waiting) waiting (Ok line))
 line_as k None waiting lines.Skip none = ([], refl, refl)
 line_as k None waiting (lines.Board member cells workers seed) none = ([], refl, refl)
 line_as k None waiting (lines.Arrive d) none = refl
@@ -76,9 +76,9 @@ line_as k None waiting (lines.Gaps page) none = refl
 line_as k None waiting (lines.Report page) none = refl
 line_as k None waiting lines.Pages none = refl
 line_as k (Some host) waiting lines.Skip none = ([], refl, sym (append-nil (closing (board k (Some host) waiting))))
-line_as k (Some host) waiting (lines.Board member cells workers seed) none = refl
+line_as k (Some host) waiting (lines.Board member cells workers seed) none = append-nil (closing (board k (Some host) waiting))
 line_as k (Some host) waiting (lines.Arrive d) none =
-    subst (λ (w : List DrawopValue). DoesAs (board k (Some host) w) (arrives d (host_after host w w)) (goes (board k (Some host) (w ++ d ∷ [])) [])) (sym (none refl)) (arrives_as k host d)
+    subst (λ (w : List DrawopValue). DoesAs (board k (Some host) w) (arrives d (host_after host w w)) (goes (board k (Some host) (w ++ d ∷ [])) [])) (sym (none d refl)) (arrives_as k host d)
 line_as k (Some host) waiting (lines.Hear v) none = let next = host_after host waiting waiting in acts_as k (board k (Some host) waiting) (act (lines.Hear v) next) next
 line_as k (Some host) waiting (lines.Distance source micros) none = let next = host_after host waiting waiting in acts_as k (board k (Some host) waiting) (act (lines.Distance source micros) next) next
 line_as k (Some host) waiting (lines.Tick moment) none = let next = host_after host waiting waiting in acts_as k (board k (Some host) waiting) (act (lines.Tick moment) next) next
@@ -137,6 +137,13 @@ module _ (s t : Board) (line : InputLine) (x printed : List ℕ) (is : answer_of
   agrees_on cut n lines (prints text (Err run_faults.Start)) taken f = tt
   agrees_on cut n lines (prints text (Err run_faults.Endless)) taken f = tt
 
+-- nothing more is printed at the end of a batch that has ended
+closing_again : (s : Board) → closing s ++ closing (after_batch s s.waiting) ≡ closing s
+closing_again s = at s.host where
+  at : (host : Option Opened) → closing (board s.workers host s.waiting) ++ closing (after_batch (board s.workers host s.waiting) s.waiting) ≡ closing (board s.workers host s.waiting)
+  at None = refl
+  at (Some host) = append-nil (batch_text host.board s.waiting)
+
 refused_here : (cut : Bool) (n : ℕ) (s t : Board) (lines : List InputLine) (text : List ℕ) (e : LineFault) → text ++ closing t ≡ closing s → Agrees cut n s lines (before text (finish t t.waiting (Err (run_faults.Line (n + 1) e))))
 refused_here cut n s t lines text e shift = ([], lines, refl, omega arith, ([], shift ∙ sym (append-nil (closing s)), refl))
 
@@ -160,20 +167,20 @@ neither : (short complete : Bool) → short ≡ true → complete ≡ false → 
 neither true complete is off = off
 neither false complete is off = absurd cc
 
-module _ (cut : Bool) (n : ℕ) (s : Board) (line : InputLine) (lines : List InputLine) (batches : List (List InputLine)) (some : HasOne batches) (rest : Board → Outcome)
+module _ (cut : Bool) (n : ℕ) (s : Board) (line : InputLine) (lines : List InputLine) (batches : Batches) (some : HasOne batches) (rest : Board → Outcome)
     (on : (t : Board) → Fits (length t.waiting) batches → Agrees cut (n + 1) t lines (rest t)) where
-  takes : (said : Result Line LineFault) → script_line_of (content line) ≡ said → is_short line ≡ true → is_taken cut line ≡ true → Fits (length s.waiting) (batches_with (part_said said) line batches)
+  takes : (said : Result Line LineFault) → script_line_of (content line) ≡ said → is_short line ≡ true → is_taken cut line ≡ true → Fits (length s.waiting) (batches_with (Some (part_of said)) (content line) batches)
       → Agrees cut n s (line ∷ lines) (proceed (n + 1) (said_step s s.waiting said) rest)
-  takes (Err e) is short taken fit = refused_here cut n s s (line ∷ lines) [] e refl
+  takes (Err e) is short taken fit = refused_here cut n s (after_batch s s.waiting) (line ∷ lines) (closing s) e (closing_again s)
   takes (Ok said) is short taken fit =
-      let part = part_said (Ok said) in
-      let none : part ≡ Arrival → s.waiting ≡ [] = λ arrival. nil_from_length s.waiting (none_before line (length s.waiting) batches some (subst (λ p. Fits (length s.waiting) (batches_with p line batches)) arrival fit)) in
-      step_agrees cut n s line lines (line_step s s.waiting said) rest taken
-      (subst (λ (a : Answer). DoesAs s a (line_step s s.waiting said)) (sym (answer_is (beside s) line said short is)) (line_as s.workers s.host s.waiting said none))
-      (λ t text to. on t (subst (λ (m : ℕ). Fits m batches) (sym (subst (Waits part (length s.waiting)) to (step_waits s (Ok said)))) (fits_after part line (length s.waiting) batches some fit)))
+      let part : Part = part_of (Ok said) in
+      let none : (d : DrawopValue) → part ≡ Arrival d → s.waiting ≡ [] = λ d arrival. nil_from_length s.waiting (none_before d (content line) (length s.waiting) batches some (subst (λ p. Fits (length s.waiting) (batches_with (Some p) (content line) batches)) arrival fit)) in
+      step_agrees cut n s line lines (part_step s s.waiting part) rest taken
+      (subst (λ (a : Answer). DoesAs s a (part_step s s.waiting part)) (sym (answer_is (beside s) line said short is)) (line_as s.workers s.host s.waiting said none))
+      (λ t text to. on t (subst (λ (m : ℕ). Fits m batches) (sym (subst (Waits part (length s.waiting)) to (step_waits s part))) (fits_after (Some part) (content line) (length s.waiting) batches some fit)))
 
   agrees_line : (within complete : Bool) → (nat_lt n most_lines && nat_le (length line.bytes) most_bytes) ≡ within → (line.ended || not cut) ≡ complete
-      → Fits (length s.waiting) (batches_with (part_unless (cond within (cond complete None (Some run_faults.Read)) (Some run_faults.Endless)) line) line batches)
+      → Fits (length s.waiting) (batches_with (part_unless (cond within (cond complete None (Some run_faults.Read)) (Some run_faults.Endless)) line) (content line) batches)
       → Agrees cut n s (line ∷ lines) (cond within (cond complete (proceed (n + 1) (step_of s s.waiting (content line)) rest) (finish s s.waiting (Err run_faults.Read))) (finish s s.waiting (Err run_faults.Endless)))
   agrees_line true true few is fit =
       takes (script_line_of (content line)) refl (and_right (nat_lt n most_lines) (is_short line) few) (or_right (not (is_short line)) (line.ended || not cut) is) fit
@@ -186,10 +193,10 @@ at_end : (cut : Bool) (n : ℕ) (s : Board) → Agrees cut n s [] (finish s s.wa
 at_end true n s = none_follows s
 at_end false n s = none_follows s
 
-agrees : (cut : Bool) (n : ℕ) (s : Board) (lines : List InputLine) → Fits (length s.waiting) (batches_of cut n lines) → Agrees cut n s lines (outcome_from cut n s lines)
+agrees : (cut : Bool) (n : ℕ) (s : Board) (lines : List InputLine) → Fits (length s.waiting) (batches_of content cut n lines) → Agrees cut n s lines (outcome_from cut n s lines)
 agrees cut n s [] fit = at_end cut n s
 agrees cut n s (line ∷ lines) fit =
-    agrees_line cut n s line lines (batches_of cut (n + 1) lines) (has_batch cut (n + 1) lines) (λ t. outcome_from cut (n + 1) t lines) (λ t fit. agrees cut (n + 1) t lines fit)
+    agrees_line cut n s line lines (batches_of content cut (n + 1) lines) (has_batch cut (n + 1) lines) (λ t. outcome_from cut (n + 1) t lines) (λ t fit. agrees cut (n + 1) t lines fit)
     (nat_lt n most_lines && nat_le (length line.bytes) most_bytes) (line.ended || not cut) refl refl fit
 
 -- ---- whole scripts
@@ -198,7 +205,7 @@ agrees cut n s (line ∷ lines) fit =
 ran : (workers : Option ℕ) (cut : Bool) (input : List ℕ) (o : Outcome) → ArriveAlone cut input → IsOutcome workers cut input o → Agrees cut 0 (start workers) (input_lines input) o
 ran workers cut input o alone h =
     let lines : List InputLine = input_lines input in
-    subst (Agrees cut 0 (start workers) lines) (sym (alone_is_one_order workers cut input o alone h)) (agrees cut 0 (start workers) lines (fits_all (batches_of cut 0 lines) (has_batch cut 0 lines) alone))
+    subst (Agrees cut 0 (start workers) lines) (sym (alone_is_one_order workers cut input o alone h)) (agrees cut 0 (start workers) lines (fits_all (batches_of content cut 0 lines) (has_batch cut 0 lines) alone))
 
 all_printed : (cut : Bool) (s : Board) (lines : List InputLine) (text : List ℕ) (end : Result Summary RunFault) → IsRunOut end → Agrees cut 0 s lines (prints text end) → Follows s (answered_lines cut lines) text
 all_printed cut s lines text (Ok summary) out f = f

@@ -1,6 +1,6 @@
 -- Laws of scripts in which each arrival is a batch of its own: what a run of one prints, and what a host prints for its lines.
 use Rattle.std.specs.Prelude.{◌≡◌, ◌≤◌, ◌-◌, ℕ, List, [], ◌∷◌, ◌++◌, length, take, All, Bool, Option, Result, Ok, Err}
-use Rattle.wb_lines.specs.Input.{InputLine, input_lines}
+use Rattle.wb_lines.specs.Input.{InputLine, input_lines, content}
 use Rattle.wb_script.specs.declared.fault.LineFault.{LineFault}
 use Rattle.wb_script.specs.declared.fault.RunFault.{RunFault}
 use Rattle.wb_script.specs.declared.fault.RunFault.TheVariants as run_faults
@@ -20,7 +20,7 @@ ScriptLinesAreRead = (line : List ℕ) (read : Line) → script_line_of line ≡
 
 -- Each arrival of an input is a batch of its own: between any two stands a line that ends a batch.
 abbrev pub ArriveAlone : Bool → List ℕ → Type 0
-ArriveAlone cut input = All (λ (batch : List InputLine). length batch ≤ 1) (batches_of cut 0 (input_lines input))
+ArriveAlone cut input = All (λ (batch : List (List ℕ)). length batch ≤ 1) (batches_of content cut 0 (input_lines input))
 
 -- A text is what some blocks print before the lines `ok DUE` that close them. No block is that of a refused line.
 abbrev pub IsWithoutOks : List (List ℕ) → List ℕ → Type 0

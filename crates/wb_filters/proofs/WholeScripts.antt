@@ -15,7 +15,8 @@ use Rattle.wb_filters.specs.Filtering.{turned, told_on, ending, ended_by, said_o
 use Rattle.wb_filters.specs.Laws.{IsInWords, IsInDigits, IsOther, IsWithinLimits, Turns, WordsComeBack, DigitsComeBack}
 use Rattle.wb_filters.proofs.TurningLaws.{words_are_turned, digits_are_turned}
 use Rattle.wb_filters.proofs.Visible.{digits_visible, digits_some, words_visible, words_some}
-use Rattle.wb_filters.proofs.InputText.{standing, all_bytes, Stands, AreLines, reads, lines_again, content_ending, SameEnd, same_end}
+use Rattle.wb_lines.proofs.StandingLines.{standing, all_bytes, Stands, AreLines, reads, lines_again}
+use Rattle.wb_filters.proofs.InputText.{content_ending, SameEnd, same_end}
 
 -- ---- a line and what it becomes
 

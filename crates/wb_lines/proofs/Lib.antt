@@ -5,6 +5,7 @@ pub mod WordEnds
 pub mod KnownBytes
 pub mod LineBytes
 pub mod InputLines
+pub mod StandingLines
 pub mod Outcomes
 pub mod LongLines
 pub mod Endings

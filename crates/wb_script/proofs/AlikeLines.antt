@@ -6,15 +6,13 @@ use Rattle.std.proofs.lemmas.List.Sorted.{IsPermutation-refl, length_permutation
 use Rattle.wb_names.specs.Values.{DrawopValue}
 use Rattle.wb_names.specs.Arrivals.{history_after}
 use Rattle.wb_names.proofs.Listings.{Contains-here, Contains-none}
-use Rattle.wb_script.specs.declared.fault.LineFault.{LineFault}
 use Rattle.wb_script.specs.declared.fault.RunFault.{RunFault}
 use Rattle.wb_script.specs.declared.summary.Summary.{Summary}
 use Rattle.wb_script.specs.declared.line.Line.{Line}
-use Rattle.wb_script.specs.declared.line.Line.TheVariants.{Skip, Board, Arrive, Hear, Distance, Tick, Look, Session, Show, Gaps, Report, Pages}
 use Rattle.wb_script.specs.Board.{Held}
 use Rattle.wb_script.specs.Hosts.{Opened, opened, host_after, batch_text, Act, does, fails, act}
 use Rattle.wb_script.specs.Laws.{NoneClash, HasCells}
-use Rattle.wb_script.specs.Script.{State, closing_text, after_batch, Step, goes, refused, step_by, acts, said_step, prints, answer, finish}
+use Rattle.wb_script.specs.Script.{State, after_batch, Closing, Opens, Acts, Faulty, Part, Arrival, Nothing, End, Step, goes, refused, step_by, closing_step, part_step, prints, answer, finish}
 use Rattle.wb_script.specs.Shows.{arrived_by, cells_by}
 use Rattle.wb_script.proofs.AlikeActs.{holding, DoAlike, act_alike}
 use Rattle.wb_script.proofs.AlikeBatches.{after_alike, after_within, host_after_alike, batch_text_alike}
@@ -40,10 +38,10 @@ MayBeAlike cells all (Some one) (Some other) = HostsAlike cells all one other
 MayBeAlike cells all None (Some other) = ⊥
 MayBeAlike cells all (Some one) None = ⊥
 
--- the board is open, or the lines that follow open it
-abbrev pub Opens : ℕ → Option Opened → ℕ → Type 0
-Opens cells None later = later ≡ cells
-Opens cells (Some host) later = Unit {0}
+-- the board is open, or the lines that follow open it with so many cells
+abbrev pub AreCells : ℕ → Option Opened → ℕ → Type 0
+AreCells cells None later = later ≡ cells
+AreCells cells (Some host) later = Unit {0}
 
 -- the same but for the order of what is held, and for the number of workers
 pub record StatesAlike (cells : ℕ) (all : List DrawopValue) (s t : State) : Type 0 where
@@ -52,7 +50,7 @@ pub record StatesAlike (cells : ℕ) (all : List DrawopValue) (s t : State) : Ty
   pub within : Among s.waiting all
 
 abbrev pub StepsAlike : ℕ → List DrawopValue → ℕ → Step → Step → Type 0
-StepsAlike cells all later (goes s text) (goes t text') = StatesAlike cells all s t × Opens cells s.host later × (text ≡ text')
+StepsAlike cells all later (goes s text) (goes t text') = StatesAlike cells all s t × AreCells cells s.host later × (text ≡ text')
 StepsAlike cells all later (refused s text e) (refused t text' e') = StatesAlike cells all s t × (text ≡ text') × (e ≡ e')
 StepsAlike cells all later (goes s text) (refused t text' e) = ⊥
 StepsAlike cells all later (refused s text e) (goes t text') = ⊥
@@ -105,16 +103,23 @@ module _ (cells : ℕ) (all : List DrawopValue) (clash : NoneClash all) (room : 
 
   -- ---- a line at a state
 
-  acts_alike : (later : ℕ) (k j : Option ℕ) (one other : Option Opened) (waiting order order' : List DrawopValue) (line : Line) → MayBeAlike cells all one other → Opens cells one later → Among order all → IsPermutation order order'
-      → StepsAlike cells all later (acts (after_batch (state k one waiting) order) (closing_text (state k one waiting) order) line) (acts (after_batch (state j other waiting) order') (closing_text (state j other waiting) order') line)
-  acts_alike later k j None None waiting order order' line h opens here moved = (record { hosts = tt; waiting = refl; within = none_among all }, refl, refl)
-  acts_alike later k j (Some one) (Some other) waiting order order' line h opens here moved =
-      line_done later k j (batch_text one.board order) (batch_text other.board order') line (host_after one waiting order) (host_after other waiting order') (batch_ended one other waiting order order' h here moved) (same_text one other order order' h here moved)
-  acts_alike later k j None (Some other) waiting order order' line h opens here moved = absurd h
-  acts_alike later k j (Some one) None waiting order order' line h opens here moved = absurd h
+  nothing_held : AreAlike [] []
+  nothing_held = record { once = no_history; again = no_history; moved = IsPermutation-refl [] }
+
+  closes_alike : (later : ℕ) (k j : Option ℕ) (one other : Option Opened) (text text' : List ℕ) (c : Closing) → MayBeAlike cells all one other → AreCells cells one (cells_by (End c) later) → text ≡ text'
+      → StepsAlike cells all later (closing_step (state k one []) text c) (closing_step (state j other []) text' c)
+  closes_alike later k j None None text text' (Opens member cells' workers seed) h opens same =
+      (record { hosts = hosts_alike (opened member cells' seed) (opened member cells' seed) [] refl nothing_held opens (none_among all); waiting = refl; within = none_among all }, tt, same)
+  closes_alike later k j (Some one) (Some other) text text' (Opens member cells' workers seed) h opens same = (record { hosts = h; waiting = refl; within = none_among all }, same, refl)
+  closes_alike later k j None None text text' (Acts line) h opens same = (record { hosts = tt; waiting = refl; within = none_among all }, same, refl)
+  closes_alike later k j (Some one) (Some other) text text' (Acts line) h opens same = line_done later k j text text' line one other h same
+  closes_alike later k j None None text text' (Faulty e) h opens same = (record { hosts = tt; waiting = refl; within = none_among all }, same, refl)
+  closes_alike later k j (Some one) (Some other) text text' (Faulty e) h opens same = (record { hosts = h; waiting = refl; within = none_among all }, same, refl)
+  closes_alike later k j None (Some other) text text' c h opens same = absurd h
+  closes_alike later k j (Some one) None text text' c h opens same = absurd h
 
   arrives_alike : (later : ℕ) (k j : Option ℕ) (one other : Option Opened) (waiting order order' : List DrawopValue) (d : DrawopValue) → MayBeAlike cells all one other → Among waiting all → Among (d ∷ []) all
-      → StepsAlike cells all later (said_step (state k one waiting) order (Ok (Arrive d))) (said_step (state j other waiting) order' (Ok (Arrive d)))
+      → StepsAlike cells all later (part_step (state k one waiting) order (Arrival d)) (part_step (state j other waiting) order' (Arrival d))
   arrives_alike later k j None None waiting order order' d h within more = (record { hosts = tt; waiting = refl; within = within }, refl, refl)
   arrives_alike later k j (Some one) (Some other) waiting order order' d h within more = (
     record {
@@ -128,36 +133,21 @@ module _ (cells : ℕ) (all : List DrawopValue) (clash : NoneClash all) (room : 
   arrives_alike later k j None (Some other) waiting order order' d h within more = absurd h
   arrives_alike later k j (Some one) None waiting order order' d h within more = absurd h
 
-  opens_alike : (later : ℕ) (k j : Option ℕ) (one other : Option Opened) (waiting order order' : List DrawopValue) (member cells' workers seed : ℕ) → MayBeAlike cells all one other → Opens cells one cells' → Among waiting all
-      → StepsAlike cells all later (said_step (state k one waiting) order (Ok (Board member cells' workers seed))) (said_step (state j other waiting) order' (Ok (Board member cells' workers seed)))
-  opens_alike later k j None None waiting order order' member cells' workers seed h opens within = (
-    record {
-      hosts = hosts_alike (opened member cells' seed) (opened member cells' seed) [] refl (record { once = no_history; again = no_history; moved = IsPermutation-refl [] }) opens (none_among all);
-      waiting = refl;
-      within = none_among all;
-    },
-    tt,
-    refl,
-  )
-  opens_alike later k j (Some one) (Some other) waiting order order' member cells' workers seed h opens within = (record { hosts = h; waiting = refl; within = within }, refl, refl)
-  opens_alike later k j None (Some other) waiting order order' member cells' workers seed h opens within = absurd h
-  opens_alike later k j (Some one) None waiting order order' member cells' workers seed h opens within = absurd h
+  -- by the hosts, at the end of a batch
+  ended_alike : (later : ℕ) (k j : Option ℕ) (one other : Option Opened) (waiting order order' : List DrawopValue) (c : Closing) → MayBeAlike cells all one other → AreCells cells one (cells_by (End c) later) → Among order all → IsPermutation order order'
+      → StepsAlike cells all later (part_step (state k one waiting) order (End c)) (part_step (state j other waiting) order' (End c))
+  ended_alike later k j None None waiting order order' c h opens here moved = closes_alike later k j None None [] [] c tt opens refl
+  ended_alike later k j (Some one) (Some other) waiting order order' c h opens here moved =
+      closes_alike later k j (Some (host_after one waiting order)) (Some (host_after other waiting order')) (batch_text one.board order) (batch_text other.board order') c
+      (batch_ended one other waiting order order' h here moved) tt (same_text one other order order' h here moved)
+  ended_alike later k j None (Some other) waiting order order' c h opens here moved = absurd h
+  ended_alike later k j (Some one) None waiting order order' c h opens here moved = absurd h
 
-  pub said_alike : (later : ℕ) (k j : Option ℕ) (one other : Option Opened) (waiting order order' : List DrawopValue) (said : Result Line LineFault) → MayBeAlike cells all one other → Opens cells one (cells_by said later)
-      → Among waiting all → Among (arrived_by said) all → Among order all → IsPermutation order order' → StepsAlike cells all later (said_step (state k one waiting) order said) (said_step (state j other waiting) order' said)
-  said_alike later k j one other waiting order order' (Ok Skip) h opens within more here moved = (record { hosts = h; waiting = refl; within = within }, opens, refl)
-  said_alike later k j one other waiting order order' (Ok (Arrive d)) h opens within more here moved = arrives_alike later k j one other waiting order order' d h within more
-  said_alike later k j one other waiting order order' (Ok (Board member cells' workers seed)) h opens within more here moved = opens_alike later k j one other waiting order order' member cells' workers seed h opens within
-  said_alike later k j one other waiting order order' (Ok (Hear v)) h opens within more here moved = acts_alike later k j one other waiting order order' (Hear v) h opens here moved
-  said_alike later k j one other waiting order order' (Ok (Distance source micros)) h opens within more here moved = acts_alike later k j one other waiting order order' (Distance source micros) h opens here moved
-  said_alike later k j one other waiting order order' (Ok (Tick moment)) h opens within more here moved = acts_alike later k j one other waiting order order' (Tick moment) h opens here moved
-  said_alike later k j one other waiting order order' (Ok (Look page)) h opens within more here moved = acts_alike later k j one other waiting order order' (Look page) h opens here moved
-  said_alike later k j one other waiting order order' (Ok (Session page)) h opens within more here moved = acts_alike later k j one other waiting order order' (Session page) h opens here moved
-  said_alike later k j one other waiting order order' (Ok (Show page width height)) h opens within more here moved = acts_alike later k j one other waiting order order' (Show page width height) h opens here moved
-  said_alike later k j one other waiting order order' (Ok (Gaps page)) h opens within more here moved = acts_alike later k j one other waiting order order' (Gaps page) h opens here moved
-  said_alike later k j one other waiting order order' (Ok (Report page)) h opens within more here moved = acts_alike later k j one other waiting order order' (Report page) h opens here moved
-  said_alike later k j one other waiting order order' (Ok Pages) h opens within more here moved = acts_alike later k j one other waiting order order' Pages h opens here moved
-  said_alike later k j one other waiting order order' (Err e) h opens within more here moved = (record { hosts = h; waiting = refl; within = within }, refl, refl)
+  pub part_alike : (later : ℕ) (k j : Option ℕ) (one other : Option Opened) (waiting order order' : List DrawopValue) (part : Part) → MayBeAlike cells all one other → AreCells cells one (cells_by part later)
+      → Among waiting all → Among (arrived_by part) all → Among order all → IsPermutation order order' → StepsAlike cells all later (part_step (state k one waiting) order part) (part_step (state j other waiting) order' part)
+  part_alike later k j one other waiting order order' Nothing h opens within more here moved = (record { hosts = h; waiting = refl; within = within }, opens, refl)
+  part_alike later k j one other waiting order order' (Arrival d) h opens within more here moved = arrives_alike later k j one other waiting order order' d h within more
+  part_alike later k j one other waiting order order' (End c) h opens within more here moved = ended_alike later k j one other waiting order order' c h opens here moved
 
   -- ---- the end
 

@@ -8,14 +8,12 @@ use Rattle.wb_script.specs.declared.fault.LineFault.{LineFault}
 use Rattle.wb_script.specs.declared.fault.LineFault.TheVariants as faults
 use Rattle.wb_script.specs.declared.fault.RunFault.{RunFault}
 use Rattle.wb_script.specs.declared.fault.RunFault.TheVariants as run_faults
-use Rattle.wb_script.specs.declared.line.Line.{Line}
-use Rattle.wb_script.specs.declared.line.Line.TheVariants as lines
 use Rattle.wb_script.specs.Parsing.{line_of}
 use Rattle.wb_lines.specs.Ahead.{Ahead, IsLine}
 use Rattle.wb_script.specs.Lines.{LinesValue, EndsWith, Fronts}
 use Rattle.wb_script.specs.Hosts.{Opened, host_after, batch_text, Act, does, fails, act}
 use Rattle.wb_lines.specs.Input.{InputLine, input_lines, content}
-use Rattle.wb_script.specs.Script.{IsOutcomeFrom, State, MayBeTaken, Step, refused, by_host, after_batch, closing_text, step_by, acts, said_step, Outcome, prints, before, answer, finish, Finishes, Proceeds, fault_at, Continues}
+use Rattle.wb_script.specs.Script.{IsOutcomeFrom, State, MayBeTaken, Closing, Opens, Acts, Faulty, Part, Arrival, Nothing, End, part_of, part_in, refused, by_host, after_batch, closing_text, step_by, closing_step, part_step, Outcome, prints, before, answer, finish, Finishes, Proceeds, fault_at, Continues}
 use Rattle.wb_lines.specs.Input.{MayFollow}
 use Rattle.wb_script.specs.Running.{Leads, Passes}
 use Rattle.wb_script.specs.ReadOn.{IsOpen, EndsBatchAt, EndsBatchBefore, IsBatchEnd}
@@ -61,62 +59,38 @@ finish_leads s order ending opened may o f =
     let last = finishes_none (after_batch s order) ending o (opened_after s order opened) refl f in
     (order, may, ap (λ (p : Outcome). before (closing_text s order) p) last ∙ ap (λ (text : List ℕ). prints text (answer (after_batch s order) ending)) (append-nil (closing_text s order)))
 
--- what a line does behind a text
-acts_behind : (number : ℕ) (Rest : State → Outcome → Type 0) (t : State) (text : List ℕ) (line : Line) (o : Outcome) → IsOpen t.host → Proceeds number Rest o (acts t [] line) → Proceeds number Rest (before text o) (acts t text line)
-acts_behind number Rest t text line o opened p = go t.host opened p where
-  by : (host : Opened) (a : Act) → Proceeds number Rest o (step_by t.workers [] a host) → Proceeds number Rest (before text o) (step_by t.workers text a host)
-  by host (does next printed) q = (q.0, q.1, ap (λ (x : Outcome). before text x) q.2 ∙ before-before text printed q.0)
-  by host (fails e) q = (q.0, q.1, ap (λ (x : Outcome). before text x) (q.2 ∙ before-nil q.0))
+-- a refusal, and what a host does, behind a text
+refused_behind : (number : ℕ) (Rest : State → Outcome → Type 0) (t : State) (text : List ℕ) (e : LineFault) (o : Outcome) → Proceeds number Rest o (refused t [] e) → Proceeds number Rest (before text o) (refused t text e)
+refused_behind number Rest t text e o q = (q.0, q.1, ap (λ (x : Outcome). before text x) (q.2 ∙ before-nil q.0))
 
-  go : (host : Option Opened) → IsOpen host → Proceeds number Rest o (by_host host (refused t [] faults.NoBoard) (λ h. step_by t.workers [] (act line h) h)) → Proceeds number Rest (before text o) (by_host host (refused t text faults.NoBoard) (λ h. step_by t.workers text (act line h) h))
-  go None opened q = absurd opened
-  go (Some host) opened q = by host (act line host) q
+act_behind : (number : ℕ) (Rest : State → Outcome → Type 0) (k : Option ℕ) (text : List ℕ) (o : Outcome) (host : Opened) (a : Act) → Proceeds number Rest o (step_by k [] a host) → Proceeds number Rest (before text o) (step_by k text a host)
+act_behind number Rest k text o host (does next printed) q = (q.0, q.1, ap (λ (x : Outcome). before text x) q.2 ∙ before-before text printed q.0)
+act_behind number Rest k text o host (fails e) q = refused_behind number Rest (record { host = Some host; workers = k; waiting = [] }) text e o q
 
--- a refusal, after the batch
-refused_behind : (number : ℕ) (Rest : State → Outcome → Type 0) (s : State) (order : List DrawopValue) (e : LineFault) (o : Outcome) → IsOpen s.host → MayBeTaken s.workers s.waiting order
-    → Proceeds number Rest o (refused (after_batch s order) [] e) → Proceeds number Rest (before (closing_text s order) o) (refused s [] e)
-refused_behind number Rest s order e o opened may p = (
-  before (closing_text s order) p.0,
-  finish_leads s order (Err (run_faults.Line number e)) opened may p.0 p.1,
-  ap (λ (x : Outcome). before (closing_text s order) x) (p.2 ∙ before-nil p.0) ∙ sym (before-nil (before (closing_text s order) p.0)),
-)
-
-opened_step : (host : Option Opened) (none some : Step) → IsOpen host → by_host host none (λ h. some) ≡ some
-opened_step None none some opened = absurd opened
-opened_step (Some h) none some opened = refl
+-- by the host
+closes_behind : (number : ℕ) (Rest : State → Outcome → Type 0) (k : Option ℕ) (host : Option Opened) (text : List ℕ) (c : Closing) (o : Outcome) → IsOpen host
+    → Proceeds number Rest o (closing_step (record { host = host; workers = k; waiting = [] }) [] c) → Proceeds number Rest (before text o) (closing_step (record { host = host; workers = k; waiting = [] }) text c)
+closes_behind number Rest k None text c o opened p = absurd opened
+closes_behind number Rest k (Some host) text (Opens member cells workers seed) o opened p = refused_behind number Rest (record { host = Some host; workers = k; waiting = [] }) text faults.SecondBoard o p
+closes_behind number Rest k (Some host) text (Acts line) o opened p = act_behind number Rest k text o host (act line host) p
+closes_behind number Rest k (Some host) text (Faulty e) o opened p = refused_behind number Rest (record { host = Some host; workers = k; waiting = [] }) text e o p
 
 -- a line that ends a batch, after it
-acts_after : (number : ℕ) (Rest : State → Outcome → Type 0) (s : State) (order : List DrawopValue) (line : Line) (o : Outcome) → IsOpen s.host
-    → Proceeds number Rest o (acts (after_batch (after_batch s order) []) (closing_text (after_batch s order) []) line) → Proceeds number Rest (before (closing_text s order) o) (acts (after_batch s order) (closing_text s order) line)
-acts_after number Rest s order line o opened p =
+step_behind : (number : ℕ) (Rest : State → Outcome → Type 0) (s : State) (order : List DrawopValue) (part : Part) (o : Outcome) → IsOpen s.host → EndsBatchAt part
+    → Proceeds number Rest o (part_step (after_batch s order) [] part) → Proceeds number Rest (before (closing_text s order) o) (part_step s order part)
+step_behind number Rest s order (Arrival d) o opened ends p = absurd ends
+step_behind number Rest s order Nothing o opened ends p = absurd ends
+step_behind number Rest s order (End c) o opened ends p =
     let t : State = after_batch s order in
     let there = opened_after s order opened in
-    let here : Proceeds number Rest o (acts t (closing_text t []) line) = subst (λ (u : State). Proceeds number Rest o (acts u (closing_text t []) line)) (after_none t there refl) p in
-    acts_behind number Rest t (closing_text s order) line o there (subst (λ (text : List ℕ). Proceeds number Rest o (acts t text line)) (text_none t there) here)
+    let here : Proceeds number Rest o (closing_step t (closing_text t []) c) = subst (λ (u : State). Proceeds number Rest o (closing_step u (closing_text t []) c)) (after_none t there refl) p in
+    closes_behind number Rest s.workers t.host (closing_text s order) c o there (subst (λ (text : List ℕ). Proceeds number Rest o (closing_step t text c)) (text_none t there) here)
 
-step_behind : (number : ℕ) (Rest : State → Outcome → Type 0) (s : State) (order : List DrawopValue) (parsed : Result Line LineFault) (o : Outcome) → IsOpen s.host → MayBeTaken s.workers s.waiting order → EndsBatchAt parsed
-    → Proceeds number Rest o (said_step (after_batch s order) [] parsed) → Proceeds number Rest (before (closing_text s order) o) (said_step s order parsed)
-step_behind number Rest s order (Err e) o opened may ends p = refused_behind number Rest s order e o opened may p
-step_behind number Rest s order (Ok lines.Skip) o opened may ends p = absurd ends
-step_behind number Rest s order (Ok (lines.Arrive d)) o opened may ends p = absurd ends
-step_behind number Rest s order (Ok (lines.Board member cells workers seed)) o opened may ends p =
-    let there = subst (λ (step : Step). Proceeds number Rest o step) (opened_step (after_batch s order).host _ (refused (after_batch s order) [] faults.SecondBoard) (opened_after s order opened)) p in
-    subst (λ (step : Step). Proceeds number Rest (before (closing_text s order) o) step) (sym (opened_step s.host _ (refused s [] faults.SecondBoard) opened)) (refused_behind number Rest s order faults.SecondBoard o opened may there)
-step_behind number Rest s order (Ok (lines.Hear v)) o opened may ends p = acts_after number Rest s order (lines.Hear v) o opened p
-step_behind number Rest s order (Ok (lines.Distance source micros)) o opened may ends p = acts_after number Rest s order (lines.Distance source micros) o opened p
-step_behind number Rest s order (Ok (lines.Tick moment)) o opened may ends p = acts_after number Rest s order (lines.Tick moment) o opened p
-step_behind number Rest s order (Ok (lines.Look page)) o opened may ends p = acts_after number Rest s order (lines.Look page) o opened p
-step_behind number Rest s order (Ok (lines.Session page)) o opened may ends p = acts_after number Rest s order (lines.Session page) o opened p
-step_behind number Rest s order (Ok (lines.Show page width height)) o opened may ends p = acts_after number Rest s order (lines.Show page width height) o opened p
-step_behind number Rest s order (Ok (lines.Gaps page)) o opened may ends p = acts_after number Rest s order (lines.Gaps page) o opened p
-step_behind number Rest s order (Ok (lines.Report page)) o opened may ends p = acts_after number Rest s order (lines.Report page) o opened p
-step_behind number Rest s order (Ok lines.Pages) o opened may ends p = acts_after number Rest s order lines.Pages o opened p
-
-continues_behind : (fault : Option RunFault) (number : ℕ) (Rest : State → Outcome → Type 0) (s : State) (order : List DrawopValue) (bytes : List ℕ) (o : Outcome) → IsOpen s.host → MayBeTaken s.workers s.waiting order → EndsBatchAt (line_of bytes)
+continues_behind : (fault : Option RunFault) (number : ℕ) (Rest : State → Outcome → Type 0) (s : State) (order : List DrawopValue) (bytes : List ℕ) (o : Outcome) → IsOpen s.host → MayBeTaken s.workers s.waiting order → EndsBatchAt (part_of (line_of bytes))
     → Continues fault number (after_batch s order) bytes Rest o → Continues fault number s bytes Rest (before (closing_text s order) o)
 continues_behind None number Rest s order bytes o opened may ends p =
     let none : p.0 ≡ [] = none_taken s.workers p.0 p.1 in
-    (order, may, step_behind number Rest s order (line_of bytes) o opened may ends (subst (λ (l : List DrawopValue). Proceeds number Rest o (said_step (after_batch s order) l (line_of bytes))) none p.2))
+    (order, may, step_behind number Rest s order (part_of (line_of bytes)) o opened ends (subst (λ (l : List DrawopValue). Proceeds number Rest o (part_step (after_batch s order) l (part_of (line_of bytes)))) none p.2))
 continues_behind (Some e) number Rest s order bytes o opened may ends p = finish_leads s order (Err e) opened may o p
 
 -- the first line of what is ahead
@@ -135,7 +109,7 @@ abbrev if_cut : Bool → ℕ → Result ℕ RunFault
 if_cut cut n = if cut then Err run_faults.Read else Ok n
 
 -- before the line that ends it
-lines_behind : (cut : Bool) (n : ℕ) (s : State) (order : List DrawopValue) (line : InputLine) (others : List InputLine) (o : Outcome) → IsOpen s.host → MayBeTaken s.workers s.waiting order → EndsBatchAt (line_of (content line))
+lines_behind : (cut : Bool) (n : ℕ) (s : State) (order : List DrawopValue) (line : InputLine) (others : List InputLine) (o : Outcome) → IsOpen s.host → MayBeTaken s.workers s.waiting order → EndsBatchAt (part_in line)
     → IsOutcomeFrom cut n (after_batch s order) (line ∷ others) o → IsOutcomeFrom cut n s (line ∷ others) (before (closing_text s order) o)
 lines_behind cut n s order line others o opened may ends p = continues_behind (fault_at cut n line) (n + 1) (λ t next. IsOutcomeFrom cut (n + 1) t others next) s order (content line) o opened may ends p
 

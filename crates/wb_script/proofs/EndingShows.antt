@@ -27,7 +27,7 @@ use Rattle.wb_script.specs.Laws.{NoneClash, HasCells}
 use Rattle.wb_script.specs.Parsing.{line_of}
 use Rattle.wb_script.specs.Queries.{view_of}
 use Rattle.wb_lines.specs.Input.{InputLine, input_lines, content}
-use Rattle.wb_script.specs.Script.{State, start, closing_text, after_batch, Step, goes, refused, step_by, acts, line_step, said_step, step_of, Outcome, prints, before, answer, finish, proceed, outcome_from}
+use Rattle.wb_script.specs.Script.{State, start, closing_text, after_batch, Closing, Opens, Acts, Faulty, Part, Arrival, Nothing, End, part_of, part_in, Step, goes, refused, step_by, part_step, step_of, Outcome, prints, before, answer, finish, proceed, outcome_from}
 use Rattle.wb_script.specs.ScriptLaws.{EachEnds}
 use Rattle.wb_script.specs.Shows.{arrived_by, arrivals_of, cells_by, cells_of, EndsWith, canvas_after, ShowsArrivals, ShowsAreFree}
 use Rattle.wb_script.proofs.FreeArrivals.{batches_are_one, free_on, once_held}
@@ -47,15 +47,15 @@ cells_at None later = later
 cells_at (Some host) later = host.board.cells
 
 -- what a step that is taken leaves
-record Kept (host : Option Opened) (ds : List DrawopValue) (said : Result Line LineFault) (t : State) : Type 0 where
-  leads : Leads t.host t.waiting (ds ++ arrived_by said)
-  cells : (later : ℕ) → cells_at t.host later ≡ cells_at host (cells_by said later)
+record Kept (host : Option Opened) (ds : List DrawopValue) (part : Part) (t : State) : Type 0 where
+  leads : Leads t.host t.waiting (ds ++ arrived_by part)
+  cells : (later : ℕ) → cells_at t.host later ≡ cells_at host (cells_by part later)
 
 abbrev state : Option ℕ → Option Opened → List DrawopValue → State
 state k host waiting = record { host = host; workers = k; waiting = waiting }
 
-kept_by : (host : Option Opened) (ds : List DrawopValue) (said : Result Line LineFault) (u t : State) (x y : List ℕ) → Kept host ds said u → goes u x ≡ goes t y → Kept host ds said t
-kept_by host ds said u t x y k e = subst (Kept host ds said) (state_of u t x y e) k
+kept_by : (host : Option Opened) (ds : List DrawopValue) (part : Part) (u t : State) (x y : List ℕ) → Kept host ds part u → goes u x ≡ goes t y → Kept host ds part t
+kept_by host ds part u t x y k e = subst (Kept host ds part) (state_of u t x y e) k
 
 leads_on : (host : Option Opened) (waiting ds : List DrawopValue) → Leads host waiting ds → Leads host waiting (ds ++ [])
 leads_on host waiting ds h = subst (Leads host waiting) (sym (append-nil ds)) h
@@ -85,55 +85,43 @@ act_board (Look page) host next printed e = ap (λ (h : Opened). h.board) (sym (
 act_board (Session page) host next printed e = ap (λ (h : Opened). h.board) (sym (same_host (calling (Reported (present host)) 0 host) next _ printed e))
 
 -- the same board, once a batch was taken
-act_kept : (k : Option ℕ) (first host : Opened) (waiting ds : List DrawopValue) (line : Line) (text : List ℕ) (t : State) (y : List ℕ) → arrived_by (Ok line) ≡ [] → ((later : ℕ) → cells_by (Ok line) later ≡ later) → Leads (Some first) waiting ds → host.board ≡ board_after first.board waiting
-    → (a : Act) → act line host ≡ a → step_by k text a host ≡ goes t y → Kept (Some first) ds (Ok line) t
-act_kept k first host waiting ds line text t y none same h is (fails f) acted e = absurd cc
-act_kept k first host waiting ds line text t y none same h is (does next printed) acted e =
+act_kept : (k : Option ℕ) (first host : Opened) (waiting ds : List DrawopValue) (line : Line) (text : List ℕ) (t : State) (y : List ℕ) → Leads (Some first) waiting ds → host.board ≡ board_after first.board waiting
+    → (a : Act) → act line host ≡ a → step_by k text a host ≡ goes t y → Kept (Some first) ds (End (Acts line)) t
+act_kept k first host waiting ds line text t y h is (fails f) acted e = absurd cc
+act_kept k first host waiting ds line text t y h is (does next printed) acted e =
     let board : next.board ≡ board_after first.board waiting = act_board line host next printed acted ∙ is in
-    let after : history_after first.board.cells first.board.drawops waiting ≡ history_after first.board.cells [] (ds ++ arrived_by (Ok line)) =
-    h ∙ ap (history_after first.board.cells []) (sym (append-nil ds) ∙ ap (λ (l : List DrawopValue). ds ++ l) (sym none)) in
-    kept_by (Some first) ds (Ok line) (state k (Some next) []) t (text ++ printed) y
+    let after : history_after first.board.cells first.board.drawops waiting ≡ history_after first.board.cells [] (ds ++ []) = h ∙ ap (history_after first.board.cells []) (sym (append-nil ds)) in
+    kept_by (Some first) ds (End (Acts line)) (state k (Some next) []) t (text ++ printed) y
     (record {
-      leads = subst (λ (b : Held). b.drawops ≡ history_after b.cells [] (ds ++ arrived_by (Ok line))) (sym board) after;
+      leads = subst (λ (b : Held). b.drawops ≡ history_after b.cells [] (ds ++ [])) (sym board) after;
       cells = λ later. ap (λ (b : Held). b.cells) board;
     }) e
 
-acts_kept : (k : Option ℕ) (host : Option Opened) (waiting ds : List DrawopValue) (line : Line) (t : State) (y : List ℕ) → arrived_by (Ok line) ≡ [] → ((later : ℕ) → cells_by (Ok line) later ≡ later) → Leads host waiting ds
-    → acts (after_batch (state k host waiting) waiting) (closing_text (state k host waiting) waiting) line ≡ goes t y → Kept host ds (Ok line) t
-acts_kept k None waiting ds line t y none same h e = absurd cc
-acts_kept k (Some host) waiting ds line t y none same h e =
-    act_kept k host (host_after host waiting waiting) waiting ds line (batch_text host.board waiting) t y none same h refl (act line (host_after host waiting waiting)) refl e
+-- by the host
+closes_kept : (k : Option ℕ) (host : Option Opened) (waiting ds : List DrawopValue) (c : Closing) (t : State) (y : List ℕ) → Leads host waiting ds → part_step (state k host waiting) waiting (End c) ≡ goes t y → Kept host ds (End c) t
+closes_kept k None waiting ds (Opens member cells workers seed) t y h e =
+    kept_by None ds (End (Opens member cells workers seed)) (state (Some (unwrap_or k workers)) (Some (opened member cells seed)) []) t [] y
+    (record { leads = ap (history_after cells []) (sym (ap (λ (l : List DrawopValue). l ++ []) h)); cells = λ later. refl }) e
+closes_kept k (Some host) waiting ds (Opens member cells workers seed) t y h e = absurd cc
+closes_kept k None waiting ds (Acts line) t y h e = absurd cc
+closes_kept k (Some host) waiting ds (Acts line) t y h e =
+    act_kept k host (host_after host waiting waiting) waiting ds line (batch_text host.board waiting) t y h refl (act line (host_after host waiting waiting)) refl e
+closes_kept k host waiting ds (Faulty f) t y h e = absurd cc
 
-arrives_kept : (k : Option ℕ) (host : Option Opened) (waiting ds : List DrawopValue) (d : DrawopValue) (t : State) (y : List ℕ) → Leads host waiting ds → said_step (state k host waiting) waiting (Ok (Arrive d)) ≡ goes t y → Kept host ds (Ok (Arrive d)) t
+arrives_kept : (k : Option ℕ) (host : Option Opened) (waiting ds : List DrawopValue) (d : DrawopValue) (t : State) (y : List ℕ) → Leads host waiting ds → part_step (state k host waiting) waiting (Arrival d) ≡ goes t y → Kept host ds (Arrival d) t
 arrives_kept k None waiting ds d t y h e = absurd cc
 arrives_kept k (Some host) waiting ds d t y h e =
     let b : Held = host.board in
-    kept_by (Some host) ds (Ok (Arrive d)) (state k (Some host) (waiting ++ d ∷ [])) t [] y
+    kept_by (Some host) ds (Arrival d) (state k (Some host) (waiting ++ d ∷ [])) t [] y
     (record {
       leads = batches_are_one b.cells b.drawops waiting (d ∷ []) ∙ ap (λ (l : List DrawopValue). history_after b.cells l (d ∷ [])) h ∙ sym (batches_are_one b.cells [] ds (d ∷ []));
       cells = λ later. refl;
     }) e
 
-opens_kept : (k : Option ℕ) (host : Option Opened) (waiting ds : List DrawopValue) (member cells workers seed : ℕ) (t : State) (y : List ℕ) → Leads host waiting ds → said_step (state k host waiting) waiting (Ok (Board member cells workers seed)) ≡ goes t y → Kept host ds (Ok (Board member cells workers seed)) t
-opens_kept k None waiting ds member cells workers seed t y h e =
-    kept_by None ds (Ok (Board member cells workers seed)) (state (Some (unwrap_or k workers)) (Some (opened member cells seed)) []) t [] y
-    (record { leads = ap (history_after cells []) (sym (ap (λ (l : List DrawopValue). l ++ []) h)); cells = λ later. refl }) e
-opens_kept k (Some host) waiting ds member cells workers seed t y h e = absurd cc
-
-step_kept : (k : Option ℕ) (host : Option Opened) (waiting ds : List DrawopValue) (said : Result Line LineFault) (t : State) (y : List ℕ) → Leads host waiting ds → said_step (state k host waiting) waiting said ≡ goes t y → Kept host ds said t
-step_kept k host waiting ds (Ok Skip) t y h e = kept_by host ds (Ok Skip) (state k host waiting) t [] y (record { leads = leads_on host waiting ds h; cells = λ later. refl }) e
-step_kept k host waiting ds (Ok (Arrive d)) t y h e = arrives_kept k host waiting ds d t y h e
-step_kept k host waiting ds (Ok (Board member cells workers seed)) t y h e = opens_kept k host waiting ds member cells workers seed t y h e
-step_kept k host waiting ds (Ok (Hear v)) t y h e = acts_kept k host waiting ds (Hear v) t y refl (λ later. refl) h e
-step_kept k host waiting ds (Ok (Distance source micros)) t y h e = acts_kept k host waiting ds (Distance source micros) t y refl (λ later. refl) h e
-step_kept k host waiting ds (Ok (Tick moment)) t y h e = acts_kept k host waiting ds (Tick moment) t y refl (λ later. refl) h e
-step_kept k host waiting ds (Ok (Look page)) t y h e = acts_kept k host waiting ds (Look page) t y refl (λ later. refl) h e
-step_kept k host waiting ds (Ok (Session page)) t y h e = acts_kept k host waiting ds (Session page) t y refl (λ later. refl) h e
-step_kept k host waiting ds (Ok (Show page width height)) t y h e = acts_kept k host waiting ds (Show page width height) t y refl (λ later. refl) h e
-step_kept k host waiting ds (Ok (Gaps page)) t y h e = acts_kept k host waiting ds (Gaps page) t y refl (λ later. refl) h e
-step_kept k host waiting ds (Ok (Report page)) t y h e = acts_kept k host waiting ds (Report page) t y refl (λ later. refl) h e
-step_kept k host waiting ds (Ok Pages) t y h e = acts_kept k host waiting ds Pages t y refl (λ later. refl) h e
-step_kept k host waiting ds (Err f) t y h e = absurd cc
+step_kept : (k : Option ℕ) (host : Option Opened) (waiting ds : List DrawopValue) (part : Part) (t : State) (y : List ℕ) → Leads host waiting ds → part_step (state k host waiting) waiting part ≡ goes t y → Kept host ds part t
+step_kept k host waiting ds Nothing t y h e = kept_by host ds Nothing (state k host waiting) t [] y (record { leads = leads_on host waiting ds h; cells = λ later. refl }) e
+step_kept k host waiting ds (Arrival d) t y h e = arrives_kept k host waiting ds d t y h e
+step_kept k host waiting ds (End c) t y h e = closes_kept k host waiting ds c t y h e
 
 -- ---- whole lines that are run through
 
@@ -166,18 +154,18 @@ runs_on n s ds line lines more text sum true (refused t y fault) ended f g h e r
     absurd (err_end y text t sum (run_faults.Line (n + 1) fault)
     (sym (one_line false n s line (lines ++ more) ended f ∙ ap (λ (step : Step). proceed (n + 1) step (λ t. outcome_from false (n + 1) t (lines ++ more))) g) ∙ e))
 runs_on n s ds line lines more text sum true (goes t y) ended f g h e rest =
-    let said : Result Line LineFault = line_of (content line) in
+    let part : Part = part_in line in
     let first : outcome_from false n s (line ∷ (lines ++ more)) ≡ before y (outcome_from false (n + 1) t (lines ++ more)) =
     one_line false n s line (lines ++ more) ended f ∙ ap (λ (step : Step). proceed (n + 1) step (λ t. outcome_from false (n + 1) t (lines ++ more))) g in
-    let k : Kept s.host ds said t = step_kept s.workers s.host s.waiting ds said t y h g in
+    let k : Kept s.host ds part t = step_kept s.workers s.host s.waiting ds part t y h g in
     let b = behind y text sum (outcome_from false (n + 1) t (lines ++ more)) (sym first ∙ e) in
-    let r = rest t (ds ++ arrived_by said) b.later k.leads b.is in
+    let r = rest t (ds ++ arrived_by part) b.later k.leads b.is in
     record {
       done = r.done;
       last = r.last;
       written = y ++ r.written;
       on = first ∙ ap (before y) r.on ∙ before-before y r.written (outcome_from false r.done r.last more);
-      leads = subst (Leads r.last.host r.last.waiting) (append_assoc ds (arrived_by said) (arrivals_of lines)) r.leads;
+      leads = subst (Leads r.last.host r.last.waiting) (append_assoc ds (arrived_by part) (arrivals_of lines)) r.leads;
       cells = r.cells ∙ k.cells (cells_of lines);
     }
 
@@ -189,7 +177,7 @@ runs n s ds (line ∷ lines) more text sum all h e =
 -- ---- the question at the end
 
 shown_on : (n : ℕ) (k : Option ℕ) (host : Option Opened) (waiting ds : List DrawopValue) (page : PageId) (width height : ℕ) (text : List ℕ) (sum : Summary) → Leads host waiting ds
-    → proceed (n + 1) (line_step (state k host waiting) waiting (Show page width height)) (λ t. outcome_from false (n + 1) t []) ≡ prints text (Ok sum)
+    → proceed (n + 1) (part_step (state k host waiting) waiting (End (Acts (Show page width height)))) (λ t. outcome_from false (n + 1) t []) ≡ prints text (Ok sum)
     → EndsWith text (canvas_text (view_of (history_after (cells_at host 0) [] ds) page) width height)
 shown_on n k None waiting ds page width height text sum h e = absurd (err_end [] text (after_batch (state k None waiting) waiting) sum (run_faults.Line (n + 1) faults.NoBoard) e)
 shown_on n k (Some host) waiting ds page width height text sum h e =
@@ -207,7 +195,7 @@ shown_at : (n : ℕ) (s : State) (ds : List DrawopValue) (question : List ℕ) (
 shown_at n s ds question page width height text sum false f said h e = absurd (no_fault s text sum run_faults.Endless (sym (too_many false n s (whole_line question) [] f) ∙ e))
 shown_at n s ds question page width height text sum true f said h e =
     shown_on n s.workers s.host s.waiting ds page width height text sum h
-    (sym (one_line false n s (whole_line question) [] refl f ∙ ap (λ (l : Result Line LineFault). proceed (n + 1) (said_step s s.waiting l) (λ t. outcome_from false (n + 1) t [])) said) ∙ e)
+    (sym (one_line false n s (whole_line question) [] refl f ∙ ap (λ (l : Result Line LineFault). proceed (n + 1) (part_step s s.waiting (part_of l)) (λ t. outcome_from false (n + 1) t [])) said) ∙ e)
 
 later_end : (written u text canvas : List ℕ) → text ≡ written ++ u → EndsWith u canvas → EndsWith text canvas
 later_end written u text canvas e (front, is) = (written ++ front, e ∙ ap (λ (t : List ℕ). written ++ t) is ∙ sym (append_assoc written front canvas))

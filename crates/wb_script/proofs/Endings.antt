@@ -15,7 +15,7 @@ use Rattle.wb_script.specs.Runs.{Runs}
 use Rattle.wb_lines.proofs.Endings.{fresh, input_from}
 use Rattle.wb_script.proofs.Outcomes.{one_thread}
 use Rattle.wb_script.proofs.OneWorker.{one_worker_is_one_thread}
-use Rattle.wb_script.proofs.Reordered.{workers_are_one_thread}
+use Rattle.wb_script.proofs.ReorderedScripts.{workers_are_one_thread}
 
 settles_behind : (o : Outcome) (x y left : List ℕ) (result : Result Summary RunFault) → Settles o y left result → Settles (before x o) (x ++ y) left result
 settles_behind (prints t e) x y left result (inl m) = inl (ap (λ (s : List ℕ). x ++ s) m.0, m.1, m.2)

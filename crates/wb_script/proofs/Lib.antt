@@ -23,12 +23,14 @@ pub mod CountLaws
 pub mod BatchLaws
 pub mod ScriptLaws
 pub mod EndingShows
+pub mod Simulations
 pub mod OneWorker
 pub mod AlikeCalls
 pub mod AlikeHosts
 pub mod Lifted
 pub mod ReorderedLines
 pub mod Reordered
+pub mod ArriveWords
 pub mod ReorderedScripts
 pub mod EachReordering
 pub mod AlikeHistories

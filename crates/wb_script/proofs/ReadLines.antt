@@ -3,12 +3,11 @@ use Rattle.std.proofs.Common.{◌≡◌, ℕ, ◌+◌, ◌<◌, Bool, true, fals
 use Rattle.std.specs.Prelude.{Option, Some, None}
 use Rattle.std.proofs.lemmas.List.{append-nil}
 use Rattle.wb_names.specs.Values.{DrawopValue}
-use Rattle.wb_script.specs.declared.line.Line.TheVariants as lines
 use Rattle.wb_script.specs.Parsing.{line_of}
 use Rattle.wb_script.specs.Hosts.{Opened}
 use Rattle.wb_lines.specs.Ahead.{Ahead, IsLine}
 use Rattle.wb_lines.specs.Input.{InputLine, input_lines, content}
-use Rattle.wb_script.specs.Script.{State, Step, goes, by_host, said_step, step_of, most_lines, IsOutcomeFrom}
+use Rattle.wb_script.specs.Script.{State, Arrival, Nothing, part_of, part_in, Step, goes, by_host, part_step, step_of, most_lines, IsOutcomeFrom}
 use Rattle.wb_script.specs.Running.{IsAhead, Passes}
 use Rattle.wb_script.specs.Lines.{LinesValue, EndsWith, Fronts, IsFirst, IsContent, TakesNext, Takes}
 use Rattle.wb_script.specs.ReadOn.{IsOpen, with_waiting, EndsBatchAt, EndsBatchBefore}
@@ -31,17 +30,17 @@ taken_line n s t ahead rest bytes false few is stands step = λ more cut may.
     rw (f.0, f.1) (Leads-is (IsAhead false n s ahead []) (IsAhead false (n + 1) t rest [])
     (λ o h. last_ahead n s ahead rest [] bytes o few is stands.1 (append-nil ahead.bytes ∙ stands.0) stands.2 (s.waiting, as_it_came s.workers s.waiting, rw step (o, h, sym (before-nil o)))))
 
-pub skips_line : (n : ℕ) (s : State) (ahead rest : Ahead) (line : InputLine) → n < most_lines → Fronts ahead line rest → line_of (content line) ≡ Ok lines.Skip → Passes n s ahead [] [] (n + 1) s rest
-skips_line n s ahead rest line few fronts e = taken_line n s s ahead rest line.bytes line.ended few fronts.is_line fronts.stands (ap (said_step s s.waiting) e)
+pub skips_line : (n : ℕ) (s : State) (ahead rest : Ahead) (line : InputLine) → n < most_lines → Fronts ahead line rest → part_in line ≡ Nothing → Passes n s ahead [] [] (n + 1) s rest
+skips_line n s ahead rest line few fronts e = taken_line n s s ahead rest line.bytes line.ended few fronts.is_line fronts.stands (ap (part_step s s.waiting) e)
 
 -- where a host is open
 opened_step : (host : Option Opened) (none some : Step) → IsOpen host → by_host host none (λ h. some) ≡ some
 opened_step None none some is = absurd is
 opened_step (Some h) none some is = refl
 
-pub takes_arrival : (n : ℕ) (s : State) (ahead rest : Ahead) (line : InputLine) (d : DrawopValue) → IsOpen s.host → n < most_lines → Fronts ahead line rest → line_of (content line) ≡ Ok (lines.Arrive d) → Passes n s ahead [] [] (n + 1) (with_waiting s (s.waiting ++ d ∷ [])) rest
+pub takes_arrival : (n : ℕ) (s : State) (ahead rest : Ahead) (line : InputLine) (d : DrawopValue) → IsOpen s.host → n < most_lines → Fronts ahead line rest → part_in line ≡ Arrival d → Passes n s ahead [] [] (n + 1) (with_waiting s (s.waiting ++ d ∷ [])) rest
 takes_arrival n s ahead rest line d is few fronts e =
-    let step : step_of s s.waiting (content line) ≡ goes (with_waiting s (s.waiting ++ d ∷ [])) [] = ap (said_step s s.waiting) e ∙ opened_step s.host _ _ is in
+    let step : step_of s s.waiting (content line) ≡ goes (with_waiting s (s.waiting ++ d ∷ [])) [] = ap (part_step s s.waiting) e ∙ opened_step s.host _ _ is in
     taken_line n s (with_waiting s (s.waiting ++ d ∷ [])) ahead rest line.bytes line.ended few fronts.is_line fronts.stands step
 
 -- ---- the line that was looked at
@@ -68,28 +67,28 @@ look_then a s r l mid x g none stays e done p =
 line_then : (a b c : ℕ) (s t u : State) (r r' r'' : Ahead) (x : List ℕ) → r''.ended ≡ r'.ended → Passes a s r x [] b t r' → Passes b t r' [] [] c u r'' → Passes a s r x [] c u r''
 line_then a b c s t u r r' r'' x same p q = subst (λ (y : List ℕ). Passes a s r y [] c u r'') (append-nil x) (Passes-then a b c s t u r r' r'' x [] [] [] (λ e. refl) (λ e. same ∙ e) p q)
 
-skip_seen : (next : Option InputLine) (ahead : Ahead) (done : ℕ) (new : LinesValue) (bytes : List ℕ) (s : State) → IsContent next bytes → TakesNext next ahead done new → line_of bytes ≡ Ok lines.Skip → Passes done s ahead [] [] new.done s new.ahead
+skip_seen : (next : Option InputLine) (ahead : Ahead) (done : ℕ) (new : LinesValue) (bytes : List ℕ) (s : State) → IsContent next bytes → TakesNext next ahead done new → part_of (line_of bytes) ≡ Nothing → Passes done s ahead [] [] new.done s new.ahead
 skip_seen None ahead done new bytes s is t e = absurd t
-skip_seen (Some line) ahead done new bytes s is t e = subst (λ (n : ℕ). Passes done s ahead [] [] n s new.ahead) (sym t.3) (skips_line done s ahead new.ahead line t.0 t.1 (ap line_of (sym is) ∙ e))
+skip_seen (Some line) ahead done new bytes s is t e = subst (λ (n : ℕ). Passes done s ahead [] [] n s new.ahead) (sym t.3) (skips_line done s ahead new.ahead line t.0 t.1 (ap (λ (b : List ℕ). part_of (line_of b)) (sym is) ∙ e))
 
-arrival_seen : (next : Option InputLine) (ahead : Ahead) (done : ℕ) (new : LinesValue) (bytes : List ℕ) (s : State) (d : DrawopValue) → IsOpen s.host → IsContent next bytes → TakesNext next ahead done new → line_of bytes ≡ Ok (lines.Arrive d)
+arrival_seen : (next : Option InputLine) (ahead : Ahead) (done : ℕ) (new : LinesValue) (bytes : List ℕ) (s : State) (d : DrawopValue) → IsOpen s.host → IsContent next bytes → TakesNext next ahead done new → part_of (line_of bytes) ≡ Arrival d
     → Passes done s ahead [] [] new.done (with_waiting s (s.waiting ++ d ∷ [])) new.ahead
 arrival_seen None ahead done new bytes s d opened is t e = absurd t
 arrival_seen (Some line) ahead done new bytes s d opened is t e =
-    subst (λ (n : ℕ). Passes done s ahead [] [] n (with_waiting s (s.waiting ++ d ∷ [])) new.ahead) (sym t.3) (takes_arrival done s ahead new.ahead line d opened t.0 t.1 (ap line_of (sym is) ∙ e))
+    subst (λ (n : ℕ). Passes done s ahead [] [] n (with_waiting s (s.waiting ++ d ∷ [])) new.ahead) (sym t.3) (takes_arrival done s ahead new.ahead line d opened t.0 t.1 (ap (λ (b : List ℕ). part_of (line_of b)) (sym is) ∙ e))
 
-pub skip_then : (a : ℕ) (s : State) (r : Ahead) (mid new : LinesValue) (x bytes : List ℕ) → IsContent mid.next bytes → Takes mid new → line_of bytes ≡ Ok lines.Skip → Passes a s r x [] mid.done s mid.ahead → Passes a s r x [] new.done s new.ahead
+pub skip_then : (a : ℕ) (s : State) (r : Ahead) (mid new : LinesValue) (x bytes : List ℕ) → IsContent mid.next bytes → Takes mid new → part_of (line_of bytes) ≡ Nothing → Passes a s r x [] mid.done s mid.ahead → Passes a s r x [] new.done s new.ahead
 skip_then a s r mid new x bytes is t e p = line_then a mid.done new.done s s s r mid.ahead new.ahead x (taken_end mid.next mid.ahead mid.done new t) p (skip_seen mid.next mid.ahead mid.done new bytes s is t e)
 
-pub arrival_then : (a : ℕ) (s : State) (r : Ahead) (mid new : LinesValue) (x bytes : List ℕ) (d : DrawopValue) → IsOpen s.host → IsContent mid.next bytes → Takes mid new → line_of bytes ≡ Ok (lines.Arrive d)
+pub arrival_then : (a : ℕ) (s : State) (r : Ahead) (mid new : LinesValue) (x bytes : List ℕ) (d : DrawopValue) → IsOpen s.host → IsContent mid.next bytes → Takes mid new → part_of (line_of bytes) ≡ Arrival d
     → Passes a s r x [] mid.done s mid.ahead → Passes a s r x [] new.done (with_waiting s (s.waiting ++ d ∷ [])) new.ahead
 arrival_then a s r mid new x bytes d opened is t e p =
     line_then a mid.done new.done s s (with_waiting s (s.waiting ++ d ∷ [])) r mid.ahead new.ahead x (taken_end mid.next mid.ahead mid.done new t) p (arrival_seen mid.next mid.ahead mid.done new bytes s d opened is t e)
 
 -- a batch ends before the line that was looked at
-pub other_seen : (next : Option InputLine) (ahead : Ahead) (bytes : List ℕ) → IsContent next bytes → IsFirst next ahead → EndsBatchAt (line_of bytes) → EndsBatchBefore next ahead
+pub other_seen : (next : Option InputLine) (ahead : Ahead) (bytes : List ℕ) → IsContent next bytes → IsFirst next ahead → EndsBatchAt (part_of (line_of bytes)) → EndsBatchBefore next ahead
 other_seen None ahead bytes is first other = absurd is
-other_seen (Some line) ahead bytes is first other = (subst (λ (b : List ℕ). EndsBatchAt (line_of b)) is other, first)
+other_seen (Some line) ahead bytes is first other = (subst (λ (b : List ℕ). EndsBatchAt (part_of (line_of b))) is other, first)
 
 pub none_seen : (next : Option InputLine) (ahead : Ahead) → next ≡ None → ahead.bytes ≡ [] → ahead.ended ≡ true → EndsBatchBefore next ahead
 none_seen next ahead none blank over = subst (λ (n : Option InputLine). EndsBatchBefore n ahead) (sym none) (blank, over)

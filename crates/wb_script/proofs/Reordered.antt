@@ -9,17 +9,17 @@ use Rattle.wb_script.specs.declared.fault.LineFault.{LineFault}
 use Rattle.wb_script.specs.declared.fault.LineFault.TheVariants as faults
 use Rattle.wb_script.specs.declared.fault.RunFault.{RunFault}
 use Rattle.wb_script.specs.declared.fault.RunFault.TheVariants as run_faults
-use Rattle.wb_script.specs.declared.line.Line.{Line}
-use Rattle.wb_script.specs.declared.line.Line.TheVariants.{Skip, Board, Arrive, Hear, Distance, Tick, Look, Session, Show, Gaps, Report, Pages}
 use Rattle.wb_script.specs.Hosts.{Opened, opened, calls_after, host_after, batch_text, Act, does, fails, act}
-use Rattle.wb_script.specs.Parsing.{line_of}
-use Rattle.wb_script.specs.Reordering.{Part, End, part_said, part_of, other_than, others_of, onto_batch, batches_with, batches_of, AreRearranged, IsReordered, WorkersAreOneThread}
-use Rattle.wb_lines.specs.Input.{InputLine, input_lines, content}
-use Rattle.wb_script.specs.Script.{State, start, closing_text, after_batch, Step, goes, refused, step_by, acts, line_step, said_step, Outcome, before, finish, proceed, most_lines, outcome_from, Finishes, Proceeds, fault_at, Continues, IsOutcomeFrom}
+use Rattle.wb_script.specs.Reordering.{part_at, other_than, others_of, onto_batch, batches_with, batches_of, AreRearranged, IsReorderedBy}
+use Rattle.wb_lines.specs.Input.{InputLine, content}
+use Rattle.wb_script.specs.Script.{State, start, Closing, Opens, Acts, Faulty, Part, Arrival, Nothing, End, part_in, Step, goes, refused, step_by, part_step, Outcome, before, finish, proceed, most_lines, outcome_from, Finishes, Proceeds, fault_at, Continues, IsOutcomeFrom}
 use Rattle.wb_script.proofs.AlikeCalls.{TellAlike, tell_same}
 use Rattle.wb_script.proofs.AlikeHosts.{told, ActsAlike, acts_alike}
 use Rattle.wb_script.proofs.Lifted.{lifted}
-use Rattle.wb_script.proofs.ReorderedLines.{onto_same, onto_none, onto_onto, Taken, lines_in, drawops_in, no_fault, arrives_at, part_at, course, course_is, line_course, alone, ToldAlike, state, finish_alike, after_alike}
+use Rattle.wb_script.proofs.ReorderedLines.{onto_same, onto_none, onto_onto, Taken, lines_in, drawops_in, no_fault, arrives_at, part_here, course, course_is, line_course, alone, ToldAlike, state, finish_alike, after_alike}
+
+abbrev pub entire : InputLine → InputLine
+entire line = line
 
 -- Lines that one thread takes with this outcome, behind other arrivals of the present batch: both as in the script, but for the places of the arrivals.
 record Found (cut : Bool) (n : ℕ) (s : State) (calls : List KeeperCall) (ws : List (Taken cut)) (lines : List InputLine) (o : Outcome) : Type 0 where
@@ -27,7 +27,7 @@ record Found (cut : Bool) (n : ℕ) (s : State) (calls : List KeeperCall) (ws : 
   reordered : List InputLine
   long : length taken ≡ length ws
   others : others_of cut n reordered ≡ others_of cut n lines
-  batches : AreRearranged (onto_batch (lines_in ws) (batches_of cut n lines)) (onto_batch (lines_in taken) (batches_of cut n reordered))
+  batches : AreRearranged (onto_batch (lines_in ws) (batches_of entire cut n lines)) (onto_batch (lines_in taken) (batches_of entire cut n reordered))
   moved : IsPermutation (lines_in ws ++ lines) (lines_in taken ++ reordered)
   is : o ≡ outcome_from cut n (alone s calls (drawops_in taken)) reordered
 
@@ -68,7 +68,7 @@ module _ (cut : Bool) (n : ℕ) where
         reordered = lines;
         long = length_permutation ws l.to l.moved;
         others = refl;
-        batches = onto_same (lines_in ws) (lines_in l.to) (batches_of cut n lines) (IsPermutation-map (λ (w : Taken cut). w.line) ws l.to l.moved);
+        batches = onto_same (lines_in ws) (lines_in l.to) (batches_of entire cut n lines) (IsPermutation-map (λ (w : Taken cut). w.line) ws l.to l.moved);
         moved = IsPermutation-append_left lines (lines_in ws) (lines_in l.to) (IsPermutation-map (λ (w : Taken cut). w.line) ws l.to l.moved);
         is = e ∙ ap (λ (order : List DrawopValue). outcome_from cut n (alone s calls order) lines) (sym l.is);
       }
@@ -86,19 +86,19 @@ module _ (cut : Bool) (n : ℕ) where
     one t = outcome_from cut (n + 1) t lines
 
     -- ---- a line that is refused before its batch has ended
-    refuses : (said : Result Line LineFault) (e : LineFault) (s : State) (calls : List KeeperCall) (ws : List (Taken cut)) (o : Outcome) → line_of (content line) ≡ said → s.waiting ≡ drawops_in ws
-        → ((order : List DrawopValue) → said_step (alone s calls order) order said ≡ refused (alone s calls order) [] e)
+    refuses : (part : Part) (e : LineFault) (s : State) (calls : List KeeperCall) (ws : List (Taken cut)) (o : Outcome) → part_in line ≡ part → s.waiting ≡ drawops_in ws
+        → ((order : List DrawopValue) → part_step (alone s calls order) order part ≡ refused (alone s calls order) [] e)
         → Proceeds (n + 1) Rest o (refused s [] e) → Found cut n s calls ws (line ∷ lines) o
-    refuses said e s calls ws o is waits step p =
+    refuses part e s calls ws o is waits step p =
         let f = p.1 in
         stays s calls ws (line ∷ lines) o f.0 waits f.1.moved (
         p.2 ∙ ap (before []) (f.2 ∙ finish_alike s.workers s.host s.waiting f.0 calls (Err (run_faults.Line (n + 1) e)))
         ∙ ap (λ (step : Step). proceed (n + 1) step one) (sym (step f.0))
-        ∙ sym (line_course cut n (alone s calls f.0) line lines said taken_here is)
+        ∙ sym (line_course cut n (alone s calls f.0) line lines part taken_here is)
         )
 
     -- ---- a skipped line
-    skips : (s : State) (calls : List KeeperCall) (ws : List (Taken cut)) (o : Outcome) → line_of (content line) ≡ Ok Skip → s.waiting ≡ drawops_in ws → ToldAlike s.host calls
+    skips : (s : State) (calls : List KeeperCall) (ws : List (Taken cut)) (o : Outcome) → part_in line ≡ Nothing → s.waiting ≡ drawops_in ws → ToldAlike s.host calls
         → Proceeds (n + 1) Rest o (goes s []) → Found cut n s calls ws (line ∷ lines) o
     skips s calls ws o is waits alike p =
         let q = rest s calls ws p.0 waits alike p.1 in
@@ -106,24 +106,24 @@ module _ (cut : Bool) (n : ℕ) where
           taken = q.taken;
           reordered = line ∷ q.reordered;
           long = q.long;
-          others = ap (λ (l : List (Option InputLine)). other_than (part_of cut n line) line ∷ l) q.others;
-          batches = subst (λ (part : Part). AreRearranged (onto_batch (lines_in ws) (batches_with part line (batches_of cut (n + 1) lines))) (onto_batch (lines_in q.taken) (batches_with part line (batches_of cut (n + 1) q.reordered))))
-              (sym (part_at cut n line (Ok Skip) taken_here is)) q.batches;
+          others = ap (λ (l : List (Option InputLine)). other_than (part_at cut n line) line ∷ l) q.others;
+          batches = subst (λ (part : Option Part). AreRearranged (onto_batch (lines_in ws) (batches_with part line (batches_of entire cut (n + 1) lines))) (onto_batch (lines_in q.taken) (batches_with part line (batches_of entire cut (n + 1) q.reordered))))
+              (sym (part_here cut n line Nothing taken_here is)) q.batches;
           moved = line_between (lines_in ws) (lines_in q.taken) lines q.reordered line q.moved;
-          is = p.2 ∙ ap (before []) q.is ∙ sym (line_course cut n (alone s calls (drawops_in q.taken)) line q.reordered (Ok Skip) taken_here is);
+          is = p.2 ∙ ap (before []) q.is ∙ sym (line_course cut n (alone s calls (drawops_in q.taken)) line q.reordered Nothing taken_here is);
         }
 
     -- ---- an arrival
     onto_taken : (ws : List (Taken cut)) (w : Taken cut) (batches : List (List InputLine)) → nat_lt n most_lines ≡ true
-        → onto_batch (lines_in ws) (batches_with (part_of cut n w.line) w.line batches) ≡ onto_batch (lines_in (ws ++ w ∷ [])) batches
+        → onto_batch (lines_in ws) (batches_with (part_at cut n w.line) w.line batches) ≡ onto_batch (lines_in (ws ++ w ∷ [])) batches
     onto_taken ws w batches few =
-        ap (λ (part : Part). onto_batch (lines_in ws) (batches_with part w.line batches)) (part_at cut n w.line (Ok (Arrive w.drawop)) (arrives_at cut n w few) w.said)
+        ap (λ (part : Option Part). onto_batch (lines_in ws) (batches_with part w.line batches)) (part_here cut n w.line (Arrival w.drawop) (arrives_at cut n w few) w.said)
         ∙ onto_onto (lines_in ws) w.line batches ∙ ap (λ (l : List InputLine). onto_batch l batches) (sym (map-append (λ (w : Taken cut). w.line) ws (w ∷ [])))
 
     lines_behind : (ws : List (Taken cut)) (w : Taken cut) (more : List InputLine) → lines_in (ws ++ w ∷ []) ++ more ≡ lines_in ws ++ w.line ∷ more
     lines_behind ws w more = ap (λ (l : List InputLine). l ++ more) (map-append (λ (w : Taken cut). w.line) ws (w ∷ [])) ∙ append_assoc (lines_in ws) (w.line ∷ []) more
 
-    arrives : (k : Option ℕ) (host : Opened) (waiting : List DrawopValue) (d : DrawopValue) (calls : List KeeperCall) (ws : List (Taken cut)) (o : Outcome) → line_of (content line) ≡ Ok (Arrive d) → waiting ≡ drawops_in ws → TellAlike host.me host.calls calls
+    arrives : (k : Option ℕ) (host : Opened) (waiting : List DrawopValue) (d : DrawopValue) (calls : List KeeperCall) (ws : List (Taken cut)) (o : Outcome) → part_in line ≡ Arrival d → waiting ≡ drawops_in ws → TellAlike host.me host.calls calls
         → Proceeds (n + 1) Rest o (goes (state k (Some host) (waiting ++ d ∷ [])) []) → Found cut n (state k (Some host) waiting) calls ws (line ∷ lines) o
     arrives k host waiting d calls ws o is waits alike p =
         let free = no_fault cut n line taken_here in
@@ -139,108 +139,99 @@ module _ (cut : Bool) (n : ℕ) where
           reordered = v.line ∷ q.reordered;
           long = l.long;
           others = ap₂ (λ (x : Option InputLine) (xs : List (Option InputLine)). x ∷ xs)
-              (ap (λ (part : Part). other_than part v.line) (part_at cut n v.line (Ok (Arrive v.drawop)) fault v.said) ∙ sym (ap (λ (part : Part). other_than part line) (part_at cut n line (Ok (Arrive d)) taken_here is))) q.others;
-          batches = subst (λ (xs : List (List InputLine)). AreRearranged xs (onto_batch (lines_in l.front) (batches_with (part_of cut n v.line) v.line (batches_of cut (n + 1) q.reordered)))) (sym (onto_taken ws w (batches_of cut (n + 1) lines) free.few))
-              (subst (AreRearranged (onto_batch (lines_in (ws ++ w ∷ [])) (batches_of cut (n + 1) lines))) (sym (onto_taken l.front v (batches_of cut (n + 1) q.reordered) free.few))
-              (subst (λ (taken : List (Taken cut)). AreRearranged (onto_batch (lines_in (ws ++ w ∷ [])) (batches_of cut (n + 1) lines)) (onto_batch (lines_in taken) (batches_of cut (n + 1) q.reordered))) l.is q.batches));
+              (ap (λ (part : Option Part). other_than part v.line) (part_here cut n v.line (Arrival v.drawop) fault v.said) ∙ sym (ap (λ (part : Option Part). other_than part line) (part_here cut n line (Arrival d) taken_here is))) q.others;
+          batches = subst (λ (xs : List (List InputLine)). AreRearranged xs (onto_batch (lines_in l.front) (batches_with (part_at cut n v.line) v.line (batches_of entire cut (n + 1) q.reordered)))) (sym (onto_taken ws w (batches_of entire cut (n + 1) lines) free.few))
+              (subst (AreRearranged (onto_batch (lines_in (ws ++ w ∷ [])) (batches_of entire cut (n + 1) lines))) (sym (onto_taken l.front v (batches_of entire cut (n + 1) q.reordered) free.few))
+              (subst (λ (taken : List (Taken cut)). AreRearranged (onto_batch (lines_in (ws ++ w ∷ [])) (batches_of entire cut (n + 1) lines)) (onto_batch (lines_in taken) (batches_of entire cut (n + 1) q.reordered))) l.is q.batches));
           moved = subst (λ (xs : List InputLine). IsPermutation xs (lines_in l.front ++ v.line ∷ q.reordered)) (lines_behind ws w lines)
               (subst (IsPermutation (lines_in (ws ++ w ∷ []) ++ lines)) (lines_behind l.front v q.reordered)
               (subst (λ (taken : List (Taken cut)). IsPermutation (lines_in (ws ++ w ∷ []) ++ lines) (lines_in taken ++ q.reordered)) l.is q.moved));
           is = p.2 ∙ ap (before []) (q.is ∙ ap (λ (taken : List DrawopValue). outcome_from cut (n + 1) (alone next calls taken) q.reordered) (ap drawops_in l.is ∙ map-append (λ (w : Taken cut). w.drawop) l.front (v ∷ [])))
-              ∙ sym (line_course cut n (alone here calls (drawops_in l.front)) v.line q.reordered (Ok (Arrive v.drawop)) fault v.said);
+              ∙ sym (line_course cut n (alone here calls (drawops_in l.front)) v.line q.reordered (Arrival v.drawop) fault v.said);
         }
 
     -- ---- a line that ends its batch, which is taken in this order
-    goes_on : (said : Result Line LineFault) (s t : State) (calls after : List KeeperCall) (ws : List (Taken cut)) (order : List DrawopValue) (text : List ℕ) (o next : Outcome) → line_of (content line) ≡ said → part_said said ≡ End
-        → s.waiting ≡ drawops_in ws → IsPermutation s.waiting order → t.waiting ≡ [] → ToldAlike t.host after → said_step (alone s calls order) order said ≡ goes (alone t after []) text
+    goes_on : (c : Closing) (s t : State) (calls after : List KeeperCall) (ws : List (Taken cut)) (order : List DrawopValue) (text : List ℕ) (o next : Outcome) → part_in line ≡ End c
+        → s.waiting ≡ drawops_in ws → IsPermutation s.waiting order → t.waiting ≡ [] → ToldAlike t.host after → part_step (alone s calls order) order (End c) ≡ goes (alone t after []) text
         → Rest t next → o ≡ before text next → Found cut n s calls ws (line ∷ lines) o
-    goes_on said s t calls after ws order text o next is part waits moved empty alike step r e =
+    goes_on c s t calls after ws order text o next is waits moved empty alike step r e =
         let l = lifted (λ (w : Taken cut). w.drawop) ws order (subst (λ (waiting : List DrawopValue). IsPermutation waiting order) waits moved) in
         let q = rest t after [] next empty alike r in
         let none : q.taken ≡ [] = nil_from_length q.taken q.long in
-        let batches : AreRearranged (batches_of cut (n + 1) lines) (batches_of cut (n + 1) q.reordered) =
-        onto_none (batches_of cut (n + 1) lines) (batches_of cut (n + 1) q.reordered) (subst (λ (taken : List (Taken cut)). AreRearranged (onto_batch [] (batches_of cut (n + 1) lines)) (onto_batch (lines_in taken) (batches_of cut (n + 1) q.reordered))) none q.batches) in
+        let batches : AreRearranged (batches_of entire cut (n + 1) lines) (batches_of entire cut (n + 1) q.reordered) =
+        onto_none (batches_of entire cut (n + 1) lines) (batches_of entire cut (n + 1) q.reordered) (subst (λ (taken : List (Taken cut)). AreRearranged (onto_batch [] (batches_of entire cut (n + 1) lines)) (onto_batch (lines_in taken) (batches_of entire cut (n + 1) q.reordered))) none q.batches) in
         record {
           taken = l.to;
           reordered = line ∷ q.reordered;
           long = length_permutation ws l.to l.moved;
-          others = ap (λ (l : List (Option InputLine)). other_than (part_of cut n line) line ∷ l) q.others;
-          batches = subst (λ (p : Part). AreRearranged (onto_batch (lines_in ws) (batches_with p line (batches_of cut (n + 1) lines))) (onto_batch (lines_in l.to) (batches_with p line (batches_of cut (n + 1) q.reordered))))
-              (sym (part_at cut n line said taken_here is ∙ part)) (IsPermutation-append_left [] (lines_in ws) (lines_in l.to) (IsPermutation-map (λ (w : Taken cut). w.line) ws l.to l.moved), batches);
+          others = ap (λ (l : List (Option InputLine)). other_than (part_at cut n line) line ∷ l) q.others;
+          batches = subst (λ (p : Option Part). AreRearranged (onto_batch (lines_in ws) (batches_with p line (batches_of entire cut (n + 1) lines))) (onto_batch (lines_in l.to) (batches_with p line (batches_of entire cut (n + 1) q.reordered))))
+              (sym (part_here cut n line (End c) taken_here is)) (IsPermutation-append_left [] (lines_in ws) (lines_in l.to) (IsPermutation-map (λ (w : Taken cut). w.line) ws l.to l.moved), batches);
           moved = IsPermutation-append (lines_in ws) (lines_in l.to) (line ∷ lines) (line ∷ q.reordered) (IsPermutation-map (λ (w : Taken cut). w.line) ws l.to l.moved)
               (IsPermutation-cons line lines q.reordered (subst (λ (taken : List (Taken cut)). IsPermutation lines (lines_in taken ++ q.reordered)) none q.moved));
           is = e ∙ ap (before text) (q.is ∙ ap (λ (taken : List (Taken cut)). outcome_from cut (n + 1) (alone t after (drawops_in taken)) q.reordered) none)
               ∙ ap (λ (step : Step). proceed (n + 1) step (λ t. outcome_from cut (n + 1) t q.reordered)) (sym step)
-              ∙ sym (line_course cut n (alone s calls order) line q.reordered said taken_here is)
+              ∙ sym (line_course cut n (alone s calls order) line q.reordered (End c) taken_here is)
               ∙ ap (λ (order : List DrawopValue). outcome_from cut n (alone s calls order) (line ∷ q.reordered)) (sym l.is);
         }
 
-    opens : (k : Option ℕ) (host : Option Opened) (waiting : List DrawopValue) (member cells workers seed : ℕ) (calls : List KeeperCall) (ws : List (Taken cut)) (o : Outcome) → line_of (content line) ≡ Ok (Board member cells workers seed) → waiting ≡ drawops_in ws
-        → Proceeds (n + 1) Rest o (line_step (state k host waiting) waiting (Board member cells workers seed)) → Found cut n (state k host waiting) calls ws (line ∷ lines) o
-    opens k None waiting member cells workers seed calls ws o is waits p =
-        goes_on (Ok (Board member cells workers seed)) (state k None waiting) (state (Some (unwrap_or k workers)) (Some (opened member cells seed)) []) calls [] ws waiting [] o p.0 is refl waits (IsPermutation-refl waiting) refl (tell_same member []) refl p.1 p.2
-    opens k (Some host) waiting member cells workers seed calls ws o is waits p =
-        refuses (Ok (Board member cells workers seed)) faults.SecondBoard (state k (Some host) waiting) calls ws o is waits (λ order. refl) p
+    -- a line that is refused once its batch has ended
+    refuses_after : (c : Closing) (s t u : State) (e : LineFault) (calls : List KeeperCall) (ws : List (Taken cut)) (order : List DrawopValue) (text : List ℕ) (o : Outcome) → part_in line ≡ End c → s.waiting ≡ drawops_in ws → IsPermutation s.waiting order
+        → part_step (alone s calls order) order (End c) ≡ refused u text e → finish t [] (Err (run_faults.Line (n + 1) e)) ≡ finish u u.waiting (Err (run_faults.Line (n + 1) e)) → t.waiting ≡ []
+        → Proceeds (n + 1) Rest o (refused t text e) → Found cut n s calls ws (line ∷ lines) o
+    refuses_after c s t u e calls ws order text o is waits moved step same empty p =
+        let last = p.1 in
+        stays s calls ws (line ∷ lines) o order waits moved (
+        p.2 ∙ ap (before text) (last.2 ∙ ap (λ (l : List DrawopValue). finish t l (Err (run_faults.Line (n + 1) e))) (none_waits last.0 (subst (λ (l : List DrawopValue). IsPermutation l last.0) empty last.1.moved)) ∙ same)
+        ∙ ap (λ (step : Step). proceed (n + 1) step one) (sym step)
+        ∙ sym (line_course cut n (alone s calls order) line lines (End c) taken_here is)
+        )
 
-    comes_in : (k : Option ℕ) (host : Option Opened) (waiting : List DrawopValue) (d : DrawopValue) (calls : List KeeperCall) (ws : List (Taken cut)) (o : Outcome) → line_of (content line) ≡ Ok (Arrive d) → waiting ≡ drawops_in ws → ToldAlike host calls
-        → Proceeds (n + 1) Rest o (line_step (state k host waiting) waiting (Arrive d)) → Found cut n (state k host waiting) calls ws (line ∷ lines) o
-    comes_in k None waiting d calls ws o is waits alike p = refuses (Ok (Arrive d)) faults.NoBoard (state k None waiting) calls ws o is waits (λ order. refl) p
+    comes_in : (k : Option ℕ) (host : Option Opened) (waiting : List DrawopValue) (d : DrawopValue) (calls : List KeeperCall) (ws : List (Taken cut)) (o : Outcome) → part_in line ≡ Arrival d → waiting ≡ drawops_in ws → ToldAlike host calls
+        → Proceeds (n + 1) Rest o (part_step (state k host waiting) waiting (Arrival d)) → Found cut n (state k host waiting) calls ws (line ∷ lines) o
+    comes_in k None waiting d calls ws o is waits alike p = refuses (Arrival d) faults.NoBoard (state k None waiting) calls ws o is waits (λ order. refl) p
     comes_in k (Some host) waiting d calls ws o is waits alike p = arrives k host waiting d calls ws o is waits alike p
 
     -- what the host does then is what that of one thread does
-    does_alike : (said : Result Line LineFault) (s : State) (first : Opened) (calls after : List KeeperCall) (ws : List (Taken cut)) (order : List DrawopValue) (text : List ℕ) (o : Outcome) (a b : Act) → line_of (content line) ≡ said → part_said said ≡ End
-        → s.waiting ≡ drawops_in ws → IsPermutation s.waiting order → ActsAlike a b → said_step (alone s calls order) order said ≡ step_by s.workers text b (told after first)
+    does_alike : (c : Closing) (s : State) (first : Opened) (calls after : List KeeperCall) (ws : List (Taken cut)) (order : List DrawopValue) (text : List ℕ) (o : Outcome) (a b : Act) → part_in line ≡ End c
+        → s.waiting ≡ drawops_in ws → IsPermutation s.waiting order → ActsAlike a b → part_step (alone s calls order) order (End c) ≡ step_by s.workers text b (told after first)
         → Proceeds (n + 1) Rest o (step_by s.workers text a first) → Found cut n s calls ws (line ∷ lines) o
-    does_alike said s first calls after ws order text o (does next printed) (does other printed') is part waits moved alike step p =
-        goes_on said s (state s.workers (Some next) []) calls alike.0 ws order (text ++ printed) o p.0 is part waits moved refl alike.2
+    does_alike c s first calls after ws order text o (does next printed) (does other printed') is waits moved alike step p =
+        goes_on c s (state s.workers (Some next) []) calls alike.0 ws order (text ++ printed) o p.0 is waits moved refl alike.2
         (step ∙ ap₂ (λ (host : Opened) (shown : List ℕ). goes (state s.workers (Some host) []) (text ++ shown)) alike.1 alike.3) p.1 p.2
-    does_alike said s first calls after ws order text o (fails e) (fails f) is part waits moved alike step p =
-        let end : Result ℕ RunFault = Err (run_faults.Line (n + 1) e) in
-        let last = p.1 in
-        stays s calls ws (line ∷ lines) o order waits moved (
-        p.2 ∙ ap (before text) (last.2 ∙ ap (λ (l : List DrawopValue). finish (state s.workers (Some first) []) l end) (none_waits last.0 last.1.moved))
-        ∙ ap (λ (f : LineFault). before text (finish (state s.workers (Some (told after first)) []) [] (Err (run_faults.Line (n + 1) f)))) (sym alike)
-        ∙ ap (λ (step : Step). proceed (n + 1) step one) (sym step)
-        ∙ sym (line_course cut n (alone s calls order) line lines said taken_here is)
-        )
-    does_alike said s first calls after ws order text o (does next printed) (fails f) is part waits moved alike step p = absurd alike
-    does_alike said s first calls after ws order text o (fails e) (does other printed') is part waits moved alike step p = absurd alike
+    does_alike c s first calls after ws order text o (fails e) (fails f) is waits moved alike step p =
+        refuses_after c s (state s.workers (Some first) []) (state s.workers (Some (told after first)) []) e calls ws order text o is waits moved
+        (step ∙ ap (λ (f : LineFault). refused (state s.workers (Some (told after first)) []) text f) alike) refl refl p
+    does_alike c s first calls after ws order text o (does next printed) (fails f) is waits moved alike step p = absurd alike
+    does_alike c s first calls after ws order text o (fails e) (does other printed') is waits moved alike step p = absurd alike
 
-    -- a line that the host acts on once its batch has ended
-    acts_on : (l : Line) (k : Option ℕ) (host : Option Opened) (waiting order : List DrawopValue) (calls : List KeeperCall) (ws : List (Taken cut)) (o : Outcome) → line_of (content line) ≡ Ok l → part_said (Ok l) ≡ End
-        → ((s : State) (order : List DrawopValue) → line_step s order l ≡ acts (after_batch s order) (closing_text s order) l)
+    -- a line that ends its batch
+    closes : (c : Closing) (k : Option ℕ) (host : Option Opened) (waiting order : List DrawopValue) (calls : List KeeperCall) (ws : List (Taken cut)) (o : Outcome) → part_in line ≡ End c
         → waiting ≡ drawops_in ws → IsPermutation waiting order → ToldAlike host calls
-        → Proceeds (n + 1) Rest o (line_step (state k host waiting) order l) → Found cut n (state k host waiting) calls ws (line ∷ lines) o
-    acts_on l k None waiting order calls ws o is part step waits moved alike p =
-        let s : State = state k None waiting in
-        let q = subst (Proceeds (n + 1) Rest o) (step s order) p in
-        stays s calls ws (line ∷ lines) o order waits moved (
-        q.2 ∙ ap (before []) q.1.2
-        ∙ ap (λ (step : Step). proceed (n + 1) step one) (sym (step (alone s calls order) order))
-        ∙ sym (line_course cut n (alone s calls order) line lines (Ok l) taken_here is)
-        )
-    acts_on l k (Some host) waiting order calls ws o is part step waits moved alike p =
-        let s : State = state k (Some host) waiting in
+        → Proceeds (n + 1) Rest o (part_step (state k host waiting) order (End c)) → Found cut n (state k host waiting) calls ws (line ∷ lines) o
+    closes (Opens member cells workers seed) k None waiting order calls ws o is waits moved alike p =
+        goes_on (Opens member cells workers seed) (state k None waiting) (state (Some (unwrap_or k workers)) (Some (opened member cells seed)) []) calls [] ws order [] o p.0 is waits moved refl (tell_same member []) refl p.1 p.2
+    closes (Acts l) k None waiting order calls ws o is waits moved alike p =
+        refuses_after (Acts l) (state k None waiting) (state k None []) (state k None []) faults.NoBoard calls ws order [] o is waits moved refl refl refl p
+    closes (Faulty e) k None waiting order calls ws o is waits moved alike p =
+        refuses_after (Faulty e) (state k None waiting) (state k None []) (state k None []) e calls ws order [] o is waits moved refl refl refl p
+    closes (Opens member cells workers seed) k (Some host) waiting order calls ws o is waits moved alike p =
+        let after : List KeeperCall = calls_after (told calls host) order order in
+        refuses_after (Opens member cells workers seed) (state k (Some host) waiting) (state k (Some (host_after host waiting order)) []) (state k (Some (told after (host_after host waiting order))) []) faults.SecondBoard calls ws order (batch_text host.board order) o is waits moved refl refl refl p
+    closes (Acts l) k (Some host) waiting order calls ws o is waits moved alike p =
         let first : Opened = host_after host waiting order in
         let after : List KeeperCall = calls_after (told calls host) order order in
-        does_alike (Ok l) s first calls after ws order (batch_text host.board order) o (act l first) (act l (told after first)) is part waits moved
-        (acts_alike first after (after_alike host calls waiting order alike moved) l) (step (alone s calls order) order) (subst (Proceeds (n + 1) Rest o) (step s order) p)
+        does_alike (Acts l) (state k (Some host) waiting) first calls after ws order (batch_text host.board order) o (act l first) (act l (told after first)) is waits moved
+        (acts_alike first after (after_alike host calls waiting order alike moved) l) refl p
+    closes (Faulty e) k (Some host) waiting order calls ws o is waits moved alike p =
+        let after : List KeeperCall = calls_after (told calls host) order order in
+        refuses_after (Faulty e) (state k (Some host) waiting) (state k (Some (host_after host waiting order)) []) (state k (Some (told after (host_after host waiting order))) []) e calls ws order (batch_text host.board order) o is waits moved refl refl refl p
 
-    says : (said : Result Line LineFault) (s : State) (order : List DrawopValue) (calls : List KeeperCall) (ws : List (Taken cut)) (o : Outcome) → line_of (content line) ≡ said → s.waiting ≡ drawops_in ws → IsPermutation s.waiting order → ToldAlike s.host calls
-        → Proceeds (n + 1) Rest o (said_step s order said) → Found cut n s calls ws (line ∷ lines) o
-    says (Ok Skip) s order calls ws o is waits moved alike p = skips s calls ws o is waits alike p
-    says (Ok (Arrive d)) s order calls ws o is waits moved alike p = comes_in s.workers s.host s.waiting d calls ws o is waits alike p
-    says (Ok (Board member cells workers seed)) s order calls ws o is waits moved alike p = opens s.workers s.host s.waiting member cells workers seed calls ws o is waits p
-    says (Ok (Hear v)) s order calls ws o is waits moved alike p = acts_on (Hear v) s.workers s.host s.waiting order calls ws o is refl (λ s order. refl) waits moved alike p
-    says (Ok (Distance source micros)) s order calls ws o is waits moved alike p = acts_on (Distance source micros) s.workers s.host s.waiting order calls ws o is refl (λ s order. refl) waits moved alike p
-    says (Ok (Tick moment)) s order calls ws o is waits moved alike p = acts_on (Tick moment) s.workers s.host s.waiting order calls ws o is refl (λ s order. refl) waits moved alike p
-    says (Ok (Look page)) s order calls ws o is waits moved alike p = acts_on (Look page) s.workers s.host s.waiting order calls ws o is refl (λ s order. refl) waits moved alike p
-    says (Ok (Session page)) s order calls ws o is waits moved alike p = acts_on (Session page) s.workers s.host s.waiting order calls ws o is refl (λ s order. refl) waits moved alike p
-    says (Ok (Show page width height)) s order calls ws o is waits moved alike p = acts_on (Show page width height) s.workers s.host s.waiting order calls ws o is refl (λ s order. refl) waits moved alike p
-    says (Ok (Gaps page)) s order calls ws o is waits moved alike p = acts_on (Gaps page) s.workers s.host s.waiting order calls ws o is refl (λ s order. refl) waits moved alike p
-    says (Ok (Report page)) s order calls ws o is waits moved alike p = acts_on (Report page) s.workers s.host s.waiting order calls ws o is refl (λ s order. refl) waits moved alike p
-    says (Ok Pages) s order calls ws o is waits moved alike p = acts_on Pages s.workers s.host s.waiting order calls ws o is refl (λ s order. refl) waits moved alike p
-    says (Err e) s order calls ws o is waits moved alike p = refuses (Err e) e s calls ws o is waits (λ order. refl) p
+    says : (part : Part) (s : State) (order : List DrawopValue) (calls : List KeeperCall) (ws : List (Taken cut)) (o : Outcome) → part_in line ≡ part → s.waiting ≡ drawops_in ws → IsPermutation s.waiting order → ToldAlike s.host calls
+        → Proceeds (n + 1) Rest o (part_step s order part) → Found cut n s calls ws (line ∷ lines) o
+    says Nothing s order calls ws o is waits moved alike p = skips s calls ws o is waits alike p
+    says (Arrival d) s order calls ws o is waits moved alike p = comes_in s.workers s.host s.waiting d calls ws o is waits alike p
+    says (End c) s order calls ws o is waits moved alike p = closes c s.workers s.host s.waiting order calls ws o is waits moved alike p
 
   faulty : (line : InputLine) (lines : List InputLine) (s : State) (calls : List KeeperCall) (ws : List (Taken cut)) (o : Outcome) (e : RunFault) → fault_at cut n line ≡ Some e → s.waiting ≡ drawops_in ws
       → Finishes s (Err e) o → Found cut n s calls ws (line ∷ lines) o
@@ -249,7 +240,7 @@ module _ (cut : Bool) (n : ℕ) where
 
   continues : (line : InputLine) (lines : List InputLine) (rest : Finds cut (n + 1) lines) (fault : Option RunFault) (s : State) (calls : List KeeperCall) (ws : List (Taken cut)) (o : Outcome) → fault_at cut n line ≡ fault → s.waiting ≡ drawops_in ws → ToldAlike s.host calls
       → Continues fault (n + 1) s (content line) (λ t next. IsOutcomeFrom cut (n + 1) t lines next) o → Found cut n s calls ws (line ∷ lines) o
-  continues line lines rest None s calls ws o is waits alike c = says line lines rest is (line_of (content line)) s c.0 calls ws o refl waits c.1.moved alike c.2
+  continues line lines rest None s calls ws o is waits alike c = says line lines rest is (part_in line) s c.0 calls ws o refl waits c.1.moved alike c.2
   continues line lines rest (Some e) s calls ws o is waits alike c = faulty line lines s calls ws o e is waits c
 
 found : (cut : Bool) (n : ℕ) (lines : List InputLine) → Finds cut n lines
@@ -259,7 +250,7 @@ found cut n (line ∷ lines) s calls ws o waits alike h = continues cut n line l
 -- the lines of a whole script
 pub record Reorders (workers : Option ℕ) (cut : Bool) (lines : List InputLine) (o : Outcome) : Type 0 where
   pub to : List InputLine
-  pub inside : IsReordered cut lines to
+  pub inside : IsReorderedBy entire cut lines to
   pub moved : IsPermutation lines to
   pub is : o ≡ outcome_from cut 0 (start workers) to
 
@@ -271,11 +262,8 @@ reorders workers cut lines o h =
       to = f.reordered;
       inside = record {
         others = f.others;
-        batches = onto_none (batches_of cut 0 lines) (batches_of cut 0 f.reordered) (subst (λ (taken : List (Taken cut)). AreRearranged (onto_batch [] (batches_of cut 0 lines)) (onto_batch (lines_in taken) (batches_of cut 0 f.reordered))) none f.batches);
+        batches = onto_none (batches_of entire cut 0 lines) (batches_of entire cut 0 f.reordered) (subst (λ (taken : List (Taken cut)). AreRearranged (onto_batch [] (batches_of entire cut 0 lines)) (onto_batch (lines_in taken) (batches_of entire cut 0 f.reordered))) none f.batches);
       };
       moved = subst (λ (taken : List (Taken cut)). IsPermutation lines (lines_in taken ++ f.reordered)) none f.moved;
       is = f.is ∙ ap (λ (taken : List (Taken cut)). outcome_from cut 0 (alone (start workers) [] (drawops_in taken)) f.reordered) none;
     }
-
-pub workers_are_one_thread : WorkersAreOneThread
-workers_are_one_thread workers cut input o h = let r = reorders workers cut (input_lines input) o h in (r.to, r.inside, r.is)

@@ -7,38 +7,34 @@ use Rattle.wb_names.specs.Values.{NameValue, DrawopValue}
 use Rattle.wb_names.specs.Orders.{same_name}
 use Rattle.wb_host.specs.Keeper.{KeeperCall, Arrive as arrives, holds}
 use Rattle.wb_host.proofs.FreeArrivals.{comes}
-use Rattle.wb_script.specs.declared.fault.LineFault.{LineFault}
 use Rattle.wb_script.specs.declared.fault.RunFault.{RunFault}
 use Rattle.wb_script.specs.declared.fault.RunFault.TheVariants as run_faults
-use Rattle.wb_script.specs.declared.line.Line.{Line}
-use Rattle.wb_script.specs.declared.line.Line.TheVariants.{Arrive}
 use Rattle.wb_script.specs.Hosts.{Opened, present, names_of, board_after, calls_after}
-use Rattle.wb_script.specs.Parsing.{line_of}
-use Rattle.wb_script.specs.Reordering.{part_said, part_unless, part_of, onto_batch, AreRearranged}
+use Rattle.wb_script.specs.Reordering.{part_unless, part_at, other_than, onto_batch, AreRearranged}
 use Rattle.wb_lines.specs.Input.{InputLine, content, most_bytes}
-use Rattle.wb_script.specs.Script.{State, by_host, said_step, step_of, Outcome, finish, proceed, most_lines, outcome_from, fault_at}
+use Rattle.wb_script.specs.Script.{State, by_host, Part, Arrival, Nothing, End, part_in, part_step, step_of, Outcome, finish, proceed, most_lines, outcome_from, fault_at}
 use Rattle.wb_script.proofs.AlikeCalls.{TellAlike, arrive_alike}
 use Rattle.wb_script.proofs.AlikeHosts.{told}
 
 -- ---- batches
 
-pub rearranged_same : (batches : List (List InputLine)) → AreRearranged batches batches
+pub rearranged_same : {X : Type 0} → (batches : List (List X)) → AreRearranged batches batches
 rearranged_same [] = tt
 rearranged_same (batch ∷ batches) = (IsPermutation-refl batch, rearranged_same batches)
 
-pub onto_same : (xs ys : List InputLine) (batches : List (List InputLine)) → IsPermutation xs ys → AreRearranged (onto_batch xs batches) (onto_batch ys batches)
+pub onto_same : {X : Type 0} → (xs ys : List X) (batches : List (List X)) → IsPermutation xs ys → AreRearranged (onto_batch xs batches) (onto_batch ys batches)
 onto_same xs ys [] p = tt
 onto_same xs ys (batch ∷ batches) p = (IsPermutation-append_left batch xs ys p, rearranged_same batches)
 
-pub onto_none : (one other : List (List InputLine)) → AreRearranged (onto_batch [] one) (onto_batch [] other) → AreRearranged one other
+pub onto_none : {X : Type 0} → (one other : List (List X)) → AreRearranged (onto_batch [] one) (onto_batch [] other) → AreRearranged one other
 onto_none [] [] p = p
 onto_none [] (c ∷ other) p = p
 onto_none (b ∷ one) [] p = p
 onto_none (b ∷ one) (c ∷ other) p = p
 
-pub onto_onto : (xs : List InputLine) (line : InputLine) (batches : List (List InputLine)) → onto_batch xs (onto_batch (line ∷ []) batches) ≡ onto_batch (xs ++ line ∷ []) batches
-onto_onto xs line [] = refl
-onto_onto xs line (batch ∷ batches) = ap (λ (l : List InputLine). l ∷ batches) (sym (append_assoc xs (line ∷ []) batch))
+pub onto_onto : {X : Type 0} → (xs : List X) (x : X) (batches : List (List X)) → onto_batch xs (onto_batch (x ∷ []) batches) ≡ onto_batch (xs ++ x ∷ []) batches
+onto_onto xs x [] = refl
+onto_onto xs x (batch ∷ batches) = ap (λ l. l ∷ batches) (sym (append_assoc xs (x ∷ []) batch))
 
 -- ---- arrivals that are taken, wherever they stand below the limit of lines
 
@@ -47,7 +43,7 @@ pub record Taken (cut : Bool) : Type 0 where
   pub drawop : DrawopValue
   pub short : nat_le (length line.bytes) most_bytes ≡ true
   pub whole : line.ended || not cut ≡ true
-  pub said : line_of (content line) ≡ Ok (Arrive drawop)
+  pub said : part_in line ≡ Arrival drawop
 
 abbrev pub lines_in : {cut : Bool} → List (Taken cut) → List InputLine
 lines_in ws = map (λ w. w.line) ws
@@ -72,8 +68,37 @@ no_fault cut n line e = from (nat_lt n most_lines) (nat_le (length line.bytes) m
 pub arrives_at : (cut : Bool) (n : ℕ) (w : Taken cut) → nat_lt n most_lines ≡ true → fault_at cut n w.line ≡ None
 arrives_at cut n w few = rw (few, w.short, w.whole) refl
 
-pub part_at : (cut : Bool) (n : ℕ) (line : InputLine) (said : Result Line LineFault) → fault_at cut n line ≡ None → line_of (content line) ≡ said → part_of cut n line ≡ part_said said
-part_at cut n line said e g = ap (λ (f : Option RunFault). part_unless f line) e ∙ ap part_said g
+pub part_here : (cut : Bool) (n : ℕ) (line : InputLine) (part : Part) → fault_at cut n line ≡ None → part_in line ≡ part → part_at cut n line ≡ Some part
+part_here cut n line part e g = ap (λ (f : Option RunFault). part_unless f line) e ∙ ap Some g
+
+-- ---- the same place in both
+
+pub same_line : (line line' : InputLine) (part : Option Part) → other_than part line' ≡ Some line → line' ≡ line
+same_line line line' (Some (Arrival d)) e = absurd cc
+same_line line line' (Some Nothing) e = cc
+same_line line line' (Some (End c)) e = cc
+same_line line line' None e = cc
+
+pub record Arrives (cut : Bool) (n : ℕ) (line : InputLine) : Type 0 where
+  pub free : fault_at cut n line ≡ None
+  pub drawop : DrawopValue
+  pub said : part_in line ≡ Arrival drawop
+
+pub arrived : (cut : Bool) (n : ℕ) (line : InputLine) → other_than (part_at cut n line) line ≡ None → Arrives cut n line
+arrived cut n line e = at (fault_at cut n line) (part_in line) refl refl e where
+  at : (fault : Option RunFault) (part : Part) → fault_at cut n line ≡ fault → part_in line ≡ part → other_than (part_unless fault line) line ≡ None → Arrives cut n line
+  at (Some f) part p q e = absurd cc
+  at None part p q e = by part p q (subst (λ (r : Part). other_than (Some r) line ≡ None) q e) where
+    by : (part : Part) → fault_at cut n line ≡ None → part_in line ≡ part → other_than (Some part) line ≡ None → Arrives cut n line
+    by (Arrival d) p q e = record { free = p; drawop = d; said = q }
+    by Nothing p q e = absurd cc
+    by (End c) p q e = absurd cc
+
+pub first_same : {X : Type 0} → (a b : X) (xs ys : List X) → a ∷ xs ≡ b ∷ ys → a ≡ b
+first_same a b xs ys e = cc
+
+pub others_same : {X : Type 0} → (a b : X) (xs ys : List X) → a ∷ xs ≡ b ∷ ys → xs ≡ ys
+others_same a b xs ys e = cc
 
 -- ---- one line, by one thread
 
@@ -92,12 +117,12 @@ course_is cut n s line lines = from (nat_lt n most_lines && nat_le (length line.
   from true false = refl
   from false whole = refl
 
-pub line_course : (cut : Bool) (n : ℕ) (s : State) (line : InputLine) (lines : List InputLine) (said : Result Line LineFault) → fault_at cut n line ≡ None → line_of (content line) ≡ said
-    → outcome_from cut n s (line ∷ lines) ≡ proceed (n + 1) (said_step s s.waiting said) (λ t. outcome_from cut (n + 1) t lines)
-line_course cut n s line lines said e g =
+pub line_course : (cut : Bool) (n : ℕ) (s : State) (line : InputLine) (lines : List InputLine) (part : Part) → fault_at cut n line ≡ None → part_in line ≡ part
+    → outcome_from cut n s (line ∷ lines) ≡ proceed (n + 1) (part_step s s.waiting part) (λ t. outcome_from cut (n + 1) t lines)
+line_course cut n s line lines part e g =
     course_is cut n s line lines
     ∙ ap (λ (f : Option RunFault). course f (n + 1) s (content line) (λ t. outcome_from cut (n + 1) t lines)) e
-    ∙ ap (λ (r : Result Line LineFault). proceed (n + 1) (said_step s s.waiting r) (λ t. outcome_from cut (n + 1) t lines)) g
+    ∙ ap (λ (r : Part). proceed (n + 1) (part_step s s.waiting r) (λ t. outcome_from cut (n + 1) t lines)) g
 
 -- ---- the state of one thread: the batches may have come in another order
 

@@ -14,7 +14,7 @@ use Rattle.wb_script.specs.Parsing.{line_of}
 use Rattle.wb_lines.specs.Ahead.{Ahead, IsLine, Pulls}
 use Rattle.wb_script.specs.Hosts.{Opened, host_after}
 use Rattle.wb_lines.specs.Input.{InputLine, content}
-use Rattle.wb_script.specs.Script.{State, IsAlone, goes, refused, by_host, after_batch, said_step, step_of, most_lines}
+use Rattle.wb_script.specs.Script.{State, IsAlone, part_of, goes, refused, by_host, after_batch, said_step, step_of, most_lines}
 use Rattle.wb_script.specs.Running.{Passes, Stops, Ends, RunsOn}
 use Rattle.wb_script.specs.Lines.{LinesValue, EndsWith, Fronts, IsContent, Says, TakesNext}
 use Rattle.wb_script.specs.Stations.{StationValue, IsOpenAt, MayBeOpenAt, HostValue, IsAt, IsLeftAt, DoesStep, MayDoStep}
@@ -23,6 +23,7 @@ use Rattle.wb_script.specs.Taking.{GoesOn, TakesBatchOn}
 use Rattle.wb_lines.proofs.LineBytes.{Pulls-none, Pulls-on}
 use Rattle.wb_script.proofs.Outcomes.{as_it_came, whole_passes, last_passes, whole_stops, last_stops, never_left, stops_at_once, ends_here, Passes-then, Passes-stops}
 use Rattle.wb_script.proofs.ReadLines.{looks_on, takes_arrival, taken_end}
+use Rattle.wb_script.proofs.Steps.{ends_empty}
 
 pub says : (next : Option InputLine) (bytes : List ℕ) (parsed : Result Line LineFault) → IsContent next bytes → line_of bytes ≡ parsed → Says next parsed
 says None bytes parsed is e = absurd is
@@ -64,7 +65,9 @@ skips_on next ahead done new s host failed said t at = seen_runs next ahead done
 
 pub refuses_on : (next : Option InputLine) (ahead : Ahead) (done : ℕ) (new : LinesValue) (e : LineFault) (s : State) (host : HostValue) (failed : Bool) → Says next (Err e) → TakesNext next ahead done new → IsAt host s
     → (t : State) × IsLeftAt {X = Unit {0}} host (Err (run_faults.Line new.done e)) t × RunsOn {U = Unit {0}} done s ahead [] [] new.done t new.ahead failed (Err (run_faults.Line new.done e))
-refuses_on next ahead done new e s host failed said t at = seen_runs next ahead done new (Err e) s host [] failed (Err (run_faults.Line new.done e)) said t (s.waiting, as_it_came s.workers s.waiting, inr (refl, at, refl))
+refuses_on next ahead done new e s host failed said t at =
+    let b = ends_empty host s at in
+    seen_runs next ahead done new (Err e) s host [] failed (Err (run_faults.Line new.done e)) said t (b.0, b.1, inr (refl, b.2.leads, b.2.text))
 
 -- ---- an arrival
 
@@ -84,7 +87,7 @@ arrives_nowhere next ahead done new d s old host failed said t at closed none sa
 begins : (next : Option InputLine) (ahead : Ahead) (done : ℕ) (mid : LinesValue) (d : DrawopValue) (s : State) → IsOpen s.host → s.waiting ≡ [] → Says next (Ok (lines.Arrive d)) → TakesNext next ahead done mid → Passes done s ahead [] [] mid.done (with_waiting s (d ∷ [])) mid.ahead
 begins None ahead done mid d s opened none said t = absurd t
 begins (Some line) ahead done mid d s opened none said t =
-    let p : Passes done s ahead [] [] (done + 1) (with_waiting s (s.waiting ++ d ∷ [])) mid.ahead = takes_arrival done s ahead mid.ahead line d opened t.0 t.1 said in
+    let p : Passes done s ahead [] [] (done + 1) (with_waiting s (s.waiting ++ d ∷ [])) mid.ahead = takes_arrival done s ahead mid.ahead line d opened t.0 t.1 (ap part_of said) in
     subst (λ (n : ℕ). Passes done s ahead [] [] n (with_waiting s (d ∷ [])) mid.ahead) (sym t.3) (subst (λ (w : List DrawopValue). Passes done s ahead [] [] (done + 1) (with_waiting s (w ++ d ∷ [])) mid.ahead) none p)
 
 -- how a batch ended

@@ -7,18 +7,17 @@ use Rattle.std.proofs.lemmas.Bool.Decides.{nat_tests}
 use Rattle.std.proofs.lemmas.List.{append-nil, length-append}
 use Rattle.std.specs.Prelude.{unwrap_or}
 use Rattle.wb_script.specs.declared.fault.LineFault.{LineFault}
-use Rattle.wb_script.specs.declared.fault.LineFault.TheVariants as faults
 use Rattle.wb_script.specs.declared.fault.RunFault.{RunFault}
 use Rattle.wb_script.specs.declared.fault.RunFault.TheVariants as run_faults
 use Rattle.wb_script.specs.declared.line.Line.{Line}
-use Rattle.wb_script.specs.declared.line.Line.TheVariants.{Skip, Board, Arrive, Hear, Distance, Tick, Look, Session, Show, Gaps, Report, Pages}
+use Rattle.wb_script.specs.declared.line.Line.TheVariants.{Skip}
 use Rattle.wb_script.specs.declared.summary.Summary.{Summary}
 use Rattle.wb_lines.specs.Ahead.{IsLine}
 use Rattle.wb_script.specs.Hosts.{Opened, opened, Act, does, fails, act}
 use Rattle.wb_script.specs.Parsing.{line_of}
 use Rattle.wb_script.specs.Running.{Begins}
 use Rattle.wb_lines.specs.Input.{InputLine, onto_first, input_lines, content, most_bytes}
-use Rattle.wb_script.specs.Script.{State, start, by_host, closing_text, after_batch, Step, goes, refused, step_by, acts, said_step, step_of, Outcome, prints, before, answer, finish, proceed, most_lines, outcome_from, outcome}
+use Rattle.wb_script.specs.Script.{State, start, closing_text, after_batch, Closing, Opens, Acts, Faulty, Part, Arrival, Nothing, End, part_of, part_in, Step, goes, refused, step_by, closing_step, part_step, step_of, Outcome, prints, before, answer, finish, proceed, most_lines, outcome_from, outcome}
 use Rattle.wb_script.specs.ScriptLaws.{EachEnds, waits_after, waits_at_end, text_of, RefusedStays, PrintedStays, SkippedPrintsNothing}
 use Rattle.wb_lines.proofs.InputLines.{input_lines-whole, whole_line, fits}
 use Rattle.wb_script.proofs.Outcomes.{before-nil, before-before, too_many, text_of as same_text, end_of}
@@ -57,31 +56,18 @@ quiet_act : (k : Option ℕ) (text : List ℕ) (a : Act) (host : Opened) (t : St
 quiet_act k text (does next printed) host t y e = let u : State = record { host = Some next; workers = k; waiting = [] } in ap closing (sym (state_of u t (text ++ printed) y e))
 quiet_act k text (fails f) host t y e = absurd cc
 
-quiet_after : (u : State) (text : List ℕ) (line : Line) (t : State) (y : List ℕ) → acts u text line ≡ goes t y → closing t ≡ []
-quiet_after u text line t y e = at u.host e where
-  at : (host : Option Opened) → by_host host (refused u text faults.NoBoard) (λ host. step_by u.workers text (act line host) host) ≡ goes t y → closing t ≡ []
-  at None e = absurd cc
-  at (Some host) e = quiet_act u.workers text (act line host) host t y e
+-- by the host
+quiet_after : (k : Option ℕ) (host : Option Opened) (text : List ℕ) (c : Closing) (t : State) (y : List ℕ) → closing_step (record { host = host; workers = k; waiting = [] }) text c ≡ goes t y → closing t ≡ []
+quiet_after k None text (Opens member cells workers seed) t y e = let u : State = record { host = Some (opened member cells seed); workers = Some (unwrap_or k workers); waiting = [] } in ap closing (sym (state_of u t text y e))
+quiet_after k (Some host) text (Opens member cells workers seed) t y e = absurd cc
+quiet_after k None text (Acts line) t y e = absurd cc
+quiet_after k (Some host) text (Acts line) t y e = quiet_act k text (act line host) host t y e
+quiet_after k host text (Faulty f) t y e = absurd cc
 
-quiet_opened : (s : State) (host : Option Opened) (member cells workers seed : ℕ) (t : State) (y : List ℕ)
-    → by_host host (goes (record { host = Some (opened member cells seed); workers = Some (unwrap_or s.workers workers); waiting = [] }) []) (λ host. refused s [] faults.SecondBoard) ≡ goes t y → closing t ≡ []
-quiet_opened s None member cells workers seed t y e = let u : State = record { host = Some (opened member cells seed); workers = Some (unwrap_or s.workers workers); waiting = [] } in ap closing (sym (state_of u t [] y e))
-quiet_opened s (Some host) member cells workers seed t y e = absurd cc
-
-quiet_line : (s t : State) (said : Result Line LineFault) (y : List ℕ) (waits : Bool) → (waits ≡ false → closing s ≡ []) → said_step s s.waiting said ≡ goes t y → waits_after waits said ≡ false → closing t ≡ []
-quiet_line s t (Ok Skip) y waits quiet e calm = ap closing (sym (state_of s t [] y e)) ∙ quiet calm
-quiet_line s t (Ok (Arrive d)) y waits quiet e calm = absurd (true≢false calm)
-quiet_line s t (Ok (Board member cells workers seed)) y waits quiet e calm = quiet_opened s s.host member cells workers seed t y e
-quiet_line s t (Ok (Hear v)) y waits quiet e calm = quiet_after (after_batch s s.waiting) (closing s) (Hear v) t y e
-quiet_line s t (Ok (Distance source micros)) y waits quiet e calm = quiet_after (after_batch s s.waiting) (closing s) (Distance source micros) t y e
-quiet_line s t (Ok (Tick moment)) y waits quiet e calm = quiet_after (after_batch s s.waiting) (closing s) (Tick moment) t y e
-quiet_line s t (Ok (Look page)) y waits quiet e calm = quiet_after (after_batch s s.waiting) (closing s) (Look page) t y e
-quiet_line s t (Ok (Session page)) y waits quiet e calm = quiet_after (after_batch s s.waiting) (closing s) (Session page) t y e
-quiet_line s t (Ok (Gaps page)) y waits quiet e calm = quiet_after (after_batch s s.waiting) (closing s) (Gaps page) t y e
-quiet_line s t (Ok (Show page width height)) y waits quiet e calm = quiet_after (after_batch s s.waiting) (closing s) (Show page width height) t y e
-quiet_line s t (Ok (Report page)) y waits quiet e calm = quiet_after (after_batch s s.waiting) (closing s) (Report page) t y e
-quiet_line s t (Ok Pages) y waits quiet e calm = quiet_after (after_batch s s.waiting) (closing s) Pages t y e
-quiet_line s t (Err f) y waits quiet e calm = absurd cc
+quiet_line : (s t : State) (part : Part) (y : List ℕ) (waits : Bool) → (waits ≡ false → closing s ≡ []) → part_step s s.waiting part ≡ goes t y → waits_after waits part ≡ false → closing t ≡ []
+quiet_line s t Nothing y waits quiet e calm = ap closing (sym (state_of s t [] y e)) ∙ quiet calm
+quiet_line s t (Arrival d) y waits quiet e calm = absurd (true≢false calm)
+quiet_line s t (End c) y waits quiet e calm = quiet_after s.workers (after_batch s s.waiting).host (closing s) c t y e
 
 -- ---- the course of whole lines: they are run through, or end with a fault, whatever follows
 
@@ -129,7 +115,7 @@ course_after n s t text waits waits' line lines first same (inr g) = inr (record
 })
 
 course_line : (n : ℕ) (s : State) (waits : Bool) (line : InputLine) (lines : List InputLine) (fits' : Bool) (step : Step) → line.ended ≡ true → fit n line ≡ fits' → step_of s s.waiting (content line) ≡ step
-    → ((t : State) (text : List ℕ) → step_of s s.waiting (content line) ≡ goes t text → Course (n + 1) t (waits_after waits (line_of (content line))) lines) → Course n s waits (line ∷ lines)
+    → ((t : State) (text : List ℕ) → step_of s s.waiting (content line) ≡ goes t text → Course (n + 1) t (waits_after waits (part_in line)) lines) → Course n s waits (line ∷ lines)
 course_line n s waits line lines false step ended e is rest = inr (record {
   last = s;
   fault = run_faults.Endless;
@@ -143,7 +129,7 @@ course_line n s waits line lines true (refused t text f) ended e is rest = inr (
   is = λ cut more. one_line cut n s line (lines ++ more) ended e ∙ ap (λ (step : Step). proceed (n + 1) step (λ t. outcome_from cut (n + 1) t (lines ++ more))) is;
 })
 course_line n s waits line lines true (goes t text) ended e is rest =
-    course_after n s t text waits (waits_after waits (line_of (content line))) line lines
+    course_after n s t text waits (waits_after waits (part_in line)) line lines
     (λ cut more. one_line cut n s line more ended e ∙ ap (λ (step : Step). proceed (n + 1) step (λ t. outcome_from cut (n + 1) t more)) is)
     refl (rest t text is)
 
@@ -151,7 +137,7 @@ course : (n : ℕ) (s : State) (waits : Bool) (lines : List InputLine) → (wait
 course n s waits [] quiet all = inl (record { done = n; count = omega arith; state = s; written = []; on = λ cut more. sym (before-nil (outcome_from cut n s more)); quiet = quiet })
 course n s waits (line ∷ lines) quiet all =
     course_line n s waits line lines (fit n line) (step_of s s.waiting (content line)) all.0 refl refl
-    (λ t text is. course (n + 1) t (waits_after waits (line_of (content line))) lines (quiet_line s t (line_of (content line)) text waits quiet is) all.1)
+    (λ t text is. course (n + 1) t (waits_after waits (part_in line)) lines (quiet_line s t (part_in line) text waits quiet is) all.1)
 
 course_of : (k : Option ℕ) (front : List ℕ) → EachEnds (input_lines front) → Course 0 (start k) false (input_lines front)
 course_of k front all = course 0 (start k) false (input_lines front) (λ calm. refl) all
@@ -224,7 +210,7 @@ skips cut n s line lines is skip few =
     let first : outcome_from cut n s (whole_line line ∷ lines) ≡ proceed (n + 1) (step_of s s.waiting (strip_carriage_return line)) (λ t. outcome_from cut (n + 1) t lines) =
     one_line cut n s (whole_line line) lines refl (fits most_lines n line (omega arith) is.short) in
     let none : proceed (n + 1) (step_of s s.waiting (strip_carriage_return line)) (λ t. outcome_from cut (n + 1) t lines) ≡ outcome_from cut (n + 1) s lines =
-    ap (λ (said : Result Line LineFault). proceed (n + 1) (said_step s s.waiting said) (λ t. outcome_from cut (n + 1) t lines)) skip ∙ before-nil (outcome_from cut (n + 1) s lines) in
+    ap (λ (said : Result Line LineFault). proceed (n + 1) (part_step s s.waiting (part_of said)) (λ t. outcome_from cut (n + 1) t lines)) skip ∙ before-nil (outcome_from cut (n + 1) s lines) in
     ap text_of (first ∙ none) ∙ text_later cut n s lines few
 
 pub skipped_prints_nothing : SkippedPrintsNothing

@@ -13,12 +13,11 @@ use Rattle.wb_script.specs.declared.fault.LineFault.TheVariants as faults
 use Rattle.wb_script.specs.declared.fault.RunFault.{RunFault}
 use Rattle.wb_script.specs.declared.fault.RunFault.TheVariants as run_faults
 use Rattle.wb_script.specs.declared.line.Line.{Line}
-use Rattle.wb_script.specs.declared.line.Line.TheVariants as lines
 use Rattle.wb_script.specs.declared.summary.Summary.{Summary}
 use Rattle.wb_script.specs.Board.{Held}
 use Rattle.wb_script.specs.Answers.{batch_line}
 use Rattle.wb_script.specs.Hosts.{Opened, opened, present, board_after, names_of, host_after, batch_text, Act, does, fails, act}
-use Rattle.wb_script.specs.Script.{State, InSomeOrder, goes, refused, by_host, closing_text, after_batch, step_by, acts, line_step, held_count, Outcome, finish, Finishes, is_stop, StopsWithin}
+use Rattle.wb_script.specs.Script.{State, InSomeOrder, Opens, Acts, goes, refused, by_host, closing_text, after_batch, step_by, closing_step, held_count, Outcome, finish, Finishes, is_stop, StopsWithin}
 use Rattle.wb_script.specs.Stations.{StationValue, IsOpenAt, MayBeOpenAt, HostValue, IsAt, TakesBatch, DoesAct, DoesStep, IsLeftAt}
 use Rattle.wb_script.specs.Running.{Settles, Closes, ClosesAfter}
 use Rattle.wb_script.proofs.Outcomes.{as_it_came}
@@ -36,26 +35,10 @@ stops_behind text more written f d = (d.0, (d.1.0, ap (λ (x : List ℕ). text +
 stops_after : (text written : List ℕ) (f : RunFault) → StopsWithin [] written f → StopsWithin text (text ++ written) f
 stops_after text written f d = (d.0, (d.1.0, sym (append-nil text) ∙ ap (λ (x : List ℕ). text ++ x) d.1.1 ∙ sym (append_assoc text written d.1.0)))
 
--- a board is opened
-pub opens : (number : ℕ) (old new : HostValue) (s : State) (v : StationValue) (member cells workers seed : ℕ) → IsAt old s → old.station ≡ None → new.station ≡ Some v → new.workers ≡ Some (unwrap_or old.workers workers) → IsOpenAt v (opened member cells seed)
-    → DoesStep {U = Unit {0}} number new [] (Ok tt) (line_step s s.waiting (lines.Board member cells workers seed))
-opens number old new s v member cells workers seed at closed open_now known is = go s.host (subst (λ (x : Option StationValue). MayBeOpenAt x s.host) closed at.station) where
-  go : (host : Option Opened) → MayBeOpenAt None host
-      → DoesStep {U = Unit {0}} number new [] (Ok tt) (by_host host (goes (record { host = Some (opened member cells seed); workers = Some (unwrap_or s.workers workers); waiting = [] }) []) (λ host. refused s [] faults.SecondBoard))
-  go None o = (
-    record {
-      station = subst (λ (x : Option StationValue). MayBeOpenAt x (Some (opened member cells seed))) (sym open_now) is;
-      workers = known ∙ ap (λ (k : Option ℕ). Some (unwrap_or k workers)) at.workers;
-      waiting = refl;
-    },
-    refl,
-  )
-  go (Some host) o = absurd o
-
 -- ---- what follows the end of a batch
 
 -- no board is open
-pub acts_nowhere : (number : ℕ) (k : Option ℕ) (t : State) (text : List ℕ) (line : Line) → IsAt (record { station = None; workers = k }) t → DoesStep {U = Unit {0}} number (record { station = None; workers = k }) text (Err (run_faults.Line number faults.NoBoard)) (acts t text line)
+pub acts_nowhere : (number : ℕ) (k : Option ℕ) (t : State) (text : List ℕ) (line : Line) → IsAt (record { station = None; workers = k }) t → DoesStep {U = Unit {0}} number (record { station = None; workers = k }) text (Err (run_faults.Line number faults.NoBoard)) (closing_step t text (Acts line))
 acts_nowhere number k t text line is = at t.host is.station where
   at : (host : Option Opened) → MayBeOpenAt None host → DoesStep {U = Unit {0}} number (record { station = None; workers = k }) text (Err (run_faults.Line number faults.NoBoard)) (by_host host (refused t text faults.NoBoard) (λ host. step_by t.workers text (act line host) host))
   at None o = inr (refl, is, refl)
@@ -70,7 +53,7 @@ act_done number k j host w text b (Err f) (fails e) same (inl d) = inl (stops_af
 act_done number k j host w text b (Err f) (fails e) same (inr d) = inr (d.0, record { station = d.1; workers = same; waiting = refl }, ap (λ (x : List ℕ). text ++ x) d.2 ∙ append-nil text)
 
 pub acts_done : (number : ℕ) (t : State) (k : Option ℕ) (v w : StationValue) (text b : List ℕ) (line : Line) (r : Result (Unit {0}) RunFault) → IsAt (record { station = Some v; workers = k }) t
-    → ((host : Opened) → IsOpenAt v host → DoesAct number host w b r (act line host)) → DoesStep number (record { station = Some w; workers = k }) (text ++ b) r (acts t text line)
+    → ((host : Opened) → IsOpenAt v host → DoesAct number host w b r (act line host)) → DoesStep number (record { station = Some w; workers = k }) (text ++ b) r (closing_step t text (Acts line))
 acts_done number t k v w text b line r is d = at t.host is.station where
   at : (host : Option Opened) → MayBeOpenAt (Some v) host → DoesStep number (record { station = Some w; workers = k }) (text ++ b) r (by_host host (refused t text faults.NoBoard) (λ host. step_by t.workers text (act line host) host))
   at None o = absurd o
@@ -84,19 +67,44 @@ pub record EndsEmpty (h : HostValue) (s : State) (order : List DrawopValue) : Ty
   pub text : [] ≡ closing_text s order
 
 pub ends_nowhere : (number : ℕ) (s : State) (order : List DrawopValue) (mid : HostValue) (v : Option StationValue) (k : Option ℕ) (line : Line) → record { station = v; workers = k } ≡ mid → v ≡ None → EndsEmpty mid s order
-    → DoesStep {U = Unit {0}} number (record { station = v; workers = k }) [] (Err (run_faults.Line number faults.NoBoard)) (acts (after_batch s order) (closing_text s order) line)
+    → DoesStep {U = Unit {0}} number (record { station = v; workers = k }) [] (Err (run_faults.Line number faults.NoBoard)) (closing_step (after_batch s order) (closing_text s order) (Acts line))
 ends_nowhere number s order mid (Some v) k line view none ends = absurd cc
 ends_nowhere number s order mid None k line view none ends =
-    subst (λ (x : List ℕ). DoesStep {U = Unit {0}} number (record { station = None; workers = k }) x (Err (run_faults.Line number faults.NoBoard)) (acts (after_batch s order) (closing_text s order) line)) (sym ends.text)
+    subst (λ (x : List ℕ). DoesStep {U = Unit {0}} number (record { station = None; workers = k }) x (Err (run_faults.Line number faults.NoBoard)) (closing_step (after_batch s order) (closing_text s order) (Acts line))) (sym ends.text)
     (acts_nowhere number k (after_batch s order) (closing_text s order) line (subst (λ (h : HostValue). IsAt h (after_batch s order)) (sym view) ends.leads))
 
 pub ends_then : (number : ℕ) (s : State) (order : List DrawopValue) (mid : HostValue) (o : Option StationValue) (v w : StationValue) (k : Option ℕ) (b : List ℕ) (line : Line) (r : Result (Unit {0}) RunFault) → record { station = o; workers = k } ≡ mid → o ≡ Some v → EndsEmpty mid s order
-    → ((host : Opened) → IsOpenAt v host → DoesAct number host w b r (act line host)) → DoesStep number (record { station = Some w; workers = k }) b r (acts (after_batch s order) (closing_text s order) line)
+    → ((host : Opened) → IsOpenAt v host → DoesAct number host w b r (act line host)) → DoesStep number (record { station = Some w; workers = k }) b r (closing_step (after_batch s order) (closing_text s order) (Acts line))
 ends_then number s order mid o v w k b line r view some ends d =
     let there : IsAt (record { station = o; workers = k }) (after_batch s order) = subst (λ (h : HostValue). IsAt h (after_batch s order)) (sym view) ends.leads in
     let known : IsAt (record { station = Some v; workers = k }) (after_batch s order) = subst (λ (p : Option StationValue). IsAt (record { station = p; workers = k }) (after_batch s order)) some there in
-    subst (λ (x : List ℕ). DoesStep number (record { station = Some w; workers = k }) (x ++ b) r (acts (after_batch s order) (closing_text s order) line)) (sym ends.text)
+    subst (λ (x : List ℕ). DoesStep number (record { station = Some w; workers = k }) (x ++ b) r (closing_step (after_batch s order) (closing_text s order) (Acts line))) (sym ends.text)
     (acts_done number (after_batch s order) k v w (closing_text s order) b line r known d)
+
+-- a board is opened
+pub opens : (number : ℕ) (old new : HostValue) (s : State) (order : List DrawopValue) (v : StationValue) (member cells workers seed : ℕ) → EndsEmpty old s order → old.station ≡ None → new.station ≡ Some v → new.workers ≡ Some (unwrap_or old.workers workers) → IsOpenAt v (opened member cells seed)
+    → DoesStep {U = Unit {0}} number new [] (Ok tt) (closing_step (after_batch s order) (closing_text s order) (Opens member cells workers seed))
+opens number old new s order v member cells workers seed ends closed open_now known is = go (after_batch s order).host (subst (λ (x : Option StationValue). MayBeOpenAt x (after_batch s order).host) closed ends.leads.station) where
+  go : (host : Option Opened) → MayBeOpenAt None host
+      → DoesStep {U = Unit {0}} number new [] (Ok tt) (by_host host (goes (record { host = Some (opened member cells seed); workers = Some (unwrap_or s.workers workers); waiting = [] }) (closing_text s order)) (λ host. refused (after_batch s order) (closing_text s order) faults.SecondBoard))
+  go None o = (
+    record {
+      station = subst (λ (x : Option StationValue). MayBeOpenAt x (Some (opened member cells seed))) (sym open_now) is;
+      workers = known ∙ ap (λ (k : Option ℕ). Some (unwrap_or k workers)) ends.leads.workers;
+      waiting = refl;
+    },
+    ends.text,
+  )
+  go (Some host) o = absurd o
+
+-- one is open already
+pub opens_twice : (number : ℕ) (old : HostValue) (s : State) (order : List DrawopValue) (v : StationValue) (member cells workers seed : ℕ) → EndsEmpty old s order → old.station ≡ Some v
+    → DoesStep {U = Unit {0}} number old [] (Err (run_faults.Line number faults.SecondBoard)) (closing_step (after_batch s order) (closing_text s order) (Opens member cells workers seed))
+opens_twice number old s order v member cells workers seed ends open_now = go (after_batch s order).host (subst (λ (x : Option StationValue). MayBeOpenAt x (after_batch s order).host) open_now ends.leads.station) where
+  go : (host : Option Opened) → MayBeOpenAt (Some v) host
+      → DoesStep {U = Unit {0}} number old [] (Err (run_faults.Line number faults.SecondBoard)) (by_host host (goes (record { host = Some (opened member cells seed); workers = Some (unwrap_or s.workers workers); waiting = [] }) (closing_text s order)) (λ host. refused (after_batch s order) (closing_text s order) faults.SecondBoard))
+  go None o = absurd o
+  go (Some host) o = inr (refl, ends.leads, ends.text)
 
 -- ---- the end of a batch, and of a run
 

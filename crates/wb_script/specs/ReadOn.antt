@@ -1,41 +1,27 @@
 -- A script that is read on while a batch is taken: lines that are skipped, and arrivals.
 use Rattle.std.specs.Prelude.{◌≡◌, ◌≢◌, ◌≤◌, ◌<◌, ◌+◌, ◌-◌, ℕ, length, List, [], ◌∷◌, ◌++◌, Bool, true, Option, Some, None, Result, Ok, Err}
 use Rattle.wb_names.specs.Values.{DrawopValue}
-use Rattle.wb_script.specs.declared.fault.LineFault.{LineFault}
 use Rattle.wb_script.specs.declared.fault.RunFault.{RunFault}
 use Rattle.wb_script.specs.declared.fault.RunFault.TheVariants as run_faults
-use Rattle.wb_script.specs.declared.line.Line.{Line}
-use Rattle.wb_script.specs.declared.line.Line.TheVariants.{Skip, Board, Arrive, Hear, Distance, Tick, Look, Session, Show, Gaps, Report, Pages}
-use Rattle.wb_script.specs.declared.arriving.Part.{Part}
+use Rattle.wb_script.specs.declared.arriving.Part.{Part as ReadPart}
 use Rattle.wb_script.specs.declared.arriving.Part.TheVariants as parts
 use Rattle.wb_lines.specs.Ahead.{Ahead, Pulls}
 use Rattle.wb_lines.specs.Output.{Sends}
-use Rattle.wb_script.specs.Parsing.{line_of}
 use Rattle.wb_script.specs.Hosts.{Opened}
-use Rattle.wb_lines.specs.Input.{InputLine, content}
-use Rattle.wb_script.specs.Script.{State, most_lines}
+use Rattle.wb_lines.specs.Input.{InputLine}
+use Rattle.wb_script.specs.Script.{State, Part, Arrival, Nothing, End, part_in, most_lines}
 use Rattle.wb_script.specs.Running.{Passes, Stops}
 use Rattle.wb_script.specs.Lines.{LinesValue, Fronts}
 
 -- It is neither skipped nor an arrival.
-abbrev pub EndsBatchAt : Result Line LineFault → Type 0
-EndsBatchAt (Ok Skip) = ⊥
-EndsBatchAt (Ok (Arrive d)) = ⊥
-EndsBatchAt (Ok (Board member cells workers seed)) = Unit {0}
-EndsBatchAt (Ok (Hear v)) = Unit {0}
-EndsBatchAt (Ok (Distance source micros)) = Unit {0}
-EndsBatchAt (Ok (Tick moment)) = Unit {0}
-EndsBatchAt (Ok (Look page)) = Unit {0}
-EndsBatchAt (Ok (Session page)) = Unit {0}
-EndsBatchAt (Ok (Show page width height)) = Unit {0}
-EndsBatchAt (Ok (Gaps page)) = Unit {0}
-EndsBatchAt (Ok (Report page)) = Unit {0}
-EndsBatchAt (Ok Pages) = Unit {0}
-EndsBatchAt (Err e) = Unit {0}
+abbrev pub EndsBatchAt : Part → Type 0
+EndsBatchAt (Arrival d) = ⊥
+EndsBatchAt Nothing = ⊥
+EndsBatchAt (End c) = Unit {0}
 
 abbrev pub EndsBatchBefore : Option InputLine → Ahead → Type 0
 EndsBatchBefore None ahead = (ahead.bytes ≡ []) × (ahead.ended ≡ true)
-EndsBatchBefore (Some line) ahead = EndsBatchAt (line_of (content line)) × ((rest : Ahead) × Fronts ahead line rest)
+EndsBatchBefore (Some line) ahead = EndsBatchAt (part_in line) × ((rest : Ahead) × Fronts ahead line rest)
 
 -- A batch ends here: at the end of the input, or at a line that is neither skipped nor an arrival.
 abbrev pub IsBatchEnd : LinesValue → Type 0
@@ -46,10 +32,10 @@ IsOpen None = ⊥
 IsOpen (Some host) = Unit {0}
 
 -- what a line is to a batch
-abbrev pub IsPart : Part → Result Line LineFault → Type 0
-IsPart parts.Skipped parsed = parsed ≡ Ok Skip
-IsPart (parts.Arrival d) parsed = parsed ≡ Ok (Arrive d)
-IsPart parts.Other parsed = EndsBatchAt parsed
+abbrev pub IsPart : ReadPart → Part → Type 0
+IsPart parts.Skipped part = part ≡ Nothing
+IsPart (parts.Arrival d) part = part ≡ Arrival d
+IsPart parts.Other part = EndsBatchAt part
 
 -- these arrivals wait
 abbrev pub with_waiting : State → List DrawopValue → State

@@ -2,15 +2,15 @@
 use Rattle.std.specs.Prelude.{ℕ, List, Bool, Option, Result}
 use Rattle.wb_script.specs.declared.fault.RunFault.{RunFault}
 use Rattle.wb_script.specs.declared.summary.Summary.{Summary}
-use Rattle.wb_lines.specs.Input.{InputLine, input_lines}
-use Rattle.wb_script.specs.Script.{IsAlone, start, Outcome, outcome_from, outcome, IsOutcome}
+use Rattle.wb_lines.specs.Input.{input_lines}
+use Rattle.wb_script.specs.Script.{IsAlone, Outcome, outcome, IsOutcome}
 use Rattle.wb_script.specs.Running.{Meets}
 use Rattle.wb_script.specs.ScriptLaws.{workers_at_end}
 use Rattle.wb_script.specs.Reordering.{IsReordered}
 
 -- A run by so many workers, where a number is given, and else by those of the board, meets an outcome of its input, which is cut off where reading fails after it. By one worker that is the outcome of one thread.
--- By any number it is that of one thread for the lines of the input with the arrivals of each batch in some order.
+-- By any number it is that of one thread for a script with the arrivals of each batch in some order.
 pub record Runs (workers : Option ℕ) (cut : Bool) (input written : List ℕ) (result : Result Summary RunFault) : Type 0 where
   pub some : (o : Outcome) × IsOutcome workers cut input o × Meets o written result
   pub alone : IsAlone (workers_at_end workers (input_lines input)) → Meets (outcome workers cut input) written result
-  pub reordered : (lines : List InputLine) × IsReordered cut (input_lines input) lines × Meets (outcome_from cut 0 (start workers) lines) written result
+  pub reordered : (other : List ℕ) × IsReordered cut input other × Meets (outcome workers cut other) written result

@@ -42,46 +42,78 @@ abbrev pub by_host : {X : Type 0} → Option Opened → X → (Opened → X) →
 by_host None none some = none
 by_host (Some host) none some = some host
 
--- what the end of the present batch prints, taken in this order, and what it leads to
+-- ---- the end of the present batch, which is taken in this order
+
+-- what it prints, and what it leads to
 abbrev pub closing_text : State → List DrawopValue → List ℕ
 closing_text s order = by_host s.host [] (λ host. batch_text host.board order)
 
 abbrev pub after_batch : State → List DrawopValue → State
 after_batch s order = record { host = by_host s.host None (λ host. Some (host_after host s.waiting order)); workers = s.workers; waiting = [] }
 
--- What a line does: it prints a text and leads to a state; or it is refused there.
+-- A batch ends so, and then this follows: a line does something, or the script ends.
+abbrev pub closed : {X : Type 0} → State → List DrawopValue → (State → List ℕ → X) → X
+closed s order rest = rest (after_batch s order) (closing_text s order)
+
+-- ---- what a line is to the batch of arrivals before it
+
+-- What ends the batch before it: a board that is opened, a line that a host acts on, or one with a fault.
+pub data Closing : Type 0 where
+  Opens : ℕ → ℕ → ℕ → ℕ → Closing
+  Acts : Line → Closing
+  Faulty : LineFault → Closing
+
+-- An arrival joins the batch, a skipped line leaves it as it is, and each other line ends it first.
+pub data Part : Type 0 where
+  Arrival : DrawopValue → Part
+  Nothing : Part
+  End : Closing → Part
+
+abbrev pub part_of : Result Line LineFault → Part
+part_of (Ok Skip) = Nothing
+part_of (Ok (Arrive d)) = Arrival d
+part_of (Ok (Board member cells workers seed)) = End (Opens member cells workers seed)
+part_of (Ok (Hear v)) = End (Acts (Hear v))
+part_of (Ok (Distance source micros)) = End (Acts (Distance source micros))
+part_of (Ok (Tick moment)) = End (Acts (Tick moment))
+part_of (Ok (Look page)) = End (Acts (Look page))
+part_of (Ok (Session page)) = End (Acts (Session page))
+part_of (Ok (Show page width height)) = End (Acts (Show page width height))
+part_of (Ok (Gaps page)) = End (Acts (Gaps page))
+part_of (Ok (Report page)) = End (Acts (Report page))
+part_of (Ok Pages) = End (Acts Pages)
+part_of (Err e) = End (Faulty e)
+
+abbrev pub part_in : InputLine → Part
+part_in line = part_of (line_of (content line))
+
+-- ---- what a line does
+
+-- It prints a text and leads to a state; or it is refused there.
 pub data Step : Type 0 where
   goes : State → List ℕ → Step
   refused : State → List ℕ → LineFault → Step
 
--- What a line does behind the text of a batch, at the state after it. Where no board is open, it is refused.
 abbrev pub step_by : Option ℕ → List ℕ → Act → Opened → Step
 step_by workers text (does next printed) host = goes (record { host = Some next; workers = workers; waiting = [] }) (text ++ printed)
 step_by workers text (fails e) host = refused (record { host = Some host; workers = workers; waiting = [] }) text e
 
-abbrev pub acts : State → List ℕ → Line → Step
-acts t text line = by_host t.host (refused t text faults.NoBoard) (λ host. step_by t.workers text (act line host) host)
+-- At the state after a batch, and behind its text. A board is opened once; a number of workers that was known before goes before that
+-- of the board. Where no board is open, a line that a host would act on is refused.
+abbrev pub closing_step : State → List ℕ → Closing → Step
+closing_step t text (Opens member cells workers seed) =
+    by_host t.host (goes (record { host = Some (opened member cells seed); workers = Some (unwrap_or t.workers workers); waiting = [] }) text) (λ host. refused t text faults.SecondBoard)
+closing_step t text (Acts line) = by_host t.host (refused t text faults.NoBoard) (λ host. step_by t.workers text (act line host) host)
+closing_step t text (Faulty e) = refused t text e
 
--- A board is opened once; a number of workers that was known before goes before that of the board. Arrivals wait for the end of their batch, which each line that is neither skipped nor an arrival ends first;
--- it is taken in this order.
-abbrev pub line_step : State → List DrawopValue → Line → Step
-line_step s order Skip = goes s []
-line_step s order (Board member cells workers seed) =
-    by_host s.host (goes (record { host = Some (opened member cells seed); workers = Some (unwrap_or s.workers workers); waiting = [] }) []) (λ host. refused s [] faults.SecondBoard)
-line_step s order (Arrive d) = by_host s.host (refused s [] faults.NoBoard) (λ host. goes (record { host = s.host; workers = s.workers; waiting = s.waiting ++ d ∷ [] }) [])
-line_step s order (Hear v) = acts (after_batch s order) (closing_text s order) (Hear v)
-line_step s order (Distance source micros) = acts (after_batch s order) (closing_text s order) (Distance source micros)
-line_step s order (Tick moment) = acts (after_batch s order) (closing_text s order) (Tick moment)
-line_step s order (Look page) = acts (after_batch s order) (closing_text s order) (Look page)
-line_step s order (Session page) = acts (after_batch s order) (closing_text s order) (Session page)
-line_step s order (Show page width height) = acts (after_batch s order) (closing_text s order) (Show page width height)
-line_step s order (Gaps page) = acts (after_batch s order) (closing_text s order) (Gaps page)
-line_step s order (Report page) = acts (after_batch s order) (closing_text s order) (Report page)
-line_step s order Pages = acts (after_batch s order) (closing_text s order) Pages
+-- Where no board is open, an arrival is refused. The present batch is taken in this order, where it ends.
+abbrev pub part_step : State → List DrawopValue → Part → Step
+part_step s order (Arrival d) = by_host s.host (refused s [] faults.NoBoard) (λ host. goes (record { host = s.host; workers = s.workers; waiting = s.waiting ++ d ∷ [] }) [])
+part_step s order Nothing = goes s []
+part_step s order (End c) = closed s order (λ t text. closing_step t text c)
 
 abbrev pub said_step : State → List DrawopValue → Result Line LineFault → Step
-said_step s order (Ok line) = line_step s order line
-said_step s order (Err e) = refused s [] e
+said_step s order said = part_step s order (part_of said)
 
 abbrev pub step_of : State → List DrawopValue → List ℕ → Step
 step_of s order bytes = said_step s order (line_of bytes)
@@ -105,7 +137,7 @@ answer s (Err e) = Err e
 
 -- at the end the present batch ends
 abbrev pub finish : State → List DrawopValue → Result ℕ RunFault → Outcome
-finish s order ending = prints (closing_text s order) (answer (after_batch s order) ending)
+finish s order ending = closed s order (λ t text. prints text (answer t ending))
 
 -- at most so many lines
 abbrev pub most_lines : ℕ

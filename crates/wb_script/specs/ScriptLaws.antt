@@ -3,16 +3,14 @@ use Rattle.std.specs.Prelude.{◌≡◌, ℕ, ◌+◌, ◌<◌, List, [], ◌∷
 use Rattle.std.specs.Str.Lines.{strip_carriage_return}
 use Rattle.wb_names.specs.Values.{DrawopValue}
 use Rattle.wb_names.specs.Arrivals.{Counts, counts_of, outcomes_of, history_after}
-use Rattle.wb_script.specs.declared.fault.LineFault.{LineFault}
 use Rattle.wb_script.specs.declared.fault.RunFault.{RunFault}
-use Rattle.wb_script.specs.declared.line.Line.{Line}
-use Rattle.wb_script.specs.declared.line.Line.TheVariants.{Skip, Board, Arrive, Hear, Distance, Tick, Look, Session, Show, Gaps, Report, Pages}
+use Rattle.wb_script.specs.declared.line.Line.TheVariants.{Skip}
 use Rattle.wb_script.specs.declared.summary.Summary.{Summary}
 use Rattle.wb_lines.specs.Ahead.{IsLine}
 use Rattle.wb_script.specs.Parsing.{line_of}
 use Rattle.wb_script.specs.Running.{Begins}
-use Rattle.wb_lines.specs.Input.{InputLine, input_lines, content}
-use Rattle.wb_script.specs.Script.{IsAlone, most_lines, Outcome, prints, outcome, IsOutcome}
+use Rattle.wb_lines.specs.Input.{InputLine, input_lines}
+use Rattle.wb_script.specs.Script.{IsAlone, Opens, Acts, Faulty, Part, Arrival, Nothing, End, part_in, most_lines, Outcome, prints, outcome, IsOutcome}
 
 -- a line feed ends each line
 abbrev pub EachEnds : List InputLine → Type 0
@@ -20,25 +18,15 @@ EachEnds [] = Unit {0}
 EachEnds (line ∷ lines) = (line.ended ≡ true) × EachEnds lines
 
 -- whether arrivals wait for the end of their batch after a line, where it is known whether some waited before it
-abbrev pub waits_after : Bool → Result Line LineFault → Bool
-waits_after waits (Ok Skip) = waits
-waits_after waits (Ok (Arrive d)) = true
-waits_after waits (Ok (Board member cells workers seed)) = false
-waits_after waits (Ok (Hear v)) = false
-waits_after waits (Ok (Distance source micros)) = false
-waits_after waits (Ok (Tick moment)) = false
-waits_after waits (Ok (Look page)) = false
-waits_after waits (Ok (Session page)) = false
-waits_after waits (Ok (Show page width height)) = false
-waits_after waits (Ok (Gaps page)) = false
-waits_after waits (Ok (Report page)) = false
-waits_after waits (Ok Pages) = false
-waits_after waits (Err e) = false
+abbrev pub waits_after : Bool → Part → Bool
+waits_after waits (Arrival d) = true
+waits_after waits Nothing = waits
+waits_after waits (End c) = false
 
 -- the same after some lines
 abbrev pub waits_at_end : Bool → List InputLine → Bool
 waits_at_end waits [] = waits
-waits_at_end waits (line ∷ lines) = waits_at_end (waits_after waits (line_of (content line))) lines
+waits_at_end waits (line ∷ lines) = waits_at_end (waits_after waits (part_in line)) lines
 
 -- the text of an outcome
 abbrev pub text_of : Outcome → List ℕ
@@ -75,20 +63,12 @@ HeldStays = (cells : ℕ) (held arrivals : List DrawopValue) → (added : List D
 -- ---- by how many workers
 
 -- the number of workers that a line names
-abbrev pub workers_on : Result Line LineFault → Option ℕ
-workers_on (Ok Skip) = None
-workers_on (Ok (Arrive d)) = None
-workers_on (Ok (Board member cells workers seed)) = Some workers
-workers_on (Ok (Hear v)) = None
-workers_on (Ok (Distance source micros)) = None
-workers_on (Ok (Tick moment)) = None
-workers_on (Ok (Look page)) = None
-workers_on (Ok (Session page)) = None
-workers_on (Ok (Show page width height)) = None
-workers_on (Ok (Gaps page)) = None
-workers_on (Ok (Report page)) = None
-workers_on (Ok Pages) = None
-workers_on (Err e) = None
+abbrev pub workers_on : Part → Option ℕ
+workers_on (Arrival d) = None
+workers_on Nothing = None
+workers_on (End (Opens member cells workers seed)) = Some workers
+workers_on (End (Acts line)) = None
+workers_on (End (Faulty e)) = None
 
 -- the first of two numbers that is known
 abbrev pub first_of : Option ℕ → Option ℕ → Option ℕ
@@ -98,7 +78,7 @@ first_of (Some before) later = Some before
 -- the number of workers that is known at the end of some lines: that of the start, or else of the first board
 abbrev pub workers_at_end : Option ℕ → List InputLine → Option ℕ
 workers_at_end workers [] = workers
-workers_at_end workers (line ∷ lines) = workers_at_end (first_of workers (workers_on (line_of (content line)))) lines
+workers_at_end workers (line ∷ lines) = workers_at_end (first_of workers (workers_on (part_in line))) lines
 
 -- What one thread prints is an outcome by any number of workers.
 abbrev pub OneThreadIsOutcome : Type 0

@@ -5,59 +5,39 @@ use Rattle.wb_names.specs.Values.{DrawopValue}
 use Rattle.wb_names.specs.Arrivals.{history_after}
 use Rattle.wb_names.specs.declared.name.PageId.{PageId}
 use Rattle.wb_display.specs.Canvas.{canvas_text}
-use Rattle.wb_script.specs.declared.fault.LineFault.{LineFault}
-use Rattle.wb_script.specs.declared.line.Line.{Line}
-use Rattle.wb_script.specs.declared.line.Line.TheVariants.{Skip, Board, Arrive, Hear, Distance, Tick, Look, Session, Show, Gaps, Report, Pages}
+use Rattle.wb_script.specs.declared.line.Line.TheVariants.{Show}
 use Rattle.wb_script.specs.declared.summary.Summary.{Summary}
 use Rattle.wb_lines.specs.Ahead.{IsLine}
 use Rattle.wb_script.specs.Laws.{NoneClash, HasCells}
 use Rattle.wb_script.specs.Parsing.{line_of}
 use Rattle.wb_script.specs.Queries.{view_of}
-use Rattle.wb_lines.specs.Input.{InputLine, input_lines, content}
-use Rattle.wb_script.specs.Script.{prints, outcome}
+use Rattle.wb_lines.specs.Input.{InputLine, input_lines}
+use Rattle.wb_script.specs.Script.{Opens, Acts, Faulty, Part, Arrival, Nothing, End, part_in, prints, outcome}
 use Rattle.wb_script.specs.ScriptLaws.{EachEnds}
 
 -- the drawop that a line hands in
-abbrev pub arrived_by : Result Line LineFault → List DrawopValue
-arrived_by (Ok Skip) = []
-arrived_by (Ok (Arrive d)) = d ∷ []
-arrived_by (Ok (Board member cells workers seed)) = []
-arrived_by (Ok (Hear v)) = []
-arrived_by (Ok (Distance source micros)) = []
-arrived_by (Ok (Tick moment)) = []
-arrived_by (Ok (Look page)) = []
-arrived_by (Ok (Session page)) = []
-arrived_by (Ok (Show page width height)) = []
-arrived_by (Ok (Gaps page)) = []
-arrived_by (Ok (Report page)) = []
-arrived_by (Ok Pages) = []
-arrived_by (Err e) = []
+abbrev pub arrived_by : Part → List DrawopValue
+arrived_by (Arrival d) = d ∷ []
+arrived_by Nothing = []
+arrived_by (End c) = []
 
 -- the arrivals of some lines, of whatever batches
 abbrev pub arrivals_of : List InputLine → List DrawopValue
 arrivals_of [] = []
-arrivals_of (line ∷ lines) = arrived_by (line_of (content line)) ++ arrivals_of lines
+arrivals_of (line ∷ lines) = arrived_by (part_in line) ++ arrivals_of lines
 
 -- the cells that a line opens a board with; else those of what follows
-abbrev pub cells_by : Result Line LineFault → ℕ → ℕ
-cells_by (Ok Skip) later = later
-cells_by (Ok (Arrive d)) later = later
-cells_by (Ok (Board member cells workers seed)) later = cells
-cells_by (Ok (Hear v)) later = later
-cells_by (Ok (Distance source micros)) later = later
-cells_by (Ok (Tick moment)) later = later
-cells_by (Ok (Look page)) later = later
-cells_by (Ok (Session page)) later = later
-cells_by (Ok (Show page width height)) later = later
-cells_by (Ok (Gaps page)) later = later
-cells_by (Ok (Report page)) later = later
-cells_by (Ok Pages) later = later
-cells_by (Err e) later = later
+abbrev pub cells_by : Part → ℕ → ℕ
+cells_by (Arrival d) later = later
+cells_by Nothing later = later
+cells_by (End (Opens member cells workers seed)) later = cells
+cells_by (End (Acts line)) later = later
+cells_by (End (Faulty e)) later = later
 
 -- the cells of the first board that is opened, or 0
 abbrev pub cells_of : List InputLine → ℕ
 cells_of [] = 0
-cells_of (line ∷ lines) = cells_by (line_of (content line)) (cells_of lines)
+cells_of (line ∷ lines) = cells_by (part_in line) (cells_of lines)
 
 -- a text ends with some characters
 abbrev pub EndsWith : List ℕ → List ℕ → Type 0

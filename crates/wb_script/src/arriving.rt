@@ -4,6 +4,7 @@ ghost use Rattle.wb_lines.specs.Output.{Sends};
 ghost use Rattle.wb_lines.specs.Ahead.{Pulls};
 ghost use Rattle.wb_script.specs.ReadOn.{IsPart, ReadsTo, DrawsTo};
 ghost use Rattle.wb_script.specs.Parsing.{line_of};
+ghost use Rattle.wb_script.specs.Script.{part_of};
 
 use crate::fault::{ParseFault, RunFault};
 use crate::line::Line;
@@ -25,7 +26,7 @@ enum Part {
 
 /// What the line with this content is to a batch.
 fn part_of(alloc: Global, content: &[u8]) -> Result<Part, AllocError>
-    ensures { IfOk result (λ part. IsPart part (line_of content.now)) }
+    ensures { IfOk result (λ part. IsPart part (part_of (line_of content.now))) }
 {
     match parse_line(alloc, content) {
         Ok(line) => Ok(match &line {

@@ -5,8 +5,8 @@ ghost use Rattle.wb_lines.specs.Output.{Sends};
 ghost use Rattle.wb_script.specs.Parsing.{IsWithin};
 ghost use Rattle.wb_script.specs.ReadOn.{EndsBatchAt};
 ghost use Rattle.wb_script.specs.Running.{RunsOn};
-ghost use Rattle.wb_script.specs.Script.{State, IsAlone, held_count, acts, line_step, after_batch, closing_text, most_lines};
-ghost use Rattle.wb_script.specs.Stations.{IsAt, DoesStep, MayDoStep, Moves};
+ghost use Rattle.wb_script.specs.Script.{State, IsAlone, Acts, End, part_of, held_count, part_step, said_step, most_lines};
+ghost use Rattle.wb_script.specs.Stations.{IsAt, MayDoStep, Moves};
 
 use crate::fault::{LineFault, RunFault};
 use crate::line::Line;
@@ -72,7 +72,7 @@ impl Host {
         seed: u64,
     ) -> Result<(), RunFault>
         requires { (0 < cells) × (cells ≤ 65535) }
-        ensures step { (s : State) → IsAt self.old s → DoesStep number self.new [] result (line_step s s.waiting (Line.Board member cells workers seed)) }
+        ensures step { (s : State) → IsAt self.old s → MayDoStep s number self.new [] result (λ order. said_step s order (Ok (Line.Board member cells workers seed))) }
         ensures unwritten { result ≢ Err RunFault.Write }
     {
         if self.station.is_some() {
@@ -92,7 +92,7 @@ impl Host {
         output: &mut Output,
     ) -> Result<(), RunFault>
         requires { IsWithin line.now }
-        ensures text { (written : List ℕ) × (output.new ≡ output.old ++ written) × ((s : State) → IsAt self.old s → MayDoStep s number self.new written result (λ order. acts (after_batch s order) (closing_text s order) line.now)) }
+        ensures text { (written : List ℕ) × (output.new ≡ output.old ++ written) × ((s : State) → IsAt self.old s → MayDoStep s number self.new written result (λ order. part_step s order (End (Acts line.now)))) }
         ensures unwritten { result ≢ Err RunFault.Write }
     {
         match &mut self.station {
@@ -110,8 +110,8 @@ impl Host {
         output: &mut Output,
     ) -> Result<(), RunFault>
         requires line { IsWithin line.now }
-        requires other { EndsBatchAt (Ok line.now) }
-        ensures text { (written : List ℕ) × (output.new ≡ output.old ++ written) × ((s : State) → IsAt self.old s → MayDoStep s number self.new written result (λ order. line_step s order line.now)) }
+        requires other { EndsBatchAt (part_of (Ok line.now)) }
+        ensures text { (written : List ℕ) × (output.new ≡ output.old ++ written) × ((s : State) → IsAt self.old s → MayDoStep s number self.new written result (λ order. said_step s order (Ok line.now))) }
         ensures unwritten { result ≢ Err RunFault.Write }
     {
         match line {

@@ -3,7 +3,7 @@
 
 ghost use Rattle.wb_gaps.specs.Laws.{GapsOfPage, OnlyGaps, ReportOfPage, OnlyReport, PagesOfHistory, OnlyPages};
 ghost use Rattle.wb_script.specs.Laws.{ViewOfPage, OnlyView, AnswersAreFree, BatchesAreOne, ArrivalsAreFree, PrintsAreFree};
-ghost use Rattle.wb_script.specs.Reordering.{WorkersAreOneThread, WorkersRunAnother, EachReorderingIsOutcome};
+ghost use Rattle.wb_script.specs.Reordering.{WorkersAreOneThread, EachReorderingIsOutcome};
 ghost use Rattle.wb_script.specs.Shows.{ShowsArrivals, ShowsAreFree};
 ghost use Rattle.wb_script.specs.ScriptLaws.{RefusedStays, PrintedStays, SkippedPrintsNothing, CountsAddUp, HeldStays, OneThreadIsOutcome, OneWorkerIsOneThread, OneThreadIsFree};
 ghost use Rattle.wb_script.specs.FreeWorkers.{OrdersAreFree, WorkersAreFree};
@@ -73,13 +73,12 @@ pub fn one_worker_is_one_thread()
     ensures free { OneThreadIsFree }
 {}
 
-/// Whatever workers print for a script, one thread prints for the script with its arrivals reordered inside
-/// their batches: arrivals of one batch change places, as whole lines, and all other lines stay. Where a
-/// line feed ends each line, the reordered lines are a script too. What one thread prints for each script that is
+/// Whatever workers print for a script, one thread prints for a script with the arrivals reordered inside
+/// their batches: the contents of the arrivals of one batch change places, and all other lines and the line feeds
+/// stay. Where a line feed ends each line, whole lines change places. What one thread prints for each script that is
 /// reordered so is an outcome by two workers or more.
 pub fn workers_are_one_thread()
-    ensures lines { WorkersAreOneThread }
-    ensures scripts { WorkersRunAnother }
+    ensures scripts { WorkersAreOneThread }
     ensures each { EachReorderingIsOutcome }
 {}
 

@@ -1,26 +1,30 @@
-use Rattle.std.proofs.Common.{◌≡◌, ℕ, List, Ok, refl, subst}
+use Rattle.std.proofs.Common.{◌≡◌, ℕ, List, [], Ok, refl, sym, subst}
+use Rattle.std.proofs.lemmas.List.{append-nil}
 use Rattle.wb_names.specs.Values.{DrawopValue}
 use Rattle.wb_script.specs.declared.line.Line.{Line}
 use Rattle.wb_script.specs.declared.line.Line.TheVariants.{Skip, Board, Arrive, Hear, Distance, Tick, Look, Session, Show, Gaps, Report, Pages}
 use Rattle.wb_script.specs.ReadOn.{EndsBatchAt}
-use Rattle.wb_script.specs.Script.{State, Step, acts, line_step, after_batch, closing_text}
+use Rattle.wb_script.specs.Script.{Acts, Part, End, part_of, part_step}
 use Rattle.wb_script.specs.Stations.{DoesStep}
 use Rattle.wb_script.proofs.host.Host.take_line.Goals as goal
 
 -- A line that ends its batch, and opens no board, acts at the board.
-acts_then : (s : State) (order : List DrawopValue) (line : Line) → EndsBatchAt (Ok line) → ((member cells workers seed : ℕ) → line ≡ Board member cells workers seed → ⊥) → acts (after_batch s order) (closing_text s order) line ≡ line_step s order line
-acts_then s order Skip ends other = absurd ends
-acts_then s order (Arrive d) ends other = absurd ends
-acts_then s order (Board member cells workers seed) ends other = absurd (other member cells workers seed refl)
-acts_then s order (Hear v) ends other = refl
-acts_then s order (Distance source micros) ends other = refl
-acts_then s order (Tick moment) ends other = refl
-acts_then s order (Look page) ends other = refl
-acts_then s order (Session page) ends other = refl
-acts_then s order (Show page width height) ends other = refl
-acts_then s order (Gaps page) ends other = refl
-acts_then s order (Report page) ends other = refl
-acts_then s order Pages ends other = refl
+acts_then : (line : Line) → EndsBatchAt (part_of (Ok line)) → ((member cells workers seed : ℕ) → line ≡ Board member cells workers seed → ⊥) → part_of (Ok line) ≡ End (Acts line)
+acts_then Skip ends other = absurd ends
+acts_then (Arrive d) ends other = absurd ends
+acts_then (Board member cells workers seed) ends other = absurd (other member cells workers seed refl)
+acts_then (Hear v) ends other = refl
+acts_then (Distance source micros) ends other = refl
+acts_then (Tick moment) ends other = refl
+acts_then (Look page) ends other = refl
+acts_then (Session page) ends other = refl
+acts_then (Show page width height) ends other = refl
+acts_then (Gaps page) ends other = refl
+acts_then (Report page) ends other = refl
+acts_then Pages ends other = refl
+
+pub returns-in-Board-clause-text : goal.returns-in-Board-clause-text
+returns-in-Board-clause-text c = ([], sym (append-nil c.args.output.now), λ s at. rw c.in-Board.is (c.open_board.ensures.step s at))
 
 pub returns-in_default : goal.returns-in_default
 returns-in_default c =
@@ -31,7 +35,7 @@ returns-in_default c =
         t.1,
         λ s at.
             let d = t.2 s at in
-            (d.0, d.1, subst (λ (step : Step). DoesStep {U = Unit {0}} c.args.number c.act.new.self t.0 c.act.result step) (acts_then s d.0 c.args.line.now c.requires.other c.in_default.not-Board) d.2),
+            (d.0, d.1, subst (λ (part : Part). DoesStep {U = Unit {0}} c.args.number c.act.new.self t.0 c.act.result (part_step s d.0 part)) (sym (acts_then c.args.line.now c.requires.other c.in_default.not-Board)) d.2),
       );
       unwritten = c.act.ensures.unwritten;
     }
