@@ -6,6 +6,7 @@ use Rattle.wb_names.specs.History.{name_of}
 use Rattle.wb_names.proofs.Orders.{name_parts}
 use Rattle.wb_codec.specs.declared.datagram.Datagram.{Datagram}
 use Rattle.wb_codec.specs.declared.datagram.Datagram.TheVariants as datagrams
+use Rattle.wb_lines.specs.Taking.{met}
 use Rattle.wb_script.specs.Driving.{acceptance, next_number}
 use Rattle.wb_script.specs.Hosts.{Opened}
 use Rattle.wb_script.specs.SentLines.{send_line}
@@ -21,8 +22,11 @@ use Rattle.wb_dialog.specs.declared.line.DriverLine.TheVariants.{Script, Say}
 use Rattle.wb_dialog.specs.Dialog.{answer, batch_of, goes_out, refuses, said_text}
 use Rattle.wb_dialog.specs.Doing.{text_of}
 use Rattle.wb_dialog.proofs.OwnNumbers.{next_is_new}
-use Rattle.wb_session_hosts.specs.Hosts.{LineAt, saying, host_at, sent, MaySay, IsHonestBy}
+use Rattle.wb_session_hosts.specs.Hosts.{LineAt, saying, host_at, sent, group_of, CameOut, MaySay, IsHonestBy}
 use Rattle.wb_session_hosts.specs.Laws.{BatchesCountNoClash}
+use Rattle.wb_session_hosts.proofs.Boards.{group_is_distinct, fair_of}
+use Rattle.wb_session_hosts.proofs.Bytes.{came_out, honest_more}
+use Rattle.wb_session_hosts.proofs.DriverLines.{met_fits}
 use Rattle.wb_session_hosts.proofs.Outcomes.{Found, found}
 use Rattle.wb_session_hosts.proofs.Texts.{digit_0, digit_1, differ}
 use Rattle.wb_session_hosts.proofs.Turns.{IsAt}
@@ -80,7 +84,7 @@ module _ (group : Group) (is : IsDistinct group) (older : List LineAt) (f : Foll
       let clash = subst (Found host.board.drawops d) e (found host.board.cells 0 host.board.drawops d) in
       clash.3 (drawn_is_once group (events_of group older) is clash.0 d (held_drawn clash.0 clash.1) drawn clash.2)
 
-  sent_none : Contains (sent group older) (datagrams.Draw d) → acceptance d host ≡ became.Clash → ⊥
+  sent_none : Contains (sent group.constants older) (datagrams.Draw d) → acceptance d host ≡ became.Clash → ⊥
   sent_none c e = none_of_drawn (sent_is_drawn group (events_of group older) f.session d (f.sent (datagrams.Draw d) c)) e
 
   said_none : d.name.source ≡ host.me → MaySay (datagrams.Draw d) host → acceptance d host ≡ became.Clash → ⊥
@@ -94,11 +98,11 @@ module _ (group : Group) (is : IsDistinct group) (older : List LineAt) (f : Foll
       fair
 
 module _ (group : Group) (is : IsDistinct group) (older : List LineAt) (f : Follows group is older) (i : ℕ) (d : DrawopValue) where
-  arrives : (s : Option Opened) → IsAt group i s (member group (events_of group older) i) → IsHonestBy group (sent group older) i s (Ok (Script (lines.Arrive d))) → text_of (answer (group.constants i) s (Ok (Script (lines.Arrive d)))) ≡ batch_of became.Clash → ⊥
+  arrives : (s : Option Opened) → IsAt group i s (member group (events_of group older) i) → IsHonestBy (Contains (sent group.constants older)) s (Ok (Script (lines.Arrive d))) → text_of (answer (group.constants i) s (Ok (Script (lines.Arrive d)))) ≡ batch_of became.Clash → ⊥
   arrives None at fair e = no_text e
   arrives (Some host) at fair e = sent_none group is older f i host at d fair (only_clash (acceptance d host) e)
 
-  says : (s : Option Opened) → IsAt group i s (member group (events_of group older) i) → IsHonestBy group (sent group older) i s (Ok (Say (datagrams.Draw d))) → text_of (answer (group.constants i) s (Ok (Say (datagrams.Draw d)))) ≡ batch_of became.Clash → ⊥
+  says : (s : Option Opened) → IsAt group i s (member group (events_of group older) i) → IsHonestBy (Contains (sent group.constants older)) s (Ok (Say (datagrams.Draw d))) → text_of (answer (group.constants i) s (Ok (Say (datagrams.Draw d)))) ≡ batch_of became.Clash → ⊥
   says None at fair e = no_text e
   says (Some host) at fair e = from (nat_eq d.name.source host.me) refl e where
     from : (b : Bool) → nat_eq d.name.source host.me ≡ b → text_of (if b then goes_out (datagrams.Draw d) host else refuses refusals.Member) ≡ batch_of became.Clash → ⊥
@@ -106,13 +110,16 @@ module _ (group : Group) (is : IsDistinct group) (older : List LineAt) (f : Foll
     from false own g = no_text g
 
 pub batches_count_no_clash : BatchesCountNoClash
-batches_count_no_clash group older e d is fair brings text =
-    let f = follows group is older fair.1 in
+batches_count_no_clash constants older e d distinct fair brings text =
+    let group = group_of constants older in
+    let is = group_is_distinct constants older distinct in
+    let f = follows group is older (fair_of constants older fair.1) in
+    let comes = honest_more (CameOut constants older) (Contains (sent constants older)) (came_out constants older) (host_at constants older e.place) (saying e) (met_fits (met e.line)) fair.0 in
     let i = e.place in
-    let s = host_at group older i in
+    let s = host_at constants older i in
     ⊎_elim
     (λ (b : saying e ≡ Ok (Script (lines.Arrive d))).
-    arrives group is older f i d s (f.at i) (subst (IsHonestBy group (sent group older) i s) b fair.0) (sym (ap (λ (r : Result DriverLine Refusal). text_of (answer (group.constants i) s r)) b) ∙ text))
+    arrives group is older f i d s (f.at i) (subst (IsHonestBy (Contains (sent constants older)) s) b comes) (sym (ap (λ (r : Result DriverLine Refusal). text_of (answer (constants i) s r)) b) ∙ text))
     (λ (b : saying e ≡ Ok (Say (datagrams.Draw d))).
-    says group is older f i d s (f.at i) (subst (IsHonestBy group (sent group older) i s) b fair.0) (sym (ap (λ (r : Result DriverLine Refusal). text_of (answer (group.constants i) s r)) b) ∙ text))
+    says group is older f i d s (f.at i) (subst (IsHonestBy (Contains (sent constants older)) s) b comes) (sym (ap (λ (r : Result DriverLine Refusal). text_of (answer (constants i) s r)) b) ∙ text))
     brings

@@ -1,3 +1,11 @@
+pub mod ScriptLines
+pub mod DriverLines
+pub mod BoardRanges
+pub mod CallRanges
+pub mod MessageRanges
+pub mod HostRanges
+pub mod Bytes
+pub mod Boards
 pub mod Outcomes
 pub mod Several
 pub mod Turns

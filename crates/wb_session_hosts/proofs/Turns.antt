@@ -36,7 +36,8 @@ use Rattle.wb_dialog.specs.declared.line.DriverLine.TheVariants.{Script, Say, Ne
 use Rattle.wb_dialog.specs.Dialog as dialog
 use Rattle.wb_dialog.specs.Dialog.{Answer, answered, answer_at, speaker}
 use Rattle.wb_dialog.specs.Doing.{text_of}
-use Rattle.wb_session_hosts.specs.Hosts.{sends_by_act, sends_drawing, sends_said, sends_at, MaySay, IsHonestAt, IsHonestFirst}
+use Rattle.wb_session_hosts.specs.Hosts.{sends_by_act, sends_drawing, sends_said, sends_at, MaySay, IsHonestAt}
+use Rattle.wb_session_hosts.proofs.Boards.{IsFirst}
 use Rattle.wb_session_hosts.proofs.Outcomes.{Found, found}
 use Rattle.wb_session_hosts.proofs.Several.{ats, after_all, drawn_sent}
 
@@ -151,7 +152,7 @@ module _ (group : Group) (is : IsDistinct group) (i : ℕ) (events : List Event)
 
   -- ---- a line of a script
 
-  script : (said : DrawopValue → Type 0) (line : Line) → IsHonestAt (members.sent group events) host (Script line) → Does (acts_at (Script line) host) (dialog.after (Some host) (answer_at (Script line) host)) (sends_at (Script line) host) said
+  script : (said : DrawopValue → Type 0) (line : Line) → IsHonestAt (Contains (members.sent group events)) host (Script line) → Does (acts_at (Script line) host) (dialog.after (Some host) (answer_at (Script line) host)) (sends_at (Script line) host) said
   script said lines.Skip fair = by_act said lines.Skip (act lines.Skip host) refl tt tt
   script said (lines.Board number cells workers seed) fair = idle said
   script said (lines.Arrive d) fair = one said (Takes (present host) (d ∷ []) (d ∷ [])) (accepted d host) [] refl (λ n x h. h) (All-cons (λ x. Contains (members.sent group events) (datagrams.Draw x)) d [] fair (All-nil (λ x. Contains (members.sent group events) (datagrams.Draw x)))) (λ v c. none_out v c)
@@ -282,7 +283,7 @@ module _ (group : Group) (is : IsDistinct group) (i : ℕ) (events : List Event)
   own_said (datagrams.Request asker name) e fair = absurd fair
   own_said (datagrams.PageState sender page marks) e fair = absurd fair
 
-  say : (v : Datagram) → IsHonestAt (members.sent group events) host (Say v) → Does (acts_at (Say v) host) (dialog.after (Some host) (answer_at (Say v) host)) (sends_at (Say v) host) (IsSaid (Say v) host)
+  say : (v : Datagram) → IsHonestAt (Contains (members.sent group events)) host (Say v) → Does (acts_at (Say v) host) (dialog.after (Some host) (answer_at (Say v) host)) (sends_at (Say v) host) (IsSaid (Say v) host)
   say v fair = from (nat_eq (speaker v) host.me) refl where
     from : (b : Bool) → nat_eq (speaker v) host.me ≡ b → Does (if b then acts_said v host else []) (dialog.after (Some host) (if b then dialog.goes_out v host else dialog.refuses refusals.Member)) (if b then sends_said v host else []) (IsSaid (Say v) host)
     from true e = own_said v e (fair (eqb-true (speaker v) host.me e))
@@ -303,7 +304,7 @@ module _ (group : Group) (is : IsDistinct group) (i : ℕ) (events : List Event)
     from true = one said (Misses (present host) (name ∷ []) (word_of host.random ∷ [])) begun [] refl (λ n x h. h) tt (λ v c. none_out v c)
     from false = idle said
 
-  pub turns : (line : DriverLine) → IsHonestAt (members.sent group events) host line → Does (acts_at line host) (dialog.after (Some host) (answer_at line host)) (sends_at line host) (IsSaid line host)
+  pub turns : (line : DriverLine) → IsHonestAt (Contains (members.sent group events)) host line → Does (acts_at line host) (dialog.after (Some host) (answer_at line host)) (sends_at line host) (IsSaid line host)
   turns (Script line) fair = script (IsSaid (Script line) host) line fair
   turns (Say v) fair = say v fair
   turns (Next page) fair = numbers (IsSaid (Next page) host) (next_number page host)
@@ -321,10 +322,10 @@ module _ (group : Group) (i : ℕ) (events : List Event) (s : IsSession group ev
   opened_board : (number cells workers seed : ℕ) → number ≡ group.number i → cells ≡ group.cells i → IsAt group i (Some (opened_with (group.constants i) number cells seed)) m
   opened_board number cells workers seed one two = ([], here ∙ sym (ap (λ (n : ℕ). member_of [] (opened_with (group.constants i) n cells seed)) one ∙ ap (λ (c : ℕ). member_of [] (opened_with (group.constants i) (group.number i) c seed)) two), λ x c. absurd (Contains-none x c))
 
-  first_script : (line : Line) → IsHonestFirst group i (Script line) → Turns group i events m [] (dialog.after None (dialog.answer_first (group.constants i) (Script line))) [] said
+  first_script : (line : Line) → IsFirst group i (Script line) → Turns group i events m [] (dialog.after None (dialog.answer_first (group.constants i) (Script line))) [] said
   first_script (lines.Board number cells workers seed) fair = nothing (Some (opened_with (group.constants i) number cells seed)) (opened_board number cells workers seed fair.0 fair.1)
   first_script line fair = nothing None here
 
-  pub turns_first : (line : DriverLine) → IsHonestFirst group i line → Turns group i events m [] (dialog.after None (dialog.answer_first (group.constants i) line)) [] said
+  pub turns_first : (line : DriverLine) → IsFirst group i line → Turns group i events m [] (dialog.after None (dialog.answer_first (group.constants i) line)) [] said
   turns_first (Script line) fair = first_script line fair
   turns_first line fair = nothing None here

@@ -1,13 +1,16 @@
 -- A session of hosts: programs, each at a place, that their drivers hand lines. What one sends may be lost, and a driver may
 -- hand it in to any of them, at any later point, any number of times.
-use Rattle.std.specs.Prelude.{◌≡◌, ◌⊎◌, ℕ, List, [], ◌∷◌, ◌++◌, Contains, nat_eq, Option, Some, None, Result, Ok, Err, if◌then◌else◌}
+use Rattle.std.specs.Prelude.{◌≡◌, ◌⊎◌, ℕ, ◌+◌, ◌^◌, List, [], ◌∷◌, ◌++◌, Contains, map, nat_eq, Option, Some, None, Result, Ok, Err, if◌then◌else◌}
+use Rattle.std.specs.Option.{option_or}
 use Rattle.wb_names.specs.Values.{DrawopValue}
 use Rattle.wb_codec.specs.declared.datagram.Datagram.{Datagram}
 use Rattle.wb_codec.specs.declared.datagram.Datagram.TheVariants.{Draw, AskPages}
+use Rattle.wb_recovery.specs.declared.tuning.Tuning.{Tuning}
 use Rattle.wb_lines.specs.Input.{InputLine}
 use Rattle.wb_lines.specs.Taking.{met}
 use Rattle.wb_script.specs.Driving.{acceptance, shown, pages_known, next_number, may_ask, asks_for}
 use Rattle.wb_script.specs.Hosts.{Opened, Act, does, fails, act}
+use Rattle.wb_script.specs.SentLines.{send_line}
 use Rattle.wb_script.specs.declared.acceptance.Acceptance.{Acceptance}
 use Rattle.wb_script.specs.declared.acceptance.Acceptance.TheVariants as became
 use Rattle.wb_script.specs.declared.line.Line.{Line}
@@ -29,17 +32,18 @@ pub record LineAt : Type 0 where
 abbrev pub saying : LineAt → Result DriverLine Refusal
 saying e = says_line (met e.line)
 
--- the host at a place after lines, of which the newest is the first, once it opened a board
-abbrev pub host_at : Group → List LineAt → ℕ → Option Opened
-host_at group [] i = None
-host_at group (e ∷ older) i = if nat_eq e.place i then after (host_at group older i) (answer (group.constants i) (host_at group older i) (saying e)) else host_at group older i
+-- The host at a place after lines, of which the newest is the first, once it opened a board. Each host has the constants of
+-- its timers.
+abbrev pub host_at : (ℕ → Tuning) → List LineAt → ℕ → Option Opened
+host_at constants [] i = None
+host_at constants (e ∷ older) i = if nat_eq e.place i then after (host_at constants older i) (answer (constants i) (host_at constants older i) (saying e)) else host_at constants older i
 
-abbrev pub state_at : Group → List LineAt → ℕ → State
-state_at group lines i = record { tuning = group.constants i; host = host_at group lines i }
+abbrev pub state_at : (ℕ → Tuning) → List LineAt → ℕ → State
+state_at constants lines i = record { tuning = constants i; host = host_at constants lines i }
 
 -- what the host at a place would answer to a line now
-abbrev pub reply_at : Group → List LineAt → ℕ → InputLine → Answer
-reply_at group lines i line = answer_of (state_at group lines i) (met line)
+abbrev pub reply_at : (ℕ → Tuning) → List LineAt → ℕ → InputLine → Answer
+reply_at constants lines i line = answer_of (state_at constants lines i) (met line)
 
 -- the lines of a place, in their order
 abbrev pub lines_at : List LineAt → ℕ → List InputLine
@@ -47,9 +51,9 @@ lines_at [] i = []
 lines_at (e ∷ older) i = if nat_eq e.place i then lines_at older i ++ e.line ∷ [] else lines_at older i
 
 -- the blocks that the host there writes
-abbrev pub blocks_at : Group → List LineAt → ℕ → List (List ℕ)
-blocks_at group [] i = []
-blocks_at group (e ∷ older) i = if nat_eq e.place i then blocks_at group older i ++ block (reply_at group older i e.line) ∷ [] else blocks_at group older i
+abbrev pub blocks_at : (ℕ → Tuning) → List LineAt → ℕ → List (List ℕ)
+blocks_at constants [] i = []
+blocks_at constants (e ∷ older) i = if nat_eq e.place i then blocks_at constants older i ++ block (reply_at constants older i e.line) ∷ [] else blocks_at constants older i
 
 -- ---- what a line sends
 
@@ -113,9 +117,45 @@ told_at (Stop name) host = stop_line (asks_for name host)
 -- ---- a session
 
 -- all that anyone sent
-abbrev pub sent : Group → List LineAt → List Datagram
-sent group [] = []
-sent group (e ∷ older) = sends_by (host_at group older e.place) (saying e) ++ sent group older
+abbrev pub sent : (ℕ → Tuning) → List LineAt → List Datagram
+sent constants [] = []
+sent constants (e ∷ older) = sends_by (host_at constants older e.place) (saying e) ++ sent constants older
+
+-- the `send` lines that were printed
+abbrev pub send_lines : (ℕ → Tuning) → List LineAt → List (List ℕ)
+send_lines constants lines = map send_line (sent constants lines)
+
+-- ---- whose boards they are
+
+-- the member that a board is of, and its cells
+pub record Board : Type 0 where
+  pub member : ℕ
+  pub cells : ℕ
+
+abbrev pub board_in : Result DriverLine Refusal → Option Board
+board_in (Ok (Script (lines.Board member cells workers seed))) = Some (record { member = member; cells = cells })
+board_in said = None
+
+-- the board at a place, by the first line there that opens one
+abbrev pub board_at : List LineAt → ℕ → Option Board
+board_at [] i = None
+board_at (e ∷ older) i = option_or (board_at older i) (if nat_eq e.place i then board_in (saying e) else None)
+
+-- No two places have boards of one member.
+abbrev pub HaveDistinctMembers : List LineAt → Type 0
+HaveDistinctMembers lines = (i j : ℕ) (one other : Board) → board_at lines i ≡ Some one → board_at lines j ≡ Some other → one.member ≡ other.member → i ≡ j
+
+-- The group of these hosts. A place without a board has a number that no board can have.
+abbrev pub number_by : ℕ → Option Board → ℕ
+number_by i None = 2 ^ 32 + i
+number_by i (Some board) = board.member
+
+abbrev pub cells_by : Option Board → ℕ
+cells_by None = 0
+cells_by (Some board) = board.cells
+
+abbrev pub group_of : (ℕ → Tuning) → List LineAt → Group
+group_of constants lines = record { number = λ i. number_by i (board_at lines i); cells = λ i. cells_by (board_at lines i); constants = constants }
 
 -- ---- what drivers keep to
 
@@ -126,27 +166,27 @@ MaySay (Draw d) host = (next_number d.name.page host ≡ Some d.name.seq) ⊎ Co
 MaySay (AskPages asker) host = Unit {0}
 MaySay v host = ⊥
 
--- At an open host: a datagram that comes in was sent before.
-abbrev pub IsHonestAt : List Datagram → Opened → DriverLine → Type 0
-IsHonestAt datagrams host (Script (lines.Arrive d)) = Contains datagrams (Draw d)
-IsHonestAt datagrams host (Script (lines.Hear v)) = Contains datagrams v
-IsHonestAt datagrams host (Say v) = speaker v ≡ host.me → MaySay v host
-IsHonestAt datagrams host line = Unit {0}
+-- a datagram comes out: its `send` line, in every byte, is one of those that were printed
+abbrev pub CameOut : (ℕ → Tuning) → List LineAt → Datagram → Type 0
+CameOut constants lines v = Contains (send_lines constants lines) (send_line v)
 
--- The line that opens the board at a place names its number and cells.
-abbrev pub IsHonestFirst : Group → ℕ → DriverLine → Type 0
-IsHonestFirst group i (Script (lines.Board member cells workers seed)) = (member ≡ group.number i) × (cells ≡ group.cells i)
-IsHonestFirst group i line = Unit {0}
+-- At an open host: a datagram that comes in came out before, in this sense.
+abbrev pub IsHonestAt : (Datagram → Type 0) → Opened → DriverLine → Type 0
+IsHonestAt Before host (Script (lines.Arrive d)) = Before (Draw d)
+IsHonestAt Before host (Script (lines.Hear v)) = Before v
+IsHonestAt Before host (Say v) = speaker v ≡ host.me → MaySay v host
+IsHonestAt Before host line = Unit {0}
 
-abbrev pub IsHonestBy : Group → List Datagram → ℕ → Option Opened → Result DriverLine Refusal → Type 0
-IsHonestBy group datagrams i s (Err e) = Unit {0}
-IsHonestBy group datagrams i None (Ok line) = IsHonestFirst group i line
-IsHonestBy group datagrams i (Some host) (Ok line) = IsHonestAt datagrams host line
+-- Nothing is asked of a line that is refused as it is read, or that comes before a board is open.
+abbrev pub IsHonestBy : (Datagram → Type 0) → Option Opened → Result DriverLine Refusal → Type 0
+IsHonestBy Before (Some host) (Ok line) = IsHonestAt Before host line
+IsHonestBy Before (Some host) (Err e) = Unit {0}
+IsHonestBy Before None said = Unit {0}
 
-abbrev pub IsHonestNext : Group → List LineAt → LineAt → Type 0
-IsHonestNext group older e = IsHonestBy group (sent group older) e.place (host_at group older e.place) (saying e)
+abbrev pub IsHonestNext : (ℕ → Tuning) → List LineAt → LineAt → Type 0
+IsHonestNext constants older e = IsHonestBy (CameOut constants older) (host_at constants older e.place) (saying e)
 
 -- each line, at the point at which it is handed in
-abbrev pub IsHonest : Group → List LineAt → Type 0
-IsHonest group [] = Unit {0}
-IsHonest group (e ∷ older) = IsHonestNext group older e × IsHonest group older
+abbrev pub IsHonest : (ℕ → Tuning) → List LineAt → Type 0
+IsHonest constants [] = Unit {0}
+IsHonest constants (e ∷ older) = IsHonestNext constants older e × IsHonest constants older

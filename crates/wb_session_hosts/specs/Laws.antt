@@ -1,8 +1,10 @@
 -- Laws of sessions of hosts.
-use Rattle.std.specs.Prelude.{◌≡◌, ◌≢◌, ◌⊎◌, ℕ, List, [], ◌∷◌, ◌++◌, Contains, Bool, Option, Some, None, Ok}
+use Rattle.std.specs.Prelude.{◌≡◌, ◌≢◌, ◌⊎◌, ℕ, List, [], ◌∷◌, ◌++◌, Contains, All, Bool, Option, Some, None, Ok}
 use Rattle.std.specs.List.{concat}
 use Rattle.wb_names.specs.Values.{DrawopValue}
 use Rattle.wb_names.specs.declared.name.PageId.{PageId}
+use Rattle.wb_recovery.specs.declared.tuning.Tuning.{Tuning}
+use Rattle.wb_codec.specs.Ranges.{IsDatagram}
 use Rattle.wb_codec.specs.declared.datagram.Datagram.{Datagram}
 use Rattle.wb_codec.specs.declared.datagram.Datagram.TheVariants.{Draw}
 use Rattle.wb_lines.specs.Input.{InputLine, input_lines}
@@ -19,7 +21,8 @@ use Rattle.wb_dialog.specs.declared.line.DriverLine.{DriverLine}
 use Rattle.wb_dialog.specs.declared.line.DriverLine.TheVariants.{Script, Say}
 use Rattle.wb_dialog.specs.Dialog.{gives, answer_at, answered_lines, batch_of, says_line, transcript}
 use Rattle.wb_dialog.specs.Doing.{text_of}
-use Rattle.wb_session_hosts.specs.Hosts.{LineAt, saying, host_at, reply_at, lines_at, blocks_at, sends_at, told_at, sent, IsHonest}
+use Rattle.wb_dialog.specs.Lines.{handed_in}
+use Rattle.wb_session_hosts.specs.Hosts.{LineAt, saying, host_at, reply_at, lines_at, blocks_at, sends_at, told_at, sent, Board, board_at, HaveDistinctMembers, group_of, CameOut, IsHonest}
 
 -- ---- members
 
@@ -29,25 +32,34 @@ IsMemberAt group events i None = member group events i ≡ newcomer group i
 IsMemberAt group events i (Some host) = IsMember group events i host
 
 -- A session of hosts is one of members: at each place the host is the member, and what the hosts sent the members sent.
-pub record AreMembers (group : Group) (lines : List LineAt) : Type 0 where
+pub record AreMembers (constants : ℕ → Tuning) (lines : List LineAt) : Type 0 where
+  pub distinct : IsDistinct (group_of constants lines)
   pub events : List Event
-  pub session : IsSession group events
-  pub hosts : (i : ℕ) → IsMemberAt group events i (host_at group lines i)
-  pub sent : (v : Datagram) → Contains (sent group lines) v → Contains (members.sent group events) v
+  pub session : IsSession (group_of constants lines) events
+  pub hosts : (i : ℕ) → IsMemberAt (group_of constants lines) events i (host_at constants lines i)
+  pub sent : (v : Datagram) → Contains (sent constants lines) v → Contains (members.sent (group_of constants lines) events) v
 
 abbrev pub HostsAreMembers : Type 0
-HostsAreMembers = (group : Group) (lines : List LineAt) → IsDistinct group → IsHonest group lines → AreMembers group lines
+HostsAreMembers = (constants : ℕ → Tuning) (lines : List LineAt) → HaveDistinctMembers lines → IsHonest constants lines → AreMembers constants lines
 
 -- ---- inputs and texts
 
 -- Where the lines of a place are those of an input, which may be cut off, the blocks there are its transcript.
 abbrev pub BlocksAreTranscripts : Type 0
-BlocksAreTranscripts = (group : Group) (lines : List LineAt) (i : ℕ) (cut : Bool) (input : List ℕ) → lines_at lines i ≡ answered_lines cut (input_lines input) → concat (blocks_at group lines i) ≡ transcript (group.constants i) cut input
+BlocksAreTranscripts = (constants : ℕ → Tuning) (lines : List LineAt) (i : ℕ) (cut : Bool) (input : List ℕ) → lines_at lines i ≡ answered_lines cut (input_lines input) → concat (blocks_at constants lines i) ≡ transcript (constants i) cut input
 
 -- What an open host prints for a line that is not refused is a `send` line of each datagram that it sends, and then what else
 -- it tells. So all that is sent can be read off the blocks.
 abbrev pub TextsTellSends : Type 0
 TextsTellSends = (line : DriverLine) (host : Opened) (next : Option Opened) (text : List ℕ) → answer_at line host ≡ gives next text → text ≡ sends_text (sends_at line host) ++ told_at line host
+
+-- Each datagram that anyone sends has all its fields in range, whatever the lines.
+abbrev pub SentIsInRange : Type 0
+SentIsInRange = (constants : ℕ → Tuning) (lines : List LineAt) → All IsDatagram (sent constants lines)
+
+-- So its bytes tell it: a line that hands in a datagram of which a `send` line was printed hands in one that was sent.
+abbrev pub BytesTellDatagrams : Type 0
+BytesTellDatagrams = (constants : ℕ → Tuning) (lines : List LineAt) (line : InputLine) (v : Datagram) → says_line (met line) ≡ Ok (handed_in v) → CameOut constants lines v → Contains (sent constants lines) v
 
 -- ---- no clash
 
@@ -57,33 +69,35 @@ BringsDrawop line d = (says_line (met line) ≡ Ok (Script (lines.Arrive d))) �
 
 -- No line of a session that hands in a drawop, or says one, prints a batch that counts a clash.
 abbrev pub BatchesCountNoClash : Type 0
-BatchesCountNoClash = (group : Group) (older : List LineAt) (e : LineAt) (d : DrawopValue) → IsDistinct group → IsHonest group (e ∷ older) → BringsDrawop e.line d → text_of (reply_at group older e.place e.line) ≢ batch_of became.Clash
+BatchesCountNoClash = (constants : ℕ → Tuning) (older : List LineAt) (e : LineAt) (d : DrawopValue) → HaveDistinctMembers older → IsHonest constants (e ∷ older) → BringsDrawop e.line d → text_of (reply_at constants older e.place e.line) ≢ batch_of became.Clash
 
 -- ---- what is sent, at once or as a repair
 
--- At some point the host of its source was handed a line that says it, and printed the line of its bytes.
-pub record WasSaid (group : Group) (lines : List LineAt) (d : DrawopValue) : Type 0 where
+-- At some point the host whose board is that of its source was handed a line that says it, and printed the line of its bytes.
+pub record WasSaid (constants : ℕ → Tuning) (lines : List LineAt) (d : DrawopValue) : Type 0 where
   pub newer : List LineAt
   pub e : LineAt
   pub older : List LineAt
   pub split : lines ≡ newer ++ e ∷ older
   pub said : saying e ≡ Ok (Say (Draw d))
-  pub source : d.name.source ≡ group.number e.place
-  pub text : text_of (reply_at group older e.place e.line) ≡ send_line (Draw d)
+  pub board : Board
+  pub opened : board_at lines e.place ≡ Some board
+  pub source : d.name.source ≡ board.member
+  pub text : text_of (reply_at constants older e.place e.line) ≡ send_line (Draw d)
 
 -- Each drawop that anyone sent is, in every byte, what its source said and sent.
 abbrev pub SentWasSaid : Type 0
-SentWasSaid = (group : Group) (lines : List LineAt) → IsDistinct group → IsHonest group lines → (d : DrawopValue) → Contains (sent group lines) (Draw d) → WasSaid group lines d
+SentWasSaid = (constants : ℕ → Tuning) (lines : List LineAt) → HaveDistinctMembers lines → IsHonest constants lines → (d : DrawopValue) → Contains (sent constants lines) (Draw d) → WasSaid constants lines d
 
 -- Of each name one drawop is ever sent.
 abbrev pub SentOnce : Type 0
-SentOnce = (group : Group) (lines : List LineAt) → IsDistinct group → IsHonest group lines → (d e : DrawopValue) → Contains (sent group lines) (Draw d) → Contains (sent group lines) (Draw e) → d.name ≡ e.name → d ≡ e
+SentOnce = (constants : ℕ → Tuning) (lines : List LineAt) → HaveDistinctMembers lines → IsHonest constants lines → (d e : DrawopValue) → Contains (sent constants lines) (Draw d) → Contains (sent constants lines) (Draw e) → d.name ≡ e.name → d ≡ e
 
 -- ---- agreement
 
 -- what a host would print now for a line, before the line that closes the block
-abbrev pub prints_at : Group → List LineAt → ℕ → InputLine → List ℕ
-prints_at group lines i line = text_of (reply_at group lines i line)
+abbrev pub prints_at : (ℕ → Tuning) → List LineAt → ℕ → InputLine → List ℕ
+prints_at constants lines i line = text_of (reply_at constants lines i line)
 
 -- Lines that ask for the report, the gaps and the canvas of a page. The spellings of their words may differ.
 pub record AskOf (page : PageId) (width height : ℕ) (report gaps show : InputLine) : Type 0 where
@@ -93,6 +107,6 @@ pub record AskOf (page : PageId) (width height : ℕ) (report gaps show : InputL
 
 -- Two hosts that would print the same for `report C N`, and `gaps 0` for `gaps C N`, print the same for `show C N W H`.
 abbrev pub ReportsTellShows : Type 0
-ReportsTellShows = (group : Group) (lines : List LineAt) (i j : ℕ) (page : PageId) (width height : ℕ) (report gaps show : InputLine) → IsDistinct group → IsHonest group lines → AskOf page width height report gaps show
-    → prints_at group lines i report ≡ prints_at group lines j report → prints_at group lines i gaps ≡ gaps_text [] → prints_at group lines j gaps ≡ gaps_text []
-    → prints_at group lines i show ≡ prints_at group lines j show
+ReportsTellShows = (constants : ℕ → Tuning) (lines : List LineAt) (i j : ℕ) (page : PageId) (width height : ℕ) (report gaps show : InputLine) → HaveDistinctMembers lines → IsHonest constants lines → AskOf page width height report gaps show
+    → prints_at constants lines i report ≡ prints_at constants lines j report → prints_at constants lines i gaps ≡ gaps_text [] → prints_at constants lines j gaps ≡ gaps_text []
+    → prints_at constants lines i show ≡ prints_at constants lines j show

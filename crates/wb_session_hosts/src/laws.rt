@@ -1,6 +1,6 @@
 //! Laws of sessions of hosts. Each function does nothing: its contract is a law, for proofs to cite.
 
-ghost use Rattle.wb_session_hosts.specs.Laws.{BatchesCountNoClash, BlocksAreTranscripts, HostsAreMembers, ReportsTellShows, SentOnce, SentWasSaid, TextsTellSends};
+ghost use Rattle.wb_session_hosts.specs.Laws.{BatchesCountNoClash, BlocksAreTranscripts, BytesTellDatagrams, HostsAreMembers, ReportsTellShows, SentIsInRange, SentOnce, SentWasSaid, TextsTellSends};
 
 /// A session of hosts is one of members: at each place the host is the member, and what hosts sent the
 /// members sent. So what holds of sessions of members holds of hosts and their drivers.
@@ -17,6 +17,13 @@ pub fn blocks_are_transcripts()
 /// sends, and then what else it tells.
 pub fn texts_tell_sends()
     ensures { TextsTellSends }
+{}
+
+/// What anyone sends has all its fields in range, whatever the lines. So its bytes tell it: a line that
+/// hands in a datagram of which a `send` line was printed hands in one that was sent.
+pub fn bytes_tell_datagrams()
+    ensures ranges { SentIsInRange }
+    ensures one { BytesTellDatagrams }
 {}
 
 /// No line that hands in a drawop, or says one, prints a batch that counts a clash.

@@ -1,0 +1,179 @@
+-- What a line of a script carries is in range.
+use Rattle.std.proofs.Common.{◌≡◌, ◌<◌, ◌≤◌, ◌-◌, ◌*◌, ◌+◌, ◌^◌, ℕ, Bool, true, false, List, [], ◌∷◌, length, Option, Some, None, Result, Ok, Err, refl, arith, leb-true}
+use Rattle.std.specs.Prelude.{◌&&◌, IfSome, IfOk, nat_eq, nat_le, codes, if◌then◌else◌}
+use Rattle.std.specs.Result.{result_ok}
+use Rattle.std.specs.Str.{bytes_eq}
+use Rattle.hex.specs.Hex.{decode_of, IsBytes}
+use Rattle.hex.specs.declared.error.FromHexError.{FromHexError}
+use Rattle.hex.proofs.HexLemmas.{decode_of-ok}
+use Rattle.wb_names.proofs.Orders.{and_both}
+use Rattle.wb_codec.specs.Ranges.{IsPage, IsDrawop, IsDatagram}
+use Rattle.wb_codec.specs.Reading.{reading}
+use Rattle.wb_codec.specs.declared.datagram.Datagram.{Datagram}
+use Rattle.wb_codec.specs.declared.datagram.Datagram.TheVariants as datagrams
+use Rattle.wb_codec.specs.declared.fault.ReadFault.{ReadFault}
+use Rattle.wb_codec.proofs.GrammarLaws.{reading_takes}
+use Rattle.wb_lines.specs.Words.{is_digit, number_after, number_of, unhex}
+use Rattle.wb_script.specs.Parsing.{◌>>=◌, or_fault, number, one_of, two_of, four_of, none_of, board, show, distance, tick, page, pages, spelled, datagram, arrived, heard, arrive, hear, page_line, command, begins_comment, line_of_words}
+use Rattle.wb_script.specs.declared.fault.LineFault.{LineFault}
+use Rattle.wb_script.specs.declared.fault.LineFault.TheVariants as faults
+use Rattle.wb_script.specs.declared.line.Line.{Line}
+use Rattle.wb_script.specs.declared.line.Line.TheVariants as lines
+
+-- ---- steps
+
+-- What is read has a property, where a step before it has one.
+pub bound : {A B : Type 0} (P : A → Type 0) (Q : B → Type 0) (r : Result A LineFault) (f : A → Result B LineFault) → IfOk r P → ((x : A) → P x → IfOk (f x) Q) → IfOk (r >>= f) Q
+bound P Q (Ok x) f p q = q x p
+bound P Q (Err e) f p q = tt
+
+-- the same where nothing is known of the step before it
+pub behind : {A B : Type 0} (Q : B → Type 0) (r : Result A LineFault) (f : A → Result B LineFault) → ((x : A) → IfOk (f x) Q) → IfOk (r >>= f) Q
+behind Q (Ok x) f q = q x
+behind Q (Err e) f q = tt
+
+either : {A : Type 0} (P : A → Type 0) (b : Bool) (x y : Result A LineFault) → IfOk x P → IfOk y P → IfOk (if b then x else y) P
+either P true x y p q = p
+either P false x y p q = q
+
+-- ---- numbers and pages
+
+abbrev pub IsWithin : ℕ → ℕ → ℕ → Type 0
+IsWithin low high n = (low ≤ n) × (n ≤ high)
+
+number_after_fits : (low high begun : ℕ) (word : List ℕ) → IfSome (number_after low high begun word) (IsWithin low high)
+number_after_fits low high begun [] = from (nat_le low begun && nat_le begun high) refl where
+  from : (b : Bool) → (nat_le low begun && nat_le begun high) ≡ b → IfSome (if b then Some begun else None) (IsWithin low high)
+  from true e = let both = and_both (nat_le low begun) (nat_le begun high) e in (leb-true low begun both.0, leb-true begun high both.1)
+  from false e = tt
+number_after_fits low high begun (b ∷ bs) = from (number_after_fits low high (10 * begun + (b - 48)) bs) (is_digit b) where
+  from : IfSome (number_after low high (10 * begun + (b - 48)) bs) (IsWithin low high) → (digit : Bool) → IfSome (if digit then number_after low high (10 * begun + (b - 48)) bs else None) (IsWithin low high)
+  from rest true = rest
+  from rest false = tt
+
+number_of_fits : (low high : ℕ) (word : List ℕ) → IfSome (number_of low high word) (IsWithin low high)
+number_of_fits low high word = from (nat_eq (length word) 0) where
+  from : (empty : Bool) → IfSome (if empty then None else number_after low high 0 word) (IsWithin low high)
+  from true = tt
+  from false = number_after_fits low high 0 word
+
+or_fault_fits : {A : Type 0} (P : A → Type 0) (e : LineFault) (o : Option A) → IfSome o P → IfOk (or_fault e o) P
+or_fault_fits P e (Some x) p = p
+or_fault_fits P e None p = tt
+
+pub number_fits : (low high : ℕ) (word : List ℕ) → IfOk (number low high word) (IsWithin low high)
+number_fits low high word = or_fault_fits (IsWithin low high) faults.Number (number_of low high word) (number_of_fits low high word)
+
+pub page_fits : (arguments : List (List ℕ)) → IfOk (page arguments) IsPage
+unfolding page
+page_fits arguments = behind IsPage (or_fault faults.Words (two_of arguments)) _ (λ ws.
+    bound (IsWithin 0 (2 ^ 32 - 1)) IsPage (number 0 (2 ^ 32 - 1) ws.0) _ (number_fits 0 (2 ^ 32 - 1) ws.0) (λ creator c.
+    bound (IsWithin 0 (2 ^ 32 - 1)) IsPage (number 0 (2 ^ 32 - 1) ws.1) _ (number_fits 0 (2 ^ 32 - 1) ws.1) (λ n d.
+    let a = c.1 in
+    let b = d.1 in
+    record { creator = omega arith; number = omega arith })))
+
+-- ---- datagrams
+
+decoded : (r : Result (List ℕ) FromHexError) → ((bytes : List ℕ) → r ≡ Ok bytes → IsBytes bytes) → IfSome (result_ok r) IsBytes
+decoded (Ok bytes) fit = fit bytes refl
+decoded (Err e) fit = tt
+
+unhex_fits : (digits : List ℕ) → IfSome (unhex digits) IsBytes
+unhex_fits digits = decoded (decode_of digits) (λ bytes e. (decode_of-ok digits bytes e).3)
+
+spelled_fits : (bytes : List ℕ) → IsBytes bytes → (r : Result Datagram ReadFault) → reading bytes ≡ r → IfOk (spelled r) IsDatagram
+spelled_fits bytes fit (Ok v) e = (reading_takes bytes v fit e).1
+spelled_fits bytes fit (Err f) e = tt
+
+pub datagram_fits : (arguments : List (List ℕ)) → IfOk (datagram arguments) IsDatagram
+unfolding datagram
+datagram_fits arguments = behind IsDatagram (or_fault faults.Words (one_of arguments)) _ (λ digits.
+    bound IsBytes IsDatagram (or_fault faults.Hex (unhex digits)) _ (or_fault_fits IsBytes faults.Hex (unhex digits) (unhex_fits digits)) (λ bytes fit.
+    spelled_fits bytes fit (reading bytes) refl))
+
+-- ---- lines
+
+-- what a line of a script carries is in range
+abbrev pub Fits : Line → Type 0
+Fits (lines.Board member cells workers seed) = (member < 2 ^ 32) × (cells ≤ 65535)
+Fits (lines.Arrive d) = IsDrawop d
+Fits (lines.Hear v) = IsDatagram v
+Fits (lines.Tick moment) = moment < 2 ^ 48
+Fits (lines.Look page) = IsPage page
+Fits (lines.Session page) = IsPage page
+Fits line = Unit {0}
+
+board_fits : (arguments : List (List ℕ)) → IfOk (board arguments) Fits
+unfolding board
+board_fits arguments = behind Fits (or_fault faults.Words (four_of arguments)) _ (λ ws.
+    bound (IsWithin 0 (2 ^ 32 - 1)) Fits (number 0 (2 ^ 32 - 1) ws.0) _ (number_fits 0 (2 ^ 32 - 1) ws.0) (λ member m.
+    bound (IsWithin 1 65535) Fits (number 1 65535 ws.1) _ (number_fits 1 65535 ws.1) (λ cells c.
+    behind Fits (number 1 8 ws.2) _ (λ workers.
+    behind Fits (number 0 (2 ^ 64 - 1) ws.3) _ (λ seed.
+    let a = m.1 in (omega arith, c.1))))))
+
+tick_fits : (arguments : List (List ℕ)) → IfOk (tick arguments) Fits
+unfolding tick
+tick_fits arguments = behind Fits (or_fault faults.Words (one_of arguments)) _ (λ word.
+    bound (IsWithin 0 (2 ^ 48 - 1)) Fits (number 0 (2 ^ 48 - 1) word) _ (number_fits 0 (2 ^ 48 - 1) word) (λ moment m.
+    let a = m.1 in omega arith))
+
+show_fits : (arguments : List (List ℕ)) → IfOk (show arguments) Fits
+unfolding show
+show_fits arguments = behind Fits (or_fault faults.Words (four_of arguments)) _ (λ ws.
+    behind Fits (number 0 (2 ^ 32 - 1) ws.0) _ (λ creator.
+    behind Fits (number 0 (2 ^ 32 - 1) ws.1) _ (λ n.
+    behind Fits (number 1 200 ws.2) _ (λ width.
+    behind Fits (number 1 100 ws.3) _ (λ height. tt)))))
+
+distance_fits : (arguments : List (List ℕ)) → IfOk (distance arguments) Fits
+unfolding distance
+distance_fits arguments = behind Fits (or_fault faults.Words (two_of arguments)) _ (λ ws.
+    behind Fits (number 0 (2 ^ 32 - 1) ws.0) _ (λ source.
+    behind Fits (number 0 (2 ^ 24 - 1) ws.1) _ (λ micros. tt)))
+
+pages_fits : (arguments : List (List ℕ)) → IfOk (pages arguments) Fits
+pages_fits arguments = behind Fits (or_fault faults.Words (none_of arguments)) _ (λ nothing. tt)
+
+arrived_fits : (v : Datagram) → IsDatagram v → IfOk (arrived v) Fits
+arrived_fits (datagrams.Draw d) fit = fit
+arrived_fits v fit = tt
+
+heard_fits : (v : Datagram) → IsDatagram v → IfOk (heard v) Fits
+heard_fits (datagrams.Draw d) fit = tt
+heard_fits (datagrams.Session sender sent page marks echoes) fit = fit
+heard_fits (datagrams.Request asker name) fit = fit
+heard_fits (datagrams.AskPages asker) fit = fit
+heard_fits (datagrams.PageState sender page marks) fit = fit
+
+arrive_fits : (arguments : List (List ℕ)) → IfOk (arrive arguments) Fits
+arrive_fits arguments = bound IsDatagram Fits (datagram arguments) arrived (datagram_fits arguments) arrived_fits
+
+hear_fits : (arguments : List (List ℕ)) → IfOk (hear arguments) Fits
+hear_fits arguments = bound IsDatagram Fits (datagram arguments) heard (datagram_fits arguments) heard_fits
+
+page_line_fits : (word : List ℕ) (arguments : List (List ℕ)) → IfOk (page_line word arguments) Fits
+unfolding page_line
+page_line_fits word arguments =
+    either Fits (bytes_eq word (codes "look")) _ _ (bound IsPage Fits (page arguments) (λ p. Ok (lines.Look p)) (page_fits arguments) (λ p fit. fit))
+    (either Fits (bytes_eq word (codes "session")) _ _ (bound IsPage Fits (page arguments) (λ p. Ok (lines.Session p)) (page_fits arguments) (λ p fit. fit))
+    (either Fits (bytes_eq word (codes "gaps")) _ _ (behind Fits (page arguments) (λ p. Ok (lines.Gaps p)) (λ p. tt))
+    (either Fits (bytes_eq word (codes "report")) _ _ (behind Fits (page arguments) (λ p. Ok (lines.Report p)) (λ p. tt))
+    tt)))
+
+command_fits : (word : List ℕ) (arguments : List (List ℕ)) → IfOk (command word arguments) Fits
+unfolding command
+command_fits word arguments =
+    either Fits (bytes_eq word (codes "board")) _ _ (board_fits arguments)
+    (either Fits (bytes_eq word (codes "arrive")) _ _ (arrive_fits arguments)
+    (either Fits (bytes_eq word (codes "hear")) _ _ (hear_fits arguments)
+    (either Fits (bytes_eq word (codes "show")) _ _ (show_fits arguments)
+    (either Fits (bytes_eq word (codes "distance")) _ _ (distance_fits arguments)
+    (either Fits (bytes_eq word (codes "tick")) _ _ (tick_fits arguments)
+    (either Fits (bytes_eq word (codes "pages")) _ _ (pages_fits arguments)
+    (page_line_fits word arguments)))))))
+
+pub line_fits : (ws : List (List ℕ)) → IfOk (line_of_words ws) Fits
+line_fits [] = tt
+line_fits (word ∷ arguments) = either Fits (begins_comment word) (Ok lines.Skip) _ tt (command_fits word arguments)
