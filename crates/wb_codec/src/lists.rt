@@ -1,3 +1,5 @@
+//! Lists of marks and of echoes from checked bytes.
+
 ghost use Rattle.std.specs.Prelude.{◌≡◌, IfOk, true};
 ghost use Rattle.std.specs.Result.{is_ok};
 ghost use Rattle.wb_codec.specs.Reading.{marks_at, echoes_at};
@@ -30,10 +32,7 @@ pub(crate) fn marks_of(alloc: Global, entries: Entries<'_>) -> Result<Marks, All
         before = Some(fields.source);
         rest = after;
     }
-    let Ok(marks) = Marks::new(marks) else {
-        unreachable!()
-    };
-    Ok(marks)
+    Ok(Marks::of_ascending(marks))
 }
 
 /// The echoes of these entries.
@@ -52,8 +51,5 @@ pub(crate) fn echoes_of(alloc: Global, entries: Entries<'_>) -> Result<Echoes, A
         before = Some(echo.source);
         rest = after;
     }
-    let Ok(echoes) = Echoes::new(echoes) else {
-        unreachable!()
-    };
-    Ok(echoes)
+    Ok(Echoes::of_ascending(echoes))
 }

@@ -1,3 +1,5 @@
+//! Echoes, and lists of them that ascend by source.
+
 ghost use Rattle.std.specs.Prelude.{◌≡◌, MatchResult, MatchBool, AllPairs, ◌<◌, map};
 ghost use Rattle.wb_names.specs.Ascending.{Descends};
 ghost use Rattle.wb_names.specs.AscendingEchoes.{AreEchoes};
@@ -63,6 +65,15 @@ impl Echoes {
             return Err((ListFault::Order, echoes));
         }
         Ok(Echoes { items: echoes })
+    }
+
+    /// The list of echoes that are known to ascend.
+    #[inline(always)]
+    pub fn of_ascending(echoes: Vec<Echo>) -> Echoes
+        requires { AreEchoes echoes.items }
+        ensures { result ≡ echoes.items }
+    {
+        Echoes { items: echoes }
     }
 
     /// The echoes.

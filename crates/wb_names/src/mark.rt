@@ -1,3 +1,5 @@
+//! Marks, and lists of them that ascend by source.
+
 ghost use Rattle.std.specs.Prelude.{◌≡◌, ◌<◌, ◌≤◌, MatchResult, MatchBool, All, AllPairs, map};
 ghost use Rattle.wb_names.specs.Faults.{value_unless};
 ghost use Rattle.wb_names.specs.Drawing.{seq_fault};
@@ -105,6 +107,15 @@ impl Marks {
             return Err((ListFault::Order, marks));
         }
         Ok(Marks { items: marks })
+    }
+
+    /// The list of marks that are known to ascend.
+    #[inline(always)]
+    pub fn of_ascending(marks: Vec<Mark>) -> Marks
+        requires { AreMarks marks.items }
+        ensures { result ≡ marks.items }
+    {
+        Marks { items: marks }
     }
 
     /// The marks.
