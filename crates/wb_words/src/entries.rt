@@ -134,10 +134,7 @@ pub(crate) fn marks_of(alloc: Global, place: u32, rest: Rest<'_>) -> Result<Mark
         marks.push(mark)?;
         left = after;
     }
-    match Marks::new(marks) {
-        Ok(marks) => Ok(marks),
-        Err(_) => unreachable!(),
-    }
+    Ok(Marks::of_ascending(marks))
 }
 
 /// What follows the marks: the words from the first echo on.
@@ -177,8 +174,5 @@ pub(crate) fn echoes_of(alloc: Global, place: u32, rest: Rest<'_>) -> Result<Ech
         echoes.push(echo)?;
         left = after;
     }
-    match Echoes::new(echoes) {
-        Ok(echoes) => Ok(echoes),
-        Err(_) => unreachable!(),
-    }
+    Ok(Echoes::of_ascending(echoes))
 }

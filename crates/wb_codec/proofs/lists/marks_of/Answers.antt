@@ -15,7 +15,7 @@ loop-k-preserved c =
     ((omega arith, omega arith, omega arith), read_pushed mark_at mark_source _ _ _ _ _ _ _ _ _ c.loop-k.invariant.1 (omega arith) c.in-Ok.ensures.mark (c.push_reserved.ensures.items ∙ ap (λ (m : MarkValue). c.loop-k.marks.items ++ m ∷ []) made))
 
 pub of_ascending-requires : goal.of_ascending-requires
-of_ascending-requires c = (marks_take _ _ _ (omega arith) (λ i. omega (arith, c.type_inv.entries.bytes i)) (read_all mark_at mark_source _ _ _ _ _ _ c.loop-k.invariant.1 (omega arith))).1.0.lawful
+of_ascending-requires c = (marks_take _ _ _ (omega arith) (λ i. omega (arith, c.before.before.before.before.branch-marks.type_inv.entries.bytes i)) (read_all mark_at mark_source _ _ _ _ _ _ c.loop-k.invariant.1 (omega arith))).1.0.lawful
 
 pub returns : goal.returns
 returns c = c.of_ascending.ensures ∙ sym (ap listed (read_all mark_at mark_source _ _ _ _ _ _ c.loop-k.invariant.1 (omega arith)))
