@@ -32,7 +32,10 @@ pub(crate) fn marks_of(alloc: Global, entries: Entries<'_>) -> Result<Marks, All
         before = Some(fields.source);
         rest = after;
     }
-    Ok(Marks::of_ascending(marks))
+    let Ok(marks) = Marks::new(marks) else {
+        unreachable!()
+    };
+    Ok(marks)
 }
 
 /// The echoes of these entries.
@@ -51,5 +54,8 @@ pub(crate) fn echoes_of(alloc: Global, entries: Entries<'_>) -> Result<Echoes, A
         before = Some(echo.source);
         rest = after;
     }
-    Ok(Echoes::of_ascending(echoes))
+    let Ok(echoes) = Echoes::new(echoes) else {
+        unreachable!()
+    };
+    Ok(echoes)
 }

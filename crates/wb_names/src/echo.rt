@@ -67,15 +67,6 @@ impl Echoes {
         Ok(Echoes { items: echoes })
     }
 
-    /// The list of echoes that are known to ascend.
-    #[inline(always)]
-    pub fn of_ascending(echoes: Vec<Echo>) -> Echoes
-        requires { AreEchoes echoes.items }
-        ensures { result ≡ echoes.items }
-    {
-        Echoes { items: echoes }
-    }
-
     /// The echoes.
     pub fn as_slice(&self) -> &[Echo]
         ensures echoes { result.now ≡ self.now }

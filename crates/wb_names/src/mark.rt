@@ -109,15 +109,6 @@ impl Marks {
         Ok(Marks { items: marks })
     }
 
-    /// The list of marks that are known to ascend.
-    #[inline(always)]
-    pub fn of_ascending(marks: Vec<Mark>) -> Marks
-        requires { AreMarks marks.items }
-        ensures { result ≡ marks.items }
-    {
-        Marks { items: marks }
-    }
-
     /// The marks.
     pub fn as_slice(&self) -> &[Mark]
         ensures marks { result.now ≡ self.now }

@@ -6,7 +6,10 @@ use Rattle.std.proofs.lemmas.Bool.Decides.{nat_tests}
 use Rattle.std.proofs.lemmas.List.{length-append}
 use Rattle.std.proofs.lemmas.List.Elements.{All-cons, All-head, All-tail}
 use Rattle.std.proofs.lemmas.List.Kept.{AllPairs-cons}
+use Rattle.wb_names.specs.ListFaults.{IsListFault}
+use Rattle.wb_names.specs.declared.fault.ListFault.{ListFault}
 use Rattle.wb_codec.specs.Reading.{is_above}
+use Rattle.wb_codec.proofs.ListFaults.{no_list_fault}
 use Rattle.wb_words.specs.declared.fault.WrongWord.{WrongWord}
 use Rattle.wb_words.specs.declared.fault.WordFault.{WordFault}
 use Rattle.wb_words.specs.declared.fault.WordFault.TheVariants.{TooMany}
@@ -175,6 +178,13 @@ module _ {X : Type 0} (entry_at : ℕ → Option ℕ → List ℕ → Result X W
             let room : n + 1 ≤ 65535 = omega arith in
             subst (λ (ys : List X). ListTaken n before (w ∷ ws) ys) (ok_is (b.0 ∷ c.0) xs c.2) (taken_more n before w ws b.0 c.0 h t (later (source b.0) c.0 room c.1))
 
+    -- the list of what was read is not refused
+    pub not_refused : ((place : ℕ) (before : Option ℕ) (w : List ℕ) (x : X) → entry_at place before w ≡ Ok x → EntryTaken spell Fits before w x)
+        → (place : ℕ) (ws : List (List ℕ)) (xs : List X) (fault : ListFault) → entries_at entry_at source stops place 0 None ws ≡ Ok xs → IsListFault (map source xs) fault → ⊥
+    not_refused takes place ws xs fault e h =
+        let t = entries_take takes place 0 None ws xs (omega arith) e in
+        no_list_fault source xs fault (omega (arith, t.few)) t.ascending h
+
     -- entries end where these words begin
     abbrev pub Stopped : List (List ℕ) → Type 0
     Stopped [] = Unit {0}
@@ -202,3 +212,7 @@ module _ {X : Type 0} (entry_at : ℕ → Option ℕ → List ℕ → Result X W
     left_again goes [] [] ended fits = refl
     left_again goes [] (w ∷ ws) ended fits = rw ended refl
     left_again goes (x ∷ xs) rest ended fits = rw (goes x (All-head Fits x xs fits)) (left_again goes xs rest ended (All-tail Fits x xs fits))
+
+    -- where nothing is left, the words are the entries'
+    pub left_all : (xs : List X) (ws : List (List ℕ)) → ws ≡ map spell xs ++ [] → ws ≡ map spell xs
+    left_all xs ws e = e ∙ append-nil (map spell xs)

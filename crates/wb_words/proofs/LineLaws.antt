@@ -281,7 +281,7 @@ drawop_back d fits = rw (name_back 2 d.name (decimal d.time ∷ op_words d.op) f
 
 -- ---- lists
 
-pub marks_ok : (place : ℕ) (ws : List (List ℕ)) (marks : List MarkValue) → marks_at place ws ≡ Ok marks → (ws ≡ map mark_word marks ++ left_at is_echo ws) × IsMarkList marks
+marks_ok : (place : ℕ) (ws : List (List ℕ)) (marks : List MarkValue) → marks_at place ws ≡ Ok marks → (ws ≡ map mark_word marks ++ left_at is_echo ws) × IsMarkList marks
 marks_ok place ws marks e =
     let t = entries_take mark_at mark_source is_echo mark_word MarkFits mark_read place 0 None ws marks (omega arith) e in
     (t.words, record { lawful = record { ascending = t.ascending; positive = λ k d h. (t.fits k d h).positive; few = omega (arith, t.few) }; ranges = λ k d h. (t.fits k d h).ranges })
@@ -289,14 +289,14 @@ marks_ok place ws marks e =
 pub mark_fits : (marks : List MarkValue) → IsMarkList marks → All MarkFits marks
 mark_fits marks h = λ k d lt. record { ranges = h.ranges k d lt; positive = h.lawful.positive k d lt }
 
-abbrev pub never : List ℕ → Bool
+abbrev never : List ℕ → Bool
 never word = false
 
 nothing_left : (ws : List (List ℕ)) → left_at never ws ≡ []
 nothing_left [] = refl
 nothing_left (w ∷ ws) = nothing_left ws
 
-pub echoes_ok : (place : ℕ) (ws : List (List ℕ)) (echoes : List Echo) → echoes_at place ws ≡ Ok echoes → (ws ≡ map echo_word echoes) × IsEchoList echoes
+echoes_ok : (place : ℕ) (ws : List (List ℕ)) (echoes : List Echo) → echoes_at place ws ≡ Ok echoes → (ws ≡ map echo_word echoes) × IsEchoList echoes
 echoes_ok place ws echoes e =
     let t = entries_take echo_at echo_source never echo_word IsEcho (echo_read never) place 0 None ws echoes (omega arith) e in
     (t.words ∙ ap (λ v. map echo_word echoes ++ v) (nothing_left ws) ∙ append-nil (map echo_word echoes), record { lawful = record { ascending = t.ascending; few = omega (arith, t.few) }; ranges = t.fits })

@@ -134,7 +134,10 @@ pub(crate) fn marks_of(alloc: Global, place: u32, rest: Rest<'_>) -> Result<Mark
         marks.push(mark)?;
         left = after;
     }
-    Ok(Marks::of_ascending(marks))
+    match Marks::new(marks) {
+        Ok(marks) => Ok(marks),
+        Err(_) => unreachable!(),
+    }
 }
 
 /// What follows the marks: the words from the first echo on.
@@ -174,5 +177,8 @@ pub(crate) fn echoes_of(alloc: Global, place: u32, rest: Rest<'_>) -> Result<Ech
         echoes.push(echo)?;
         left = after;
     }
-    Ok(Echoes::of_ascending(echoes))
+    match Echoes::new(echoes) {
+        Ok(echoes) => Ok(echoes),
+        Err(_) => unreachable!(),
+    }
 }

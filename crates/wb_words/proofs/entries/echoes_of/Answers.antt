@@ -1,12 +1,17 @@
 use Rattle.std.proofs.Common.{◌≡◌, ◌<◌, ◌≤◌, ◌+◌, ℕ, length, sym, ap, ◌∙◌, arith, Ok, refl, Bool, false, List}
 use Rattle.std.proofs.lemmas.Result.{err_from_is_err_and}
 use Rattle.wb_codec.proofs.EntryLaws.{echo_source}
-use Rattle.wb_words.proofs.LineLaws.{echoes_ok, never}
+use Rattle.wb_codec.specs.Ranges.{IsEcho}
+use Rattle.wb_words.specs.Spelling.{echo_word}
+use Rattle.wb_words.proofs.WordLaws.{echo_read}
 use Rattle.wb_words.specs.declared.fault.WordFault.TheVariants.{TooMany}
 use Rattle.wb_words.specs.Rests.{words_left}
 use Rattle.wb_words.specs.Reading.{echo_at, wrong}
-use Rattle.wb_words.proofs.EntryLists.{read_pushed, read_stops, read_many, read_all}
+use Rattle.wb_words.proofs.EntryLists.{read_pushed, read_stops, read_many, read_all, not_refused}
 use Rattle.wb_words.proofs.entries.echoes_of.Goals as goal
+
+abbrev never : List ℕ → Bool
+never word = false
 
 pub returns-then-len-eq-MAX_LEN : goal.returns-then-len-eq-MAX_LEN
 returns-then-len-eq-MAX_LEN c =
@@ -30,8 +35,10 @@ loop-left-preserved c =
     let few : length c.loop-left.echoes.items < 65535 = omega (arith, c.len-in-Words.ensures, c.loop-left.echoes.ok, c.loop-left.invariant.few) in
     read_pushed echo_at echo_source never _ _ _ _ _ _ _ _ _ _ _ c.loop-left.invariant is refl few (ap (λ (n : ℕ). c.args.place + n) (sym count)) (sym c.in_ok-echo.ensures) refl c.in_ok-push.ensures.items
 
-pub of_ascending-requires : goal.of_ascending-requires
-of_ascending-requires c = (echoes_ok _ _ _ (read_all echo_at echo_source never _ _ _ _ _ c.loop-left.invariant (ap words_left c.in_default.is))).1.lawful
+pub unreachable-requires : goal.unreachable-requires
+unreachable-requires c =
+    let all = read_all echo_at echo_source never _ _ _ _ _ c.loop-left.invariant (ap words_left c.in_default.is) in
+    not_refused echo_at echo_source never echo_word IsEcho (echo_read never) _ _ _ _ all c.in-Err.ensures.fault
 
 pub returns : goal.returns
-returns c = read_all echo_at echo_source never _ _ _ _ _ c.loop-left.invariant (ap words_left c.in_default.is) ∙ ap (λ l. Ok l) (sym c.of_ascending.ensures)
+returns c = read_all echo_at echo_source never _ _ _ _ _ c.loop-left.invariant (ap words_left c.in_default.is) ∙ ap (λ l. Ok l) (sym c.in-Ok.ensures.list)
