@@ -1,3 +1,5 @@
+//! Bodies whose checks have passed, their lists still bytes.
+
 use wb_names::{Drawop, Name, PageId};
 
 /// The bytes from the first entry of a list on, and how many entries it has.

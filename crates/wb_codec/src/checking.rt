@@ -1,3 +1,5 @@
+//! The checks of each kind of body.
+
 ghost use Rattle.std.specs.Prelude.{IfOk};
 ghost use Rattle.wb_codec.specs.Reading.{Gives, session_at, request_at, ask_pages_at, page_state_at, draw_at, body_at};
 ghost use Rattle.wb_codec.specs.Checked.{datagram_of, IsChecked};

@@ -1,3 +1,5 @@
+//! Entries of lists from bytes, each checked.
+
 ghost use Rattle.std.specs.Prelude.{◌≡◌, ◌≤◌, IfOk};
 ghost use Rattle.wb_codec.specs.Reading.{Gives, is_above as above, mark_at, echo_at, marks_at, echoes_at};
 ghost use Rattle.wb_codec.specs.Checked.{marks_in, echoes_in};

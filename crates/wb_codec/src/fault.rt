@@ -1,3 +1,5 @@
+//! Why bytes are no datagram.
+
 ghost use Rattle.std.specs.Prelude.{◌≡◌};
 ghost use Rattle.wb_codec.specs.declared.fault.ReadFault.TheVariants.{Field};
 

@@ -1,3 +1,5 @@
+//! Fields from bytes.
+
 ghost use Rattle.std.specs.Int.{w16, w32, w64};
 ghost use Rattle.wb_codec.specs.Reading.{Gives, number_at, byte_at, page_at, name_at};
 

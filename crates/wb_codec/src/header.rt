@@ -1,3 +1,5 @@
+//! The header of a datagram from bytes.
+
 ghost use Rattle.std.specs.Prelude.{◌≡◌};
 ghost use Rattle.wb_codec.specs.Reading.{Gives, version_at, kind_at, frame_at};
 

@@ -1,3 +1,5 @@
+//! Lists of marks and of echoes from checked bytes.
+
 ghost use Rattle.std.specs.Prelude.{◌≡◌, IfOk, true};
 ghost use Rattle.std.specs.Result.{is_ok};
 ghost use Rattle.wb_codec.specs.Reading.{marks_at, echoes_at};

@@ -1,3 +1,5 @@
+//! Datagrams from bytes.
+
 ghost use Rattle.std.specs.Prelude.{◌≡◌, ◌⊎◌, IfOk, IfErr, OnErr};
 ghost use Rattle.wb_codec.specs.declared.datagram.Datagram.{Datagram as DatagramValue};
 ghost use Rattle.wb_codec.specs.Ranges.{IsDatagram};

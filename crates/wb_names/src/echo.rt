@@ -1,3 +1,5 @@
+//! Echoes, and lists of them that ascend by source.
+
 ghost use Rattle.std.specs.Prelude.{◌≡◌, MatchResult, MatchBool, AllPairs, ◌<◌, map};
 ghost use Rattle.wb_names.specs.Ascending.{Descends};
 ghost use Rattle.wb_names.specs.AscendingEchoes.{AreEchoes};

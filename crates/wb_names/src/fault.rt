@@ -1,3 +1,5 @@
+//! Why a value or a list is refused.
+
 ghost use Rattle.std.specs.Prelude.{◌≡◌};
 
 use thiserror::Error;

@@ -1,3 +1,5 @@
+//! Runs of sequence numbers that are missing.
+
 /// Sequence numbers of a source that are missing on some page: all from the first to the last, both
 /// of them missing.
 #[derive(Clone, Copy, Debug, PartialEq, Eq)]

@@ -1,3 +1,5 @@
+//! Marks, and lists of them that ascend by source.
+
 ghost use Rattle.std.specs.Prelude.{◌≡◌, ◌<◌, ◌≤◌, MatchResult, MatchBool, All, AllPairs, map};
 ghost use Rattle.wb_names.specs.Faults.{value_unless};
 ghost use Rattle.wb_names.specs.Drawing.{seq_fault};

@@ -1,3 +1,5 @@
+//! Names of pages and of drawops.
+
 ghost use Rattle.std.specs.Prelude.{◌≡◌, ◌≤◌};
 ghost use Rattle.wb_names.specs.Faults.{value_unless};
 ghost use Rattle.wb_names.specs.Drawing.{seq_fault};

@@ -1,3 +1,5 @@
+//! The order in which drawops are displayed.
+
 ghost use Rattle.std.specs.Prelude.{◌≡◌, ◌↔◌, IsTrue};
 ghost use Rattle.wb_names.specs.Orders.{display_cmp, IsBefore};
 

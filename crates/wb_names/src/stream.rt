@@ -1,3 +1,5 @@
+//! The ends that bytes come from and go to.
+
 ghost use Rattle.std.specs.Prelude.{◌≡◌, ◌<◌, ℕ, Bool, List, Option, true, false, length, IsNone, ◌↔◌};
 ghost use Rattle.wb_names.specs.Stream.{Pulls, Pushes};
 

@@ -1,3 +1,5 @@
+//! Texts, kept in place.
+
 ghost use Rattle.std.specs.Prelude.{◌≡◌, ◌≤◌, length, take, ◌++◌, replicate};
 
 use std::marker::Model;
