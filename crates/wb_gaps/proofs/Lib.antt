@@ -11,7 +11,6 @@ pub mod OneGaps
 pub mod RangeSteps
 pub mod Filling
 pub mod Rearranged
-pub mod PageRuns
 pub mod MergeLength
 pub mod NoGaps
 pub mod Sorting

@@ -1,6 +1,5 @@
 pub mod Pages
 pub mod PageReports
-pub mod ByPage
 pub mod Gaps
 pub mod Greatest
 pub mod Merging
