@@ -8,8 +8,7 @@ pub mod WordOrder
 pub mod MarkFaults
 pub mod JoinedMarks
 pub mod OneGaps
-pub mod RangeSteps
-pub mod Filling
+pub mod Walking
 pub mod Rearranged
 pub mod MergeLength
 pub mod NoGaps

@@ -29,10 +29,11 @@ mod page_list;
 mod page_report;
 mod page_reports;
 mod run;
+mod walk;
 
 pub use holdings::Holdings;
 pub use merged::{MergeFault, merge_marks};
-pub use missing::gaps;
+pub use missing::{Missing, gaps};
 pub use page_list::pages;
 pub use page_report::report;
 pub use page_reports::PageReport;

@@ -5,6 +5,7 @@ ghost use mathlib.Core.Option.{none};
 ghost use Rattle.wb_names.specs.History.{HoldsName};
 ghost use Rattle.wb_names.specs.Marks.{IsReport};
 ghost use Rattle.wb_gaps.specs.Gaps.{AreGaps};
+ghost use Rattle.wb_gaps.specs.PageReports.{AreReports};
 ghost use Rattle.wb_gaps.specs.Pages.{ArePages};
 ghost use Rattle.wb_history.specs.Passes.{IsPassOf, IsSound, IsWhole, IsCaughtUp};
 
@@ -14,6 +15,7 @@ use crate::layers::{Layers, bring_up, lent};
 use indexmap::IndexMap;
 use std::alloc::{AllocError, Global};
 use std::marker::Model;
+use wb_gaps::PageReport;
 use wb_history::Pass;
 use wb_names::{Drawop, Gap, Marks, Name, PageId};
 
@@ -99,6 +101,16 @@ impl Desk {
         self.held.catch_up(self.pass.list())?;
         let marks = self.held.holdings.report(alloc, page)?;
         Ok(marks)
+    }
+
+    /// Each page with its report, of what it has seen.
+    pub(crate) fn reports(&mut self, alloc: Global) -> Result<Vec<PageReport>, AllocError>
+        ensures same { self.new ≡ self.old }
+        ensures reports { IfOk result (λ reports. AreReports self.old.seen reports.items) }
+    {
+        self.held.catch_up(self.pass.list())?;
+        let reports = self.held.holdings.reports(alloc)?;
+        Ok(reports)
     }
 
     /// The pages of what it has seen.

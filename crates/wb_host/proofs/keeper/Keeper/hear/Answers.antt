@@ -14,4 +14,4 @@ pub returns-then-is_own-clause-answers : goal.returns-then-is_own-clause-answers
 returns-then-is_own-clause-answers c = c.new.ensures.items ∙ sym (own_unanswered c.args.self.now.me c.refresh.new.desk.seen c.args.datagram.now (sym c.is_own.ensures ∙ c.if-is_own.true))
 
 pub returns-clause-answers : goal.returns-clause-answers
-returns-clause-answers c = only_sent c.args.self.now.me c.refresh-2.new.desk c.args.datagram.now c.in_ok-sent.sent.items c.refresh-2.ensures.sound c.in_ok-sent.ensures
+returns-clause-answers c = only_sent c.args.self.now.me c.refresh-2.new.desk c.args.datagram.now c.in_ok-sent.sent.items c.refresh-2.ensures.sound c.in_ok-sent.ensures.sent
