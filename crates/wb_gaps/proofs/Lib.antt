@@ -21,3 +21,4 @@ pub mod Starts
 pub mod Adding
 pub mod HeldRanges
 pub mod PageRanges
+pub mod PageSteps

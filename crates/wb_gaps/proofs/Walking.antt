@@ -1,6 +1,6 @@
 -- What a walk over the runs of a page and marks finds are its gaps.
-use Rattle.std.proofs.Common.{◌≡◌, ℕ, suc, ◌+◌, ◌-◌, ◌<◌, ◌≤◌, Bool, true, false, cond, List, [], ◌∷◌, ◌++◌, get_or, refl, ap, ◌∙◌, sym, subst, arith, ◌⊎◌, inl, inr, ⊎_elim, eqb-true}
-use Rattle.std.specs.Prelude.{◌≢◌, ◌↔◌, All, AllPairs, Contains, map, nat_eq, nat_lt}
+use Rattle.std.proofs.Common.{◌≡◌, ℕ, ◌+◌, ◌-◌, ◌<◌, ◌≤◌, true, false, cond, List, [], ◌∷◌, ◌++◌, refl, ap, ◌∙◌, sym, subst, arith, ◌⊎◌, inl, inr, ⊎_elim}
+use Rattle.std.specs.Prelude.{◌≢◌, ◌↔◌, All, AllPairs, Contains, nat_lt}
 use Rattle.std.specs.List.{flat_map}
 use Rattle.std.proofs.lemmas.Bool.{cases_lt}
 use Rattle.std.proofs.lemmas.Bool.Decides.{nat_tests}
@@ -19,7 +19,7 @@ use Rattle.wb_gaps.specs.Walk.{gap_of, spans, spans_at, told, walk_of}
 use Rattle.wb_gaps.specs.declared.run.Run.{Run}
 use Rattle.wb_gaps.specs.declared.walk.Span.{Span}
 use Rattle.wb_gaps.proofs.GreatestNumbers.{first_counted, first_filled, later_all, later_runs, number_cases, number_here, number_none, number_there, same_or_not}
-use Rattle.wb_gaps.proofs.JoinedMarks.{Above, Rises, rest_above, rest_rises, here, there, none_above, above_less}
+use Rattle.wb_gaps.proofs.JoinedMarks.{Above, Rises, rest_above, rest_rises, here, there, none_above}
 use Rattle.wb_gaps.proofs.Rearranged.{known_is_reached}
 
 -- ---- one span more
@@ -342,10 +342,14 @@ module _ (at done : ℕ) (m : MarkValue) (ms : List MarkValue) (xs : List Run) (
   mark_splits : (s n : ℕ) → Lacks at done (m ∷ ms) xs s n ↔ (InSpan m.source (told at done m.source) m.high s n ⊎ Lacks at done ms xs s n)
   mark_splits s n = (
     λ l. ⊎_elim
-        (λ (own : m.source ≡ s). inl (sym own, subst (λ (k : ℕ). told at done k < n) (sym own) l.untold, ⊎_elim
-        (λ (le : n ≤ mark_of (m ∷ ms) s). subst (λ (k : ℕ). n ≤ k) (here m ms s own) le)
-        (λ (r : Reached xs s n). absurd (none_under m.source xs over r.0 (subst (λ (k : ℕ). InRuns xs k r.0) (sym own) r.2)))
-        l.known))
+        (λ (own : m.source ≡ s). inl (
+          sym own,
+          subst (λ (k : ℕ). told at done k < n) (sym own) l.untold,
+          ⊎_elim
+              (λ (le : n ≤ mark_of (m ∷ ms) s). subst (λ (k : ℕ). n ≤ k) (here m ms s own) le)
+              (λ (r : Reached xs s n). absurd (none_under m.source xs over r.0 (subst (λ (k : ℕ). InRuns xs k r.0) (sym own) r.2)))
+              l.known,
+        ))
         (λ (other : m.source ≢ s). inr (record {
           untold = l.untold;
           known = ⊎_elim (λ (le : n ≤ mark_of (m ∷ ms) s). inl (subst (λ (k : ℕ). n ≤ k) (there m ms s other) le)) (λ (r : Reached xs s n). inr r) l.known;
@@ -447,6 +451,7 @@ are_gaps history page runs marks of lawful =
     } where
       nothing_told : (s : ℕ) → told 0 0 s ≡ 0
       nothing_told s = ⊎_elim (λ (e : 0 ≡ s). told_here 0 0 s e) (λ (e : 0 ≢ s). told_there 0 0 s e) (same_or_not 0 s)
+
       begins : (r : Run) → 1 ≤ r.first → IsBeyond 0 0 r.source r.first
       begins r low = ⊎_elim (λ (e : 0 ≡ r.source). inr (e, omega arith)) (λ (e : 0 ≢ r.source). inl (omega arith)) (same_or_not 0 r.source)
 

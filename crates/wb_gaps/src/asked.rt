@@ -1,6 +1,6 @@
 //! What is asked of holdings: which numbers a page lacks, its report, and which pages there are.
 
-ghost use Rattle.std.specs.Prelude.{◌≡◌, ◌≤◌, List, IfOk, length};
+ghost use Rattle.std.specs.Prelude.{◌≡◌, ◌≤◌, List, IfOk, filter, length};
 ghost use Rattle.std.specs.BTreeMap.{IsOrdered};
 ghost use Rattle.wb_names.specs.Marks.{IsReport};
 ghost use Rattle.wb_names.specs.Values.{DrawopValue};
@@ -8,7 +8,7 @@ ghost use Rattle.wb_gaps.specs.Gaps.{AreGaps};
 ghost use Rattle.wb_gaps.specs.Holdings.{HoldNamesOf};
 ghost use Rattle.wb_gaps.specs.Pages.{ArePages};
 ghost use Rattle.wb_gaps.specs.Runs.{runs_left};
-ghost use Rattle.wb_gaps.specs.Starts.{AreRanges, pages_in, runs_on, start_cmp};
+ghost use Rattle.wb_gaps.specs.Starts.{AreRanges, is_page, is_past, pages_in, runs_on, start_cmp};
 
 use crate::highest::highs;
 use crate::holdings::{Holdings, Start};
@@ -17,6 +17,8 @@ use crate::missing::Missing;
 use crate::run::Runs;
 use std::alloc::{AllocError, Global};
 use std::collections::BTreeMap;
+use std::collections::btree_map::Range;
+use std::ops::Bound;
 use wb_names::{Gap, Marks, PageId};
 
 impl Holdings {
@@ -53,7 +55,8 @@ impl Holdings {
         self.ranges.len()
     }
 
-    /// The pages that have drawops, ascending, each once. It costs what is held of ranges.
+    /// The pages that have drawops, ascending, each once. It costs the pages: a step for each, and a look-up where
+    /// it has more ranges than one.
     pub fn pages(&self, alloc: Global) -> Result<Vec<PageId>, AllocError>
         ensures { (history : List DrawopValue) → HoldNamesOf history self.now → IfOk result (λ pages. ArePages history pages.items) }
     {
@@ -81,13 +84,45 @@ fn runs_of(ranges: &BTreeMap<Start, u32>, page: PageId) -> Runs<'_>
     Runs::Kept(ranges.range(from..=to))
 }
 
-/// The pages of the ranges, ascending, each once.
+/// The pages of the ranges, ascending, each once. From the second range of a page it steps to the next page.
 fn pages_of(alloc: Global, ranges: &BTreeMap<Start, u32>) -> Result<Vec<PageId>, AllocError>
+    requires { AreRanges ranges.now.entries }
     ensures ordered { IsOrdered start_cmp ranges.now }
     ensures pages { IfOk result (λ pages. pages.items ≡ pages_in ranges.now.entries) }
 {
-    let pages = ranges.iter().map(|(start, _)| start.page);
-    let mut pages: Vec<PageId> = pages.collect(alloc)?;
-    pages.dedup();
+    let mut pages = Vec::new(alloc);
+    let mut last = None;
+    let mut rest = ranges.range(..);
+    while let Some((start, _)) = rest.next() {
+        if is_page(last, start.page) {
+            rest = after_page(ranges, start.page);
+        } else {
+            pages.push(start.page)?;
+            last = Some(start.page);
+        }
+    }
     Ok(pages)
+}
+
+/// Whether the page is the last one, where there is one.
+fn is_page(last: Option<PageId>, page: PageId) -> bool
+    ensures { result ≡ is_page last page }
+{
+    match last {
+        Some(last) => last == page,
+        None => false,
+    }
+}
+
+/// The ranges of the pages after this one.
+fn after_page(ranges: &BTreeMap<Start, u32>, page: PageId) -> Range<'_, Start, u32>
+    requires { AreRanges ranges.now.entries }
+    ensures { result ≡ filter (is_past page) ranges.now.entries }
+{
+    let end = Start {
+        page,
+        source: u32::MAX,
+        first: u32::MAX,
+    };
+    ranges.range((Bound::Excluded(end), Bound::Unbounded))
 }

@@ -1,4 +1,4 @@
-use Rattle.std.proofs.Common.{◌∙◌, ap, subst, sym}
+use Rattle.std.proofs.Common.{◌∙◌, subst, sym}
 use Rattle.std.proofs.lemmas.List.{take_all}
 use Rattle.wb_gaps.specs.Pages.{ArePages}
 use Rattle.wb_gaps.proofs.AllReports.{pages_more, each_more}
