@@ -3,9 +3,8 @@ use Rattle.std.proofs.Common.{◌≡◌, ℕ, zero, suc, ◌+◌, ◌-◌, ◌<�
 use Rattle.std.specs.Prelude.{◌≢◌, All, Option, Some, None, Ok, filter, is_some, map, not}
 use Rattle.std.proofs.lemmas.List.Sums.{length-filter, count_by-le-length}
 use Rattle.wb_names.specs.Faults.{value_unless}
-use Rattle.std.proofs.lemmas.List.{get_or_default, length-take, map-append, length-append, take-append-le, take_all, take_more}
+use Rattle.std.proofs.lemmas.List.{get_or_default, length-take, map-append, length-append, take-append-le, take_all}
 use Rattle.std.proofs.lemmas.List.Elements.{filter-append, filter_agree}
-use Rattle.std.proofs.lemmas.Grind.{flat_map-append}
 use Rattle.wb_names.specs.Values.{NameValue, DrawopValue, MarkValue}
 use Rattle.wb_names.specs.History.{name_of}
 use Rattle.wb_names.specs.declared.gap.Gap.{Gap}

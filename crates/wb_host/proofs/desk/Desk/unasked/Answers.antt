@@ -2,7 +2,6 @@ use Rattle.std.proofs.Common.{◌∙◌, List, ap, subst, sym}
 use Rattle.std.proofs.lemmas.Result.{IfOk-weaker}
 use Rattle.wb_names.specs.Values.{DrawopValue, MarkValue}
 use Rattle.wb_gaps.specs.Gaps.{AreGaps}
-use Rattle.wb_gaps.specs.Holdings.{HoldNamesOf}
 use Rattle.wb_history.specs.Passes.{PassValue}
 use Rattle.wb_host.specs.Held.{HoldsFirst}
 use Rattle.wb_host.specs.Keeping.{marks_at}
