@@ -1,7 +1,7 @@
 -- The walk over ascending runs that keeps the last one of each source.
-use Rattle.std.proofs.Common.{◌≡◌, ℕ, suc, ◌<◌, ◌≤◌, true, false, cond, List, [], ◌∷◌, length, refl, ◌∙◌, sym, subst, arith, ◌⊎◌, inl, inr, ⊎_elim, eqb-true}
+use Rattle.std.proofs.Common.{◌≡◌, ℕ, suc, ◌<◌, ◌≤◌, true, false, cond, List, [], ◌∷◌, ◌++◌, append_assoc, Option, None, Some, Bool, length, refl, ap, ◌∙◌, sym, subst, arith, ◌⊎◌, inl, inr, ⊎_elim, eqb-true}
 use Rattle.std.proofs.lemmas.Bool.{cases_lt}
-use Rattle.std.specs.Prelude.{◌≢◌, All, AllPairs, Contains, nat_eq}
+use Rattle.std.specs.Prelude.{◌≢◌, All, AllPairs, Contains, MatchOption, nat_eq}
 use Rattle.std.proofs.lemmas.Bool.Decides.{nat_tests}
 use Rattle.std.proofs.lemmas.List.Elements.{All-nil, All-cons, All-head, All-tail, All-weaker, All-contains}
 use Rattle.std.proofs.lemmas.List.Kept.{AllPairs-cons}
@@ -11,6 +11,7 @@ use Rattle.wb_names.proofs.Listings.{Contains-here, Contains-there, Contains-cas
 use Rattle.wb_gaps.specs.LastNumbers.{continues, AreGreatest}
 use Rattle.wb_gaps.specs.Greatest.{IsGreatest}
 use Rattle.wb_gaps.specs.Runs.{AreRuns, InRuns, IsBelow}
+use Rattle.wb_gaps.specs.Walk.{ahead}
 use Rattle.wb_gaps.specs.declared.run.Run.{Run}
 
 pub same_or_not : (a b : ℕ) → (a ≡ b) ⊎ (a ≢ b)
@@ -55,10 +56,43 @@ number_none s n h = Contains-none h.0 h.1
 abbrev pub mark : Run → MarkValue
 mark r = record { source = r.source; high = r.last }
 
+abbrev pub first : List Run → Option Run
+first [] = None
+first (r ∷ rs) = Some r
+
 -- the end of the last run of each source
 abbrev pub last_marks : List Run → List MarkValue
 last_marks [] = []
-last_marks (r ∷ rs) = cond (continues r.source rs) (last_marks rs) (mark r ∷ last_marks rs)
+last_marks (r ∷ rs) = cond (continues r.source (first rs)) (last_marks rs) (mark r ∷ last_marks rs)
+
+-- the next run and those after it are what was left
+pub ahead_is : (next : Option Run) (later runs : List Run) → MatchOption next (runs ≡ []) (λ r. runs ≡ r ∷ later) → (ahead next later ≡ runs) × (first runs ≡ next)
+ahead_is None later runs e = (sym e, ap first e)
+ahead_is (Some r) later runs e = (sym e, ap first e)
+
+pub last_counted : (x : Run) (xs : List Run) → AreRuns (x ∷ xs) → 1 ≤ x.last
+last_counted x xs runs = let low = first_counted x xs runs in let full = first_filled x xs runs in omega arith
+
+-- ---- one run of the walk, with the runs that are left, and then the next one and those after it
+
+module _ (x : Run) (left later : List Run) (next : Option Run) (is : MatchOption next (left ≡ []) (λ r. left ≡ r ∷ later)) where
+  pub later_lawful : AreRuns (x ∷ left) → AreRuns (ahead next later)
+  later_lawful runs = subst AreRuns (sym (ahead_is next later left is).0) (later_runs x left runs)
+
+  -- a run that the next one of its source passes
+  pub passed : (marks all : List MarkValue) → continues x.source next ≡ true → marks ++ last_marks (x ∷ left) ≡ all → marks ++ last_marks (ahead next later) ≡ all
+  passed marks all goes kept =
+      let a = ahead_is next later left is in
+      let same : last_marks (x ∷ left) ≡ last_marks left = ap (λ (b : Bool). cond b (last_marks left) (mark x ∷ last_marks left)) (ap (continues x.source) a.1 ∙ goes) in
+      ap (λ (rs : List Run). marks ++ last_marks rs) a.0 ∙ sym (ap (λ (ms : List MarkValue). marks ++ ms) same) ∙ kept
+
+  -- the last run of its source
+  pub pushed : (marks after all : List MarkValue) (m : MarkValue) → continues x.source next ≡ false → m ≡ mark x → after ≡ marks ++ m ∷ [] → marks ++ last_marks (x ∷ left) ≡ all → after ++ last_marks (ahead next later) ≡ all
+  pushed marks after all m ends made more kept =
+      let a = ahead_is next later left is in
+      let same : last_marks (x ∷ left) ≡ mark x ∷ last_marks left = ap (λ (b : Bool). cond b (last_marks left) (mark x ∷ last_marks left)) (ap (continues x.source) a.1 ∙ ends) in
+      ap (λ (rs : List Run). after ++ last_marks rs) a.0 ∙ ap (λ (ms : List MarkValue). ms ++ last_marks left) (more ∙ ap (λ (k : MarkValue). marks ++ k ∷ []) made)
+      ∙ append_assoc marks (mark x ∷ []) (last_marks left) ∙ sym (ap (λ (ms : List MarkValue). marks ++ ms) same) ∙ kept
 
 above_last : (b : ℕ) (xs : List Run) → All (λ r. b < r.source) xs → All (λ m. b < m.source) (last_marks xs)
 above_last b [] all = All-nil _
@@ -66,13 +100,13 @@ above_last b (x ∷ xs) all =
     let P : Run → Type 0 = λ r. b < r.source in
     let Q : MarkValue → Type 0 = λ m. b < m.source in
     let rest : All Q (last_marks xs) = above_last b xs (All-tail P x xs all) in
-    elim (continues x.source xs) as (λ c. All Q (cond c (last_marks xs) (mark x ∷ last_marks xs))) [
+    elim (continues x.source (first xs)) as (λ c. All Q (cond c (last_marks xs) (mark x ∷ last_marks xs))) [
       | true ↦ rest
       | false ↦ All-cons Q (mark x) _ (All-head P x xs all) rest
     ]
 
 -- where the source ends, all later runs are of greater sources
-ended : (x : Run) (xs : List Run) → AreRuns (x ∷ xs) → continues x.source xs ≡ false → All (λ r. x.source < r.source) xs
+ended : (x : Run) (xs : List Run) → AreRuns (x ∷ xs) → continues x.source (first xs) ≡ false → All (λ r. x.source < r.source) xs
 ended x [] s e = All-nil _
 ended x (y ∷ ys) s e =
     let first = All-head (IsBelow x) y ys (later_all x (y ∷ ys) s) in
@@ -87,7 +121,7 @@ rises_last [] s = λ i j d ij h. omega arith
 rises_last (x ∷ xs) s =
     let R : MarkValue → MarkValue → Type 0 = λ m n. m.source < n.source in
     let rest : AllPairs R (last_marks xs) = rises_last xs (later_runs x xs s) in
-    elim (continues x.source xs) as (λ c. continues x.source xs ≡ c → AllPairs R (cond c (last_marks xs) (mark x ∷ last_marks xs))) [
+    elim (continues x.source (first xs)) as (λ c. continues x.source (first xs) ≡ c → AllPairs R (cond c (last_marks xs) (mark x ∷ last_marks xs))) [
       | true ↦ λ e. rest
       | false ↦ λ e. AllPairs-cons R (mark x) (last_marks xs) (above_last x.source xs (ended x xs s e)) rest
     ] refl
@@ -96,7 +130,7 @@ few_last : (xs : List Run) → length (last_marks xs) ≤ length xs
 few_last [] = omega arith
 few_last (x ∷ xs) =
     let rest = few_last xs in
-    elim (continues x.source xs) as (λ c. length (cond c (last_marks xs) (mark x ∷ last_marks xs)) ≤ suc (length xs)) [
+    elim (continues x.source (first xs)) as (λ c. length (cond c (last_marks xs) (mark x ∷ last_marks xs)) ≤ suc (length xs)) [
       | true ↦ omega arith
       | false ↦ omega arith
     ]
@@ -158,7 +192,7 @@ positive_last (x ∷ xs) runs =
     let rest : All Q (last_marks xs) = positive_last xs (later_runs x xs runs) in
     let low = first_counted x xs runs in
     let full = first_filled x xs runs in
-    elim (continues x.source xs) as (λ c. All Q (cond c (last_marks xs) (mark x ∷ last_marks xs))) [
+    elim (continues x.source (first xs)) as (λ c. All Q (cond c (last_marks xs) (mark x ∷ last_marks xs))) [
       | true ↦ rest
       | false ↦ All-cons Q (mark x) _ (omega arith) rest
     ]

@@ -8,10 +8,8 @@ pub mod WordOrder
 pub mod MarkFaults
 pub mod JoinedMarks
 pub mod OneGaps
-pub mod RangeSteps
-pub mod Filling
+pub mod Walking
 pub mod Rearranged
-pub mod PageRuns
 pub mod MergeLength
 pub mod NoGaps
 pub mod Sorting
@@ -23,3 +21,4 @@ pub mod Starts
 pub mod Adding
 pub mod HeldRanges
 pub mod PageRanges
+pub mod PageSteps

@@ -37,7 +37,7 @@ use Rattle.wb_gaps.proofs.Starts.{page_itself, start_is, start_total}
 abbrev pub page_at : Start × ℕ → PageId
 page_at e = e.0.page
 
-few_in : {X : Type 0} (p : X → Bool) (xs : List X) → length (filter p xs) ≤ length xs
+pub few_in : {X : Type 0} (p : X → Bool) (xs : List X) → length (filter p xs) ≤ length xs
 few_in {X} p [] = omega arith
 few_in {X} p (x ∷ xs) = let rest = few_in p xs in elim (p x) as (λ b. length (cond b (x ∷ filter p xs) (filter p xs)) ≤ suc (length xs)) [
   | true ↦ omega arith
@@ -62,7 +62,7 @@ between_ends Greater a b low high = refl
 from_zero : (s f : ℕ) → is_le (ordering_then (nat_cmp 0 s) (nat_cmp 0 f)) ≡ true
 from_zero s f = grind (arith, nat_tests)
 
-up_to_most : (most s f : ℕ) → s ≤ most → f ≤ most → is_lt (ordering_then (nat_cmp most s) (nat_cmp most f)) ≡ false
+pub up_to_most : (most s f : ℕ) → s ≤ most → f ≤ most → is_lt (ordering_then (nat_cmp most s) (nat_cmp most f)) ≡ false
 up_to_most most s f small low = grind (arith, nat_tests)
 
 lies_on : (page : PageId) (e : Start × ℕ) → e.0.source ≤ 4294967295 → e.0.first ≤ 4294967295 → range_contains start_cmp (Included (start page 0 0)) (Included (start page 4294967295 4294967295)) e.0 ≡ is_on page e
@@ -70,13 +70,13 @@ lies_on page e small low =
     between_ends (page_cmp page e.0.page) (ordering_then (nat_cmp 0 e.0.source) (nat_cmp 0 e.0.first)) (ordering_then (nat_cmp 4294967295 e.0.source) (nat_cmp 4294967295 e.0.first)) (from_zero e.0.source e.0.first) (up_to_most 4294967295 e.0.source e.0.first small low)
     ∙ sym (page_ties page e.0.page)
 
-same_filter : {X : Type 0} (p q : X → Bool) (xs : List X) → All (λ x. p x ≡ q x) xs → filter p xs ≡ filter q xs
+pub same_filter : {X : Type 0} (p q : X → Bool) (xs : List X) → All (λ x. p x ≡ q x) xs → filter p xs ≡ filter q xs
 same_filter {X} p q [] all = refl
 same_filter {X} p q (x ∷ xs) all =
     ap (λ (b : Bool). cond b (x ∷ filter p xs) (filter p xs)) (All-head (λ (y : X). p y ≡ q y) x xs all)
     ∙ ap (λ (ys : List X). cond (q x) (x ∷ ys) ys) (same_filter p q xs (All-tail (λ (y : X). p y ≡ q y) x xs all))
 
-not_less : (p q : PageId) (r : Ordering) → ordering_then (page_cmp p q) r ≡ Less → is_lt (page_cmp q p) ≡ false
+pub not_less : (p q : PageId) (r : Ordering) → ordering_then (page_cmp p q) r ≡ Less → is_lt (page_cmp q p) ≡ false
 not_less p q r less = from (page_cmp q p) refl where
   from : (o : Ordering) → page_cmp q p ≡ o → is_lt o ≡ false
   from Less e = let over : page_cmp p q ≡ Greater = page_total.antisymm p q ∙ ap ordering_reverse e in let g : Greater ≡ Less = sym (ap (λ (o : Ordering). ordering_then o r) over) ∙ less in cc
@@ -84,7 +84,7 @@ not_less p q r less = from (page_cmp q p) refl where
   from Greater e = refl
 
 -- the entries after one in order
-after_all : (e : Start × ℕ) (es : List (Start × ℕ)) → IsStrictlySortedBy start_cmp (keys_of (e ∷ es)) → All (λ f. start_cmp e.0 f.0 ≡ Less) es
+pub after_all : (e : Start × ℕ) (es : List (Start × ℕ)) → IsStrictlySortedBy start_cmp (keys_of (e ∷ es)) → All (λ f. start_cmp e.0 f.0 ≡ Less) es
 after_all e es rising = keyed (λ (k : Start). start_cmp e.0 k ≡ Less) es (All-from_recursion _ (keys_of es) (sorted_head start_cmp e.0 (keys_of es) rising)) where
   keyed : (P : Start → Type 0) (fs : List (Start × ℕ)) → All P (keys_of fs) → All (λ f. P f.0) fs
   keyed P [] all = All-nil _
@@ -117,6 +117,10 @@ module _ (m : BTreeMap Start ℕ) (ordered : IsOrdered start_cmp m) (ranges : Ar
 
   all_kept : All Kept m.entries
   all_kept k d lt = kept _ (All-found start_total m ordered k d lt)
+
+  -- the source of each is of 32 bits, and its first number too
+  pub small_parts : (k : ℕ) (d : Start × ℕ) → k < length m.entries → ((get_or m.entries k d).0.source ≤ 4294967295) × ((get_or m.entries k d).0.first ≤ 4294967295)
+  small_parts k d lt = let h = all_kept k d lt in let full = h.filled in let fits = h.fits in (h.small, omega arith)
 
   lies_kept : (page : PageId) (e : Start × ℕ) → Kept e → range_contains start_cmp (Included (start page 0 0)) (Included (start page 4294967295 4294967295)) e.0 ≡ is_on page e
   lies_kept page e h =

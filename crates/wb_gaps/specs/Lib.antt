@@ -1,6 +1,5 @@
 pub mod Pages
 pub mod PageReports
-pub mod ByPage
 pub mod Gaps
 pub mod Greatest
 pub mod Merging
@@ -12,7 +11,7 @@ pub mod Numbers
 pub mod LastNumbers
 pub mod Joining
 pub mod Candidates
-pub mod Ranges
+pub mod Walk
 pub mod Runs
 pub mod Starts
 pub mod Holdings

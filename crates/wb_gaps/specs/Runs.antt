@@ -1,10 +1,13 @@
 -- Runs of numbers, source by source: what the walks for gaps and reports read.
-use Rattle.std.specs.Prelude.{◌≡◌, ℕ, ◌<◌, ◌≤◌, ◌⊎◌, ◌↔◌, List, All, AllPairs, Contains}
+use Rattle.std.specs.Prelude.{◌≡◌, ℕ, ◌<◌, ◌≤◌, ◌⊎◌, ◌↔◌, List, All, AllPairs, Contains, map}
 use Rattle.wb_names.specs.Values.{DrawopValue}
 use Rattle.wb_names.specs.History.{IsHeld}
 use Rattle.wb_names.specs.declared.name.PageId.{PageId}
 use Rattle.wb_gaps.specs.declared.held.Number.{Number}
+use Rattle.wb_gaps.specs.Starts.{run_of}
 use Rattle.wb_gaps.specs.declared.run.Run.{Run}
+use Rattle.wb_gaps.specs.declared.run.Runs.{Runs}
+use Rattle.wb_gaps.specs.declared.run.Runs.TheVariants.{Kept, Listed}
 
 -- the number n of the source lies in a run
 abbrev pub InRuns : List Run → ℕ → ℕ → Type 0
@@ -28,3 +31,8 @@ pub record AreRunsOf (history : List DrawopValue) (page : PageId) (runs : List R
 -- a run of one number
 abbrev pub single : Number → Run
 single n = record { source = n.source; first = n.seq; last = n.seq }
+
+-- what is left of runs: ranges that are kept, or numbers
+abbrev pub runs_left : Runs → List Run
+runs_left (Kept entries) = map run_of entries
+runs_left (Listed numbers) = map single numbers.now

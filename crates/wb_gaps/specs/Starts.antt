@@ -1,9 +1,9 @@
 -- The ranges of numbers that are kept, by page, source and first number.
-use Rattle.std.specs.Prelude.{◌≡◌, ℕ, ◌+◌, ◌<◌, ◌≤◌, Bool, List, Option, Some, None, filter, map}
+use Rattle.std.specs.Prelude.{◌≡◌, ℕ, ◌+◌, ◌<◌, ◌≤◌, Bool, false, List, Option, Some, None, filter, map}
 use Rattle.std.specs.List.{dedup}
 use Rattle.std.specs.Map.{lookup}
 use Rattle.std.specs.BTreeMap.{is_at}
-use Rattle.std.specs.Ordering.{nat_cmp, ordering_then}
+use Rattle.std.specs.Ordering.{is_lt, nat_cmp, ordering_then}
 use Rattle.std.specs.declared.cmp.Ordering.{Ordering}
 use Rattle.wb_names.specs.Orders.{page_cmp, same_page}
 use Rattle.wb_names.specs.declared.name.PageId.{PageId}
@@ -33,6 +33,15 @@ is_on page e = same_page page e.0.page
 
 abbrev pub runs_on : PageId → List (Start × ℕ) → List Run
 runs_on page entries = map run_of (filter (is_on page) entries)
+
+-- the page is the last one, where there is one
+abbrev pub is_page : Option PageId → PageId → Bool
+is_page None page = false
+is_page (Some last) page = same_page last page
+
+-- of a page after this one
+abbrev pub is_past : PageId → Start × ℕ → Bool
+is_past page e = is_lt (page_cmp page e.0.page)
 
 -- the pages of ranges, each that is not the page of the range before
 abbrev pub pages_in : List (Start × ℕ) → List PageId

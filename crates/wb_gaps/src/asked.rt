@@ -1,32 +1,41 @@
 //! What is asked of holdings: which numbers a page lacks, its report, and which pages there are.
 
-ghost use Rattle.std.specs.Prelude.{◌≡◌, ◌≤◌, List, IfOk, length};
+ghost use Rattle.std.specs.Prelude.{◌≡◌, ◌≤◌, List, IfOk, filter, length};
 ghost use Rattle.std.specs.BTreeMap.{IsOrdered};
 ghost use Rattle.wb_names.specs.Marks.{IsReport};
 ghost use Rattle.wb_names.specs.Values.{DrawopValue};
 ghost use Rattle.wb_gaps.specs.Gaps.{AreGaps};
 ghost use Rattle.wb_gaps.specs.Holdings.{HoldNamesOf};
 ghost use Rattle.wb_gaps.specs.Pages.{ArePages};
-ghost use Rattle.wb_gaps.specs.Starts.{AreRanges, pages_in, runs_on, start_cmp};
+ghost use Rattle.wb_gaps.specs.Runs.{runs_left};
+ghost use Rattle.wb_gaps.specs.Starts.{AreRanges, is_page, is_past, pages_in, runs_on, start_cmp};
 
 use crate::highest::highs;
 use crate::holdings::{Holdings, Start};
 use crate::mark_list::as_marks;
-use crate::missing::gaps_of_runs;
-use crate::run::Run;
+use crate::missing::Missing;
+use crate::run::Runs;
 use std::alloc::{AllocError, Global};
 use std::collections::BTreeMap;
+use std::collections::btree_map::Range;
+use std::ops::Bound;
 use wb_names::{Gap, Marks, PageId};
 
 impl Holdings {
+    /// The gaps of a page, found one by one. It walks the ranges of the page and the marks together, so that who stops
+    /// early has not paid for the rest. To begin costs a look-up.
+    pub fn missing<'a>(&'a self, page: PageId, marks: &'a Marks) -> Missing<'a>
+        ensures { (history : List DrawopValue) → HoldNamesOf history self.now → AreGaps history page marks.now result }
+    {
+        Missing::new(runs_of(&self.ranges, page), marks.as_slice())
+    }
+
     /// The numbers of a page that are missing, as `gaps` tells them of a list. It costs what the page
     /// has of ranges and of marks.
     pub fn gaps(&self, alloc: Global, page: PageId, marks: &Marks) -> Result<Vec<Gap>, AllocError>
         ensures { (history : List DrawopValue) → HoldNamesOf history self.now → IfOk result (λ gaps. AreGaps history page marks.now gaps.items) }
     {
-        let runs = runs_of(alloc, &self.ranges, page)?;
-        let gaps = gaps_of_runs(alloc, runs.as_slice(), marks)?;
-        Ok(gaps)
+        self.missing(page, marks).collect(alloc)
     }
 
     /// The report of a page, as `report` tells it of a list. At most 65,535 ranges are held, so that
@@ -35,8 +44,7 @@ impl Holdings {
         requires { length self.now ≤ 65535 }
         ensures { (history : List DrawopValue) → HoldNamesOf history self.now → IfOk result (λ marks. IsReport history page marks) }
     {
-        let runs = runs_of(alloc, &self.ranges, page)?;
-        let marks = highs(alloc, runs.as_slice())?;
+        let marks = highs(alloc, runs_of(&self.ranges, page))?;
         Ok(as_marks(marks))
     }
 
@@ -47,7 +55,8 @@ impl Holdings {
         self.ranges.len()
     }
 
-    /// The pages that have drawops, ascending, each once. It costs what is held of ranges.
+    /// The pages that have drawops, ascending, each once. It costs the pages: a step for each, and a look-up where
+    /// it has more ranges than one.
     pub fn pages(&self, alloc: Global) -> Result<Vec<PageId>, AllocError>
         ensures { (history : List DrawopValue) → HoldNamesOf history self.now → IfOk result (λ pages. ArePages history pages.items) }
     {
@@ -57,14 +66,10 @@ impl Holdings {
 }
 
 /// The runs of a page, ascending.
-fn runs_of(
-    alloc: Global,
-    ranges: &BTreeMap<Start, u32>,
-    page: PageId,
-) -> Result<Vec<Run>, AllocError>
+fn runs_of(ranges: &BTreeMap<Start, u32>, page: PageId) -> Runs<'_>
     requires { AreRanges ranges.now.entries }
     ensures ordered { IsOrdered start_cmp ranges.now }
-    ensures runs { IfOk result (λ runs. runs.items ≡ runs_on page ranges.now.entries) }
+    ensures runs { runs_left result ≡ runs_on page ranges.now.entries }
 {
     let from = Start {
         page,
@@ -76,21 +81,48 @@ fn runs_of(
         source: u32::MAX,
         first: u32::MAX,
     };
-    let runs = ranges.range(from..=to).map(|(start, last)| Run {
-        source: start.source,
-        first: start.first,
-        last: *last,
-    });
-    runs.collect(alloc)
+    Runs::Kept(ranges.range(from..=to))
 }
 
-/// The pages of the ranges, ascending, each once.
+/// The pages of the ranges, ascending, each once. From the second range of a page it steps to the next page.
 fn pages_of(alloc: Global, ranges: &BTreeMap<Start, u32>) -> Result<Vec<PageId>, AllocError>
+    requires { AreRanges ranges.now.entries }
     ensures ordered { IsOrdered start_cmp ranges.now }
     ensures pages { IfOk result (λ pages. pages.items ≡ pages_in ranges.now.entries) }
 {
-    let pages = ranges.iter().map(|(start, _)| start.page);
-    let mut pages: Vec<PageId> = pages.collect(alloc)?;
-    pages.dedup();
+    let mut pages = Vec::new(alloc);
+    let mut last = None;
+    let mut rest = ranges.range(..);
+    while let Some((start, _)) = rest.next() {
+        if is_page(last, start.page) {
+            rest = after_page(ranges, start.page);
+        } else {
+            pages.push(start.page)?;
+            last = Some(start.page);
+        }
+    }
     Ok(pages)
+}
+
+/// Whether the page is the last one, where there is one.
+fn is_page(last: Option<PageId>, page: PageId) -> bool
+    ensures { result ≡ is_page last page }
+{
+    match last {
+        Some(last) => last == page,
+        None => false,
+    }
+}
+
+/// The ranges of the pages after this one.
+fn after_page(ranges: &BTreeMap<Start, u32>, page: PageId) -> Range<'_, Start, u32>
+    requires { AreRanges ranges.now.entries }
+    ensures { result ≡ filter (is_past page) ranges.now.entries }
+{
+    let end = Start {
+        page,
+        source: u32::MAX,
+        first: u32::MAX,
+    };
+    ranges.range((Bound::Excluded(end), Bound::Unbounded))
 }

@@ -2,30 +2,34 @@
 
 ghost use Rattle.std.specs.Prelude.{◌≡◌, IfOk};
 ghost use Rattle.wb_gaps.specs.LastNumbers.{continues, AreGreatest};
-ghost use Rattle.wb_gaps.specs.Runs.{AreRuns};
+ghost use Rattle.wb_gaps.specs.Runs.{AreRuns, runs_left};
+ghost use Rattle.wb_gaps.specs.Walk.{ahead};
 
-use crate::run::Run;
+use crate::run::{Run, Runs};
 use std::alloc::{AllocError, Global};
 use wb_names::Mark;
 
-/// Whether the first of these runs is of the source.
-fn goes_on(source: u32, later: &[Run]) -> bool
-    ensures { result ≡ continues source later.now }
+/// Whether the next run is of the source.
+fn goes_on(source: u32, next: Option<Run>) -> bool
+    ensures { result ≡ continues source next }
 {
-    match later {
-        [] => false,
-        [next, ..] => next.source == source,
+    match next {
+        Some(run) => run.source == source,
+        None => false,
     }
 }
 
 /// One mark for each source of ascending runs, with its greatest number: the end of its last run.
-pub(crate) fn highs(alloc: Global, runs: &[Run]) -> Result<Vec<Mark>, AllocError>
-    requires { AreRuns runs.now }
-    ensures { IfOk result (λ marks. AreGreatest runs.now marks.items) }
+pub(crate) fn highs(alloc: Global, runs: Runs<'_>) -> Result<Vec<Mark>, AllocError>
+    requires { AreRuns (runs_left runs) }
+    ensures { IfOk result (λ marks. AreGreatest (runs_left runs.entry) marks.items) }
 {
+    let mut runs = runs;
     let mut marks = Vec::new(alloc);
-    for (place, run) in runs.iter().enumerate() {
-        if !goes_on(run.source, &runs[place + 1..]) {
+    let mut next = runs.next();
+    while let Some(run) = next {
+        next = runs.next();
+        if !goes_on(run.source, next) {
             marks.push(Mark::new(run.source, run.last).unwrap())?;
         }
     }

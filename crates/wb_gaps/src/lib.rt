@@ -2,7 +2,7 @@
 //!
 //! Members of a whiteboard find their losses by comparing what they hold with what others report. For a
 //! list of drawops this crate answers which pages it has (`page_list`), the greatest number of each
-//! source on a page (`page_report`) and on every page (`page_reports`), and which numbers are missing on
+//! source on a page (`page_report`), and which numbers are missing on
 //! a page (`missing`); and it merges what two members reported (`merged`). Each answer is a walk over
 //! ascending runs of numbers (`run`), of which gaps want all that the page holds (`held`) and a report
 //! those that may be the greatest of their source (`candidates`), the last of each source (`highest`), or
@@ -29,10 +29,11 @@ mod page_list;
 mod page_report;
 mod page_reports;
 mod run;
+mod walk;
 
 pub use holdings::Holdings;
 pub use merged::{MergeFault, merge_marks};
-pub use missing::gaps;
+pub use missing::{Missing, gaps};
 pub use page_list::pages;
 pub use page_report::report;
-pub use page_reports::{PageReport, all_reports};
+pub use page_reports::PageReport;

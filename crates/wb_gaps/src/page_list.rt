@@ -26,42 +26,26 @@ fn order(one: &PageId, other: &PageId) -> Ordering
     word(*one).cmp(&word(*other))
 }
 
-/// Of how many pages the walk remembers the place.
-const SLOTS: u32 = 256;
-
-/// Where the walk remembers the place of a page. Pages of like numbers by different creators seldom
-/// share one.
+/// Whether the page stands last.
 #[inline(always)]
-fn slot_of(page: PageId) -> usize
-    ensures { result < 256 }
-{
-    (page.creator.wrapping_mul(31).wrapping_add(page.number) % SLOTS) as usize
-}
-
-/// Whether the page stands at this place.
-#[inline(always)]
-fn stands_at(pages: &[PageId], place: usize, page: PageId) -> bool
+fn stands_last(pages: &[PageId], page: PageId) -> bool
     ensures { IsTrue result → Contains pages.now page }
 {
-    match pages.get(place) {
-        Some(standing) => *standing == page,
+    match pages.last() {
+        Some(last) => *last == page,
         None => false,
     }
 }
 
-/// The pages that the drawops are on, ascending by creator and number, each once. The walk remembers
-/// where the page stands that it saw last of those with one remainder; so it sorts each page once where
-/// they do not share a remainder, and more where they take turns.
+/// The pages that the drawops are on, ascending by creator and number, each once. Drawops that follow one
+/// another on one page are sorted as one.
 pub fn pages(alloc: Global, list: &[Drawop]) -> Result<Vec<PageId>, AllocError>
     ensures { IfOk result (λ pages. ArePages list.now pages.items) }
 {
     let mut pages = Vec::new(alloc);
-    let mut places = [0; SLOTS as usize];
     for drawop in list {
         let page = drawop.name().page();
-        let slot = slot_of(page);
-        if !stands_at(&pages, places[slot], page) {
-            places[slot] = pages.len();
+        if !stands_last(&pages, page) {
             pages.push(page)?;
         }
     }

@@ -6,7 +6,7 @@ ghost use Rattle.wb_names.specs.Marks.{IsReport};
 use crate::candidates::candidates;
 use crate::highest::highs;
 use crate::mark_list::as_marks;
-use crate::run::single_runs;
+use crate::run::Runs;
 use std::alloc::{AllocError, Global};
 use wb_names::{Drawop, Marks, PageId};
 
@@ -18,7 +18,6 @@ pub fn report(alloc: Global, list: &[Drawop], page: PageId) -> Result<Marks, All
     ensures { IfOk result (λ marks. IsReport list.now page marks) }
 {
     let numbers = candidates(alloc, list, page)?;
-    let runs = single_runs(alloc, numbers.as_slice())?;
-    let marks = highs(alloc, runs.as_slice())?;
+    let marks = highs(alloc, Runs::Listed(numbers.as_slice()))?;
     Ok(as_marks(marks))
 }

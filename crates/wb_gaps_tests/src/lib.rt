@@ -5,3 +5,5 @@
 mod holdings;
 #[cfg(test)]
 mod lists;
+#[cfg(test)]
+mod orders;

@@ -10,7 +10,7 @@ use Rattle.wb_gaps.specs.Answers.{reports_of, gaps_of}
 use Rattle.wb_gaps.proofs.AllReports.{reports_of_pages}
 use Rattle.wb_gaps.proofs.MissingRanges.{gaps_of_page}
 use Rattle.wb_gaps.proofs.OneGaps.{one_gaps}
-use Rattle.wb_gaps.proofs.PageRuns.{one_reports}
+use Rattle.wb_gaps.proofs.AllReports.{one_reports}
 use Rattle.wb_gaps.specs.declared.page_reports.PageReport.{PageReport}
 use Rattle.wb_history.specs.Passes.{PassValue, IsSound}
 use Rattle.wb_recovery.specs.Events.{Event, asking, names_of, timers_of}

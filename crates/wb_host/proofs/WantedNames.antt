@@ -3,9 +3,8 @@ use Rattle.std.proofs.Common.{◌≡◌, ℕ, zero, suc, ◌+◌, ◌-◌, ◌<�
 use Rattle.std.specs.Prelude.{◌≢◌, All, Option, Some, None, Ok, filter, is_some, map, not}
 use Rattle.std.proofs.lemmas.List.Sums.{length-filter, count_by-le-length}
 use Rattle.wb_names.specs.Faults.{value_unless}
-use Rattle.std.proofs.lemmas.List.{get_or_default, length-take, map-append, length-append, take-append-le, take_all, take_more}
+use Rattle.std.proofs.lemmas.List.{get_or_default, length-take, map-append, length-append, take-append-le, take_all}
 use Rattle.std.proofs.lemmas.List.Elements.{filter-append, filter_agree}
-use Rattle.std.proofs.lemmas.Grind.{flat_map-append}
 use Rattle.wb_names.specs.Values.{NameValue, DrawopValue, MarkValue}
 use Rattle.wb_names.specs.History.{name_of}
 use Rattle.wb_names.specs.declared.gap.Gap.{Gap}
@@ -82,14 +81,21 @@ module _ (p : NameValue → Bool) (room : ℕ) (old : List NameValue) (page : Pa
 
 -- ---- the names of all gaps, one gap after another
 
-pub gap_added : (p : NameValue → Bool) (room : ℕ) (page : PageId) (gaps : List Gap) (i : ℕ) (d : Gap) (names after : List NameValue) → i < length gaps
-    → names ≡ take room (filter p (names_in_gaps page (take i gaps)))
-    → after ≡ take room (names ++ filter p (names_in_gap page (get_or gaps i d)))
-    → after ≡ take room (filter p (names_in_gaps page (take (i + 1) gaps)))
-gap_added p room page gaps i d names after lt is more =
-    more ∙ ap (λ (ns : List NameValue). take room (ns ++ filter p (names_in_gap page (get_or gaps i d)))) is
-    ∙ taken_twice room (filter p (names_in_gaps page (take i gaps))) (filter p (names_in_gap page (get_or gaps i d)))
-    ∙ ap (take room) (sym (ap (λ (gs : List Gap). filter p (names_in_gaps page gs)) (take_more gaps i d lt) ∙ ap (filter p) (flat_map-append (names_in_gap page) (take i gaps) (get_or gaps i d ∷ []) ∙ ap (λ (ns : List NameValue). names_in_gaps page (take i gaps) ++ ns) (append-nil _)) ∙ filter-append p (names_in_gaps page (take i gaps)) (names_in_gap page (get_or gaps i d))))
+module _ (p : NameValue → Bool) (room : ℕ) (page : PageId) where
+  pub gap_taken : (g : Gap) (gaps : List Gap) (names after all : List NameValue) → take room (names ++ filter p (names_in_gaps page (g ∷ gaps))) ≡ all → after ≡ take room (names ++ filter p (names_in_gap page g)) → take room (after ++ filter p (names_in_gaps page gaps)) ≡ all
+  gap_taken g gaps names after all is more =
+      let mine : List NameValue = filter p (names_in_gap page g) in
+      let rest : List NameValue = filter p (names_in_gaps page gaps) in
+      ap (λ (ns : List NameValue). take room (ns ++ rest)) more ∙ taken_twice room (names ++ mine) rest ∙ ap (take room) (append_assoc names mine rest)
+      ∙ sym (ap (λ (ns : List NameValue). take room (names ++ ns)) (filter-append p (names_in_gap page g) (names_in_gaps page gaps))) ∙ is
+
+  -- there is no further gap
+  pub none_left : (names all : List NameValue) → length names ≤ room → take room (names ++ []) ≡ all → names ≡ all
+  none_left names all few is = sym (take_all room names few) ∙ sym (ap (take room) (append-nil names)) ∙ is
+
+  -- or no more room
+  pub none_fits : (names rest all : List NameValue) → length names ≤ room → room ≤ length names → take room (names ++ rest) ≡ all → names ≡ all
+  none_fits names rest all few full is = sym (take_all room names few) ∙ sym (take-append-le room names rest full) ∙ is
 
 pub few_taken : (room : ℕ) (all names : List NameValue) → names ≡ take room all → length names ≤ room
 few_taken room all names is = omega (arith, ap length is, length-take room all)
@@ -109,11 +115,16 @@ same_unasked : (one other : NameValue → Timers) (name : NameValue) → one nam
 same_unasked one other name e = ap (λ (s : Timers). not (is_some s.ask)) e
 
 -- the same, as what the timers stand for says
-pub wanted_as : (recovery : RecoveryValue) (constants : Tuning) (events : List Event) (asks room : ℕ) (page : PageId) (slice gaps : List Gap) (names : List NameValue)
-    → timers.StandsFor constants events recovery → asks ≡ length (asking (names_of events) (timers_of constants events)) → room ≡ 64 - asks → slice ≡ gaps
-    → names ≡ take room (filter (is_unasked (timers_in recovery)) (names_in_gaps page slice))
+pub wanted_as : (recovery : RecoveryValue) (constants : Tuning) (events : List Event) (asks room : ℕ) (page : PageId) (gaps : List Gap) (names : List NameValue)
+    → timers.StandsFor constants events recovery → asks ≡ length (asking (names_of events) (timers_of constants events)) → room ≡ 64 - asks
+    → names ≡ take room (filter (is_unasked (timers_in recovery)) (names_in_gaps page gaps))
     → names ≡ wanted (timers_of constants events) (length (asking (names_of events) (timers_of constants events))) (names_in_gaps page gaps)
-wanted_as recovery constants events asks room page slice gaps names s standing left is all =
-    all ∙ ap (λ (n : ℕ). take n (filter (is_unasked (timers_in recovery)) (names_in_gaps page slice))) (left ∙ ap (λ (n : ℕ). 64 - n) standing)
-    ∙ ap (λ (gs : List Gap). take (64 - length (asking (names_of events) (timers_of constants events))) (filter (is_unasked (timers_in recovery)) (names_in_gaps page gs))) is
+wanted_as recovery constants events asks room page gaps names s standing left all =
+    all ∙ ap (λ (n : ℕ). take n (filter (is_unasked (timers_in recovery)) (names_in_gaps page gaps))) (left ∙ ap (λ (n : ℕ). 64 - n) standing)
     ∙ ap (take (64 - length (asking (names_of events) (timers_of constants events)))) (filter_agree (is_unasked (timers_in recovery)) (is_unasked (timers_of constants events)) (λ n. same_unasked (timers_in recovery) (timers_of constants events) n (s.timers n)) (names_in_gaps page gaps))
+
+-- where 64 request timers stand, there is none
+pub none_wanted : (constants : Tuning) (events : List Event) (asks room : ℕ) (missing names : List NameValue) → asks ≡ length (asking (names_of events) (timers_of constants events)) → room ≡ 64 - asks → room ≡ 0 → names ≡ []
+    → names ≡ wanted (timers_of constants events) (length (asking (names_of events) (timers_of constants events))) missing
+none_wanted constants events asks room missing names standing left full none =
+    none ∙ ap (λ (n : ℕ). take n (filter (is_unasked (timers_of constants events)) missing)) (sym full ∙ left ∙ ap (λ (n : ℕ). 64 - n) standing)

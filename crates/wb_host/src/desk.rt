@@ -1,19 +1,26 @@
 //! A desk: what one caller knows of a board and owns in it.
-ghost use Rattle.std.specs.Prelude.{◌≡◌, ◌↔◌, ⊤, IsTrue, IfOk, MatchOption, Contains};
+ghost use Rattle.std.specs.Prelude.{◌≡◌, ◌↔◌, ⊤, List, IsTrue, IfOk, MatchOption, Contains, filter, take};
 ghost use Rattle.std.specs.Borrow.{sem, follows_so};
 ghost use mathlib.Core.Option.{none};
 ghost use Rattle.wb_names.specs.History.{HoldsName};
 ghost use Rattle.wb_names.specs.Marks.{IsReport};
 ghost use Rattle.wb_gaps.specs.Gaps.{AreGaps};
+ghost use Rattle.wb_gaps.specs.PageReports.{AreReports};
 ghost use Rattle.wb_gaps.specs.Pages.{ArePages};
 ghost use Rattle.wb_history.specs.Passes.{IsPassOf, IsSound, IsWhole, IsCaughtUp};
+ghost use Rattle.wb_names.specs.declared.gap.Gap.{Gap};
+ghost use Rattle.wb_recovery.specs.Values.{timers_in};
+ghost use Rattle.wb_host.specs.Keeping.{marks_at};
+ghost use Rattle.wb_host.specs.Missing.{is_unasked, names_in_gaps};
 
 use crate::board::Board;
 use crate::held::Held;
+use crate::keeper::Keeper;
 use crate::layers::{Layers, bring_up, lent};
 use indexmap::IndexMap;
 use std::alloc::{AllocError, Global};
 use std::marker::Model;
+use wb_gaps::PageReport;
 use wb_history::Pass;
 use wb_names::{Drawop, Gap, Marks, Name, PageId};
 
@@ -91,6 +98,23 @@ impl Desk {
         Ok(gaps)
     }
 
+    /// The first names that are missing of a page, of what it has seen and the keeper heard, and for which no request
+    /// timer of the keeper stands.
+    pub(crate) fn unasked(
+        &mut self,
+        alloc: Global,
+        keeper: &Keeper,
+        page: PageId,
+        room: usize,
+    ) -> Result<Vec<Name>, AllocError>
+        ensures same { self.new ≡ self.old }
+        ensures names { IfOk result (λ names. (gaps : List Gap) × AreGaps self.old.seen page (marks_at keeper.now.marks page) gaps × (names.items ≡ take room (filter (is_unasked (timers_in keeper.now.recovery)) (names_in_gaps page gaps)))) }
+    {
+        self.held.catch_up(self.pass.list())?;
+        let gaps = self.held.holdings.missing(page, keeper.marks(page));
+        keeper.unasked(alloc, page, gaps, room)
+    }
+
     /// The report of a page, of what it has seen.
     pub(crate) fn report(&mut self, alloc: Global, page: PageId) -> Result<Marks, AllocError>
         ensures same { self.new ≡ self.old }
@@ -99,6 +123,16 @@ impl Desk {
         self.held.catch_up(self.pass.list())?;
         let marks = self.held.holdings.report(alloc, page)?;
         Ok(marks)
+    }
+
+    /// Each page with its report, of what it has seen.
+    pub(crate) fn reports(&mut self, alloc: Global) -> Result<Vec<PageReport>, AllocError>
+        ensures same { self.new ≡ self.old }
+        ensures reports { IfOk result (λ reports. AreReports self.old.seen reports.items) }
+    {
+        self.held.catch_up(self.pass.list())?;
+        let reports = self.held.holdings.reports(alloc)?;
+        Ok(reports)
     }
 
     /// The pages of what it has seen.

@@ -2,7 +2,7 @@
 
 ghost use Rattle.std.specs.Prelude.{◌≡◌, ◌≢◌, ◌<◌, ◌≤◌, ◌^◌, ◌⊎◌, ◌∷◌, [], ℕ, None as none, Some as some, IsTrue, IfErr, IfOk, OnOk, OnErr, IsOk, IsSome, false, nat_eq, nat_le, if◌then◌else◌};
 ghost use Rattle.std.specs.List.{find};
-ghost use Rattle.wb_history.specs.Passes.{IsPassOf, IsCaughtUp, IsSound as IsSoundDesk};
+ghost use Rattle.wb_history.specs.Passes.{IsPassOf, IsCaughtUp};
 ghost use Rattle.wb_names.specs.Ascending.{AreMarks};
 ghost use Rattle.wb_names.specs.Marks.{IsMerge};
 ghost use Rattle.wb_names.specs.Faults.{first_of, fault_unless};
@@ -22,7 +22,7 @@ use crate::keep_fault::KeepFault;
 use crate::keeper::Keeper;
 use std::alloc::{AllocError, Global};
 use wb_codec::Datagram;
-use wb_gaps::{MergeFault, all_reports, merge_marks};
+use wb_gaps::{MergeFault, merge_marks};
 use wb_names::{Echo, Echoes, Marks, PageId};
 use wb_recovery::distance;
 
@@ -102,12 +102,12 @@ impl Keeper {
     fn answers(
         &self,
         alloc: Global,
-        desk: &Desk,
+        desk: &mut Desk,
         datagram: &Datagram,
     ) -> Result<Vec<Datagram>, AllocError>
-        requires desk { IsSoundDesk desk.now }
         requires other { is_own self.now.me datagram.now ≡ false }
-        ensures { IfOk result (λ sent. IsSent self.now.me desk.now.seen datagram.now sent.items) }
+        ensures same { desk.new ≡ desk.old }
+        ensures sent { IfOk result (λ sent. IsSent self.now.me desk.old.seen datagram.now sent.items) }
     {
         match datagram {
             Datagram::AskPages { .. } => self.page_states(alloc, desk),
@@ -119,11 +119,11 @@ impl Keeper {
     }
 
     /// A page state for each page that the desk holds, ascending.
-    fn page_states(&self, alloc: Global, desk: &Desk) -> Result<Vec<Datagram>, AllocError>
-        requires { IsSoundDesk desk.now }
-        ensures { IfOk result (λ sent. ArePageStates self.now.me desk.now.seen sent.items) }
+    fn page_states(&self, alloc: Global, desk: &mut Desk) -> Result<Vec<Datagram>, AllocError>
+        ensures same { desk.new ≡ desk.old }
+        ensures sent { IfOk result (λ sent. ArePageStates self.now.me desk.old.seen sent.items) }
     {
-        let reports = all_reports(alloc, desk.list())?;
+        let reports = desk.reports(alloc)?;
         let sent = reports.into_iter().map(|report| Datagram::PageState {
             sender: self.me,
             page: report.page,

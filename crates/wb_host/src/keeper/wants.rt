@@ -16,6 +16,7 @@ use crate::desk::Desk;
 use crate::keep_fault::KeepFault;
 use crate::keeper::Keeper;
 use std::alloc::{AllocError, Global};
+use wb_gaps::Missing;
 use wb_names::{Gap, Name, PageId};
 
 impl Keeper {
@@ -41,26 +42,34 @@ impl Keeper {
         ensures end { OnOk result (IsCaughtUp desk.old desk.new) }
         ensures value { IfOk result (λ names. (me : ℕ) (constants : Constants) (calls : List KeeperCall) → StandsFor me constants calls self.now → names.items ≡ wanted_of constants (events_of me calls) desk.new.seen page (marks_heard me calls page)) }
     {
-        let gaps = board.gaps(alloc, desk, page, self.marks(page))?;
+        board.refresh(desk)?;
         let room = Keeper::MOST_ASKS.saturating_sub(self.recovery.asks());
-        Ok(self.unasked(alloc, page, gaps.as_slice(), room)?)
+        if room == 0 {
+            return Ok(Vec::new(alloc));
+        }
+        Ok(desk.unasked(alloc, self, page, room)?)
     }
 
-    /// The first names in the gaps of a page for which no request timer stands.
-    fn unasked(
+    /// The first names in the gaps of a page for which no request timer stands. It looks for no gap once
+    /// there is no room.
+    pub(crate) fn unasked(
         &self,
         alloc: Global,
         page: PageId,
-        gaps: &[Gap],
+        gaps: Missing<'_>,
         room: usize,
     ) -> Result<Vec<Name>, AllocError>
-        requires first { All (λ gap. 1 ≤ gap.first) gaps.now }
-        requires filled { All (λ gap. gap.first ≤ gap.last) gaps.now }
-        ensures { IfOk result (λ names. names.items ≡ take room (filter (is_unasked (timers_in self.now.recovery)) (names_in_gaps page gaps.now))) }
+        requires first { All (λ gap. 1 ≤ gap.first) gaps }
+        requires filled { All (λ gap. gap.first ≤ gap.last) gaps }
+        ensures { IfOk result (λ names. names.items ≡ take room (filter (is_unasked (timers_in self.now.recovery)) (names_in_gaps page gaps.entry))) }
     {
+        let mut gaps = gaps;
         let mut names = Vec::new(alloc);
-        for gap in gaps {
-            self.add_unasked(&mut names, page, *gap, room)?;
+        while names.len() < room {
+            let Some(gap) = gaps.next() else {
+                return Ok(names);
+            };
+            self.add_unasked(&mut names, page, gap, room)?;
         }
         Ok(names)
     }

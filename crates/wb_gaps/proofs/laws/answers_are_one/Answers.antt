@@ -1,5 +1,5 @@
 use Rattle.wb_gaps.proofs.OneGaps.{one_gaps}
-use Rattle.wb_gaps.proofs.PageRuns.{one_reports}
+use Rattle.wb_gaps.proofs.AllReports.{one_reports}
 use Rattle.wb_gaps.proofs.Rearranged.{one_report, one_pages, one_merge}
 use Rattle.wb_gaps.proofs.laws.answers_are_one.Goals as goal
 

@@ -1,14 +1,17 @@
-use Rattle.std.proofs.Common.{◌∙◌, ap, map}
+use Rattle.std.proofs.Common.{◌≡◌, ◌∙◌, ap, length, map, refl}
+use Rattle.std.proofs.lemmas.Iterator.Adapters.{fact_from_collect}
+use Rattle.std.proofs.lemmas.Iterator.Consumers.{YieldsList-from_rest}
+use Rattle.std.proofs.lemmas.Result.{IfOk-weaker}
 use Rattle.wb_gaps.specs.Runs.{single}
 use Rattle.wb_gaps.proofs.SingleRuns.{single_of}
+use Rattle.wb_gaps.proofs.Walking.{are_gaps_read}
 use Rattle.wb_gaps.proofs.missing.gaps.Goals as goal
-
-pub gaps_of_runs-requires : goal.gaps_of_runs-requires
-gaps_of_runs-requires c =
-    let is = c.as_slice-2.ensures.value ∙ c.in_ok-runs.ensures ∙ ap (map single) c.as_slice.ensures.value in
-    (single_of c.args.list.now c.args.page c.in_ok-held.held.items c.as_slice-2.result.now c.in_ok-held.ensures.numbers c.in_ok-held.ensures.positive is).lawful
 
 pub returns : goal.returns
 returns c =
-    let is = c.as_slice-2.ensures.value ∙ c.in_ok-runs.ensures ∙ ap (map single) c.as_slice.ensures.value in
-    c.in_ok-gaps.ensures c.args.list.now c.args.page (single_of c.args.list.now c.args.page c.in_ok-held.held.items c.as_slice-2.result.now c.in_ok-held.ensures.numbers c.in_ok-held.ensures.positive is)
+    let numbers = c.in_ok-held.held.items in
+    let all = c.new-missing.result in
+    let of = single_of c.args.list.now c.args.page numbers _ c.in_ok-held.ensures.numbers c.in_ok-held.ensures.positive refl in
+    IfOk-weaker c.collect.result (λ v. (v.items ≡ all) × (v.len ≡ length all)) _
+    (λ v q. are_gaps_read c.args.list.now c.args.page _ _ _ _ v.items of c.as_slice-2.ensures.lawful (ap (map single) c.as_slice.ensures.value) c.as_slice-2.ensures.marks (q.0 ∙ c.new-missing.ensures))
+    (fact_from_collect (λ xs v. (v.items ≡ xs) × (v.len ≡ length xs)) c.collect.result c.collect.ensures.ran (YieldsList-from_rest all refl))

@@ -1,4 +1,4 @@
-use Rattle.std.proofs.Common.{◌∙◌, ap, map, subst, sym}
+use Rattle.std.proofs.Common.{ap, map, refl, subst, sym}
 use Rattle.wb_names.specs.Marks.{IsReport}
 use Rattle.wb_gaps.specs.LastNumbers.{AreGreatest}
 use Rattle.wb_gaps.specs.Runs.{AreRuns, single}
@@ -7,12 +7,9 @@ use Rattle.wb_gaps.proofs.SingleRuns.{single_are}
 use Rattle.wb_gaps.proofs.page_report.report.Goals as goal
 
 pub highs-requires : goal.highs-requires
-highs-requires c =
-    let is = c.as_slice-2.ensures.value ∙ c.in_ok-runs.ensures ∙ ap (map single) c.as_slice.ensures.value in
-    subst AreRuns (sym is) (single_are c.in_ok-numbers.numbers.items c.in_ok-numbers.ensures.rising c.in_ok-numbers.ensures.positive)
+highs-requires c = subst AreRuns (ap (map single) (sym c.as_slice.ensures.value)) (single_are c.in_ok-numbers.numbers.items c.in_ok-numbers.ensures.rising c.in_ok-numbers.ensures.positive)
 
 pub returns : goal.returns
 returns c =
-    let is = c.in_ok-runs.ensures ∙ ap (map single) c.as_slice.ensures.value in
     subst (IsReport c.args.list.now c.args.page) (sym c.as_marks.ensures.marks)
-    (is_report _ _ _ c.in_ok-runs.runs.items _ c.in_ok-numbers.ensures.greatest is (subst (λ rs. AreGreatest rs c.in_ok-marks.marks.items) c.as_slice-2.ensures.value c.in_ok-marks.ensures) c.in_ok-numbers.ensures.few c.requires)
+    (is_report _ _ c.in_ok-numbers.numbers.items _ _ c.in_ok-numbers.ensures.greatest refl (subst (λ rs. AreGreatest rs c.in_ok-marks.marks.items) (ap (map single) c.as_slice.ensures.value) c.in_ok-marks.ensures) c.in_ok-numbers.ensures.few c.requires)

@@ -1,4 +1,4 @@
-use Rattle.std.proofs.Common.{◌∙◌, List, ap, arith, length, subst, sym}
+use Rattle.std.proofs.Common.{List, ap, arith, length, subst, sym}
 use Rattle.wb_names.specs.Marks.{IsReport}
 use Rattle.wb_gaps.specs.Holdings.{HeldRange, HoldNamesOf}
 use Rattle.wb_gaps.specs.Runs.{AreRuns, AreRunsOf}
@@ -7,12 +7,12 @@ use Rattle.wb_gaps.proofs.Reports.{report_of_runs}
 use Rattle.wb_gaps.proofs.holdings.Holdings.report.Goals as goal
 
 pub highs-requires : goal.highs-requires
-highs-requires c = subst AreRuns (sym (c.as_slice.ensures.value ∙ c.in_ok-runs.ensures.runs)) (runs_are c.self.inside.ranges c.runs_of.ensures.ordered c.self.invariant c.args.page)
+highs-requires c = subst AreRuns (sym c.runs_of.ensures.runs) (runs_are c.self.inside.ranges c.runs_of.ensures.ordered c.self.invariant c.args.page)
 
 pub as_marks-requires-clause-few : goal.as_marks-requires-clause-few
 as_marks-requires-clause-few c =
     let tops = c.in_ok-marks.ensures.few in
-    let runs = ap length (c.as_slice.ensures.value ∙ c.in_ok-runs.ensures.runs) in
+    let runs = ap length c.runs_of.ensures.runs in
     let on = few_runs c.args.page c.self.inside.ranges.entries in
     let all = ap length c.self.view_is in
     let few = c.requires in
@@ -20,12 +20,12 @@ as_marks-requires-clause-few c =
 
 pub returns : goal.returns
 returns c = λ history held.
-    let runs = ap length (c.as_slice.ensures.value ∙ c.in_ok-runs.ensures.runs) in
+    let runs = ap length c.runs_of.ensures.runs in
     let on = few_runs c.args.page c.self.inside.ranges.entries in
     let all = ap length c.self.view_is in
     let few = c.requires in
     subst (IsReport history c.args.page) (sym c.as_marks.ensures.marks)
-    (report_of_runs history c.args.page c.as_slice.result.now c.in_ok-marks.marks.items
-    (subst (AreRunsOf history c.args.page) (sym (c.as_slice.ensures.value ∙ c.in_ok-runs.ensures.runs))
+    (report_of_runs history c.args.page _ c.in_ok-marks.marks.items
+    (subst (AreRunsOf history c.args.page) (sym c.runs_of.ensures.runs)
     (runs_hold c.self.inside.ranges c.runs_of.ensures.ordered c.self.invariant history (subst (λ (rs : List HeldRange). HoldNamesOf history rs) (sym c.self.view_is) held) c.args.page))
     c.in_ok-marks.ensures (omega arith))

@@ -1,5 +1,6 @@
-use Rattle.std.proofs.Common.{◌∙◌, ap, sym}
-use Rattle.wb_host.specs.Hearing.{asks_for_held}
+use Rattle.std.proofs.Common.{◌≡◌, ◌∙◌, ap, subst, sym}
+use Rattle.wb_history.specs.Passes.{PassValue}
+use Rattle.wb_host.specs.Hearing.{answers_to, asks_for_held}
 use Rattle.wb_host.specs.Keeping.{KeeperValue}
 use Rattle.wb_host.proofs.HeardCalls.{keeps_own_datagram}
 use Rattle.wb_host.proofs.KeeperAnswers.{only_sent, own_unanswered}
@@ -14,4 +15,8 @@ pub returns-then-is_own-clause-answers : goal.returns-then-is_own-clause-answers
 returns-then-is_own-clause-answers c = c.new.ensures.items ∙ sym (own_unanswered c.args.self.now.me c.refresh.new.desk.seen c.args.datagram.now (sym c.is_own.ensures ∙ c.if-is_own.true))
 
 pub returns-clause-answers : goal.returns-clause-answers
-returns-clause-answers c = only_sent c.args.self.now.me c.refresh-2.new.desk c.args.datagram.now c.in_ok-sent.sent.items c.refresh-2.ensures.sound c.in_ok-sent.ensures
+returns-clause-answers c =
+    let me = c.args.self.now.me in
+    let datagram = c.args.datagram.now in
+    let sent = c.in_ok-sent.sent.items in
+    subst (λ (q : PassValue). sent ≡ answers_to me q.seen datagram) (sym c.in_ok-sent.ensures.same) (only_sent me c.refresh-2.new.desk datagram sent c.refresh-2.ensures.sound c.in_ok-sent.ensures.sent)

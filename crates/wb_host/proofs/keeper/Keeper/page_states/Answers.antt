@@ -1,6 +1,4 @@
-use Rattle.std.proofs.Common.{◌≡◌, ℕ, length, rules, subst, List, map}
-use Rattle.wb_names.specs.Values.{DrawopValue}
-use Rattle.wb_gaps.specs.PageReports.{AreReports}
+use Rattle.std.proofs.Common.{◌≡◌, ℕ, length, rules, List, map}
 use Rattle.std.proofs.lemmas.Iterator.{YieldsList-from_map}
 use Rattle.std.proofs.lemmas.Iterator.Adapters.{fact_from_collect, YieldsList-from_vec}
 use Rattle.std.proofs.lemmas.Result.{IfOk-weaker}
@@ -12,9 +10,9 @@ use Rattle.wb_host.proofs.keeper.Keeper.page_states.Goals as goal
 abbrev state_of : ℕ → PageReport → Datagram
 state_of me r = PageState me r.page r.marks
 
-pub returns : goal.returns
-returns c =
+pub returns-clause-sent : goal.returns-clause-sent
+returns-clause-sent c =
     let all : List Datagram = map (state_of c.args.self.now.me) c.in_ok-reports.reports.items in
-    IfOk-weaker c.collect.result (λ v. (v.items ≡ all) × (v.len ≡ length all)) _ (λ v q. (c.in_ok-reports.reports.items, subst (λ (ds : List DrawopValue). AreReports ds c.in_ok-reports.reports.items) c.list.ensures.value c.in_ok-reports.ensures, q.0))
+    IfOk-weaker c.collect.result (λ v. (v.items ≡ all) × (v.len ≡ length all)) _ (λ v q. (c.in_ok-reports.reports.items, c.in_ok-reports.ensures.reports, q.0))
     (fact_from_collect (λ xs v. (v.items ≡ xs) × (v.len ≡ length xs)) c.collect.result c.collect.ensures.ran
     (YieldsList-from_map _ (state_of c.args.self.now.me) (YieldsList-from_vec c.in_ok-reports.reports.items (search rules) (search rules)) c.map-sent.ensures.closure (λ x r q k. search rules)))
