@@ -30,7 +30,7 @@ use std::alloc::Global;
 use std::collections::BTreeMap;
 use std::marker::Model;
 use wb_names::{Marks, PageId};
-use wb_recovery::{Recovery, Tuning, TuningFault};
+use wb_recovery::{DELAY_LIMIT, MOMENT_LIMIT, Recovery, Tuning, TuningFault};
 
 /// Of a session message: the moment of its sender's clock that it named, and the moment at which it
 /// was heard, both in microseconds.
@@ -105,7 +105,7 @@ impl Keeper {
         ensures ok { OnOk result (Keeps (SetDelay source micros) self.old self.new) }
         ensures err { OnErr result (self.new ≡ self.old) }
     {
-        if micros >= 1 << 24 {
+        if micros >= DELAY_LIMIT {
             return Err(KeepFault::Range);
         }
         if self.delays.insert(source, micros).is_err() {
@@ -185,7 +185,7 @@ impl Keeper {
         if now < self.moment {
             return Err(KeepFault::BackInTime);
         }
-        if now >= 1 << 48 {
+        if now >= MOMENT_LIMIT {
             return Err(KeepFault::Range);
         }
         Ok(())
