@@ -47,12 +47,12 @@ no_digits : (w bytes : List ℕ) → unhex (w ++ 13 ∷ []) ≡ Some bytes → �
 no_digits w bytes e =
     let hex : is_hex (w ++ 13 ∷ []) ≡ false = at (nat_eq (length (w ++ 13 ∷ []) % 2) 0) in
     absurd (different bytes (sym (unhex-not_hex (w ++ 13 ∷ []) hex) ∙ e)) where
-  at : (even : Bool) → (even && list_all is_hex_digit (w ++ 13 ∷ [])) ≡ false
-  at true = not_all w
-  at false = refl
+      at : (even : Bool) → (even && list_all is_hex_digit (w ++ 13 ∷ [])) ≡ false
+      at true = not_all w
+      at false = refl
 
-  different : (bytes : List ℕ) → None ≡ Some bytes → ⊥
-  different bytes e = cc
+      different : (bytes : List ℕ) → None ≡ Some bytes → ⊥
+      different bytes e = cc
 
 -- ---- the words of a line that hands in an arrival
 
@@ -171,15 +171,15 @@ has_digits : (word : List ℕ) (ws : List (List ℕ)) (d : DrawopValue) → comm
 unfolding command
 has_digits word ws d e =
     at (bytes_eq word (codes "board")) (bytes_eq word (codes "arrive")) (bytes_eq word (codes "hear")) (bytes_eq word (codes "show")) (bytes_eq word (codes "distance")) (bytes_eq word (codes "tick")) (bytes_eq word (codes "pages")) e where
-  at : (a b c f g i j : Bool) → cond a (board ws) (cond b (arrive ws) (cond c (hear ws) (cond f (show ws) (cond g (distance ws) (cond i (tick ws) (cond j (pages ws) (page_line word ws))))))) ≡ Ok (Arrive d) → HasDigits ws
-  at true b c f g i j e = absurd (never_board ws d e)
-  at false true c f g i j e = arrives_with ws d e
-  at false false true f g i j e = absurd (never_then (datagram ws) heard never_heard d e)
-  at false false false true g i j e = absurd (never_show ws d e)
-  at false false false false true i j e = absurd (never_distance ws d e)
-  at false false false false false true j e = absurd (never_tick ws d e)
-  at false false false false false false true e = absurd (never_pages ws d e)
-  at false false false false false false false e = absurd (never_page word ws d e)
+      at : (a b c f g i j : Bool) → cond a (board ws) (cond b (arrive ws) (cond c (hear ws) (cond f (show ws) (cond g (distance ws) (cond i (tick ws) (cond j (pages ws) (page_line word ws))))))) ≡ Ok (Arrive d) → HasDigits ws
+      at true b c f g i j e = absurd (never_board ws d e)
+      at false true c f g i j e = arrives_with ws d e
+      at false false true f g i j e = absurd (never_then (datagram ws) heard never_heard d e)
+      at false false false true g i j e = absurd (never_show ws d e)
+      at false false false false true i j e = absurd (never_distance ws d e)
+      at false false false false false true j e = absurd (never_tick ws d e)
+      at false false false false false false true e = absurd (never_pages ws d e)
+      at false false false false false false false e = absurd (never_page word ws d e)
 
 words_arrive : (word : List ℕ) (ws : List (List ℕ)) (d : DrawopValue) → line_of_words (word ∷ ws) ≡ Ok (Arrive d) → HasDigits ws
 words_arrive word ws d e = at (begins_comment word) e where
@@ -199,13 +199,13 @@ no_arrival (word ∷ []) w d e =
     let p = words_arrive word ((w ++ 13 ∷ []) ∷ []) d e in
     let same : w ++ 13 ∷ [] ≡ p.0 = head_is (w ++ 13 ∷ []) p.0 p.2 in
     no_digits w p.1 (ap unhex same ∙ p.3) where
-  head_is : (x y : List ℕ) → x ∷ [] ≡ y ∷ [] → x ≡ y
-  head_is x y e = cc
+      head_is : (x y : List ℕ) → x ∷ [] ≡ y ∷ [] → x ≡ y
+      head_is x y e = cc
 no_arrival (word ∷ a ∷ front) w d e =
     let p = words_arrive word (a ∷ (front ++ (w ++ 13 ∷ []) ∷ [])) d e in
     more_words front (w ++ 13 ∷ []) (rest_is a p.0 (front ++ (w ++ 13 ∷ []) ∷ []) p.2) where
-  rest_is : (x y : List ℕ) (xs : List (List ℕ)) → x ∷ xs ≡ y ∷ [] → xs ≡ []
-  rest_is x y xs e = cc
+      rest_is : (x y : List ℕ) (xs : List (List ℕ)) → x ∷ xs ≡ y ∷ [] → xs ≡ []
+      rest_is x y xs e = cc
 
 said_arrival : (said : Result Line LineFault) (d : DrawopValue) → part_of said ≡ Arrival d → said ≡ Ok (Arrive d)
 said_arrival (Ok (Arrive e)) d p = let same : e ≡ d = cc in ap (λ (x : DrawopValue). Ok (Arrive x)) same

@@ -13,5 +13,5 @@ returns-clause-step c =
     let known : Some c.unwrap_or.result ≡ Some (unwrap_or c.args.self.now.workers c.args.workers) = ap Some (value ∙ ap (λ (h : HostValue). unwrap_or h.workers c.args.workers) c.self.view_is) in
     let open_now : IsOpenAt c.in_ok-open.field-0 (opened c.args.member c.args.cells c.args.seed) = search rules in
     λ s at.
-        let e = ends_empty c.args.self.now s at in
-        (e.0, e.1, opens c.args.number c.args.self.now (record { station = Some c.in_ok-open.field-0; workers = Some c.unwrap_or.result }) s e.0 c.in_ok-open.field-0 c.args.member c.args.cells c.args.workers c.args.seed e.2 closed refl known open_now)
+    let e = ends_empty c.args.self.now s at in
+    (e.0, e.1, opens c.args.number c.args.self.now (record { station = Some c.in_ok-open.field-0; workers = Some c.unwrap_or.result }) s e.0 c.in_ok-open.field-0 c.args.member c.args.cells c.args.workers c.args.seed e.2 closed refl known open_now)
