@@ -22,7 +22,7 @@ use Rattle.wb_dialog.specs.declared.line.DriverLine.{DriverLine}
 use Rattle.wb_dialog.specs.declared.line.DriverLine.TheVariants.{Script}
 use Rattle.wb_session_hosts.specs.Hosts.{LineAt, sent, CameOut, IsHonestAt, IsHonestBy}
 use Rattle.wb_session_hosts.specs.Laws.{BytesTellDatagrams}
-use Rattle.wb_session_hosts.proofs.DriverLines.{Fits, says_fits}
+use Rattle.wb_session_hosts.proofs.DriverLines.{Fits, handed_has, says_fits}
 use Rattle.wb_session_hosts.proofs.HostRanges.{sent_fits}
 use Rattle.wb_session_hosts.proofs.ScriptLines as scripts
 
@@ -43,13 +43,7 @@ came_out constants lines' v fit c =
     subst (Contains (sent constants lines')) (line_tells a.1 v (All-contains IsDatagram (sent constants lines') a.1 (sent_fits constants lines') there) fit a.4) there
 
 pub bytes_tell_datagrams : BytesTellDatagrams
-bytes_tell_datagrams constants lines' line v e c = came_out constants lines' v (carried v (says_fits (met line) (handed_in v) e)) c where
-  carried : (v : Datagram) → Fits (handed_in v) → IsDatagram v
-  carried (datagrams.Draw d) fit = fit
-  carried (datagrams.Session sender sent page marks echoes) fit = fit
-  carried (datagrams.Request asker name) fit = fit
-  carried (datagrams.AskPages asker) fit = fit
-  carried (datagrams.PageState sender page marks) fit = fit
+bytes_tell_datagrams constants lines' line v e c = came_out constants lines' v (handed_has IsDatagram v (says_fits (met line) (handed_in v) e)) c
 
 -- ---- one sense in which a datagram came out, and another
 

@@ -1,5 +1,5 @@
 -- What a line of a driver carries is in range.
-use Rattle.std.proofs.Common.{◌≡◌, ◌-◌, ◌^◌, ℕ, Bool, true, false, List, [], ◌∷◌, Option, Some, None, Result, Ok, Err, refl, subst, arith}
+use Rattle.std.proofs.Common.{◌≡◌, ◌-◌, ◌^◌, ℕ, Bool, true, false, List, [], ◌∷◌, Option, Some, None, Result, Ok, Err, refl, ap, ◌∙◌, subst, arith, inl, inr}
 use Rattle.std.specs.Prelude.{IfOk, nat_eq, codes, if◌then◌else◌}
 use Rattle.std.specs.Str.{bytes_eq}
 use Rattle.wb_codec.specs.Ranges.{IsName, IsDatagram}
@@ -17,19 +17,24 @@ use Rattle.wb_script.specs.Parsing.{number, four_of, none_of, or_fault, page as 
 use Rattle.wb_script.specs.declared.fault.LineFault.{LineFault}
 use Rattle.wb_script.specs.declared.fault.LineFault.TheVariants as faults
 use Rattle.wb_dialog.specs.Dialog.{says_line}
-use Rattle.wb_dialog.specs.Lines.{name, by_words, handed_in, command, line_of_words, came_in, said_by, said_part, line_behind}
+use Rattle.wb_dialog.specs.Lines.{name, by_words, handed_in, command, line_of_words, came_in, said_by, said_part, line_behind, line_of}
 use Rattle.wb_dialog.specs.declared.fault.Refusal.{Refusal}
 use Rattle.wb_dialog.specs.declared.line.DriverLine.{DriverLine}
 use Rattle.wb_dialog.specs.declared.line.DriverLine.TheVariants.{Script, Say, Next, View, Known, Ask, Stop}
 use Rattle.wb_session_hosts.proofs.ScriptLines as scripts
-use Rattle.wb_session_hosts.proofs.ScriptLines.{IsWithin, bound, behind, number_fits, page_fits, datagram_fits, line_fits}
+use Rattle.wb_session_hosts.proofs.ScriptLines.{IsWithin, IsDigitsOf, bound, behind, number_fits, datagram_fits, datagram_digits, line_fits}
+use Rattle.wb_session_hosts.specs.Laws.{Comes, LinesCarryBytes}
 
--- what a line carries is in range
+-- a datagram that a line hands in has a property, and all else that it carries is in range
+abbrev pub Carries : (Datagram → Type 0) → DriverLine → Type 0
+Carries P (Script line) = scripts.Carries P line
+Carries P (Say v) = IsDatagram v
+Carries P (Ask name) = IsName name
+Carries P line = Unit {0}
+
+-- what it carries is in range
 abbrev pub Fits : DriverLine → Type 0
-Fits (Script line) = scripts.Fits line
-Fits (Say v) = IsDatagram v
-Fits (Ask name) = IsName name
-Fits line = Unit {0}
+Fits line = Carries IsDatagram line
 
 name_fits : (arguments : List (List ℕ)) → IfOk (name arguments) IsName
 unfolding name
@@ -44,52 +49,14 @@ name_fits arguments = behind IsName (or_fault faults.Words (four_of arguments)) 
     let f = q.1 in
     record { source = omega arith; page = record { creator = omega arith; number = omega arith }; positive = q.0; seq = omega arith })))))
 
-handed_fits : (v : Datagram) → IsDatagram v → Fits (handed_in v)
-handed_fits (datagrams.Draw d) fit = fit
-handed_fits (datagrams.Session sender sent page marks echoes) fit = fit
-handed_fits (datagrams.Request asker name) fit = fit
-handed_fits (datagrams.AskPages asker) fit = fit
-handed_fits (datagrams.PageState sender page marks) fit = fit
-
-either : (b : Bool) (x y : Result DriverLine Refusal) → IfOk x Fits → IfOk y Fits → IfOk (if b then x else y) Fits
-either true x y p q = p
-either false x y p q = q
-
-by_words_fits : {A : Type 0} (P : A → Type 0) (line : A → DriverLine) (r : Result A LineFault) → IfOk r P → ((x : A) → P x → Fits (line x)) → IfOk (by_words line r) Fits
-by_words_fits P line (Ok x) p q = q x p
-by_words_fits P line (Err e) p q = tt
+by_words_fits : {A : Type 0} (P : A → Type 0) (Q : DriverLine → Type 0) (line : A → DriverLine) (r : Result A LineFault) → IfOk r P → ((x : A) → P x → Q (line x)) → IfOk (by_words line r) Q
+by_words_fits P Q line (Ok x) p q = q x p
+by_words_fits P Q line (Err e) p q = tt
 
 -- a line that carries nothing
-free : {A : Type 0} (line : A → DriverLine) (r : Result A LineFault) → ((x : A) → Fits (line x)) → IfOk (by_words line r) Fits
-free line (Ok x) q = q x
-free line (Err e) q = tt
-
-script_fits : (line : List ℕ) → IfOk (by_words Script (script_line_of line)) Fits
-script_fits line = by_words_fits scripts.Fits Script (script_line_of line) (line_fits (words line)) (λ l fit. fit)
-
-command_fits : (line word : List ℕ) (arguments : List (List ℕ)) → IfOk (command line word arguments) Fits
-unfolding command
-command_fits line word arguments =
-    either (bytes_eq word (codes "datagram")) _ _ (by_words_fits IsDatagram handed_in (datagram arguments) (datagram_fits arguments) handed_fits)
-    (either (bytes_eq word (codes "say")) _ _ tt
-    (either (bytes_eq word (codes "next")) _ _ (free Next (page_of arguments) (λ p. tt))
-    (either (bytes_eq word (codes "view")) _ _ (free View (page_of arguments) (λ p. tt))
-    (either (bytes_eq word (codes "known")) _ _ (free (λ nothing. Known) (or_fault faults.Words (none_of arguments)) (λ x. tt))
-    (either (bytes_eq word (codes "ask")) _ _ (by_words_fits IsName Ask (name arguments) (name_fits arguments) (λ n fit. fit))
-    (either (bytes_eq word (codes "stop")) _ _ (free Stop (name arguments) (λ n. tt))
-    (script_fits line)))))))
-
-words_fit : (line : List ℕ) (ws : List (List ℕ)) → IfOk (line_of_words line ws) Fits
-words_fit line [] = script_fits line
-words_fit line (word ∷ arguments) = command_fits line word arguments
-
-came_fits : (line : List ℕ) (r : Result Datagram WrongWord) → IfOk r IsDatagram → IfOk (came_in line r) Fits
-came_fits line (Ok v) fit = handed_fits v fit
-came_fits line (Err wrong) fit = either (nat_eq wrong.place 1) _ _ (words_fit line (words line)) tt
-
-said_fits : (r : Result Datagram WrongWord) → IfOk r IsDatagram → IfOk (said_by r) Fits
-said_fits (Ok v) fit = fit
-said_fits (Err wrong) fit = tt
+free : {A : Type 0} (Q : DriverLine → Type 0) (line : A → DriverLine) (r : Result A LineFault) → ((x : A) → Q (line x)) → IfOk (by_words line r) Q
+free Q line (Ok x) q = q x
+free Q line (Err e) q = tt
 
 -- a datagram in words
 reading_fits : (text : List ℕ) → IfOk (reading text) IsDatagram
@@ -98,13 +65,89 @@ reading_fits text = from (reading text) refl where
   from (Ok v) e = (reading_takes (words_of_text text) v (NoSpaces-words text) e).1
   from (Err wrong) e = tt
 
-part_fits : (line : List ℕ) (o : Option (List ℕ)) → IfOk (line_behind line o) Fits
-part_fits line None = came_fits line (reading line) (reading_fits line)
-part_fits line (Some rest) = said_fits (reading rest) (reading_fits rest)
+said_fits : (P : Datagram → Type 0) (r : Result Datagram WrongWord) → IfOk r IsDatagram → IfOk (said_by r) (Carries P)
+said_fits P (Ok v) fit = fit
+said_fits P (Err wrong) fit = tt
+
+-- What is asked of the datagram that a line says in words, or behind its first word.
+pub record Asks (P : Datagram → Type 0) (line : List ℕ) : Type 0 where
+  pub in_words : IfOk (reading line) P
+  pub in_bytes : (word : List ℕ) (arguments : List (List ℕ)) → words line ≡ word ∷ arguments → IfOk (datagram arguments) P
+
+module _ (P : Datagram → Type 0) where
+  abbrev Has : DriverLine → Type 0
+  Has line = Carries P line
+
+  handed_fits : (v : Datagram) → P v → Has (handed_in v)
+  handed_fits (datagrams.Draw d) has = has
+  handed_fits (datagrams.Session sender sent page marks echoes) has = has
+  handed_fits (datagrams.Request asker name) has = has
+  handed_fits (datagrams.AskPages asker) has = has
+  handed_fits (datagrams.PageState sender page marks) has = has
+
+  either : (b : Bool) (x y : Result DriverLine Refusal) → IfOk x Has → IfOk y Has → IfOk (if b then x else y) Has
+  either true x y p q = p
+  either false x y p q = q
+
+  module _ (line : List ℕ) (asks : Asks P line) where
+    script_fits : IfOk (by_words Script (script_line_of line)) Has
+    script_fits = by_words_fits (scripts.Carries P) Has Script (script_line_of line) (line_fits P (words line) asks.in_bytes) (λ l has. has)
+
+    command_fits : (word : List ℕ) (arguments : List (List ℕ)) → IfOk (datagram arguments) P → IfOk (command line word arguments) Has
+    unfolding command
+    command_fits word arguments has =
+        either (bytes_eq word (codes "datagram")) _ _ (by_words_fits P Has handed_in (datagram arguments) has handed_fits)
+        (either (bytes_eq word (codes "say")) _ _ tt
+        (either (bytes_eq word (codes "next")) _ _ (free Has Next (page_of arguments) (λ p. tt))
+        (either (bytes_eq word (codes "view")) _ _ (free Has View (page_of arguments) (λ p. tt))
+        (either (bytes_eq word (codes "known")) _ _ (free Has (λ nothing. Known) (or_fault faults.Words (none_of arguments)) (λ x. tt))
+        (either (bytes_eq word (codes "ask")) _ _ (by_words_fits IsName Has Ask (name arguments) (name_fits arguments) (λ n fit. fit))
+        (either (bytes_eq word (codes "stop")) _ _ (free Has Stop (name arguments) (λ n. tt))
+        script_fits))))))
+
+    words_fit : (ws : List (List ℕ)) → words line ≡ ws → IfOk (line_of_words line ws) Has
+    words_fit [] e = script_fits
+    words_fit (word ∷ arguments) e = command_fits word arguments (asks.in_bytes word arguments e)
+
+    came_fits : (r : Result Datagram WrongWord) → IfOk r P → IfOk (came_in line r) Has
+    came_fits (Ok v) has = handed_fits v has
+    came_fits (Err wrong) has = either (nat_eq wrong.place 1) _ _ (words_fit (words line) refl) tt
+
+    part_fits : (o : Option (List ℕ)) → IfOk (line_behind line o) Has
+    part_fits None = came_fits (reading line) asks.in_words
+    part_fits (Some rest) = said_fits P (reading rest) (reading_fits rest)
+
+    pub text_fits : IfOk (line_of line) Has
+    text_fits = part_fits (said_part (parted 32 line))
+
+-- ---- what it carries is in range
 
 pub met_fits : (m : Met) → IfOk (says_line m) Fits
-met_fits (whole line) = part_fits (content line) (said_part (parted 32 (content line)))
+met_fits (whole line) = text_fits IsDatagram (content line) (record { in_words = reading_fits (content line); in_bytes = λ word arguments e. datagram_fits arguments })
 met_fits too_long = tt
 
 pub says_fits : (m : Met) (line : DriverLine) → says_line m ≡ Ok line → Fits line
 says_fits m line e = subst (λ (r : Result DriverLine Refusal). IfOk r Fits) e (met_fits m)
+
+-- ---- the bytes of what it hands in
+
+-- the property that a line hands in
+pub handed_has : (P : Datagram → Type 0) (v : Datagram) → Carries P (handed_in v) → P v
+handed_has P (datagrams.Draw d) has = has
+handed_has P (datagrams.Session sender sent page marks echoes) has = has
+handed_has P (datagrams.Request asker name) has = has
+handed_has P (datagrams.AskPages asker) has = has
+handed_has P (datagrams.PageState sender page marks) has = has
+
+pub lines_carry_bytes : LinesCarryBytes
+lines_carry_bytes line v e = handed_has (Comes line) v (subst (λ (r : Result DriverLine Refusal). IfOk r (Carries (Comes line))) e (text_fits (Comes line) line asked)) where
+  worded : (r : Result Datagram WrongWord) → reading line ≡ r → IfOk r (Comes line)
+  worded (Ok w) f = inl f
+  worded (Err wrong) f = tt
+
+  spelled : (word : List ℕ) (arguments : List (List ℕ)) → words line ≡ word ∷ arguments → (r : Result Datagram LineFault) → IfOk r (IsDigitsOf arguments) → IfOk r (Comes line)
+  spelled word arguments f (Ok w) (digits, are, bytes) = inr (word, digits, f ∙ ap (λ (ws : List (List ℕ)). word ∷ ws) are, bytes)
+  spelled word arguments f (Err fault) is = tt
+
+  asked : Asks (Comes line) line
+  asked = record { in_words = worded (reading line) refl; in_bytes = λ word arguments f. spelled word arguments f (datagram arguments) (datagram_digits arguments) }

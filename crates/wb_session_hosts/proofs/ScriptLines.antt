@@ -1,5 +1,5 @@
 -- What a line of a script carries is in range.
-use Rattle.std.proofs.Common.{◌≡◌, ◌<◌, ◌≤◌, ◌-◌, ◌*◌, ◌+◌, ◌^◌, ℕ, Bool, true, false, List, [], ◌∷◌, length, Option, Some, None, Result, Ok, Err, refl, arith, leb-true}
+use Rattle.std.proofs.Common.{◌≡◌, ◌<◌, ◌≤◌, ◌-◌, ◌*◌, ◌+◌, ◌^◌, ℕ, Bool, true, false, List, [], ◌∷◌, length, Option, Some, None, Result, Ok, Err, refl, ap, ◌∙◌, arith, leb-true}
 use Rattle.std.specs.Prelude.{◌&&◌, IfSome, IfOk, nat_eq, nat_le, codes, if◌then◌else◌}
 use Rattle.std.specs.Result.{result_ok}
 use Rattle.std.specs.Str.{bytes_eq}
@@ -7,8 +7,9 @@ use Rattle.hex.specs.Hex.{decode_of, IsBytes}
 use Rattle.hex.specs.declared.error.FromHexError.{FromHexError}
 use Rattle.hex.proofs.HexLemmas.{decode_of-ok}
 use Rattle.wb_names.proofs.Orders.{and_both}
-use Rattle.wb_codec.specs.Ranges.{IsPage, IsDrawop, IsDatagram}
+use Rattle.wb_codec.specs.Ranges.{IsPage, IsDatagram}
 use Rattle.wb_codec.specs.Reading.{reading}
+use Rattle.wb_codec.specs.Spelling.{spelling}
 use Rattle.wb_codec.specs.declared.datagram.Datagram.{Datagram}
 use Rattle.wb_codec.specs.declared.datagram.Datagram.TheVariants as datagrams
 use Rattle.wb_codec.specs.declared.fault.ReadFault.{ReadFault}
@@ -92,88 +93,127 @@ datagram_fits arguments = behind IsDatagram (or_fault faults.Words (one_of argum
     bound IsBytes IsDatagram (or_fault faults.Hex (unhex digits)) _ (or_fault_fits IsBytes faults.Hex (unhex digits) (unhex_fits digits)) (λ bytes fit.
     spelled_fits bytes fit (reading bytes) refl))
 
+-- the only argument is the digits of its bytes
+abbrev pub IsDigitsOf : List (List ℕ) → Datagram → Type 0
+IsDigitsOf arguments v = (digits : List ℕ) × (arguments ≡ digits ∷ []) × (unhex digits ≡ Some (spelling v))
+
+only : (arguments : List (List ℕ)) → IfSome (one_of arguments) (λ digits. arguments ≡ digits ∷ [])
+only [] = tt
+only (a ∷ []) = refl
+only (a ∷ b ∷ more) = tt
+
+read_is : (o : Option (List ℕ)) → IfSome o IsBytes → IfSome o (λ bytes. IsBytes bytes × (o ≡ Some bytes))
+read_is (Some bytes) fit = (fit, refl)
+read_is None fit = tt
+
+spelled_is : (bytes : List ℕ) → IsBytes bytes → (r : Result Datagram ReadFault) → reading bytes ≡ r → IfOk (spelled r) (λ v. bytes ≡ spelling v)
+spelled_is bytes fit (Ok v) e = (reading_takes bytes v fit e).0
+spelled_is bytes fit (Err f) e = tt
+
+weaker : {A : Type 0} (P Q : A → Type 0) (r : Result A LineFault) → IfOk r P → ((x : A) → P x → Q x) → IfOk r Q
+weaker P Q (Ok x) p f = f x p
+weaker P Q (Err e) p f = tt
+
+pub datagram_digits : (arguments : List (List ℕ)) → IfOk (datagram arguments) (IsDigitsOf arguments)
+unfolding datagram
+datagram_digits arguments =
+    let IsOnly : List ℕ → Type 0 = λ digits. arguments ≡ digits ∷ [] in
+    bound IsOnly (IsDigitsOf arguments) (or_fault faults.Words (one_of arguments)) _ (or_fault_fits IsOnly faults.Words (one_of arguments) (only arguments)) (λ digits are.
+    let IsRead : List ℕ → Type 0 = λ bytes. IsBytes bytes × (unhex digits ≡ Some bytes) in
+    bound IsRead (IsDigitsOf arguments) (or_fault faults.Hex (unhex digits)) _ (or_fault_fits IsRead faults.Hex (unhex digits) (read_is (unhex digits) (unhex_fits digits))) (λ bytes read.
+    weaker (λ v. bytes ≡ spelling v) (IsDigitsOf arguments) (spelled (reading bytes)) (spelled_is bytes read.0 (reading bytes) refl) (λ v e. (digits, are, read.1 ∙ ap (λ (b : List ℕ). Some b) e))))
+
 -- ---- lines
 
--- what a line of a script carries is in range
+-- a datagram that a line of a script carries has a property, and all else that it carries is in range
+abbrev pub Carries : (Datagram → Type 0) → Line → Type 0
+Carries P (lines.Board member cells workers seed) = (member < 2 ^ 32) × (cells ≤ 65535)
+Carries P (lines.Arrive d) = P (datagrams.Draw d)
+Carries P (lines.Hear v) = P v
+Carries P (lines.Tick moment) = moment < 2 ^ 48
+Carries P (lines.Look page) = IsPage page
+Carries P (lines.Session page) = IsPage page
+Carries P line = Unit {0}
+
+-- what it carries is in range
 abbrev pub Fits : Line → Type 0
-Fits (lines.Board member cells workers seed) = (member < 2 ^ 32) × (cells ≤ 65535)
-Fits (lines.Arrive d) = IsDrawop d
-Fits (lines.Hear v) = IsDatagram v
-Fits (lines.Tick moment) = moment < 2 ^ 48
-Fits (lines.Look page) = IsPage page
-Fits (lines.Session page) = IsPage page
-Fits line = Unit {0}
+Fits line = Carries IsDatagram line
 
-board_fits : (arguments : List (List ℕ)) → IfOk (board arguments) Fits
-unfolding board
-board_fits arguments = behind Fits (or_fault faults.Words (four_of arguments)) _ (λ ws.
-    bound (IsWithin 0 (2 ^ 32 - 1)) Fits (number 0 (2 ^ 32 - 1) ws.0) _ (number_fits 0 (2 ^ 32 - 1) ws.0) (λ member m.
-    bound (IsWithin 1 65535) Fits (number 1 65535 ws.1) _ (number_fits 1 65535 ws.1) (λ cells c.
-    behind Fits (number 1 8 ws.2) _ (λ workers.
-    behind Fits (number 0 (2 ^ 64 - 1) ws.3) _ (λ seed.
-    let a = m.1 in (omega arith, c.1))))))
+module _ (P : Datagram → Type 0) where
+  abbrev Has : Line → Type 0
+  Has line = Carries P line
 
-tick_fits : (arguments : List (List ℕ)) → IfOk (tick arguments) Fits
-unfolding tick
-tick_fits arguments = behind Fits (or_fault faults.Words (one_of arguments)) _ (λ word.
-    bound (IsWithin 0 (2 ^ 48 - 1)) Fits (number 0 (2 ^ 48 - 1) word) _ (number_fits 0 (2 ^ 48 - 1) word) (λ moment m.
-    let a = m.1 in omega arith))
+  board_fits : (arguments : List (List ℕ)) → IfOk (board arguments) Has
+  unfolding board
+  board_fits arguments = behind Has (or_fault faults.Words (four_of arguments)) _ (λ ws.
+      bound (IsWithin 0 (2 ^ 32 - 1)) Has (number 0 (2 ^ 32 - 1) ws.0) _ (number_fits 0 (2 ^ 32 - 1) ws.0) (λ member m.
+      bound (IsWithin 1 65535) Has (number 1 65535 ws.1) _ (number_fits 1 65535 ws.1) (λ cells c.
+      behind Has (number 1 8 ws.2) _ (λ workers.
+      behind Has (number 0 (2 ^ 64 - 1) ws.3) _ (λ seed.
+      let a = m.1 in (omega arith, c.1))))))
 
-show_fits : (arguments : List (List ℕ)) → IfOk (show arguments) Fits
-unfolding show
-show_fits arguments = behind Fits (or_fault faults.Words (four_of arguments)) _ (λ ws.
-    behind Fits (number 0 (2 ^ 32 - 1) ws.0) _ (λ creator.
-    behind Fits (number 0 (2 ^ 32 - 1) ws.1) _ (λ n.
-    behind Fits (number 1 200 ws.2) _ (λ width.
-    behind Fits (number 1 100 ws.3) _ (λ height. tt)))))
+  tick_fits : (arguments : List (List ℕ)) → IfOk (tick arguments) Has
+  unfolding tick
+  tick_fits arguments = behind Has (or_fault faults.Words (one_of arguments)) _ (λ word.
+      bound (IsWithin 0 (2 ^ 48 - 1)) Has (number 0 (2 ^ 48 - 1) word) _ (number_fits 0 (2 ^ 48 - 1) word) (λ moment m.
+      let a = m.1 in omega arith))
 
-distance_fits : (arguments : List (List ℕ)) → IfOk (distance arguments) Fits
-unfolding distance
-distance_fits arguments = behind Fits (or_fault faults.Words (two_of arguments)) _ (λ ws.
-    behind Fits (number 0 (2 ^ 32 - 1) ws.0) _ (λ source.
-    behind Fits (number 0 (2 ^ 24 - 1) ws.1) _ (λ micros. tt)))
+  show_fits : (arguments : List (List ℕ)) → IfOk (show arguments) Has
+  unfolding show
+  show_fits arguments = behind Has (or_fault faults.Words (four_of arguments)) _ (λ ws.
+      behind Has (number 0 (2 ^ 32 - 1) ws.0) _ (λ creator.
+      behind Has (number 0 (2 ^ 32 - 1) ws.1) _ (λ n.
+      behind Has (number 1 200 ws.2) _ (λ width.
+      behind Has (number 1 100 ws.3) _ (λ height. tt)))))
 
-pages_fits : (arguments : List (List ℕ)) → IfOk (pages arguments) Fits
-pages_fits arguments = behind Fits (or_fault faults.Words (none_of arguments)) _ (λ nothing. tt)
+  distance_fits : (arguments : List (List ℕ)) → IfOk (distance arguments) Has
+  unfolding distance
+  distance_fits arguments = behind Has (or_fault faults.Words (two_of arguments)) _ (λ ws.
+      behind Has (number 0 (2 ^ 32 - 1) ws.0) _ (λ source.
+      behind Has (number 0 (2 ^ 24 - 1) ws.1) _ (λ micros. tt)))
 
-arrived_fits : (v : Datagram) → IsDatagram v → IfOk (arrived v) Fits
-arrived_fits (datagrams.Draw d) fit = fit
-arrived_fits v fit = tt
+  pages_fits : (arguments : List (List ℕ)) → IfOk (pages arguments) Has
+  pages_fits arguments = behind Has (or_fault faults.Words (none_of arguments)) _ (λ nothing. tt)
 
-heard_fits : (v : Datagram) → IsDatagram v → IfOk (heard v) Fits
-heard_fits (datagrams.Draw d) fit = tt
-heard_fits (datagrams.Session sender sent page marks echoes) fit = fit
-heard_fits (datagrams.Request asker name) fit = fit
-heard_fits (datagrams.AskPages asker) fit = fit
-heard_fits (datagrams.PageState sender page marks) fit = fit
+  arrived_fits : (v : Datagram) → P v → IfOk (arrived v) Has
+  arrived_fits (datagrams.Draw d) fit = fit
+  arrived_fits v fit = tt
 
-arrive_fits : (arguments : List (List ℕ)) → IfOk (arrive arguments) Fits
-arrive_fits arguments = bound IsDatagram Fits (datagram arguments) arrived (datagram_fits arguments) arrived_fits
+  heard_fits : (v : Datagram) → P v → IfOk (heard v) Has
+  heard_fits (datagrams.Draw d) fit = tt
+  heard_fits (datagrams.Session sender sent page marks echoes) fit = fit
+  heard_fits (datagrams.Request asker name) fit = fit
+  heard_fits (datagrams.AskPages asker) fit = fit
+  heard_fits (datagrams.PageState sender page marks) fit = fit
 
-hear_fits : (arguments : List (List ℕ)) → IfOk (hear arguments) Fits
-hear_fits arguments = bound IsDatagram Fits (datagram arguments) heard (datagram_fits arguments) heard_fits
+  arrive_fits : (arguments : List (List ℕ)) → IfOk (datagram arguments) P → IfOk (arrive arguments) Has
+  arrive_fits arguments has = bound P Has (datagram arguments) arrived has arrived_fits
 
-page_line_fits : (word : List ℕ) (arguments : List (List ℕ)) → IfOk (page_line word arguments) Fits
-unfolding page_line
-page_line_fits word arguments =
-    either Fits (bytes_eq word (codes "look")) _ _ (bound IsPage Fits (page arguments) (λ p. Ok (lines.Look p)) (page_fits arguments) (λ p fit. fit))
-    (either Fits (bytes_eq word (codes "session")) _ _ (bound IsPage Fits (page arguments) (λ p. Ok (lines.Session p)) (page_fits arguments) (λ p fit. fit))
-    (either Fits (bytes_eq word (codes "gaps")) _ _ (behind Fits (page arguments) (λ p. Ok (lines.Gaps p)) (λ p. tt))
-    (either Fits (bytes_eq word (codes "report")) _ _ (behind Fits (page arguments) (λ p. Ok (lines.Report p)) (λ p. tt))
-    tt)))
+  hear_fits : (arguments : List (List ℕ)) → IfOk (datagram arguments) P → IfOk (hear arguments) Has
+  hear_fits arguments has = bound P Has (datagram arguments) heard has heard_fits
 
-command_fits : (word : List ℕ) (arguments : List (List ℕ)) → IfOk (command word arguments) Fits
-unfolding command
-command_fits word arguments =
-    either Fits (bytes_eq word (codes "board")) _ _ (board_fits arguments)
-    (either Fits (bytes_eq word (codes "arrive")) _ _ (arrive_fits arguments)
-    (either Fits (bytes_eq word (codes "hear")) _ _ (hear_fits arguments)
-    (either Fits (bytes_eq word (codes "show")) _ _ (show_fits arguments)
-    (either Fits (bytes_eq word (codes "distance")) _ _ (distance_fits arguments)
-    (either Fits (bytes_eq word (codes "tick")) _ _ (tick_fits arguments)
-    (either Fits (bytes_eq word (codes "pages")) _ _ (pages_fits arguments)
-    (page_line_fits word arguments)))))))
+  page_line_fits : (word : List ℕ) (arguments : List (List ℕ)) → IfOk (page_line word arguments) Has
+  unfolding page_line
+  page_line_fits word arguments =
+      either Has (bytes_eq word (codes "look")) _ _ (bound IsPage Has (page arguments) (λ p. Ok (lines.Look p)) (page_fits arguments) (λ p fit. fit))
+      (either Has (bytes_eq word (codes "session")) _ _ (bound IsPage Has (page arguments) (λ p. Ok (lines.Session p)) (page_fits arguments) (λ p fit. fit))
+      (either Has (bytes_eq word (codes "gaps")) _ _ (behind Has (page arguments) (λ p. Ok (lines.Gaps p)) (λ p. tt))
+      (either Has (bytes_eq word (codes "report")) _ _ (behind Has (page arguments) (λ p. Ok (lines.Report p)) (λ p. tt))
+      tt)))
 
-pub line_fits : (ws : List (List ℕ)) → IfOk (line_of_words ws) Fits
-line_fits [] = tt
-line_fits (word ∷ arguments) = either Fits (begins_comment word) (Ok lines.Skip) _ tt (command_fits word arguments)
+  command_fits : (word : List ℕ) (arguments : List (List ℕ)) → IfOk (datagram arguments) P → IfOk (command word arguments) Has
+  unfolding command
+  command_fits word arguments has =
+      either Has (bytes_eq word (codes "board")) _ _ (board_fits arguments)
+      (either Has (bytes_eq word (codes "arrive")) _ _ (arrive_fits arguments has)
+      (either Has (bytes_eq word (codes "hear")) _ _ (hear_fits arguments has)
+      (either Has (bytes_eq word (codes "show")) _ _ (show_fits arguments)
+      (either Has (bytes_eq word (codes "distance")) _ _ (distance_fits arguments)
+      (either Has (bytes_eq word (codes "tick")) _ _ (tick_fits arguments)
+      (either Has (bytes_eq word (codes "pages")) _ _ (pages_fits arguments)
+      (page_line_fits word arguments)))))))
+
+  -- the words of a line, of which those behind the first may say a datagram
+  pub line_fits : (ws : List (List ℕ)) → ((word : List ℕ) (arguments : List (List ℕ)) → ws ≡ word ∷ arguments → IfOk (datagram arguments) P) → IfOk (line_of_words ws) Has
+  line_fits [] has = tt
+  line_fits (word ∷ arguments) has = either Has (begins_comment word) (Ok lines.Skip) _ tt (command_fits word arguments (has word arguments refl))

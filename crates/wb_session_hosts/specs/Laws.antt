@@ -5,10 +5,13 @@ use Rattle.wb_names.specs.Values.{DrawopValue}
 use Rattle.wb_names.specs.declared.name.PageId.{PageId}
 use Rattle.wb_recovery.specs.declared.tuning.Tuning.{Tuning}
 use Rattle.wb_codec.specs.Ranges.{IsDatagram}
+use Rattle.wb_codec.specs.Spelling.{spelling}
 use Rattle.wb_codec.specs.declared.datagram.Datagram.{Datagram}
 use Rattle.wb_codec.specs.declared.datagram.Datagram.TheVariants.{Draw}
 use Rattle.wb_lines.specs.Input.{InputLine, input_lines}
 use Rattle.wb_lines.specs.Taking.{met}
+use Rattle.wb_lines.specs.Words.{words, unhex}
+use Rattle.wb_words.specs.Reading.{reading}
 use Rattle.wb_script.specs.Answers.{gaps_text}
 use Rattle.wb_script.specs.Hosts.{Opened}
 use Rattle.wb_script.specs.SentLines.{send_line, sends_text}
@@ -21,7 +24,7 @@ use Rattle.wb_dialog.specs.declared.line.DriverLine.{DriverLine}
 use Rattle.wb_dialog.specs.declared.line.DriverLine.TheVariants.{Script, Say}
 use Rattle.wb_dialog.specs.Dialog.{gives, answer_at, answered_lines, batch_of, says_line, transcript}
 use Rattle.wb_dialog.specs.Doing.{text_of}
-use Rattle.wb_dialog.specs.Lines.{handed_in}
+use Rattle.wb_dialog.specs.Lines.{handed_in, line_of}
 use Rattle.wb_session_hosts.specs.Hosts.{LineAt, saying, host_at, reply_at, lines_at, blocks_at, sends_at, told_at, sent, Board, board_at, HaveDistinctMembers, group_of, CameOut, IsHonest}
 
 -- ---- members
@@ -57,7 +60,15 @@ TextsTellSends = (line : DriverLine) (host : Opened) (next : Option Opened) (tex
 abbrev pub SentIsInRange : Type 0
 SentIsInRange = (constants : ℕ → Tuning) (lines : List LineAt) → All IsDatagram (sent constants lines)
 
--- So its bytes tell it: a line that hands in a datagram of which a `send` line was printed hands in one that was sent.
+-- A line says a datagram in words, or its second and last word is the hexadecimal digits of its bytes.
+abbrev pub Comes : List ℕ → Datagram → Type 0
+Comes line v = (reading line ≡ Ok v) ⊎ ((word digits : List ℕ) × (words line ≡ word ∷ digits ∷ []) × (unhex digits ≡ Some (spelling v)))
+
+-- So does each line that hands one in.
+abbrev pub LinesCarryBytes : Type 0
+LinesCarryBytes = (line : List ℕ) (v : Datagram) → line_of line ≡ Ok (handed_in v) → Comes line v
+
+-- The bytes of what is sent tell it: a line that hands in a datagram of which a `send` line was printed hands in one that was sent.
 abbrev pub BytesTellDatagrams : Type 0
 BytesTellDatagrams = (constants : ℕ → Tuning) (lines : List LineAt) (line : InputLine) (v : Datagram) → says_line (met line) ≡ Ok (handed_in v) → CameOut constants lines v → Contains (sent constants lines) v
 

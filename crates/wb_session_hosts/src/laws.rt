@@ -1,6 +1,6 @@
 //! Laws of sessions of hosts. Each function does nothing: its contract is a law, for proofs to cite.
 
-ghost use Rattle.wb_session_hosts.specs.Laws.{BatchesCountNoClash, BlocksAreTranscripts, BytesTellDatagrams, HostsAreMembers, ReportsTellShows, SentIsInRange, SentOnce, SentWasSaid, TextsTellSends};
+ghost use Rattle.wb_session_hosts.specs.Laws.{BatchesCountNoClash, BlocksAreTranscripts, BytesTellDatagrams, HostsAreMembers, LinesCarryBytes, ReportsTellShows, SentIsInRange, SentOnce, SentWasSaid, TextsTellSends};
 
 /// A session of hosts is one of members: at each place the host is the member, and what hosts sent the
 /// members sent. So what holds of sessions of members holds of hosts and their drivers.
@@ -19,10 +19,12 @@ pub fn texts_tell_sends()
     ensures { TextsTellSends }
 {}
 
-/// What anyone sends has all its fields in range, whatever the lines. So its bytes tell it: a line that
-/// hands in a datagram of which a `send` line was printed hands in one that was sent.
+/// What anyone sends has all its fields in range, whatever the lines. What a line hands in, it says in
+/// words or by the digits of its bytes. So a line that hands in a datagram of which a `send` line was
+/// printed hands in one that was sent.
 pub fn bytes_tell_datagrams()
     ensures ranges { SentIsInRange }
+    ensures bytes { LinesCarryBytes }
     ensures one { BytesTellDatagrams }
 {}
 
