@@ -64,12 +64,12 @@ abbrev pub SentIsInRange : Type 0
 SentIsInRange = (constants : ℕ → Tuning) (lines : List LineAt) → All IsDatagram (sent constants lines)
 
 -- A line says a datagram in words, or its second and last word is the hexadecimal digits of its bytes.
-abbrev pub Comes : List ℕ → Datagram → Type 0
-Comes line v = (reading line ≡ Ok v) ⊎ ((word digits : List ℕ) × (words line ≡ word ∷ digits ∷ []) × (unhex digits ≡ Some (spelling v)))
+abbrev pub SaysDatagram : List ℕ → Datagram → Type 0
+SaysDatagram line v = (reading line ≡ Ok v) ⊎ ((word digits : List ℕ) × (words line ≡ word ∷ digits ∷ []) × (unhex digits ≡ Some (spelling v)))
 
 -- So does each line that hands one in.
 abbrev pub LinesCarryBytes : Type 0
-LinesCarryBytes = (line : List ℕ) (v : Datagram) → line_of line ≡ Ok (handed_in v) → Comes line v
+LinesCarryBytes = (line : List ℕ) (v : Datagram) → line_of line ≡ Ok (handed_in v) → SaysDatagram line v
 
 -- The bytes of what is sent tell it: a line that hands in a datagram of which a `send` line was printed hands in one that was sent.
 abbrev pub BytesTellDatagrams : Type 0
