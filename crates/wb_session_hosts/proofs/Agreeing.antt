@@ -20,7 +20,7 @@ use Rattle.wb_dialog.specs.Dialog.{answer}
 use Rattle.wb_dialog.specs.Doing.{text_of}
 use Rattle.wb_session_hosts.specs.Hosts.{host_at, group_of}
 use Rattle.wb_session_hosts.specs.Laws.{IsMemberAt, ReportsTellShows}
-use Rattle.wb_session_hosts.proofs.Boards.{group_is_distinct, fair_of}
+use Rattle.wb_session_hosts.proofs.Boards.{boards_make_group, fair_here}
 use Rattle.wb_session_hosts.proofs.BoardRanges.{marks_fit}
 use Rattle.wb_session_hosts.proofs.HostRanges.{Fits, few_held, host_fits}
 use Rattle.wb_session_hosts.proofs.Members.{events_of, follows, member_at}
@@ -54,8 +54,8 @@ module _ (group : Group) (is : IsDistinct group) (events : List Event) (session 
 pub reports_tell_shows : ReportsTellShows
 reports_tell_shows constants lines' i j page width height report gaps show distinct fair ask same none nothing =
     let group = group_of constants lines' in
-    let is = group_is_distinct constants lines' distinct in
-    let f = follows group is lines' (fair_of constants lines' fair) in
+    let is = (boards_make_group constants lines' distinct).0 in
+    let f = follows group is lines' (fair_here constants lines' distinct fair) in
     let s = host_at constants lines' i in
     let t = host_at constants lines' j in
     let at_i : Result DriverLine Refusal → List ℕ = λ r. text_of (answer (constants i) s r) in

@@ -12,7 +12,8 @@ use Rattle.wb_dialog.specs.Dialog.{after, answer, answer_first}
 use Rattle.wb_dialog.specs.declared.fault.Refusal.{Refusal}
 use Rattle.wb_dialog.specs.declared.line.DriverLine.{DriverLine}
 use Rattle.wb_dialog.specs.declared.line.DriverLine.TheVariants.{Script}
-use Rattle.wb_session_hosts.specs.Hosts.{LineAt, saying, host_at, sent, Board, board_in, board_at, HaveDistinctMembers, number_by, cells_by, group_of, IsHonestBy, IsHonest}
+use Rattle.wb_session_hosts.specs.Hosts.{LineAt, saying, host_at, sent, Board, board_in, board_at, HaveDistinctMembers, HasBoards, number_by, cells_by, group_of, IsHonestBy, IsHonest}
+use Rattle.wb_session_hosts.specs.Laws.{BoardsMakeGroup}
 use Rattle.wb_session_hosts.proofs.Bytes.{came_out, honest_more}
 use Rattle.wb_session_hosts.proofs.DriverLines.{Fits, met_fits}
 use Rattle.wb_session_hosts.proofs.HostRanges as hosts
@@ -46,7 +47,7 @@ board_small (e ∷ older) i = first (board_at older i) (board_small older i) whe
 apart : (a b : ℕ) → a < 2 ^ 32 → a ≡ 2 ^ 32 + b → ⊥
 apart a b lt e = omega arith
 
-pub group_is_distinct : (constants : ℕ → Tuning) (lines' : List LineAt) → HaveDistinctMembers lines' → IsDistinct (group_of constants lines')
+group_is_distinct : (constants : ℕ → Tuning) (lines' : List LineAt) → HaveDistinctMembers lines' → IsDistinct (group_of constants lines')
 group_is_distinct constants lines' distinct = record {
   distinct = λ i j. numbers i j (board_at lines' i) (board_at lines' j) refl refl (board_small lines' i) (board_small lines' j);
   small = λ i. few (board_at lines' i) (board_small lines' i);
@@ -109,23 +110,25 @@ abbrev pub IsFair : Group → List LineAt → Type 0
 IsFair group [] = Unit {0}
 IsFair group (e ∷ older) = IsFairNext group older e × IsFair group older
 
-module _ (constants : ℕ → Tuning) (whole : List LineAt) where
-  first_by : (i : ℕ) (s : Option Opened) (said : Result DriverLine Refusal) → (s ≡ None → (board : Board) → board_in said ≡ Some board → board_at whole i ≡ Some board) → IsFirstBy (group_of constants whole) i s said
+module _ (group : Group) (whole : List LineAt) (boards : HasBoards group whole) where
+  abbrev constants : ℕ → Tuning
+  constants = group.constants
+
+  first_by : (i : ℕ) (s : Option Opened) (said : Result DriverLine Refusal) → (s ≡ None → (board : Board) → board_in said ≡ Some board → board_at whole i ≡ Some board) → IsFirstBy group i s said
   first_by i (Some host) said names = tt
   first_by i None (Err e) names = tt
   first_by i None (Ok line) names = line_first line (names refl) where
-    script_first : (line : Line) → ((board : Board) → board_in (Ok (Script line)) ≡ Some board → board_at whole i ≡ Some board) → IsFirst (group_of constants whole) i (Script line)
+    script_first : (line : Line) → ((board : Board) → board_in (Ok (Script line)) ≡ Some board → board_at whole i ≡ Some board) → IsFirst group i (Script line)
     script_first (lines.Board member cells workers seed) named =
         let board : Board = record { member = member; cells = cells } in
-        let e = named board refl in
-        (sym (ap (number_by i) e), sym (ap cells_by e))
+        boards i board (named board refl)
     script_first line named = tt
 
-    line_first : (line : DriverLine) → ((board : Board) → board_in (Ok line) ≡ Some board → board_at whole i ≡ Some board) → IsFirst (group_of constants whole) i line
+    line_first : (line : DriverLine) → ((board : Board) → board_in (Ok line) ≡ Some board → board_at whole i ≡ Some board) → IsFirst group i line
     line_first (Script line) named = script_first line named
     line_first line named = tt
 
-  fair_from : (lines' : List LineAt) → ((i : ℕ) (board : Board) → board_at lines' i ≡ Some board → board_at whole i ≡ Some board) → IsHonest constants lines' → IsFair (group_of constants whole) lines'
+  fair_from : (lines' : List LineAt) → ((i : ℕ) (board : Board) → board_at lines' i ≡ Some board → board_at whole i ≡ Some board) → IsHonest constants lines' → IsFair group lines'
   fair_from [] kept fair = tt
   fair_from (e ∷ older) kept fair = (
     record {
@@ -140,5 +143,13 @@ module _ (constants : ℕ → Tuning) (whole : List LineAt) where
         ∙ ap (λ (b : Bool). option_or None (if b then board_in (saying e) else None)) (eq-eqb e.place e.place refl)
         ∙ said
 
-pub fair_of : (constants : ℕ → Tuning) (lines' : List LineAt) → IsHonest constants lines' → IsFair (group_of constants lines') lines'
-fair_of constants lines' fair = fair_from constants lines' lines' (λ i board at. at) fair
+pub fair_of : (group : Group) (lines' : List LineAt) → HasBoards group lines' → IsHonest group.constants lines' → IsFair group lines'
+fair_of group lines' boards fair = fair_from group lines' boards lines' (λ i board at. at) fair
+
+-- ---- the group that is read off the boards
+
+pub boards_make_group : BoardsMakeGroup
+boards_make_group constants lines' distinct = (group_is_distinct constants lines' distinct, λ i board at. (sym (ap (number_by i) at), sym (ap cells_by at)))
+
+pub fair_here : (constants : ℕ → Tuning) (lines' : List LineAt) → HaveDistinctMembers lines' → IsHonest constants lines' → IsFair (group_of constants lines') lines'
+fair_here constants lines' distinct fair = fair_of (group_of constants lines') lines' (boards_make_group constants lines' distinct).1 fair

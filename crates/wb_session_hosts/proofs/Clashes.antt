@@ -24,7 +24,7 @@ use Rattle.wb_dialog.specs.Doing.{text_of}
 use Rattle.wb_dialog.proofs.OwnNumbers.{next_is_new}
 use Rattle.wb_session_hosts.specs.Hosts.{LineAt, saying, host_at, sent, group_of, CameOut, MaySay, IsHonestBy}
 use Rattle.wb_session_hosts.specs.Laws.{BatchesCountNoClash}
-use Rattle.wb_session_hosts.proofs.Boards.{group_is_distinct, fair_of}
+use Rattle.wb_session_hosts.proofs.Boards.{boards_make_group, fair_here}
 use Rattle.wb_session_hosts.proofs.Bytes.{came_out, honest_more}
 use Rattle.wb_session_hosts.proofs.DriverLines.{met_fits}
 use Rattle.wb_session_hosts.proofs.Outcomes.{Found, found}
@@ -112,8 +112,8 @@ module _ (group : Group) (is : IsDistinct group) (older : List LineAt) (f : Foll
 pub batches_count_no_clash : BatchesCountNoClash
 batches_count_no_clash constants older e d distinct fair brings text =
     let group = group_of constants older in
-    let is = group_is_distinct constants older distinct in
-    let f = follows group is older (fair_of constants older fair.1) in
+    let is = (boards_make_group constants older distinct).0 in
+    let f = follows group is older (fair_here constants older distinct fair.1) in
     let comes = honest_more (CameOut constants older) (Contains (sent constants older)) (came_out constants older) (host_at constants older e.place) (saying e) (met_fits (met e.line)) fair.0 in
     let i = e.place in
     let s = host_at constants older i in

@@ -23,7 +23,7 @@ use Rattle.wb_dialog.specs.declared.line.DriverLine.{DriverLine}
 use Rattle.wb_dialog.specs.declared.line.DriverLine.TheVariants.{Script, Say, Next, View, Known, Ask, Stop}
 use Rattle.wb_session_hosts.proofs.ScriptLines as scripts
 use Rattle.wb_session_hosts.proofs.ScriptLines.{IsWithin, IsDigitsOf, bound, behind, number_fits, datagram_fits, datagram_digits, line_fits}
-use Rattle.wb_session_hosts.specs.Laws.{Comes, LinesCarryBytes}
+use Rattle.wb_session_hosts.specs.Laws.{SaysDatagram, LinesCarryBytes}
 
 -- a datagram that a line hands in has a property, and all else that it carries is in range
 abbrev pub Carries : (Datagram → Type 0) → DriverLine → Type 0
@@ -140,14 +140,14 @@ handed_has P (datagrams.AskPages asker) has = has
 handed_has P (datagrams.PageState sender page marks) has = has
 
 pub lines_carry_bytes : LinesCarryBytes
-lines_carry_bytes line v e = handed_has (Comes line) v (subst (λ (r : Result DriverLine Refusal). IfOk r (Carries (Comes line))) e (text_fits (Comes line) line asked)) where
-  worded : (r : Result Datagram WrongWord) → reading line ≡ r → IfOk r (Comes line)
+lines_carry_bytes line v e = handed_has (SaysDatagram line) v (subst (λ (r : Result DriverLine Refusal). IfOk r (Carries (SaysDatagram line))) e (text_fits (SaysDatagram line) line asked)) where
+  worded : (r : Result Datagram WrongWord) → reading line ≡ r → IfOk r (SaysDatagram line)
   worded (Ok w) f = inl f
   worded (Err wrong) f = tt
 
-  spelled : (word : List ℕ) (arguments : List (List ℕ)) → words line ≡ word ∷ arguments → (r : Result Datagram LineFault) → IfOk r (IsDigitsOf arguments) → IfOk r (Comes line)
+  spelled : (word : List ℕ) (arguments : List (List ℕ)) → words line ≡ word ∷ arguments → (r : Result Datagram LineFault) → IfOk r (IsDigitsOf arguments) → IfOk r (SaysDatagram line)
   spelled word arguments f (Ok w) (digits, are, bytes) = inr (word, digits, f ∙ ap (λ (ws : List (List ℕ)). word ∷ ws) are, bytes)
   spelled word arguments f (Err fault) is = tt
 
-  asked : Asks (Comes line) line
+  asked : Asks (SaysDatagram line) line
   asked = record { in_words = worded (reading line) refl; in_bytes = λ word arguments f. spelled word arguments f (datagram arguments) (datagram_digits arguments) }

@@ -18,9 +18,9 @@ use Rattle.wb_dialog.specs.declared.line.DriverLine.{DriverLine}
 use Rattle.wb_dialog.specs.declared.line.DriverLine.TheVariants.{Say}
 use Rattle.wb_dialog.specs.Dialog.{answer, answer_at, after}
 use Rattle.wb_dialog.specs.Doing.{text_of}
-use Rattle.wb_session_hosts.specs.Hosts.{LineAt, saying, host_at, reply_at, sends_by, sent, group_of, IsHonestAt, IsHonestBy}
+use Rattle.wb_session_hosts.specs.Hosts.{LineAt, saying, host_at, reply_at, sends_by, sent, IsHonestAt, IsHonestBy}
 use Rattle.wb_session_hosts.specs.Laws.{IsMemberAt, HostsAreMembers}
-use Rattle.wb_session_hosts.proofs.Boards.{IsFirstBy, IsFairNext, IsFair, group_is_distinct, fair_of}
+use Rattle.wb_session_hosts.proofs.Boards.{IsFirstBy, IsFairNext, IsFair, fair_of}
 use Rattle.wb_session_hosts.proofs.Bytes.{honest_more}
 use Rattle.wb_session_hosts.proofs.DriverLines.{met_fits}
 use Rattle.wb_session_hosts.proofs.Several.{ats, after_all, member_here, member_there, sent_more}
@@ -166,8 +166,6 @@ member_at group happened i None at = at
 member_at group happened i (Some host) (drawn, here, own) = ap (λ (n : Member). member_of n.drawn host) here ∙ sym here
 
 pub hosts_are_members : HostsAreMembers
-hosts_are_members constants lines distinct fair =
-    let group = group_of constants lines in
-    let is = group_is_distinct constants lines distinct in
-    let f = follows group is lines (fair_of constants lines fair) in
-    record { distinct = is; events = events_of group lines; session = f.session; hosts = λ i. member_at group (events_of group lines) i (host_at constants lines i) (f.at i); sent = f.sent }
+hosts_are_members group lines is boards fair =
+    let f = follows group is lines (fair_of group lines boards fair) in
+    record { events = events_of group lines; session = f.session; hosts = λ i. member_at group (events_of group lines) i (host_at group.constants lines i) (f.at i); sent = f.sent }

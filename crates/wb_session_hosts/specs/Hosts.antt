@@ -145,7 +145,11 @@ board_at (e ∷ older) i = option_or (board_at older i) (if nat_eq e.place i the
 abbrev pub HaveDistinctMembers : List LineAt → Type 0
 HaveDistinctMembers lines = (i j : ℕ) (one other : Board) → board_at lines i ≡ Some one → board_at lines j ≡ Some other → one.member ≡ other.member → i ≡ j
 
--- The group of these hosts. A place without a board has a number that no board can have.
+-- the group has these boards
+abbrev pub HasBoards : Group → List LineAt → Type 0
+HasBoards group lines = (i : ℕ) (board : Board) → board_at lines i ≡ Some board → (board.member ≡ group.number i) × (board.cells ≡ group.cells i)
+
+-- The group that is read off the boards. A place without one has a number that no board can have.
 abbrev pub number_by : ℕ → Option Board → ℕ
 number_by i None = 2 ^ 32 + i
 number_by i (Some board) = board.member

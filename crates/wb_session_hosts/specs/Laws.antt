@@ -25,7 +25,7 @@ use Rattle.wb_dialog.specs.declared.line.DriverLine.TheVariants.{Script, Say}
 use Rattle.wb_dialog.specs.Dialog.{gives, answer_at, answered_lines, batch_of, says_line, transcript}
 use Rattle.wb_dialog.specs.Doing.{text_of}
 use Rattle.wb_dialog.specs.Lines.{handed_in, line_of}
-use Rattle.wb_session_hosts.specs.Hosts.{LineAt, saying, host_at, reply_at, lines_at, blocks_at, sends_at, told_at, sent, Board, board_at, HaveDistinctMembers, group_of, CameOut, IsHonest}
+use Rattle.wb_session_hosts.specs.Hosts.{LineAt, saying, host_at, reply_at, lines_at, blocks_at, sends_at, told_at, sent, Board, board_at, HaveDistinctMembers, HasBoards, group_of, CameOut, IsHonest}
 
 -- ---- members
 
@@ -35,15 +35,18 @@ IsMemberAt group events i None = member group events i ≡ newcomer group i
 IsMemberAt group events i (Some host) = IsMember group events i host
 
 -- A session of hosts is one of members: at each place the host is the member, and what the hosts sent the members sent.
-pub record AreMembers (constants : ℕ → Tuning) (lines : List LineAt) : Type 0 where
-  pub distinct : IsDistinct (group_of constants lines)
+pub record AreMembers (group : Group) (lines : List LineAt) : Type 0 where
   pub events : List Event
-  pub session : IsSession (group_of constants lines) events
-  pub hosts : (i : ℕ) → IsMemberAt (group_of constants lines) events i (host_at constants lines i)
-  pub sent : (v : Datagram) → Contains (sent constants lines) v → Contains (members.sent (group_of constants lines) events) v
+  pub session : IsSession group events
+  pub hosts : (i : ℕ) → IsMemberAt group events i (host_at group.constants lines i)
+  pub sent : (v : Datagram) → Contains (sent group.constants lines) v → Contains (members.sent group events) v
 
 abbrev pub HostsAreMembers : Type 0
-HostsAreMembers = (constants : ℕ → Tuning) (lines : List LineAt) → HaveDistinctMembers lines → IsHonest constants lines → AreMembers constants lines
+HostsAreMembers = (group : Group) (lines : List LineAt) → IsDistinct group → HasBoards group lines → IsHonest group.constants lines → AreMembers group lines
+
+-- Where no two places have boards of one member, there is such a group: the one that is read off the boards.
+abbrev pub BoardsMakeGroup : Type 0
+BoardsMakeGroup = (constants : ℕ → Tuning) (lines : List LineAt) → HaveDistinctMembers lines → IsDistinct (group_of constants lines) × HasBoards (group_of constants lines) lines
 
 -- ---- inputs and texts
 
@@ -61,12 +64,12 @@ abbrev pub SentIsInRange : Type 0
 SentIsInRange = (constants : ℕ → Tuning) (lines : List LineAt) → All IsDatagram (sent constants lines)
 
 -- A line says a datagram in words, or its second and last word is the hexadecimal digits of its bytes.
-abbrev pub Comes : List ℕ → Datagram → Type 0
-Comes line v = (reading line ≡ Ok v) ⊎ ((word digits : List ℕ) × (words line ≡ word ∷ digits ∷ []) × (unhex digits ≡ Some (spelling v)))
+abbrev pub SaysDatagram : List ℕ → Datagram → Type 0
+SaysDatagram line v = (reading line ≡ Ok v) ⊎ ((word digits : List ℕ) × (words line ≡ word ∷ digits ∷ []) × (unhex digits ≡ Some (spelling v)))
 
 -- So does each line that hands one in.
 abbrev pub LinesCarryBytes : Type 0
-LinesCarryBytes = (line : List ℕ) (v : Datagram) → line_of line ≡ Ok (handed_in v) → Comes line v
+LinesCarryBytes = (line : List ℕ) (v : Datagram) → line_of line ≡ Ok (handed_in v) → SaysDatagram line v
 
 -- The bytes of what is sent tell it: a line that hands in a datagram of which a `send` line was printed hands in one that was sent.
 abbrev pub BytesTellDatagrams : Type 0

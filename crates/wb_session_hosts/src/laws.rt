@@ -1,11 +1,13 @@
 //! Laws of sessions of hosts. Each function does nothing: its contract is a law, for proofs to cite.
 
-ghost use Rattle.wb_session_hosts.specs.Laws.{BatchesCountNoClash, BlocksAreTranscripts, BytesTellDatagrams, HostsAreMembers, LinesCarryBytes, ReportsTellShows, SentIsInRange, SentOnce, SentWasSaid, TextsTellSends};
+ghost use Rattle.wb_session_hosts.specs.Laws.{BatchesCountNoClash, BlocksAreTranscripts, BoardsMakeGroup, BytesTellDatagrams, HostsAreMembers, LinesCarryBytes, ReportsTellShows, SentIsInRange, SentOnce, SentWasSaid, TextsTellSends};
 
 /// A session of hosts is one of members: at each place the host is the member, and what hosts sent the
-/// members sent. So what holds of sessions of members holds of hosts and their drivers.
+/// members sent. So what holds of sessions of members holds of hosts and their drivers. Where no two
+/// places have boards of one member, the group is read off the boards.
 pub fn hosts_are_members()
-    ensures { HostsAreMembers }
+    ensures members { HostsAreMembers }
+    ensures boards { BoardsMakeGroup }
 {}
 
 /// The blocks at a place are the transcript of the input whose lines are handed in there.
