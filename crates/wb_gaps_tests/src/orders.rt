@@ -1,7 +1,7 @@
 //! What is held after puts in random order, beside what the calls of a list answer of the same drawops, which sort
 //! them. A put that is refused memory has to leave what was held.
 
-ghost use Rattle.std.specs.Prelude.{◌≤◌, length};
+ghost use Rattle.std.specs.Prelude.{◌<◌, ◌≤◌, length};
 
 use std::alloc::Global;
 use std::test::Fail;
@@ -27,18 +27,17 @@ macro_rules! again {
 
 /// Numbers in an order that looks random, and is the same for the same seed.
 #[derive(Drop)]
-struct Draws(u64);
+struct Draws(u32);
 
 impl Draws {
     /// The next number, below a bound.
     fn below(&mut self, bound: u32) -> u32
         requires { 1 ≤ bound }
+        ensures { result < bound }
     {
-        self.0 = self
-            .0
-            .wrapping_mul(6_364_136_223_846_793_005)
-            .wrapping_add(1_442_695_040_888_963_407);
-        (self.0 >> 33) as u32 % bound
+        self.0 = self.0.wrapping_mul(1_664_525).wrapping_add(1_013_904_223);
+        // the low halves of such numbers repeat early
+        self.0 / 65_536 % bound
     }
 }
 
@@ -55,7 +54,7 @@ fn dot(source: u32, page: PageId, seq: u32) -> Result<Drawop, FieldFault> {
 
 /// A drawop of one of three pages and four sources, whose number is one of the first 900 or the last of all.
 fn drawn(draws: &mut Draws) -> Result<Drawop, FieldFault> {
-    let source = SOURCES[draws.below(4) as usize % 4];
+    let source = SOURCES[draws.below(4) as usize];
     let page = page(draws.below(3));
     let seq = if draws.below(300) == 0 {
         u32::MAX
@@ -66,7 +65,7 @@ fn drawn(draws: &mut Draws) -> Result<Drawop, FieldFault> {
 }
 
 /// Ten thousand drawops, some of them more than once.
-fn drawops(alloc: Global, seed: u64) -> Result<Vec<Drawop>, Fail> {
+fn drawops(alloc: Global, seed: u32) -> Result<Vec<Drawop>, Fail> {
     let mut draws = Draws(seed);
     let mut list = Vec::new(alloc);
     for _ in 0..10_000 {
