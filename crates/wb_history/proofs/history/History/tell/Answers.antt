@@ -1,4 +1,4 @@
-use Rattle.std.proofs.Common.{◌≡◌, List, ◌-◌, length, ◌∙◌, ap, subst, refl, sym, arith, take_all}
+use Rattle.std.proofs.Common.{List, ◌-◌, length, ◌∙◌, ap, subst, refl, sym, arith, take_all}
 use Rattle.wb_names.specs.Values.{DrawopValue}
 use Rattle.wb_history.specs.declared.knowledge.Knowledge.{Knowledge}
 use Rattle.wb_history.specs.Indexed.{AreFronts}
