@@ -1,5 +1,5 @@
 -- What the workers accepted and what was taken again, as one batch.
-use Rattle.std.proofs.Common.{◌≡◌, ℕ, ◌+◌, ◌≤◌, ◌<◌, Bool, List, [], ◌∷◌, ◌++◌, length, map, get_or, refl, ap, sym, subst, ◌∙◌, ⊎_elim, arith, append_assoc, length-append}
+use Rattle.std.proofs.Common.{◌≡◌, ℕ, ◌+◌, ◌/◌, ◌≤◌, ◌<◌, Bool, List, [], ◌∷◌, ◌++◌, length, map, get_or, refl, ap, sym, subst, ◌∙◌, ⊎_elim, arith, append_assoc, length-append}
 use Rattle.std.specs.Prelude.{All}
 use Rattle.std.proofs.lemmas.Bool.Decides.{nat_tests}
 use Rattle.std.proofs.lemmas.List.Elements.{All-nil, All-cons}
@@ -14,19 +14,19 @@ use Rattle.wb_feed.specs.declared.line.Hand.{Hand}
 use Rattle.wb_feed.specs.declared.worker.Accepted.{Accepted}
 use Rattle.wb_feed.specs.declared.message.Message.{Message}
 use Rattle.wb_feed.specs.declared.batch.Batch.{Batch}
-use Rattle.wb_feed.specs.Accepts.{Entry, drawops, tally}
-use Rattle.wb_feed.specs.Batches.{counts_in, Takes, IsTotal}
-use Rattle.wb_feed.specs.Crews.{Crew, Crewed, Lent, Worked}
+use Rattle.wb_feed.specs.Accepts.{Entry, Runs, drawops, tally}
+use Rattle.wb_feed.specs.Batches.{counts_in, Takes, IsShared, IsTotal}
+use Rattle.wb_feed.specs.Workers.{Workers, Work, Worked}
 use Rattle.wb_feed.specs.Line.{once_below, IsComplete, AreRight, spots}
 use Rattle.wb_feed.specs.Marks.{unmarked, Marks, Retakes}
-use Rattle.wb_feed.specs.Served.{Spot, is_left, entries, accepted_at, offered, Tells}
+use Rattle.wb_feed.specs.Served.{Spot, is_left, entries, accepted_at, offered, Serves}
 use Rattle.wb_feed.proofs.Log.{is_taken, chosen, chosen-append, drawops-append, tally-append, tally_all, left_many, Told, Gathers, gathers_none, gathers_run, runs_empty}
 use Rattle.wb_feed.proofs.Members.{nothing, at_named}
 use Rattle.wb_feed.proofs.Numbers.{times}
 use Rattle.wb_feed.proofs.OneThread.{counted_as, same_counts}
-use Rattle.wb_feed.proofs.OneWorker.{Single, single_part, in_given_order}
-use Rattle.wb_feed.proofs.Placing.{OffersRight, places_and_rest, single_offers, single_once, crew_offers, crew_once, crew_gathers, taken_at}
-use Rattle.wb_feed.proofs.Prefixes.{prefix_self, prefix_length}
+use Rattle.wb_feed.proofs.OneWorker.{in_given_order}
+use Rattle.wb_feed.proofs.Placing.{OffersRight, places_and_rest, serves_offer, serves_once, workers_offer, workers_once, workers_gather, taken_at}
+use Rattle.wb_feed.proofs.Prefixes.{prefix_length}
 use Rattle.wb_feed.proofs.Settling.{taken_or_left, settles, left_lacks, stays_whole}
 
 taken_many : (log : List Entry) → length (drawops (chosen is_taken log)) ≡ ((tally log).fresh + (tally log).again) + (tally log).clash
@@ -48,54 +48,25 @@ once_rises : (i m n : ℕ) → m ≤ n → once_below i m ≤ once_below i n
 once_rises i m n h = grind (arith, nat_tests)
 
 -- What workers did, whether each had a part of the rows or the one the desk itself: p is the desk before, q the desk after
-pub record Gained (n : ℕ) (p : PassValue) (log : List Spot) (gots : List Message) (q : PassValue) : Type 0 where
+pub record Gained (p : PassValue) (log : List Spot) (gots : List Message) (q : PassValue) : Type 0 where
   pub gathers : Gathers p (entries log) q
   pub once : (i : ℕ) → times i (accepted_at log) ≤ spots i gots
   pub offers : (sent ds : List DrawopValue) → IsPrefix sent ds → AreRight sent gots → OffersRight ds (offered log)
-  pub single : n ≡ 1 → Single p log gots q
 
-pub record Work (n : ℕ) (p : PassValue) (g h : Hand) (q : PassValue) (a : Accepted) : Type 0 where
-  pub log : List Spot
-  pub gots : List Message
-  pub gained : Gained n p log gots q
-  pub got : h.got ≡ g.got ++ gots
-  pub parts : h.parts ≡ g.parts
-  pub tells : Tells a log
+pub gained : (n : ℕ) (p q : PassValue) (log : List Spot) (gots : List Message) → Work n p log gots q → Gained p log gots q
+gained n p q log gots w = ⊎_elim
+    (λ (x : (n ≡ 1) × Serves p log gots q).
+    let s = x.1 in
+    let run : Runs p (entries log) q = s.runs in
+    record { gathers = gathers_run p p q [] (entries log) (gathers_none p) run; once = λ i. serves_once i s; offers = λ sent ds h right. serves_offer sent ds h right s })
+    (λ (x : (1 < n) × Workers (p.free / n) n p log gots q). record { gathers = workers_gather x.1; once = λ i. workers_once i x.1; offers = λ sent ds h right. workers_offer sent ds h right x.1 }) w
 
-crewed_work : (rows n : ℕ) (p q : PassValue) (g h : Hand) (a : Accepted) → (n ≡ 1 → rows ≡ p.free) → Crewed rows n p g h q a → Work n p g h q a
-crewed_work rows n p q g h a all c = record {
-  log = c.log;
-  gots = c.gots;
-  gained = record {
-    gathers = crew_gathers c.crew;
-    once = λ i. crew_once i c.crew;
-    offers = λ sent ds s right. crew_offers sent ds s right c.crew;
-    single = λ one. single_part (all one) (subst (λ (k : ℕ). Crew rows k p c.log c.gots q) one c.crew);
-  };
-  got = c.got;
-  parts = c.parts;
-  tells = c.tells;
-}
+alone : (n : ℕ) (p q : PassValue) (log : List Spot) (gots : List Message) → Work n p log gots q → n ≡ 1 → Serves p log gots q
+alone n p q log gots w one = ⊎_elim (λ (x : (n ≡ 1) × Serves p log gots q). x.1) (λ (x : (1 < n) × Workers (p.free / n) n p log gots q). absurd (omega (arith, x.0, one))) w
 
-lent_work : (n : ℕ) (p q : PassValue) (g h : Hand) (a : Accepted) → Lent p g h q a → Work n p g h q a
-lent_work n p q g h a c =
-    let t = c.took in
-    record {
-      log = t.log;
-      gots = c.gots;
-      gained = record {
-        gathers = gathers_run p p q [] (entries t.log) (gathers_none p) t.runs;
-        once = λ i. single_once t.log c.gots i t.offered;
-        offers = λ sent ds s right. single_offers t.log c.gots sent ds s right t.offered;
-        single = λ one. record { from = p; to = q; runs = t.runs; same = refl; back = prefix_self q.seen; empty = runs_empty p q (entries t.log) t.runs; offered = t.offered; rises = c.rises };
-      };
-      got = c.got;
-      parts = c.parts;
-      tells = t.tells;
-    }
-
-pub worked : (rows n : ℕ) (p q : PassValue) (g h : Hand) (a : Accepted) → (n ≡ 1 → rows ≡ p.free) → Worked rows n p g h q a → Work n p g h q a
-worked rows n p q g h a all w = ⊎_elim (λ (c : Crewed rows n p g h q a). crewed_work rows n p q g h a all c) (λ (c : (n ≡ 1) × Lent p g h q a). lent_work n p q g h a c.1) w
+-- the same, with what n workers told of it
+abbrev pub AllWorked : ℕ → PassValue → PassValue → Hand → Hand → Accepted → Type 0
+AllWorked n p q g h a = Worked (λ log gots. Work n p log gots q) n g h a
 
 -- what the workers accepted, as drawops, and what is not marked are the drawops drawn
 pub record Whole (drawn : List DrawopValue) (ms : List Bool) (log : List Spot) (gots : List Message) : Type 0 where
@@ -106,32 +77,34 @@ pub record Whole (drawn : List DrawopValue) (ms : List Bool) (log : List Spot) (
   pub right : OffersRight drawn (offered log)
   pub marks : Marks (accepted_at log) (length drawn) ms
 
-pub whole_from : (n : ℕ) (p q : PassValue) (g h : Hand) (a : Accepted) (drawn : List DrawopValue) (ms : List Bool) (c : Work n p g h q a) → g.got ≡ [] → IsComplete h → IsPrefix h.sent drawn
+pub whole_from : (n : ℕ) (p q : PassValue) (g h : Hand) (a : Accepted) (drawn : List DrawopValue) (ms : List Bool) (c : AllWorked n p q g h a) → g.got ≡ [] → IsComplete h → IsPrefix h.sent drawn
     → Marks a.positions.items (length drawn) ms → Whole drawn ms c.log c.gots
 whole_from n p q g h a drawn ms c none all sent m =
+    let work = gained n p q c.log c.gots c.did in
     let got : h.got ≡ c.gots = c.got ∙ ap (λ l. l ++ c.gots) none in
     let right : AreRight h.sent c.gots = subst (λ l. AreRight h.sent l) got all.right in
     let most : (i : ℕ) → times i a.positions.items ≤ once_below i (length drawn) =
-    λ i. omega (arith, ap (times i) c.tells.positions, c.gained.once i, ap (λ l. spots i l) got, all.once i, once_rises i all.low (length drawn) (omega (arith, all.most, prefix_length h.sent drawn sent))) in
+    λ i. omega (arith, ap (times i) c.tells.positions, work.once i, ap (λ l. spots i l) got, all.once i, once_rises i all.low (length drawn) (omega (arith, all.most, prefix_length h.sent drawn sent))) in
     let e : map (λ i. get_or drawn i nothing) a.positions.items ≡ drawops (chosen is_taken (entries c.log)) =
-    ap (map (λ i. get_or drawn i nothing)) c.tells.positions ∙ sym (taken_at drawn c.log (c.gained.offers h.sent drawn sent right)) in
+    ap (map (λ i. get_or drawn i nothing)) c.tells.positions ∙ sym (taken_at drawn c.log (work.offers h.sent drawn sent right)) in
     record {
       moved = subst (λ l. IsPermutation drawn (l ++ unmarked ms drawn)) e (places_and_rest drawn a.positions.items ms m most);
       low = all.low;
       most = omega (arith, all.most, prefix_length h.sent drawn sent);
       once = λ i. sym (ap (λ l. spots i l) got) ∙ all.once i;
-      right = c.gained.offers h.sent drawn sent right;
+      right = work.offers h.sent drawn sent right;
       marks = subst (λ l. Marks l (length drawn) ms) c.tells.positions m;
     }
 
-pub takes_all : (n : ℕ) (p q r : PassValue) (g h : Hand) (a : Accepted) (drawn : List DrawopValue) (ms : List Bool) (t b : Batch) (c : Work n p g h q a) → Whole drawn ms c.log c.gots
+pub takes_all : (n : ℕ) (p q r : PassValue) (g h : Hand) (a : Accepted) (drawn : List DrawopValue) (ms : List Bool) (t b : Batch) (c : AllWorked n p q g h a) → Whole drawn ms c.log c.gots
     → IsSound p → IsSound q → IsSound r → Retakes q (unmarked ms drawn) r t → IsTotal a t b → Takes p drawn n r b
 takes_all n p q r g h a drawn ms t b c whole sp sq sr m e =
+    let work = gained n p q c.log c.gots c.did in
     let log = entries c.log in
     let more = m.log in
     let all = log ++ more in
     let sum = tally-append log more in
-    let gs : Gathers p all r = gathers_run p q r log more c.gained.gathers m.runs in
+    let gs : Gathers p all r = gathers_run p q r log more work.gathers m.runs in
     let fresh : (tally all).fresh ≡ b.fresh = omega (arith, sum.fresh, e.fresh, c.tells.fresh, m.tallies.fresh) in
     let again : (tally all).again ≡ b.again = omega (arith, sum.again, e.again, c.tells.again, m.tallies.again) in
     let clash : (tally all).clash ≡ b.clash = omega (arith, sum.clash, e.clash, c.tells.clash, m.tallies.clash) in
@@ -158,10 +131,10 @@ takes_all n p q r g h a drawn ms t b c whole sp sq sr m e =
           record { order = s.order; moved = s.moved; taken = counted_as p.cells p.seen r.seen s.order (counts (tally all).fresh (tally all).again (tally all).clash (length lefts)) (counts_in b) (same_counts fresh again clash left') s.taken };
       in_order = λ is w.
           counted_as p.cells p.seen r.seen drawn (counts (tally all).fresh (tally all).again (tally all).clash (tally more).left) (counts_in b) (same_counts fresh again clash left)
-          (in_given_order r more drawn ms sp w sq sr (c.gained.single is) c.gained.gathers gs m.runs m.all whole.most whole.once whole.right whole.marks);
+          (in_given_order whole.low p q r c.log c.gots more drawn ms sp w sq sr (alone n p q c.log c.gots c.did is) m.runs m.all whole.most whole.once whole.right whole.marks);
     }
 
-pub total_few : (n : ℕ) (p q r : PassValue) (g h : Hand) (a : Accepted) (drawn : List DrawopValue) (ms : List Bool) (t : Batch) (c : Work n p g h q a) → Whole drawn ms c.log c.gots → Retakes q (unmarked ms drawn) r t
+pub total_few : (n : ℕ) (p q r : PassValue) (g h : Hand) (a : Accepted) (drawn : List DrawopValue) (ms : List Bool) (t : Batch) (c : AllWorked n p q g h a) → Whole drawn ms c.log c.gots → Retakes q (unmarked ms drawn) r t
     → (((a.fresh + t.fresh) + (a.again + t.again)) + (a.clash + t.clash)) + t.left ≤ length drawn
 total_few n p q r g h a drawn ms t c whole m =
     let taken = drawops (chosen is_taken (entries c.log)) in
@@ -180,3 +153,7 @@ total_few n p q r g h a drawn ms t c whole m =
       m.tallies.clash,
       m.tallies.left,
     )
+
+-- and how the workers shared them
+pub shares : (n : ℕ) (p q r : PassValue) (g h : Hand) (a : Accepted) (drawn : List DrawopValue) (ms : List Bool) (t : Batch) (c : AllWorked n p q g h a) → Whole drawn ms c.log c.gots → Retakes q (unmarked ms drawn) r t → IsShared n p drawn r
+shares n p q r g h a drawn ms t c whole m = record { log = c.log; gots = c.gots; joined = q; work = c.did; marks = ms; marked = whole.marks; left_over = m.log; rest = m.runs; all = m.all }

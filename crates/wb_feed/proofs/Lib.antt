@@ -3,12 +3,12 @@ pub mod Numbers
 pub mod Members
 pub mod Log
 pub mod OneThread
-pub mod InOrder
 pub mod Settling
+pub mod InOrder
 pub mod Rules
 pub mod Sending
 pub mod Serving
-pub mod Crewing
+pub mod TakingBack
 pub mod Marking
 pub mod Placing
 pub mod OneWorker

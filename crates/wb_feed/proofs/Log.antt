@@ -1,16 +1,22 @@
 -- What a log tells of the desks that made it.
-use Rattle.std.proofs.Common.{◌≡◌, ℕ, ◌+◌, ◌≤◌, ◌<◌, Bool, true, false, cond, List, [], ◌∷◌, ◌++◌, length, refl, ap, sym, ◌∙◌, arith, append_assoc, length-append}
+use Rattle.std.proofs.Common.{◌≡◌, ℕ, ◌+◌, ◌≤◌, ◌<◌, Bool, true, false, cond, List, [], ◌∷◌, ◌++◌, length, refl, ap, sym, subst, ◌∙◌, arith, append_assoc, length-append}
 use Rattle.std.proofs.lemmas.List.{append-nil}
 use mathlib.Core.List.{IsPrefix}
 use Rattle.wb_names.specs.Values.{DrawopValue}
 use Rattle.wb_names.specs.History.{IsAgainAt, IsClashAt}
 use Rattle.wb_names.specs.Arrivals.{Outcome, Fresh, Known, Clashed, Left, Counts}
-use Rattle.wb_history.specs.Passes.{PassValue, IsSamePass, AddsNothing, IsSound}
-use Rattle.wb_history.specs.Sharing.{IsSplit, IsJoined}
-use Rattle.wb_feed.specs.Accepts.{Keeps, Accepts, Entry, drawops, tally, Runs}
+use Rattle.wb_history.specs.Passes.{PassValue, KeepsRows, AddsNothing, IsSound, IsWhole}
+use Rattle.wb_history.specs.Sharing.{IsSplit}
+use Rattle.wb_host.specs.Replies.{Accepted, NotAccepted}
+use Rattle.wb_host.specs.declared.reply.Reply.{Reply}
+use Rattle.wb_host.specs.declared.reply.Reply.TheVariants as replied
+use Rattle.wb_host.specs.declared.reply.BoardFault.{BoardFault}
+use Rattle.wb_host.specs.declared.reply.BoardFault.TheVariants.{NoRow, Memory}
+use Rattle.wb_feed.specs.Accepts.{Keeps, LosesAtMost, Accepts, Entry, drawops, tally, Runs}
 use Rattle.wb_feed.proofs.Prefixes.{prefix_self, prefix_is, prefix_trans, prefix_get}
 use Rattle.wb_feed.specs.Line.{once_below}
 use Rattle.wb_feed.specs.Served.{is_left}
+use Rattle.wb_feed.specs.Workers.{IsBack}
 use Rattle.wb_feed.proofs.Numbers.{times, times-append, each_once}
 
 -- the kinds of outcomes
@@ -180,6 +186,49 @@ runs_leave p q (e ∷ es) r =
       told = (says_longer r.0.seen q.seen e.0 e.1 b.kept.seen a.told.0, b.told);
     }
 
+-- no row is lost by the accepts of one desk
+pub leaves_lose : (p q : PassValue) (es : List Entry) → Leaves p es q → LosesAtMost 0 p q
+leaves_lose p q es l =
+    let many : length q.mine ≡ length p.mine + length (places es) = ap length l.mine ∙ length-append p.mine (places es) in
+    record { kept = l.kept; places = (places es, sym l.mine); none_more = omega (arith, l.free, many, places_many es); rows = omega (arith, l.free, many, places_many es) }
+
+rows_stay : (p q : PassValue) → Keeps p q → KeepsRows p q → LosesAtMost 0 p q
+rows_stay p q k r = record { kept = k; places = prefix_is p.mine q.mine r.0; none_more = omega (arith, r.1, ap length r.0); rows = omega (arith, r.1, ap length r.0) }
+
+pub accepted_loses : (p q : PassValue) (d : DrawopValue) (r : Reply) → Keeps p q → Accepted p d q r → LosesAtMost 0 p q
+accepted_loses p q d (replied.New i) k a =
+    let many : length q.mine ≡ length p.mine + 1 = ap length a.gains ∙ length-append p.mine (i ∷ []) in
+    record { kept = k; places = (i ∷ [], sym a.gains); none_more = omega (arith, a.row, many); rows = omega (arith, a.row, many) }
+accepted_loses p q d (replied.Again i) k a = rows_stay p q k a.1.0
+accepted_loses p q d (replied.Clash i) k a = rows_stay p q k a.1.0
+
+pub refused_loses : (p q : PassValue) (d : DrawopValue) (f : BoardFault) → Keeps p q → NotAccepted p d q f → LosesAtMost 0 p q
+refused_loses p q d NoRow k a = rows_stay p q k a.kept.0
+refused_loses p q d Memory k a = rows_stay p q k a.0
+
+pub loses_is : (p q : PassValue) → q ≡ p → LosesAtMost 0 p q
+loses_is p q e = rows_stay p q (keeps_is p q e) (ap (λ (x : PassValue). x.mine) e, ap (λ (x : PassValue). x.free) e)
+
+pub loses_more : (m n : ℕ) (p q : PassValue) → m ≤ n → LosesAtMost m p q → LosesAtMost n p q
+loses_more m n p q le l = record { kept = l.kept; places = l.places; none_more = l.none_more; rows = omega (arith, le, l.rows) }
+
+-- one loss after another
+pub loses_trans : (m n k : ℕ) (p q r : PassValue) → m + n ≤ k → LosesAtMost m p q → LosesAtMost n q r → LosesAtMost k p r
+loses_trans m n k p q r le a b = record {
+  kept = keeps_trans p q r a.kept b.kept;
+  places = prefix_trans p.mine q.mine r.mine a.places b.places;
+  none_more = omega (arith, a.none_more, b.none_more);
+  rows = omega (arith, le, a.rows, b.rows);
+}
+
+-- a desk that owns all rows still does
+pub leaves_whole : (p q : PassValue) (es : List Entry) → Leaves p es q → IsWhole p → IsWhole q
+leaves_whole p q es l w = omega (arith, l.free, ap length l.mine, length-append p.mine (places es), places_many es, l.kept.same.1, w)
+
+pub runs_sound : (p q : PassValue) (es : List Entry) → IsSound p → Runs p es q → IsSound q
+runs_sound p q [] s r = subst IsSound (sym r) s
+runs_sound p q (e ∷ es) s r = runs_sound r.0 q es r.1.sound r.2
+
 -- From the desk p to the desk q, by the entries of all desks that came back
 pub record Gathers (p : PassValue) (log : List Entry) (q : PassValue) : Type 0 where
   pub kept : Keeps p q
@@ -202,14 +251,15 @@ pub split_mine : (p rest desk : PassValue) (n : ℕ) → IsSplit p n rest desk �
 split_mine p rest desk n s = ap (λ (x : PassValue). x.mine) s.rest
 
 -- a worker's desk, which is cut off before the other workers start and comes back after them
-pub gathers_level : (p rest back q desk done : PassValue) (n : ℕ) (es others : List Entry) → IsSplit p n rest desk → Runs desk es done → Gathers rest others back → IsSamePass back q → IsJoined back done q
+pub gathers_level : (p rest back q desk done : PassValue) (n : ℕ) (es others : List Entry) → IsSplit p n rest desk → Runs desk es done → Gathers rest others back → IsBack back done q
     → Gathers p (es ++ others) q
-gathers_level p rest back q desk done n es others s r g same j =
+gathers_level p rest back q desk done n es others s r g b =
+    let j = b.joined in
     let l = runs_leave desk done es r in
     let mine : q.mine ≡ back.mine ++ places es = j.mine ∙ ap (λ m. back.mine ++ m) (l.mine ∙ ap (λ m. m ++ places es) s.mine) in
     let sum = tally-append es others in
     record {
-      kept = keeps_trans p rest q (split_keeps p rest desk n s) (keeps_trans rest back q g.kept (record { same = same; seen = j.first }));
+      kept = keeps_trans p rest q (split_keeps p rest desk n s) (keeps_trans rest back q g.kept (record { same = b.same; seen = j.first }));
       mine = λ i. ap (times i) mine ∙ omega (arith, times-append i back.mine (places es), g.mine i, ap (times i) (split_mine p rest desk n s), times-append i (places es) (places others), ap (times i) (places-append es others));
       many = omega (arith, ap length mine, length-append back.mine (places es), places_many es, g.many, ap length (split_mine p rest desk n s), sum.fresh);
       free = omega (arith, j.free, l.free, s.rows, s.free, g.free, sum.fresh);

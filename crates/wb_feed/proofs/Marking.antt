@@ -5,9 +5,9 @@ use Rattle.std.proofs.lemmas.Bool.Decides.{nat_tests}
 use Rattle.wb_names.specs.Values.{DrawopValue}
 use Rattle.wb_names.specs.Arrivals.{Outcome, Fresh, Known, Clashed, Left, counts_of}
 use Rattle.wb_history.specs.Passes.{PassValue}
-use Rattle.wb_feed.specs.Accepts.{Keeps, Accepts}
+use Rattle.wb_feed.specs.Accepts.{LosesAtMost, Accepts}
 use Rattle.wb_feed.specs.declared.batch.Batch.{Batch}
-use Rattle.wb_feed.proofs.Log.{runs_more, runs_leave, drawops-append, tally-append}
+use Rattle.wb_feed.proofs.Log.{runs_more, runs_leave, leaves_lose, drawops-append, tally-append}
 use Rattle.wb_feed.specs.Marks.{has, unmarked, Marks, CountsOne, Retakes}
 
 has-append : (p : ℕ) (xs ys : List ℕ) → has p (xs ++ ys) ≡ (has p xs || has p ys)
@@ -76,8 +76,8 @@ rest_more p q r ms ds i b c d lt e free is h one =
       few = omega (arith, h.few, one_kind o, one.2.fresh, one.2.again, one.2.clash, one.2.left);
     }
 
-pub rest_keeps : (p q : PassValue) (ms : List Bool) (ds : List DrawopValue) (i : ℕ) (b : Batch) → RestSoFar p ms ds i q b → Keeps p q
-rest_keeps p q ms ds i b h = (runs_leave p q h.taken.log h.taken.runs).kept
+pub rest_keeps : (p q : PassValue) (ms : List Bool) (ds : List DrawopValue) (i : ℕ) (b : Batch) → RestSoFar p ms ds i q b → LosesAtMost 0 p q
+rest_keeps p q ms ds i b h = leaves_lose p q h.taken.log (runs_leave p q h.taken.log h.taken.runs)
 
 has_more : (ps : List ℕ) (i q : ℕ) → i < length ps → has q (take (i + 1) ps) ≡ (has q (take i ps) || ((get_or ps i 0 == q) || false))
 has_more ps i q lt = ap (has q) (take_more ps i 0 lt) ∙ has-append q (take i ps) (get_or ps i 0 ∷ [])

@@ -1,25 +1,23 @@
 -- One worker takes the arrivals in the order in which they were drawn.
-use Rattle.std.proofs.Common.{◌≡◌, ◌≢◌, ◌⊎◌, ℕ, zero, suc, ◌+◌, ◌≤◌, ◌<◌, ◌==◌, ◌||◌, Bool, true, false, cond, List, [], ◌∷◌, ◌++◌, length, get_or, Some, slice_get, refl, ap, ap₂, sym, subst, ◌∙◌, arith, ⊎_elim, append_assoc, length-append, inl, inr}
-use Rattle.std.proofs.lemmas.List.{append-nil}
+use Rattle.std.proofs.Common.{◌≡◌, ◌≢◌, ◌⊎◌, ℕ, zero, suc, ◌+◌, ◌≤◌, ◌<◌, ◌==◌, ◌||◌, Bool, true, false, not, cond, List, [], ◌∷◌, ◌++◌, length, get_or, Some, slice_get, refl, ap, ap₂, sym, subst, ◌∙◌, arith, ⊎_elim, append_assoc, length-append, inl, inr}
 use Rattle.std.proofs.lemmas.Bool.{cases_lt}
 use Rattle.std.proofs.lemmas.Bool.Decides.{nat_tests}
 use mathlib.Core.List.{IsPrefix}
 use Rattle.wb_names.specs.Values.{DrawopValue}
-use Rattle.wb_names.specs.Arrivals.{Fresh, Known, Clashed, Left, counts, IsBatch}
+use Rattle.wb_names.specs.Arrivals.{Outcome, Fresh, Known, Clashed, Left, counts, AreTaken, IsBatch}
 use Rattle.wb_history.specs.Passes.{PassValue, IsSound, IsWhole}
 use Rattle.wb_feed.specs.Accepts.{Entry, drawops, outcomes, tally, Runs}
-use Rattle.wb_feed.proofs.Prefixes.{prefix_self, prefix_whole, prefix_trans, prefix_length}
+use Rattle.wb_feed.proofs.Prefixes.{prefix_whole, prefix_trans, prefix_length}
 use Rattle.wb_feed.proofs.Numbers.{times}
-use Rattle.wb_feed.proofs.Log.{chosen, Told, Gathers, runs_leave, runs_empty, tally-append, left_many}
-use Rattle.wb_feed.proofs.Settling.{whole_mine, stays_whole}
+use Rattle.wb_feed.proofs.Log.{chosen, Told, runs_leave, leaves_whole, runs_sound, runs_empty, tally-append, left_many}
+use Rattle.wb_feed.proofs.Settling.{left_lacks}
 use Rattle.wb_feed.proofs.OneThread.{Lacks, both_batches, counted_as, same_counts, plus, zero_plus}
 use Rattle.wb_feed.proofs.InOrder.{in_order}
 use Rattle.wb_feed.proofs.Members.{at_named}
 use Rattle.wb_feed.specs.declared.message.Message.{Message}
 use Rattle.wb_feed.specs.Line.{spots, once_below}
-use Rattle.wb_feed.specs.Served.{Spot, is_left, entries, accepted_at, takes, offered, Rises}
+use Rattle.wb_feed.specs.Served.{Spot, is_left, entries, accepted_at, offered, Rises, Serves}
 use Rattle.wb_feed.specs.Marks.{has, unmarked, Marks}
-use Rattle.wb_feed.specs.Crews.{Crew, nobody, worker}
 use Rattle.wb_feed.proofs.Placing.{OffersRight, pair_times, accepted_few, takes_spots, once_under, once_past}
 
 -- below low, and else 0, as a count
@@ -95,65 +93,38 @@ regroup k j = omega arith
 abbrev pub Marked : ℕ → List Bool → List Spot → Type 0
 Marked k ms ss = (j : ℕ) → j < length ms → get_or ms j false ≡ has (k + j) (accepted_at ss)
 
+has_later : (b : Bool) (p q : ℕ) (ps : List ℕ) → p ≢ q → has q (cond b [] (p ∷ []) ++ ps) ≡ has q ps
+has_later true p q ps apart = refl
+has_later false p q ps apart = ap (λ c. c || has q ps) (apart_test p q apart)
+
+has_here : (b : Bool) (p q : ℕ) (ps : List ℕ) → p ≡ q → has q ps ≡ false → has q (cond b [] (p ∷ []) ++ ps) ≡ not b
+has_here true p q ps e none = none
+has_here false p q ps e none = ap (λ c. c || has q ps) (same_test p q e)
+
+-- a drawop that was left is among the left ones, and else it is marked
+left_or_marked : (b m : Bool) (a d : DrawopValue) (o : Outcome) (un rest : List DrawopValue) (es : List Entry) → m ≡ not b → a ≡ d → un ≡ drawops es ++ rest → cond m un (a ∷ un) ≡ drawops (cond b ((d, o) ∷ es) es) ++ rest
+left_or_marked true m a d o un rest es open' same more = ap (λ c. cond c un (a ∷ un)) open' ∙ ap₂ (λ x xs. x ∷ xs) same more
+left_or_marked false m a d o un rest es shut same more = ap (λ c. cond c un (a ∷ un)) shut ∙ more
+
 pub split_from : (whole : List DrawopValue) (low : ℕ) (pre ds : List DrawopValue) (k : ℕ) (ms : List Bool) (ss : List Spot) → k ≡ length pre → pre ++ ds ≡ whole → length ms ≡ length ds → low ≤ length whole
     → Rises k (offered ss) → ((p : ℕ) → k ≤ p → pair_times p (offered ss) ≡ once_below p low) → OffersRight whole (offered ss) → Marked k ms ss → Split ss ds ms
 split_from whole low pre ds k ms [] at is long most rise once right mark = record { rest = ds; all = refl; left = all_unmarked ms ds long mark }
 split_from whole low pre [] k ms ((p, (d, o)) ∷ ss) at is long most rise once right mark =
     let f = first_is p k low d (offered ss) rise once in absurd (omega (arith, f.1, most, at, ap length is, length-append pre []))
 split_from whole low pre (a ∷ ds) k [] ((p, (d, o)) ∷ ss) at is long most rise once right mark = absurd (omega (arith, long))
-split_from whole low pre (a ∷ ds) k (m ∷ ms) ((p, (d, Left)) ∷ ss) at is long most rise once right mark =
-    let f = first_is p k low d (offered ss) rise once in
-    let same : a ≡ d = slice_mid pre ds a d k at (ap₂ (λ l n. slice_get l n) is (sym f.0) ∙ right.0) in
-    let rise' : Rises (k + 1) (offered ss) = subst (λ n. Rises (n + 1) (offered ss)) f.0 rise.1 in
-    let r = split_from whole low (pre ++ a ∷ []) ds (k + 1) ms ss (omega (arith, at, length-append pre (a ∷ []))) (append_assoc pre (a ∷ []) ds ∙ is) (omega (arith, long)) most rise'
-    (once_next p k low d (offered ss) f.0 once) right.1 (λ j lt. mark (suc j) (omega (arith, lt)) ∙ ap (λ n. has n (accepted_at ss)) (regroup k j)) in
-    let open' : m ≡ false = mark 0 (omega arith) ∙ none_left k (k + 0) ss (omega arith) rise' in
-    record {
-      rest = r.rest;
-      all = ap₂ (λ x xs. x ∷ xs) same r.all;
-      left = ap (λ b. cond b (unmarked ms ds) (a ∷ unmarked ms ds)) open' ∙ ap₂ (λ x xs. x ∷ xs) same r.left;
-    }
-split_from whole low pre (a ∷ ds) k (m ∷ ms) ((p, (d, Fresh i)) ∷ ss) at is long most rise once right mark =
+split_from whole low pre (a ∷ ds) k (m ∷ ms) ((p, (d, o)) ∷ ss) at is long most rise once right mark =
     let f = first_is p k low d (offered ss) rise once in
     let same : a ≡ d = slice_mid pre ds a d k at (ap₂ (λ l n. slice_get l n) is (sym f.0) ∙ right.0) in
     let rise' : Rises (k + 1) (offered ss) = subst (λ n. Rises (n + 1) (offered ss)) f.0 rise.1 in
     let next : Marked (k + 1) ms ss = λ j lt.
-    mark (suc j) (omega (arith, lt)) ∙ (ap (λ b. b || has (k + suc j) (accepted_at ss)) (apart_test p (k + suc j) (λ e. absurd (omega (arith, e, f.0)))) ∙ ap (λ n. has n (accepted_at ss)) (regroup k j)) in
+    mark (suc j) (omega (arith, lt)) ∙ (has_later (is_left o) p (k + suc j) (accepted_at ss) (λ e. absurd (omega (arith, e, f.0))) ∙ ap (λ n. has n (accepted_at ss)) (regroup k j)) in
     let r = split_from whole low (pre ++ a ∷ []) ds (k + 1) ms ss (omega (arith, at, length-append pre (a ∷ []))) (append_assoc pre (a ∷ []) ds ∙ is) (omega (arith, long)) most rise'
     (once_next p k low d (offered ss) f.0 once) right.1 next in
-    let shut' : m ≡ true = mark 0 (omega arith) ∙ ap (λ b. b || has (k + 0) (accepted_at ss)) (same_test p (k + 0) (omega (arith, f.0))) in
+    let here : m ≡ not (is_left o) = mark 0 (omega arith) ∙ has_here (is_left o) p (k + 0) (accepted_at ss) (omega (arith, f.0)) (none_left k (k + 0) ss (omega arith) rise') in
     record {
       rest = r.rest;
       all = ap₂ (λ x xs. x ∷ xs) same r.all;
-      left = ap (λ b. cond b (unmarked ms ds) (a ∷ unmarked ms ds)) shut' ∙ r.left;
-    }
-split_from whole low pre (a ∷ ds) k (m ∷ ms) ((p, (d, Known i)) ∷ ss) at is long most rise once right mark =
-    let f = first_is p k low d (offered ss) rise once in
-    let same : a ≡ d = slice_mid pre ds a d k at (ap₂ (λ l n. slice_get l n) is (sym f.0) ∙ right.0) in
-    let rise' : Rises (k + 1) (offered ss) = subst (λ n. Rises (n + 1) (offered ss)) f.0 rise.1 in
-    let next : Marked (k + 1) ms ss = λ j lt.
-    mark (suc j) (omega (arith, lt)) ∙ (ap (λ b. b || has (k + suc j) (accepted_at ss)) (apart_test p (k + suc j) (λ e. absurd (omega (arith, e, f.0)))) ∙ ap (λ n. has n (accepted_at ss)) (regroup k j)) in
-    let r = split_from whole low (pre ++ a ∷ []) ds (k + 1) ms ss (omega (arith, at, length-append pre (a ∷ []))) (append_assoc pre (a ∷ []) ds ∙ is) (omega (arith, long)) most rise'
-    (once_next p k low d (offered ss) f.0 once) right.1 next in
-    let shut' : m ≡ true = mark 0 (omega arith) ∙ ap (λ b. b || has (k + 0) (accepted_at ss)) (same_test p (k + 0) (omega (arith, f.0))) in
-    record {
-      rest = r.rest;
-      all = ap₂ (λ x xs. x ∷ xs) same r.all;
-      left = ap (λ b. cond b (unmarked ms ds) (a ∷ unmarked ms ds)) shut' ∙ r.left;
-    }
-split_from whole low pre (a ∷ ds) k (m ∷ ms) ((p, (d, Clashed i)) ∷ ss) at is long most rise once right mark =
-    let f = first_is p k low d (offered ss) rise once in
-    let same : a ≡ d = slice_mid pre ds a d k at (ap₂ (λ l n. slice_get l n) is (sym f.0) ∙ right.0) in
-    let rise' : Rises (k + 1) (offered ss) = subst (λ n. Rises (n + 1) (offered ss)) f.0 rise.1 in
-    let next : Marked (k + 1) ms ss = λ j lt.
-    mark (suc j) (omega (arith, lt)) ∙ (ap (λ b. b || has (k + suc j) (accepted_at ss)) (apart_test p (k + suc j) (λ e. absurd (omega (arith, e, f.0)))) ∙ ap (λ n. has n (accepted_at ss)) (regroup k j)) in
-    let r = split_from whole low (pre ++ a ∷ []) ds (k + 1) ms ss (omega (arith, at, length-append pre (a ∷ []))) (append_assoc pre (a ∷ []) ds ∙ is) (omega (arith, long)) most rise'
-    (once_next p k low d (offered ss) f.0 once) right.1 next in
-    let shut' : m ≡ true = mark 0 (omega arith) ∙ ap (λ b. b || has (k + 0) (accepted_at ss)) (same_test p (k + 0) (omega (arith, f.0))) in
-    record {
-      rest = r.rest;
-      all = ap₂ (λ x xs. x ∷ xs) same r.all;
-      left = ap (λ b. cond b (unmarked ms ds) (a ∷ unmarked ms ds)) shut' ∙ r.left;
+      left = left_or_marked (is_left o) m a d o (unmarked ms ds) r.rest (chosen is_left (entries ss)) here same r.left;
     }
 
 -- a run in two parts
@@ -218,66 +189,39 @@ first_part w y z es (h ∷ a) b e r q lack full =
     let c = all_left y.seen (h ∷ a) l.told lack' in
     record { seen = same; fresh = c.fresh; again = c.again; clash = c.clash; left = c.left ∙ (ap length e ∙ sym (left_many es)) }
 
--- One worker's run, by a desk cut off and joined back or by the desk itself: v is the desk before, w the desk after
-pub record Single (v : PassValue) (log : List Spot) (got : List Message) (w : PassValue) : Type 0 where
-  pub from : PassValue
-  pub to : PassValue
-  pub runs : Runs from (entries log) to
-  pub same : from.seen ≡ v.seen
-  pub back : IsPrefix to.seen w.seen
-  pub empty : 0 < (tally (entries log)).left → w.free ≡ 0
-  pub offered : offered log ≡ takes got
-  pub rises : Rises 0 (takes got)
-
 -- After the worker the desk w takes what is not marked, in order: first what the worker left, then what it never received
-phases : (v u₀ u w z : PassValue) (es more : List Entry) (rest all : List DrawopValue) → IsSound v → IsWhole v → IsSound w → IsSound z → Runs u₀ es u → u₀.seen ≡ v.seen → IsPrefix u.seen w.seen → (0 < (tally es).left → w.free ≡ 0)
-    → Gathers v es w → Gathers v (es ++ more) z → Runs w more z → drawops more ≡ drawops (chosen is_left es) ++ rest → all ≡ drawops es ++ rest
+phases : (v w z : PassValue) (es more : List Entry) (rest all : List DrawopValue) → IsSound v → IsWhole v → IsSound w → IsSound z → Runs v es w → Runs w more z → drawops more ≡ drawops (chosen is_left es) ++ rest → all ≡ drawops es ++ rest
     → IsBatch v.cells v.seen all z.seen (counts (tally (es ++ more)).fresh (tally (es ++ more)).again (tally (es ++ more)).clash (tally more).left)
-phases v u₀ u w z es more rest all sv hv sw sz runs same back free gw gz run split whole' =
-    let hw : IsWhole w = stays_whole v w es gw hv in
-    let hz : IsWhole z = stays_whole v z (es ++ more) gz hv in
-    let ov = whole_mine v sv hv in
-    let ow = whole_mine w sw hw in
-    let oz = whole_mine z sz hz in
+phases v w z es more rest all sv hv sw sz runs run split whole' =
+    let lw = runs_leave v w es runs in
+    let hw : IsWhole w = leaves_whole v w es lw hv in
     let s = runs_split w z more (drawops (chosen is_left es)) rest run split in
     let la = runs_leave w s.mid s.front s.to in
     let lb = runs_leave s.mid z s.back s.on in
-    let long : length w.seen ≡ length u₀.seen + (tally es).fresh = omega (arith, gw.many, ov.many, ow.many, ap length same) in
-    let first = in_order v.cells w.seen u₀ u es sw.history (omega (arith, sw.room, gw.kept.same.1)) runs back long (λ some. omega (arith, free some, hw, ow.many, gw.kept.same.1)) in
     let wz : IsPrefix w.seen z.seen = prefix_trans w.seen s.mid.seen z.seen la.kept.seen lb.kept.seen in
-    let full : 0 < (tally es).left → w.seen ≡ z.seen = λ some. prefix_whole w.seen z.seen wz (omega (arith, free some, hw, ow.many, sz.room, gz.kept.same.1, gw.kept.same.1)) in
-    let c = first_part w s.mid z es s.front s.back s.first s.to s.on first.lacks full in
+    let full : 0 < (tally es).left → w.seen ≡ z.seen = λ some. prefix_whole w.seen z.seen wz (omega (arith, runs_empty v w es runs some, hw, sw.as_many hw, sz.room, la.kept.same.1, lb.kept.same.1)) in
+    let c = first_part w s.mid z es s.front s.back s.first s.to s.on (left_lacks v w es sw hw runs) full in
     let both = tally-append es more in
     let parted = tally-append s.front s.back in
     let fresh : (tally more).fresh ≡ (tally s.back).fresh = ap (λ l. (tally l).fresh) s.all ∙ omega (arith, parted.fresh, c.fresh) in
     let again : (tally more).again ≡ (tally s.back).again = ap (λ l. (tally l).again) s.all ∙ omega (arith, parted.again, c.again) in
     let clash : (tally more).clash ≡ (tally s.back).clash = ap (λ l. (tally l).clash) s.all ∙ omega (arith, parted.clash, c.clash) in
     let left : (tally more).left ≡ (tally es).left + (tally s.back).left = ap (λ l. (tally l).left) s.all ∙ omega (arith, parted.left, c.left) in
-    let more_long : length z.seen ≡ length s.mid.seen + (tally s.back).fresh = omega (arith, gz.many, gw.many, oz.many, ow.many, both.fresh, fresh, ap length c.seen) in
-    let second = in_order v.cells z.seen s.mid z s.back sz.history (omega (arith, sz.room, gz.kept.same.1)) s.on (prefix_self z.seen) more_long
-    (λ some. omega (arith, runs_empty s.mid z s.back s.on some, hz, oz.many, gz.kept.same.1)) in
-    let one : IsBatch v.cells v.seen (drawops es) w.seen (tally es) =
-    subst (λ l. IsBatch v.cells l (drawops es) w.seen (tally es)) same (outcomes es, first.taken, refl) in
-    let two : IsBatch v.cells w.seen rest z.seen (tally s.back) =
-    subst (λ (k : List DrawopValue × List DrawopValue). IsBatch v.cells k.0 k.1 z.seen (tally s.back)) (λ i. (sym c.seen i, s.second i)) (outcomes s.back, second.taken, refl) in
-    subst (λ l. IsBatch v.cells v.seen l z.seen (counts (tally (es ++ more)).fresh (tally (es ++ more)).again (tally (es ++ more)).clash (tally more).left)) (sym whole')
-    (counted_as v.cells v.seen z.seen (drawops es ++ rest) (plus (tally es) (tally s.back)) (counts (tally (es ++ more)).fresh (tally (es ++ more)).again (tally (es ++ more)).clash (tally more).left)
+    let one : IsBatch v.cells v.seen (drawops es) w.seen (tally es) = (outcomes es, in_order v w es sv hv runs, refl) in
+    let second : AreTaken s.mid.cells s.mid.seen (drawops s.back) (outcomes s.back) z.seen = in_order s.mid z s.back (runs_sound w s.mid s.front sw s.to) (leaves_whole w s.mid s.front la hw) s.on in
+    let two : IsBatch v.cells w.seen (drawops s.back) z.seen (tally s.back) =
+    (outcomes s.back, subst (λ (k : ℕ × List DrawopValue). AreTaken k.0 k.1 (drawops s.back) (outcomes s.back) z.seen) (λ i. ((la.kept.same.1 ∙ lw.kept.same.1) i, sym c.seen i)) second, refl) in
+    subst (λ l. IsBatch v.cells v.seen l z.seen (counts (tally (es ++ more)).fresh (tally (es ++ more)).again (tally (es ++ more)).clash (tally more).left)) (sym (whole' ∙ ap (λ l. drawops es ++ l) (sym s.second)))
+    (counted_as v.cells v.seen z.seen (drawops es ++ drawops s.back) (plus (tally es) (tally s.back)) (counts (tally (es ++ more)).fresh (tally (es ++ more)).again (tally (es ++ more)).clash (tally more).left)
     (same_counts (omega (arith, both.fresh, fresh)) (omega (arith, both.again, again)) (omega (arith, both.clash, clash)) (sym left))
-    (both_batches v.cells v.seen w.seen z.seen (drawops es) rest (tally es) (tally s.back) one two))
-
--- a worker whose desk was cut off with all rows and joined back
-pub single_part : {rows : ℕ} {v w : PassValue} {log : List Spot} {gots : List Message} → rows ≡ v.free → Crew rows (suc zero) v log gots w → Single v log gots w
-single_part given (worker {p = v} {rest = x} {q = w} {desk = u₀} {done = u} es _ got _ p r o rise nobody same j) =
-    subst (λ l. Single v l got w) (sym (append-nil es))
-    (record { from = u₀; to = u; runs = r; same = p.seen; back = j.second; empty = λ some. omega (arith, runs_empty u₀ u (entries es) r some, j.free, p.rows, given); offered = o; rises = rise })
+    (both_batches v.cells v.seen w.seen z.seen (drawops es) (drawops s.back) (tally es) (tally s.back) one two))
 
 -- one worker, through the channel
-pub in_given_order : {low : ℕ} {v w : PassValue} {log : List Spot} {gots : List Message} → (z : PassValue) (more : List Entry) (all : List DrawopValue) (ms : List Bool) → IsSound v → IsWhole v → IsSound w → IsSound z
-    → Single v log gots w → Gathers v (entries log) w → Gathers v (entries log ++ more) z → Runs w more z → drawops more ≡ unmarked ms all
-    → low ≤ length all → ((p : ℕ) → spots p gots ≡ once_below p low) → OffersRight all (offered log) → Marks (accepted_at log) (length all) ms
+pub in_given_order : (low : ℕ) (v w z : PassValue) (log : List Spot) (gots : List Message) (more : List Entry) (all : List DrawopValue) (ms : List Bool) → IsSound v → IsWhole v → IsSound w → IsSound z
+    → Serves v log gots w → Runs w more z → drawops more ≡ unmarked ms all → low ≤ length all → ((p : ℕ) → spots p gots ≡ once_below p low) → OffersRight all (offered log) → Marks (accepted_at log) (length all) ms
     → IsBatch v.cells v.seen all z.seen (counts (tally (entries log ++ more)).fresh (tally (entries log ++ more)).again (tally (entries log ++ more)).clash (tally more).left)
-in_given_order {v = v} {w = w} {log = log} {gots = gots} z more all ms sv hv sw sz one gw gz run again' most once right marks =
+in_given_order low v w z log gots more all ms sv hv sw sz one run again' most once right marks =
     let rise : Rises 0 (offered log) = subst (λ l. Rises 0 l) (sym one.offered) one.rises in
-    let s = split_from all _ [] all 0 ms log refl refl marks.long most rise (λ q _. ap (pair_times q) one.offered ∙ (takes_spots q gots ∙ once q)) right
+    let s = split_from all low [] all 0 ms log refl refl marks.long most rise (λ q _. ap (pair_times q) one.offered ∙ (takes_spots q gots ∙ once q)) right
     (λ i lt. marks.each i (omega (arith, lt, marks.long)) ∙ ap (λ n. has n (accepted_at log)) (sym (zero_plus i))) in
-    phases v one.from one.to w z (entries log) more s.rest all sv hv sw sz one.runs one.same one.back one.empty gw gz run (again' ∙ s.left) s.all
+    phases v w z (entries log) more s.rest all sv hv sw sz one.runs run (again' ∙ s.left) s.all

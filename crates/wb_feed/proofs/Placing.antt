@@ -20,9 +20,9 @@ use Rattle.wb_feed.proofs.Settling.{map_range}
 use Rattle.wb_feed.specs.declared.message.Message.{Message}
 use Rattle.wb_feed.specs.declared.message.Message.TheVariants.{Take, End}
 use Rattle.wb_feed.specs.Line.{spots, once_below, AreRight}
-use Rattle.wb_feed.specs.Served.{Spot, entries, accepted_at, takes, offered}
+use Rattle.wb_feed.specs.Served.{Spot, entries, accepted_at, takes, offered, Serves}
 use Rattle.wb_feed.specs.Marks.{has, unmarked, Marks}
-use Rattle.wb_feed.specs.Crews.{Crew, nobody, worker}
+use Rattle.wb_feed.specs.Workers.{Workers, nobody, worker}
 use Rattle.wb_feed.proofs.Serving.{entries-append, accepted-append, offered-append}
 use Rattle.wb_feed.proofs.Rules.{spots-append}
 
@@ -148,15 +148,14 @@ right_front : (sent : List DrawopValue) (xs ys : List Message) → AreRight sent
 right_front sent [] ys r = (tt, r)
 right_front sent (x ∷ xs) ys r = let h = right_front sent xs ys r.1 in ((r.0, h.0), h.1)
 
-pub crew_offers : {rows n : ℕ} {v w : PassValue} {log : List Spot} {gots : List Message} → (sent ds : List DrawopValue) → IsPrefix sent ds → AreRight sent gots → Crew rows n v log gots w → OffersRight ds (offered log)
-crew_offers sent ds p r nobody = tt
-crew_offers sent ds p r (worker es others got gots _ _ e _ c _ _) =
-    let h = right_front sent gots got r in
-    subst (λ l. OffersRight ds l) (sym (offered-append es others))
-    (offers_append ds (offered es) (offered others) (subst (λ l. OffersRight ds l) (sym e) (offers_from sent ds got p h.1)) (crew_offers sent ds p h.0 c))
+pub serves_offer : {v w : PassValue} {log : List Spot} {gots : List Message} → (sent ds : List DrawopValue) → IsPrefix sent ds → AreRight sent gots → Serves v log gots w → OffersRight ds (offered log)
+serves_offer {gots = gots} sent ds p r s = subst (λ l. OffersRight ds l) (sym s.offered) (offers_from sent ds gots p r)
 
-pub single_offers : (log : List Spot) (gots : List Message) (sent ds : List DrawopValue) → IsPrefix sent ds → AreRight sent gots → offered log ≡ takes gots → OffersRight ds (offered log)
-single_offers log gots sent ds p r e = subst (λ l. OffersRight ds l) (sym e) (offers_from sent ds gots p r)
+pub workers_offer : {rows n : ℕ} {v w : PassValue} {log : List Spot} {gots : List Message} → (sent ds : List DrawopValue) → IsPrefix sent ds → AreRight sent gots → Workers rows n v log gots w → OffersRight ds (offered log)
+workers_offer sent ds p r nobody = tt
+workers_offer sent ds p r (worker es others got gots _ s c _) =
+    let h = right_front sent gots got r in
+    subst (λ l. OffersRight ds l) (sym (offered-append es others)) (offers_append ds (offered es) (offered others) (serves_offer sent ds p h.1 s) (workers_offer sent ds p h.0 c))
 
 abbrev pub pair_times : ℕ → List (ℕ × DrawopValue) → ℕ
 pair_times p [] = 0
@@ -174,18 +173,18 @@ takes_spots p [] = refl
 takes_spots p (Take q d ∷ ms) = omega (arith, takes_spots p ms)
 takes_spots p (End ∷ ms) = omega (arith, takes_spots p ms)
 
-pub single_once : (log : List Spot) (gots : List Message) (p : ℕ) → offered log ≡ takes gots → times p (accepted_at log) ≤ spots p gots
-single_once log gots p e = omega (arith, accepted_few p log, ap (pair_times p) e, takes_spots p gots)
+pub serves_once : {v w : PassValue} {log : List Spot} {gots : List Message} → (p : ℕ) → Serves v log gots w → times p (accepted_at log) ≤ spots p gots
+serves_once {log = log} {gots = gots} p s = omega (arith, accepted_few p log, ap (pair_times p) s.offered, takes_spots p gots)
 
-pub crew_once : {rows n : ℕ} {v w : PassValue} {log : List Spot} {gots : List Message} → (p : ℕ) → Crew rows n v log gots w → times p (accepted_at log) ≤ spots p gots
-crew_once p nobody = omega arith
-crew_once p (worker es others got gots _ _ e _ c _ _) =
-    omega (arith, crew_once p c, accepted_few p es, ap (pair_times p) e, takes_spots p got, times-append p (accepted_at es) (accepted_at others), ap (times p) (accepted-append es others), spots-append p gots got)
+pub workers_once : {rows n : ℕ} {v w : PassValue} {log : List Spot} {gots : List Message} → (p : ℕ) → Workers rows n v log gots w → times p (accepted_at log) ≤ spots p gots
+workers_once p nobody = omega arith
+workers_once p (worker es others got gots _ s c _) =
+    omega (arith, workers_once p c, serves_once p s, times-append p (accepted_at es) (accepted_at others), ap (times p) (accepted-append es others), spots-append p gots got)
 
-pub crew_gathers : {rows n : ℕ} {v w : PassValue} {log : List Spot} {gots : List Message} → Crew rows n v log gots w → Gathers v (entries log) w
-crew_gathers {v = v} nobody = gathers_none v
-crew_gathers {rows = rows} (worker {p = v} {rest = x} {back = y} {q = w} {desk = u₀} {done = u} es others got gots p r _ _ c same j) =
-    subst (λ l. Gathers v l w) (sym (entries-append es others)) (gathers_level v x y w u₀ u rows (entries es) (entries others) p r (crew_gathers c) same j)
+pub workers_gather : {rows n : ℕ} {v w : PassValue} {log : List Spot} {gots : List Message} → Workers rows n v log gots w → Gathers v (entries log) w
+workers_gather {v = v} nobody = gathers_none v
+workers_gather {rows = rows} (worker {p = v} {rest = x} {back = y} {q = w} {desk = u₀} {done = u} es others got gots p s c b) =
+    subst (λ l. Gathers v l w) (sym (entries-append es others)) (gathers_level v x y w u₀ u rows (entries es) (entries others) p s.runs (workers_gather c) b)
 
 pub taken_at : (ds : List DrawopValue) (log : List Spot) → OffersRight ds (offered log) → drawops (chosen is_taken (entries log)) ≡ map (λ i. get_or ds i nothing) (accepted_at log)
 taken_at ds [] o = refl

@@ -1,13 +1,13 @@
 -- The sender's loop over the arrivals.
-use Rattle.std.proofs.Common.{◌≡◌, ℕ, ◌+◌, ◌-◌, ◌≤◌, Bool, true, false, true≢false, List, [], ◌∷◌, ◌++◌, length, refl, ap, sym, subst, ◌∙◌, arith, append_assoc, length-append}
+use Rattle.std.proofs.Common.{◌≡◌, ℕ, ◌≤◌, Bool, true, false, true≢false, List, [], ◌∷◌, ◌++◌, length, take, refl, ap, sym, subst, ◌∙◌, arith, append_assoc, length-append}
 use Rattle.std.proofs.lemmas.List.{append-nil}
 use mathlib.Core.List.{IsPrefix}
 use Rattle.wb_names.specs.Values.{DrawopValue}
-use Rattle.wb_feed.proofs.Prefixes.{prefix_self, prefix_trans}
+use Rattle.wb_feed.proofs.Prefixes.{prefix_self, prefix_trans, prefix_take, take_prefix}
 use Rattle.wb_feed.specs.declared.message.Message.{Message}
 use Rattle.wb_feed.specs.declared.message.Message.TheVariants.{Take, End}
 use Rattle.wb_feed.specs.declared.line.Hand.{Hand}
-use Rattle.wb_feed.specs.Line.{hand, sends}
+use Rattle.wb_feed.specs.Line.{sends}
 use Rattle.wb_feed.specs.Sent.{IsNext, IsSent, IsDrawn, DrawsOne}
 
 -- the sender's pass keeps its parts, and what it received
@@ -40,12 +40,12 @@ sent_more old most drawn rest most' more h i going true x s d won shut =
     let t = won refl in
     let sent : i ≡ sends h (Take (length drawn) d.drawop) = t.1 ∙ ap (λ m. sends h m) d.is in
     let e : i.sent ≡ more = ap (λ (x : Hand). x.sent) sent ∙ (ap (λ l. l ++ d.drawop ∷ []) (s.all t.0) ∙ sym d.all) in
-    record { sends = ap (λ (x : Hand). x.sends) sent ∙ s.sends; first = subst (λ l. IsPrefix i.sent l) e (prefix_self i.sent); all = λ _. e }
+    record { sends = ap (λ (x : Hand). x.sends) sent ∙ s.sends; first = prefix_take i.sent more (subst (λ l. IsPrefix i.sent l) e (prefix_self i.sent)); all = λ _. e }
 sent_more old most drawn rest most' more h i going false x s d won shut =
     let e = shut refl in
     record {
       sends = ap (λ (x : Hand). x.sends) e ∙ s.sends;
-      first = rw (ap (λ (x : Hand). x.sent) e) (prefix_trans h.sent drawn more s.first (d.drawop ∷ [], sym d.all));
+      first = prefix_take i.sent more (rw (ap (λ (x : Hand). x.sent) e) (prefix_trans h.sent drawn more (take_prefix h.sent drawn s.first) (d.drawop ∷ [], sym d.all)));
       all = λ f. absurd (true≢false (sym f));
     }
 
@@ -61,16 +61,10 @@ pub ends_same : (h i : Hand) (going r : Bool) → (r ≡ true → (going ≡ tru
 ends_same h i going true won shut = (won refl).1
 ends_same h i going false won shut = shut refl
 
--- what the sender sent stays where a worker's pass is taken back
-pub sent_stays : (h i j : Hand) (drawn : List DrawopValue) → h ≡ hand (i.parts + j.parts) i.sends i.sent (i.got ++ j.got) → (i.sends ≡ true) × IsPrefix i.sent drawn → (h.sends ≡ true) × IsPrefix h.sent drawn
-sent_stays h i j drawn e s = rw e s
-
--- a pass that sent nothing, and of which a part was cut off, while nothing is drawn
-pub sent_none : (h i : Hand) (drawn : List DrawopValue) → i ≡ hand (h.parts - 1) h.sends h.sent h.got → h.sends ≡ true → h.sent ≡ [] → drawn ≡ [] → IsSent i drawn true
-sent_none h i drawn cut s none empty =
-    let same : i.sent ≡ drawn = ap (λ (x : Hand). x.sent) cut ∙ (none ∙ sym empty) in
-    record { sends = ap (λ (x : Hand). x.sends) cut ∙ s; first = subst (λ l. IsPrefix i.sent l) same (prefix_self i.sent); all = λ _. same }
-
--- what was sent stays where the view does
-pub ends_sent : (h i : Hand) (drawn : List DrawopValue) (going : Bool) → IsSent h drawn going → i ≡ h → (i.sends ≡ true) × IsPrefix i.sent drawn
-ends_sent h i drawn going s same = rw same (s.sends, s.first)
+-- what was sent is what it was where nothing else was
+pub sent_same : (h i : Hand) (drawn drawn' : List DrawopValue) (going r : Bool) → IsSent h drawn going → i.sends ≡ h.sends → i.sent ≡ h.sent → drawn' ≡ drawn → (r ≡ true → going ≡ true) → IsSent i drawn' r
+sent_same h i drawn drawn' going r s a b c open' = record {
+  sends = a ∙ s.sends;
+  first = subst (λ (x : List DrawopValue × List DrawopValue). take (length x.0) x.1 ≡ x.0) (λ k. (sym b k, sym c k)) s.first;
+  all = λ e. b ∙ (s.all (open' e) ∙ sym c);
+}

@@ -4,8 +4,8 @@ use Rattle.std.proofs.lemmas.List.{append-nil}
 use Rattle.wb_names.specs.Values.{DrawopValue}
 use Rattle.wb_names.specs.Arrivals.{Outcome, Fresh, Known, Clashed, Left, counts_of}
 use Rattle.wb_history.specs.Passes.{PassValue}
-use Rattle.wb_feed.specs.Accepts.{Keeps, Accepts, drawops}
-use Rattle.wb_feed.proofs.Log.{keeps_self, keeps_trans, runs_more, tally-append, tally_all}
+use Rattle.wb_feed.specs.Accepts.{LosesAtMost, Accepts, drawops}
+use Rattle.wb_feed.proofs.Log.{loses_is, loses_trans, runs_more, tally-append, tally_all}
 use Rattle.wb_feed.specs.declared.message.Message.{Message}
 use Rattle.wb_feed.specs.declared.message.Message.TheVariants.{Take, End}
 use Rattle.wb_feed.specs.declared.line.Hand.{Hand}
@@ -51,14 +51,19 @@ offered_many (s ∷ ss) = omega (arith, offered_many ss)
 -- the counts of one that took all that it received, where a message at p comes next
 pub tells_few : (v w : PassValue) (got : List Message) (a : Accepted) (p : ℕ) → TookAll v w got a → Rises 0 (takes got) → AreBelow p got → (a.fresh + a.again) + a.clash ≤ p
 tells_few v w got a p t r b =
-    omega (arith, t.tells.fresh, t.tells.again, t.tells.clash, tally_all (entries t.log), offered_many t.log, ap length t.offered, rises_few 0 p got r b (omega arith))
+    omega (arith, t.tells.fresh, t.tells.again, t.tells.clash, tally_all (entries t.log), offered_many t.log, ap length t.serves.offered, rises_few 0 p got r b (omega arith))
 
 pub serves_none : (v : PassValue) (a : Accepted) (h : Hand) → h ≡ hand 1 false [] [] → Tells a [] → Served v v h a false
 serves_none v a h e t = record {
-  kept = keeps_self v;
+  kept = loses_is v v refl;
   hand = e ∙ ap (λ g. hand 1 false [] g) (sym (ap (λ (x : Hand). x.got) e));
   rises = subst (λ g. Rises 0 (takes g)) (sym (ap (λ (x : Hand). x.got) e)) tt;
-  took = λ _. record { log = []; runs = refl; offered = ap takes (sym (ap (λ (x : Hand). x.got) e)); tells = t; few = omega (arith, t.fresh, t.again, t.clash) };
+  took = λ _. record {
+    log = [];
+    serves = record { runs = refl; offered = ap takes (sym (ap (λ (x : Hand). x.got) e)); rises = subst (λ g. Rises 0 (takes g)) (sym (ap (λ (x : Hand). x.got) e)) tt };
+    tells = t;
+    few = omega (arith, t.fresh, t.again, t.clash);
+  };
 }
 
 hand_next : (h i : Hand) (x : Message) → h ≡ hand 1 false [] h.got → i ≡ receives h x → i ≡ hand 1 false [] i.got
@@ -79,13 +84,13 @@ serves_end v w h i a failed s n f =
       kept = s.kept;
       hand = hand_next h i End s.hand n;
       rises = rises_next h i End n f s.rises;
-      took = λ ok. let t = s.took ok in record { log = t.log; runs = t.runs; offered = t.offered ∙ sym e; tells = t.tells; few = t.few };
+      took = λ ok. let t = s.took ok in record { log = t.log; serves = record { runs = t.serves.runs; offered = t.serves.offered ∙ sym e; rises = rises_next h i End n f s.rises }; tells = t.tells; few = t.few };
     }
 
 -- a message while nothing is accepted any more
-pub serves_failed : (v w u : PassValue) (h i : Hand) (x : Message) (a b : Accepted) (failed : Bool) → Served v w h a failed → i ≡ receives h x → Follows h.got x → Keeps w u → Served v u i b true
+pub serves_failed : (v w u : PassValue) (h i : Hand) (x : Message) (a b : Accepted) (failed : Bool) → Served v w h a failed → i ≡ receives h x → Follows h.got x → LosesAtMost 0 w u → Served v u i b true
 serves_failed v w u h i x a b failed s n f k = record {
-  kept = keeps_trans v w u s.kept k;
+  kept = loses_trans 0 0 0 v w u (omega arith) s.kept k;
   hand = hand_next h i x s.hand n;
   rises = rises_next h i x n f s.rises;
   took = λ no. absurd (true≢false no);
@@ -98,7 +103,7 @@ one_kind (Known i) = omega arith
 one_kind (Clashed i) = omega arith
 one_kind Left = omega arith
 
-pub serves_more : (v w u : PassValue) (h i : Hand) (p : ℕ) (d : DrawopValue) (a b : Accepted) → p < 2 ^ 32 → Served v w h a false → i ≡ receives h (Take p d) → Follows h.got (Take p d) → Keeps w u
+pub serves_more : (v w u : PassValue) (h i : Hand) (p : ℕ) (d : DrawopValue) (a b : Accepted) → p < 2 ^ 32 → Served v w h a false → i ≡ receives h (Take p d) → Follows h.got (Take p d) → LosesAtMost 0 w u
     → (o : Outcome) × Accepts w d o u × AcceptsOne a p o b → Served v u i b false
 serves_more v w u h i p d a b small s n f k one =
     let g : i.got ≡ h.got ++ Take p d ∷ [] = ap (λ (y : Hand). y.got) n in
@@ -107,13 +112,16 @@ serves_more v w u h i p d a b small s n f k one =
     let x : Spot = (p, (d, o)) in
     let more : entries (t.log ++ x ∷ []) ≡ entries t.log ++ (d, o) ∷ [] = entries-append t.log (x ∷ []) in
     record {
-      kept = keeps_trans v w u s.kept k;
+      kept = loses_trans 0 0 0 v w u (omega arith) s.kept k;
       hand = hand_next h i (Take p d) s.hand n;
       rises = rises_next h i (Take p d) n f s.rises;
       took = λ _. record {
         log = t.log ++ x ∷ [];
-        runs = rw more (runs_more v w u (entries t.log) d o t.runs one.1);
-        offered = offered-append t.log (x ∷ []) ∙ (ap (λ l. l ++ (p, d) ∷ []) t.offered ∙ sym (ap takes g ∙ takes-append h.got (Take p d ∷ [])));
+        serves = record {
+          runs = rw more (runs_more v w u (entries t.log) d o t.serves.runs one.1);
+          offered = offered-append t.log (x ∷ []) ∙ (ap (λ l. l ++ (p, d) ∷ []) t.serves.offered ∙ sym (ap takes g ∙ takes-append h.got (Take p d ∷ [])));
+          rises = rises_next h i (Take p d) n f s.rises;
+        };
         tells = record {
           fresh = rw more (omega (arith, one.2.fresh, t.tells.fresh, (tally-append (entries t.log) ((d, o) ∷ [])).fresh));
           again = rw more (omega (arith, one.2.again, t.tells.again, (tally-append (entries t.log) ((d, o) ∷ [])).again));
@@ -124,7 +132,7 @@ serves_more v w u h i p d a b small s n f k one =
       };
     }
 
-pub serves_turn : (v w u : PassValue) (h i : Hand) (p : ℕ) (d : DrawopValue) (a b : Accepted) (failed r : Bool) → p < 2 ^ 32 → Served v w h a failed → i ≡ receives h (Take p d) → Follows h.got (Take p d) → Keeps w u
+pub serves_turn : (v w u : PassValue) (h i : Hand) (p : ℕ) (d : DrawopValue) (a b : Accepted) (failed r : Bool) → p < 2 ^ 32 → Served v w h a failed → i ≡ receives h (Take p d) → Follows h.got (Take p d) → LosesAtMost 0 w u
     → (r ≡ false → (failed ≡ false) × ((o : Outcome) × Accepts w d o u × AcceptsOne a p o b)) → Served v u i b r
 serves_turn v w u h i p d a b failed true small s n f k took = serves_failed v w u h i (Take p d) a b failed s n f k
 serves_turn v w u h i p d a b failed false small s n f k took =

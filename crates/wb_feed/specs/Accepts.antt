@@ -1,5 +1,5 @@
 -- What accepts leave of a desk: p is the desk before them, q the desk after them.
-use Rattle.std.specs.Prelude.{◌≡◌, List, [], ◌∷◌}
+use Rattle.std.specs.Prelude.{◌≡◌, ℕ, ◌+◌, ◌≤◌, List, [], ◌∷◌, length}
 use mathlib.Core.List.{IsPrefix}
 use Rattle.wb_names.specs.Values.{DrawopValue}
 use Rattle.wb_names.specs.History.{IsAgainAt, IsClashAt}
@@ -13,6 +13,13 @@ use Rattle.wb_host.specs.declared.reply.Reply.TheVariants.{New, Again, Clash}
 pub record Keeps (p q : PassValue) : Type 0 where
   pub same : IsSamePass p q
   pub seen : IsPrefix p.seen q.seen
+
+-- besides, each place is kept, and each row but at most so many: a row is free, or it became a place
+pub record LosesAtMost (most : ℕ) (p q : PassValue) : Type 0 where
+  pub kept : Keeps p q
+  pub places : IsPrefix p.mine q.mine
+  pub none_more : q.free + length q.mine ≤ p.free + length p.mine
+  pub rows : p.free + length p.mine ≤ (q.free + length q.mine) + most
 
 -- the outcome that a reply tells
 abbrev pub outcome : Reply → Outcome

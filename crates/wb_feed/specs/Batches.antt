@@ -1,12 +1,17 @@
 -- What a batch leaves: p is the desk before it, given the drawops that came, q the desk after it, and b the counts.
-use Rattle.std.specs.Prelude.{◌≡◌, ℕ, ◌+◌, ◌<◌, List, ◌++◌, length, All}
+use Rattle.std.specs.Prelude.{◌≡◌, ℕ, ◌+◌, ◌<◌, Bool, List, ◌++◌, length, All}
 use Rattle.std.specs.List.Sorted.{IsPermutation}
 use Rattle.wb_names.specs.Values.{DrawopValue}
 use Rattle.wb_names.specs.History.{HoldsName}
 use Rattle.wb_names.specs.Arrivals.{Counts, counts, IsBatch}
 use Rattle.wb_history.specs.Passes.{PassValue, IsWhole}
 use Rattle.wb_feed.specs.declared.batch.Batch.{Batch}
+use Rattle.wb_feed.specs.declared.message.Message.{Message}
 use Rattle.wb_feed.specs.declared.worker.Accepted.{Accepted}
+use Rattle.wb_feed.specs.Accepts.{Entry, Runs, drawops}
+use Rattle.wb_feed.specs.Marks.{Marks, unmarked}
+use Rattle.wb_feed.specs.Served.{Spot, accepted_at}
+use Rattle.wb_feed.specs.Workers.{Work}
 
 abbrev pub counts_in : Batch → Counts
 counts_in b = counts b.fresh b.again b.clash b.left
@@ -51,3 +56,22 @@ pub record IsTotal (a : Accepted) (t b : Batch) : Type 0 where
   pub again : b.again ≡ a.again + t.again
   pub clash : b.clash ≡ a.clash + t.clash
   pub left : b.left ≡ t.left
+
+-- How the workers shared what was given: their desks came back into the desk `joined`, which then took, in order, what none of them
+-- had accepted
+pub record IsShared (workers : ℕ) (p : PassValue) (given : List DrawopValue) (q : PassValue) : Type 0 where
+  pub log : List Spot
+  pub gots : List Message
+  pub joined : PassValue
+  pub work : Work workers p log gots joined
+  pub marks : List Bool
+  pub marked : Marks (accepted_at log) (length given) marks
+  pub left_over : List Entry
+  pub rest : Runs joined left_over q
+  pub all : drawops left_over ≡ unmarked marks given
+
+-- the same of what the source has given since
+pub record SharesMore (p : PassValue) (given : List DrawopValue) (workers : ℕ) (q : PassValue) (given' : List DrawopValue) : Type 0 where
+  pub more : List DrawopValue
+  pub next : given' ≡ given ++ more
+  pub shared : IsShared workers p more q

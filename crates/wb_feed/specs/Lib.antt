@@ -3,7 +3,8 @@ pub mod Accepts
 pub mod Line
 pub mod Sent
 pub mod Served
-pub mod Crews
+pub mod Feeding
+pub mod Workers
 pub mod Marks
 pub mod Batches
 pub mod Relays

@@ -1,6 +1,5 @@
 -- What the sender drew and sent.
-use Rattle.std.specs.Prelude.{◌≡◌, ℕ, ◌+◌, ◌<◌, ◌≤◌, Bool, true, List, [], ◌∷◌, ◌++◌, length, Option, Some, None, Result, Ok, Err}
-use mathlib.Core.List.{IsPrefix}
+use Rattle.std.specs.Prelude.{◌≡◌, ℕ, ◌+◌, ◌<◌, ◌≤◌, Bool, true, List, [], ◌∷◌, ◌++◌, length, take, Option, Some, None, Result, Ok, Err}
 use Rattle.std.specs.declared.alloc.AllocError.{AllocError}
 use Rattle.wb_names.specs.Values.{DrawopValue}
 use Rattle.wb_feed.specs.declared.message.Message.{Message}
@@ -15,7 +14,7 @@ IsNext sent End = Unit {0}
 -- what was sent are the first of the drawops drawn, and all of them while the line is open
 pub record IsSent (h : Hand) (drawn : List DrawopValue) (going : Bool) : Type 0 where
   pub sends : h.sends ≡ true
-  pub first : IsPrefix h.sent drawn
+  pub first : take (length h.sent) drawn ≡ h.sent
   pub all : going ≡ true → h.sent ≡ drawn
 
 -- Some more were drawn: given and most are what the source had given and had to give at most, was what had been drawn

@@ -3,7 +3,7 @@ use Rattle.std.specs.Prelude.{◌≡◌, ℕ, ◌+◌, ◌≤◌, ◌^◌, Bool,
 use Rattle.wb_names.specs.Values.{DrawopValue}
 use Rattle.wb_names.specs.Arrivals.{Outcome, Fresh, Known, Clashed, Left, counts_of}
 use Rattle.wb_history.specs.Passes.{PassValue}
-use Rattle.wb_feed.specs.Accepts.{Entry, Keeps, Runs, tally}
+use Rattle.wb_feed.specs.Accepts.{Entry, LosesAtMost, Runs, tally}
 use Rattle.wb_feed.specs.declared.message.Message.{Message}
 use Rattle.wb_feed.specs.declared.message.Message.TheVariants.{Take, End}
 use Rattle.wb_feed.specs.declared.line.Hand.{Hand}
@@ -57,16 +57,20 @@ pub record Tells (a : Accepted) (log : List Spot) : Type 0 where
   pub clash : a.clash ≡ (tally (entries log)).clash
   pub positions : a.positions.items ≡ accepted_at log
 
--- the desk took all that was received
-pub record TookAll (p q : PassValue) (got : List Message) (a : Accepted) : Type 0 where
-  pub log : List Spot
+-- from the desk p to the desk q, one after another, the arrivals that were received
+pub record Serves (p : PassValue) (log : List Spot) (got : List Message) (q : PassValue) : Type 0 where
   pub runs : Runs p (entries log) q
   pub offered : offered log ≡ takes got
+  pub rises : Rises 0 (takes got)
+
+pub record TookAll (p q : PassValue) (got : List Message) (a : Accepted) : Type 0 where
+  pub log : List Spot
+  pub serves : Serves p log got q
   pub tells : Tells a log
   pub few : (a.fresh + a.again) + a.clash ≤ 2 ^ 32
 
 pub record Served (p q : PassValue) (h : Hand) (a : Accepted) (failed : Bool) : Type 0 where
-  pub kept : Keeps p q
+  pub kept : LosesAtMost 0 p q
   pub hand : h ≡ hand 1 false [] h.got
   pub rises : Rises 0 (takes h.got)
   pub took : failed ≡ false → TookAll p q h.got a

@@ -1,20 +1,26 @@
 //! A batch: the workers take what comes, and the desk takes again what none of them accepted.
-ghost use Rattle.std.specs.Prelude.{◌≡◌, ◌+◌, ◌*◌, ◌<◌, ◌≤◌, ◌^◌, ◌⊎◌, ◌↔◌, true, [], Err, length, IfOk, OnOk};
+ghost use Rattle.std.specs.Prelude.{◌≡◌, ◌+◌, ◌<◌, ◌≤◌, ◌^◌, ◌⊎◌, ◌↔◌, true, [], Err, length, IfOk, OnOk};
 ghost use mathlib.Core.List.{IsPrefix};
+ghost use Rattle.crossbeam_channel.specs.Claims.{view};
+ghost use Rattle.crossbeam_channel.specs.Ends.{sends_on, receives_on};
 ghost use Rattle.wb_names.specs.Arrivals.{Outcome};
 ghost use Rattle.wb_history.specs.Passes.{IsPassOf};
-ghost use Rattle.wb_feed.specs.Accepts.{Keeps, Accepts};
+ghost use Rattle.wb_feed.specs.Accepts.{Keeps, LosesAtMost, Accepts};
+ghost use Rattle.wb_feed.specs.Line.{hand};
 ghost use Rattle.wb_feed.specs.Marks.{unmarked, Marks, Retakes, CountsOne};
-ghost use Rattle.wb_feed.specs.Sent.{IsDrawn};
-ghost use Rattle.wb_feed.specs.Batches.{Takes, TakesMore, IsTotal};
+ghost use Rattle.wb_feed.specs.Feeding.{HasFed};
+ghost use Rattle.wb_feed.specs.Workers.{handed_out, most_lost};
+ghost use Rattle.wb_feed.specs.Batches.{Takes, TakesMore, IsShared, SharesMore, IsTotal};
 
 use crate::arrivals::Arrivals;
-use crate::crew::{CrewFault, crew};
 use crate::fault::FeedFault;
 use crate::gate::Gate;
-use crate::line::{EachOnce, Hand, Whole};
+use crate::line::{EachOnce, Hand};
 use crate::message::Message;
+use crate::place::Place;
+use crate::sender::Feeding;
 use crate::worker::Accepted;
+use crate::workers::{WorkFault, run_all};
 use crossbeam_channel::bounded_with;
 use std::alloc::{AllocError, Global};
 use std::sync::Wait;
@@ -56,9 +62,10 @@ const CAPACITY: usize = 64;
 /// that a worker had no row for is taken again with the desk once all are joined, in order of arrival, and
 /// `left` counts those that find no row there either. The gate is called round each accept of a worker.
 ///
-/// With a number of workers out of range nothing is taken. After `Start` or `Memory` any part of the
-/// arrivals may have been taken. One worker then loses no row; of more, a worker's desk whose thread or
-/// whose join was refused is dropped with its rows, and all others are joined back.
+/// With a number of workers out of range nothing is taken. After `Start` nothing was drawn, and each row and
+/// place is kept. After `Memory` any part of the arrivals may have been taken; one worker then loses no row,
+/// and of more, a worker's desk whose join was refused is dropped with its rows, and all others are joined
+/// back.
 pub fn run_batch<R: Threads + Wait + Sync, S: Arrivals, G: Gate + Sync>(
     rt: &R,
     alloc: Global,
@@ -70,9 +77,12 @@ pub fn run_batch<R: Threads + Wait + Sync, S: Arrivals, G: Gate + Sync>(
 ) -> Result<Batch, FeedFault>
     requires desk { IsPassOf board.now desk.old }
     ensures kept { Keeps desk.old desk.new }
+    ensures rows { LosesAtMost (handed_out workers desk.old.free) desk.old desk.new }
     ensures workers { (result ≡ Err FeedFault.Workers) ↔ ((workers ≡ 0) ⊎ (8 < workers)) }
     ensures untouched { (workers ≡ 0) ⊎ (8 < workers) → (desk.new ≡ desk.old) × (arrivals.new ≡ arrivals.old) }
+    ensures started { result ≡ Err FeedFault.Start → (arrivals.new ≡ arrivals.old) × LosesAtMost 0 desk.old desk.new }
     ensures taken { IfOk result (λ b. TakesMore desk.old (S.given arrivals.old) workers desk.new (S.given arrivals.new) b) }
+    ensures shared { OnOk result (SharesMore desk.old (S.given arrivals.old) workers desk.new (S.given arrivals.new)) }
     ensures drawn { IsPrefix (S.given arrivals.old) (S.given arrivals.new) }
     ensures ended { OnOk result (S.has_ended arrivals.new ≡ true) }
     ensures source { S.follows arrivals.old arrivals.new }
@@ -80,53 +90,63 @@ pub fn run_batch<R: Threads + Wait + Sync, S: Arrivals, G: Gate + Sync>(
     if workers == 0 || workers > 8 {
         return Err(FeedFault::Workers);
     }
-    let mut drawn = Vec::new(alloc);
+    let Ok((line, end, pass)) = bounded_with::<Message, Hand, EachOnce, Global>(alloc, CAPACITY)
+    else {
+        return Err(FeedFault::Memory);
+    };
+    // For the proof alone: what is still to come is a number of 32 bits.
     let _most = arrivals.most();
-    match take_batch(rt, alloc, board, desk, workers, arrivals, &mut drawn, gate) {
+    let place = Place {
+        rt,
+        alloc,
+        board,
+        end: &end,
+        gate,
+        workers,
+    };
+    let mut feeding = Feeding::new(alloc, line, pass);
+    match take_batch(place, desk, &mut feeding, arrivals) {
         Ok(batch) => Ok(batch),
-        Err(CrewFault::Start) => Err(FeedFault::Start),
-        Err(CrewFault::Memory) => Err(FeedFault::Memory),
+        Err(WorkFault::Start) => Err(FeedFault::Start),
+        Err(WorkFault::Memory) => Err(FeedFault::Memory),
     }
 }
 
-/// Starts the workers, feeds them what the source gives, and takes again what none of them accepted.
+/// Has the workers take what the source gives, and takes again what none of them accepted.
 fn take_batch<R: Threads + Wait + Sync, S: Arrivals, G: Gate + Sync>(
-    rt: &R,
-    alloc: Global,
-    board: &Board,
+    place: Place<R, G>,
     desk: &mut Desk,
-    workers: u32,
+    feeding: &mut Feeding,
     arrivals: &mut S,
-    drawn: &mut Vec<Drawop>,
-    gate: &G,
-) -> Result<Batch, CrewFault>
-    requires desk { IsPassOf board.now desk.old }
-    requires workers { (0 < workers) × (workers ≤ 8) }
-    requires drawn { drawn.old.items ≡ [] }
+) -> Result<Batch, WorkFault>
+    requires desk { IsPassOf place.board.now desk.old }
+    requires workers { (0 < place.workers) × (place.workers ≤ 8) }
+    requires channel { receives_on place.end.now ≡ sends_on feeding.old.line }
+    requires first { (view feeding.old.pass ≡ hand 16 true [] []) × (feeding.old.drawn.items ≡ []) × (feeding.old.going ≡ true) }
     requires few { S.most_to_come arrivals.old < 2 ^ 32 }
-    ensures kept { Keeps desk.old desk.new }
-    ensures drawn { IsDrawn (S.given arrivals.old) (S.most_to_come arrivals.old) drawn.old.items (S.given arrivals.new) (S.most_to_come arrivals.new) drawn.new.items }
-    ensures ended { OnOk result (S.has_ended arrivals.new ≡ true) }
-    ensures source { S.follows arrivals.old arrivals.new }
-    ensures ok { IfOk result (λ b. Takes desk.old drawn.new.items workers desk.new b) }
+    ensures kept { LosesAtMost (most_lost (handed_out place.entry.workers desk.old.free) result) desk.old desk.new }
+    ensures fed { HasFed S.given S.most_to_come S.has_ended S.follows feeding.old arrivals.old feeding.new arrivals.new result }
+    ensures taken { IfOk result (λ b. Takes desk.old feeding.new.drawn.items place.entry.workers desk.new b) }
+    ensures shared { OnOk result (IsShared place.entry.workers desk.old feeding.new.drawn.items desk.new) }
 {
-    let Ok((line, end, mut pass)) = bounded_with::<Message, Hand, EachOnce, Global>(alloc, CAPACITY)
-    else {
-        return Err(CrewFault::Memory);
-    };
-    let rows = desk.rows_left() / workers;
-    let accepted = crew(
-        rt, alloc, board, desk, rows, workers, &line, &end, &mut pass, arrivals, drawn, gate,
-    )?;
-    let _joined = desk.rows_left();
-    line.learn_as::<Whole>(&mut pass);
-    let Ok(marks) = mark(alloc, accepted.positions.as_slice(), drawn.len()) else {
-        return Err(CrewFault::Memory);
-    };
-    let Ok(rest) = take_rest(board, desk, marks.as_slice(), drawn.as_slice()) else {
-        return Err(CrewFault::Memory);
-    };
+    // The number of its rows says, for the proof alone, that a desk is sound: here, once the workers are back, and at the end.
     let _sound = desk.rows_left();
+    let accepted = run_all(place, desk, feeding, arrivals)?;
+    let _sound_joined = desk.rows_left();
+    feeding.learn_all();
+    let count = feeding.drawn.len();
+    let Ok(marks) = mark(place.alloc, accepted.positions.as_slice(), count) else {
+        return Err(WorkFault::Memory);
+    };
+    let Ok(rest) = take_rest(
+        place.board,
+        desk,
+        marks.as_slice(),
+        feeding.drawn.as_slice(),
+    ) else {
+        return Err(WorkFault::Memory);
+    };
+    let _sound_after = desk.rows_left();
     Ok(in_all(&accepted, &rest))
 }
 
@@ -156,7 +176,7 @@ fn take_rest(
     requires few { length drawn.now < 2 ^ 32 }
     requires marks { length marks.now ≡ length drawn.now }
     ensures ok { IfOk result (λ b. Retakes desk.old (unmarked marks.now drawn.now) desk.new b) }
-    ensures kept { Keeps desk.old desk.new }
+    ensures kept { LosesAtMost 0 desk.old desk.new }
 {
     let mut batch = Batch {
         fresh: 0,
@@ -183,7 +203,7 @@ fn take_one(
     requires desk { IsPassOf board.now desk.old }
     requires room { batch.old.fresh + batch.old.again + batch.old.clash + batch.old.left + 1 < 2 ^ 32 }
     ensures ok { OnOk result ((o : Outcome) × Accepts desk.old drawop.now o desk.new × CountsOne batch.old o batch.new) }
-    ensures kept { Keeps desk.old desk.new }
+    ensures kept { LosesAtMost 0 desk.old desk.new }
 {
     match board.accept(desk, drawop) {
         Ok(reply) => batch.count(reply),

@@ -12,21 +12,22 @@
 //! `relay` has one desk accept a drawop on a thread of its own, and another desk told of it.
 //!
 //! In reading order: where drawops come from (`arrivals`) and what is called round each accept (`gate`);
-//! the call (`batch`), its workers (`crew`) or the one (`lent`), what each does (`worker`), and the sender's part (`sender`);
-//! the channel (`line`) with its messages (`message`); and `relays`.
+//! the call (`batch`), its workers (`workers`) or the one (`alone`), what each does (`worker`) and where (`place`), and the
+//! sender's part (`sender`); the channel (`line`) with its messages (`message`); and `relays`.
 #![tactic(auto)]
 
+mod alone;
 mod arrivals;
 mod batch;
-mod crew;
 mod fault;
 mod gate;
-mod lent;
 mod line;
 mod message;
+mod place;
 mod relays;
 mod sender;
 mod worker;
+mod workers;
 
 pub use arrivals::Arrivals;
 pub use batch::{Batch, run_batch};

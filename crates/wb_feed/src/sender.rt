@@ -1,17 +1,105 @@
 //! The sender's part: arrivals are drawn one at a time, and sent as they are drawn.
-ghost use Rattle.std.specs.Prelude.{◌≡◌, ◌+◌, ◌<◌, ◌≤◌, ◌^◌, ◌++◌, ◌∷◌, [], true, false, OnOk, length};
-ghost use mathlib.Core.List.{IsPrefix};
+ghost use Rattle.std.specs.Prelude.{◌≡◌, ◌+◌, ◌-◌, ◌<◌, ◌^◌, true, false, [], OnOk, length};
 ghost use Rattle.crossbeam_channel.specs.Claims.{view, IsSeatAt};
 ghost use Rattle.crossbeam_channel.specs.Ends.{sends_on};
-ghost use Rattle.wb_feed.specs.Line.{hand, sends};
+ghost use Rattle.wb_feed.specs.Line.{hand, sends, IsComplete};
 ghost use Rattle.wb_feed.specs.Sent.{IsNext, IsSent, Draws, IsDrawn};
 
 use crate::arrivals::Arrivals;
-use crate::line::{Line, LinePass, Sends};
+use crate::line::{Cut, Line, LinePass, Sends, Whole};
 use crate::message::Message;
-use std::alloc::AllocError;
+use std::alloc::{AllocError, Global};
 use std::sync::Wait;
 use wb_names::Drawop;
+
+/// How far a batch has got: the line and what is known of it, and what was drawn so far.
+#[derive(Drop)]
+pub(crate) struct Feeding {
+    pub(crate) line: Line,
+    pub(crate) pass: LinePass,
+    pub(crate) drawn: Vec<Drawop>,
+    /// Whether the line is open: no message was handed back.
+    pub(crate) going: bool,
+    ghost seat: { IsSeatAt (sends_on line) pass },
+    ghost sent: { IsSent (view pass) drawn.items going },
+}
+
+impl Feeding {
+    ghost use Rattle.wb_feed.specs.Feeding.{IsWith, IsMerged};
+
+    /// Nothing was drawn yet. It takes no memory.
+    pub(crate) fn new(alloc: Global, line: Line, pass: LinePass) -> Feeding
+        requires seat { IsSeatAt (sends_on line) pass }
+        requires first { view pass ≡ hand 16 true [] [] }
+        ensures line { result.line ≡ line }
+        ensures pass { result.pass ≡ pass }
+        ensures open { (result.drawn.items ≡ []) × (result.going ≡ true) }
+    {
+        Feeding {
+            line,
+            pass,
+            drawn: Vec::new(alloc),
+            going: true,
+        }
+    }
+
+    /// Draws and sends all arrivals. After the first message that is handed back it sends none.
+    pub(crate) fn feed<R: Wait, S: Arrivals>(
+        &mut self,
+        rt: &R,
+        arrivals: &mut S,
+    ) -> Result<(), AllocError>
+        requires few { length self.old.drawn.items + S.most_to_come arrivals.old < 2 ^ 32 }
+        ensures line { self.new.line ≡ self.old.line }
+        ensures same { ((view self.new.pass).parts ≡ (view self.old.pass).parts) × ((view self.new.pass).got ≡ (view self.old.pass).got) }
+        ensures drawn { IsDrawn (S.given arrivals.old) (S.most_to_come arrivals.old) self.old.drawn.items (S.given arrivals.new) (S.most_to_come arrivals.new) self.new.drawn.items }
+        ensures ended { OnOk result (S.has_ended arrivals.new ≡ true) }
+        ensures source { S.follows arrivals.old arrivals.new }
+    {
+        while let Some(message) = draw_one(arrivals, &mut self.drawn)? {
+            self.going = send_one(rt, &self.line, &mut self.pass, self.going, message);
+        }
+        Ok(())
+    }
+
+    /// Sends an end message for each of so many workers.
+    pub(crate) fn end_all<R: Wait>(&mut self, rt: &R, workers: u32)
+        ensures line { self.new.line ≡ self.old.line }
+        ensures drawn { self.new.drawn ≡ self.old.drawn }
+        ensures pass { view self.new.pass ≡ view self.old.pass }
+    {
+        for _ in 0..workers {
+            self.going = send_one(rt, &self.line, &mut self.pass, self.going, Message::End);
+        }
+    }
+
+    /// Cuts off a pass for a worker.
+    pub(crate) fn cut(&mut self) -> LinePass
+        requires { 1 < (view self.old.pass).parts }
+        ensures theirs { IsSeatAt (sends_on self.old.line) result × (view result ≡ hand 1 false [] []) }
+        ensures left { let v = view self.old.pass in IsWith self.old (hand (v.parts - 1) v.sends v.sent v.got) self.new }
+    {
+        self.line.another::<Cut>(&mut self.pass)
+    }
+
+    /// Takes a worker's pass back.
+    pub(crate) fn absorb(&mut self, theirs: LinePass)
+        requires { IsSeatAt (sends_on self.old.line) theirs }
+        ensures { IsMerged self.old (view theirs) self.new }
+    {
+        self.line.absorb::<Cut>(&mut self.pass, theirs);
+    }
+
+    /// Learns that all passes are back, so that the first drawops sent were received, each once. It is a
+    /// load of one word, for the proof alone.
+    pub(crate) fn learn_all(&mut self)
+        requires { (view self.old.pass).parts ≡ 16 }
+        ensures all { IsComplete (view self.old.pass) }
+        ensures same { IsWith self.old (view self.old.pass) self.new }
+    {
+        self.line.learn_as::<Whole>(&mut self.pass);
+    }
+}
 
 /// Draws one arrival, once there is room for it, and answers the message that it becomes.
 fn draw_one<S: Arrivals>(
@@ -52,50 +140,5 @@ fn send_one<R: Wait>(
     match line.send_as::<Sends, R>(rt, pass, message) {
         Ok(()) => true,
         Err(_) => false,
-    }
-}
-
-/// Draws and sends all arrivals. After the first message that is handed back it sends none.
-pub(crate) fn feed<R: Wait, S: Arrivals>(
-    rt: &R,
-    line: &Line,
-    pass: &mut LinePass,
-    arrivals: &mut S,
-    drawn: &mut Vec<Drawop>,
-    going: &mut bool,
-) -> Result<(), AllocError>
-    requires seat { IsSeatAt (sends_on line.now) pass.old }
-    requires sender { IsSent (view pass.old) drawn.old.items going.old }
-    requires few { length drawn.old.items + S.most_to_come arrivals.old < 2 ^ 32 }
-    ensures seat { IsSeatAt (sends_on line.now) pass.new }
-    ensures sent { IsSent (view pass.new) drawn.new.items going.new }
-    ensures same { ((view pass.new).parts ≡ (view pass.old).parts) × ((view pass.new).got ≡ (view pass.old).got) }
-    ensures drawn { IsDrawn (S.given arrivals.old) (S.most_to_come arrivals.old) drawn.old.items (S.given arrivals.new) (S.most_to_come arrivals.new) drawn.new.items }
-    ensures ended { OnOk result (S.has_ended arrivals.new ≡ true) }
-    ensures source { S.follows arrivals.old arrivals.new }
-{
-    while let Some(message) = draw_one(arrivals, drawn)? {
-        *going = send_one(rt, line, pass, *going, message);
-    }
-    Ok(())
-}
-
-/// Sends an end message for each worker.
-pub(crate) fn end_all<R: Wait>(
-    rt: &R,
-    line: &Line,
-    pass: &mut LinePass,
-    drawn: &Vec<Drawop>,
-    going: bool,
-    workers: u32,
-)
-    requires seat { IsSeatAt (sends_on line.now) pass.old }
-    requires sender { IsSent (view pass.old) drawn.now.items going }
-    ensures seat { IsSeatAt (sends_on line.now) pass.new }
-    ensures same { view pass.new ≡ view pass.old }
-{
-    let mut going = going;
-    for _ in 0..workers {
-        going = send_one(rt, line, pass, going, Message::End);
     }
 }

@@ -5,13 +5,14 @@ ghost use Rattle.crossbeam_channel.specs.Ends.{receives_on};
 ghost use Rattle.wb_names.specs.Arrivals.{Outcome};
 ghost use Rattle.wb_history.specs.Passes.{IsPassOf};
 ghost use Rattle.wb_feed.specs.declared.message.Message.TheVariants.{Take, End};
-ghost use Rattle.wb_feed.specs.Accepts.{Keeps, Accepts, outcome};
+ghost use Rattle.wb_feed.specs.Accepts.{LosesAtMost, Accepts, outcome};
 ghost use Rattle.wb_feed.specs.Line.{hand, receives, Follows};
 ghost use Rattle.wb_feed.specs.Served.{AcceptsOne, Served};
 
 use crate::gate::Gate;
 use crate::line::{LineEnd, LinePass, Receives};
 use crate::message::Message;
+use crate::place::Place;
 use std::alloc::{AllocError, Global};
 use std::sync::Wait;
 use wb_host::{Board, BoardFault, Desk, Reply};
@@ -28,7 +29,7 @@ pub(crate) struct Accepted {
 
 impl Accepted {
     ghost use Rattle.wb_feed.specs.Served.{Tells};
-    ghost use Rattle.wb_feed.specs.Crews.{IsSum};
+    ghost use Rattle.wb_feed.specs.Workers.{IsSum};
     ghost use Rattle.std.specs.Prelude.{IfOk};
 
     /// Nothing. It takes no memory.
@@ -95,7 +96,7 @@ fn accept_one(
     requires desk { IsPassOf board.now desk.old }
     requires room { accepted.old.fresh + accepted.old.again + accepted.old.clash < 2 ^ 62 }
     ensures ok { OnOk result ((o : Outcome) × Accepts desk.old drawop.now o desk.new × AcceptsOne accepted.old position o accepted.new) }
-    ensures kept { Keeps desk.old desk.new }
+    ensures kept { LosesAtMost 0 desk.old desk.new }
 {
     accepted.positions.reserve(1)?;
     match board.accept(desk, drawop) {
@@ -127,27 +128,26 @@ fn next_arrival<R: Wait>(rt: &R, line: &LineEnd, pass: &mut LinePass) -> Option<
 }
 
 /// Accepts the arrival, unless a growth was refused before. Answers whether one was refused.
-fn take_turn<G: Gate>(
-    board: &Board,
+fn take_turn<R, G: Gate>(
+    place: Place<R, G>,
     desk: &mut Desk,
     accepted: &mut Accepted,
     failed: bool,
     arrival: (u32, Drawop),
     worker: u32,
     nth: u32,
-    gate: &G,
 ) -> bool
-    requires desk { IsPassOf board.now desk.old }
+    requires desk { IsPassOf place.board.now desk.old }
     requires room { failed ≡ false → accepted.old.fresh + accepted.old.again + accepted.old.clash < 2 ^ 62 }
-    ensures kept { Keeps desk.old desk.new }
+    ensures kept { LosesAtMost 0 desk.old desk.new }
     ensures took { result ≡ false → (failed ≡ false) × ((o : Outcome) × Accepts desk.old arrival.1 o desk.new × AcceptsOne accepted.old arrival.0 o accepted.new) }
 {
     if failed {
         return true;
     }
-    gate.before(worker, nth);
-    let taken = accept_one(board, desk, accepted, arrival.0, &arrival.1);
-    gate.after(worker, nth);
+    place.gate.before(worker, nth);
+    let taken = accept_one(place.board, desk, accepted, arrival.0, &arrival.1);
+    place.gate.after(worker, nth);
     match taken {
         Ok(()) => false,
         Err(_) => true,
@@ -157,38 +157,33 @@ fn take_turn<G: Gate>(
 /// Takes what the channel gives, until the end message. A worker that was refused memory goes on
 /// receiving, so that the sender never waits for one that is gone.
 pub(crate) fn serve<R: Wait, G: Gate>(
-    rt: &R,
-    alloc: Global,
-    board: &Board,
+    place: Place<R, G>,
     desk: Desk,
-    line: &LineEnd,
     pass: LinePass,
     worker: u32,
-    gate: &G,
 ) -> Done
-    requires desk { IsPassOf board.now desk }
-    requires seat { IsSeatAt (receives_on line.now) pass × (view pass ≡ hand 1 false [] []) }
-    ensures seat { IsSeatAt (receives_on line.now) result.pass }
+    requires desk { IsPassOf place.board.now desk }
+    requires seat { IsSeatAt (receives_on place.end.now) pass × (view pass ≡ hand 1 false [] []) }
+    ensures seat { IsSeatAt (receives_on place.entry.end.now) result.pass }
     ensures served { Served desk result.desk (view result.pass) result.accepted result.failed }
 {
     let mut desk = desk;
     let mut pass = pass;
-    let mut accepted = Accepted::new(alloc);
+    let mut accepted = Accepted::new(place.alloc);
     let mut failed = false;
     let mut nth = 0u32;
-    for _ in rt.forever() {
-        let Some(arrival) = next_arrival(rt, line, &mut pass) else {
+    for _ in place.rt.forever() {
+        let Some(arrival) = next_arrival(place.rt, place.end, &mut pass) else {
             break;
         };
         failed = take_turn(
-            board,
+            place,
             &mut desk,
             &mut accepted,
             failed,
             arrival,
             worker,
             nth,
-            gate,
         );
         nth = nth.wrapping_add(1);
     }

@@ -1,11 +1,11 @@
-use Rattle.std.proofs.Common.{rules, ◌≡◌, ◌∙◌, get_or, true, false}
-use Rattle.wb_feed.proofs.Log.{keeps_trans}
+use Rattle.std.proofs.Common.{rules, arith, ◌≡◌, ◌∙◌, get_or, true, false}
+use Rattle.wb_feed.proofs.Log.{loses_trans}
 use Rattle.wb_feed.proofs.Members.{nothing}
 use Rattle.wb_feed.proofs.Marking.{rest_more, rest_skip, rest_keeps}
 use Rattle.wb_feed.proofs.batch.take_rest.Goals as goal
 
 pub returns-in_err-take_one-clause-kept : goal.returns-in_err-take_one-clause-kept
-returns-in_err-take_one-clause-kept c = keeps_trans _ _ _ (rest_keeps _ _ _ _ _ _ c.loop-i.invariant) c.take_one.ensures.kept
+returns-in_err-take_one-clause-kept c = loses_trans 0 0 0 _ _ _ (omega arith) (rest_keeps _ _ _ _ _ _ c.loop-i.invariant) c.take_one.ensures.kept
 
 pub returns-clause-kept : goal.returns-clause-kept
 returns-clause-kept c = rest_keeps _ _ _ _ _ _ c.loop-i.invariant
@@ -21,4 +21,4 @@ loop-i-preserved c =
     rest_more _ _ _ _ _ _ _ _ c.index-drawn-i.result c.loop-i-test.true c.requires.marks free c.index-drawn-i.is c.loop-i.invariant c.in_ok-take_one.ensures.ok
 
 pub take_one-requires-clause-desk : goal.take_one-requires-clause-desk
-take_one-requires-clause-desk c = (rest_keeps _ _ _ _ _ _ c.loop-i.invariant).same.0 ∙ c.requires.desk
+take_one-requires-clause-desk c = (rest_keeps _ _ _ _ _ _ c.loop-i.invariant).kept.same.0 ∙ c.requires.desk

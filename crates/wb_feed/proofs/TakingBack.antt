@@ -1,0 +1,179 @@
+-- What several workers did, put together.
+use Rattle.std.proofs.Common.{◌≡◌, ℕ, suc, ◌+◌, ◌-◌, ◌*◌, ◌≤◌, ◌<◌, Bool, true, List, [], ◌++◌, length, Result, Ok, Err, ap, sym, subst, ◌∙◌, ⊎_elim, arith, append_assoc, length-append}
+use Rattle.std.specs.Prelude.{IfOk, OnOk}
+use Rattle.std.proofs.lemmas.List.{append-nil}
+use Rattle.crossbeam_channel.specs.Claims.{view}
+use Rattle.wb_names.specs.Values.{DrawopValue}
+use Rattle.wb_history.specs.Passes.{PassValue}
+use Rattle.wb_history.specs.Sharing.{IsSplit}
+use Rattle.wb_feed.specs.Accepts.{LosesAtMost}
+use Rattle.wb_feed.specs.declared.line.Hand.{Hand}
+use Rattle.wb_feed.specs.declared.sender.Feeding.{Feeding}
+use Rattle.wb_feed.specs.declared.worker.Accepted.{Accepted}
+use Rattle.wb_feed.specs.declared.worker.Done.{Done}
+use Rattle.wb_feed.specs.declared.workers.WorkFault.{WorkFault}
+use Rattle.wb_feed.specs.declared.workers.WorkFault.TheVariants.{Start, Memory}
+use Rattle.wb_feed.specs.Line.{hand}
+use Rattle.wb_feed.specs.Served.{entries, accepted_at, Spot, Serves, Tells, Served}
+use Rattle.wb_feed.specs.Sent.{IsDrawn}
+use Rattle.wb_feed.specs.Feeding.{IsWith, IsMerged, HasFed}
+use Rattle.wb_feed.specs.Workers.{IsBack, Workers, nobody, worker, Worked, IsSum, most_lost, TakesBack, ComesBack}
+use Rattle.wb_feed.proofs.Log.{loses_more, loses_trans, split_keeps, split_mine, keeps_trans, tally-append}
+use Rattle.wb_feed.proofs.Prefixes.{prefix_is, prefix_trans}
+use Rattle.wb_feed.proofs.Sending.{drawn_none}
+use Rattle.wb_feed.proofs.Serving.{entries-append, accepted-append}
+
+-- ---- the rows
+
+few_lost : {X : Type 0} (n : ℕ) (r : Result X WorkFault) → most_lost n r ≤ n
+few_lost n (Ok x) = omega arith
+few_lost n (Err Start) = omega arith
+few_lost n (Err Memory) = omega arith
+
+-- rows are handed out with a desk
+split_loses : (n : ℕ) (p rest desk : PassValue) → IsSplit p n rest desk → LosesAtMost n p rest
+split_loses n p rest desk s =
+    let same = split_mine p rest desk n s in
+    record { kept = split_keeps p rest desk n s; places = prefix_is p.mine rest.mine same; none_more = omega (arith, s.rows, ap length same); rows = omega (arith, s.rows, ap length same) }
+
+-- and come back with it
+back_loses : (n m : ℕ) (p rest back q desk done : PassValue) → IsSplit p n rest desk → LosesAtMost m rest back → LosesAtMost 0 desk done → IsBack back done q → LosesAtMost m p q
+back_loses n m p rest back q desk done s l d b =
+    let same = split_mine p rest desk n s in
+    let first : LosesAtMost n p rest = split_loses n p rest desk s in
+    let many : length q.mine ≡ length back.mine + length done.mine = ap length b.joined.mine ∙ length-append back.mine done.mine in
+    record {
+      kept = keeps_trans p rest q first.kept (keeps_trans rest back q l.kept (record { same = b.same; seen = b.joined.first }));
+      places = prefix_trans p.mine rest.mine q.mine first.places (prefix_trans rest.mine back.mine q.mine l.places (done.mine, sym b.joined.mine));
+      none_more = omega (arith, many, b.joined.free, l.none_more, d.none_more, s.rows, s.free, ap length same, ap length s.mine);
+      rows = omega (arith, many, b.joined.free, l.rows, d.rows, s.rows, s.free, ap length same, ap length s.mine);
+    }
+
+pub several_kept : (rows n m : ℕ) (p rest back q desk : PassValue) (d : Done) (j : Hand) (others r : Result Accepted WorkFault) → m ≡ suc n → IsSplit p rows rest desk → Served desk d.desk j d.accepted d.failed
+    → LosesAtMost (most_lost (rows * n) others) rest back → TakesBack back d others q r → LosesAtMost (most_lost (rows * m) r) p q
+several_kept rows n m p rest back q desk d j others (Ok all) next s w l t =
+    let none : most_lost (rows * n) others ≡ 0 = ap (most_lost (rows * n)) t.3 in
+    back_loses rows 0 p rest back q desk d.desk s (subst (λ k. LosesAtMost k rest back) none l) w.kept t.1
+several_kept rows n m p rest back q desk d j others (Err Start) next s w l t =
+    let none : most_lost (rows * n) others ≡ 0 = ap (most_lost (rows * n)) t.0 in
+    back_loses rows 0 p rest back q desk d.desk s (subst (λ k. LosesAtMost k rest back) none l) w.kept t.1
+several_kept rows n m p rest back q desk d j others (Err Memory) next s w l t =
+    let few = few_lost (rows * n) others in
+    let all : rows * m ≡ rows + rows * n = ap (λ k. rows * k) next ∙ omega arith in
+    ⊎_elim (λ (b : IsBack back d.desk q). loses_more (most_lost (rows * n) others) (rows * m) p q (omega (arith, few, all)) (back_loses rows (most_lost (rows * n) others) p rest back q desk d.desk s l w.kept b))
+    (λ (e : q ≡ back). loses_trans rows (most_lost (rows * n) others) (rows * m) p rest q (omega (arith, few, all)) (split_loses rows p rest desk s) (subst (λ (x : PassValue). LosesAtMost (most_lost (rows * n) others) rest x) (sym e) l)) t
+
+-- ---- the feeding
+
+pub fed_none : {A X : Type 0} (given : A → List DrawopValue) (most : A → ℕ) (ended : A → Bool) (follows : A → A → Type 0) (f g : Feeding) (a : A) (r : Result X WorkFault) → g.line ≡ f.line → g.drawn.items ≡ f.drawn.items → follows a a → OnOk r (ended a ≡ true)
+    → HasFed given most ended follows f a g a r
+fed_none given most ended follows f g a r line drawn itself none = record {
+  line = line;
+  drawn = subst (λ (l : List DrawopValue). IsDrawn (given a) (most a) f.drawn.items (given a) (most a) l) (sym drawn) (drawn_none (given a) (most a) f.drawn.items);
+  source = itself;
+  ended = none;
+  untouched = λ _. λ i. a;
+}
+
+-- the same, seen from where a pass was cut off until it was taken back
+fed_within : {A X Y : Type 0} (given : A → List DrawopValue) (most : A → ℕ) (ended : A → Bool) (follows : A → A → Type 0) (f f' g' g : Feeding) (v w : Hand) (a b : A) (o : Result X WorkFault) (r : Result Y WorkFault)
+    → IsWith f v f' → HasFed given most ended follows f' a g' b o → IsWith g' w g → OnOk r (ended b ≡ true) → (r ≡ Err Start → o ≡ Err Start) → HasFed given most ended follows f a g b r
+fed_within given most ended follows f f' g' g v w a b o r cut h back ok start = record {
+  line = back.line ∙ (h.line ∙ cut.line);
+  drawn = subst (λ (l : List DrawopValue). IsDrawn (given a) (most a) f.drawn.items (given b) (most b) l) (sym (ap (λ k. k.items) back.drawn)) (subst (λ (l : List DrawopValue). IsDrawn (given a) (most a) l (given b) (most b) g'.drawn.items) (ap (λ k. k.items) cut.drawn) h.drawn);
+  source = h.source;
+  ended = ok;
+  untouched = λ e. h.untouched (start e);
+}
+
+pub several_fed : {A : Type 0} (given : A → List DrawopValue) (most : A → ℕ) (ended : A → Bool) (follows : A → A → Type 0) (f f' g' g : Feeding) (v w : Hand) (a b : A) (p q : PassValue) (d : Done) (others r : Result Accepted WorkFault)
+    → IsWith f v f' → HasFed given most ended follows f' a g' b others → IsWith g' w g → TakesBack p d others q r → HasFed given most ended follows f a g b r
+several_fed given most ended follows f f' g' g v w a b p q d others (Ok all) cut h back t = fed_within given most ended follows f f' g' g v w a b others (Ok all) cut h back (subst (λ o. OnOk o (ended b ≡ true)) t.3 h.ended) (λ e. absurd (cc (e)))
+several_fed given most ended follows f f' g' g v w a b p q d others (Err Start) cut h back t = fed_within given most ended follows f f' g' g v w a b others (Err Start) cut h back tt (λ e. t.0)
+several_fed given most ended follows f f' g' g v w a b p q d others (Err Memory) cut h back t = fed_within given most ended follows f f' g' g v w a b others (Err Memory) cut h back tt (λ e. absurd (cc (e)))
+
+pub one_fed : {A : Type 0} (given : A → List DrawopValue) (most : A → ℕ) (ended : A → Bool) (follows : A → A → Type 0) (f f' g' g : Feeding) (v w : Hand) (a b : A) (q : PassValue) (d : Done) (fed r : Result Accepted WorkFault)
+    → IsWith f v f' → HasFed given most ended follows f' a g' b fed → IsWith g' w g → ComesBack d fed q r → HasFed given most ended follows f a g b r
+one_fed given most ended follows f f' g' g v w a b q d fed (Ok all) cut h back t = fed_within given most ended follows f f' g' g v w a b fed (Ok all) cut h back (subst (λ o. OnOk o (ended b ≡ true)) t.4 h.ended) (λ e. absurd (cc (e)))
+one_fed given most ended follows f f' g' g v w a b q d fed (Err Start) cut h back t = fed_within given most ended follows f f' g' g v w a b fed (Err Start) cut h back tt (λ e. t.1)
+one_fed given most ended follows f f' g' g v w a b q d fed (Err Memory) cut h back t = fed_within given most ended follows f f' g' g v w a b fed (Err Memory) cut h back tt (λ e. absurd (cc (e)))
+
+-- ---- what was done
+
+tells_sum : (s t u : Accepted) (xs ys : List Spot) → Tells s xs → Tells t ys → IsSum s t u → Tells u (xs ++ ys)
+tells_sum s t u xs ys a b e =
+    let m = entries-append xs ys in
+    record {
+      fresh = rw m (omega (arith, e.fresh, a.fresh, b.fresh, (tally-append (entries xs) (entries ys)).fresh));
+      again = rw m (omega (arith, e.again, a.again, b.again, (tally-append (entries xs) (entries ys)).again));
+      clash = rw m (omega (arith, e.clash, a.clash, b.clash, (tally-append (entries xs) (entries ys)).clash));
+      positions = e.positions ∙ (ap (λ l. l ++ t.positions.items) a.positions ∙ (ap (λ l. accepted_at xs ++ l) b.positions ∙ sym (accepted-append xs ys)));
+    }
+
+pub nobody_worked : (rows n : ℕ) (p : PassValue) (g h : Hand) (a : Accepted) → n ≡ 0 → h.parts ≡ g.parts → h.got ≡ g.got → Tells a [] → Worked (λ log gots. Workers rows n p log gots p) n g h a
+nobody_worked rows n p g h a none parts got t = record {
+  log = [];
+  gots = [];
+  did = subst (λ (k : ℕ). Workers rows k p [] [] p) (sym none) nobody;
+  got = got ∙ sym (append-nil g.got);
+  parts = parts;
+  tells = t;
+  few = omega (arith, t.fresh, t.again, t.clash);
+}
+
+pub several_worked : (rows n m : ℕ) (p rest back q desk : PassValue) (d : Done) (f f' g' g : Feeding) (others r : Result Accepted WorkFault) → m ≡ suc n → 1 < (view f.pass).parts → IsSplit p rows rest desk
+    → IsWith f (hand ((view f.pass).parts - 1) (view f.pass).sends (view f.pass).sent (view f.pass).got) f' → Served desk d.desk (view d.pass) d.accepted d.failed
+    → IfOk others (Worked (λ log gots. Workers rows n rest log gots back) n (view f'.pass) (view g'.pass)) → IsMerged g' (view d.pass) g → TakesBack back d others q r
+    → IfOk r (Worked (λ log gots. Workers rows m p log gots q) m (view f.pass) (view g.pass))
+several_worked rows n m p rest back q desk d f f' g' g others (Err e) next some s cut served w merged t = tt
+several_worked rows n m p rest back q desk d f f' g' g others (Ok all) next some s cut served w merged t =
+    let o : Worked (λ log gots. Workers rows n rest log gots back) n (view f'.pass) (view g'.pass) t.2 = subst (λ x. IfOk x (Worked (λ log gots. Workers rows n rest log gots back) n (view f'.pass) (view g'.pass))) t.3 w in
+    let k = served.took t.0 in
+    let sum = t.4 in
+    let got = (view d.pass).got in
+    record {
+      log = k.log ++ o.log;
+      gots = o.gots ++ got;
+      did = subst (λ (x : ℕ). Workers rows x p (k.log ++ o.log) (o.gots ++ got) q) (sym next) (worker k.log o.log got o.gots s k.serves o.did t.1);
+      got = ap (λ (z : Hand). z.got) merged.view ∙ (ap (λ l. l ++ got) (o.got ∙ ap (λ (z : Hand). z.got ++ o.gots) cut.view) ∙ append_assoc (view f.pass).got o.gots got);
+      parts = omega (arith, ap (λ (z : Hand). z.parts) merged.view, o.parts, ap (λ (z : Hand). z.parts) cut.view, ap (λ (z : Hand). z.parts) served.hand, some);
+      tells = tells_sum d.accepted t.2 all k.log o.log k.tells o.tells sum;
+      few = omega (arith, sum.fresh, sum.again, sum.clash, k.few, o.few, next);
+    }
+
+pub one_worked : (p q : PassValue) (d : Done) (f f' g' g : Feeding) (fed r : Result Accepted WorkFault) → 1 < (view f.pass).parts
+    → IsWith f (hand ((view f.pass).parts - 1) (view f.pass).sends (view f.pass).sent (view f.pass).got) f' → Served p d.desk (view d.pass) d.accepted d.failed
+    → ((view g'.pass).parts ≡ (view f'.pass).parts) × ((view g'.pass).got ≡ (view f'.pass).got) → IsMerged g' (view d.pass) g → ComesBack d fed q r
+    → IfOk r (Worked (λ log gots. Serves p log gots q) 1 (view f.pass) (view g.pass))
+one_worked p q d f f' g' g fed (Err e) some cut served same merged t = tt
+one_worked p q d f f' g' g fed (Ok all) some cut served same merged t =
+    let k = served.took t.1 in
+    let got = (view d.pass).got in
+    let done : Worked (λ log gots. Serves p log gots d.desk) 1 (view f.pass) (view g.pass) d.accepted = record {
+      log = k.log;
+      gots = got;
+      did = k.serves;
+      got = ap (λ (z : Hand). z.got) merged.view ∙ ap (λ l. l ++ got) (same.1 ∙ ap (λ (z : Hand). z.got) cut.view);
+      parts = omega (arith, ap (λ (z : Hand). z.parts) merged.view, same.0, ap (λ (z : Hand). z.parts) cut.view, ap (λ (z : Hand). z.parts) served.hand, some);
+      tells = k.tells;
+      few = omega (arith, k.few);
+    } in
+    subst (λ (x : PassValue × Accepted). Worked (λ log gots. Serves p log gots x.0) 1 (view f.pass) (view g.pass) x.1) (λ i. (sym t.0 i, sym t.2 i)) done
+
+pub one_kept : (p q : PassValue) (d : Done) (j : Hand) (fed r : Result Accepted WorkFault) → Served p d.desk j d.accepted d.failed → ComesBack d fed q r → LosesAtMost 0 p q
+one_kept p q d j fed (Ok all) s t = subst (λ (x : PassValue). LosesAtMost 0 p x) (sym t.0) s.kept
+one_kept p q d j fed (Err Start) s t = subst (λ (x : PassValue). LosesAtMost 0 p x) (sym t.0) s.kept
+one_kept p q d j fed (Err Memory) s t = subst (λ (x : PassValue). LosesAtMost 0 p x) (sym t) s.kept
+
+-- a worker whose thread was refused did nothing that counts
+pub refused_worked : (P : Accepted → Type 0) (d : Done) (q : PassValue) (f : WorkFault) (r : Result Accepted WorkFault) → ComesBack d (Err f) q r → IfOk r P
+refused_worked P d q f (Ok all) t = absurd (cc (t.4))
+refused_worked P d q f (Err e) t = tt
+
+pub refused_back : (P : Accepted → Type 0) (p : PassValue) (d : Done) (q : PassValue) (f : WorkFault) (r : Result Accepted WorkFault) → TakesBack p d (Err f) q r → IfOk r P
+refused_back P p d q f (Ok all) t = absurd (cc (t.3))
+refused_back P p d q f (Err e) t = tt
+
+pub nobody_all : (rows n : ℕ) (p : PassValue) (g h : Hand) (r : Result Accepted WorkFault) → n ≡ 0 → (h.parts ≡ g.parts) × (h.got ≡ g.got) → IfOk r (λ a. Tells a []) → IfOk r (Worked (λ log gots. Workers rows n p log gots p) n g h)
+nobody_all rows n p g h (Ok a) none same t = nobody_worked rows n p g h a none same.0 same.1 t
+nobody_all rows n p g h (Err e) none same t = tt

@@ -1,0 +1,28 @@
+use Rattle.std.proofs.Common.{rules, ◌≡◌, Err, ap, subst}
+use Rattle.crossbeam_channel.specs.Claims.{view}
+use Rattle.wb_history.specs.Passes.{PassValue}
+use Rattle.wb_feed.specs.declared.workers.WorkFault.TheVariants.{Start}
+use Rattle.wb_feed.specs.Served.{Served}
+use Rattle.wb_feed.proofs.TakingBack.{fed_none, one_fed, one_kept, refused_worked}
+use Rattle.wb_feed.proofs.alone.work_with.Goals as goal
+
+pub returns-in-Ok-clause-kept : goal.returns-in-Ok-clause-kept
+returns-in-Ok-clause-kept g c =
+    let same : c.in-Ok.child.promise.desk.value ≡ c.args.desk = search rules in
+    let served : Served c.args.desk c.join.result.desk (view c.join.result.pass) c.join.result.accepted c.join.result.failed =
+    subst (λ (v : PassValue). Served v c.join.result.desk (view c.join.result.pass) c.join.result.accepted c.join.result.failed) same c.join.ensures.1 in
+    one_kept _ _ c.join.result (view c.join.result.pass) c.feed_all-fed.result c.give_back.result.1 served c.give_back.ensures.back
+
+pub returns-in-Err-clause-kept : goal.returns-in-Err-clause-kept
+returns-in-Err-clause-kept g c =
+    let served : Served c.args.desk c.work.result.desk (view c.work.result.pass) c.work.result.accepted c.work.result.failed = search rules in
+    one_kept _ _ c.work.result (view c.work.result.pass) (Err Start) c.give_back-in-Err.result.1 served c.give_back-in-Err.ensures.back
+
+pub returns-in-Err-clause-fed : goal.returns-in-Err-clause-fed
+returns-in-Err-clause-fed g c =
+    one_fed _ _ _ _ _ _ _ _ _ _ _ _ _ c.work.result (Err Start) _ c.cut-theirs.ensures.left
+    (fed_none _ _ _ _ _ _ _ _ c.end_all.ensures.line (ap (λ d. d.items) c.end_all.ensures.drawn) (g.met.S.Arrivals.follows_itself _) tt)
+    c.give_back-in-Err.ensures.pass c.give_back-in-Err.ensures.back
+
+pub returns-in-Err-clause-ok : goal.returns-in-Err-clause-ok
+returns-in-Err-clause-ok g c = refused_worked _ c.work.result _ Start _ c.give_back-in-Err.ensures.back

@@ -1,0 +1,17 @@
+use Rattle.std.proofs.Common.{◌≡◌}
+use Rattle.crossbeam_channel.specs.Claims.{view}
+use Rattle.wb_feed.specs.Sent.{IsDrawn}
+use Rattle.wb_feed.proofs.Sending.{Stays}
+use Rattle.wb_feed.proofs.sender.Feeding.feed.Given as goal
+
+abbrev pub invariant-loop-message : goal.invariant-loop-message
+invariant-loop-message g l =
+    record {
+      line : l.self.line ≡ l.initial.self.line;
+      stays : Stays (view l.initial.self.pass) (view l.self.pass);
+      drawn : IsDrawn (g.S.Arrivals.given l.initial.arrivals) (g.S.Arrivals.most_to_come l.initial.arrivals) l.initial.self.drawn.items (g.S.Arrivals.given l.arrivals) (g.S.Arrivals.most_to_come l.arrivals) l.self.drawn.items;
+      source : g.S.Arrivals.follows l.initial.arrivals l.arrivals;
+    }
+
+abbrev pub decreases-loop-message : goal.decreases-loop-message
+decreases-loop-message g l = g.S.Arrivals.most_to_come l.arrivals

@@ -1,0 +1,126 @@
+//! A single worker: its thread has the desk itself, so nothing is split off, copied or joined.
+ghost use Rattle.std.specs.Prelude.{◌≡◌, ◌<◌, ◌^◌, IfOk};
+ghost use Rattle.crossbeam_channel.specs.Claims.{view, IsSeatAt};
+ghost use Rattle.crossbeam_channel.specs.Ends.{sends_on, receives_on};
+ghost use Rattle.wb_history.specs.Passes.{IsPassOf};
+ghost use Rattle.wb_feed.specs.Accepts.{LosesAtMost};
+ghost use Rattle.wb_feed.specs.Served.{Serves};
+ghost use Rattle.wb_feed.specs.Feeding.{IsReady, IsMerged, HasFed};
+ghost use Rattle.wb_feed.specs.Workers.{Worked, ComesBack};
+
+use crate::arrivals::Arrivals;
+use crate::gate::Gate;
+use crate::place::Place;
+use crate::sender::Feeding;
+use crate::worker::{Accepted, Done, serve};
+use crate::workers::{WorkFault, WorkerServes, feed_all};
+use std::mem::replace;
+use std::snapshot::Snapshot;
+use std::sync::Wait;
+use std::thread::{Scope, Threads};
+use wb_host::{Board, Desk};
+
+/// The desk that a worker's thread gives back, and what the worker accepted.
+fn give_back(
+    feeding: &mut Feeding,
+    done: Done,
+    fed: Result<Accepted, WorkFault>,
+) -> (Desk, Result<Accepted, WorkFault>)
+    requires seat { IsSeatAt (sends_on feeding.old.line) done.pass }
+    ensures pass { IsMerged feeding.old (view done.pass) feeding.new }
+    ensures back { ComesBack done fed result.0 result.1 }
+{
+    let Done {
+        desk,
+        pass,
+        accepted,
+        failed,
+    } = done;
+    feeding.absorb(pass);
+    match fed {
+        Err(fault) => (desk, Err(fault)),
+        Ok(_) if failed => (desk, Err(WorkFault::Memory)),
+        Ok(_) => (desk, Ok(accepted)),
+    }
+}
+
+/// Starts the worker with this desk, feeds it, and takes both back. Where its thread is refused, its
+/// work is called here behind an end message, which is all that it then receives: so the desk comes back.
+fn work_with<'s, 'e: 's, R: Threads + Wait + Sync, S: Arrivals, G: Gate + Sync>(
+    scope: &'s Scope<'s, &'e ()>,
+    place: Place<'e, R, G>,
+    desk: Desk,
+    feeding: &mut Feeding,
+    arrivals: &mut S,
+) -> (Desk, Result<Accepted, WorkFault>)
+    requires desk { IsPassOf place.board.now desk }
+    requires channel { receives_on place.end.now ≡ sends_on feeding.old.line }
+    requires ready { IsReady 1 feeding.old }
+    requires few { S.most_to_come arrivals.old < 2 ^ 32 }
+    ensures kept { LosesAtMost 0 desk result.0 }
+    ensures fed { HasFed S.given S.most_to_come S.has_ended S.follows feeding.old arrivals.old feeding.new arrivals.new result.1 }
+    ensures ok { IfOk result.1 (Worked (λ log gots. Serves desk log gots result.0) 1 (view feeding.old.pass) (view feeding.new.pass)) }
+{
+    let theirs = feeding.cut();
+    let promise = WorkerServes {
+        desk: Snapshot::of(&desk),
+        end: place.end,
+    };
+    // Taken apart, since the proof sees what a closure captures only where it is no struct of type parameters.
+    let Place {
+        rt,
+        alloc,
+        board,
+        end,
+        gate,
+        workers,
+    } = place;
+    let work = move || {
+        let place = Place {
+            rt,
+            alloc,
+            board,
+            end,
+            gate,
+            workers,
+        };
+        serve(place, desk, theirs, 0)
+    };
+    match scope.spawn_with(promise, work) {
+        Ok(child) => {
+            let fed = feed_all(place, feeding, arrivals);
+            give_back(feeding, child.join(place.rt), fed)
+        }
+        Err(refused) => {
+            feeding.end_all(place.rt, 1);
+            let work = refused.value;
+            give_back(feeding, work(), Err(WorkFault::Start))
+        }
+    }
+}
+
+/// The one worker of a batch. While its thread has the desk, the desk of a board of one cell stands in
+/// its place.
+pub(crate) fn run_one<'s, 'e: 's, R: Threads + Wait + Sync, S: Arrivals, G: Gate + Sync>(
+    scope: &'s Scope<'s, &'e ()>,
+    place: Place<'e, R, G>,
+    root: &mut Desk,
+    feeding: &mut Feeding,
+    arrivals: &mut S,
+) -> Result<Accepted, WorkFault>
+    requires root { IsPassOf place.board.now root.old }
+    requires channel { receives_on place.end.now ≡ sends_on feeding.old.line }
+    requires ready { IsReady 1 feeding.old }
+    requires few { S.most_to_come arrivals.old < 2 ^ 32 }
+    ensures kept { LosesAtMost 0 root.old root.new }
+    ensures fed { HasFed S.given S.most_to_come S.has_ended S.follows feeding.old arrivals.old feeding.new arrivals.new result }
+    ensures ok { IfOk result (Worked (λ log gots. Serves root.old log gots root.new) 1 (view feeding.old.pass) (view feeding.new.pass)) }
+{
+    let Ok((_, stand_in)) = Board::open(place.alloc, 1) else {
+        return Err(WorkFault::Memory);
+    };
+    let desk = replace(root, stand_in);
+    let (desk, accepted) = work_with(scope, place, desk, feeding, arrivals);
+    *root = desk;
+    accepted
+}

@@ -1,0 +1,238 @@
+//! The workers of a batch: they are started, fed, and joined, one level of a recursion for each.
+ghost use Rattle.std.specs.Prelude.{◌≡◌, ◌*◌, ◌<◌, ◌≤◌, ◌^◌, false, [], IfOk};
+ghost use Rattle.std.specs.Thread.{IsSync};
+ghost use Rattle.crossbeam_channel.specs.Claims.{view, IsSeatAt};
+ghost use Rattle.crossbeam_channel.specs.Ends.{sends_on, receives_on};
+ghost use Rattle.wb_history.specs.Passes.{IsPassOf};
+ghost use Rattle.wb_feed.specs.Accepts.{LosesAtMost};
+ghost use Rattle.wb_feed.specs.Served.{Tells};
+ghost use Rattle.wb_feed.specs.Feeding.{IsReady, IsMerged, HasFed};
+ghost use Rattle.wb_feed.specs.Workers.{Workers, Work, Worked, AreFew, most_lost, handed_out, TakesBack};
+
+use crate::alone::run_one;
+use crate::arrivals::Arrivals;
+use crate::gate::Gate;
+use crate::line::LineEnd;
+use crate::place::Place;
+use crate::sender::Feeding;
+use crate::worker::{Accepted, Done, serve};
+use std::snapshot::Snapshot;
+use std::sync::Wait;
+use std::thread;
+use std::thread::{Promise, Scope, Threads};
+use wb_host::{Board, Desk, SplitFault};
+
+/// Why the workers did not take a batch.
+#[derive(Clone, Copy, Debug)]
+pub(crate) enum WorkFault {
+    /// A thread was refused.
+    Start,
+    /// A growth was refused.
+    Memory,
+}
+
+/// The desk that a worker begins with, and the channel that it serves.
+#[derive(Drop)]
+pub(crate) struct WorkerServes<'a> {
+    pub(crate) desk: Snapshot<Desk>,
+    pub(crate) end: &'a LineEnd,
+}
+
+impl<'a> Promise<Done> for WorkerServes<'a> {
+    ghost use Rattle.crossbeam_channel.specs.Claims.{view, IsSeatAt};
+    ghost use Rattle.crossbeam_channel.specs.Ends.{receives_on};
+    ghost use Rattle.wb_feed.specs.Served.{Served};
+
+    ghost kept_by = { λ p r. IsSeatAt (receives_on p.end.now) r.pass × Served p.desk.value r.desk (view r.pass) r.accepted r.failed };
+}
+
+/// Feeds the workers, who are all started, and ends their work.
+pub(crate) fn feed_all<R: Wait, S: Arrivals, G>(
+    place: Place<R, G>,
+    feeding: &mut Feeding,
+    arrivals: &mut S,
+) -> Result<Accepted, WorkFault>
+    requires ready { IsReady 0 feeding.old }
+    requires few { S.most_to_come arrivals.old < 2 ^ 32 }
+    ensures fed { HasFed S.given S.most_to_come S.has_ended S.follows feeding.old arrivals.old feeding.new arrivals.new result }
+    ensures same { ((view feeding.new.pass).parts ≡ (view feeding.old.pass).parts) × ((view feeding.new.pass).got ≡ (view feeding.old.pass).got) }
+    ensures none { IfOk result (λ a. Tells a []) }
+{
+    let fed = feeding.feed(place.rt, arrivals);
+    feeding.end_all(place.rt, place.workers);
+    match fed {
+        Ok(()) => Ok(Accepted::new(place.alloc)),
+        Err(_) => Err(WorkFault::Memory),
+    }
+}
+
+/// Takes back what a worker's thread has, and adds what the others accepted.
+fn take_back(
+    board: &Board,
+    root: &mut Desk,
+    feeding: &mut Feeding,
+    done: Done,
+    others: Result<Accepted, WorkFault>,
+) -> Result<Accepted, WorkFault>
+    requires desks { IsPassOf board.now root.old × IsPassOf board.now done.desk }
+    requires seat { IsSeatAt (sends_on feeding.old.line) done.pass }
+    requires few { (done.failed ≡ false → AreFew 1 done.accepted) × IfOk others (AreFew 8) }
+    ensures pass { IsMerged feeding.old (view done.pass) feeding.new }
+    ensures back { TakesBack root.old done others root.new result }
+{
+    let Done {
+        desk,
+        pass,
+        accepted,
+        failed,
+    } = done;
+    feeding.absorb(pass);
+    let Ok(()) = board.join(root, desk) else {
+        return Err(WorkFault::Memory);
+    };
+    let others = others?;
+    if failed {
+        return Err(WorkFault::Memory);
+    }
+    match accepted.and(others) {
+        Ok(both) => Ok(both),
+        Err(_) => Err(WorkFault::Memory),
+    }
+}
+
+/// Starts the workers that are still to start, feeds them all, and takes them back. Where a thread is
+/// refused, its work is called here behind an end message, which is all that it then receives: so its desk
+/// comes back too.
+fn run_several<'s, 'e: 's, R: Threads + Wait + Sync, S: Arrivals, G: Gate + Sync>(
+    scope: &'s Scope<'s, &'e ()>,
+    place: Place<'e, R, G>,
+    root: &mut Desk,
+    rows: u32,
+    left: u32,
+    feeding: &mut Feeding,
+    arrivals: &mut S,
+) -> Result<Accepted, WorkFault>
+    requires root { IsPassOf place.board.now root.old }
+    requires rows { rows * left ≤ root.old.free }
+    requires workers { (left ≤ place.workers) × (place.workers ≤ 8) }
+    requires channel { receives_on place.end.now ≡ sends_on feeding.old.line }
+    requires ready { IsReady left feeding.old }
+    requires few { S.most_to_come arrivals.old < 2 ^ 32 }
+    ensures kept { LosesAtMost (most_lost (rows * left) result) root.old root.new }
+    ensures fed { HasFed S.given S.most_to_come S.has_ended S.follows feeding.old arrivals.old feeding.new arrivals.new result }
+    ensures ok { IfOk result (Worked (λ log gots. Workers rows left root.old log gots root.new) left (view feeding.old.pass) (view feeding.new.pass)) }
+{
+    if left == 0 {
+        return feed_all(place, feeding, arrivals);
+    }
+    let worker = place.workers - left;
+    let desk = match place.board.split(place.alloc, root, rows) {
+        Ok(desk) => desk,
+        Err(SplitFault::TooMany(_)) => unreachable!(),
+        Err(SplitFault::Memory) => {
+            feeding.end_all(place.rt, worker);
+            return Err(WorkFault::Memory);
+        }
+    };
+    let theirs = feeding.cut();
+    let promise = WorkerServes {
+        desk: Snapshot::of(&desk),
+        end: place.end,
+    };
+    // Taken apart, since the proof sees what a closure captures only where it is no struct of type parameters.
+    let Place {
+        rt,
+        alloc,
+        board,
+        end,
+        gate,
+        workers,
+    } = place;
+    let work = move || {
+        let place = Place {
+            rt,
+            alloc,
+            board,
+            end,
+            gate,
+            workers,
+        };
+        serve(place, desk, theirs, worker)
+    };
+    match scope.spawn_with(promise, work) {
+        Ok(child) => {
+            let others = run_several(scope, place, root, rows, left - 1, feeding, arrivals);
+            take_back(place.board, root, feeding, child.join(place.rt), others)
+        }
+        Err(refused) => {
+            feeding.end_all(place.rt, worker + 1);
+            let work = refused.value;
+            take_back(place.board, root, feeding, work(), Err(WorkFault::Start))
+        }
+    }
+}
+
+/// The workers of a batch: one has the desk itself, and of more each gets an equal part of its free rows.
+fn run_some<'s, 'e: 's, R: Threads + Wait + Sync, S: Arrivals, G: Gate + Sync>(
+    scope: &'s Scope<'s, &'e ()>,
+    place: Place<'e, R, G>,
+    root: &mut Desk,
+    feeding: &mut Feeding,
+    arrivals: &mut S,
+) -> Result<Accepted, WorkFault>
+    requires root { IsPassOf place.board.now root.old }
+    requires workers { (0 < place.workers) × (place.workers ≤ 8) }
+    requires channel { receives_on place.end.now ≡ sends_on feeding.old.line }
+    requires ready { IsReady place.workers feeding.old }
+    requires few { S.most_to_come arrivals.old < 2 ^ 32 }
+    ensures kept { LosesAtMost (most_lost (handed_out place.entry.workers root.old.free) result) root.old root.new }
+    ensures fed { HasFed S.given S.most_to_come S.has_ended S.follows feeding.old arrivals.old feeding.new arrivals.new result }
+    ensures ok { IfOk result (Worked (λ log gots. Work place.entry.workers root.old log gots root.new) place.entry.workers (view feeding.old.pass) (view feeding.new.pass)) }
+{
+    if place.workers == 1 {
+        return run_one(scope, place, root, feeding, arrivals);
+    }
+    let rows = root.rows_left() / place.workers;
+    run_several(scope, place, root, rows, place.workers, feeding, arrivals)
+}
+
+/// All workers, each on a thread of its own, fed from this one.
+pub(crate) fn run_all<R: Threads + Wait + Sync, S: Arrivals, G: Gate + Sync>(
+    place: Place<R, G>,
+    root: &mut Desk,
+    feeding: &mut Feeding,
+    arrivals: &mut S,
+) -> Result<Accepted, WorkFault>
+    requires root { IsPassOf place.board.now root.old }
+    requires workers { (0 < place.workers) × (place.workers ≤ 8) }
+    requires channel { receives_on place.end.now ≡ sends_on feeding.old.line }
+    requires ready { IsReady place.workers feeding.old }
+    requires few { S.most_to_come arrivals.old < 2 ^ 32 }
+    ensures kept { LosesAtMost (most_lost (handed_out place.entry.workers root.old.free) result) root.old root.new }
+    ensures fed { HasFed S.given S.most_to_come S.has_ended S.follows feeding.old arrivals.old feeding.new arrivals.new result }
+    ensures ok { IfOk result (Worked (λ log gots. Work place.entry.workers root.old log gots root.new) place.entry.workers (view feeding.old.pass) (view feeding.new.pass)) }
+{
+    let (root, feeding, arrivals, accepted) = thread::scope(
+        thread::scope_env(),
+        place.rt,
+        move |scope| -> (&mut Desk, &mut Feeding, &mut S, Result<Accepted, WorkFault>)
+            requires { IsSync R.row × IsSync G.row × IsPassOf place.board.now root.now × ((0 < place.workers) × (place.workers ≤ 8)) × (receives_on place.end.now ≡ sends_on feeding.now.line) × IsReady place.workers feeding.now × (S.most_to_come arrivals.now < 2 ^ 32) }
+            ensures names { (result.0.ghost_name ≡ root.entry.ghost_name) × (result.1.ghost_name ≡ feeding.entry.ghost_name) × (result.2.ghost_name ≡ arrivals.entry.ghost_name) }
+            ensures kept { LosesAtMost (most_lost (handed_out place.entry.workers root.entry.now.free) result.3) root.entry.now result.0.now }
+            ensures fed { HasFed S.given S.most_to_come S.has_ended S.follows feeding.entry.now arrivals.entry.now result.1.now result.2.now result.3 }
+            ensures ok { IfOk result.3 (Worked (λ log gots. Work place.entry.workers root.entry.now log gots result.0.now) place.entry.workers (view feeding.entry.now.pass) (view result.1.now.pass)) }
+        {
+            let accepted = run_some(scope, place, root, feeding, arrivals);
+            (root, feeding, arrivals, accepted)
+        },
+    );
+    ends_here(root);
+    ends_here(feeding);
+    ends_here(arrivals);
+    accepted
+}
+
+/// Does nothing. It ends a borrow that the closure gave back, so that the proof knows what was written through it.
+fn ends_here<T>(x: &mut T)
+    ensures { x.new ≡ x.old }
+{}
