@@ -1,7 +1,10 @@
 use Rattle.std.proofs.Common.{arith}
-use Rattle.wb_feed.proofs.Serving.{tells_few, serves_turn, serves_same}
+use Rattle.wb_feed.proofs.Serving.{tells_few, serves_none, serves_turn, serves_same}
 use Rattle.wb_feed.proofs.worker.serve.Goals as goal
 use Rattle.wb_feed.proofs.worker.serve.Goals.{in-None, in-Some+in_default}
+
+pub loop-init : goal.loop-init
+loop-init g c = (c.requires.seat.0, serves_none _ _ _ c.requires.seat.1 c.new-accepted.ensures)
 
 pub take_turn-failed-requires-clause-room : goal.take_turn-failed-requires-clause-room
 take_turn-failed-requires-clause-room g c =
