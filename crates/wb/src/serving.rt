@@ -1,3 +1,4 @@
+//! What the program does for each of its commands, and the exit status that tells how it ended.
 use crate::command::{Task, task_of};
 use clap::Error;
 use clap::error::ErrorKind;

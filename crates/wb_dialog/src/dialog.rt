@@ -1,3 +1,4 @@
+//! A host as a handler of the lines of a driver: each line has its block.
 ghost use Rattle.std.specs.Prelude.{◌≡◌, ◌++◌, List, [], ℕ, None, Option, Err, true};
 ghost use Rattle.wb_recovery.specs.Timing.{are_constants};
 ghost use Rattle.wb_script.specs.Hosts.{Opened};

@@ -1,3 +1,4 @@
+//! Why a line of a driver is refused, and why a host stops.
 ghost use Rattle.std.specs.Prelude.{◌≡◌};
 ghost use Rattle.wb_dialog.specs.declared.fault.Unanswered.TheVariants as unanswered;
 ghost use Rattle.wb_dialog.specs.declared.fault.Refusal.TheVariants as refusals;

@@ -1,3 +1,4 @@
+//! A host from the lines of its driver to the blocks that it writes.
 ghost use Rattle.std.specs.Prelude.{◌≡◌, List, ℕ, true, false, Err, OnOk};
 ghost use Rattle.std.specs.Io.KnownBytes.{Appends};
 ghost use Rattle.wb_recovery.specs.Timing.{are_constants};

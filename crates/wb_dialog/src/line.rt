@@ -1,3 +1,4 @@
+//! The lines of a driver.
 use wb_codec::Datagram;
 use wb_names::{Name, PageId};
 use wb_script::Line;

@@ -1,3 +1,4 @@
+//! What a line of a driver says.
 ghost use Rattle.std.specs.Prelude.{◌≡◌, IfOk};
 ghost use Rattle.std.specs.Option.{option_map};
 ghost use Rattle.wb_words.specs.Words.{parted};

@@ -1,3 +1,4 @@
+//! The lines that carry the bytes of a datagram.
 ghost use Rattle.std.specs.Prelude.{◌≡◌};
 ghost use Rattle.wb_filters.specs.Turning.{carrier_of, carrier_for, front, takes};
 

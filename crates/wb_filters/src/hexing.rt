@@ -1,3 +1,4 @@
+//! Lines in words, turned into lines that carry bytes.
 ghost use Rattle.std.specs.Prelude.{◌≡◌, IfOk};
 ghost use Rattle.std.specs.Option.{option_map};
 ghost use Rattle.wb_words.specs.Words.{parted};

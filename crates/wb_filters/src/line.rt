@@ -1,3 +1,4 @@
+//! A line that is not turned.
 ghost use Rattle.std.specs.Prelude.{◌≡◌, IfOk};
 
 use std::alloc::{AllocError, Global};

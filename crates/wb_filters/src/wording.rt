@@ -1,3 +1,4 @@
+//! Lines that carry bytes, turned into words.
 ghost use Rattle.std.specs.Prelude.{◌≡◌, IfOk};
 ghost use Rattle.wb_codec.specs.Reading.{reading};
 ghost use Rattle.wb_filters.specs.Turning.{MayTurn, words_behind, told, without_digits, worded};

@@ -1,3 +1,4 @@
+//! Why a keeper refuses a call.
 ghost use Rattle.std.specs.Prelude.{◌≡◌};
 
 use std::alloc::AllocError;

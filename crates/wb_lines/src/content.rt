@@ -1,3 +1,4 @@
+//! A line without what ends it.
 ghost use Rattle.std.specs.Prelude.{◌≡◌};
 ghost use Rattle.std.specs.Str.Lines.{strip_carriage_return};
 ghost use Rattle.wb_lines.specs.Input.{content};

@@ -1,3 +1,4 @@
+//! The loop from the lines of a source, over a handler, to a sink.
 ghost use Rattle.std.specs.Prelude.{◌≡◌, ◌<◌, ◌≤◌, ◌+◌, ◌-◌, ◌^◌, ◌++◌, [], List, ℕ, true, Result, Err, IfOk};
 ghost use Rattle.std.specs.Io.KnownBytes.{Appends};
 ghost use Rattle.wb_lines.specs.Output.{Sends};

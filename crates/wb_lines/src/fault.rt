@@ -1,3 +1,4 @@
+//! Why a driver did not come to the end of its input.
 ghost use Rattle.std.specs.Prelude.{◌≡◌};
 ghost use Rattle.wb_lines.specs.declared.fault.DriveFault.TheVariants as faults;
 

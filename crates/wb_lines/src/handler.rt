@@ -1,3 +1,4 @@
+//! What takes lines one by one, and prints what it makes of them.
 ghost use Rattle.std.specs.Prelude.{◌≡◌, ◌++◌, ℕ, List};
 ghost use Rattle.wb_lines.specs.declared.handler.Stop.TheVariants as stops;
 ghost use Rattle.wb_lines.specs.Handling.{Met, whole, too_long, Step, Does};

@@ -1,3 +1,4 @@
+//! Reads a source line by line, in blocks.
 ghost use Rattle.std.specs.Prelude.{◌≡◌, ◌≢◌, ◌≤◌, ◌<◌, ◌+◌, ◌↔◌, [], ◌∷◌, ◌++◌, List, ℕ, length, take, slice_index, true, false, IfOk, OnOk, IsTrue, Ok};
 ghost use Rattle.wb_lines.specs.Output.{Sends};
 ghost use Rattle.wb_lines.specs.Input.{most_bytes};

@@ -1,3 +1,4 @@
+//! Words of decimal digits.
 ghost use Rattle.std.specs.Prelude.{◌≡◌, ◌≤◌, IfSome};
 ghost use Rattle.wb_lines.specs.Words.{is_digit, number_of};
 

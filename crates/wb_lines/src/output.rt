@@ -1,3 +1,4 @@
+//! Text that waits to be written.
 ghost use Rattle.std.specs.Prelude.{◌≡◌, ◌<◌, ◌↔◌, [], ◌++◌, true, length, IsTrue, IsOk, OnOk, OnErr};
 ghost use Rattle.wb_lines.specs.Output.{Sends};
 

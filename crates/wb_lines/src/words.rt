@@ -1,3 +1,4 @@
+//! The words of a line.
 ghost use Rattle.std.specs.Prelude.{◌≡◌, ◌≢◌, ◌<◌, [], ◌∷◌, length, slice_index, MatchOption};
 ghost use Rattle.wb_lines.specs.Words.{words};
 
