@@ -1,20 +1,22 @@
 -- A drawop that is read is the one that was written, and what was written is read again.
-use Rattle.std.proofs.Common.{◌≡◌, ℕ, ◌^◌, ◌<◌, ◌≤◌, Bool, None, List, [], ◌++◌, Ok, refl, sym, ap, subst, ◌∙◌, append_assoc, append-nil, arith}
+use Rattle.std.proofs.Common.{◌≡◌, ℕ, ◌^◌, ◌<◌, ◌≤◌, Bool, true, None, List, [], ◌++◌, Ok, refl, sym, ap, subst, ◌∙◌, append_assoc, append-nil, arith}
 use Rattle.std.specs.Int.{w64, to_be_bytes}
 use Rattle.std.proofs.lemmas.Bool.{le-leb}
 use Rattle.std.proofs.lemmas.Bool.Decides.{nat_tests}
 use Rattle.wb_names.specs.Values.{NameValue, DrawopValue}
 use Rattle.wb_names.specs.Faults.{fault_unless}
 use Rattle.wb_names.specs.Drawing.{seq_fault}
+use Rattle.wb_names.specs.Kinds.{op_kind}
 use Rattle.wb_names.specs.declared.fault.FieldFault.TheVariants.{SeqZero}
 use Rattle.wb_names.specs.declared.parts.Op.{Op}
 use Rattle.wb_codec.specs.declared.version.Version.{Version}
 use Rattle.wb_codec.specs.Ranges.{IsName, IsDrawop, HasTarget}
+use Rattle.wb_codec.specs.Kinds.{has_kind}
 use Rattle.wb_codec.specs.Spelling.{name_bytes, op_bytes, op_version, drawop_bytes}
 use Rattle.wb_codec.specs.Reading.{number_at, name_at, op_at, end_of, in_range, told_fault, drawop_at}
 use Rattle.wb_codec.proofs.Bytes.{IsBytes}
 use Rattle.wb_codec.proofs.FieldLaws.{bind_ok, end_ok, in_range_ok, Takes-then, Takes-all, takes64, again64, HasWidth, has_width, name_takes, name_again}
-use Rattle.wb_codec.proofs.OpLaws.{IsKindOf, op_takes, op_again, one_version, told_again}
+use Rattle.wb_codec.proofs.OpLaws.{op_takes, op_again, one_version, told_again}
 
 pub seq_counted : (seq : ℕ) → seq_fault seq ≡ None → 1 ≤ seq
 seq_counted seq e = grind (arith, nat_tests)
@@ -30,7 +32,7 @@ pub record DrawopTaken (version : Version) (bytes : List ℕ) (d : DrawopValue) 
   pub fits : IsDrawop d
   pub version-is : op_version d.op ≡ version
 
-drawn : (version : Version) (bytes : List ℕ) (name : NameValue) (time : ℕ) (op : Op) → bytes ≡ name_bytes name ++ to_be_bytes w64 time ++ op_bytes op → HasWidth name → time < 2 ^ 64 → HasTarget op → IsKindOf version op → seq_fault name.seq ≡ None → told_fault version name op ≡ None → DrawopTaken version bytes (record { name = name; time = time; op = op })
+drawn : (version : Version) (bytes : List ℕ) (name : NameValue) (time : ℕ) (op : Op) → bytes ≡ name_bytes name ++ to_be_bytes w64 time ++ op_bytes op → HasWidth name → time < 2 ^ 64 → HasTarget op → has_kind version (op_kind op) ≡ true → seq_fault name.seq ≡ None → told_fault version name op ≡ None → DrawopTaken version bytes (record { name = name; time = time; op = op })
 drawn version bytes name time op parts width lt target kind seq told =
     let v = one_version version name op kind told in
     record { parts = parts; fits = record { name = named name width seq; time = lt; lawful = v.1; target = target }; version-is = v.0 }

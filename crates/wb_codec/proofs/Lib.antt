@@ -1,6 +1,7 @@
 pub mod Appending
 pub mod BodyLaws
 pub mod Bytes
+pub mod Codes
 pub mod DrawopLaws
 pub mod EntryLaws
 pub mod EntryLists

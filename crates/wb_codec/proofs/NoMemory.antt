@@ -4,9 +4,9 @@ use Rattle.std.specs.Prelude.{◌≢◌, nat_eq, nat_le}
 use Rattle.std.specs.Int.{Width, byte_len, from_be_bytes, w16, w32, w64}
 use Rattle.wb_names.specs.Drawing.{seq_fault}
 use Rattle.wb_names.specs.declared.parts.Figure.{Figure}
-use Rattle.wb_names.specs.declared.parts.Figure.TheVariants.{Line, Frame}
 use Rattle.wb_names.specs.declared.parts.Change.{Change}
-use Rattle.wb_names.specs.declared.parts.Change.TheVariants.{Delete, Restore}
+use Rattle.wb_names.specs.declared.parts.OpKind.{OpKind}
+use Rattle.wb_names.specs.declared.parts.OpKind.TheVariants as op_kinds
 use Rattle.wb_names.specs.declared.parts.Op.TheVariants.{Drawn, Text, Aimed}
 use Rattle.wb_names.specs.declared.fault.FieldFault.{FieldFault}
 use Rattle.wb_codec.specs.declared.datagram.Datagram.{Datagram}
@@ -15,7 +15,8 @@ use Rattle.wb_codec.specs.declared.header.Kind.TheVariants as kinds
 use Rattle.wb_codec.specs.declared.version.Version.{Version}
 use Rattle.wb_codec.specs.declared.version.Version.TheVariants as versions
 use Rattle.wb_codec.specs.declared.fault.ReadFault.{ReadFault}
-use Rattle.wb_codec.specs.declared.fault.ReadFault.TheVariants.{Short, Magic, Version as VersionFault, Kind as KindFault, Trailing, Length, OpKind, Field, Order, Memory}
+use Rattle.wb_codec.specs.declared.fault.ReadFault.TheVariants.{Short, Magic, Version as VersionFault, Kind as KindFault, Trailing, Length, OpKind as OpKindFault, Field, Order, Memory}
+use Rattle.wb_codec.specs.Kinds.{op_kind_of, has_kind}
 use Rattle.wb_codec.specs.Reading
 
 -- a fault of bytes
@@ -26,7 +27,7 @@ IsOfBytes VersionFault = Unit {0}
 IsOfBytes KindFault = Unit {0}
 IsOfBytes Trailing = Unit {0}
 IsOfBytes Length = Unit {0}
-IsOfBytes OpKind = Unit {0}
+IsOfBytes OpKindFault = Unit {0}
 IsOfBytes (Field fault) = Unit {0}
 IsOfBytes Order = Unit {0}
 IsOfBytes Memory = ⊥
@@ -81,14 +82,19 @@ target : (change : Change) (bytes : List ℕ) → Tells (Reading.target_at chang
 unfolding Reading.target_at
 target change bytes = next (Reading.number_at w32 bytes) _ (number w32 bytes) (λ a. next (Reading.number_at w32 a.1) _ (number w32 a.1) (λ b. tt))
 
-fields : (version : Version) (n : ℕ) (bytes : List ℕ) → Tells (Reading.fields_at version n bytes)
+fields : (kind : OpKind) (bytes : List ℕ) → Tells (Reading.fields_at kind bytes)
 unfolding Reading.fields_at
-fields versions.One n bytes = chosen (nat_eq n 1) _ _ (stroke Line bytes) (chosen (nat_eq n 2) _ _ (stroke Frame bytes) (chosen (nat_eq n 3) _ _ (text bytes) (chosen (nat_eq n 4) _ _ (target Delete bytes) tt)))
-fields versions.Two n bytes = chosen (nat_eq n 3) _ _ (text bytes) (chosen (nat_eq n 5) _ _ (target Restore bytes) tt)
+fields (op_kinds.Drawn figure) bytes = stroke figure bytes
+fields op_kinds.Text bytes = text bytes
+fields (op_kinds.Aimed change) bytes = target change bytes
+
+told : (version : Version) (o : Option OpKind) → Tells (Reading.told_kind version o)
+told version None = tt
+told version (Some kind) = checks (has_kind version kind) OpKindFault kind tt
 
 op : (version : Version) (bytes : List ℕ) → Tells (Reading.op_at version bytes)
 unfolding Reading.op_at
-op version bytes = next (Reading.byte_at bytes) _ (byte bytes) (λ n. fields version n.0 n.1)
+op version bytes = next (Reading.byte_at bytes) _ (byte bytes) (λ n. next (Reading.told_kind version (op_kind_of n.0)) _ (told version (op_kind_of n.0)) (λ k. fields k n.1))
 
 drawop : (version : Version) (bytes : List ℕ) → Tells (Reading.drawop_at version bytes)
 unfolding Reading.drawop_at

@@ -5,7 +5,7 @@ use Rattle.std.specs.Int.{w64, to_be_bytes}
 use Rattle.std.proofs.lemmas.List.{take_all, drop_all, length-take, length-drop, take_at, length-append, length-replicate, drop-drop, take-append-drop}
 use Rattle.std.proofs.lemmas.Nat.{be_bytes_8}
 use Rattle.wb_names.specs.TextFields.{padded}
-use Rattle.std.specs.Prelude.{nat_le}
+use Rattle.std.specs.Prelude.{nat_le, option_and_then, if◌then◌else◌}
 use Rattle.std.proofs.lemmas.Bool.{le-leb}
 use Rattle.std.specs.Result.{result_ok}
 use Rattle.wb_names.specs.Values.{NameValue, DrawopValue}
@@ -15,18 +15,17 @@ use Rattle.wb_names.specs.declared.fault.FieldFault.{FieldFault}
 use Rattle.wb_names.specs.declared.fault.FieldFault.TheVariants.{SeqZero}
 use Rattle.wb_names.proofs.Orders.{name_parts}
 use Rattle.wb_names.specs.Drawing.{IsLawful, op_fault, seq_fault}
-use Rattle.wb_names.specs.declared.parts.Figure.{Figure}
-use Rattle.wb_names.specs.declared.parts.Figure.TheVariants.{Line, Frame}
 use Rattle.wb_names.specs.declared.parts.Stroke.{Stroke}
-use Rattle.wb_names.specs.declared.parts.Change.{Change}
-use Rattle.wb_names.specs.declared.parts.Change.TheVariants.{Delete, Restore}
+use Rattle.wb_names.specs.declared.parts.OpKind.{OpKind}
+use Rattle.wb_names.specs.declared.parts.OpKind.TheVariants as kinds
 use Rattle.wb_names.specs.declared.parts.Target.{Target}
 use Rattle.wb_names.specs.declared.parts.Op.{Op}
 use Rattle.wb_names.specs.declared.parts.Op.TheVariants.{Drawn, Text, Aimed}
 use Rattle.wb_codec.specs.Ranges.{IsName, IsDrawop, HasTarget}
 use Rattle.wb_codec.specs.Rows.{row_words, row, op_words, text_word, text_words, op_word, pair_word}
-use Rattle.wb_codec.specs.RowReading.{high_half, low_half, kind_in, byte_in, p_in, q_in, r_in, s_in, stroke_in, target_in, op_in}
-use Rattle.wb_codec.specs.Spelling.{figure_code, change_code}
+use Rattle.wb_codec.specs.RowReading.{high_half, low_half, code_in, byte_in, p_in, q_in, r_in, s_in, stroke_in, target_in, op_told, op_in}
+use Rattle.wb_codec.specs.Kinds.{op_code, op_kind_of}
+use Rattle.wb_codec.proofs.Codes.{code_back}
 use Rattle.wb_codec.proofs.Bytes.{IsBytes, IsBytes-take, IsBytes-drop, IsBytes-append, IsBytes-zeros}
 use Rattle.wb_codec.proofs.Lawful.{IsText, lawful_stroke, lawful_text}
 
@@ -53,8 +52,8 @@ words_back bytes k (suc n) len fits =
 pub text_back : (x y : ℕ) (text : List ℕ) → IsText x y text → flat_map (to_be_bytes w64) (text_words text) ≡ padded text
 text_back x y text h = words_back (padded text) 0 8 (omega (arith, h.few_bytes, length-append text (replicate (64 - length text) 0), length-replicate {A = ℕ} (64 - length text) 0)) (IsBytes-append text (replicate (64 - length text) 0) h.bytes (IsBytes-zeros (64 - length text)))
 
-pub record HasParts (word kind byte p q r s : ℕ) : Type 0 where
-  pub kind-is : kind_in word ≡ kind
+pub record HasParts (word code byte p q r s : ℕ) : Type 0 where
+  pub code-is : code_in word ≡ code
   pub byte-is : byte_in word ≡ byte
   pub p-is : p_in word ≡ p
   pub q-is : q_in word ≡ q
@@ -63,7 +62,7 @@ pub record HasParts (word kind byte p q r s : ℕ) : Type 0 where
 
 pub parts_back : (kind byte p q r s : ℕ) → byte < 2 ^ 8 → p < 2 ^ 12 → q < 2 ^ 12 → r < 2 ^ 12 → s < 2 ^ 12 → HasParts (op_word kind byte p q r s) kind byte p q r s
 parts_back kind byte p q r s hb hp hq hr hs = record {
-  kind-is = omega arith;
+  code-is = omega arith;
   byte-is = omega arith;
   p-is = omega arith;
   q-is = omega arith;
@@ -86,19 +85,9 @@ target_back t hs hn =
     let l : low_half (pair_word t.source t.seq) ≡ t.seq = omega arith in
     rw (h, l) refl
 
-drawn_in : (figure : Figure) (word target : ℕ) (bytes : List ℕ) → kind_in word ≡ figure_code figure → op_in word target bytes ≡ Some (Drawn figure (stroke_in word))
+op_found : (kind : OpKind) (word target : ℕ) (bytes : List ℕ) → code_in word ≡ op_code kind → op_in word target bytes ≡ op_told kind word target bytes
 unfolding op_in
-drawn_in Line word target bytes e = rw e refl
-drawn_in Frame word target bytes e = rw e refl
-
-text_in : (word target : ℕ) (bytes : List ℕ) → kind_in word ≡ 3 → nat_le (byte_in word) 64 ≡ true → op_in word target bytes ≡ Some (Text (p_in word) (q_in word) (take (byte_in word) bytes))
-unfolding op_in
-text_in word target bytes e le = rw (e, le) refl
-
-aimed_in : (change : Change) (word target : ℕ) (bytes : List ℕ) → kind_in word ≡ change_code change → op_in word target bytes ≡ Some (Aimed change (target_in target))
-unfolding op_in
-aimed_in Delete word target bytes e = rw e refl
-aimed_in Restore word target bytes e = rw e refl
+op_found kind word target bytes e = ap (λ (n : ℕ). option_and_then (λ k. op_told k word target bytes) (op_kind_of n)) e ∙ ap (option_and_then (λ k. op_told k word target bytes)) (code_back kind)
 
 -- the operation's words read back
 abbrev pub op_in_words : List ℕ → Option Op
@@ -107,18 +96,22 @@ op_in_words words = op_in (get_or words 0 0) (get_or words 1 0) (flat_map (to_be
 pub op_back : (name : NameValue) (op : Op) → IsLawful name op → HasTarget op → op_in_words (op_words op) ≡ Some op
 op_back name (Drawn figure s) lawful fits =
     let f = lawful_stroke s lawful in
-    let word = op_word (figure_code figure) s.glyph s.x0 s.y0 s.x1 s.y1 in
-    let h = parts_back (figure_code figure) s.glyph s.x0 s.y0 s.x1 s.y1 f.glyph-fits f.x0-fits f.y0-fits f.x1-fits f.y1-fits in
-    drawn_in figure word _ _ h.kind-is ∙ ap (λ (t : Stroke). Some (Drawn figure t)) (stroke_back word (figure_code figure) s h)
+    let code = op_code (kinds.Drawn figure) in
+    let word = op_word code s.glyph s.x0 s.y0 s.x1 s.y1 in
+    let h = parts_back code s.glyph s.x0 s.y0 s.x1 s.y1 f.glyph-fits f.x0-fits f.y0-fits f.x1-fits f.y1-fits in
+    op_found (kinds.Drawn figure) word _ _ h.code-is ∙ ap (λ (t : Stroke). Some (Drawn figure t)) (stroke_back word code s h)
 op_back name (Text x y text) lawful fits =
     let t = lawful_text x y text lawful in
     let word = op_word 3 (length text) x y 0 0 in
+    let bytes = flat_map (to_be_bytes w64) (text_words text) in
     let h = parts_back 3 (length text) x y 0 0 (omega (arith, t.few_bytes)) t.x-fits t.y-fits (omega arith) (omega arith) in
     let few : nat_le (byte_in word) 64 ≡ true = le-leb _ _ (omega (arith, h.byte-is, t.few_bytes)) in
-    text_in word (get_or (text_words text) 0 0) (flat_map (to_be_bytes w64) (text_words text)) h.kind-is few ∙ ap Some (text_front x y 0 text (flat_map (to_be_bytes w64) (text_words text)) word h (text_back x y text t))
+    let told : Option Op = Some (Text (p_in word) (q_in word) (take (byte_in word) bytes)) in
+    op_found kinds.Text word (get_or (text_words text) 0 0) bytes h.code-is ∙ ap (λ (b : Bool). if b then told else None) few ∙ ap Some (text_front x y 0 text bytes word h (text_back x y text t))
 op_back name (Aimed change t) lawful fits =
-    let h = parts_back (change_code change) 0 0 0 0 0 (omega arith) (omega arith) (omega arith) (omega arith) (omega arith) in
-    aimed_in change (op_word (change_code change) 0 0 0 0 0) (pair_word t.source t.seq) _ h.kind-is ∙ ap (λ (u : Target). Some (Aimed change u)) (target_back t fits.0 fits.1)
+    let code = op_code (kinds.Aimed change) in
+    let h = parts_back code 0 0 0 0 0 (omega arith) (omega arith) (omega arith) (omega arith) (omega arith) in
+    op_found (kinds.Aimed change) (op_word code 0 0 0 0 0) (pair_word t.source t.seq) _ h.code-is ∙ ap (λ (u : Target). Some (Aimed change u)) (target_back t fits.0 fits.1)
 
 -- the operation read from the words of a record
 pub row_op_back : (d : DrawopValue) (words bytes : List ℕ) (o : Option Op) → IsDrawop d → row d ≡ words → bytes ≡ flat_map (to_be_bytes w64) (take 8 (drop 4 words)) → o ≡ op_in (get_or words 3 0) (get_or words 4 0) bytes → o ≡ Some d.op

@@ -6,21 +6,20 @@ use Rattle.std.specs.Int.{w16, w32, w64, to_be_bytes}
 use Rattle.wb_names.specs.Values.{NameValue, MarkValue}
 use Rattle.wb_names.specs.declared.name.PageId.{PageId}
 use Rattle.wb_names.specs.declared.echo.Echo.{Echo}
-use Rattle.wb_names.specs.declared.parts.Figure.{Figure}
-use Rattle.wb_names.specs.declared.parts.Figure.TheVariants.{Line, Frame}
 use Rattle.wb_names.specs.declared.parts.Stroke.{Stroke}
-use Rattle.wb_names.specs.declared.parts.Change.{Change}
-use Rattle.wb_names.specs.declared.parts.Change.TheVariants.{Delete, Restore}
 use Rattle.wb_names.specs.declared.parts.Target.{Target}
 use Rattle.wb_names.specs.declared.parts.Op.{Op}
 use Rattle.wb_names.specs.declared.parts.Op.TheVariants.{Drawn, Text, Aimed}
 use Rattle.wb_names.specs.Drawing.{IsLawful}
+use Rattle.wb_names.specs.Kinds.{op_kind}
 use Rattle.wb_codec.specs.declared.datagram.Datagram.{Datagram}
 use Rattle.wb_codec.specs.declared.datagram.Datagram.TheVariants.{Draw, Session, Request, AskPages, PageState}
 use Rattle.wb_codec.specs.declared.version.Version.{Version}
 use Rattle.wb_codec.specs.declared.version.Version.TheVariants.{One, Two}
 use Rattle.wb_codec.specs.Ranges.{IsDatagram}
-use Rattle.wb_codec.specs.Spelling.{page_bytes, name_bytes, stroke_bytes, target_bytes, figure_code, change_code, op_bytes, mark_bytes, echo_bytes, body, kind_code, version_of, version_code, spelling}
+use Rattle.wb_codec.specs.Kinds.{op_code}
+use Rattle.wb_codec.specs.Spelling.{page_bytes, name_bytes, stroke_bytes, target_bytes, field_bytes, op_bytes, mark_bytes, echo_bytes, body, kind_code, version_of, version_code, spelling}
+use Rattle.wb_codec.proofs.Codes.{code_below}
 use Rattle.wb_codec.proofs.Lawful.{lawful_stroke, lawful_text}
 
 abbrev Below : List ℕ → Type 0
@@ -68,20 +67,15 @@ stroke_are s lt = cat _ _ (cat _ _ (cat _ _ (cat _ _ (be16 s.x0) (be16 s.y0)) (b
 target_are : (t : Target) → AreBytes (target_bytes t)
 target_are t = cat _ _ (be32 t.source) (be32 t.seq)
 
-figure_below : (figure : Figure) → figure_code figure < 256
-figure_below Line = omega arith
-figure_below Frame = omega arith
-
-change_below : (change : Change) → change_code change < 256
-change_below Delete = omega arith
-change_below Restore = omega arith
+fields_are : (name : NameValue) (op : Op) → IsLawful name op → AreBytes (field_bytes op)
+fields_are name (Drawn figure s) e = stroke_are s (lawful_stroke s e).glyph-fits
+fields_are name (Text x y text) e =
+    let t = lawful_text x y text e in
+    cat _ _ (cat _ _ (cat _ _ (be16 x) (be16 y)) (one (length text) (omega (arith, t.few_bytes)))) (record { each = text_below text t.bytes })
+fields_are name (Aimed change t) e = target_are t
 
 op_are : (name : NameValue) (op : Op) → IsLawful name op → AreBytes (op_bytes op)
-op_are name (Drawn figure s) e = put (figure_code figure) _ (figure_below figure) (stroke_are s (lawful_stroke s e).glyph-fits)
-op_are name (Text x y text) e =
-    let t = lawful_text x y text e in
-    put 3 _ (omega arith) (cat _ _ (cat _ _ (cat _ _ (be16 x) (be16 y)) (one (length text) (omega (arith, t.few_bytes)))) (record { each = text_below text t.bytes }))
-op_are name (Aimed change t) e = put (change_code change) _ (change_below change) (target_are t)
+op_are name op e = put (op_code (op_kind op)) _ (code_below (op_kind op)) (fields_are name op e)
 
 marks_are : (marks : List MarkValue) → AreBytes (flat_map mark_bytes marks)
 marks_are [] = record { each = tt }

@@ -2,6 +2,7 @@ pub mod Ranges
 pub mod Rows
 pub mod RowReading
 pub mod Fault
+pub mod Kinds
 pub mod Spelling
 pub mod Reading
 pub mod Grammar

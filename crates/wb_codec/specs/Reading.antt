@@ -10,15 +10,16 @@ use Rattle.wb_names.specs.declared.fault.FieldFault.{FieldFault}
 use Rattle.wb_names.specs.declared.fault.FieldFault.TheVariants.{Coordinate, TextLength, TextByte}
 use Rattle.wb_names.specs.declared.echo.Echo.{Echo}
 use Rattle.wb_names.specs.declared.parts.Figure.{Figure}
-use Rattle.wb_names.specs.declared.parts.Figure.TheVariants.{Line, Frame}
 use Rattle.wb_names.specs.declared.parts.Change.{Change}
-use Rattle.wb_names.specs.declared.parts.Change.TheVariants.{Delete, Restore}
+use Rattle.wb_names.specs.declared.parts.OpKind.{OpKind}
+use Rattle.wb_names.specs.declared.parts.OpKind.TheVariants as kinds
 use Rattle.wb_names.specs.declared.parts.Op.{Op}
 use Rattle.wb_names.specs.declared.parts.Op.TheVariants.{Drawn, Text, Aimed}
 use Rattle.wb_codec.specs.declared.datagram.Datagram.{Datagram}
 use Rattle.wb_codec.specs.declared.datagram.Datagram.TheVariants as datagrams
 use Rattle.wb_codec.specs.declared.version.Version.{Version}
 use Rattle.wb_codec.specs.declared.version.Version.TheVariants.{One, Two}
+use Rattle.wb_codec.specs.Kinds.{op_kind_of, has_kind}
 use Rattle.wb_codec.specs.declared.header.Kind.{Kind}
 use Rattle.wb_codec.specs.declared.header.Kind.TheVariants.{Draw, Session, Request, AskPages, PageState}
 use Rattle.wb_codec.specs.declared.fault.ReadFault.{ReadFault}
@@ -90,23 +91,22 @@ target_at change bytes = do
   seq ← number_at w32 source.1
   Ok (Aimed change (record { source = source.0; seq = seq.0 }), seq.1)
 
--- the fields of the operation of this number, if the version has it
-unfoldable pub fields_at : Version → ℕ → List ℕ → Result (Op × List ℕ) ReadFault
-fields_at One number bytes =
-    if nat_eq number 1 then stroke_at Line bytes
-    else (if nat_eq number 2 then stroke_at Frame bytes
-    else (if nat_eq number 3 then text_at bytes
-    else (if nat_eq number 4 then target_at Delete bytes
-    else Err faults.OpKind)))
-fields_at Two number bytes =
-    if nat_eq number 3 then text_at bytes
-    else (if nat_eq number 5 then target_at Restore bytes
-    else Err faults.OpKind)
+-- the fields of an operation of this kind
+unfoldable pub fields_at : OpKind → List ℕ → Result (Op × List ℕ) ReadFault
+fields_at (kinds.Drawn figure) bytes = stroke_at figure bytes
+fields_at kinds.Text bytes = text_at bytes
+fields_at (kinds.Aimed change) bytes = target_at change bytes
+
+-- the kind, if there is one and the version has it
+abbrev pub told_kind : Version → Option OpKind → Result OpKind ReadFault
+told_kind version None = Err faults.OpKind
+told_kind version (Some kind) = require (has_kind version kind) faults.OpKind kind
 
 unfoldable pub op_at : Version → List ℕ → Result (Op × List ℕ) ReadFault
 op_at version bytes = do
   number ← byte_at bytes
-  fields_at version number.0 number.1
+  kind ← told_kind version (op_kind_of number.0)
+  fields_at kind number.1
 
 -- ---- drawops
 

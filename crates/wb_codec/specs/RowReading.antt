@@ -1,11 +1,12 @@
 -- What the words of a record say, read back from left to right. That it undoes the record is a law.
-use Rattle.std.specs.Prelude.{ℕ, ◌/◌, ◌%◌, ◌^◌, List, take, Option, Some, None, nat_eq, nat_le, if◌then◌else◌}
-use Rattle.wb_names.specs.declared.parts.Figure.TheVariants.{Line, Frame}
+use Rattle.std.specs.Prelude.{ℕ, ◌/◌, ◌%◌, ◌^◌, List, take, Option, Some, None, option_and_then, nat_le, if◌then◌else◌}
 use Rattle.wb_names.specs.declared.parts.Stroke.{Stroke}
-use Rattle.wb_names.specs.declared.parts.Change.TheVariants.{Delete, Restore}
 use Rattle.wb_names.specs.declared.parts.Target.{Target}
+use Rattle.wb_names.specs.declared.parts.OpKind.{OpKind}
+use Rattle.wb_names.specs.declared.parts.OpKind.TheVariants as kinds
 use Rattle.wb_names.specs.declared.parts.Op.{Op}
 use Rattle.wb_names.specs.declared.parts.Op.TheVariants.{Drawn, Text, Aimed}
+use Rattle.wb_codec.specs.Kinds.{op_kind_of}
 
 abbrev pub high_half : ℕ → ℕ
 high_half word = word / 2 ^ 32
@@ -14,8 +15,8 @@ abbrev pub low_half : ℕ → ℕ
 low_half word = word % 2 ^ 32
 
 -- the parts of an operation's word
-abbrev pub kind_in : ℕ → ℕ
-kind_in word = word / 2 ^ 56
+abbrev pub code_in : ℕ → ℕ
+code_in word = word / 2 ^ 56
 
 abbrev pub byte_in : ℕ → ℕ
 byte_in word = word / 2 ^ 48 % 2 ^ 8
@@ -38,11 +39,11 @@ stroke_in word = record { x0 = p_in word; y0 = q_in word; x1 = r_in word; y1 = s
 abbrev pub target_in : ℕ → Target
 target_in word = record { source = high_half word; seq = low_half word }
 
--- the operation with this word, this target's word and these bytes of text
+-- the operation of a kind with this word, this target's word and these bytes of text
+abbrev pub op_told : OpKind → ℕ → ℕ → List ℕ → Option Op
+op_told (kinds.Drawn figure) word target bytes = Some (Drawn figure (stroke_in word))
+op_told kinds.Text word target bytes = if nat_le (byte_in word) 64 then Some (Text (p_in word) (q_in word) (take (byte_in word) bytes)) else None
+op_told (kinds.Aimed change) word target bytes = Some (Aimed change (target_in target))
+
 unfoldable pub op_in : ℕ → ℕ → List ℕ → Option Op
-op_in word target bytes =
-    if nat_eq (kind_in word) 1 then Some (Drawn Line (stroke_in word))
-    else (if nat_eq (kind_in word) 2 then Some (Drawn Frame (stroke_in word))
-    else (if nat_eq (kind_in word) 3 then (if nat_le (byte_in word) 64 then Some (Text (p_in word) (q_in word) (take (byte_in word) bytes)) else None)
-    else (if nat_eq (kind_in word) 4 then Some (Aimed Delete (target_in target))
-    else (if nat_eq (kind_in word) 5 then Some (Aimed Restore (target_in target)) else None))))
+op_in word target bytes = option_and_then (λ kind. op_told kind word target bytes) (op_kind_of (code_in word))

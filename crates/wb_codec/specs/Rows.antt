@@ -4,9 +4,10 @@ use Rattle.std.specs.List.{range_with_len}
 use Rattle.std.specs.Int.{w64, from_be_bytes}
 use Rattle.wb_names.specs.Values.{DrawopValue}
 use Rattle.wb_names.specs.TextFields.{padded}
+use Rattle.wb_names.specs.declared.parts.OpKind.TheVariants as kinds
 use Rattle.wb_names.specs.declared.parts.Op.{Op}
 use Rattle.wb_names.specs.declared.parts.Op.TheVariants.{Drawn, Text, Aimed}
-use Rattle.wb_codec.specs.Spelling.{figure_code, change_code}
+use Rattle.wb_codec.specs.Kinds.{op_code}
 
 -- how many words a record has
 abbrev pub row_words : ℕ
@@ -30,9 +31,9 @@ text_words text = map (text_word (padded text)) (range_with_len 0 8)
 
 -- the words that are told by the operation
 abbrev pub op_words : Op → List ℕ
-op_words (Drawn figure s) = op_word (figure_code figure) s.glyph s.x0 s.y0 s.x1 s.y1 ∷ replicate 8 0
-op_words (Text x y text) = op_word 3 (length text) x y 0 0 ∷ text_words text
-op_words (Aimed change t) = op_word (change_code change) 0 0 0 0 0 ∷ pair_word t.source t.seq ∷ replicate 7 0
+op_words (Drawn figure s) = op_word (op_code (kinds.Drawn figure)) s.glyph s.x0 s.y0 s.x1 s.y1 ∷ replicate 8 0
+op_words (Text x y text) = op_word (op_code kinds.Text) (length text) x y 0 0 ∷ text_words text
+op_words (Aimed change t) = op_word (op_code (kinds.Aimed change)) 0 0 0 0 0 ∷ pair_word t.source t.seq ∷ replicate 7 0
 
 abbrev pub row : DrawopValue → List ℕ
 row d = pair_word d.name.source d.name.seq ∷ pair_word d.name.page.creator d.name.page.number ∷ d.time ∷ op_words d.op

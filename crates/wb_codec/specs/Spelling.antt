@@ -3,13 +3,10 @@ use Rattle.std.specs.Prelude.{ℕ, List, [], ◌∷◌, ◌++◌, length, nat_le
 use Rattle.std.specs.List.{flat_map}
 use Rattle.std.specs.Int.{w16, w32, w64, to_be_bytes}
 use Rattle.wb_names.specs.Values.{NameValue, DrawopValue, MarkValue}
+use Rattle.wb_names.specs.Kinds.{op_kind}
 use Rattle.wb_names.specs.declared.name.PageId.{PageId}
 use Rattle.wb_names.specs.declared.echo.Echo.{Echo}
-use Rattle.wb_names.specs.declared.parts.Figure.{Figure}
-use Rattle.wb_names.specs.declared.parts.Figure.TheVariants.{Line, Frame}
 use Rattle.wb_names.specs.declared.parts.Stroke.{Stroke}
-use Rattle.wb_names.specs.declared.parts.Change.{Change}
-use Rattle.wb_names.specs.declared.parts.Change.TheVariants.{Delete, Restore}
 use Rattle.wb_names.specs.declared.parts.Target.{Target}
 use Rattle.wb_names.specs.declared.parts.Op.{Op}
 use Rattle.wb_names.specs.declared.parts.Op.TheVariants.{Drawn, Text, Aimed}
@@ -17,6 +14,7 @@ use Rattle.wb_codec.specs.declared.datagram.Datagram.{Datagram}
 use Rattle.wb_codec.specs.declared.datagram.Datagram.TheVariants.{Draw, Session, Request, AskPages, PageState}
 use Rattle.wb_codec.specs.declared.version.Version.{Version}
 use Rattle.wb_codec.specs.declared.version.Version.TheVariants.{One, Two}
+use Rattle.wb_codec.specs.Kinds.{op_code, first_version}
 
 abbrev pub page_bytes : PageId → List ℕ
 page_bytes p = to_be_bytes w32 p.creator ++ to_be_bytes w32 p.number
@@ -33,20 +31,14 @@ text_bytes x y text = to_be_bytes w16 x ++ to_be_bytes w16 y ++ length text ∷ 
 abbrev pub target_bytes : Target → List ℕ
 target_bytes t = to_be_bytes w32 t.source ++ to_be_bytes w32 t.seq
 
--- the numbers of operations; a text has the number 3
-abbrev pub figure_code : Figure → ℕ
-figure_code Line = 1
-figure_code Frame = 2
-
-abbrev pub change_code : Change → ℕ
-change_code Delete = 4
-change_code Restore = 5
+abbrev pub field_bytes : Op → List ℕ
+field_bytes (Drawn figure s) = stroke_bytes s
+field_bytes (Text x y text) = text_bytes x y text
+field_bytes (Aimed change t) = target_bytes t
 
 -- an operation's number, and its fields
 abbrev pub op_bytes : Op → List ℕ
-op_bytes (Drawn figure s) = figure_code figure ∷ stroke_bytes s
-op_bytes (Text x y text) = 3 ∷ text_bytes x y text
-op_bytes (Aimed change t) = change_code change ∷ target_bytes t
+op_bytes op = op_code (op_kind op) ∷ field_bytes op
 
 abbrev pub drawop_bytes : DrawopValue → List ℕ
 drawop_bytes d = name_bytes d.name ++ to_be_bytes w64 d.time ++ op_bytes d.op
@@ -78,19 +70,10 @@ kind_code (Request asker name) = 3
 kind_code (AskPages asker) = 4
 kind_code (PageState sender page marks) = 5
 
--- Version 2 is used for what version 1 cannot say: a restore, and a text of over 40 bytes.
-abbrev pub figure_version : Figure → Version
-figure_version Line = One
-figure_version Frame = One
-
-abbrev pub change_version : Change → Version
-change_version Delete = One
-change_version Restore = Two
-
+-- a text of over 40 bytes is told by version 2
 abbrev pub op_version : Op → Version
-op_version (Drawn figure s) = figure_version figure
 op_version (Text x y text) = if nat_le (length text) 40 then One else Two
-op_version (Aimed change t) = change_version change
+op_version op = first_version (op_kind op)
 
 abbrev pub version_of : Datagram → Version
 version_of (Draw d) = op_version d.op

@@ -3,13 +3,14 @@
 ghost use Rattle.std.specs.Prelude.{◌≡◌};
 ghost use Rattle.std.specs.Result.{result_err};
 ghost use Rattle.wb_names.specs.Shapes.{op_of_parts};
-ghost use Rattle.wb_codec.specs.Reading.{Gives, stroke_at, text_at, target_at, fields_at, op_at, drawop_at};
+ghost use Rattle.wb_codec.specs.Kinds.{op_kind_of as op_kind_of_number};
+ghost use Rattle.wb_codec.specs.Reading.{Gives, stroke_at, text_at, target_at, fields_at, told_kind, op_at, drawop_at};
 ghost use Rattle.wb_codec.specs.TextLengths.{is_length_told, fault_at_length, drawop_told};
 
 use crate::fault::ReadFault;
 use crate::fields::{NameFields, name_of, u8_of, u16_of, u32_of, u64_of};
-use crate::version::Version;
-use wb_names::{Change, Drawop, FieldFault, Figure, Name, Parts, Stroke, Target};
+use crate::version::{Version, has_kind, op_kind_of};
+use wb_names::{Change, Drawop, FieldFault, Figure, Name, OpKind, Parts, Stroke, Target};
 
 // Each reader takes the parts of an operation from the front, not yet checked, and gives the bytes
 // after them.
@@ -59,20 +60,29 @@ fn target_of(change: Change, bytes: &[u8]) -> Result<(Parts<'_>, &[u8]), ReadFau
     Ok((Parts::Aimed(change, Target { source, seq }), rest))
 }
 
-/// The fields of the operation of this number, if the version has it.
+/// The fields of an operation of this kind.
 #[inline(always)]
 #[tactic(auto, unfolding(crate::specs::Reading::fields_at))]
-fn fields_of(version: Version, number: u8, bytes: &[u8]) -> Result<(Parts<'_>, &[u8]), ReadFault>
-    ensures { Gives (λ x. (op_of_parts x.0, x.1.now)) result (fields_at version number bytes.now) }
+fn fields_of(kind: OpKind, bytes: &[u8]) -> Result<(Parts<'_>, &[u8]), ReadFault>
+    ensures { Gives (λ x. (op_of_parts x.0, x.1.now)) result (fields_at kind bytes.now) }
 {
-    match (version, number) {
-        (Version::One, 1) => stroke_of(Figure::Line, bytes),
-        (Version::One, 2) => stroke_of(Figure::Frame, bytes),
-        (_, 3) => text_of(bytes),
-        (Version::One, 4) => target_of(Change::Delete, bytes),
-        (Version::Two, 5) => target_of(Change::Restore, bytes),
-        _ => Err(ReadFault::OpKind),
+    match kind {
+        OpKind::Drawn(figure) => stroke_of(figure, bytes),
+        OpKind::Text => text_of(bytes),
+        OpKind::Aimed(change) => target_of(change, bytes),
     }
+}
+
+/// The kind of operation with this number, if the version has it.
+#[inline(always)]
+fn kind_told(version: Version, number: u8) -> Result<OpKind, ReadFault>
+    ensures { result ≡ told_kind version (op_kind_of_number number) }
+{
+    let kind = op_kind_of(number).ok_or(ReadFault::OpKind)?;
+    if !has_kind(version, kind) {
+        return Err(ReadFault::OpKind);
+    }
+    Ok(kind)
 }
 
 #[inline(always)]
@@ -81,7 +91,8 @@ fn parts_of(version: Version, bytes: &[u8]) -> Result<(Parts<'_>, &[u8]), ReadFa
     ensures { Gives (λ x. (op_of_parts x.0, x.1.now)) result (op_at version bytes.now) }
 {
     let (number, rest) = u8_of(bytes)?;
-    fields_of(version, number, rest)
+    let kind = kind_told(version, number)?;
+    fields_of(kind, rest)
 }
 
 /// Whether the version says texts of this length. Other operations have no length.

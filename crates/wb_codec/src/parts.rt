@@ -3,11 +3,11 @@
 ghost use Rattle.std.specs.Prelude.{◌≡◌, [], ◌∷◌, ◌++◌};
 ghost use Rattle.std.specs.List.{flat_map};
 ghost use Rattle.std.specs.Int.{w16, w32, w64, to_be_bytes};
-ghost use Rattle.wb_codec.specs.Spelling;
+ghost use Rattle.wb_codec.specs.Kinds;
 ghost use Rattle.wb_codec.specs.Spelling.{page_bytes, name_bytes, stroke_bytes, target_bytes, mark_bytes, echo_bytes};
 
-use crate::version::{change_code, figure_code};
-use wb_names::{Change, Drawop, Echo, Figure, Mark, Name, PageId, Stroke, Target};
+use crate::version::op_code;
+use wb_names::{Change, Drawop, Echo, Figure, Mark, Name, OpKind, PageId, Stroke, Target};
 
 // Each of these is added to a datagram as a whole, so that the
 // room for it is looked at once, and not at each field.
@@ -48,34 +48,35 @@ pub(crate) fn drawop_front(drawop: &Drawop) -> [[u8; 8]; 3]
 /// What is drawn between two ends.
 #[inline(always)]
 pub(crate) fn stroke_part(figure: Figure, stroke: Stroke) -> [u8; 10]
-    ensures { result ≡ Spelling.figure_code figure ∷ stroke_bytes stroke }
+    ensures { result ≡ Kinds.op_code (OpKind.Drawn figure) ∷ stroke_bytes stroke }
 {
     let [a0, a1] = stroke.x0.to_be_bytes();
     let [b0, b1] = stroke.y0.to_be_bytes();
     let [c0, c1] = stroke.x1.to_be_bytes();
     let [d0, d1] = stroke.y1.to_be_bytes();
-    let number = figure_code(figure);
+    let number = op_code(OpKind::Drawn(figure));
     [number, a0, a1, b0, b1, c0, c1, d0, d1, stroke.glyph]
 }
 
 /// A change of a target.
 #[inline(always)]
 pub(crate) fn target_part(change: Change, target: Target) -> [u8; 9]
-    ensures { result ≡ Spelling.change_code change ∷ target_bytes target }
+    ensures { result ≡ Kinds.op_code (OpKind.Aimed change) ∷ target_bytes target }
 {
     let [s0, s1, s2, s3] = target.source.to_be_bytes();
     let [q0, q1, q2, q3] = target.seq.to_be_bytes();
-    [change_code(change), s0, s1, s2, s3, q0, q1, q2, q3]
+    let number = op_code(OpKind::Aimed(change));
+    [number, s0, s1, s2, s3, q0, q1, q2, q3]
 }
 
 /// A text's number, its point and how many bytes it has.
 #[inline(always)]
 pub(crate) fn text_front(x: u16, y: u16, count: u8) -> [u8; 6]
-    ensures { result ≡ 3 ∷ (to_be_bytes w16 x ++ to_be_bytes w16 y ++ count ∷ []) }
+    ensures { result ≡ Kinds.op_code OpKind.Text ∷ (to_be_bytes w16 x ++ to_be_bytes w16 y ++ count ∷ []) }
 {
     let [x0, x1] = x.to_be_bytes();
     let [y0, y1] = y.to_be_bytes();
-    [3, x0, x1, y0, y1, count]
+    [op_code(OpKind::Text), x0, x1, y0, y1, count]
 }
 
 #[inline(always)]

@@ -11,8 +11,8 @@ ghost use Rattle.wb_codec.specs.Ranges.{IsDrawop, HasTarget};
 ghost use Rattle.wb_codec.specs.Rows.{row, row_words, pair_word, op_word as op_word_of, op_words as op_words_of, text_word as text_word_of, text_words};
 ghost use Rattle.wb_codec.specs.RowReading.{high_half, low_half, op_in};
 
-use crate::version::{change_code, figure_code};
-use wb_names::{Change, Drawop, Figure, Name, Op, PageId, Parts, Stroke, Target};
+use crate::version::{op_code, op_kind_of};
+use wb_names::{Drawop, Name, Op, OpKind, PageId, Parts, Stroke, Target};
 
 /// How many words the record of a drawop has.
 pub const ROW_WORDS: usize = 12;
@@ -100,17 +100,16 @@ fn op_words(drawop: &Drawop) -> [u64; 9]
     ensures lawful { IsLawful drawop.now.name drawop.now.op }
     ensures target { HasTarget drawop.now.op }
 {
-    match drawop.op() {
-        Op::Drawn(figure, s) => {
-            let kind = figure_code(*figure);
-            short_words(op_word(kind, s.glyph, s.x0, s.y0, s.x1, s.y1), 0)
-        }
+    let op = drawop.op();
+    let code = op_code(op.kind());
+    match op {
+        Op::Drawn(_, s) => short_words(op_word(code, s.glyph, s.x0, s.y0, s.x1, s.y1), 0),
         Op::Text { x, y, text } => {
             let text = text.as_slice();
-            long_words(op_word(3, text.len() as u8, *x, *y, 0, 0), text)
+            long_words(op_word(code, text.len() as u8, *x, *y, 0, 0), text)
         }
-        Op::Aimed(change, target) => {
-            let word = op_word(change_code(*change), 0, 0, 0, 0, 0);
+        Op::Aimed(_, target) => {
+            let word = op_word(code, 0, 0, 0, 0, 0);
             short_words(word, pair(target.source, target.seq))
         }
     }
@@ -160,7 +159,7 @@ fn text_bytes(words: &[u64]) -> [u8; 64]
 fn parts_in<'a>(word: u64, target: u64, bytes: &'a [u8; 64]) -> Option<Parts<'a>>
     ensures { option_map op_of_parts result ≡ op_in word target bytes.now }
 {
-    let kind = word >> 56;
+    let kind = op_kind_of((word >> 56) as u8)?;
     let stroke = Stroke {
         x0: ((word >> 36) % (1 << 12)) as u16,
         y0: ((word >> 24) % (1 << 12)) as u16,
@@ -171,16 +170,14 @@ fn parts_in<'a>(word: u64, target: u64, bytes: &'a [u8; 64]) -> Option<Parts<'a>
     let (source, seq) = halves(target);
     let target = Target { source, seq };
     match kind {
-        1 => Some(Parts::Drawn(Figure::Line, stroke)),
-        2 => Some(Parts::Drawn(Figure::Frame, stroke)),
-        3 if stroke.glyph <= 64 => Some(Parts::Text {
+        OpKind::Drawn(figure) => Some(Parts::Drawn(figure, stroke)),
+        OpKind::Text if stroke.glyph <= 64 => Some(Parts::Text {
             x: stroke.x0,
             y: stroke.y0,
             bytes: &bytes[..stroke.glyph as usize],
         }),
-        4 => Some(Parts::Aimed(Change::Delete, target)),
-        5 => Some(Parts::Aimed(Change::Restore, target)),
-        _ => None,
+        OpKind::Text => None,
+        OpKind::Aimed(change) => Some(Parts::Aimed(change, target)),
     }
 }
 

@@ -1,9 +1,9 @@
 //! The versions of the format, and the numbers of operations in it.
 
 ghost use Rattle.std.specs.Prelude.{◌≡◌};
-ghost use Rattle.wb_codec.specs.Spelling;
+ghost use Rattle.wb_codec.specs.Kinds;
 
-use wb_names::{Change, Figure};
+use wb_names::{Change, Figure, OpKind};
 
 /// The versions of the format. The second tells what the first cannot: restores, and texts of over
 /// 40 bytes.
@@ -13,45 +13,56 @@ pub(crate) enum Version {
     Two,
 }
 
-/// The number of what is drawn between two ends.
+/// The number of a kind of operation.
 #[inline(always)]
-pub(crate) fn figure_code(figure: Figure) -> u8
-    ensures { result ≡ Spelling.figure_code figure }
+pub(crate) fn op_code(kind: OpKind) -> u8
+    ensures { result ≡ Kinds.op_code kind }
 {
-    match figure {
-        Figure::Line => 1,
-        Figure::Frame => 2,
+    match kind {
+        OpKind::Drawn(Figure::Line) => 1,
+        OpKind::Drawn(Figure::Frame) => 2,
+        OpKind::Text => 3,
+        OpKind::Aimed(Change::Delete) => 4,
+        OpKind::Aimed(Change::Restore) => 5,
     }
 }
 
-/// The version that tells it.
+/// The kind of operation with this number.
 #[inline(always)]
-pub(crate) fn figure_version(figure: Figure) -> Version
-    ensures { result ≡ Spelling.figure_version figure }
+#[tactic(auto, unfolding(crate::specs::Kinds::op_kind_of))]
+pub(crate) fn op_kind_of(number: u8) -> Option<OpKind>
+    ensures { result ≡ Kinds.op_kind_of number }
 {
-    match figure {
-        Figure::Line | Figure::Frame => Version::One,
+    match number {
+        1 => Some(OpKind::Drawn(Figure::Line)),
+        2 => Some(OpKind::Drawn(Figure::Frame)),
+        3 => Some(OpKind::Text),
+        4 => Some(OpKind::Aimed(Change::Delete)),
+        5 => Some(OpKind::Aimed(Change::Restore)),
+        _ => None,
     }
 }
 
-/// The number of a change of a target.
+/// The first version that has operations of this kind.
 #[inline(always)]
-pub(crate) fn change_code(change: Change) -> u8
-    ensures { result ≡ Spelling.change_code change }
+pub(crate) fn first_version(kind: OpKind) -> Version
+    ensures { result ≡ Kinds.first_version kind }
 {
-    match change {
-        Change::Delete => 4,
-        Change::Restore => 5,
+    match kind {
+        OpKind::Aimed(Change::Restore) => Version::Two,
+        _ => Version::One,
     }
 }
 
-/// The version that tells it.
+/// Whether the version has operations of this kind: texts are told by both, by their length.
 #[inline(always)]
-pub(crate) fn change_version(change: Change) -> Version
-    ensures { result ≡ Spelling.change_version change }
+pub(crate) fn has_kind(version: Version, kind: OpKind) -> bool
+    ensures { result ≡ Kinds.has_kind version kind }
 {
-    match change {
-        Change::Delete => Version::One,
-        Change::Restore => Version::Two,
+    match (kind, version, first_version(kind)) {
+        (OpKind::Text, _, _) => true,
+        (_, Version::One, Version::One) => true,
+        (_, Version::Two, Version::Two) => true,
+        _ => false,
     }
 }

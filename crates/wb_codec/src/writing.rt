@@ -10,7 +10,7 @@ use crate::parts::{
     drawop_front, echo_part, header, mark_part, page_state_front, request_part, session_front,
     stroke_part, target_part, text_front,
 };
-use crate::version::{Version, change_version, figure_version};
+use crate::version::{Version, first_version};
 use std::alloc::{AllocError, Global};
 use wb_names::{Drawop, Echo, Echoes, Marks, Name, Op, PageId};
 
@@ -174,7 +174,6 @@ fn version_of(op: &Op) -> Version
     ensures { result ≡ op_version op.now }
 {
     match op {
-        Op::Drawn(figure, _) => figure_version(*figure),
         Op::Text { text, .. } => {
             if text.as_slice().len() <= 40 {
                 Version::One
@@ -182,7 +181,7 @@ fn version_of(op: &Op) -> Version
                 Version::Two
             }
         }
-        Op::Aimed(change, _) => change_version(*change),
+        _ => first_version(op.kind()),
     }
 }
 

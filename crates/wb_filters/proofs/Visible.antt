@@ -12,11 +12,9 @@ use Rattle.hex.proofs.HexLemmas.{IsDigits-lower_digits}
 use Rattle.wb_names.specs.Values.{NameValue, MarkValue}
 use Rattle.wb_names.specs.declared.name.PageId.{PageId}
 use Rattle.wb_names.specs.declared.echo.Echo.{Echo}
-use Rattle.wb_names.specs.declared.parts.Figure.{Figure}
-use Rattle.wb_names.specs.declared.parts.Figure.TheVariants.{Line, Frame}
 use Rattle.wb_names.specs.declared.parts.Stroke.{Stroke}
-use Rattle.wb_names.specs.declared.parts.Change.{Change}
-use Rattle.wb_names.specs.declared.parts.Change.TheVariants.{Delete, Restore}
+use Rattle.wb_names.specs.Kinds.{op_kind, every_kind}
+use Rattle.wb_names.specs.declared.parts.OpKind.{OpKind}
 use Rattle.wb_names.specs.declared.parts.Op.{Op}
 use Rattle.wb_names.specs.declared.parts.Op.TheVariants.{Drawn, Text, Aimed}
 use Rattle.wb_names.specs.Drawing.{IsLawful, stroke_fault, text_fault, is_printable}
@@ -26,7 +24,7 @@ use Rattle.wb_codec.specs.Ranges.{IsPage, IsName, IsMark, IsEcho, HasTarget, IsD
 use Rattle.wb_codec.specs.Spelling.{spelling}
 use Rattle.wb_codec.proofs.Lawful.{lawful_stroke, lawful_text}
 use Rattle.wb_words.specs.Words.{words, joined, is_special}
-use Rattle.wb_words.specs.Spelling.{page_word, mark_word, echo_word, escaped, quoted, stroke_words, target_words, figure_word, change_word, op_words, name_words, spelled, tailed}
+use Rattle.wb_words.specs.Spelling.{page_word, mark_word, echo_word, escaped, quoted, stroke_words, target_words, kind_word, field_words, op_words, name_words, spelled, tailed}
 use Rattle.wb_words.proofs.Numerals.{both, decimal_digits}
 use Rattle.wb_words.proofs.Appending.{joined_tailed, tailed_words}
 use Rattle.wb_lines.specs.Ahead.{NoLineFeed}
@@ -191,21 +189,19 @@ stroke s e =
     let f = lawful_stroke s e in
     (number12 s.x0 f.x0-fits, (number12 s.y0 f.y0-fits, (number12 s.x1 f.x1-fits, (number12 s.y1 f.y1-fits, (put s.glyph [] (glyph_seen s e) none, tt)))))
 
-figure : (f : Figure) → Visible (figure_word f)
-figure Line = text_of (codes "line") refl
-figure Frame = text_of (codes "frame") refl
+kind_seen : (kind : OpKind) → Visible (kind_word kind)
+kind_seen kind = text_of (kind_word kind) (every_kind (λ k. list_all (nat_le 32) (kind_word k)) refl kind)
 
-change : (c : Change) → Visible (change_word c)
-change Delete = text_of (codes "delete") refl
-change Restore = text_of (codes "restore") refl
-
-op_seen : (name : NameValue) (op : Op) → IsLawful name op → HasTarget op → Visible (tailed (op_words op))
-op_seen name (Drawn f s) lawful h = tails (figure_word f ∷ stroke_words s) (figure f, stroke s lawful)
-op_seen name (Text x y text) lawful h =
+fields_seen : (name : NameValue) (op : Op) → IsLawful name op → HasTarget op → Visible (tailed (field_words op))
+fields_seen name (Drawn f s) lawful h = tails (stroke_words s) (stroke s lawful)
+fields_seen name (Text x y text) lawful h =
     let t = lawful_text x y text lawful in
     let last : Visible (tailed (words (quoted text))) = subst Visible (sym (tailed_words (quoted text))) (put 32 (quoted text) (omega arith) (quotes text (text_seen x y text lawful))) in
-    before (codes "text" ∷ decimal x ∷ decimal y ∷ []) (words (quoted text)) (text_of (codes "text") refl, (number12 x t.x-fits, (number12 y t.y-fits, tt))) last
-op_seen name (Aimed c t) lawful h = tails (change_word c ∷ target_words t) (change c, (number32 t.source h.0, (number32 t.seq h.1, tt)))
+    before (decimal x ∷ decimal y ∷ []) (words (quoted text)) (number12 x t.x-fits, (number12 y t.y-fits, tt)) last
+fields_seen name (Aimed c t) lawful h = tails (target_words t) (number32 t.source h.0, (number32 t.seq h.1, tt))
+
+op_seen : (name : NameValue) (op : Op) → IsLawful name op → HasTarget op → Visible (tailed (op_words op))
+op_seen name op lawful h = behind (kind_word (op_kind op)) (field_words op) (kind_seen (op_kind op)) (fields_seen name op lawful h)
 
 name_seen : (n : NameValue) (more : List (List ℕ)) → IsName n → Visible (tailed more) → Visible (tailed (name_words n more))
 name_seen n more fits q = before (decimal n.source ∷ page_word n.page ∷ decimal n.seq ∷ []) more (number32 n.source fits.source, (page n.page fits.page, (number32 n.seq fits.seq, tt))) q

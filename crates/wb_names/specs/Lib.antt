@@ -3,6 +3,7 @@ pub mod Faults
 pub mod TextFields
 pub mod Drawing
 pub mod Shapes
+pub mod Kinds
 pub mod Orders
 pub mod Same
 pub mod Listing

@@ -7,28 +7,15 @@ use Rattle.std.proofs.Common.{arith, subst, eqb-true}
 use Rattle.std.proofs.lemmas.Bool.Decides.{nat_tests}
 use Rattle.wb_names.specs.Values.{DrawopValue}
 use Rattle.wb_names.specs.Orders.{same_name, same_page}
+use Rattle.wb_names.specs.Kinds.{same_figure, same_figure-here, same_figure-is, same_change, same_change-here, same_change-is}
 use Rattle.wb_names.specs.declared.name.PageId.{PageId}
-use Rattle.wb_names.specs.declared.parts.Figure.{Figure}
-use Rattle.wb_names.specs.declared.parts.Figure.TheVariants.{Line, Frame}
 use Rattle.wb_names.specs.declared.parts.Stroke.{Stroke}
-use Rattle.wb_names.specs.declared.parts.Change.{Change}
-use Rattle.wb_names.specs.declared.parts.Change.TheVariants.{Delete, Restore}
 use Rattle.wb_names.specs.declared.parts.Target.{Target}
 use Rattle.wb_names.specs.declared.parts.Op.{Op}
 use Rattle.wb_names.specs.declared.parts.Op.TheVariants.{Drawn, Text, Aimed}
 
-abbrev pub same_figure : Figure → Figure → Bool
-same_figure Line Line = true
-same_figure Frame Frame = true
-same_figure figure other = false
-
 abbrev pub same_stroke : Stroke → Stroke → Bool
 same_stroke s t = nat_eq s.x0 t.x0 && nat_eq s.y0 t.y0 && nat_eq s.x1 t.x1 && nat_eq s.y1 t.y1 && nat_eq s.glyph t.glyph
-
-abbrev pub same_change : Change → Change → Bool
-same_change Delete Delete = true
-same_change Restore Restore = true
-same_change change other = false
 
 abbrev pub same_target : Target → Target → Bool
 same_target t u = nat_eq t.source u.source && nat_eq t.seq u.seq
@@ -46,11 +33,6 @@ both : (a b : Bool) → (a && b) ≡ true → (a ≡ true) × (b ≡ true)
 both true b e = (refl, e)
 both false b e = cc
 
-same_figure-is : (f g : Figure) → same_figure f g ≡ true → f ≡ g
-same_figure-is Line Line e = refl
-same_figure-is Frame Frame e = refl
-same_figure-is f g e = cc
-
 same_stroke-is : (s t : Stroke) → same_stroke s t ≡ true → s ≡ t
 same_stroke-is s t e =
     let p = both _ (nat_eq s.glyph t.glyph) e in
@@ -61,11 +43,6 @@ same_stroke-is s t e =
       one : (x0 y0 x1 y1 g a0 b0 a1 b1 h : ℕ) → x0 ≡ a0 → y0 ≡ b0 → x1 ≡ a1 → y1 ≡ b1 → g ≡ h → let v : Stroke = record { x0 = x0; y0 = y0; x1 = x1; y1 = y1; glyph = g } in let w : Stroke = record { x0 = a0; y0 = b0; x1 = a1; y1 = b1; glyph = h } in v ≡ w
       one x0 y0 x1 y1 g a0 b0 a1 b1 h i j k l m = cc
 
-same_change-is : (c d : Change) → same_change c d ≡ true → c ≡ d
-same_change-is Delete Delete e = refl
-same_change-is Restore Restore e = refl
-same_change-is c d e = cc
-
 same_target-is : (t u : Target) → same_target t u ≡ true → t ≡ u
 same_target-is t u e = let p = both (nat_eq t.source u.source) _ e in one _ _ _ _ (eqb-true _ _ p.0) (eqb-true _ _ p.1) where
   one : (s n a b : ℕ) → s ≡ a → n ≡ b → let v : Target = record { source = s; seq = n } in let w : Target = record { source = a; seq = b } in v ≡ w
@@ -73,13 +50,11 @@ same_target-is t u e = let p = both (nat_eq t.source u.source) _ e in one _ _ _ 
 
 -- the same operation passes the test
 same_op-here : (a : Op) → same_op a a ≡ true
-same_op-here (Drawn Line s) = grind (arith, nat_tests)
-same_op-here (Drawn Frame s) = grind (arith, nat_tests)
+same_op-here (Drawn figure s) = simp (same_figure-here figure) (grind (arith, nat_tests))
 same_op-here (Text x y text) = simp (same_bytes text) (grind (arith, nat_tests)) where
   same_bytes : (bytes : List ℕ) → pointwise nat_eq bytes bytes ≡ true
   same_bytes bytes = (bytes_decides bytes bytes).1 refl
-same_op-here (Aimed Delete t) = grind (arith, nat_tests)
-same_op-here (Aimed Restore t) = grind (arith, nat_tests)
+same_op-here (Aimed change t) = simp (same_change-here change) (grind (arith, nat_tests))
 
 same_op-is : (a b : Op) → same_op a b ≡ true → a ≡ b
 same_op-is (Drawn figure s) (Drawn f t) e =

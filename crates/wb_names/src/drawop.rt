@@ -1,24 +1,11 @@
 //! Drawops: each has a name, a time and an operation.
 
 ghost use Rattle.std.specs.Prelude.{◌≡◌};
-ghost use Rattle.wb_names.specs.Drawing.{IsLawful, text_of};
+ghost use Rattle.wb_names.specs.Drawing.{IsLawful};
 
 use crate::name::Name;
 use crate::parts::Op;
 use std::marker::Model;
-
-impl Op {
-    /// The bytes of a text, and none where the operation is no text.
-    #[inline(always)]
-    pub fn text(&self) -> &[u8]
-        ensures { result.now ≡ text_of self.now }
-    {
-        match self {
-            Op::Text { text, .. } => text.as_slice(),
-            _ => &[],
-        }
-    }
-}
 
 /// One named step of a drawing. Its fields never change.
 #[derive(Clone, Copy, Debug)]

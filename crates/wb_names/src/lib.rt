@@ -31,7 +31,7 @@ pub use gap::Gap;
 pub use mark::{Mark, Marks};
 pub use name::{Name, PageId};
 pub use order::{before, display_order};
-pub use parts::{Change, Figure, Op, Parts, Stroke, Target};
+pub use parts::{Change, Figure, Op, OpKind, Parts, Stroke, Target};
 pub use shape::Shape;
 pub use stream::{FromRead, Sink, Source, ToWrite};
 pub use text::Text;

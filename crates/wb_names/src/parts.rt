@@ -1,5 +1,9 @@
 //! What operations are made of: what is drawn between two ends, a text at a place, and a change of a target.
 
+ghost use Rattle.std.specs.Prelude.{◌≡◌};
+ghost use Rattle.wb_names.specs.Kinds.{op_kind};
+ghost use Rattle.wb_names.specs.Drawing.{text_of};
+
 use crate::text::Text;
 
 /// What is drawn between two ends.
@@ -37,6 +41,18 @@ pub struct Target {
     pub seq: u32,
 }
 
+/// What an operation does, without its fields. Each kind has a number in the format and a word of
+/// its own.
+#[derive(Clone, Copy, Debug)]
+pub enum OpKind {
+    /// Draws between two ends.
+    Drawn(Figure),
+    /// Draws a row of characters.
+    Text,
+    /// Hides or shows another drawop.
+    Aimed(Change),
+}
+
 /// What a drawop does. Coordinates are cells from 0 to 4095; a glyph is a visible character of
 /// ASCII.
 #[derive(Clone, Copy, Debug)]
@@ -47,6 +63,31 @@ pub enum Op {
     Text { x: u16, y: u16, text: Text },
     /// Hides or shows another drawop of its page.
     Aimed(Change, Target),
+}
+
+impl Op {
+    /// What it does, without its fields.
+    #[inline(always)]
+    pub fn kind(&self) -> OpKind
+        ensures { result ≡ op_kind self.now }
+    {
+        match self {
+            Op::Drawn(figure, _) => OpKind::Drawn(*figure),
+            Op::Text { .. } => OpKind::Text,
+            Op::Aimed(change, _) => OpKind::Aimed(*change),
+        }
+    }
+
+    /// The bytes of a text, and none where the operation is no text.
+    #[inline(always)]
+    pub fn text(&self) -> &[u8]
+        ensures { result.now ≡ text_of self.now }
+    {
+        match self {
+            Op::Text { text, .. } => text.as_slice(),
+            _ => &[],
+        }
+    }
 }
 
 /// The parts of an operation, not yet checked.

@@ -38,8 +38,8 @@ entry_added_at f xs i d o a b lt e g = glued o a b (tailed (map f (take i xs))) 
 pub stroke_text : (word : List ℕ) (s : Stroke) → (codes " " ++ (word ++ (codes " " ++ (decimal s.x0 ++ (codes " " ++ (decimal s.y0 ++ (codes " " ++ (decimal s.x1 ++ (codes " " ++ (decimal s.y1 ++ codes " ")))))))))) ++ s.glyph ∷ [] ≡ tailed (word ∷ stroke_words s)
 stroke_text word s = simp append_assoc
 
-pub text_text : (x y : ℕ) (text : List ℕ) → (codes " text " ++ (decimal x ++ (codes " " ++ decimal y))) ++ 32 ∷ quoted text ≡ tailed (codes "text" ∷ decimal x ∷ decimal y ∷ words (quoted text))
-text_text x y text = ap (λ t. (codes " text " ++ (decimal x ++ (codes " " ++ decimal y))) ++ t) (sym (tailed_words (quoted text))) ∙ simp append_assoc
+pub text_text : (word : List ℕ) (x y : ℕ) (text : List ℕ) → (codes " " ++ (word ++ (codes " " ++ (decimal x ++ (codes " " ++ decimal y))))) ++ 32 ∷ quoted text ≡ tailed (word ∷ decimal x ∷ decimal y ∷ words (quoted text))
+text_text word x y text = ap (λ t. (codes " " ++ (word ++ (codes " " ++ (decimal x ++ (codes " " ++ decimal y))))) ++ t) (sym (tailed_words (quoted text))) ∙ simp append_assoc
 
 -- ---- whole lines
 

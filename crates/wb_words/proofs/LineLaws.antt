@@ -6,15 +6,16 @@ use Rattle.std.proofs.lemmas.Slice.Eq.{bytes_eq-Decides}
 use Rattle.std.proofs.lemmas.List.Elements.{All-head}
 use Rattle.wb_names.specs.Values.{NameValue, DrawopValue, MarkValue}
 use Rattle.wb_names.specs.Drawing.{IsLawful, seq_fault, op_fault}
+use Rattle.wb_names.specs.Kinds.{op_kind, kind_with-key, kind_with-is}
 use Rattle.wb_names.specs.declared.name.PageId.{PageId}
 use Rattle.wb_names.specs.declared.echo.Echo.{Echo}
 use Rattle.wb_names.specs.declared.fault.FieldFault.{FieldFault}
 use Rattle.wb_names.specs.declared.parts.Figure.{Figure}
-use Rattle.wb_names.specs.declared.parts.Figure.TheVariants.{Line, Frame}
 use Rattle.wb_names.specs.declared.parts.Stroke.{Stroke}
 use Rattle.wb_names.specs.declared.parts.Change.{Change}
-use Rattle.wb_names.specs.declared.parts.Change.TheVariants.{Delete, Restore}
 use Rattle.wb_names.specs.declared.parts.Target.{Target}
+use Rattle.wb_names.specs.declared.parts.OpKind.{OpKind}
+use Rattle.wb_names.specs.declared.parts.OpKind.TheVariants as kinds
 use Rattle.wb_names.specs.declared.parts.Op.{Op}
 use Rattle.wb_names.specs.declared.parts.Op.TheVariants.{Drawn, Text, Aimed}
 use Rattle.wb_codec.specs.declared.datagram.Datagram.{Datagram}
@@ -27,8 +28,8 @@ use Rattle.wb_words.specs.declared.fault.WordFault.{WordFault}
 use Rattle.wb_words.specs.declared.fault.WordFault.TheVariants as faults
 use Rattle.wb_words.specs.declared.fault.WrongWord.{WrongWord}
 use Rattle.wb_words.specs.Words.{words, joined, most32, most64, number_in, page_in, glyph_in, text_in}
-use Rattle.wb_words.specs.Spelling.{page_word, mark_word, echo_word, quoted, stroke_words, figure_word, change_word, op_words, name_words, word_list}
-use Rattle.wb_words.specs.Reading.{◌>>=◌, said, in_range, word_at, end_at, number_at, page_at, glyph_at, text_at, name_at, named, drawn, stroke_at, figure_at, written_at, change_at, op_at, drawop_at, mark_at, echo_at, is_echo, left_at, marks_at, echoes_at, draw_at, session_at, request_at, ask_pages_at, page_state_at, datagram_at, reading_of}
+use Rattle.wb_words.specs.Spelling.{page_word, mark_word, echo_word, quoted, stroke_words, kind_word, field_words, op_words, name_words, word_list}
+use Rattle.wb_words.specs.Reading.{◌>>=◌, said, in_range, word_at, end_at, number_at, page_at, glyph_at, text_at, name_at, named, drawn, stroke_at, figure_at, written_at, change_at, kind_in, fields_at, op_at, drawop_at, mark_at, echo_at, is_echo, left_at, marks_at, echoes_at, draw_at, session_at, request_at, ask_pages_at, page_state_at, datagram_at, reading_of}
 use Rattle.wb_words.proofs.Numerals.{number_takes, number_again}
 use Rattle.wb_words.proofs.Parting.{NoSpaces, words_joined, text_words}
 use Rattle.wb_words.proofs.TextLaws.{text_takes, text_again}
@@ -187,7 +188,7 @@ stroke_back : (s : Stroke) → IsStroke s → stroke_at (stroke_words s) ≡ Ok 
 unfolding stroke_at
 stroke_back s fits = rw (back12 7 s.x0 (decimal s.y0 ∷ decimal s.x1 ∷ decimal s.y1 ∷ (s.glyph ∷ []) ∷ []) fits.x0-fits, back12 8 s.y0 (decimal s.x1 ∷ decimal s.y1 ∷ (s.glyph ∷ []) ∷ []) fits.y0-fits, back12 9 s.x1 (decimal s.y1 ∷ (s.glyph ∷ []) ∷ []) fits.x1-fits, back12 10 s.y1 ((s.glyph ∷ []) ∷ []) fits.y1-fits, glyph_back 11 s.glyph []) refl
 
-figure_ok : (figure : Figure) (name : NameValue) (time : ℕ) (ws : List (List ℕ)) (d : DrawopValue) → figure_at figure name time ws ≡ Ok d → OpRead name time (figure_word figure) ws d
+figure_ok : (figure : Figure) (name : NameValue) (time : ℕ) (ws : List (List ℕ)) (d : DrawopValue) → figure_at figure name time ws ≡ Ok d → OpRead name time (kind_word (kinds.Drawn figure)) ws d
 unfolding figure_at
 figure_ok figure name time ws d e =
     let s = bind_ok (stroke_at ws) _ d e in
@@ -195,7 +196,7 @@ figure_ok figure name time ws d e =
     let r = bind_ok (drawn 11 name time op) _ d s.2 in
     let ended = end_ok 12 s.0.1 r.0 d r.2 in
     let spelled = (stroke_ok ws s.0 s.1).words-are ∙ ap (λ v. decimal s.0.0.x0 ∷ decimal s.0.0.y0 ∷ decimal s.0.0.x1 ∷ decimal s.0.0.y1 ∷ (s.0.0.glyph ∷ []) ∷ v) ended.0 in
-    subst (λ (v : DrawopValue). OpRead name time (figure_word figure) ws v) ended.1 (drawn_ok 11 name time op r.0 (figure_word figure) ws r.1 (ap (λ v. figure_word figure ∷ v) spelled) tt)
+    subst (λ (v : DrawopValue). OpRead name time (kind_word (kinds.Drawn figure)) ws v) ended.1 (drawn_ok 11 name time op r.0 (kind_word (kinds.Drawn figure)) ws r.1 (ap (λ v. kind_word (kinds.Drawn figure) ∷ v) spelled) tt)
 
 written_ok : (name : NameValue) (time : ℕ) (ws : List (List ℕ)) (d : DrawopValue) → NoSpaces ws → written_at name time ws ≡ Ok d → OpRead name time (codes "text") ws d
 unfolding written_at
@@ -210,7 +211,7 @@ written_ok name time ws d none e =
     let text = text_ok 9 b.0.1 t.0 left.1.1 t.1 in
     drawn_ok 9 name time (Text a.0.0 b.0.0 t.0) d (codes "text") ws t.2 (ap (λ v. codes "text" ∷ v) (front ∙ ap (λ v. decimal a.0.0 ∷ decimal b.0.0 ∷ v) text)) tt
 
-change_ok : (change : Change) (name : NameValue) (time : ℕ) (ws : List (List ℕ)) (d : DrawopValue) → change_at change name time ws ≡ Ok d → OpRead name time (change_word change) ws d
+change_ok : (change : Change) (name : NameValue) (time : ℕ) (ws : List (List ℕ)) (d : DrawopValue) → change_at change name time ws ≡ Ok d → OpRead name time (kind_word (kinds.Aimed change)) ws d
 unfolding change_at
 change_ok change name time ws d e =
     let a = bind_ok (number_at 7 most32 ws) _ d e in
@@ -222,7 +223,7 @@ change_ok change name time ws d e =
     let ta = number_ok 7 most32 ws a.0 a.1 in
     let tb = number_ok 8 most32 a.0.1 b.0 b.1 in
     let spelled = ta.0 ∙ ap (λ v. decimal a.0.0 ∷ v) tb.0 ∙ ap (λ v. decimal a.0.0 ∷ decimal b.0.0 ∷ v) ended.0 in
-    subst (λ (v : DrawopValue). OpRead name time (change_word change) ws v) ended.1 (drawn_ok 8 name time op r.0 (change_word change) ws r.1 (ap (λ v. change_word change ∷ v) spelled) (omega (arith, ta.1), omega (arith, tb.1)))
+    subst (λ (v : DrawopValue). OpRead name time (kind_word (kinds.Aimed change)) ws v) ended.1 (drawn_ok 8 name time op r.0 (kind_word (kinds.Aimed change)) ws r.1 (ap (λ v. kind_word (kinds.Aimed change) ∷ v) spelled) (omega (arith, ta.1), omega (arith, tb.1)))
 
 -- a choice by the first word
 by_word : {A : Type 0} (word text : List ℕ) (x y : Result A WrongWord) (z : A) (P : List ℕ → Type 0) → (x ≡ Ok z → P text) → (y ≡ Ok z → P word) → cond (bytes_eq word text) x y ≡ Ok z → P word
@@ -231,25 +232,37 @@ by_word {A = A} word text x y z P first second e = by (bytes_eq word text) refl 
   by true h f = subst P (sym ((bytes_eq-Decides word text).0 h)) (first f)
   by false h f = second f
 
+kind_again : (kind : OpKind) → kind_in (kind_word kind) ≡ Some kind
+unfolding kind_in
+kind_again kind = kind_with-key bytes_eq kind_word refl kind
+
+kind_is : (word : List ℕ) (kind : OpKind) → kind_in word ≡ Some kind → word ≡ kind_word kind
+unfolding kind_in
+kind_is word kind e = kind_with-is bytes_eq kind_word (λ v w. (bytes_eq-Decides v w).0) word kind e
+
+fields_ok : (kind : OpKind) (name : NameValue) (time : ℕ) (ws : List (List ℕ)) (d : DrawopValue) → NoSpaces ws → fields_at kind name time ws ≡ Ok d → OpRead name time (kind_word kind) ws d
+fields_ok (kinds.Drawn figure) name time ws d none e = figure_ok figure name time ws d e
+fields_ok kinds.Text name time ws d none e = written_ok name time ws d none e
+fields_ok (kinds.Aimed change) name time ws d none e = change_ok change name time ws d e
+
 op_ok : (name : NameValue) (time : ℕ) (word : List ℕ) (ws : List (List ℕ)) (d : DrawopValue) → NoSpaces ws → op_at name time word ws ≡ Ok d → OpRead name time word ws d
 unfolding op_at
 op_ok name time word ws d none e =
-    let P : List ℕ → Type 0 = λ w. OpRead name time w ws d in
-    by_word word (codes "line") _ _ d P (figure_ok Line name time ws d)
-    (by_word word (codes "frame") _ _ d P (figure_ok Frame name time ws d)
-    (by_word word (codes "text") _ _ d P (written_ok name time ws d none)
-    (by_word word (codes "delete") _ _ d P (change_ok Delete name time ws d)
-    (by_word word (codes "restore") _ _ d P (change_ok Restore name time ws d) (λ f. absurd cc))))) e
+    let k = bind_ok (said 6 faults.Operation (kind_in word)) _ d e in
+    let is = kind_is word k.0 (said_ok 6 faults.Operation (kind_in word) k.0 k.1) in
+    subst (λ w. OpRead name time w ws d) (sym is) (fields_ok k.0 name time ws d none k.2)
 
-op_back : (name : NameValue) (time : ℕ) (op : Op) → IsLawful name op → HasTarget op → (word_at 6 (op_words op) >>= λ word. op_at name time word.0 word.1) ≡ Ok (record { name = name; time = time; op = op })
-unfolding op_at figure_at written_at change_at
-op_back name time (Drawn Line s) lawful target = rw (stroke_back s (lawful_stroke s lawful), drawn_back 11 name time (Drawn Line s) lawful) refl
-op_back name time (Drawn Frame s) lawful target = rw (stroke_back s (lawful_stroke s lawful), drawn_back 11 name time (Drawn Frame s) lawful) refl
-op_back name time (Text x y text) lawful target =
+fields_back : (name : NameValue) (time : ℕ) (op : Op) → IsLawful name op → HasTarget op → fields_at (op_kind op) name time (field_words op) ≡ Ok (record { name = name; time = time; op = op })
+unfolding figure_at written_at change_at
+fields_back name time (Drawn figure s) lawful target = rw (stroke_back s (lawful_stroke s lawful), drawn_back 11 name time (Drawn figure s) lawful) refl
+fields_back name time (Text x y text) lawful target =
     let t = lawful_text x y text lawful in
     rw (back12 7 x (decimal y ∷ words (quoted text)) t.x-fits, back12 8 y (words (quoted text)) t.y-fits, text_back 9 text, drawn_back 9 name time (Text x y text) lawful) refl
-op_back name time (Aimed Delete t) lawful target = rw (back32 7 t.source (decimal t.seq ∷ []) target.0, back32 8 t.seq [] target.1, drawn_back 8 name time (Aimed Delete t) lawful) refl
-op_back name time (Aimed Restore t) lawful target = rw (back32 7 t.source (decimal t.seq ∷ []) target.0, back32 8 t.seq [] target.1, drawn_back 8 name time (Aimed Restore t) lawful) refl
+fields_back name time (Aimed change t) lawful target = rw (back32 7 t.source (decimal t.seq ∷ []) target.0, back32 8 t.seq [] target.1, drawn_back 8 name time (Aimed change t) lawful) refl
+
+op_back : (name : NameValue) (time : ℕ) (op : Op) → IsLawful name op → HasTarget op → (word_at 6 (op_words op) >>= λ word. op_at name time word.0 word.1) ≡ Ok (record { name = name; time = time; op = op })
+unfolding op_at
+op_back name time op lawful target = ap (λ (o : Option OpKind). said 6 faults.Operation o >>= λ kind. fields_at kind name time (field_words op)) (kind_again (op_kind op)) ∙ fields_back name time op lawful target
 
 -- ---- drawops
 

@@ -6,11 +6,9 @@ use Rattle.std.proofs.lemmas.Bool.Decides.{nat_tests}
 use Rattle.std.proofs.lemmas.List.Elements.{All-cons, All-nil}
 use Rattle.wb_names.specs.Values.{NameValue}
 use Rattle.wb_names.specs.Drawing.{IsLawful, stroke_fault}
-use Rattle.wb_names.specs.declared.parts.Figure.{Figure}
-use Rattle.wb_names.specs.declared.parts.Figure.TheVariants.{Line, Frame}
 use Rattle.wb_names.specs.declared.parts.Stroke.{Stroke}
-use Rattle.wb_names.specs.declared.parts.Change.{Change}
-use Rattle.wb_names.specs.declared.parts.Change.TheVariants.{Delete, Restore}
+use Rattle.wb_names.specs.Kinds.{op_kind, every_kind}
+use Rattle.wb_names.specs.declared.parts.OpKind.{OpKind}
 use Rattle.wb_names.specs.declared.parts.Op.{Op}
 use Rattle.wb_names.specs.declared.parts.Op.TheVariants.{Drawn, Text, Aimed}
 use Rattle.wb_codec.specs.declared.datagram.Datagram.{Datagram}
@@ -21,7 +19,7 @@ use Rattle.wb_words.specs.declared.fault.WordsFault.{WordsFault}
 use Rattle.wb_words.specs.declared.fault.WordsFault.TheVariants.{Word, Memory}
 use Rattle.wb_words.specs.declared.fault.WrongWord.{WrongWord}
 use Rattle.wb_words.specs.Words.{words, joined}
-use Rattle.wb_words.specs.Spelling.{page_word, mark_word, echo_word, quoted, stroke_words, figure_word, change_word, op_words, name_words, word_list, spelled}
+use Rattle.wb_words.specs.Spelling.{page_word, mark_word, echo_word, quoted, stroke_words, kind_word, field_words, op_words, name_words, word_list, spelled}
 use Rattle.wb_words.specs.Reading.{MayGive, datagram_at, reading_of, reading}
 use Rattle.wb_words.specs.Grammar.{Says}
 use Rattle.wb_words.proofs.Numerals.{both}
@@ -57,18 +55,16 @@ stroke_space s e =
     let f = lawful_stroke s e in
     (space12 s.x0 f.x0-fits, (space12 s.y0 f.y0-fits, (space12 s.x1 f.x1-fits, (space12 s.y1 f.y1-fits, (All-cons (λ b. nat_eq b 32 ≡ false) s.glyph [] (visible s e) (All-nil (λ b. nat_eq b 32 ≡ false)), tt)))))
 
-figure_space : (figure : Figure) → NoSpace (figure_word figure)
-figure_space Line = tested (codes "line") refl
-figure_space Frame = tested (codes "frame") refl
+kind_space : (kind : OpKind) → NoSpace (kind_word kind)
+kind_space kind = tested (kind_word kind) (every_kind (λ k. list_all other (kind_word k)) refl kind)
 
-change_space : (change : Change) → NoSpace (change_word change)
-change_space Delete = tested (codes "delete") refl
-change_space Restore = tested (codes "restore") refl
+fields_space : (name : NameValue) (op : Op) → IsLawful name op → HasTarget op → NoSpaces (field_words op)
+fields_space name (Drawn figure s) lawful target = stroke_space s lawful
+fields_space name (Text x y text) lawful target = let t = lawful_text x y text lawful in (space12 x t.x-fits, (space12 y t.y-fits, NoSpaces-words (quoted text)))
+fields_space name (Aimed change t) lawful target = (space32 t.source target.0, (space32 t.seq target.1, tt))
 
 op_space : (name : NameValue) (op : Op) → IsLawful name op → HasTarget op → NoSpaces (op_words op)
-op_space name (Drawn figure s) lawful target = (figure_space figure, stroke_space s lawful)
-op_space name (Text x y text) lawful target = let t = lawful_text x y text lawful in (tested (codes "text") refl, (space12 x t.x-fits, (space12 y t.y-fits, NoSpaces-words (quoted text))))
-op_space name (Aimed change t) lawful target = (change_space change, (space32 t.source target.0, (space32 t.seq target.1, tt)))
+op_space name op lawful target = (kind_space (op_kind op), fields_space name op lawful target)
 
 name_space : (n : NameValue) (more : List (List ℕ)) → IsName n → NoSpaces more → NoSpaces (name_words n more)
 name_space n more fits h = (space32 n.source fits.source, (page_space n.page fits.page, (space32 n.seq fits.seq, h)))

@@ -3,14 +3,15 @@ use Rattle.std.specs.Prelude.{◌≡◌, ℕ, ◌+◌, Bool, true, false, List, 
 use Rattle.std.specs.Str.{bytes_eq}
 use Rattle.wb_names.specs.Values.{NameValue, DrawopValue, MarkValue}
 use Rattle.wb_names.specs.Drawing.{seq_fault, op_fault}
+use Rattle.wb_names.specs.Kinds.{kind_with}
 use Rattle.wb_names.specs.declared.name.PageId.{PageId}
 use Rattle.wb_names.specs.declared.fault.FieldFault.{FieldFault}
 use Rattle.wb_names.specs.declared.echo.Echo.{Echo}
 use Rattle.wb_names.specs.declared.parts.Figure.{Figure}
-use Rattle.wb_names.specs.declared.parts.Figure.TheVariants.{Line, Frame}
 use Rattle.wb_names.specs.declared.parts.Stroke.{Stroke}
 use Rattle.wb_names.specs.declared.parts.Change.{Change}
-use Rattle.wb_names.specs.declared.parts.Change.TheVariants.{Delete, Restore}
+use Rattle.wb_names.specs.declared.parts.OpKind.{OpKind}
+use Rattle.wb_names.specs.declared.parts.OpKind.TheVariants as kinds
 use Rattle.wb_names.specs.declared.parts.Op.{Op}
 use Rattle.wb_names.specs.declared.parts.Op.TheVariants.{Drawn, Text, Aimed}
 use Rattle.wb_codec.specs.declared.datagram.Datagram.{Datagram}
@@ -22,6 +23,7 @@ use Rattle.wb_words.specs.declared.fault.WrongWord.{WrongWord}
 use Rattle.wb_words.specs.declared.fault.WordsFault.{WordsFault}
 use Rattle.wb_words.specs.declared.fault.WordsFault.TheVariants as words_faults
 use Rattle.wb_words.specs.Words.{words, joined, parted, most32, most64, number_in, page_in, glyph_in, mark_in, echo_in, text_in}
+use Rattle.wb_words.specs.Spelling.{kind_word}
 
 infixl 10 ◌>>=◌
 abbrev pub ◌>>=◌ : {A B : Type 0} → Result A WrongWord → (A → Result B WrongWord) → Result B WrongWord
@@ -135,15 +137,20 @@ change_at change name time ws = do
   d ← drawn 8 name time (Aimed change (record { source = source.0; seq = seq.0 }))
   end_at 9 seq.1 d
 
--- the operation of this word
+-- the kind of operation with a word
+unfoldable pub kind_in : List ℕ → Option OpKind
+kind_in word = kind_with bytes_eq kind_word word
+
+-- the fields of an operation of this kind
+abbrev pub fields_at : OpKind → NameValue → ℕ → List (List ℕ) → Result DrawopValue WrongWord
+fields_at (kinds.Drawn figure) name time ws = figure_at figure name time ws
+fields_at kinds.Text name time ws = written_at name time ws
+fields_at (kinds.Aimed change) name time ws = change_at change name time ws
+
 unfoldable pub op_at : NameValue → ℕ → List ℕ → List (List ℕ) → Result DrawopValue WrongWord
-op_at name time word ws =
-    if bytes_eq word (codes "line") then figure_at Line name time ws
-    else (if bytes_eq word (codes "frame") then figure_at Frame name time ws
-    else (if bytes_eq word (codes "text") then written_at name time ws
-    else (if bytes_eq word (codes "delete") then change_at Delete name time ws
-    else (if bytes_eq word (codes "restore") then change_at Restore name time ws
-    else wrong 6 faults.Operation))))
+op_at name time word ws = do
+  kind ← said 6 faults.Operation (kind_in word)
+  fields_at kind name time ws
 
 unfoldable pub drawop_at : List (List ℕ) → Result DrawopValue WrongWord
 drawop_at ws = do

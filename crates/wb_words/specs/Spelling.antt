@@ -1,14 +1,15 @@
 -- The line of words of a datagram: each value has one.
 use Rattle.std.specs.Prelude.{ℕ, List, [], ◌∷◌, ◌++◌, map, flat_map, codes, decimal, if◌then◌else◌}
 use Rattle.wb_names.specs.Values.{NameValue, MarkValue}
+use Rattle.wb_names.specs.Kinds.{op_kind}
 use Rattle.wb_names.specs.declared.name.PageId.{PageId}
 use Rattle.wb_names.specs.declared.echo.Echo.{Echo}
-use Rattle.wb_names.specs.declared.parts.Figure.{Figure}
 use Rattle.wb_names.specs.declared.parts.Figure.TheVariants.{Line, Frame}
 use Rattle.wb_names.specs.declared.parts.Stroke.{Stroke}
-use Rattle.wb_names.specs.declared.parts.Change.{Change}
 use Rattle.wb_names.specs.declared.parts.Change.TheVariants.{Delete, Restore}
 use Rattle.wb_names.specs.declared.parts.Target.{Target}
+use Rattle.wb_names.specs.declared.parts.OpKind.{OpKind}
+use Rattle.wb_names.specs.declared.parts.OpKind.TheVariants as kinds
 use Rattle.wb_names.specs.declared.parts.Op.{Op}
 use Rattle.wb_names.specs.declared.parts.Op.TheVariants.{Drawn, Text, Aimed}
 use Rattle.wb_codec.specs.declared.datagram.Datagram.{Datagram}
@@ -41,18 +42,21 @@ stroke_words s = decimal s.x0 ∷ decimal s.y0 ∷ decimal s.x1 ∷ decimal s.y1
 abbrev pub target_words : Target → List (List ℕ)
 target_words t = decimal t.source ∷ decimal t.seq ∷ []
 
-abbrev pub figure_word : Figure → List ℕ
-figure_word Line = codes "line"
-figure_word Frame = codes "frame"
+-- the word of each kind of operation
+abbrev pub kind_word : OpKind → List ℕ
+kind_word (kinds.Drawn Line) = codes "line"
+kind_word (kinds.Drawn Frame) = codes "frame"
+kind_word kinds.Text = codes "text"
+kind_word (kinds.Aimed Delete) = codes "delete"
+kind_word (kinds.Aimed Restore) = codes "restore"
 
-abbrev pub change_word : Change → List ℕ
-change_word Delete = codes "delete"
-change_word Restore = codes "restore"
+abbrev pub field_words : Op → List (List ℕ)
+field_words (Drawn figure s) = stroke_words s
+field_words (Text x y text) = decimal x ∷ decimal y ∷ words (quoted text)
+field_words (Aimed change t) = target_words t
 
 abbrev pub op_words : Op → List (List ℕ)
-op_words (Drawn figure s) = figure_word figure ∷ stroke_words s
-op_words (Text x y text) = codes "text" ∷ decimal x ∷ decimal y ∷ words (quoted text)
-op_words (Aimed change t) = change_word change ∷ target_words t
+op_words op = kind_word (op_kind op) ∷ field_words op
 
 abbrev pub name_words : NameValue → List (List ℕ) → List (List ℕ)
 name_words n more = decimal n.source ∷ page_word n.page ∷ decimal n.seq ∷ more

@@ -7,10 +7,11 @@ ghost use Rattle.wb_words.specs.Reading.{Gives, MayGive, text_at, drawn, stroke_
 
 use crate::fault::{WordFault, WordsFault, WrongWord};
 use crate::fields::{coordinate_of, glyph_of, name_of, named, u32_of, u64_of};
+use crate::kind::kind_in;
 use crate::rest::{Rest, next_word, no_word};
 use crate::text::text_in;
 use std::alloc::Global;
-use wb_names::{Change, Drawop, Figure, Name, Parts, Stroke, Target};
+use wb_names::{Change, Drawop, Figure, Name, OpKind, Parts, Stroke, Target};
 
 // The operation of a drawop is the word at place 6, its fields begin at place 7.
 
@@ -109,21 +110,16 @@ fn op_of(
 ) -> Result<Drawop, WordsFault>
     ensures { MayGive (λ d. d) result (op_at name time word.now (words_left rest.entry)) }
 {
-    if word == b"line".as_slice() {
-        Ok(figure_of(Figure::Line, name, time, rest)?)
-    } else if word == b"frame".as_slice() {
-        Ok(figure_of(Figure::Frame, name, time, rest)?)
-    } else if word == b"text".as_slice() {
-        written_of(alloc, name, time, rest)
-    } else if word == b"delete".as_slice() {
-        Ok(change_of(Change::Delete, name, time, rest)?)
-    } else if word == b"restore".as_slice() {
-        Ok(change_of(Change::Restore, name, time, rest)?)
-    } else {
-        Err(WordsFault::Word(WrongWord {
+    let Some(kind) = kind_in(word) else {
+        return Err(WordsFault::Word(WrongWord {
             place: 6,
             fault: WordFault::Operation,
-        }))
+        }));
+    };
+    match kind {
+        OpKind::Drawn(figure) => Ok(figure_of(figure, name, time, rest)?),
+        OpKind::Text => written_of(alloc, name, time, rest),
+        OpKind::Aimed(change) => Ok(change_of(change, name, time, rest)?),
     }
 }
 

@@ -9,6 +9,7 @@ mod entries;
 mod fault;
 mod fault_text;
 mod fields;
+mod kind;
 pub mod laws;
 mod number;
 mod reading;

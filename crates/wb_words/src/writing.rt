@@ -2,13 +2,13 @@
 
 ghost use Rattle.std.specs.Prelude.{◌≡◌, ◌∷◌, ◌++◌, IfOk, OnOk, map};
 ghost use Rattle.wb_codec.specs.declared.datagram.Datagram.{Datagram as DatagramValue};
-ghost use Rattle.wb_words.specs.Spelling;
 ghost use Rattle.wb_words.specs.Spelling.{quoted, mark_word, echo_word, op_words, spelled, tailed};
 
+use crate::kind::kind_word;
 use crate::text::is_special;
 use std::alloc::{AllocError, Global};
 use wb_codec::Datagram;
-use wb_names::{Change, Drawop, Echo, Figure, Mark, Name, Op, PageId, Stroke, Target};
+use wb_names::{Drawop, Echo, Mark, Name, Op, PageId, Stroke, Target};
 
 /// Adds a space and a text in quotes.
 fn put_text(out: &mut Vec<u8>, text: &[u8]) -> Result<(), AllocError>
@@ -25,33 +25,13 @@ fn put_text(out: &mut Vec<u8>, text: &[u8]) -> Result<(), AllocError>
     Ok(())
 }
 
-/// The word of what is drawn between two ends.
-fn figure_word(figure: Figure) -> &'static str
-    ensures { result.now ≡ Spelling.figure_word figure }
-{
-    match figure {
-        Figure::Line => "line",
-        Figure::Frame => "frame",
-    }
-}
-
-/// The word of a change of a target.
-fn change_word(change: Change) -> &'static str
-    ensures { result.now ≡ Spelling.change_word change }
-{
-    match change {
-        Change::Delete => "delete",
-        Change::Restore => "restore",
-    }
-}
-
 /// Adds the words of an operation, a space before each.
 fn put_op(alloc: Global, out: &mut Vec<u8>, op: &Op) -> Result<(), AllocError>
     ensures { OnOk result (out.new.items ≡ out.old.items ++ tailed (op_words op.now)) }
 {
+    let word = kind_word(op.kind());
     match op {
-        Op::Drawn(figure, stroke) => {
-            let word = figure_word(*figure);
+        Op::Drawn(_, stroke) => {
             let Stroke {
                 x0,
                 y0,
@@ -65,12 +45,11 @@ fn put_op(alloc: Global, out: &mut Vec<u8>, op: &Op) -> Result<(), AllocError>
             Ok(())
         }
         Op::Text { x, y, text } => {
-            let front = format!(in alloc; " text {x} {y}")?;
+            let front = format!(in alloc; " {word} {x} {y}")?;
             out.extend_from_slice(front.as_bytes())?;
             put_text(out, text.as_slice())
         }
-        Op::Aimed(change, target) => {
-            let word = change_word(*change);
+        Op::Aimed(_, target) => {
             let Target { source, seq } = *target;
             let text = format!(in alloc; " {word} {source} {seq}")?;
             out.extend_from_slice(text.as_bytes())
