@@ -10,14 +10,14 @@ use Rattle.wb_names.specs.Values.{DrawopValue}
 use Rattle.wb_names.specs.History.{HoldsName}
 use Rattle.wb_names.specs.Arrivals.{Fresh, Known, Clashed, Left, counts}
 use Rattle.wb_history.specs.Passes.{PassValue, IsSound}
-use Rattle.wb_feed.specs.declared.line.Hand.{Hand}
+use Rattle.wb_feed.specs.declared.channel.ChannelView.{ChannelView}
 use Rattle.wb_feed.specs.declared.worker.Accepted.{Accepted}
-use Rattle.wb_feed.specs.declared.message.Message.{Message}
+use Rattle.wb_feed.specs.declared.channel.Message.{Message}
 use Rattle.wb_feed.specs.declared.batch.Batch.{Batch}
 use Rattle.wb_feed.specs.Accepts.{Entry, Runs, drawops, tally}
 use Rattle.wb_feed.specs.Batches.{counts_in, Takes, IsShared, IsTotal}
 use Rattle.wb_feed.specs.Workers.{Workers, Work, Worked}
-use Rattle.wb_feed.specs.Line.{once_below, IsComplete, AreRight, spots}
+use Rattle.wb_feed.specs.Channel.{once_below, IsComplete, AreRight, spots}
 use Rattle.wb_feed.specs.Marks.{unmarked, Marks, Retakes}
 use Rattle.wb_feed.specs.Served.{Spot, is_left, entries, accepted_at, offered, Serves}
 use Rattle.wb_feed.proofs.Log.{is_taken, chosen, chosen-append, drawops-append, tally-append, tally_all, left_many, Told, Gathers, gathers_none, gathers_run, runs_empty}
@@ -65,7 +65,7 @@ alone : (n : ℕ) (p q : PassValue) (log : List Spot) (gots : List Message) → 
 alone n p q log gots w one = ⊎_elim (λ (x : (n ≡ 1) × Serves p log gots q). x.1) (λ (x : (1 < n) × Workers (p.free / n) n p log gots q). absurd (omega (arith, x.0, one))) w
 
 -- the same, with what n workers told of it
-abbrev pub AllWorked : ℕ → PassValue → PassValue → Hand → Hand → Accepted → Type 0
+abbrev pub AllWorked : ℕ → PassValue → PassValue → ChannelView → ChannelView → Accepted → Type 0
 AllWorked n p q g h a = Worked (λ log gots. Work n p log gots q) n g h a
 
 -- what the workers accepted, as drawops, and what is not marked are the drawops drawn
@@ -77,7 +77,7 @@ pub record Whole (drawn : List DrawopValue) (ms : List Bool) (log : List Spot) (
   pub right : OffersRight drawn (offered log)
   pub marks : Marks (accepted_at log) (length drawn) ms
 
-pub whole_from : (n : ℕ) (p q : PassValue) (g h : Hand) (a : Accepted) (drawn : List DrawopValue) (ms : List Bool) (c : AllWorked n p q g h a) → g.got ≡ [] → IsComplete h → IsPrefix h.sent drawn
+pub whole_from : (n : ℕ) (p q : PassValue) (g h : ChannelView) (a : Accepted) (drawn : List DrawopValue) (ms : List Bool) (c : AllWorked n p q g h a) → g.got ≡ [] → IsComplete h → IsPrefix h.sent drawn
     → Marks a.positions.items (length drawn) ms → Whole drawn ms c.log c.gots
 whole_from n p q g h a drawn ms c none all sent m =
     let work = gained n p q c.log c.gots c.did in
@@ -96,7 +96,7 @@ whole_from n p q g h a drawn ms c none all sent m =
       marks = subst (λ l. Marks l (length drawn) ms) c.tells.positions m;
     }
 
-pub takes_all : (n : ℕ) (p q r : PassValue) (g h : Hand) (a : Accepted) (drawn : List DrawopValue) (ms : List Bool) (t b : Batch) (c : AllWorked n p q g h a) → Whole drawn ms c.log c.gots
+pub takes_all : (n : ℕ) (p q r : PassValue) (g h : ChannelView) (a : Accepted) (drawn : List DrawopValue) (ms : List Bool) (t b : Batch) (c : AllWorked n p q g h a) → Whole drawn ms c.log c.gots
     → IsSound p → IsSound q → IsSound r → Retakes q (unmarked ms drawn) r t → IsTotal a t b → Takes p drawn n r b
 takes_all n p q r g h a drawn ms t b c whole sp sq sr m e =
     let work = gained n p q c.log c.gots c.did in
@@ -134,7 +134,7 @@ takes_all n p q r g h a drawn ms t b c whole sp sq sr m e =
           (in_given_order whole.low p q r c.log c.gots more drawn ms sp w sq sr (alone n p q c.log c.gots c.did is) m.runs m.all whole.most whole.once whole.right whole.marks);
     }
 
-pub total_few : (n : ℕ) (p q r : PassValue) (g h : Hand) (a : Accepted) (drawn : List DrawopValue) (ms : List Bool) (t : Batch) (c : AllWorked n p q g h a) → Whole drawn ms c.log c.gots → Retakes q (unmarked ms drawn) r t
+pub total_few : (n : ℕ) (p q r : PassValue) (g h : ChannelView) (a : Accepted) (drawn : List DrawopValue) (ms : List Bool) (t : Batch) (c : AllWorked n p q g h a) → Whole drawn ms c.log c.gots → Retakes q (unmarked ms drawn) r t
     → (((a.fresh + t.fresh) + (a.again + t.again)) + (a.clash + t.clash)) + t.left ≤ length drawn
 total_few n p q r g h a drawn ms t c whole m =
     let taken = drawops (chosen is_taken (entries c.log)) in
@@ -155,5 +155,5 @@ total_few n p q r g h a drawn ms t c whole m =
     )
 
 -- and how the workers shared them
-pub shares : (n : ℕ) (p q r : PassValue) (g h : Hand) (a : Accepted) (drawn : List DrawopValue) (ms : List Bool) (t : Batch) (c : AllWorked n p q g h a) → Whole drawn ms c.log c.gots → Retakes q (unmarked ms drawn) r t → IsShared n p drawn r
+pub shares : (n : ℕ) (p q r : PassValue) (g h : ChannelView) (a : Accepted) (drawn : List DrawopValue) (ms : List Bool) (t : Batch) (c : AllWorked n p q g h a) → Whole drawn ms c.log c.gots → Retakes q (unmarked ms drawn) r t → IsShared n p drawn r
 shares n p q r g h a drawn ms t c whole m = record { log = c.log; gots = c.gots; joined = q; work = c.did; marks = ms; marked = whole.marks; left_over = m.log; rest = m.runs; all = m.all }

@@ -14,3 +14,4 @@ pub mod Placing
 pub mod OneWorker
 pub mod Batching
 pub mod Telling
+pub mod OneRun

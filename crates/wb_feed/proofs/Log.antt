@@ -14,7 +14,7 @@ use Rattle.wb_host.specs.declared.reply.BoardFault.{BoardFault}
 use Rattle.wb_host.specs.declared.reply.BoardFault.TheVariants.{NoRow, Memory}
 use Rattle.wb_feed.specs.Accepts.{Keeps, LosesAtMost, Accepts, Entry, drawops, tally, Runs}
 use Rattle.wb_feed.proofs.Prefixes.{prefix_self, prefix_is, prefix_trans, prefix_get}
-use Rattle.wb_feed.specs.Line.{once_below}
+use Rattle.wb_feed.specs.Channel.{once_below}
 use Rattle.wb_feed.specs.Served.{is_left}
 use Rattle.wb_feed.specs.Workers.{IsBack}
 use Rattle.wb_feed.proofs.Numbers.{times, times-append, each_once}

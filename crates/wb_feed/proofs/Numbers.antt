@@ -6,7 +6,7 @@ use Rattle.std.specs.List.Sorted.{IsPermutation}
 use Rattle.std.proofs.lemmas.List.Sorted.{IsPermutation-refl, IsPermutation-sym, IsPermutation-cons, IsPermutation-trans, IsPermutation-middle}
 use Rattle.std.specs.Prelude.{All, AllPairs}
 use Rattle.std.proofs.lemmas.List.Elements.{All-head, All-tail}
-use Rattle.wb_feed.specs.Line.{once_below}
+use Rattle.wb_feed.specs.Channel.{once_below}
 
 -- how often the number stands in the list
 abbrev pub times : ℕ → List ℕ → ℕ

@@ -14,8 +14,8 @@ use Rattle.wb_feed.proofs.Settling.{left_lacks}
 use Rattle.wb_feed.proofs.OneThread.{Lacks, both_batches, counted_as, same_counts, plus, zero_plus}
 use Rattle.wb_feed.proofs.InOrder.{in_order}
 use Rattle.wb_feed.proofs.Members.{at_named}
-use Rattle.wb_feed.specs.declared.message.Message.{Message}
-use Rattle.wb_feed.specs.Line.{spots, once_below}
+use Rattle.wb_feed.specs.declared.channel.Message.{Message}
+use Rattle.wb_feed.specs.Channel.{spots, once_below}
 use Rattle.wb_feed.specs.Served.{Spot, is_left, entries, accepted_at, offered, Rises, Serves}
 use Rattle.wb_feed.specs.Marks.{has, unmarked, Marks}
 use Rattle.wb_feed.proofs.Placing.{OffersRight, pair_times, accepted_few, takes_spots, once_under, once_past}

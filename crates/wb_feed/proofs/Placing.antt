@@ -17,9 +17,9 @@ use Rattle.wb_feed.proofs.Members.{nothing, get_at, get_mid}
 use Rattle.wb_feed.proofs.Log.{is_taken, chosen, Gathers, gathers_none, gathers_level}
 use Rattle.wb_feed.proofs.OneThread.{zero_plus}
 use Rattle.wb_feed.proofs.Settling.{map_range}
-use Rattle.wb_feed.specs.declared.message.Message.{Message}
-use Rattle.wb_feed.specs.declared.message.Message.TheVariants.{Take, End}
-use Rattle.wb_feed.specs.Line.{spots, once_below, AreRight}
+use Rattle.wb_feed.specs.declared.channel.Message.{Message}
+use Rattle.wb_feed.specs.declared.channel.Message.TheVariants.{Take, End}
+use Rattle.wb_feed.specs.Channel.{spots, once_below, AreRight}
 use Rattle.wb_feed.specs.Served.{Spot, entries, accepted_at, takes, offered, Serves}
 use Rattle.wb_feed.specs.Marks.{has, unmarked, Marks}
 use Rattle.wb_feed.specs.Workers.{Workers, nobody, worker}

@@ -8,14 +8,14 @@ use lib.ListN.{get_elem?}
 use Rattle.crossbeam_channel.specs.Fifo.{Pushes, Pops, Forks, Merges, Learns}
 use Rattle.wb_names.specs.Values.{DrawopValue}
 use Rattle.wb_feed.proofs.Prefixes.{prefix_get}
-use Rattle.wb_feed.specs.declared.message.Message.{Message}
-use Rattle.wb_feed.specs.declared.message.Message.TheVariants.{Take, End}
-use Rattle.wb_feed.specs.declared.line.Hand.{Hand}
+use Rattle.wb_feed.specs.declared.channel.Message.{Message}
+use Rattle.wb_feed.specs.declared.channel.Message.TheVariants.{Take, End}
+use Rattle.wb_feed.specs.declared.channel.ChannelView.{ChannelView}
 use Rattle.wb_feed.specs.Sent.{IsNext}
-use Rattle.wb_feed.specs.Line.{hand, sent_with, sends, receives, spots, IsRight, AreRight, IsBelow, AreBelow, Follows, IsRow, total, once_below, Fits, Kept, IsComplete}
+use Rattle.wb_feed.specs.Channel.{channel_view, sent_with, sends, receives, spots, IsRight, AreRight, IsBelow, AreBelow, Follows, IsRow, total, once_below, Fits, Kept, IsComplete}
 
 -- what stands in a list after one element was set, and after one was put at the end
-at_set : (views : List Hand) (pass j : ℕ) (v w : Hand) → get_elem? (set views pass v) j ≡ some w → ((j ≡ pass) × (v ≡ w)) ⊎ ((j ≢ pass) × (get_elem? views j ≡ some w))
+at_set : (views : List ChannelView) (pass j : ℕ) (v w : ChannelView) → get_elem? (set views pass v) j ≡ some w → ((j ≡ pass) × (v ≡ w)) ⊎ ((j ≢ pass) × (get_elem? views j ≡ some w))
 at_set [] pass j v w e = absurd (some-ne-none w (sym e))
 at_set (u ∷ us) zero zero v w e = inl (refl, some-injective v w e)
 at_set (u ∷ us) zero (suc j) v w e = inr ((λ q. absurd (omega (arith, q))), e)
@@ -24,33 +24,33 @@ at_set (u ∷ us) (suc pass) (suc j) v w e =
     ⊎_elim (λ (x : (j ≡ pass) × (v ≡ w)). inl (ap suc x.0, x.1))
     (λ (x : (j ≢ pass) × (get_elem? us j ≡ some w)). inr ((λ q. x.0 (omega (arith, q))), x.1)) (at_set us pass j v w e)
 
-at_snoc : (views : List Hand) (r w : Hand) (j : ℕ) → get_elem? (views ++ r ∷ []) j ≡ some w → (get_elem? views j ≡ some w) ⊎ (r ≡ w)
+at_snoc : (views : List ChannelView) (r w : ChannelView) (j : ℕ) → get_elem? (views ++ r ∷ []) j ≡ some w → (get_elem? views j ≡ some w) ⊎ (r ≡ w)
 at_snoc [] r w zero e = inr (some-injective r w e)
 at_snoc [] r w (suc j) e = absurd (some-ne-none w (sym e))
 at_snoc (u ∷ us) r w zero e = inl e
 at_snoc (u ∷ us) r w (suc j) e = at_snoc us r w j e
 
-total_set : (f : Hand → ℕ) (views : List Hand) (pass : ℕ) (v w : Hand) → get_elem? views pass ≡ some v → total f (set views pass w) + f v ≡ total f views + f w
+total_set : (f : ChannelView → ℕ) (views : List ChannelView) (pass : ℕ) (v w : ChannelView) → get_elem? views pass ≡ some v → total f (set views pass w) + f v ≡ total f views + f w
 total_set f [] pass v w at = absurd (some-ne-none v (sym at))
 total_set f (u ∷ us) zero v w at = omega (arith, ap f (some-injective u v at))
 total_set f (u ∷ us) (suc pass) v w at = omega (arith, total_set f us pass v w at)
 
-total_snoc : (f : Hand → ℕ) (views : List Hand) (v : Hand) → total f (views ++ v ∷ []) ≡ total f views + f v
+total_snoc : (f : ChannelView → ℕ) (views : List ChannelView) (v : ChannelView) → total f (views ++ v ∷ []) ≡ total f views + f v
 total_snoc f [] v = omega arith
 total_snoc f (u ∷ us) v = omega (arith, total_snoc f us v)
 
-total_at : (f : Hand → ℕ) (views : List Hand) (pass : ℕ) (v : Hand) → get_elem? views pass ≡ some v → f v ≤ total f views
+total_at : (f : ChannelView → ℕ) (views : List ChannelView) (pass : ℕ) (v : ChannelView) → get_elem? views pass ≡ some v → f v ≤ total f views
 total_at f [] pass v at = absurd (some-ne-none v (sym at))
 total_at f (u ∷ us) zero v at = omega (arith, ap f (some-injective u v at))
 total_at f (u ∷ us) (suc pass) v at = omega (arith, total_at f us pass v at)
 
-total_none : (f g : Hand → ℕ) (views : List Hand) → total f views ≡ 0 → ((j : ℕ) (u : Hand) → get_elem? views j ≡ some u → f u ≡ 0 → g u ≡ 0) → total g views ≡ 0
+total_none : (f g : ChannelView → ℕ) (views : List ChannelView) → total f views ≡ 0 → ((j : ℕ) (u : ChannelView) → get_elem? views j ≡ some u → f u ≡ 0 → g u ≡ 0) → total g views ≡ 0
 total_none f g [] all none = refl
 total_none f g (u ∷ us) all none = omega (arith, none 0 u refl (omega (arith, all)), total_none f g us (omega (arith, all)) (λ j w e z. none (suc j) w e z))
 
 -- where a pass has all that f counts, the others have none
-total_alone : (f g : Hand → ℕ) (views : List Hand) (pass : ℕ) (v : Hand) → get_elem? views pass ≡ some v → total f views ≡ f v
-    → ((j : ℕ) (u : Hand) → get_elem? views j ≡ some u → f u ≡ 0 → g u ≡ 0) → total g views ≡ g v
+total_alone : (f g : ChannelView → ℕ) (views : List ChannelView) (pass : ℕ) (v : ChannelView) → get_elem? views pass ≡ some v → total f views ≡ f v
+    → ((j : ℕ) (u : ChannelView) → get_elem? views j ≡ some u → f u ≡ 0 → g u ≡ 0) → total g views ≡ g v
 total_alone f g [] pass v at all none = absurd (some-ne-none v (sym at))
 total_alone f g (u ∷ us) zero v at all none =
     let here : u ≡ v = some-injective u v at in
@@ -109,29 +109,29 @@ row_most sent low [] r = omega (arith, r)
 row_most sent low (Take q e ∷ items) r = omega (arith, row_most sent (low + 1) items r.2)
 row_most sent low (End ∷ items) r = row_most sent low items r
 
-each_set : (seat : ℕ) (sent : List DrawopValue) (low : ℕ) (views : List Hand) (pass : ℕ) (w : Hand) → Fits seat sent low pass w
-    → ((j : ℕ) (u : Hand) → j ≢ pass → get_elem? views j ≡ some u → Fits seat sent low j u) → (j : ℕ) (u : Hand) → get_elem? (set views pass w) j ≡ some u → Fits seat sent low j u
+each_set : (seat : ℕ) (sent : List DrawopValue) (low : ℕ) (views : List ChannelView) (pass : ℕ) (w : ChannelView) → Fits seat sent low pass w
+    → ((j : ℕ) (u : ChannelView) → j ≢ pass → get_elem? views j ≡ some u → Fits seat sent low j u) → (j : ℕ) (u : ChannelView) → get_elem? (set views pass w) j ≡ some u → Fits seat sent low j u
 each_set seat sent low views pass w mine others j u e =
-    ⊎_elim (λ (x : (j ≡ pass) × (w ≡ u)). subst (λ (y : ℕ × Hand). Fits seat sent low y.0 y.1) (λ i. (sym x.0 i, x.1 i)) mine)
+    ⊎_elim (λ (x : (j ≡ pass) × (w ≡ u)). subst (λ (y : ℕ × ChannelView). Fits seat sent low y.0 y.1) (λ i. (sym x.0 i, x.1 i)) mine)
     (λ (x : (j ≢ pass) × (get_elem? views j ≡ some u)). others j u x.0 x.1) (at_set views pass j w u e)
 
-only : (i : ℕ) (w : Hand) → get_elem? (hand 16 true [] [] ∷ []) i ≡ some w → i ≡ 0
+only : (i : ℕ) (w : ChannelView) → get_elem? (channel_view 16 true [] [] ∷ []) i ≡ some w → i ≡ 0
 only zero w at = refl
 only (suc i) w at = absurd (some-ne-none w (sym at))
 
-pub begins : Kept [] (hand 16 true [] [] ∷ [])
+pub begins : Kept [] (channel_view 16 true [] [] ∷ [])
 begins = record {
   seat = 0;
   sent = [];
   low = 0;
   row = refl;
-  each = λ j u e. each_set 0 [] 0 (hand 16 true [] [] ∷ []) 0 (hand 16 true [] []) (record { sender = λ _. (refl, refl); right = tt; below = tt; idle = λ _. refl })
+  each = λ j u e. each_set 0 [] 0 (channel_view 16 true [] [] ∷ []) 0 (channel_view 16 true [] []) (record { sender = λ _. (refl, refl); right = tt; below = tt; idle = λ _. refl })
       (λ i w apart at. absurd (apart (only i w at))) j u e;
   parts = refl;
   once = λ p. grind (arith, nat_tests);
 }
 
-pub sends_kept : (n pass : ℕ) (v : Hand) (x : Message) → v.sends ≡ true → IsNext v.sent x → Pushes Kept n pass v x (λ w. w ≡ sends v x)
+pub sends_kept : (n pass : ℕ) (v : ChannelView) (x : Message) → v.sends ≡ true → IsNext v.sent x → Pushes Kept n pass v x (λ w. w ≡ sends v x)
 sends_kept n pass v x may next items views room h at =
     let mine = h.each pass v at in
     let who = mine.sender may in
@@ -163,7 +163,7 @@ one_at a b = cond (a == b) 1 0
 once_more : (p low : ℕ) → once_below p (low + 1) ≡ once_below p low + cond (low == p) 1 0
 once_more p low = grind (arith, nat_tests)
 
-pub receives_kept : (pass : ℕ) (v : Hand) → 0 < v.parts → Pops Kept pass v (λ x w. (w ≡ receives v x) × Follows v.got x)
+pub receives_kept : (pass : ℕ) (v : ChannelView) → 0 < v.parts → Pops Kept pass v (λ x w. (w ≡ receives v x) × Follows v.got x)
 receives_kept pass v some_part (Take p d) items views h at =
     let mine = h.each pass v at in
     let x = Take p d in
@@ -213,12 +213,12 @@ receives_kept pass v some_part End items views h at =
       (refl, tt),
     )
 
-pub forks_kept : (pass : ℕ) (v : Hand) → 1 < v.parts → Forks Kept pass v (hand (v.parts - 1) v.sends v.sent v.got) (hand 1 false [] [])
+pub forks_kept : (pass : ℕ) (v : ChannelView) → 1 < v.parts → Forks Kept pass v (channel_view (v.parts - 1) v.sends v.sent v.got) (channel_view 1 false [] [])
 forks_kept pass v some_parts items views h at =
     let mine = h.each pass v at in
-    let l = hand (v.parts - 1) v.sends v.sent v.got in
-    let r = hand 1 false [] [] in
-    let vs : List Hand = set views pass l in
+    let l = channel_view (v.parts - 1) v.sends v.sent v.got in
+    let r = channel_view 1 false [] [] in
+    let vs : List ChannelView = set views pass l in
     let old = each_set h.seat h.sent h.low views pass l (record { sender = mine.sender; right = mine.right; below = mine.below; idle = λ none. absurd (omega (arith, none, some_parts)) }) (λ j u other e. h.each j u e) in
     record {
       seat = h.seat;
@@ -226,17 +226,17 @@ forks_kept pass v some_parts items views h at =
       low = h.low;
       row = h.row;
       each = λ j u e. ⊎_elim (λ x. old j u x)
-          (λ (is : r ≡ u). subst (λ (y : Hand). Fits h.seat h.sent h.low j y) is (record { sender = λ p. absurd (true≢false (sym p)); right = tt; below = tt; idle = λ _. refl })) (at_snoc vs r u j e);
+          (λ (is : r ≡ u). subst (λ (y : ChannelView). Fits h.seat h.sent h.low j y) is (record { sender = λ p. absurd (true≢false (sym p)); right = tt; below = tt; idle = λ _. refl })) (at_snoc vs r u j e);
       parts = omega (arith, total_set (λ u. u.parts) views pass v l at, total_snoc (λ u. u.parts) vs r, h.parts, some_parts);
       once = λ q. omega (arith, total_set (λ u. spots q u.got) views pass v l at, total_snoc (λ u. spots q u.got) vs r, h.once q);
     }
 
-pub merges_kept : (pass : ℕ) (v : Hand) (other : ℕ) (u : Hand) → Merges Kept pass v other u (hand (v.parts + u.parts) v.sends v.sent (v.got ++ u.got)) (hand 0 false [] [])
+pub merges_kept : (pass : ℕ) (v : ChannelView) (other : ℕ) (u : ChannelView) → Merges Kept pass v other u (channel_view (v.parts + u.parts) v.sends v.sent (v.got ++ u.got)) (channel_view 0 false [] [])
 merges_kept pass v other u items views h at two at' =
     let mine = h.each pass v at in
-    let both = hand (v.parts + u.parts) v.sends v.sent (v.got ++ u.got) in
-    let gone = hand 0 false [] [] in
-    let vs : List Hand = set views pass both in
+    let both = channel_view (v.parts + u.parts) v.sends v.sent (v.got ++ u.got) in
+    let gone = channel_view 0 false [] [] in
+    let vs : List ChannelView = set views pass both in
     let was : get_elem? views other ≡ some u = ⊎_elim (λ x. absurd (two x.0)) (λ x. x.1) (at_set views pass other both u at') in
     let theirs = h.each other u was in
     let now = each_set h.seat h.sent h.low views pass both (record {
@@ -255,7 +255,7 @@ merges_kept pass v other u items views h at two at' =
       once = λ q. omega (arith, total_set (λ y. spots q y.got) views pass v both at, total_set (λ y. spots q y.got) vs other u gone at', h.once q, spots-append q v.got u.got);
     }
 
-pub learns_kept : (pass : ℕ) (v : Hand) → v.sends ≡ true → v.parts ≡ 16 → Learns Kept pass v (λ items. IsComplete v)
+pub learns_kept : (pass : ℕ) (v : ChannelView) → v.sends ≡ true → v.parts ≡ 16 → Learns Kept pass v (λ items. IsComplete v)
 learns_kept pass v may all items views h at =
     let mine = h.each pass v at in
     let who = mine.sender may in

@@ -6,11 +6,11 @@ use Rattle.wb_names.specs.Arrivals.{Outcome, Fresh, Known, Clashed, Left, counts
 use Rattle.wb_history.specs.Passes.{PassValue}
 use Rattle.wb_feed.specs.Accepts.{LosesAtMost, Accepts, drawops}
 use Rattle.wb_feed.proofs.Log.{loses_is, loses_trans, runs_more, tally-append, tally_all}
-use Rattle.wb_feed.specs.declared.message.Message.{Message}
-use Rattle.wb_feed.specs.declared.message.Message.TheVariants.{Take, End}
-use Rattle.wb_feed.specs.declared.line.Hand.{Hand}
+use Rattle.wb_feed.specs.declared.channel.Message.{Message}
+use Rattle.wb_feed.specs.declared.channel.Message.TheVariants.{Take, End}
+use Rattle.wb_feed.specs.declared.channel.ChannelView.{ChannelView}
 use Rattle.wb_feed.specs.declared.worker.Accepted.{Accepted}
-use Rattle.wb_feed.specs.Line.{hand, receives, AreBelow, Follows}
+use Rattle.wb_feed.specs.Channel.{channel_view, receives, AreBelow, Follows}
 use Rattle.wb_feed.specs.Served.{Spot, is_left, entries, accepted_at, takes, offered, Rises, AcceptsOne, Tells, TookAll, Served}
 
 pub takes-append : (xs ys : List Message) → takes (xs ++ ys) ≡ takes xs ++ takes ys
@@ -53,45 +53,45 @@ pub tells_few : (v w : PassValue) (got : List Message) (a : Accepted) (p : ℕ) 
 tells_few v w got a p t r b =
     omega (arith, t.tells.fresh, t.tells.again, t.tells.clash, tally_all (entries t.log), offered_many t.log, ap length t.serves.offered, rises_few 0 p got r b (omega arith))
 
-pub serves_none : (v : PassValue) (a : Accepted) (h : Hand) → h ≡ hand 1 false [] [] → Tells a [] → Served v v h a false
+pub serves_none : (v : PassValue) (a : Accepted) (h : ChannelView) → h ≡ channel_view 1 false [] [] → Tells a [] → Served v v h a false
 serves_none v a h e t = record {
   kept = loses_is v v refl;
-  hand = e ∙ ap (λ g. hand 1 false [] g) (sym (ap (λ (x : Hand). x.got) e));
-  rises = subst (λ g. Rises 0 (takes g)) (sym (ap (λ (x : Hand). x.got) e)) tt;
+  one_part = e ∙ ap (λ g. channel_view 1 false [] g) (sym (ap (λ (x : ChannelView). x.got) e));
+  rises = subst (λ g. Rises 0 (takes g)) (sym (ap (λ (x : ChannelView). x.got) e)) tt;
   took = λ _. record {
     log = [];
-    serves = record { runs = refl; offered = ap takes (sym (ap (λ (x : Hand). x.got) e)); rises = subst (λ g. Rises 0 (takes g)) (sym (ap (λ (x : Hand). x.got) e)) tt };
+    serves = record { runs = refl; offered = ap takes (sym (ap (λ (x : ChannelView). x.got) e)); rises = subst (λ g. Rises 0 (takes g)) (sym (ap (λ (x : ChannelView). x.got) e)) tt };
     tells = t;
     few = omega (arith, t.fresh, t.again, t.clash);
   };
 }
 
-hand_next : (h i : Hand) (x : Message) → h ≡ hand 1 false [] h.got → i ≡ receives h x → i ≡ hand 1 false [] i.got
-hand_next h i x e n =
-    let g : i.got ≡ h.got ++ x ∷ [] = ap (λ (y : Hand). y.got) n in
-    n ∙ (ap (λ (y : Hand). receives y x) e ∙ ap (λ l. hand 1 false [] l) (sym g))
+one_part_next : (h i : ChannelView) (x : Message) → h ≡ channel_view 1 false [] h.got → i ≡ receives h x → i ≡ channel_view 1 false [] i.got
+one_part_next h i x e n =
+    let g : i.got ≡ h.got ++ x ∷ [] = ap (λ (y : ChannelView). y.got) n in
+    n ∙ (ap (λ (y : ChannelView). receives y x) e ∙ ap (λ l. channel_view 1 false [] l) (sym g))
 
-rises_next : (h i : Hand) (x : Message) → i ≡ receives h x → Follows h.got x → Rises 0 (takes h.got) → Rises 0 (takes i.got)
-rises_next h i (Take p d) n f r = let g : i.got ≡ h.got ++ Take p d ∷ [] = ap (λ (y : Hand). y.got) n in rw g (rises_more 0 p d h.got r f (omega arith))
-rises_next h i End n f r = let g : i.got ≡ h.got ++ End ∷ [] = ap (λ (y : Hand). y.got) n in rw g (rises_end 0 h.got r)
+rises_next : (h i : ChannelView) (x : Message) → i ≡ receives h x → Follows h.got x → Rises 0 (takes h.got) → Rises 0 (takes i.got)
+rises_next h i (Take p d) n f r = let g : i.got ≡ h.got ++ Take p d ∷ [] = ap (λ (y : ChannelView). y.got) n in rw g (rises_more 0 p d h.got r f (omega arith))
+rises_next h i End n f r = let g : i.got ≡ h.got ++ End ∷ [] = ap (λ (y : ChannelView). y.got) n in rw g (rises_end 0 h.got r)
 
 -- the end message
-pub serves_end : (v w : PassValue) (h i : Hand) (a : Accepted) (failed : Bool) → Served v w h a failed → i ≡ receives h End → Follows h.got End → Served v w i a failed
+pub serves_end : (v w : PassValue) (h i : ChannelView) (a : Accepted) (failed : Bool) → Served v w h a failed → i ≡ receives h End → Follows h.got End → Served v w i a failed
 serves_end v w h i a failed s n f =
-    let g : i.got ≡ h.got ++ End ∷ [] = ap (λ (y : Hand). y.got) n in
+    let g : i.got ≡ h.got ++ End ∷ [] = ap (λ (y : ChannelView). y.got) n in
     let e : takes i.got ≡ takes h.got = ap takes g ∙ (takes-append h.got (End ∷ []) ∙ append-nil (takes h.got)) in
     record {
       kept = s.kept;
-      hand = hand_next h i End s.hand n;
+      one_part = one_part_next h i End s.one_part n;
       rises = rises_next h i End n f s.rises;
       took = λ ok. let t = s.took ok in record { log = t.log; serves = record { runs = t.serves.runs; offered = t.serves.offered ∙ sym e; rises = rises_next h i End n f s.rises }; tells = t.tells; few = t.few };
     }
 
 -- a message while nothing is accepted any more
-pub serves_failed : (v w u : PassValue) (h i : Hand) (x : Message) (a b : Accepted) (failed : Bool) → Served v w h a failed → i ≡ receives h x → Follows h.got x → LosesAtMost 0 w u → Served v u i b true
+pub serves_failed : (v w u : PassValue) (h i : ChannelView) (x : Message) (a b : Accepted) (failed : Bool) → Served v w h a failed → i ≡ receives h x → Follows h.got x → LosesAtMost 0 w u → Served v u i b true
 serves_failed v w u h i x a b failed s n f k = record {
   kept = loses_trans 0 0 0 v w u (omega arith) s.kept k;
-  hand = hand_next h i x s.hand n;
+  one_part = one_part_next h i x s.one_part n;
   rises = rises_next h i x n f s.rises;
   took = λ no. absurd (true≢false no);
 }
@@ -103,17 +103,17 @@ one_kind (Known i) = omega arith
 one_kind (Clashed i) = omega arith
 one_kind Left = omega arith
 
-pub serves_more : (v w u : PassValue) (h i : Hand) (p : ℕ) (d : DrawopValue) (a b : Accepted) → p < 2 ^ 32 → Served v w h a false → i ≡ receives h (Take p d) → Follows h.got (Take p d) → LosesAtMost 0 w u
+pub serves_more : (v w u : PassValue) (h i : ChannelView) (p : ℕ) (d : DrawopValue) (a b : Accepted) → p < 2 ^ 32 → Served v w h a false → i ≡ receives h (Take p d) → Follows h.got (Take p d) → LosesAtMost 0 w u
     → (o : Outcome) × Accepts w d o u × AcceptsOne a p o b → Served v u i b false
 serves_more v w u h i p d a b small s n f k one =
-    let g : i.got ≡ h.got ++ Take p d ∷ [] = ap (λ (y : Hand). y.got) n in
+    let g : i.got ≡ h.got ++ Take p d ∷ [] = ap (λ (y : ChannelView). y.got) n in
     let t = s.took refl in
     let o = one.0 in
     let x : Spot = (p, (d, o)) in
     let more : entries (t.log ++ x ∷ []) ≡ entries t.log ++ (d, o) ∷ [] = entries-append t.log (x ∷ []) in
     record {
       kept = loses_trans 0 0 0 v w u (omega arith) s.kept k;
-      hand = hand_next h i (Take p d) s.hand n;
+      one_part = one_part_next h i (Take p d) s.one_part n;
       rises = rises_next h i (Take p d) n f s.rises;
       took = λ _. record {
         log = t.log ++ x ∷ [];
@@ -132,11 +132,11 @@ serves_more v w u h i p d a b small s n f k one =
       };
     }
 
-pub serves_turn : (v w u : PassValue) (h i : Hand) (p : ℕ) (d : DrawopValue) (a b : Accepted) (failed r : Bool) → p < 2 ^ 32 → Served v w h a failed → i ≡ receives h (Take p d) → Follows h.got (Take p d) → LosesAtMost 0 w u
+pub serves_turn : (v w u : PassValue) (h i : ChannelView) (p : ℕ) (d : DrawopValue) (a b : Accepted) (failed r : Bool) → p < 2 ^ 32 → Served v w h a failed → i ≡ receives h (Take p d) → Follows h.got (Take p d) → LosesAtMost 0 w u
     → (r ≡ false → (failed ≡ false) × ((o : Outcome) × Accepts w d o u × AcceptsOne a p o b)) → Served v u i b r
 serves_turn v w u h i p d a b failed true small s n f k took = serves_failed v w u h i (Take p d) a b failed s n f k
 serves_turn v w u h i p d a b failed false small s n f k took =
     let t = took refl in serves_more v w u h i p d a b small (subst (λ (x : Bool). Served v w h a x) t.0 s) n f k t.1
 
-pub serves_same : (v w : PassValue) (h i : Hand) (a : Accepted) (failed : Bool) → Served v w h a failed → (i ≡ h) ⊎ (i ≡ receives h End) → Served v w i a failed
-serves_same v w h i a failed s e = ⊎_elim (λ (x : i ≡ h). subst (λ (y : Hand). Served v w y a failed) (sym x) s) (λ (x : i ≡ receives h End). serves_end v w h i a failed s x tt) e
+pub serves_same : (v w : PassValue) (h i : ChannelView) (a : Accepted) (failed : Bool) → Served v w h a failed → (i ≡ h) ⊎ (i ≡ receives h End) → Served v w i a failed
+serves_same v w h i a failed s e = ⊎_elim (λ (x : i ≡ h). subst (λ (y : ChannelView). Served v w y a failed) (sym x) s) (λ (x : i ≡ receives h End). serves_end v w h i a failed s x tt) e

@@ -9,7 +9,7 @@ use Rattle.wb_names.specs.History.{IsHistory, HoldsName}
 use Rattle.wb_names.specs.Arrivals.{Fresh, Known, Clashed, Left, Counts, counts, IsBatch}
 use Rattle.wb_history.specs.Passes.{PassValue, IsSound, IsWhole}
 use Rattle.wb_feed.specs.Accepts.{Entry, drawops, tally, Runs}
-use Rattle.wb_feed.specs.Line.{once_below}
+use Rattle.wb_feed.specs.Channel.{once_below}
 use Rattle.wb_feed.specs.Served.{is_left}
 use Rattle.wb_feed.proofs.Prefixes.{prefix_whole}
 use Rattle.wb_feed.proofs.Numbers.{times, few_below, all_below, IsPermutation-times, times-range}

@@ -7,13 +7,13 @@ use Rattle.wb_names.specs.Values.{DrawopValue}
 use Rattle.wb_history.specs.Passes.{PassValue}
 use Rattle.wb_history.specs.Sharing.{IsSplit}
 use Rattle.wb_feed.specs.Accepts.{LosesAtMost}
-use Rattle.wb_feed.specs.declared.line.Hand.{Hand}
+use Rattle.wb_feed.specs.declared.channel.ChannelView.{ChannelView}
 use Rattle.wb_feed.specs.declared.sender.Feeding.{Feeding}
 use Rattle.wb_feed.specs.declared.worker.Accepted.{Accepted}
 use Rattle.wb_feed.specs.declared.worker.Done.{Done}
 use Rattle.wb_feed.specs.declared.workers.WorkFault.{WorkFault}
 use Rattle.wb_feed.specs.declared.workers.WorkFault.TheVariants.{Start, Memory}
-use Rattle.wb_feed.specs.Line.{hand}
+use Rattle.wb_feed.specs.Channel.{channel_view}
 use Rattle.wb_feed.specs.Served.{entries, accepted_at, Spot, Serves, Tells, Served}
 use Rattle.wb_feed.specs.Sent.{IsDrawn}
 use Rattle.wb_feed.specs.Feeding.{IsWith, IsMerged, HasFed}
@@ -49,7 +49,7 @@ back_loses n m p rest back q desk done s l d b =
       rows = omega (arith, many, b.joined.free, l.rows, d.rows, s.rows, s.free, ap length same, ap length s.mine);
     }
 
-pub several_kept : (rows n m : ℕ) (p rest back q desk : PassValue) (d : Done) (j : Hand) (others r : Result Accepted WorkFault) → m ≡ suc n → IsSplit p rows rest desk → Served desk d.desk j d.accepted d.failed
+pub several_kept : (rows n m : ℕ) (p rest back q desk : PassValue) (d : Done) (j : ChannelView) (others r : Result Accepted WorkFault) → m ≡ suc n → IsSplit p rows rest desk → Served desk d.desk j d.accepted d.failed
     → LosesAtMost (most_lost (rows * n) others) rest back → TakesBack back d others q r → LosesAtMost (most_lost (rows * m) r) p q
 several_kept rows n m p rest back q desk d j others (Ok all) next s w l t =
     let none : most_lost (rows * n) others ≡ 0 = ap (most_lost (rows * n)) t.3 in
@@ -65,10 +65,10 @@ several_kept rows n m p rest back q desk d j others (Err Memory) next s w l t =
 
 -- ---- the feeding
 
-pub fed_none : {A X : Type 0} (given : A → List DrawopValue) (most : A → ℕ) (ended : A → Bool) (follows : A → A → Type 0) (f g : Feeding) (a : A) (r : Result X WorkFault) → g.line ≡ f.line → g.drawn.items ≡ f.drawn.items → follows a a → OnOk r (ended a ≡ true)
+pub fed_none : {A X : Type 0} (given : A → List DrawopValue) (most : A → ℕ) (ended : A → Bool) (follows : A → A → Type 0) (f g : Feeding) (a : A) (r : Result X WorkFault) → g.channel ≡ f.channel → g.drawn.items ≡ f.drawn.items → follows a a → OnOk r (ended a ≡ true)
     → HasFed given most ended follows f a g a r
-fed_none given most ended follows f g a r line drawn itself none = record {
-  line = line;
+fed_none given most ended follows f g a r channel drawn itself none = record {
+  channel = channel;
   drawn = subst (λ (l : List DrawopValue). IsDrawn (given a) (most a) f.drawn.items (given a) (most a) l) (sym drawn) (drawn_none (given a) (most a) f.drawn.items);
   source = itself;
   ended = none;
@@ -76,23 +76,23 @@ fed_none given most ended follows f g a r line drawn itself none = record {
 }
 
 -- the same, seen from where a pass was cut off until it was taken back
-fed_within : {A X Y : Type 0} (given : A → List DrawopValue) (most : A → ℕ) (ended : A → Bool) (follows : A → A → Type 0) (f f' g' g : Feeding) (v w : Hand) (a b : A) (o : Result X WorkFault) (r : Result Y WorkFault)
+fed_within : {A X Y : Type 0} (given : A → List DrawopValue) (most : A → ℕ) (ended : A → Bool) (follows : A → A → Type 0) (f f' g' g : Feeding) (v w : ChannelView) (a b : A) (o : Result X WorkFault) (r : Result Y WorkFault)
     → IsWith f v f' → HasFed given most ended follows f' a g' b o → IsWith g' w g → OnOk r (ended b ≡ true) → (r ≡ Err Start → o ≡ Err Start) → HasFed given most ended follows f a g b r
 fed_within given most ended follows f f' g' g v w a b o r cut h back ok start = record {
-  line = back.line ∙ (h.line ∙ cut.line);
+  channel = back.channel ∙ (h.channel ∙ cut.channel);
   drawn = subst (λ (l : List DrawopValue). IsDrawn (given a) (most a) f.drawn.items (given b) (most b) l) (sym (ap (λ k. k.items) back.drawn)) (subst (λ (l : List DrawopValue). IsDrawn (given a) (most a) l (given b) (most b) g'.drawn.items) (ap (λ k. k.items) cut.drawn) h.drawn);
   source = h.source;
   ended = ok;
   untouched = λ e. h.untouched (start e);
 }
 
-pub several_fed : {A : Type 0} (given : A → List DrawopValue) (most : A → ℕ) (ended : A → Bool) (follows : A → A → Type 0) (f f' g' g : Feeding) (v w : Hand) (a b : A) (p q : PassValue) (d : Done) (others r : Result Accepted WorkFault)
+pub several_fed : {A : Type 0} (given : A → List DrawopValue) (most : A → ℕ) (ended : A → Bool) (follows : A → A → Type 0) (f f' g' g : Feeding) (v w : ChannelView) (a b : A) (p q : PassValue) (d : Done) (others r : Result Accepted WorkFault)
     → IsWith f v f' → HasFed given most ended follows f' a g' b others → IsWith g' w g → TakesBack p d others q r → HasFed given most ended follows f a g b r
 several_fed given most ended follows f f' g' g v w a b p q d others (Ok all) cut h back t = fed_within given most ended follows f f' g' g v w a b others (Ok all) cut h back (subst (λ o. OnOk o (ended b ≡ true)) t.3 h.ended) (λ e. absurd (cc (e)))
 several_fed given most ended follows f f' g' g v w a b p q d others (Err Start) cut h back t = fed_within given most ended follows f f' g' g v w a b others (Err Start) cut h back tt (λ e. t.0)
 several_fed given most ended follows f f' g' g v w a b p q d others (Err Memory) cut h back t = fed_within given most ended follows f f' g' g v w a b others (Err Memory) cut h back tt (λ e. absurd (cc (e)))
 
-pub one_fed : {A : Type 0} (given : A → List DrawopValue) (most : A → ℕ) (ended : A → Bool) (follows : A → A → Type 0) (f f' g' g : Feeding) (v w : Hand) (a b : A) (q : PassValue) (d : Done) (fed r : Result Accepted WorkFault)
+pub one_fed : {A : Type 0} (given : A → List DrawopValue) (most : A → ℕ) (ended : A → Bool) (follows : A → A → Type 0) (f f' g' g : Feeding) (v w : ChannelView) (a b : A) (q : PassValue) (d : Done) (fed r : Result Accepted WorkFault)
     → IsWith f v f' → HasFed given most ended follows f' a g' b fed → IsWith g' w g → ComesBack d fed q r → HasFed given most ended follows f a g b r
 one_fed given most ended follows f f' g' g v w a b q d fed (Ok all) cut h back t = fed_within given most ended follows f f' g' g v w a b fed (Ok all) cut h back (subst (λ o. OnOk o (ended b ≡ true)) t.4 h.ended) (λ e. absurd (cc (e)))
 one_fed given most ended follows f f' g' g v w a b q d fed (Err Start) cut h back t = fed_within given most ended follows f f' g' g v w a b fed (Err Start) cut h back tt (λ e. t.1)
@@ -110,7 +110,7 @@ tells_sum s t u xs ys a b e =
       positions = e.positions ∙ (ap (λ l. l ++ t.positions.items) a.positions ∙ (ap (λ l. accepted_at xs ++ l) b.positions ∙ sym (accepted-append xs ys)));
     }
 
-pub nobody_worked : (rows n : ℕ) (p : PassValue) (g h : Hand) (a : Accepted) → n ≡ 0 → h.parts ≡ g.parts → h.got ≡ g.got → Tells a [] → Worked (λ log gots. Workers rows n p log gots p) n g h a
+pub nobody_worked : (rows n : ℕ) (p : PassValue) (g h : ChannelView) (a : Accepted) → n ≡ 0 → h.parts ≡ g.parts → h.got ≡ g.got → Tells a [] → Worked (λ log gots. Workers rows n p log gots p) n g h a
 nobody_worked rows n p g h a none parts got t = record {
   log = [];
   gots = [];
@@ -122,7 +122,7 @@ nobody_worked rows n p g h a none parts got t = record {
 }
 
 pub several_worked : (rows n m : ℕ) (p rest back q desk : PassValue) (d : Done) (f f' g' g : Feeding) (others r : Result Accepted WorkFault) → m ≡ suc n → 1 < (view f.pass).parts → IsSplit p rows rest desk
-    → IsWith f (hand ((view f.pass).parts - 1) (view f.pass).sends (view f.pass).sent (view f.pass).got) f' → Served desk d.desk (view d.pass) d.accepted d.failed
+    → IsWith f (channel_view ((view f.pass).parts - 1) (view f.pass).sends (view f.pass).sent (view f.pass).got) f' → Served desk d.desk (view d.pass) d.accepted d.failed
     → IfOk others (Worked (λ log gots. Workers rows n rest log gots back) n (view f'.pass) (view g'.pass)) → IsMerged g' (view d.pass) g → TakesBack back d others q r
     → IfOk r (Worked (λ log gots. Workers rows m p log gots q) m (view f.pass) (view g.pass))
 several_worked rows n m p rest back q desk d f f' g' g others (Err e) next some s cut served w merged t = tt
@@ -135,14 +135,14 @@ several_worked rows n m p rest back q desk d f f' g' g others (Ok all) next some
       log = k.log ++ o.log;
       gots = o.gots ++ got;
       did = subst (λ (x : ℕ). Workers rows x p (k.log ++ o.log) (o.gots ++ got) q) (sym next) (worker k.log o.log got o.gots s k.serves o.did t.1);
-      got = ap (λ (z : Hand). z.got) merged.view ∙ (ap (λ l. l ++ got) (o.got ∙ ap (λ (z : Hand). z.got ++ o.gots) cut.view) ∙ append_assoc (view f.pass).got o.gots got);
-      parts = omega (arith, ap (λ (z : Hand). z.parts) merged.view, o.parts, ap (λ (z : Hand). z.parts) cut.view, ap (λ (z : Hand). z.parts) served.hand, some);
+      got = ap (λ (z : ChannelView). z.got) merged.view ∙ (ap (λ l. l ++ got) (o.got ∙ ap (λ (z : ChannelView). z.got ++ o.gots) cut.view) ∙ append_assoc (view f.pass).got o.gots got);
+      parts = omega (arith, ap (λ (z : ChannelView). z.parts) merged.view, o.parts, ap (λ (z : ChannelView). z.parts) cut.view, ap (λ (z : ChannelView). z.parts) served.one_part, some);
       tells = tells_sum d.accepted t.2 all k.log o.log k.tells o.tells sum;
       few = omega (arith, sum.fresh, sum.again, sum.clash, k.few, o.few, next);
     }
 
 pub one_worked : (p q : PassValue) (d : Done) (f f' g' g : Feeding) (fed r : Result Accepted WorkFault) → 1 < (view f.pass).parts
-    → IsWith f (hand ((view f.pass).parts - 1) (view f.pass).sends (view f.pass).sent (view f.pass).got) f' → Served p d.desk (view d.pass) d.accepted d.failed
+    → IsWith f (channel_view ((view f.pass).parts - 1) (view f.pass).sends (view f.pass).sent (view f.pass).got) f' → Served p d.desk (view d.pass) d.accepted d.failed
     → ((view g'.pass).parts ≡ (view f'.pass).parts) × ((view g'.pass).got ≡ (view f'.pass).got) → IsMerged g' (view d.pass) g → ComesBack d fed q r
     → IfOk r (Worked (λ log gots. Serves p log gots q) 1 (view f.pass) (view g.pass))
 one_worked p q d f f' g' g fed (Err e) some cut served same merged t = tt
@@ -153,14 +153,14 @@ one_worked p q d f f' g' g fed (Ok all) some cut served same merged t =
       log = k.log;
       gots = got;
       did = k.serves;
-      got = ap (λ (z : Hand). z.got) merged.view ∙ ap (λ l. l ++ got) (same.1 ∙ ap (λ (z : Hand). z.got) cut.view);
-      parts = omega (arith, ap (λ (z : Hand). z.parts) merged.view, same.0, ap (λ (z : Hand). z.parts) cut.view, ap (λ (z : Hand). z.parts) served.hand, some);
+      got = ap (λ (z : ChannelView). z.got) merged.view ∙ ap (λ l. l ++ got) (same.1 ∙ ap (λ (z : ChannelView). z.got) cut.view);
+      parts = omega (arith, ap (λ (z : ChannelView). z.parts) merged.view, same.0, ap (λ (z : ChannelView). z.parts) cut.view, ap (λ (z : ChannelView). z.parts) served.one_part, some);
       tells = k.tells;
       few = omega (arith, k.few);
     } in
     subst (λ (x : PassValue × Accepted). Worked (λ log gots. Serves p log gots x.0) 1 (view f.pass) (view g.pass) x.1) (λ i. (sym t.0 i, sym t.2 i)) done
 
-pub one_kept : (p q : PassValue) (d : Done) (j : Hand) (fed r : Result Accepted WorkFault) → Served p d.desk j d.accepted d.failed → ComesBack d fed q r → LosesAtMost 0 p q
+pub one_kept : (p q : PassValue) (d : Done) (j : ChannelView) (fed r : Result Accepted WorkFault) → Served p d.desk j d.accepted d.failed → ComesBack d fed q r → LosesAtMost 0 p q
 one_kept p q d j fed (Ok all) s t = subst (λ (x : PassValue). LosesAtMost 0 p x) (sym t.0) s.kept
 one_kept p q d j fed (Err Start) s t = subst (λ (x : PassValue). LosesAtMost 0 p x) (sym t.0) s.kept
 one_kept p q d j fed (Err Memory) s t = subst (λ (x : PassValue). LosesAtMost 0 p x) (sym t) s.kept
@@ -174,6 +174,6 @@ pub refused_back : (P : Accepted → Type 0) (p : PassValue) (d : Done) (q : Pas
 refused_back P p d q f (Ok all) t = absurd (cc (t.3))
 refused_back P p d q f (Err e) t = tt
 
-pub nobody_all : (rows n : ℕ) (p : PassValue) (g h : Hand) (r : Result Accepted WorkFault) → n ≡ 0 → (h.parts ≡ g.parts) × (h.got ≡ g.got) → IfOk r (λ a. Tells a []) → IfOk r (Worked (λ log gots. Workers rows n p log gots p) n g h)
+pub nobody_all : (rows n : ℕ) (p : PassValue) (g h : ChannelView) (r : Result Accepted WorkFault) → n ≡ 0 → (h.parts ≡ g.parts) × (h.got ≡ g.got) → IfOk r (λ a. Tells a []) → IfOk r (Worked (λ log gots. Workers rows n p log gots p) n g h)
 nobody_all rows n p g h (Ok a) none same t = nobody_worked rows n p g h a none same.0 same.1 t
 nobody_all rows n p g h (Err e) none same t = tt

@@ -6,7 +6,7 @@ use Rattle.wb_names.specs.History.{HoldsName}
 use Rattle.wb_names.specs.Arrivals.{Counts, counts, IsBatch}
 use Rattle.wb_history.specs.Passes.{PassValue, IsWhole}
 use Rattle.wb_feed.specs.declared.batch.Batch.{Batch}
-use Rattle.wb_feed.specs.declared.message.Message.{Message}
+use Rattle.wb_feed.specs.declared.channel.Message.{Message}
 use Rattle.wb_feed.specs.declared.worker.Accepted.{Accepted}
 use Rattle.wb_feed.specs.Accepts.{Entry, Runs, drawops}
 use Rattle.wb_feed.specs.Marks.{Marks, unmarked}

@@ -2,23 +2,23 @@
 use Rattle.std.specs.Prelude.{◌≡◌, ℕ, ◌+◌, ◌<◌, Bool, true, List, [], ◌++◌, Result, Err, OnOk}
 use Rattle.crossbeam_channel.specs.Claims.{view}
 use Rattle.wb_names.specs.Values.{DrawopValue}
-use Rattle.wb_feed.specs.declared.line.Hand.{Hand}
+use Rattle.wb_feed.specs.declared.channel.ChannelView.{ChannelView}
 use Rattle.wb_feed.specs.declared.sender.Feeding.{Feeding}
 use Rattle.wb_feed.specs.declared.workers.WorkFault.{WorkFault}
 use Rattle.wb_feed.specs.declared.workers.WorkFault.TheVariants.{Start}
-use Rattle.wb_feed.specs.Line.{hand}
+use Rattle.wb_feed.specs.Channel.{channel_view}
 use Rattle.wb_feed.specs.Sent.{IsDrawn}
 
 -- the same, but that the pass knows v
-pub record IsWith (f : Feeding) (v : Hand) (g : Feeding) : Type 0 where
-  pub line : g.line ≡ f.line
+pub record IsWith (f : Feeding) (v : ChannelView) (g : Feeding) : Type 0 where
+  pub channel : g.channel ≡ f.channel
   pub drawn : g.drawn ≡ f.drawn
   pub going : g.going ≡ f.going
   pub view : view g.pass ≡ v
 
 -- the pass took another in, which knows w
-abbrev pub IsMerged : Feeding → Hand → Feeding → Type 0
-IsMerged f w g = let v = view f.pass in IsWith f (hand (v.parts + w.parts) v.sends v.sent (v.got ++ w.got)) g
+abbrev pub IsMerged : Feeding → ChannelView → Feeding → Type 0
+IsMerged f w g = let v = view f.pass in IsWith f (channel_view (v.parts + w.parts) v.sends v.sent (v.got ++ w.got)) g
 
 -- nothing was drawn or sent, and more than so many passes may be cut off
 pub record IsReady (workers : ℕ) (f : Feeding) : Type 0 where
@@ -30,7 +30,7 @@ pub record IsReady (workers : ℕ) (f : Feeding) : Type 0 where
 -- The source a was fed from, is b since, and r was answered: a is as it was where no thread could be started, and b has ended where
 -- all went well. What a source is told by is its trait's
 pub record HasFed {A X : Type 0} (given : A → List DrawopValue) (most : A → ℕ) (has_ended : A → Bool) (follows : A → A → Type 0) (f : Feeding) (a : A) (g : Feeding) (b : A) (r : Result X WorkFault) : Type 0 where
-  pub line : g.line ≡ f.line
+  pub channel : g.channel ≡ f.channel
   pub drawn : IsDrawn (given a) (most a) f.drawn.items (given b) (most b) g.drawn.items
   pub source : follows a b
   pub ended : OnOk r (has_ended b ≡ true)

@@ -1,6 +1,6 @@
 pub mod Faults
 pub mod Accepts
-pub mod Line
+pub mod Channel
 pub mod Sent
 pub mod Served
 pub mod Feeding
@@ -8,3 +8,4 @@ pub mod Workers
 pub mod Marks
 pub mod Batches
 pub mod Relays
+pub mod Calls

@@ -2,17 +2,17 @@
 use Rattle.std.specs.Prelude.{◌≡◌, ℕ, ◌+◌, ◌<◌, ◌≤◌, Bool, true, List, [], ◌∷◌, ◌++◌, length, take, Option, Some, None, Result, Ok, Err}
 use Rattle.std.specs.declared.alloc.AllocError.{AllocError}
 use Rattle.wb_names.specs.Values.{DrawopValue}
-use Rattle.wb_feed.specs.declared.message.Message.{Message}
-use Rattle.wb_feed.specs.declared.message.Message.TheVariants.{Take, End}
-use Rattle.wb_feed.specs.declared.line.Hand.{Hand}
+use Rattle.wb_feed.specs.declared.channel.Message.{Message}
+use Rattle.wb_feed.specs.declared.channel.Message.TheVariants.{Take, End}
+use Rattle.wb_feed.specs.declared.channel.ChannelView.{ChannelView}
 
 -- the message may be sent next
 abbrev pub IsNext : List DrawopValue → Message → Type 0
 IsNext sent (Take p d) = p ≡ length sent
 IsNext sent End = Unit {0}
 
--- what was sent are the first of the drawops drawn, and all of them while the line is open
-pub record IsSent (h : Hand) (drawn : List DrawopValue) (going : Bool) : Type 0 where
+-- what was sent are the first of the drawops drawn, and all of them while the channel is open
+pub record IsSent (h : ChannelView) (drawn : List DrawopValue) (going : Bool) : Type 0 where
   pub sends : h.sends ≡ true
   pub first : take (length h.sent) drawn ≡ h.sent
   pub all : going ≡ true → h.sent ≡ drawn

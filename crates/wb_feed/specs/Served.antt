@@ -4,11 +4,11 @@ use Rattle.wb_names.specs.Values.{DrawopValue}
 use Rattle.wb_names.specs.Arrivals.{Outcome, Fresh, Known, Clashed, Left, counts_of}
 use Rattle.wb_history.specs.Passes.{PassValue}
 use Rattle.wb_feed.specs.Accepts.{Entry, LosesAtMost, Runs, tally}
-use Rattle.wb_feed.specs.declared.message.Message.{Message}
-use Rattle.wb_feed.specs.declared.message.Message.TheVariants.{Take, End}
-use Rattle.wb_feed.specs.declared.line.Hand.{Hand}
+use Rattle.wb_feed.specs.declared.channel.Message.{Message}
+use Rattle.wb_feed.specs.declared.channel.Message.TheVariants.{Take, End}
+use Rattle.wb_feed.specs.declared.channel.ChannelView.{ChannelView}
 use Rattle.wb_feed.specs.declared.worker.Accepted.{Accepted}
-use Rattle.wb_feed.specs.Line.{hand}
+use Rattle.wb_feed.specs.Channel.{channel_view}
 
 abbrev pub is_left : Outcome → Bool
 is_left (Fresh i) = false
@@ -69,8 +69,8 @@ pub record TookAll (p q : PassValue) (got : List Message) (a : Accepted) : Type 
   pub tells : Tells a log
   pub few : (a.fresh + a.again) + a.clash ≤ 2 ^ 32
 
-pub record Served (p q : PassValue) (h : Hand) (a : Accepted) (failed : Bool) : Type 0 where
+pub record Served (p q : PassValue) (h : ChannelView) (a : Accepted) (failed : Bool) : Type 0 where
   pub kept : LosesAtMost 0 p q
-  pub hand : h ≡ hand 1 false [] h.got
+  pub one_part : h ≡ channel_view 1 false [] h.got
   pub rises : Rises 0 (takes h.got)
   pub took : failed ≡ false → TookAll p q h.got a

@@ -2,8 +2,8 @@
 use Rattle.std.specs.Prelude.{◌≡◌, ◌⊎◌, ℕ, zero, suc, ◌+◌, ◌*◌, ◌/◌, ◌^◌, ◌<◌, ◌≤◌, false, if◌then◌else◌, nat_eq, List, [], ◌++◌, Result, Ok, Err}
 use Rattle.wb_history.specs.Passes.{PassValue, IsSamePass}
 use Rattle.wb_history.specs.Sharing.{IsSplit, IsJoined}
-use Rattle.wb_feed.specs.declared.message.Message.{Message}
-use Rattle.wb_feed.specs.declared.line.Hand.{Hand}
+use Rattle.wb_feed.specs.declared.channel.Message.{Message}
+use Rattle.wb_feed.specs.declared.channel.ChannelView.{ChannelView}
 use Rattle.wb_feed.specs.declared.worker.Accepted.{Accepted}
 use Rattle.wb_feed.specs.declared.worker.Done.{Done}
 use Rattle.wb_feed.specs.declared.workers.WorkFault.{WorkFault}
@@ -42,7 +42,7 @@ abbrev pub AreFew : ℕ → Accepted → Type 0
 AreFew n a = (a.fresh + a.again) + a.clash ≤ n * 2 ^ 32
 
 -- What n workers did is counted in a. The pass h of the channel has what they received, and the parts that g had
-pub record Worked (Did : List Spot → List Message → Type 0) (n : ℕ) (g h : Hand) (a : Accepted) : Type 0 where
+pub record Worked (Did : List Spot → List Message → Type 0) (n : ℕ) (g h : ChannelView) (a : Accepted) : Type 0 where
   pub log : List Spot
   pub gots : List Message
   pub did : Did log gots

@@ -26,7 +26,7 @@ fn give_back(
     done: Done,
     fed: Result<Accepted, WorkFault>,
 ) -> (Desk, Result<Accepted, WorkFault>)
-    requires seat { IsSeatAt (sends_on feeding.old.line) done.pass }
+    requires seat { IsSeatAt (sends_on feeding.old.channel) done.pass }
     ensures pass { IsMerged feeding.old (view done.pass) feeding.new }
     ensures back { ComesBack done fed result.0 result.1 }
 {
@@ -54,7 +54,7 @@ fn work_with<'s, 'e: 's, R: Threads + Wait + Sync, S: Arrivals, G: Gate + Sync>(
     arrivals: &mut S,
 ) -> (Desk, Result<Accepted, WorkFault>)
     requires desk { IsPassOf place.board.now desk }
-    requires channel { receives_on place.end.now ≡ sends_on feeding.old.line }
+    requires channel { receives_on place.end.now ≡ sends_on feeding.old.channel }
     requires ready { IsReady 1 feeding.old }
     requires few { S.most_to_come arrivals.old < 2 ^ 32 }
     ensures kept { LosesAtMost 0 desk result.0 }
@@ -109,7 +109,7 @@ pub(crate) fn run_one<'s, 'e: 's, R: Threads + Wait + Sync, S: Arrivals, G: Gate
     arrivals: &mut S,
 ) -> Result<Accepted, WorkFault>
     requires root { IsPassOf place.board.now root.old }
-    requires channel { receives_on place.end.now ≡ sends_on feeding.old.line }
+    requires channel { receives_on place.end.now ≡ sends_on feeding.old.channel }
     requires ready { IsReady 1 feeding.old }
     requires few { S.most_to_come arrivals.old < 2 ^ 32 }
     ensures kept { LosesAtMost 0 root.old root.new }

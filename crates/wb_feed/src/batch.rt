@@ -6,17 +6,16 @@ ghost use Rattle.crossbeam_channel.specs.Ends.{sends_on, receives_on};
 ghost use Rattle.wb_names.specs.Arrivals.{Outcome};
 ghost use Rattle.wb_history.specs.Passes.{IsPassOf};
 ghost use Rattle.wb_feed.specs.Accepts.{Keeps, LosesAtMost, Accepts};
-ghost use Rattle.wb_feed.specs.Line.{hand};
+ghost use Rattle.wb_feed.specs.Channel.{channel_view};
 ghost use Rattle.wb_feed.specs.Marks.{unmarked, Marks, Retakes, CountsOne};
 ghost use Rattle.wb_feed.specs.Feeding.{HasFed};
 ghost use Rattle.wb_feed.specs.Workers.{handed_out, most_lost};
 ghost use Rattle.wb_feed.specs.Batches.{Takes, TakesMore, IsShared, SharesMore, IsTotal};
 
 use crate::arrivals::Arrivals;
+use crate::channel::{ChannelView, EachOnce, Message};
 use crate::fault::FeedFault;
 use crate::gate::Gate;
-use crate::line::{EachOnce, Hand};
-use crate::message::Message;
 use crate::place::Place;
 use crate::sender::Feeding;
 use crate::worker::Accepted;
@@ -90,8 +89,9 @@ pub fn run_batch<R: Threads + Wait + Sync, S: Arrivals, G: Gate + Sync>(
     if workers == 0 || workers > 8 {
         return Err(FeedFault::Workers);
     }
-    let Ok((line, end, pass)) = bounded_with::<Message, Hand, EachOnce, Global>(alloc, CAPACITY)
-    else {
+    let Ok((channel, end, pass)) = bounded_with::<Message, ChannelView, EachOnce, Global>(
+        alloc, CAPACITY,
+    ) else {
         return Err(FeedFault::Memory);
     };
     // For the proof alone: what is still to come is a number of 32 bits.
@@ -104,7 +104,7 @@ pub fn run_batch<R: Threads + Wait + Sync, S: Arrivals, G: Gate + Sync>(
         gate,
         workers,
     };
-    let mut feeding = Feeding::new(alloc, line, pass);
+    let mut feeding = Feeding::new(alloc, channel, pass);
     match take_batch(place, desk, &mut feeding, arrivals) {
         Ok(batch) => Ok(batch),
         Err(WorkFault::Start) => Err(FeedFault::Start),
@@ -121,8 +121,8 @@ fn take_batch<R: Threads + Wait + Sync, S: Arrivals, G: Gate + Sync>(
 ) -> Result<Batch, WorkFault>
     requires desk { IsPassOf place.board.now desk.old }
     requires workers { (0 < place.workers) × (place.workers ≤ 8) }
-    requires channel { receives_on place.end.now ≡ sends_on feeding.old.line }
-    requires first { (view feeding.old.pass ≡ hand 16 true [] []) × (feeding.old.drawn.items ≡ []) × (feeding.old.going ≡ true) }
+    requires channel { receives_on place.end.now ≡ sends_on feeding.old.channel }
+    requires first { (view feeding.old.pass ≡ channel_view 16 true [] []) × (feeding.old.drawn.items ≡ []) × (feeding.old.going ≡ true) }
     requires few { S.most_to_come arrivals.old < 2 ^ 32 }
     ensures kept { LosesAtMost (most_lost (handed_out place.entry.workers desk.old.free) result) desk.old desk.new }
     ensures fed { HasFed S.given S.most_to_come S.has_ended S.follows feeding.old arrivals.old feeding.new arrivals.new result }

@@ -13,16 +13,16 @@
 //!
 //! In reading order: where drawops come from (`arrivals`) and what is called round each accept (`gate`);
 //! the call (`batch`), its workers (`workers`) or the one (`alone`), what each does (`worker`) and where (`place`), and the
-//! sender's part (`sender`); the channel (`line`) with its messages (`message`); and `relays`.
+//! sender's part (`sender`); the `channel` with its messages; `relays`; and what a batch told (`laws`).
 #![tactic(auto)]
 
 mod alone;
 mod arrivals;
 mod batch;
+mod channel;
 mod fault;
 mod gate;
-mod line;
-mod message;
+pub mod laws;
 mod place;
 mod relays;
 mod sender;

@@ -1,16 +1,16 @@
 //! Where a batch is at work.
 
-use crate::line::LineEnd;
+use crate::channel::ChannelReceiver;
 use std::alloc::{AllocError, Global};
 use wb_host::Board;
 
-/// What all threads of a batch share: the handle, the allocator, the board, the end of the line that they
+/// What all threads of a batch share: the handle, the allocator, the board, the end of the channel that they
 /// receive by, what is called round each accept, and how many workers there are.
 pub(crate) struct Place<'e, R, G> {
     pub(crate) rt: &'e R,
     pub(crate) alloc: Global,
     pub(crate) board: &'e Board,
-    pub(crate) end: &'e LineEnd,
+    pub(crate) end: &'e ChannelReceiver,
     pub(crate) gate: &'e G,
     pub(crate) workers: u32,
 }

@@ -2,25 +2,24 @@
 ghost use Rattle.std.specs.Prelude.{◌≡◌, ◌+◌, ◌-◌, ◌<◌, ◌^◌, true, false, [], OnOk, length};
 ghost use Rattle.crossbeam_channel.specs.Claims.{view, IsSeatAt};
 ghost use Rattle.crossbeam_channel.specs.Ends.{sends_on};
-ghost use Rattle.wb_feed.specs.Line.{hand, sends, IsComplete};
+ghost use Rattle.wb_feed.specs.Channel.{channel_view, sends, IsComplete};
 ghost use Rattle.wb_feed.specs.Sent.{IsNext, IsSent, Draws, IsDrawn};
 
 use crate::arrivals::Arrivals;
-use crate::line::{Cut, Line, LinePass, Sends, Whole};
-use crate::message::Message;
+use crate::channel::{ChannelPass, ChannelSender, Cut, Message, Sends, Whole};
 use std::alloc::{AllocError, Global};
 use std::sync::Wait;
 use wb_names::Drawop;
 
-/// How far a batch has got: the line and what is known of it, and what was drawn so far.
+/// How far a batch has got: the channel and what is known of it, and what was drawn so far.
 #[derive(Drop)]
 pub(crate) struct Feeding {
-    pub(crate) line: Line,
-    pub(crate) pass: LinePass,
+    pub(crate) channel: ChannelSender,
+    pub(crate) pass: ChannelPass,
     pub(crate) drawn: Vec<Drawop>,
-    /// Whether the line is open: no message was handed back.
+    /// Whether the channel is open: no message was handed back.
     pub(crate) going: bool,
-    ghost seat: { IsSeatAt (sends_on line) pass },
+    ghost seat: { IsSeatAt (sends_on channel) pass },
     ghost sent: { IsSent (view pass) drawn.items going },
 }
 
@@ -28,15 +27,15 @@ impl Feeding {
     ghost use Rattle.wb_feed.specs.Feeding.{IsWith, IsMerged};
 
     /// Nothing was drawn yet. It takes no memory.
-    pub(crate) fn new(alloc: Global, line: Line, pass: LinePass) -> Feeding
-        requires seat { IsSeatAt (sends_on line) pass }
-        requires first { view pass ≡ hand 16 true [] [] }
-        ensures line { result.line ≡ line }
+    pub(crate) fn new(alloc: Global, channel: ChannelSender, pass: ChannelPass) -> Feeding
+        requires seat { IsSeatAt (sends_on channel) pass }
+        requires first { view pass ≡ channel_view 16 true [] [] }
+        ensures channel { result.channel ≡ channel }
         ensures pass { result.pass ≡ pass }
         ensures open { (result.drawn.items ≡ []) × (result.going ≡ true) }
     {
         Feeding {
-            line,
+            channel,
             pass,
             drawn: Vec::new(alloc),
             going: true,
@@ -50,44 +49,44 @@ impl Feeding {
         arrivals: &mut S,
     ) -> Result<(), AllocError>
         requires few { length self.old.drawn.items + S.most_to_come arrivals.old < 2 ^ 32 }
-        ensures line { self.new.line ≡ self.old.line }
+        ensures channel { self.new.channel ≡ self.old.channel }
         ensures same { ((view self.new.pass).parts ≡ (view self.old.pass).parts) × ((view self.new.pass).got ≡ (view self.old.pass).got) }
         ensures drawn { IsDrawn (S.given arrivals.old) (S.most_to_come arrivals.old) self.old.drawn.items (S.given arrivals.new) (S.most_to_come arrivals.new) self.new.drawn.items }
         ensures ended { OnOk result (S.has_ended arrivals.new ≡ true) }
         ensures source { S.follows arrivals.old arrivals.new }
     {
         while let Some(message) = draw_one(arrivals, &mut self.drawn)? {
-            self.going = send_one(rt, &self.line, &mut self.pass, self.going, message);
+            self.going = send_one(rt, &self.channel, &mut self.pass, self.going, message);
         }
         Ok(())
     }
 
     /// Sends an end message for each of so many workers.
     pub(crate) fn end_all<R: Wait>(&mut self, rt: &R, workers: u32)
-        ensures line { self.new.line ≡ self.old.line }
+        ensures channel { self.new.channel ≡ self.old.channel }
         ensures drawn { self.new.drawn ≡ self.old.drawn }
         ensures pass { view self.new.pass ≡ view self.old.pass }
     {
         for _ in 0..workers {
-            self.going = send_one(rt, &self.line, &mut self.pass, self.going, Message::End);
+            self.going = send_one(rt, &self.channel, &mut self.pass, self.going, Message::End);
         }
     }
 
     /// Cuts off a pass for a worker.
-    pub(crate) fn cut(&mut self) -> LinePass
+    pub(crate) fn cut(&mut self) -> ChannelPass
         requires { 1 < (view self.old.pass).parts }
-        ensures theirs { IsSeatAt (sends_on self.old.line) result × (view result ≡ hand 1 false [] []) }
-        ensures left { let v = view self.old.pass in IsWith self.old (hand (v.parts - 1) v.sends v.sent v.got) self.new }
+        ensures theirs { IsSeatAt (sends_on self.old.channel) result × (view result ≡ channel_view 1 false [] []) }
+        ensures left { let v = view self.old.pass in IsWith self.old (channel_view (v.parts - 1) v.sends v.sent v.got) self.new }
     {
-        self.line.another::<Cut>(&mut self.pass)
+        self.channel.another::<Cut>(&mut self.pass)
     }
 
     /// Takes a worker's pass back.
-    pub(crate) fn absorb(&mut self, theirs: LinePass)
-        requires { IsSeatAt (sends_on self.old.line) theirs }
+    pub(crate) fn absorb(&mut self, theirs: ChannelPass)
+        requires { IsSeatAt (sends_on self.old.channel) theirs }
         ensures { IsMerged self.old (view theirs) self.new }
     {
-        self.line.absorb::<Cut>(&mut self.pass, theirs);
+        self.channel.absorb::<Cut>(&mut self.pass, theirs);
     }
 
     /// Learns that all passes are back, so that the first drawops sent were received, each once. It is a
@@ -97,7 +96,7 @@ impl Feeding {
         ensures all { IsComplete (view self.old.pass) }
         ensures same { IsWith self.old (view self.old.pass) self.new }
     {
-        self.line.learn_as::<Whole>(&mut self.pass);
+        self.channel.learn_as::<Whole>(&mut self.pass);
     }
 }
 
@@ -119,25 +118,25 @@ fn draw_one<S: Arrivals>(
     Ok(Some(Message::Take(position, drawop)))
 }
 
-/// Sends the message while the line is open. Answers whether it is still open.
+/// Sends the message while the channel is open. Answers whether it is still open.
 fn send_one<R: Wait>(
     rt: &R,
-    line: &Line,
-    pass: &mut LinePass,
+    channel: &ChannelSender,
+    pass: &mut ChannelPass,
     going: bool,
     message: Message,
 ) -> bool
-    requires seat { IsSeatAt (sends_on line.now) pass.old }
+    requires seat { IsSeatAt (sends_on channel.now) pass.old }
     requires sender { (view pass.old).sends ≡ true }
     requires next { going ≡ true → IsNext (view pass.old).sent message }
-    ensures seat { IsSeatAt (sends_on line.now) pass.new }
+    ensures seat { IsSeatAt (sends_on channel.now) pass.new }
     ensures sent { result ≡ true → (going ≡ true) × (view pass.new ≡ sends (view pass.old) message) }
     ensures closed { result ≡ false → view pass.new ≡ view pass.old }
 {
     if !going {
         return false;
     }
-    match line.send_as::<Sends, R>(rt, pass, message) {
+    match channel.send_as::<Sends, R>(rt, pass, message) {
         Ok(()) => true,
         Err(_) => false,
     }

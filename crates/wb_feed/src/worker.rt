@@ -4,14 +4,13 @@ ghost use Rattle.crossbeam_channel.specs.Claims.{view, IsSeatAt};
 ghost use Rattle.crossbeam_channel.specs.Ends.{receives_on};
 ghost use Rattle.wb_names.specs.Arrivals.{Outcome};
 ghost use Rattle.wb_history.specs.Passes.{IsPassOf};
-ghost use Rattle.wb_feed.specs.declared.message.Message.TheVariants.{Take, End};
+ghost use Rattle.wb_feed.specs.declared.channel.Message.TheVariants.{Take, End};
 ghost use Rattle.wb_feed.specs.Accepts.{LosesAtMost, Accepts, outcome};
-ghost use Rattle.wb_feed.specs.Line.{hand, receives, Follows};
+ghost use Rattle.wb_feed.specs.Channel.{channel_view, receives, Follows};
 ghost use Rattle.wb_feed.specs.Served.{AcceptsOne, Served};
 
+use crate::channel::{ChannelPass, ChannelReceiver, Message, Receives};
 use crate::gate::Gate;
-use crate::line::{LineEnd, LinePass, Receives};
-use crate::message::Message;
 use crate::place::Place;
 use std::alloc::{AllocError, Global};
 use std::sync::Wait;
@@ -79,7 +78,7 @@ impl Accepted {
 #[derive(Drop)]
 pub(crate) struct Done {
     pub(crate) desk: Desk,
-    pub(crate) pass: LinePass,
+    pub(crate) pass: ChannelPass,
     pub(crate) accepted: Accepted,
     /// Whether a growth was refused. From then on nothing was accepted.
     pub(crate) failed: bool,
@@ -110,15 +109,19 @@ fn accept_one(
 }
 
 /// The next arrival. None at the end message, and where the channel gives no more.
-fn next_arrival<R: Wait>(rt: &R, line: &LineEnd, pass: &mut LinePass) -> Option<(u32, Drawop)>
-    requires seat { IsSeatAt (receives_on line.now) pass.old }
+fn next_arrival<R: Wait>(
+    rt: &R,
+    channel: &ChannelReceiver,
+    pass: &mut ChannelPass,
+) -> Option<(u32, Drawop)>
+    requires seat { IsSeatAt (receives_on channel.now) pass.old }
     requires part { 0 < (view pass.old).parts }
-    ensures seat { IsSeatAt (receives_on line.now) pass.new }
+    ensures seat { IsSeatAt (receives_on channel.now) pass.new }
     ensures some { IfSome result (λ r. (view pass.new ≡ receives (view pass.old) (Take r.0 r.1)) × Follows (view pass.old).got (Take r.0 r.1)) }
     ensures small { IfSome result (λ r. r.0 < 2 ^ 32) }
     ensures none { IfNone result ((view pass.new ≡ view pass.old) ⊎ (view pass.new ≡ receives (view pass.old) End)) }
 {
-    let Ok(message) = line.recv_as::<Receives, R>(rt, pass) else {
+    let Ok(message) = channel.recv_as::<Receives, R>(rt, pass) else {
         return None;
     };
     match message {
@@ -159,11 +162,11 @@ fn take_turn<R, G: Gate>(
 pub(crate) fn serve<R: Wait, G: Gate>(
     place: Place<R, G>,
     desk: Desk,
-    pass: LinePass,
+    pass: ChannelPass,
     worker: u32,
 ) -> Done
     requires desk { IsPassOf place.board.now desk }
-    requires seat { IsSeatAt (receives_on place.end.now) pass × (view pass ≡ hand 1 false [] []) }
+    requires seat { IsSeatAt (receives_on place.end.now) pass × (view pass ≡ channel_view 1 false [] []) }
     ensures seat { IsSeatAt (receives_on place.entry.end.now) result.pass }
     ensures served { Served desk result.desk (view result.pass) result.accepted result.failed }
 {

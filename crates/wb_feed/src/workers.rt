@@ -11,8 +11,8 @@ ghost use Rattle.wb_feed.specs.Workers.{Workers, Work, Worked, AreFew, most_lost
 
 use crate::alone::run_one;
 use crate::arrivals::Arrivals;
+use crate::channel::ChannelReceiver;
 use crate::gate::Gate;
-use crate::line::LineEnd;
 use crate::place::Place;
 use crate::sender::Feeding;
 use crate::worker::{Accepted, Done, serve};
@@ -35,7 +35,7 @@ pub(crate) enum WorkFault {
 #[derive(Drop)]
 pub(crate) struct WorkerServes<'a> {
     pub(crate) desk: Snapshot<Desk>,
-    pub(crate) end: &'a LineEnd,
+    pub(crate) end: &'a ChannelReceiver,
 }
 
 impl<'a> Promise<Done> for WorkerServes<'a> {
@@ -75,7 +75,7 @@ fn take_back(
     others: Result<Accepted, WorkFault>,
 ) -> Result<Accepted, WorkFault>
     requires desks { IsPassOf board.now root.old × IsPassOf board.now done.desk }
-    requires seat { IsSeatAt (sends_on feeding.old.line) done.pass }
+    requires seat { IsSeatAt (sends_on feeding.old.channel) done.pass }
     requires few { (done.failed ≡ false → AreFew 1 done.accepted) × IfOk others (AreFew 8) }
     ensures pass { IsMerged feeding.old (view done.pass) feeding.new }
     ensures back { TakesBack root.old done others root.new result }
@@ -115,7 +115,7 @@ fn run_several<'s, 'e: 's, R: Threads + Wait + Sync, S: Arrivals, G: Gate + Sync
     requires root { IsPassOf place.board.now root.old }
     requires rows { rows * left ≤ root.old.free }
     requires workers { (left ≤ place.workers) × (place.workers ≤ 8) }
-    requires channel { receives_on place.end.now ≡ sends_on feeding.old.line }
+    requires channel { receives_on place.end.now ≡ sends_on feeding.old.channel }
     requires ready { IsReady left feeding.old }
     requires few { S.most_to_come arrivals.old < 2 ^ 32 }
     ensures kept { LosesAtMost (most_lost (rows * left) result) root.old root.new }
@@ -182,7 +182,7 @@ fn run_some<'s, 'e: 's, R: Threads + Wait + Sync, S: Arrivals, G: Gate + Sync>(
 ) -> Result<Accepted, WorkFault>
     requires root { IsPassOf place.board.now root.old }
     requires workers { (0 < place.workers) × (place.workers ≤ 8) }
-    requires channel { receives_on place.end.now ≡ sends_on feeding.old.line }
+    requires channel { receives_on place.end.now ≡ sends_on feeding.old.channel }
     requires ready { IsReady place.workers feeding.old }
     requires few { S.most_to_come arrivals.old < 2 ^ 32 }
     ensures kept { LosesAtMost (most_lost (handed_out place.entry.workers root.old.free) result) root.old root.new }
@@ -205,7 +205,7 @@ pub(crate) fn run_all<R: Threads + Wait + Sync, S: Arrivals, G: Gate + Sync>(
 ) -> Result<Accepted, WorkFault>
     requires root { IsPassOf place.board.now root.old }
     requires workers { (0 < place.workers) × (place.workers ≤ 8) }
-    requires channel { receives_on place.end.now ≡ sends_on feeding.old.line }
+    requires channel { receives_on place.end.now ≡ sends_on feeding.old.channel }
     requires ready { IsReady place.workers feeding.old }
     requires few { S.most_to_come arrivals.old < 2 ^ 32 }
     ensures kept { LosesAtMost (most_lost (handed_out place.entry.workers root.old.free) result) root.old root.new }
@@ -216,7 +216,7 @@ pub(crate) fn run_all<R: Threads + Wait + Sync, S: Arrivals, G: Gate + Sync>(
         thread::scope_env(),
         place.rt,
         move |scope| -> (&mut Desk, &mut Feeding, &mut S, Result<Accepted, WorkFault>)
-            requires { IsSync R.row × IsSync G.row × IsPassOf place.board.now root.now × ((0 < place.workers) × (place.workers ≤ 8)) × (receives_on place.end.now ≡ sends_on feeding.now.line) × IsReady place.workers feeding.now × (S.most_to_come arrivals.now < 2 ^ 32) }
+            requires { IsSync R.row × IsSync G.row × IsPassOf place.board.now root.now × ((0 < place.workers) × (place.workers ≤ 8)) × (receives_on place.end.now ≡ sends_on feeding.now.channel) × IsReady place.workers feeding.now × (S.most_to_come arrivals.now < 2 ^ 32) }
             ensures names { (result.0.ghost_name ≡ root.entry.ghost_name) × (result.1.ghost_name ≡ feeding.entry.ghost_name) × (result.2.ghost_name ≡ arrivals.entry.ghost_name) }
             ensures kept { LosesAtMost (most_lost (handed_out place.entry.workers root.entry.now.free) result.3) root.entry.now result.0.now }
             ensures fed { HasFed S.given S.most_to_come S.has_ended S.follows feeding.entry.now arrivals.entry.now result.1.now result.2.now result.3 }

@@ -1,7 +1,7 @@
 use Rattle.std.proofs.Common.{rules, arith, ◌≡◌, length, take, ap, subst}
 use mathlib.Core.List.{IsPrefix}
 use Rattle.crossbeam_channel.specs.Claims.{view}
-use Rattle.wb_feed.specs.declared.line.Hand.{Hand}
+use Rattle.wb_feed.specs.declared.channel.ChannelView.{ChannelView}
 use Rattle.wb_feed.specs.Marks.{unmarked, Marks, Retakes}
 use Rattle.wb_feed.specs.Batches.{IsTotal}
 use Rattle.wb_feed.proofs.Prefixes.{take_prefix}
@@ -17,8 +17,8 @@ in_all-requires g c =
     let marked : Marks a.positions.items (length drawn) marks = search rules in
     let shared : Retakes c.run_all.new.root (unmarked marks drawn) c.take_rest.new.desk c.in-Ok-take_rest.rest = search rules in
     let sent : IsPrefix (view c.run_all.new.feeding.pass).sent drawn =
-    take_prefix _ _ (subst (λ (h : Hand). take (length h.sent) drawn ≡ h.sent) c.learn_all.ensures.same.view c.learn_all.new.self.sent.first) in
-    let whole = whole_from _ _ _ _ _ _ drawn marks done (ap (λ (h : Hand). h.got) c.requires.first.0) c.learn_all.ensures.all sent marked in
+    take_prefix _ _ (subst (λ (h : ChannelView). take (length h.sent) drawn ≡ h.sent) c.learn_all.ensures.same.view c.learn_all.new.self.sent.first) in
+    let whole = whole_from _ _ _ _ _ _ drawn marks done (ap (λ (h : ChannelView). h.got) c.requires.first.0) c.learn_all.ensures.all sent marked in
     record { few = omega (arith, total_few _ _ _ _ _ _ _ _ _ _ done whole shared, c.run_all.ensures.fed.drawn.few, c.requires.few, ap length c.requires.first.1, ap (λ d. length d.items) c.learn_all.ensures.same.drawn) }
 
 pub returns-clause-taken : goal.returns-clause-taken
@@ -30,7 +30,7 @@ returns-clause-taken g c =
     let marked : Marks a.positions.items (length drawn) marks = search rules in
     let shared : Retakes c.run_all.new.root (unmarked marks drawn) c.take_rest.new.desk c.in-Ok-take_rest.rest = search rules in
     let sent : IsPrefix (view c.run_all.new.feeding.pass).sent drawn =
-    take_prefix _ _ (subst (λ (h : Hand). take (length h.sent) drawn ≡ h.sent) c.learn_all.ensures.same.view c.learn_all.new.self.sent.first) in
-    let whole = whole_from _ _ _ _ _ _ drawn marks done (ap (λ (h : Hand). h.got) c.requires.first.0) c.learn_all.ensures.all sent marked in
+    take_prefix _ _ (subst (λ (h : ChannelView). take (length h.sent) drawn ≡ h.sent) c.learn_all.ensures.same.view c.learn_all.new.self.sent.first) in
+    let whole = whole_from _ _ _ _ _ _ drawn marks done (ap (λ (h : ChannelView). h.got) c.requires.first.0) c.learn_all.ensures.all sent marked in
     let totals : IsTotal a c.in-Ok-take_rest.rest c.in_all.result = search rules in
     takes_all _ _ _ _ _ _ _ _ _ _ _ done whole c.rows_left-sound.ensures.sound c.rows_left-sound_joined.ensures.sound c.rows_left-sound_after.ensures.sound shared totals

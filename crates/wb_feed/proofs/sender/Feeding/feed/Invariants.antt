@@ -7,7 +7,7 @@ use Rattle.wb_feed.proofs.sender.Feeding.feed.Given as goal
 abbrev pub invariant-loop-message : goal.invariant-loop-message
 invariant-loop-message g l =
     record {
-      line : l.self.line ≡ l.initial.self.line;
+      channel : l.self.channel ≡ l.initial.self.channel;
       stays : Stays (view l.initial.self.pass) (view l.self.pass);
       drawn : IsDrawn (g.S.Arrivals.given l.initial.arrivals) (g.S.Arrivals.most_to_come l.initial.arrivals) l.initial.self.drawn.items (g.S.Arrivals.given l.arrivals) (g.S.Arrivals.most_to_come l.arrivals) l.self.drawn.items;
       source : g.S.Arrivals.follows l.initial.arrivals l.arrivals;

@@ -1,16 +1,22 @@
-//! The channel between the caller's thread and the workers, and the rule that it is under.
+//! The channel between the caller's thread and the workers, its messages, and the rule that it is under.
 ghost use Rattle.std.specs.Prelude.{◌≡◌};
 
-use crate::message::Message;
 use crossbeam_channel::protocol::{Join, Lesson, Outcome, Protocol, Split};
 use crossbeam_channel::{Pass, RuledReceiver, RuledSender};
 use std::collections::LinkedList;
 use wb_names::Drawop;
 
+/// An arrival with its position in the batch, from 0; or the end, of which each worker gets one.
+#[derive(Clone, Copy)]
+pub(crate) enum Message {
+    Take(u32, Drawop),
+    End,
+}
+
 /// What a pass of the channel knows: its parts, of which there are 16 in all, so that a pass with all
 /// of them knows that no other received anything; whether it sends; the drawops that were sent; and
 /// the messages that it received, in order. No value of it is ever made.
-pub(crate) struct Hand {
+pub(crate) struct ChannelView {
     pub parts: u64,
     pub sends: bool,
     pub sent: LinkedList<Drawop>,
@@ -20,33 +26,33 @@ pub(crate) struct Hand {
 /// The rule: each message is received once at most, in the order in which they were sent.
 pub(crate) struct EachOnce;
 
-impl Protocol<Message, Hand> for EachOnce {
+impl Protocol<Message, ChannelView> for EachOnce {
     ghost use Rattle.std.specs.Prelude.{true, []};
-    ghost use Rattle.wb_feed.specs.Line.{hand, Kept};
+    ghost use Rattle.wb_feed.specs.Channel.{channel_view, Kept};
 
     ghost holds = { λ items views. Kept items views };
 
-    ghost first = { hand 16 true [] [] };
+    ghost first = { channel_view 16 true [] [] };
 }
 
 /// The step of a send.
 pub(crate) struct Sends;
 
-impl Outcome<Message, Hand> for Sends {
-    ghost use Rattle.wb_feed.specs.Line.{sends};
+impl Outcome<Message, ChannelView> for Sends {
+    ghost use Rattle.wb_feed.specs.Channel.{sends};
 
     ghost then = { λ v x w. w ≡ sends v x };
 }
 
-impl Lesson<Message, Hand> for Sends {
+impl Lesson<Message, ChannelView> for Sends {
     ghost fact = { λ v items. Unit {0} };
 }
 
 /// What the sender learns once its pass has every part.
 pub(crate) struct Whole;
 
-impl Lesson<Message, Hand> for Whole {
-    ghost use Rattle.wb_feed.specs.Line.{IsComplete};
+impl Lesson<Message, ChannelView> for Whole {
+    ghost use Rattle.wb_feed.specs.Channel.{IsComplete};
 
     ghost fact = { λ v items. IsComplete v };
 }
@@ -54,42 +60,42 @@ impl Lesson<Message, Hand> for Whole {
 /// The step of a receive: the message comes after all that this pass received before.
 pub(crate) struct Receives;
 
-impl Outcome<Message, Hand> for Receives {
-    ghost use Rattle.wb_feed.specs.Line.{receives, Follows};
+impl Outcome<Message, ChannelView> for Receives {
+    ghost use Rattle.wb_feed.specs.Channel.{receives, Follows};
 
     ghost then = { λ v x w. (w ≡ receives v x) × Follows v.got x };
 }
 
-impl Lesson<Message, Hand> for Receives {
+impl Lesson<Message, ChannelView> for Receives {
     ghost fact = { λ v items. Unit {0} };
 }
 
 /// Cuts off a pass for a worker, and takes it back.
 pub(crate) struct Cut;
 
-impl Split<Hand> for Cut {
+impl Split<ChannelView> for Cut {
     ghost use Rattle.std.specs.Prelude.{◌-◌, false, []};
-    ghost use Rattle.wb_feed.specs.Line.{hand};
+    ghost use Rattle.wb_feed.specs.Channel.{channel_view};
 
-    ghost left = { λ v. hand (v.parts - 1) v.sends v.sent v.got };
+    ghost left = { λ v. channel_view (v.parts - 1) v.sends v.sent v.got };
 
-    ghost right = { λ v. hand 1 false [] [] };
+    ghost right = { λ v. channel_view 1 false [] [] };
 }
 
-impl Join<Hand> for Cut {
+impl Join<ChannelView> for Cut {
     ghost use Rattle.std.specs.Prelude.{◌+◌, ◌++◌, false, []};
-    ghost use Rattle.wb_feed.specs.Line.{hand};
+    ghost use Rattle.wb_feed.specs.Channel.{channel_view};
 
-    ghost both = { λ v w. hand (v.parts + w.parts) v.sends v.sent (v.got ++ w.got) };
+    ghost both = { λ v w. channel_view (v.parts + w.parts) v.sends v.sent (v.got ++ w.got) };
 
-    ghost spent = { hand 0 false [] [] };
+    ghost spent = { channel_view 0 false [] [] };
 }
 
 /// The end that sends.
-pub(crate) type Line = RuledSender<Message, Hand, EachOnce>;
+pub(crate) type ChannelSender = RuledSender<Message, ChannelView, EachOnce>;
 
 /// The end that receives, which all workers share.
-pub(crate) type LineEnd = RuledReceiver<Message, Hand, EachOnce>;
+pub(crate) type ChannelReceiver = RuledReceiver<Message, ChannelView, EachOnce>;
 
 /// What a thread knows of the channel.
-pub(crate) type LinePass = Pass<Message, Hand>;
+pub(crate) type ChannelPass = Pass<Message, ChannelView>;

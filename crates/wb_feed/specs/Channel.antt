@@ -3,23 +3,23 @@ use Rattle.std.specs.Prelude.{◌≡◌, ℕ, ◌+◌, ◌<◌, ◌≤◌, ◌==
 use mathlib.Core.Option.{some}
 use lib.ListN.{get_elem?}
 use Rattle.wb_names.specs.Values.{DrawopValue}
-use Rattle.wb_feed.specs.declared.message.Message.{Message}
-use Rattle.wb_feed.specs.declared.message.Message.TheVariants.{Take, End}
-use Rattle.wb_feed.specs.declared.line.Hand.{Hand}
+use Rattle.wb_feed.specs.declared.channel.Message.{Message}
+use Rattle.wb_feed.specs.declared.channel.Message.TheVariants.{Take, End}
+use Rattle.wb_feed.specs.declared.channel.ChannelView.{ChannelView}
 
-abbrev pub hand : ℕ → Bool → List DrawopValue → List Message → Hand
-hand n b sent got = record { parts = n; sends = b; sent = sent; got = got }
+abbrev pub channel_view : ℕ → Bool → List DrawopValue → List Message → ChannelView
+channel_view n b sent got = record { parts = n; sends = b; sent = sent; got = got }
 
 -- the drawops sent, after a message
 abbrev pub sent_with : List DrawopValue → Message → List DrawopValue
 sent_with sent (Take p d) = sent ++ d ∷ []
 sent_with sent End = sent
 
-abbrev pub sends : Hand → Message → Hand
-sends v x = hand v.parts v.sends (sent_with v.sent x) v.got
+abbrev pub sends : ChannelView → Message → ChannelView
+sends v x = channel_view v.parts v.sends (sent_with v.sent x) v.got
 
-abbrev pub receives : Hand → Message → Hand
-receives v x = hand v.parts v.sends v.sent (v.got ++ x ∷ [])
+abbrev pub receives : ChannelView → Message → ChannelView
+receives v x = channel_view v.parts v.sends v.sent (v.got ++ x ∷ [])
 
 -- how often the position stands in a message, and in some
 abbrev pub spot : ℕ → Message → ℕ
@@ -63,30 +63,30 @@ IsRow sent low [] = low ≡ length sent
 IsRow sent low (Take p d ∷ ms) = (p ≡ low) × (slice_get sent p ≡ Some d) × IsRow sent (low + 1) ms
 IsRow sent low (End ∷ ms) = IsRow sent low ms
 
-abbrev pub total : (Hand → ℕ) → List Hand → ℕ
+abbrev pub total : (ChannelView → ℕ) → List ChannelView → ℕ
 total f [] = 0
 total f (v ∷ vs) = f v + total f vs
 
 -- What a pass may know: one pass at most sends, and it knows what was sent. What a pass received was sent so, and is below low. A
 -- pass with no part received nothing
-pub record Fits (seat : ℕ) (sent : List DrawopValue) (low : ℕ) (pass : ℕ) (v : Hand) : Type 0 where
+pub record Fits (seat : ℕ) (sent : List DrawopValue) (low : ℕ) (pass : ℕ) (v : ChannelView) : Type 0 where
   pub sender : v.sends ≡ true → (pass ≡ seat) × (v.sent ≡ sent)
   pub right : AreRight sent v.got
   pub below : AreBelow low v.got
   pub idle : v.parts ≡ 0 → v.got ≡ []
 
 -- The rule: all positions below low were received, each once, and no other; those from low on are in the channel
-pub record Kept (items : List Message) (views : List Hand) : Type 0 where
+pub record Kept (items : List Message) (views : List ChannelView) : Type 0 where
   pub seat : ℕ
   pub sent : List DrawopValue
   pub low : ℕ
   pub row : IsRow sent low items
-  pub each : (pass : ℕ) (v : Hand) → get_elem? views pass ≡ some v → Fits seat sent low pass v
+  pub each : (pass : ℕ) (v : ChannelView) → get_elem? views pass ≡ some v → Fits seat sent low pass v
   pub parts : total (λ v. v.parts) views ≡ 16
   pub once : (p : ℕ) → total (λ v. spots p v.got) views ≡ once_below p low
 
 -- a pass that has all parts received the first drawops that were sent, each once
-pub record IsComplete (v : Hand) : Type 0 where
+pub record IsComplete (v : ChannelView) : Type 0 where
   pub low : ℕ
   pub most : low ≤ length v.sent
   pub right : AreRight v.sent v.got
