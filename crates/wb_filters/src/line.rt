@@ -1,3 +1,5 @@
+//! Lines that are copied as they are.
+
 ghost use Rattle.std.specs.Prelude.{◌≡◌, IfOk};
 
 use std::alloc::{AllocError, Global};
