@@ -18,9 +18,9 @@ use Rattle.wb_names.specs.Orders.{same_page, display_cmp}
 use Rattle.wb_names.specs.declared.name.PageId.{PageId}
 use Rattle.wb_names.proofs.Orders.{and_both, then_is, nat_ties, name_parts, same_page-is}
 use Rattle.wb_display.specs.Display.{is_drawing, is_delete, is_aimed_at, is_last_word, is_hidden_in, is_shown}
-use Rattle.wb_display.specs.LastWord.{label_of, word_of, word_cmp, IsLastWord, hides, is_shown_by}
+use Rattle.wb_display.specs.LastWord.{own_target, word_of, word_cmp, IsLastWord, hides, is_shown_by}
 use Rattle.wb_display.specs.declared.last_words.LastWord.{LastWord}
-use Rattle.wb_display.proofs.Hearing.{false_unless}
+use Rattle.wb_display.proofs.LaterWords.{false_unless}
 
 pub display_total : IsTotalOrder display_cmp
 display_total = then_total (on_total (λ (d : DrawopValue). d.time) nat_cmp_total) (then_total (on_total (λ (d : DrawopValue). d.name.source) nat_cmp_total) (on_total (λ (d : DrawopValue). d.name.seq) nat_cmp_total))
@@ -90,7 +90,7 @@ module _ (history : List DrawopValue) (d : DrawopValue) where
       false_unless _ (λ (t : is_lt (display_cmp e f) ≡ true). let g : true ≡ false = sym (and_true _ _ aimed t) ∙ none in cc)
 
   -- a drawop is hidden exactly where the last word on it hides
-  pub hidden_by : IsHistory history → (r : Option LastWord) → IsLastWord history d.name.page (label_of d) r → is_hidden_in history d ≡ hides r
+  pub hidden_by : IsHistory history → (r : Option LastWord) → IsLastWord history d.name.page (own_target d) r → is_hidden_in history d ≡ hides r
   hidden_by names None none = list_any_nowhere (λ e. (is_delete e.op && is_aimed_at e d) && is_last_word history d e) history (λ e c. false_unless _ (λ (t : ((is_delete e.op && is_aimed_at e d) && is_last_word history d e) ≡ true). let p = (and_both (is_delete e.op) _ (and_both (is_delete e.op && is_aimed_at e d) _ t).0).1 in let g : true ≡ false = sym p ∙ none e c in cc))
   hidden_by names (Some w) (from, last) = at (is_delete e.op) refl ∙ ap (λ (v : LastWord). v.hides) from.3 where
     e : DrawopValue
@@ -114,11 +114,11 @@ module _ (history : List DrawopValue) (d : DrawopValue) where
         let g : true ≡ false = sym q.0 ∙ ap (λ (x : DrawopValue). is_delete x.op) (sym (same f c q.1 p.1)) ∙ h in cc)) ∙ sym h
 
 -- so the last word decides what is shown
-pub shown_by : (history : List DrawopValue) (page : PageId) (d : DrawopValue) (r : Option LastWord) → IsHistory history → IsLastWord history page (label_of d) r → is_shown history page d ≡ is_shown_by page d r
+pub shown_by : (history : List DrawopValue) (page : PageId) (d : DrawopValue) (r : Option LastWord) → IsHistory history → IsLastWord history page (own_target d) r → is_shown history page d ≡ is_shown_by page d r
 shown_by history page d r names last = at (same_page d.name.page page) refl where
   at : (b : Bool) → same_page d.name.page page ≡ b → is_shown history page d ≡ is_shown_by page d r
   at true e =
-      let here : IsLastWord history d.name.page (label_of d) r = subst (λ (p : PageId). IsLastWord history p (label_of d) r) (sym (same_page-is d.name.page page e)) last in
+      let here : IsLastWord history d.name.page (own_target d) r = subst (λ (p : PageId). IsLastWord history p (own_target d) r) (sym (same_page-is d.name.page page e)) last in
       ap (λ (h : Bool). (same_page d.name.page page && is_drawing d.op) && not h) (hidden_by history d names r here)
   at false e = off _ _ _ e ∙ sym (off _ _ _ e) where
     off : (a b c : Bool) → a ≡ false → ((a && b) && c) ≡ false

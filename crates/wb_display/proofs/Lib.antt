@@ -8,10 +8,10 @@ pub mod LineSpan
 pub mod LineInside
 pub mod CanvasRows
 pub mod Sent
-pub mod Hearing
+pub mod LaterWords
 pub mod Deciding
 pub mod Views
-pub mod Settling
+pub mod Placing
 pub mod MergeSteps
 pub mod ShowingAll
 pub mod Putting

@@ -12,10 +12,10 @@ use Rattle.wb_names.specs.declared.parts.Op.TheVariants.{Drawn, Text, Aimed}
 use Rattle.wb_names.proofs.Listings.{lists_same}
 use Rattle.wb_names.proofs.Orders.{and_both}
 use Rattle.wb_display.specs.Display.{is_drawing, is_delete, is_restore, has_target, is_aimed_at, is_last_word, is_hidden_in, is_shown}
-use Rattle.wb_display.specs.LastWord.{label_of, word_of, word_cmp, IsLastWord}
+use Rattle.wb_display.specs.LastWord.{own_target, word_of, word_cmp, IsLastWord}
 use Rattle.wb_display.specs.Laws.{is_deleted_in, was_shown, AgreesWithOlderRule}
 use Rattle.wb_display.specs.declared.last_words.LastWord.{LastWord}
-use Rattle.wb_display.proofs.Hearing.{false_unless}
+use Rattle.wb_display.proofs.LaterWords.{false_unless}
 use Rattle.wb_display.proofs.Deciding.{display_total, and_true, list_any_here, list_any_nowhere, last_word-is}
 use Rattle.wb_display.proofs.Putting.{last_word_of}
 
@@ -26,7 +26,7 @@ deletes_unless (Aimed Delete target) s n t r = refl
 deletes_unless (Aimed Restore target) s n t r = cc
 
 module _ (history : List DrawopValue) (nothing : All (λ e. is_restore e.op ≡ false) history) (d : DrawopValue) where
-  hidden_as_before : (r : Option LastWord) → IsLastWord history d.name.page (label_of d) r → is_hidden_in history d ≡ is_deleted_in history d
+  hidden_as_before : (r : Option LastWord) → IsLastWord history d.name.page (own_target d) r → is_hidden_in history d ≡ is_deleted_in history d
   hidden_as_before None none =
       list_any_nowhere (λ e. (is_delete e.op && is_aimed_at e d) && is_last_word history d e) history (λ e c. false_unless _ (λ (t : ((is_delete e.op && is_aimed_at e d) && is_last_word history d e) ≡ true). let p = (and_both (is_delete e.op) _ (and_both (is_delete e.op && is_aimed_at e d) _ t).0).1 in let g : true ≡ false = sym p ∙ none e c in cc))
       ∙ sym (list_any_nowhere (λ e. is_delete e.op && is_aimed_at e d) history (λ e c. false_unless _ (λ (t : (is_delete e.op && is_aimed_at e d) ≡ true). let p = (and_both (is_delete e.op) _ t).1 in let g : true ≡ false = sym p ∙ none e c in cc)))
@@ -38,7 +38,7 @@ module _ (history : List DrawopValue) (nothing : All (λ e. is_restore e.op ≡ 
       ∙ sym (list_any_here (λ e. is_delete e.op && is_aimed_at e d) history e from.1 (and_true _ _ deletes from.2))
 
   shown_as_before : (page : PageId) → is_shown history page d ≡ was_shown history page d
-  shown_as_before page = let r = last_word_of history d.name.page (label_of d) in ap (λ (h : Bool). (same_page d.name.page page && is_drawing d.op) && not h) (hidden_as_before r.0 r.1)
+  shown_as_before page = let r = last_word_of history d.name.page (own_target d) in ap (λ (h : Bool). (same_page d.name.page page && is_drawing d.op) && not h) (hidden_as_before r.0 r.1)
 
 pub older_rule : AgreesWithOlderRule
 older_rule history page shown nothing = (

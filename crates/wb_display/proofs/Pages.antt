@@ -14,7 +14,7 @@ use Rattle.wb_names.proofs.Orders.{and_both, same_page-is, same_name-is}
 use Rattle.wb_display.specs.Display.{is_drawing, is_delete, is_aimed_at, is_last_word, is_hidden_in, is_shown}
 use Rattle.wb_display.specs.Layer.{holds_name, is_news, held_with}
 use Rattle.wb_display.specs.Laws.{on_page, StandsAlone, HoldsItsPage, HoldsAHistory}
-use Rattle.wb_display.proofs.Hearing.{false_unless}
+use Rattle.wb_display.proofs.LaterWords.{false_unless}
 use Rattle.wb_display.proofs.Deciding.{display_total, false_from_not, list_any_nowhere}
 use Rattle.wb_display.proofs.Convergence.{list_any_agree}
 use Rattle.wb_display.proofs.Holding.{names_more}

@@ -11,10 +11,10 @@ use Rattle.wb_names.specs.Orders.{same_page, display_cmp}
 use Rattle.wb_names.specs.declared.name.PageId.{PageId}
 use Rattle.wb_names.proofs.Orders.{and_both, same_page-is}
 use Rattle.wb_display.specs.Display.{is_drawing, is_delete, has_target, is_aimed_at, is_last_word, is_hidden_in, is_shown, IsView}
-use Rattle.wb_display.specs.LastWord.{label_of, word_of, word_cmp, speaks_of, IsLastWord}
+use Rattle.wb_display.specs.LastWord.{own_target, word_of, word_cmp, speaks_of, IsLastWord}
 use Rattle.wb_display.specs.Laws.{PutChanges, PutsShow}
 use Rattle.wb_display.specs.declared.last_words.LastWord.{LastWord}
-use Rattle.wb_display.proofs.Hearing.{false_unless, unheard, aims_nowhere, not_before_itself, word_total, less_is, is_less}
+use Rattle.wb_display.proofs.LaterWords.{false_unless, unsaid, aims_nowhere, not_before_itself, word_total, less_is, is_less}
 use Rattle.wb_display.proofs.Deciding.{and_false, and_true, not_false, false_from_not, hidden_by, shown_by, last_word-says}
 use Rattle.wb_display.proofs.Putting.{last_word_of, unspoken, drawing_names_nothing}
 
@@ -42,12 +42,12 @@ module _ (page : PageId) (held : List DrawopValue) (d : DrawopValue) (shown afte
   draws : (x : DrawopValue) → is_shown (held ++ d ∷ []) page x ≡ true → is_drawing x.op ≡ true
   draws x s = (and_both (same_page x.name.page page) _ (and_both (same_page x.name.page page && is_drawing x.op) _ s).0).1
 
-  -- what is aimed at a drawop of the page speaks of its label
-  speaks : (x f : DrawopValue) → same_page x.name.page page ≡ true → is_aimed_at f x ≡ speaks_of page (label_of x) f
+  -- what is aimed at a drawop of the page speaks of its target
+  speaks : (x f : DrawopValue) → same_page x.name.page page ≡ true → is_aimed_at f x ≡ speaks_of page (own_target x) f
   speaks x f on = ap (λ (p : PageId). same_page f.name.page p && has_target f.op x.name.source x.name.seq) (same_page-is x.name.page page on)
 
-  silent_drawing : is_drawing d.op ≡ true → (p : PageId) (x : DrawopValue) → speaks_of p (label_of x) d ≡ false
-  silent_drawing drawn p x = and_false (same_page d.name.page p) _ (aims_nowhere d.op (label_of x) (drawing_names_nothing d.op drawn))
+  silent_drawing : is_drawing d.op ≡ true → (p : PageId) (x : DrawopValue) → speaks_of p (own_target x) d ≡ false
+  silent_drawing drawn p x = and_false (same_page d.name.page p) _ (aims_nowhere d.op (own_target x) (drawing_names_nothing d.op drawn))
 
   -- where showing stays, and d is not x, the view has x as before
   stays : (x : DrawopValue) → (Contains (held ++ d ∷ []) x → is_shown (held ++ d ∷ []) page x ≡ is_shown held page x) → (is_shown (held ++ d ∷ []) page x ≡ true → d ≢ x) → Contains after x ↔ Contains shown x
@@ -61,8 +61,8 @@ module _ (page : PageId) (held : List DrawopValue) (d : DrawopValue) (shown afte
 
   same_hidden : is_drawing d.op ≡ true → is_hidden_in (held ++ d ∷ []) d ≡ is_hidden_in held d
   same_hidden drawn =
-      let r = last_word_of held d.name.page (label_of d) in
-      hidden_by (held ++ d ∷ []) d more r.0 (unheard held d.name.page (label_of d) d r.0 (silent_drawing drawn d.name.page d) r.1) ∙ sym (hidden_by held d names r.0 r.1)
+      let r = last_word_of held d.name.page (own_target d) in
+      hidden_by (held ++ d ∷ []) d more r.0 (unsaid held d.name.page (own_target d) d r.0 (silent_drawing drawn d.name.page d) r.1) ∙ sym (hidden_by held d names r.0 r.1)
 
   enters : is_drawing d.op ≡ true → Contains after d ↔ (is_hidden_in held d ≡ false)
   enters drawn = (
@@ -75,7 +75,7 @@ module _ (page : PageId) (held : List DrawopValue) (d : DrawopValue) (shown afte
   decides x c drawn aimed last =
       let cx = Contains-append_left held (d ∷ []) x c in
       let on = here x cx in
-      let word : IsLastWord (held ++ d ∷ []) page (label_of x) (Some (word_of d)) = (
+      let word : IsLastWord (held ++ d ∷ []) page (own_target x) (Some (word_of d)) = (
         (d, Contains-push held d, sym (speaks x d on) ∙ aimed, refl),
         λ f h said. ⊎_elim (λ (cf : Contains held f). last_word-says held x d last f cf (speaks x f on ∙ said)) (λ (e : d ≡ f). ap (λ (g : DrawopValue). is_lt (word_cmp (word_of d) (word_of g))) (sym e) ∙ not_before_itself (word_of d)) (Contains-push_cases held d f h),
       ) in
@@ -86,7 +86,7 @@ module _ (page : PageId) (held : List DrawopValue) (d : DrawopValue) (shown afte
 
   -- something later was said of x
   outdone : is_drawing d.op ≡ false → (x : DrawopValue) → is_aimed_at d x ≡ true → is_last_word held x d ≡ false → Contains after x ↔ Contains shown x
-  outdone changes x aimed late = stays x (λ cx. still (here x cx) (last_word_of held page (label_of x)).0 (last_word_of held page (label_of x)).1) (not_drawn changes x) where
+  outdone changes x aimed late = stays x (λ cx. still (here x cx) (last_word_of held page (own_target x)).0 (last_word_of held page (own_target x)).1) (not_drawn changes x) where
     later : (k : ℕ) × (f : DrawopValue) × (k < length held) × (get_or held k f ≡ f) × ((is_aimed_at f x && is_lt (display_cmp d f)) ≡ true)
     later = Any-from_list_any (λ f. is_aimed_at f x && is_lt (display_cmp d f)) held (true_unless _ late)
 
@@ -96,12 +96,12 @@ module _ (page : PageId) (held : List DrawopValue) (d : DrawopValue) (shown afte
     cf : Contains held f
     cf = (later.0, later.2, later.3)
 
-    still : same_page x.name.page page ≡ true → (r : Option LastWord) → IsLastWord held page (label_of x) r → is_shown (held ++ d ∷ []) page x ≡ is_shown held page x
+    still : same_page x.name.page page ≡ true → (r : Option LastWord) → IsLastWord held page (own_target x) r → is_shown (held ++ d ∷ []) page x ≡ is_shown held page x
     still on None none = let p = and_both (is_aimed_at f x) _ later.4 in let t : true ≡ false = sym p.0 ∙ speaks x f on ∙ none f cf in cc
     still on (Some w) (from, last) =
         let p = and_both (is_aimed_at f x) _ later.4 in
         let not_past : is_lt (word_cmp w (word_of d)) ≡ false = false_unless _ (λ (t : is_lt (word_cmp w (word_of d)) ≡ true). let g : true ≡ false = sym (is_less _ (word_total.trans w (word_of d) (word_of f) (less_is _ t) (less_is _ p.1))) ∙ last f cf (sym (speaks x f on) ∙ p.0) in cc) in
-        let word : IsLastWord (held ++ d ∷ []) page (label_of x) (Some w) = (
+        let word : IsLastWord (held ++ d ∷ []) page (own_target x) (Some w) = (
           (from.0, Contains-append_left held (d ∷ []) from.0 from.1, from.2, from.3),
           λ g h said. ⊎_elim (λ (cg : Contains held g). last g cg said) (λ (e : d ≡ g). ap (λ (y : DrawopValue). is_lt (word_cmp w (word_of y))) (sym e) ∙ not_past) (Contains-push_cases held d g h),
         ) in

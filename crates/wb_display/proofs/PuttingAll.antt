@@ -19,10 +19,10 @@ use Rattle.wb_display.specs.Laws.{KeepsTheFirst}
 use Rattle.wb_display.specs.LayerFields.{held_of}
 use Rattle.wb_display.specs.Display.{is_shown, IsView}
 use Rattle.wb_display.specs.DisplayList.{ShowsOthers, TieOnce}
-use Rattle.wb_display.specs.LastWord.{label_of}
+use Rattle.wb_display.specs.LastWord.{own_target}
 use Rattle.wb_display.specs.LastWords.{is_shown_now}
 use Rattle.wb_display.specs.TakingIn.{AreHeld, AreKept, HoldsToo, IsShownIn, Touches}
-use Rattle.wb_display.specs.declared.last_words.Label.{Label}
+use Rattle.wb_names.specs.declared.parts.Target.{Target}
 use Rattle.wb_display.specs.declared.last_words.LastWords.{LastWords}
 use Rattle.wb_display.proofs.Deciding.{list_any_here, and_false, list_any_nowhere, nowhere_from, false_from_not, not_false, and_true, one_drawop, tie_names}
 use Rattle.wb_display.proofs.Holding.{held_here, same_name-here}
@@ -74,14 +74,14 @@ pub held_not_more : (page : PageId) (held : List DrawopValue) (d : DrawopValue) 
 held_not_more page held d e = sym (ap (λ (b : Bool). cond b (held ++ d ∷ []) held) e)
 
 -- what is news is held from now on
-pub step_held : (words words' : LastWords) (entries entries' : List (Label × DrawopValue)) (list : List DrawopValue) (i : ℕ) (d : DrawopValue)
+pub step_held : (words words' : LastWords) (entries entries' : List (Target × DrawopValue)) (list : List DrawopValue) (i : ℕ) (d : DrawopValue)
     → i < length list → get_or list i d ≡ d → is_news words.page (held_of entries) d ≡ true → words'.page ≡ words.page
     → HoldsToo words entries d words' entries' → AreHeld words entries
-    → AreHeld words' entries' × (entries' ≡ entries ++ (label_of d, d) ∷ []) × (held_of entries' ≡ held_with words.page (held_of entries) d) × (news_count words'.page (held_of entries') (drop (i + 1) list) + 1 ≤ news_count words.page (held_of entries) (drop i list))
+    → AreHeld words' entries' × (entries' ≡ entries ++ (own_target d, d) ∷ []) × (held_of entries' ≡ held_with words.page (held_of entries) d) × (news_count words'.page (held_of entries') (drop (i + 1) list) + 1 ≤ news_count words.page (held_of entries) (drop i list))
 step_held words words' entries entries' list i d h is news page holds held =
     let parts = news_parts words.page (held_of entries) d news in
     let t = holds parts.0 parts.1 held in
-    let e : held_of entries' ≡ held_with words.page (held_of entries) d = ap held_of t.1 ∙ map-append (λ (e : Label × DrawopValue). e.1) entries ((label_of d, d) ∷ []) ∙ sym (held_more words.page (held_of entries) d news) in
+    let e : held_of entries' ≡ held_with words.page (held_of entries) d = ap held_of t.1 ∙ map-append (λ (e : Target × DrawopValue). e.1) entries ((own_target d, d) ∷ []) ∙ sym (held_more words.page (held_of entries) d news) in
     (t.0, t.1, e, rw (page, e) (room_taken words.page (held_of entries) list i d h is news))
 
 -- where nothing is news there is nothing to make room for
@@ -121,21 +121,21 @@ member_or_not xs x = at (list_any (λ y. same_drawop y x) xs) refl where
   at false e = inr (λ c. let f : true ≡ false = sym ((same_drawop-Decides x x).1 refl) ∙ nowhere_from (λ y. same_drawop y x) xs e x c in cc)
 
 -- what is held grew, and what is shown is still as it was before
-module _ (words words' : LastWords) (entries entries' : List (Label × DrawopValue)) (shown touched : List DrawopValue) (kept : AreKept words entries shown) (held : AreHeld words' entries') (page : words'.page ≡ words.page) (touches : Touches words.page (held_of entries) (held_of entries') touched) where
+module _ (words words' : LastWords) (entries entries' : List (Target × DrawopValue)) (shown touched : List DrawopValue) (kept : AreKept words entries shown) (held : AreHeld words' entries') (page : words'.page ≡ words.page) (touches : Touches words.page (held_of entries) (held_of entries') touched) where
   among : (x : DrawopValue) → Contains shown x ⊎ Contains touched x → Contains (held_of entries') x
   among x (inl c) = touches.more x ((kept.view.members x).0 c).0
   among x (inr c) = touches.among x c
 
   pub ties_once : TieOnce shown touched
-  ties_once x y cx cy tie = one_drawop (held_of entries') held.names x y (among x cx) (among y cy) (tie_names words'.page x y (held_here words'.page entries' held.labels x (among x cx)) (held_here words'.page entries' held.labels y (among y cy)) (ap is_eq tie))
+  ties_once x y cx cy tie = one_drawop (held_of entries') held.names x y (among x cx) (among y cy) (tie_names words'.page x y (held_here words'.page entries' held.keys x (among x cx)) (held_here words'.page entries' held.keys y (among y cy)) (ap is_eq tie))
 
   shows : (x : DrawopValue) → is_shown_now words' x ≡ is_shown (held_of entries') words.page x
-  shows x = sym (shown_here (held_of entries') words.page words' x held.names page held.heard)
+  shows x = sym (shown_here (held_of entries') words.page words' x held.names page held.last_words)
 
   pub shows_others : ShowsOthers (is_shown_now words') shown touched
   shows_others x c out = shows x ∙ ((touches.others x out).1 ((kept.view.members x).0 c)).1
 
-  -- once all that was touched is settled, it is the view of what is held now
+  -- once all that was touched is shown or hidden, it is the view of what is held now
   pub kept_after : (after : List DrawopValue) → Lists display_cmp (λ x. (Contains shown x ⊎ Contains touched x) × (is_shown_now words' x ≡ true)) after → AreKept words' entries' after
   kept_after after listed = record {
     held = held;

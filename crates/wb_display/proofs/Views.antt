@@ -6,14 +6,14 @@ use Rattle.wb_names.specs.Values.{DrawopValue}
 use Rattle.wb_names.specs.History.{IsHistory}
 use Rattle.wb_names.specs.declared.name.PageId.{PageId}
 use Rattle.wb_display.specs.Display.{is_shown}
-use Rattle.wb_display.specs.LastWord.{label_of, is_shown_by}
+use Rattle.wb_display.specs.LastWord.{own_target, is_shown_by}
 use Rattle.wb_display.specs.LastWords.{AreLastWords, word_on}
 use Rattle.wb_display.specs.declared.last_words.LastWords.{LastWords}
 use Rattle.wb_display.proofs.Deciding.{shown_by}
 
 -- by its last words a page is shown as by the whole history
-pub shown_here : (history : List DrawopValue) (page : PageId) (words : LastWords) (d : DrawopValue) → IsHistory history → words.page ≡ page → AreLastWords history words → is_shown history page d ≡ is_shown_by words.page d (word_on words (label_of d))
-shown_here history page words d names e last = ap (λ (p : PageId). is_shown history p d) (sym e) ∙ shown_by history words.page d (word_on words (label_of d)) names (last (label_of d))
+pub shown_here : (history : List DrawopValue) (page : PageId) (words : LastWords) (d : DrawopValue) → IsHistory history → words.page ≡ page → AreLastWords history words → is_shown history page d ≡ is_shown_by words.page d (word_on words (own_target d))
+shown_here history page words d names e last = ap (λ (p : PageId). is_shown history p d) (sym e) ∙ shown_by history words.page d (word_on words (own_target d)) names (last (own_target d))
 
 module _ (p : DrawopValue → Bool) (xs : List DrawopValue) (i : ℕ) (d : DrawopValue) (lt : i < length xs) (is : d ≡ get_or xs i d) where
   next : filter p (take (i + 1) xs) ≡ filter p (take i xs) ++ cond (p d) (d ∷ []) []

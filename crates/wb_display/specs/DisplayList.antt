@@ -13,7 +13,7 @@ IsPlaceOf list d (Ok i) = (i < length list) × HoldsAt (λ x. display_cmp x d �
 IsPlaceOf list d (Err i) = (i ≤ length list) × (IsStrictlySortedBy display_cmp list → IsPartitionPoint (λ x. display_cmp x d ≡ Less) (λ x. display_cmp x d ≡ Greater) list i)
 
 -- new is old with d in its place, where d is to be shown, and without it else
-pub record Settles (d : DrawopValue) (shows : Bool) (old new : List DrawopValue) : Type 0 where
+pub record SetsShown (d : DrawopValue) (shows : Bool) (old new : List DrawopValue) : Type 0 where
   pub rising : IsStrictlySortedBy display_cmp new
   pub others : (x : DrawopValue) → x ≢ d → Contains new x ↔ Contains old x
   pub itself : Contains new d ↔ (shows ≡ true)

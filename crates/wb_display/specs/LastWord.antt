@@ -8,15 +8,12 @@ use Rattle.wb_names.specs.declared.name.PageId.{PageId}
 use Rattle.wb_names.specs.declared.parts.Op.{Op}
 use Rattle.wb_names.specs.declared.parts.Op.TheVariants.{Drawn, Text, Aimed}
 use Rattle.wb_display.specs.Display.{is_delete, is_drawing, has_target}
-use Rattle.wb_display.specs.declared.last_words.Label.{Label}
+use Rattle.wb_names.specs.declared.parts.Target.{Target}
 use Rattle.wb_display.specs.declared.last_words.LastWord.{LastWord}
 
-abbrev pub same_label : Label → Label → Bool
-same_label a b = nat_eq a.source b.source && nat_eq a.seq b.seq
-
--- what tells a drawop from the others of its page
-abbrev pub label_of : DrawopValue → Label
-label_of d = record { source = d.name.source; seq = d.name.seq }
+-- what names a drawop on its page
+abbrev pub own_target : DrawopValue → Target
+own_target d = record { source = d.name.source; seq = d.name.seq }
 
 -- by time, then by source, then by number
 abbrev pub word_cmp : LastWord → LastWord → Ordering
@@ -31,26 +28,26 @@ later_word (Some before) word = if is_lt (word_cmp before word) then word else b
 abbrev pub word_of : DrawopValue → LastWord
 word_of e = record { time = e.time; source = e.name.source; seq = e.name.seq; hides = is_delete e.op }
 
--- the label that a delete or a restore names
-abbrev pub target_label : Op → Option Label
-target_label (Drawn figure s) = None
-target_label (Text x y text) = None
-target_label (Aimed change t) = Some (record { source = t.source; seq = t.seq })
+-- the target that a delete or a restore names
+abbrev pub aimed_target : Op → Option Target
+aimed_target (Drawn figure s) = None
+aimed_target (Text x y text) = None
+aimed_target (Aimed change t) = Some t
 
--- the label of the one drawop whose showing d may change: its target, or itself where it names none
-abbrev pub stake_label : DrawopValue → Label
-stake_label d = unwrap_or (target_label d.op) (label_of d)
+-- the one drawop whose showing d may change: its target, or itself where it has none
+abbrev pub affected_target : DrawopValue → Target
+affected_target d = unwrap_or (aimed_target d.op) (own_target d)
 
--- e is a delete or a restore on the page, of the drawop of this label
-abbrev pub speaks_of : PageId → Label → DrawopValue → Bool
-speaks_of page label e = same_page e.name.page page && has_target e.op label.source label.seq
+-- e is a delete or a restore on the page, of this target
+abbrev pub speaks_of : PageId → Target → DrawopValue → Bool
+speaks_of page target e = same_page e.name.page page && has_target e.op target.source target.seq
 
--- of the deletes and restores of a label in the history there is none, or w is what the latest says
-abbrev pub IsLastWord : List DrawopValue → PageId → Label → Option LastWord → Type 0
-IsLastWord history page label None = (e : DrawopValue) → Contains history e → speaks_of page label e ≡ false
-IsLastWord history page label (Some w) =
-    ((e : DrawopValue) × Contains history e × (speaks_of page label e ≡ true) × (word_of e ≡ w))
-    × ((f : DrawopValue) → Contains history f → speaks_of page label f ≡ true → is_lt (word_cmp w (word_of f)) ≡ false)
+-- of the deletes and restores of a target in the history there is none, or w is what the latest says
+abbrev pub IsLastWord : List DrawopValue → PageId → Target → Option LastWord → Type 0
+IsLastWord history page target None = (e : DrawopValue) → Contains history e → speaks_of page target e ≡ false
+IsLastWord history page target (Some w) =
+    ((e : DrawopValue) × Contains history e × (speaks_of page target e ≡ true) × (word_of e ≡ w))
+    × ((f : DrawopValue) → Contains history f → speaks_of page target f ≡ true → is_lt (word_cmp w (word_of f)) ≡ false)
 
 -- whether the last word hides; a drawop of which nothing is said is not hidden
 abbrev pub hides : Option LastWord → Bool

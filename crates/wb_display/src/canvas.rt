@@ -6,7 +6,7 @@ ghost use Rattle.std.specs.Io.KnownBytes.{Appends};
 ghost use Rattle.wb_display.specs.Canvas.{canvas_text, is_canvas_size as is_canvas_size_of};
 ghost use Rattle.wb_display.specs.Cells.{Shows};
 
-use crate::strokes::{Size, draw};
+use crate::strokes::{Size, paint_op};
 use std::alloc::{AllocError, Global};
 use std::marker::Model;
 use thiserror::Error;
@@ -149,6 +149,6 @@ fn paint_over(cells: &mut [u8], size: Size, list: &[Drawop])
 {
     clear(cells, size);
     for drawop in list {
-        draw(cells, size, drawop.op());
+        paint_op(cells, size, drawop.op());
     }
 }

@@ -3,7 +3,7 @@
 ghost use Rattle.std.specs.Prelude.{◌≡◌, ◌<◌, ◌≤◌, vec_len, vec_capacity};
 ghost use Rattle.std.specs.List.Sorted.{IsStrictlySortedBy};
 ghost use Rattle.wb_names.specs.Orders.{display_cmp};
-ghost use Rattle.wb_display.specs.DisplayList.{IsPlaceOf, Settles, TiesAlone, ties_with};
+ghost use Rattle.wb_display.specs.DisplayList.{IsPlaceOf, SetsShown, TiesAlone, ties_with};
 
 use wb_names::{Drawop, before, display_order};
 
@@ -21,9 +21,9 @@ fn place_in(list: &[Drawop], drawop: &Drawop) -> Result<usize, usize>
 
 /// Puts a drawop into the list where it is to be shown, and takes it out where it is not. The list
 /// has room for one more.
-pub(crate) fn settle(list: &mut Vec<Drawop>, drawop: &Drawop, shows: bool)
+pub(crate) fn set_shown(list: &mut Vec<Drawop>, drawop: &Drawop, shows: bool)
     requires { vec_len list.old < vec_capacity list.old }
-    ensures { IsStrictlySortedBy display_cmp list.old.items → TiesAlone list.old.items drawop.now → Settles drawop.now shows list.old.items list.new.items }
+    ensures { IsStrictlySortedBy display_cmp list.old.items → TiesAlone list.old.items drawop.now → SetsShown drawop.now shows list.old.items list.new.items }
 {
     match place_in(list, drawop) {
         Ok(place) => {

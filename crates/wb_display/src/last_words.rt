@@ -7,31 +7,22 @@ ghost use Rattle.std.specs.Ordering.{is_lt};
 ghost use Rattle.wb_names.specs.Values.{DrawopValue};
 ghost use Rattle.wb_names.specs.Orders.{same_page};
 ghost use Rattle.wb_display.specs.Display.{is_drawing as is_drawing_op, is_delete as is_delete_op};
-ghost use Rattle.wb_display.specs.LastWord.{label_of, target_label, stake_label, word_of, word_cmp, later_word as later_word_of, hides, is_shown_by};
-ghost use Rattle.wb_display.specs.declared.last_words.Label.{Label};
+ghost use Rattle.wb_display.specs.LastWord.{own_target, aimed_target, affected_target, word_of, word_cmp, later_word as later_word_of, hides, is_shown_by};
+ghost use Rattle.wb_names.specs.declared.parts.Target.{Target};
 ghost use Rattle.wb_display.specs.LastWords.{AreLastWords, word_on};
 
 use std::alloc::{AllocError, Global};
 use std::collections::HashMap;
 use wb_names::{Change, Drawop, Op, PageId, Target};
 
-/// What tells a drawop from the others of its page: its source and its number.
-#[derive(Clone, Copy, PartialEq, Eq, Hash)]
-pub(crate) struct Label {
-    pub source: u32,
-    pub seq: u32,
-}
-
-impl Label {
-    /// The label of a drawop.
-    #[inline(always)]
-    pub fn of(drawop: &Drawop) -> Label
-        ensures { result ≡ label_of drawop.now }
-    {
-        Label {
-            source: drawop.name().source(),
-            seq: drawop.name().seq(),
-        }
+/// What names a drawop on its page.
+#[inline(always)]
+pub(crate) fn naming(drawop: &Drawop) -> Target
+    ensures { result ≡ own_target drawop.now }
+{
+    Target {
+        source: drawop.name().source(),
+        seq: drawop.name().seq(),
     }
 }
 
@@ -86,26 +77,26 @@ pub(crate) fn is_drawing(op: &Op) -> bool
     matches!(op, Op::Drawn(..) | Op::Text { .. })
 }
 
-/// The label that a delete or a restore names.
+/// The target of a delete or a restore.
 #[inline(always)]
-fn target_of(op: &Op) -> Option<Label>
-    ensures { result ≡ target_label op.now }
+fn aimed_at(op: &Op) -> Option<Target>
+    ensures { result ≡ aimed_target op.now }
 {
     match *op {
-        Op::Aimed(_, Target { source, seq }) => Some(Label { source, seq }),
+        Op::Aimed(_, target) => Some(target),
         _ => None,
     }
 }
 
-/// The label of the one drawop whose showing may change where this one is put on its page: its
-/// target, or itself where it names none.
+/// The one drawop whose showing may change where this one is put on its page: its target, or itself
+/// where it has none.
 #[inline(always)]
-pub(crate) fn stake_of(drawop: &Drawop) -> Label
-    ensures { result ≡ stake_label drawop.now }
+pub(crate) fn affected_by(drawop: &Drawop) -> Target
+    ensures { result ≡ affected_target drawop.now }
 {
-    match target_of(drawop.op()) {
-        Some(label) => label,
-        None => Label::of(drawop),
+    match aimed_at(drawop.op()) {
+        Some(target) => target,
+        None => naming(drawop),
     }
 }
 
@@ -113,7 +104,7 @@ pub(crate) fn stake_of(drawop: &Drawop) -> Label
 #[derive(Drop)]
 pub(crate) struct LastWords {
     pub page: PageId,
-    latest: HashMap<Label, LastWord>,
+    latest: HashMap<Target, LastWord>,
 }
 
 impl LastWords {
@@ -131,7 +122,7 @@ impl LastWords {
     /// Makes room for so many words more.
     pub fn reserve(&mut self, count: usize) -> Result<(), AllocError>
         ensures page { self.new.page ≡ self.old.page }
-        ensures words { (label : Label) → word_on self.new label ≡ word_on self.old label }
+        ensures words { (target : Target) → word_on self.new target ≡ word_on self.old target }
         ensures room { OnOk result (count ≤ spare self.new.latest) }
     {
         self.latest.reserve(count)
@@ -139,30 +130,30 @@ impl LastWords {
 
     /// Takes in a drawop: where it is a delete or a restore on the page, and later than what was
     /// said of its target so far, it is the last word on that.
-    pub fn hear(&mut self, drawop: &Drawop) -> Result<(), AllocError>
+    pub fn update(&mut self, drawop: &Drawop) -> Result<(), AllocError>
         ensures page { self.new.page ≡ self.old.page }
         ensures ok { OnOk result ((history : List DrawopValue) → AreLastWords history self.old → AreLastWords (history ++ drawop.now ∷ []) self.new) }
-        ensures err { OnErr result ((label : Label) → word_on self.new label ≡ word_on self.old label) }
+        ensures err { OnErr result ((target : Target) → word_on self.new target ≡ word_on self.old target) }
         ensures succeeds { 1 ≤ spare self.old.latest → IsOk result }
         ensures room { spare self.old.latest ≤ spare self.new.latest + 1 }
     {
         if !self.is_on_page(drawop) {
             return Ok(());
         }
-        let Some(label) = target_of(drawop.op()) else {
+        let Some(target) = aimed_at(drawop.op()) else {
             return Ok(());
         };
-        let word = self.later_word(label, LastWord::of(drawop));
-        self.latest.insert(label, word)?;
+        let word = self.later_word(target, LastWord::of(drawop));
+        self.latest.insert(target, word)?;
         Ok(())
     }
 
     /// The later of what was said of a drawop so far and one word more.
     #[inline(always)]
-    fn later_word(&self, label: Label, word: LastWord) -> LastWord
-        ensures { result ≡ later_word_of (word_on self.now label) word }
+    fn later_word(&self, target: Target, word: LastWord) -> LastWord
+        ensures { result ≡ later_word_of (word_on self.now target) word }
     {
-        match self.latest.get(&label) {
+        match self.latest.get(&target) {
             Some(before) if !before.is_before(&word) => *before,
             _ => word,
         }
@@ -179,16 +170,16 @@ impl LastWords {
     /// Whether a drawop is shown on the page, by the last word on it.
     #[inline(always)]
     pub fn is_shown(&self, drawop: &Drawop) -> bool
-        ensures { result ≡ is_shown_by self.now.page drawop.now (word_on self.now (label_of drawop.now)) }
+        ensures { result ≡ is_shown_by self.now.page drawop.now (word_on self.now (own_target drawop.now)) }
     {
-        self.is_on_page(drawop) && is_drawing(drawop.op()) && !self.is_hidden(Label::of(drawop))
+        self.is_on_page(drawop) && is_drawing(drawop.op()) && !self.is_hidden(naming(drawop))
     }
 
     #[inline(always)]
-    fn is_hidden(&self, label: Label) -> bool
-        ensures { result ≡ hides (word_on self.now label) }
+    fn is_hidden(&self, target: Target) -> bool
+        ensures { result ≡ hides (word_on self.now target) }
     {
-        match self.latest.get(&label) {
+        match self.latest.get(&target) {
             Some(word) => word.hides,
             None => false,
         }

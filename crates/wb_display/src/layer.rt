@@ -5,26 +5,27 @@
 
 ghost use Rattle.std.specs.Prelude.{◌≡◌, ◌≤◌, ◌<◌, ◌+◌, [], OnOk, OnErr, IsOk, All, false, vec_len, vec_capacity};
 ghost use Rattle.indexmap.specs.IndexMap.{spare};
-ghost use Rattle.wb_display.specs.TakingIn.{AreHeld, HoldsToo, IsLabelled, TakesIn, Touches};
-ghost use Rattle.wb_display.specs.LastWord.{same_label, stake_label};
+ghost use Rattle.wb_display.specs.TakingIn.{AreHeld, HoldsToo, IsKeyed, TakesIn, Touches};
+ghost use Rattle.wb_display.specs.LastWord.{affected_target};
+ghost use Rattle.wb_names.specs.Same.{same_target};
 ghost use Rattle.std.specs.Map.{lookup};
 ghost use Rattle.wb_display.specs.Display.{IsView};
 ghost use Rattle.wb_display.specs.Layer.{held_with, held_with_all, is_news as is_news_of, news_count};
 ghost use Rattle.wb_display.specs.LayerFields.{held_of};
 
-use crate::display_list::settle;
-use crate::last_words::{Label, LastWords, stake_of};
+use crate::display_list::set_shown;
+use crate::last_words::{LastWords, affected_by, naming};
 use crate::merging::show_all;
 use indexmap::IndexMap;
 use std::alloc::{AllocError, Global};
 use std::marker::Model;
-use wb_names::{Drawop, PageId};
+use wb_names::{Drawop, PageId, Target};
 
 /// A page, with the drawops that were put on it.
 #[derive(Drop)]
 pub struct Layer {
     words: LastWords,
-    drawops: IndexMap<Label, Drawop>,
+    drawops: IndexMap<Target, Drawop>,
     shown: Vec<Drawop>,
 }
 
@@ -113,17 +114,17 @@ impl Layer {
 
 /// Whether a drawop is of the page and its name was not put before.
 #[inline(always)]
-fn is_news(words: &LastWords, drawops: &IndexMap<Label, Drawop>, drawop: &Drawop) -> bool
-    ensures { All (IsLabelled words.now.page) drawops.now.entries → result ≡ is_news_of words.now.page (held_of drawops.now.entries) drawop.now }
+fn is_news(words: &LastWords, drawops: &IndexMap<Target, Drawop>, drawop: &Drawop) -> bool
+    ensures { All (IsKeyed words.now.page) drawops.now.entries → result ≡ is_news_of words.now.page (held_of drawops.now.entries) drawop.now }
 {
-    words.is_on_page(drawop) && !drawops.contains_key(&Label::of(drawop))
+    words.is_on_page(drawop) && !drawops.contains_key(&naming(drawop))
 }
 
 /// Takes in what is news in a list, one drawop after another, and lists what is held of those whose
 /// showing that may change. There is room for all of it.
 fn take_in_all(
     words: &mut LastWords,
-    drawops: &mut IndexMap<Label, Drawop>,
+    drawops: &mut IndexMap<Target, Drawop>,
     touched: &mut Vec<Drawop>,
     list: &[Drawop],
 )
@@ -140,18 +141,18 @@ fn take_in_all(
 {
     for drawop in list {
         if is_news(words, drawops, drawop) {
-            if let Some(at_stake) = hold(words, drawops, drawop) {
-                touched.push(at_stake).unwrap();
+            if let Some(affected) = hold(words, drawops, drawop) {
+                touched.push(affected).unwrap();
             }
         }
     }
 }
 
-/// Takes in a new drawop of the page, and whether the one at its stake is shown from now on. There is
-/// room for all three.
+/// Takes in a new drawop of the page, and whether the one that it affects is shown from now on. There
+/// is room for all three.
 fn take_in(
     words: &mut LastWords,
-    drawops: &mut IndexMap<Label, Drawop>,
+    drawops: &mut IndexMap<Target, Drawop>,
     shown: &mut Vec<Drawop>,
     drawop: &Drawop,
 )
@@ -161,28 +162,28 @@ fn take_in(
     ensures page { words.new.page ≡ words.old.page }
     ensures kept { TakesIn words.old drawops.old.entries shown.old.items drawop.now words.new drawops.new.entries shown.new.items }
 {
-    if let Some(at_stake) = hold(words, drawops, drawop) {
-        settle(shown, &at_stake, words.is_shown(&at_stake));
+    if let Some(affected) = hold(words, drawops, drawop) {
+        set_shown(shown, &affected, words.is_shown(&affected));
     }
 }
 
-/// Takes in what a new drawop of the page says, and the drawop itself. Gives the one at its stake,
+/// Takes in what a new drawop of the page says, and the drawop itself. Gives the one that it affects,
 /// where that is held.
 #[inline(always)]
 fn hold(
     words: &mut LastWords,
-    drawops: &mut IndexMap<Label, Drawop>,
+    drawops: &mut IndexMap<Target, Drawop>,
     drawop: &Drawop,
 ) -> Option<Drawop>
     requires words { 1 ≤ spare words.old.latest }
     requires drawops { 1 ≤ spare drawops.old }
     ensures page { words.new.page ≡ words.old.page }
     ensures held { HoldsToo words.old drawops.old.entries drawop.now words.new drawops.new.entries }
-    ensures stake { result ≡ lookup (same_label (stake_label drawop.now)) drawops.new.entries }
+    ensures affected { result ≡ lookup (same_target (affected_target drawop.now)) drawops.new.entries }
     ensures words_room { spare words.old.latest ≤ spare words.new.latest + 1 }
     ensures drawops_room { spare drawops.old ≤ spare drawops.new + 1 }
 {
-    words.hear(drawop).unwrap();
-    drawops.insert(Label::of(drawop), *drawop).unwrap();
-    drawops.get(&stake_of(drawop)).copied()
+    words.update(drawop).unwrap();
+    drawops.insert(naming(drawop), *drawop).unwrap();
+    drawops.get(&affected_by(drawop)).copied()
 }

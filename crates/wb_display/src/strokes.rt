@@ -175,7 +175,7 @@ fn draw_line(cells: &mut [u8], size: Size, from: Point, to: Point, glyph: u8)
 }
 
 /// Draws what an operation covers.
-pub(crate) fn draw(cells: &mut [u8], size: Size, op: &Op)
+pub(crate) fn paint_op(cells: &mut [u8], size: Size, op: &Op)
     requires { length cells.old ≡ size.height * (size.width + 1) }
     ensures { Overlays size.width size.height (covers op.now) (glyph_of op.now) cells.old cells.new }
 {

@@ -11,13 +11,13 @@ use std::alloc::{AllocError, Global};
 use wb_names::{Drawop, PageId, display_order};
 
 /// The last words of a list on a page.
-fn hear_all(alloc: Global, list: &[Drawop], page: PageId) -> Result<LastWords, AllocError>
+fn last_words_in(alloc: Global, list: &[Drawop], page: PageId) -> Result<LastWords, AllocError>
     ensures words { IfOk result (AreLastWords list.now) }
     ensures page { IfOk result (λ words. words.page ≡ page) }
 {
     let mut words = LastWords::new(alloc, page);
     for drawop in list {
-        words.hear(drawop)?;
+        words.update(drawop)?;
     }
     Ok(words)
 }
@@ -28,7 +28,7 @@ pub fn order(alloc: Global, list: &[Drawop], page: PageId) -> Result<Vec<Drawop>
     requires { IsHistory list.now }
     ensures { IfOk result (λ shown. IsView list.now page shown.items) }
 {
-    let words = hear_all(alloc, list, page)?;
+    let words = last_words_in(alloc, list, page)?;
     let mut shown = Vec::new(alloc);
     for drawop in list {
         if words.is_shown(drawop) {

@@ -1,4 +1,5 @@
-//! The lines that carry the bytes of a datagram.
+//! What a line does with the datagram that it carries.
+
 ghost use Rattle.std.specs.Prelude.{◌≡◌};
 ghost use Rattle.wb_filters.specs.Turning.{carrier_of, carrier_for, front, takes};
 

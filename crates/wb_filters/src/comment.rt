@@ -1,4 +1,5 @@
-//! The comment in the place of a line that can't be turned.
+//! The comments that a filter writes above a line that can't be turned.
+
 ghost use Rattle.std.specs.Prelude.{◌≡◌, IfOk};
 ghost use Rattle.std.specs.String.{string_bytes};
 ghost use Rattle.wb_filters.specs.Comments.{fault_text, comment};

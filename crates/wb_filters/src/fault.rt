@@ -1,4 +1,5 @@
-//! Why a line can't be turned, and why a filter stops.
+//! Why a line can't be turned, and why a filter ends.
+
 ghost use Rattle.std.specs.Prelude.{◌≡◌};
 ghost use Rattle.wb_filters.specs.declared.fault.TurnFault.TheVariants as turn_faults;
 

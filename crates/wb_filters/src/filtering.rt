@@ -1,4 +1,5 @@
-//! A filter of lines, from a source to a sink.
+//! A filter: a source of lines, turned line by line into a sink.
+
 ghost use Rattle.std.specs.Prelude.{◌≡◌, ◌≢◌, List, ℕ, true, Err};
 ghost use Rattle.std.specs.Io.KnownBytes.{Appends};
 ghost use Rattle.wb_lines.specs.declared.fault.DriveFault.TheVariants as faults;

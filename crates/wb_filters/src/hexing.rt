@@ -1,4 +1,5 @@
-//! Lines in words, turned into lines that carry bytes.
+//! Lines whose datagram stands in words, turned into lines with its bytes.
+
 ghost use Rattle.std.specs.Prelude.{◌≡◌, IfOk};
 ghost use Rattle.std.specs.Option.{option_map};
 ghost use Rattle.wb_words.specs.Words.{parted};

@@ -1,4 +1,5 @@
-//! A line that is not turned.
+//! Lines that are copied as they are.
+
 ghost use Rattle.std.specs.Prelude.{◌≡◌, IfOk};
 
 use std::alloc::{AllocError, Global};

@@ -1,4 +1,5 @@
-//! Lines that carry bytes, turned into words.
+//! Lines that carry the bytes of a datagram, turned into lines with its words.
+
 ghost use Rattle.std.specs.Prelude.{◌≡◌, IfOk};
 ghost use Rattle.wb_codec.specs.Reading.{reading};
 ghost use Rattle.wb_filters.specs.Turning.{MayTurn, words_behind, told, without_digits, worded};

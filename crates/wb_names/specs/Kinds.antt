@@ -1,6 +1,7 @@
 -- The kinds of operations: what each does, without its fields. A key of a kind, as its number or its word, tells it.
-use Rattle.std.specs.Prelude.{◌≡◌, Bool, true, false, ◌&&◌, List, [], ◌∷◌, Option, Some, None, find, cond, refl}
-use Rattle.std.specs.List.{list_all}
+use Rattle.std.specs.Prelude.{◌≡◌, Bool, true, false, ◌&&◌, ◌||◌, List, [], ◌∷◌, Option, Some, None, find, cond, refl}
+use Rattle.std.proofs.Common.{ap, ◌∙◌}
+use Rattle.std.specs.List.{list_all, list_any}
 use Rattle.std.specs.Option.{option_map_or}
 use Rattle.wb_names.specs.declared.parts.Figure.{Figure}
 use Rattle.wb_names.specs.declared.parts.Figure.TheVariants.{Line, Frame}
@@ -67,26 +68,26 @@ same_kind-is k l e = cc
 
 -- ---- kinds by a key
 
-both : (a b : Bool) → (a && b) ≡ true → (a ≡ true) × (b ≡ true)
+pub both : (a b : Bool) → (a && b) ≡ true → (a ≡ true) × (b ≡ true)
 both true b e = (refl, e)
 both false b e = cc
 
+is_listed : (kind : OpKind) → list_any (same_kind kind) op_kinds ≡ true
+is_listed (Drawn Line) = refl
+is_listed (Drawn Frame) = refl
+is_listed Text = refl
+is_listed (Aimed Delete) = refl
+is_listed (Aimed Restore) = refl
+
 -- what all kinds of the list pass, every kind passes
 pub every_kind : (test : OpKind → Bool) → list_all test op_kinds ≡ true → (kind : OpKind) → test kind ≡ true
-every_kind test e kind =
-    let a = both (test (Drawn Line)) _ e in
-    let b = both (test (Drawn Frame)) _ a.1 in
-    let c = both (test Text) _ b.1 in
-    let d = both (test (Aimed Delete)) _ c.1 in
-    let f = both (test (Aimed Restore)) _ d.1 in
-    of kind a.0 b.0 c.0 d.0 f.0
-  where
-    of : (kind : OpKind) → test (Drawn Line) ≡ true → test (Drawn Frame) ≡ true → test Text ≡ true → test (Aimed Delete) ≡ true → test (Aimed Restore) ≡ true → test kind ≡ true
-    of (Drawn Line) a b c d f = a
-    of (Drawn Frame) a b c d f = b
-    of Text a b c d f = c
-    of (Aimed Delete) a b c d f = d
-    of (Aimed Restore) a b c d f = f
+every_kind test e kind = among op_kinds e (is_listed kind) where
+  among : (kinds : List OpKind) → list_all test kinds ≡ true → list_any (same_kind kind) kinds ≡ true → test kind ≡ true
+  among [] all any = cc
+  among (k ∷ kinds) all any = at (same_kind kind k) refl (λ any'. among kinds (both (test k) _ all).1 any') any where
+    at : (b : Bool) → same_kind kind k ≡ b → (list_any (same_kind kind) kinds ≡ true → test kind ≡ true) → (b || list_any (same_kind kind) kinds) ≡ true → test kind ≡ true
+    at true is more any' = let e' = same_kind-is kind k is in ap test e' ∙ (both (test k) _ all).0
+    at false is more any' = more any'
 
 -- a key is of its kind alone
 abbrev pub tells : {X : Type 0} → (X → X → Bool) → (OpKind → X) → OpKind → Bool

@@ -7,7 +7,7 @@ use Rattle.std.proofs.Common.{arith, subst, eqb-true}
 use Rattle.std.proofs.lemmas.Bool.Decides.{nat_tests}
 use Rattle.wb_names.specs.Values.{DrawopValue}
 use Rattle.wb_names.specs.Orders.{same_name, same_page}
-use Rattle.wb_names.specs.Kinds.{same_figure, same_figure-here, same_figure-is, same_change, same_change-here, same_change-is}
+use Rattle.wb_names.specs.Kinds.{both, same_figure, same_figure-here, same_figure-is, same_change, same_change-here, same_change-is}
 use Rattle.wb_names.specs.declared.name.PageId.{PageId}
 use Rattle.wb_names.specs.declared.parts.Stroke.{Stroke}
 use Rattle.wb_names.specs.declared.parts.Target.{Target}
@@ -29,10 +29,6 @@ same_op op other = false
 abbrev pub same_drawop : DrawopValue → DrawopValue → Bool
 same_drawop d e = same_name d.name e.name && nat_eq d.time e.time && same_op d.op e.op
 
-both : (a b : Bool) → (a && b) ≡ true → (a ≡ true) × (b ≡ true)
-both true b e = (refl, e)
-both false b e = cc
-
 same_stroke-is : (s t : Stroke) → same_stroke s t ≡ true → s ≡ t
 same_stroke-is s t e =
     let p = both _ (nat_eq s.glyph t.glyph) e in
@@ -43,7 +39,7 @@ same_stroke-is s t e =
       one : (x0 y0 x1 y1 g a0 b0 a1 b1 h : ℕ) → x0 ≡ a0 → y0 ≡ b0 → x1 ≡ a1 → y1 ≡ b1 → g ≡ h → let v : Stroke = record { x0 = x0; y0 = y0; x1 = x1; y1 = y1; glyph = g } in let w : Stroke = record { x0 = a0; y0 = b0; x1 = a1; y1 = b1; glyph = h } in v ≡ w
       one x0 y0 x1 y1 g a0 b0 a1 b1 h i j k l m = cc
 
-same_target-is : (t u : Target) → same_target t u ≡ true → t ≡ u
+pub same_target-is : (t u : Target) → same_target t u ≡ true → t ≡ u
 same_target-is t u e = let p = both (nat_eq t.source u.source) _ e in one _ _ _ _ (eqb-true _ _ p.0) (eqb-true _ _ p.1) where
   one : (s n a b : ℕ) → s ≡ a → n ≡ b → let v : Target = record { source = s; seq = n } in let w : Target = record { source = a; seq = b } in v ≡ w
   one s n a b e f = cc

@@ -34,8 +34,8 @@ pub enum Change {
     Restore,
 }
 
-/// A source and a sequence number on the page of the drawop that names them.
-#[derive(Clone, Copy, Debug, PartialEq, Eq)]
+/// A source and a sequence number, which tell a drawop from the others of its page.
+#[derive(Clone, Copy, Debug, PartialEq, Eq, Hash)]
 pub struct Target {
     pub source: u32,
     pub seq: u32,

@@ -2,7 +2,7 @@ use Rattle.std.proofs.Common.{refl, rules}
 use Rattle.std.proofs.lemmas.Fn.{always_returns_same}
 use Rattle.wb_names.specs.Orders.{display_cmp}
 use Rattle.wb_names.specs.Values.{DrawopValue}
-use Rattle.wb_display.proofs.Settling.{place_from_search, place_at_end}
+use Rattle.wb_display.proofs.Placing.{place_from_search, place_at_end}
 use Rattle.wb_display.proofs.display_list.place_in.Goals as goal
 
 pub returns-in-Some : goal.returns-in-Some

@@ -28,12 +28,12 @@ loop-drawop-preserved c =
     let is = sym c.drawop-item.is in
     elim c.if-is_news.branch [
       | then-is_news+in-Some w ↦
-          let news : is_news words.page (held_of entries) d ≡ true = sym (c.is_news.ensures inv.held.labels) ∙ w.if-is_news.true in
+          let news : is_news words.page (held_of entries) d ≡ true = sym (c.is_news.ensures inv.held.keys) ∙ w.if-is_news.true in
           let step = step_held words w.hold.new.words entries w.hold.new.drawops.entries c.args.list.now i d (omega arith) is news w.hold.ensures.page w.hold.ensures.held inv.held in
-          let grown : w.push.new.self.items ≡ c.loop-drawop.touched.items ++ w.in-Some.at_stake ∷ [] = search rules in
+          let grown : w.push.new.self.items ≡ c.loop-drawop.touched.items ++ w.in-Some.affected ∷ [] = search rules in
           let len : vec_len w.push.new.self ≡ vec_len c.loop-drawop.touched + 1 = search rules in
           let capacity = w.push.ensures.capacity in
-          let touches = touched_more words w.hold.new.words entries w.hold.new.drawops.entries d w.hold.ensures.page inv.held step.0 step.1 (held_of c.args.drawops.now.entries) c.loop-drawop.touched.items w.in-Some.at_stake (sym w.in-Some.ensures.stake) inv.touches in
+          let touches = touched_more words w.hold.new.words entries w.hold.new.drawops.entries d w.hold.ensures.page inv.held step.0 step.1 (held_of c.args.drawops.now.entries) c.loop-drawop.touched.items w.in-Some.affected (sym w.in-Some.ensures.affected) inv.touches in
           rw (w.words-is, w.drawops-is, w.touched-is) (record {
             page = w.hold.ensures.page ∙ inv.page;
             held = step.0;
@@ -45,9 +45,9 @@ loop-drawop-preserved c =
             count = omega (arith, step.3);
           })
       | then-is_news+in_default w ↦
-          let news : is_news words.page (held_of entries) d ≡ true = sym (c.is_news.ensures inv.held.labels) ∙ w.if-is_news.true in
+          let news : is_news words.page (held_of entries) d ≡ true = sym (c.is_news.ensures inv.held.keys) ∙ w.if-is_news.true in
           let step = step_held words w.hold.new.words entries w.hold.new.drawops.entries c.args.list.now i d (omega arith) is news w.hold.ensures.page w.hold.ensures.held inv.held in
-          let touches = touched_alone words w.hold.new.words entries w.hold.new.drawops.entries d w.hold.ensures.page inv.held step.0 step.1 (held_of c.args.drawops.now.entries) c.loop-drawop.touched.items (sym w.in_default.ensures.stake) inv.touches in
+          let touches = touched_alone words w.hold.new.words entries w.hold.new.drawops.entries d w.hold.ensures.page inv.held step.0 step.1 (held_of c.args.drawops.now.entries) c.loop-drawop.touched.items (sym w.in_default.ensures.affected) inv.touches in
           rw (w.words-is, w.drawops-is, w.touched-is) (record {
             page = w.hold.ensures.page ∙ inv.page;
             held = step.0;
@@ -59,7 +59,7 @@ loop-drawop-preserved c =
             count = omega (arith, step.3);
           })
       | else-is_news w ↦
-          let known : is_news words.page (held_of entries) d ≡ false = sym (c.is_news.ensures inv.held.labels) ∙ w.if-is_news.false in
+          let known : is_news words.page (held_of entries) d ≡ false = sym (c.is_news.ensures inv.held.keys) ∙ w.if-is_news.false in
           let room = room_left words.page (held_of entries) c.args.list.now i d (omega arith) is known in
           rw (w.words-is, w.drawops-is, w.touched-is) (record {
             page = inv.page;

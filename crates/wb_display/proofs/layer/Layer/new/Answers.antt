@@ -6,8 +6,8 @@ pub invariant_of-result : goal.invariant_of-result
 invariant_of-result c = rw (c.new-2.ensures.empty, c.new-3.ensures.items) (record {
   held = record {
     names = λ i j d ij h. absurd (omega arith);
-    labels = λ k d h. absurd (omega arith);
-    heard = c.new.ensures.none;
+    keys = λ k d h. absurd (omega arith);
+    last_words = c.new.ensures.none;
   };
   view = nothing_shown c.new.result.page;
 })

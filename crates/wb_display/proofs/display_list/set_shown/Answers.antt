@@ -6,8 +6,8 @@ use Rattle.std.specs.declared.cmp.Ordering.TheVariants.{Equal}
 use Rattle.wb_names.specs.Orders.{display_cmp}
 use Rattle.wb_names.specs.Values.{DrawopValue}
 use Rattle.wb_display.specs.DisplayList.{IsPlaceOf}
-use Rattle.wb_display.proofs.Settling.{entered, left, tied_is}
-use Rattle.wb_display.proofs.display_list.settle.Goals as goal
+use Rattle.wb_display.proofs.Placing.{entered, left, tied_is}
+use Rattle.wb_display.proofs.display_list.set_shown.Goals as goal
 
 pub returns-then-not-shows : goal.returns-then-not-shows
 returns-then-not-shows c up alone =

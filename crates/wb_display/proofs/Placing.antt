@@ -16,7 +16,7 @@ use Rattle.std.proofs.lemmas.Map.Keys.{Less-from_sorted, sorted_from_all_adjacen
 use Rattle.wb_names.specs.Values.{DrawopValue}
 use Rattle.wb_names.specs.Orders.{display_cmp}
 use Rattle.wb_names.proofs.Listings.{Contains-here, Contains-there, Contains-cases}
-use Rattle.wb_display.specs.DisplayList.{IsPlaceOf, Settles, TiesAlone}
+use Rattle.wb_display.specs.DisplayList.{IsPlaceOf, SetsShown, TiesAlone}
 use Rattle.wb_display.proofs.Deciding.{display_total}
 
 -- in order, each is below all later ones, and not below itself
@@ -96,7 +96,7 @@ module _ (xs : List DrawopValue) (up : IsStrictlySortedBy display_cmp xs) where
       (cases_lt k i)
 
   -- d enters
-  pub entered : (d : DrawopValue) (i : ℕ) → i ≤ length xs → IsPartitionPoint (λ x. display_cmp x d ≡ Less) (λ x. display_cmp x d ≡ Greater) xs i → Settles d true xs (insert xs i d)
+  pub entered : (d : DrawopValue) (i : ℕ) → i ≤ length xs → IsPartitionPoint (λ x. display_cmp x d ≡ Less) (λ x. display_cmp x d ≡ Greater) xs i → SetsShown d true xs (insert xs i d)
   entered d i le place =
       let moved = IsPermutation-insert xs i d in
       record {
@@ -106,7 +106,7 @@ module _ (xs : List DrawopValue) (up : IsStrictlySortedBy display_cmp xs) where
       }
 
   -- d stays out
-  pub kept_out : (d : DrawopValue) (i : ℕ) → IsPartitionPoint (λ x. display_cmp x d ≡ Less) (λ x. display_cmp x d ≡ Greater) xs i → Settles d false xs xs
+  pub kept_out : (d : DrawopValue) (i : ℕ) → IsPartitionPoint (λ x. display_cmp x d ≡ Less) (λ x. display_cmp x d ≡ Greater) xs i → SetsShown d false xs xs
   kept_out d i place = record {
     rising = up;
     others = λ x ne. ((λ h. h), (λ h. h));
@@ -114,7 +114,7 @@ module _ (xs : List DrawopValue) (up : IsStrictlySortedBy display_cmp xs) where
   }
 
   -- d stays in
-  pub kept_in : (d : DrawopValue) (i : ℕ) → i < length xs → get_or xs i d ≡ d → Settles d true xs xs
+  pub kept_in : (d : DrawopValue) (i : ℕ) → i < length xs → get_or xs i d ≡ d → SetsShown d true xs xs
   kept_in d i lt is = record {
     rising = up;
     others = λ x ne. ((λ h. h), (λ h. h));
@@ -122,7 +122,7 @@ module _ (xs : List DrawopValue) (up : IsStrictlySortedBy display_cmp xs) where
   }
 
   -- d leaves
-  pub left : (d : DrawopValue) (i : ℕ) → i < length xs → get_or xs i d ≡ d → Settles d false xs (remove xs i)
+  pub left : (d : DrawopValue) (i : ℕ) → i < length xs → get_or xs i d ≡ d → SetsShown d false xs (remove xs i)
   left d i lt is =
       let moved = IsPermutation-remove xs i d lt (sym is) in
       record {

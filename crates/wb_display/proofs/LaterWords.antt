@@ -14,8 +14,9 @@ use Rattle.wb_names.specs.declared.parts.Op.{Op}
 use Rattle.wb_names.specs.declared.parts.Op.TheVariants.{Drawn, Text, Aimed}
 use Rattle.wb_names.proofs.Orders.{and_both}
 use Rattle.wb_display.specs.Display.{has_target}
-use Rattle.wb_display.specs.LastWord.{same_label, target_label, word_cmp, word_of, later_word, speaks_of, IsLastWord}
-use Rattle.wb_display.specs.declared.last_words.Label.{Label}
+use Rattle.wb_display.specs.LastWord.{aimed_target, word_cmp, word_of, later_word, speaks_of, IsLastWord}
+use Rattle.wb_names.specs.Same.{same_target, same_target-is}
+use Rattle.wb_names.specs.declared.parts.Target.{Target}
 use Rattle.wb_display.specs.declared.last_words.LastWord.{LastWord}
 
 pub word_total : IsTotalOrder word_cmp
@@ -40,24 +41,24 @@ not_before_itself w = ap is_lt (tied_itself word_total w)
 pub stays_last : (a b c : LastWord) → is_lt (word_cmp a b) ≡ true → is_lt (word_cmp a c) ≡ false → is_lt (word_cmp b c) ≡ false
 stays_last a b c low above = false_unless _ (λ (e : is_lt (word_cmp b c) ≡ true). let f : true ≡ false = sym (is_less _ (word_total.trans a b c (less_is _ low) (less_is _ e))) ∙ above in cc)
 
-module _ (history : List DrawopValue) (page : PageId) (label : Label) (e : DrawopValue) where
-  -- a drawop that says nothing of the label
-  pub unheard : (r : Option LastWord) → speaks_of page label e ≡ false → IsLastWord history page label r → IsLastWord (history ++ e ∷ []) page label r
-  unheard None silent last = λ f h. ⊎_elim (λ (c : Contains history f). last f c) (λ (s : e ≡ f). ap (speaks_of page label) (sym s) ∙ silent) (Contains-push_cases history e f h)
-  unheard (Some w) silent last =
+module _ (history : List DrawopValue) (page : PageId) (target : Target) (e : DrawopValue) where
+  -- a drawop that says nothing of the target
+  pub unsaid : (r : Option LastWord) → speaks_of page target e ≡ false → IsLastWord history page target r → IsLastWord (history ++ e ∷ []) page target r
+  unsaid None silent last = λ f h. ⊎_elim (λ (c : Contains history f). last f c) (λ (s : e ≡ f). ap (speaks_of page target) (sym s) ∙ silent) (Contains-push_cases history e f h)
+  unsaid (Some w) silent last =
       let from = last.0 in (
         (from.0, Contains-append_left history (e ∷ []) from.0 from.1, from.2, from.3),
-        λ f h spoken. ⊎_elim (λ (c : Contains history f). last.1 f c spoken) (λ (s : e ≡ f). absurd (let t : true ≡ false = sym spoken ∙ ap (speaks_of page label) (sym s) ∙ silent in cc)) (Contains-push_cases history e f h),
+        λ f h spoken. ⊎_elim (λ (c : Contains history f). last.1 f c spoken) (λ (s : e ≡ f). absurd (let t : true ≡ false = sym spoken ∙ ap (speaks_of page target) (sym s) ∙ silent in cc)) (Contains-push_cases history e f h),
       )
 
   -- one that says something
-  pub heard : (r : Option LastWord) → speaks_of page label e ≡ true → IsLastWord history page label r → IsLastWord (history ++ e ∷ []) page label (Some (later_word r (word_of e)))
-  heard None spoken last = (
+  pub word_said : (r : Option LastWord) → speaks_of page target e ≡ true → IsLastWord history page target r → IsLastWord (history ++ e ∷ []) page target (Some (later_word r (word_of e)))
+  word_said None spoken last = (
     (e, Contains-push history e, spoken, refl),
     λ f h said. ⊎_elim (λ (c : Contains history f). absurd (let t : true ≡ false = sym said ∙ last f c in cc)) (λ (s : e ≡ f). ap (λ (g : DrawopValue). is_lt (word_cmp (word_of e) (word_of g))) (sym s) ∙ not_before_itself (word_of e)) (Contains-push_cases history e f h),
   )
-  heard (Some w) spoken last =
-      elim (is_lt (word_cmp w (word_of e))) as (λ b. is_lt (word_cmp w (word_of e)) ≡ b → IsLastWord (history ++ e ∷ []) page label (Some (cond b (word_of e) w))) [
+  word_said (Some w) spoken last =
+      elim (is_lt (word_cmp w (word_of e))) as (λ b. is_lt (word_cmp w (word_of e)) ≡ b → IsLastWord (history ++ e ∷ []) page target (Some (cond b (word_of e) w))) [
         | true ↦ λ later. (
           (e, Contains-push history e, spoken, refl),
           λ f h said. ⊎_elim (λ (c : Contains history f). stays_last w (word_of e) (word_of f) later (last.1 f c said)) (λ (s : e ≡ f). ap (λ (g : DrawopValue). is_lt (word_cmp (word_of e) (word_of g))) (sym s) ∙ not_before_itself (word_of e)) (Contains-push_cases history e f h),
@@ -68,19 +69,13 @@ module _ (history : List DrawopValue) (page : PageId) (label : Label) (e : Drawo
         )
       ] refl
 
-label_parts : (a b m n : ℕ) → a ≡ b → m ≡ n → let l : Label = record { source = a; seq = m } in let k : Label = record { source = b; seq = n } in l ≡ k
-label_parts a b m n e f = cc
-
-pub same_label-is : (l k : Label) → same_label l k ≡ true → l ≡ k
-same_label-is l k e = let h = and_both (nat_eq l.source k.source) _ e in label_parts _ _ _ _ (eqb-true l.source k.source h.0) (eqb-true l.seq k.seq h.1)
-
 -- an operation has the target that it names, and no other
-pub aims_where : (op : Op) (l k : Label) → target_label op ≡ Some l → has_target op k.source k.seq ≡ same_label l k
+pub aims_where : (op : Op) (l k : Target) → aimed_target op ≡ Some l → has_target op k.source k.seq ≡ same_target l k
 aims_where (Drawn figure s) l k e = cc
 aims_where (Text x y text) l k e = cc
-aims_where (Aimed change t) l k e = let f : record { source = t.source; seq = t.seq } ≡ l = cc in ap (λ (m : Label). same_label m k) f
+aims_where (Aimed change t) l k e = let f : t ≡ l = cc in ap (λ (m : Target). same_target m k) f
 
-pub aims_nowhere : (op : Op) (k : Label) → target_label op ≡ None → has_target op k.source k.seq ≡ false
+pub aims_nowhere : (op : Op) (k : Target) → aimed_target op ≡ None → has_target op k.source k.seq ≡ false
 aims_nowhere (Drawn figure s) k e = refl
 aims_nowhere (Text x y text) k e = refl
 aims_nowhere (Aimed change t) k e = cc
@@ -89,22 +84,22 @@ and_true : (a b : Bool) → a ≡ true → (a && b) ≡ b
 and_true true b e = refl
 and_true false b e = cc
 
-module _ (history : List DrawopValue) (page : PageId) (d : DrawopValue) (f g : Label → Option LastWord) where
+module _ (history : List DrawopValue) (page : PageId) (d : DrawopValue) (f g : Target → Option LastWord) where
   -- a drawop that names nothing leaves all words
-  pub hear_nothing : target_label d.op ≡ None → ((l : Label) → IsLastWord history page l (f l)) → (l : Label) → IsLastWord (history ++ d ∷ []) page l (f l)
-  hear_nothing none last l = unheard history page l d (f l) (false_unless _ (λ (t : speaks_of page l d ≡ true). let e : true ≡ false = sym (and_both (same_page d.name.page page) (has_target d.op l.source l.seq) t).1 ∙ aims_nowhere d.op l none in cc)) (last l)
+  pub update_nothing : aimed_target d.op ≡ None → ((l : Target) → IsLastWord history page l (f l)) → (l : Target) → IsLastWord (history ++ d ∷ []) page l (f l)
+  update_nothing none last l = unsaid history page l d (f l) (false_unless _ (λ (t : speaks_of page l d ≡ true). let e : true ≡ false = sym (and_both (same_page d.name.page page) (has_target d.op l.source l.seq) t).1 ∙ aims_nowhere d.op l none in cc)) (last l)
 
-  -- one that names a label changes the word on that alone
-  pub hear_word : (l : Label) → same_page d.name.page page ≡ true → target_label d.op ≡ Some l → ((q : Label) → g q ≡ cond (same_label l q) (Some (later_word (f l) (word_of d))) (f q)) → ((q : Label) → IsLastWord history page q (f q)) → (q : Label) → IsLastWord (history ++ d ∷ []) page q (g q)
-  hear_word l here named changed last q = at (same_label l q) refl where
-    spoken : speaks_of page q d ≡ same_label l q
+  -- one that names a target changes the word on that alone
+  pub update_word : (l : Target) → same_page d.name.page page ≡ true → aimed_target d.op ≡ Some l → ((q : Target) → g q ≡ cond (same_target l q) (Some (later_word (f l) (word_of d))) (f q)) → ((q : Target) → IsLastWord history page q (f q)) → (q : Target) → IsLastWord (history ++ d ∷ []) page q (g q)
+  update_word l here named changed last q = at (same_target l q) refl where
+    spoken : speaks_of page q d ≡ same_target l q
     spoken = and_true _ _ here ∙ aims_where d.op l q named
 
-    at : (b : Bool) → same_label l q ≡ b → IsLastWord (history ++ d ∷ []) page q (g q)
+    at : (b : Bool) → same_target l q ≡ b → IsLastWord (history ++ d ∷ []) page q (g q)
     at true e =
-        let s : l ≡ q = same_label-is l q e in
-        let new : Some (later_word (f q) (word_of d)) ≡ g q = sym (changed q ∙ ap (λ (b : Bool). cond b (Some (later_word (f l) (word_of d))) (f q)) e ∙ ap (λ (k : Label). Some (later_word (f k) (word_of d))) s) in
-        subst (IsLastWord (history ++ d ∷ []) page q) new (heard history page q d (f q) (spoken ∙ e) (last q))
+        let s : l ≡ q = same_target-is l q e in
+        let new : Some (later_word (f q) (word_of d)) ≡ g q = sym (changed q ∙ ap (λ (b : Bool). cond b (Some (later_word (f l) (word_of d))) (f q)) e ∙ ap (λ (k : Target). Some (later_word (f k) (word_of d))) s) in
+        subst (IsLastWord (history ++ d ∷ []) page q) new (word_said history page q d (f q) (spoken ∙ e) (last q))
     at false e =
         let new : f q ≡ g q = sym (changed q ∙ ap (λ (b : Bool). cond b (Some (later_word (f l) (word_of d))) (f q)) e) in
-        subst (IsLastWord (history ++ d ∷ []) page q) new (unheard history page q d (f q) (spoken ∙ e) (last q))
+        subst (IsLastWord (history ++ d ∷ []) page q) new (unsaid history page q d (f q) (spoken ∙ e) (last q))
