@@ -2,12 +2,9 @@
 use Rattle.std.specs.Prelude.{◌≡◌, ℕ, ◌+◌, ◌≤◌, List, [], ◌∷◌, length}
 use mathlib.Core.List.{IsPrefix}
 use Rattle.wb_names.specs.Values.{DrawopValue}
-use Rattle.wb_names.specs.History.{IsAgainAt, IsClashAt}
-use Rattle.wb_names.specs.Arrivals.{Outcome, Fresh, Known, Clashed, Left, Counts, counts_of}
-use Rattle.wb_history.specs.Passes.{PassValue, IsSamePass, AddsNothing, IsSound}
-use Rattle.wb_history.specs.Replies.{IsAdded, HasNoRow}
-use Rattle.wb_host.specs.declared.reply.Reply.{Reply}
-use Rattle.wb_host.specs.declared.reply.Reply.TheVariants.{New, Again, Clash}
+use Rattle.wb_names.specs.Arrivals.{Outcome, Counts, counts_of}
+use Rattle.wb_history.specs.Passes.{PassValue, IsSamePass, IsSound}
+use Rattle.wb_history.specs.Replies.{Becomes}
 
 -- whatever is answered, the desk is of the same board, and its list begins with what it was
 pub record Keeps (p q : PassValue) : Type 0 where
@@ -20,18 +17,6 @@ pub record LosesAtMost (most : ℕ) (p q : PassValue) : Type 0 where
   pub places : IsPrefix p.mine q.mine
   pub none_more : q.free + length q.mine ≤ p.free + length p.mine
   pub rows : p.free + length p.mine ≤ (q.free + length q.mine) + most
-
--- the outcome that a reply tells
-abbrev pub outcome : Reply → Outcome
-outcome (New i) = Fresh i
-outcome (Again i) = Known i
-outcome (Clash i) = Clashed i
-
-abbrev pub Becomes : PassValue → DrawopValue → Outcome → PassValue → Type 0
-Becomes p d (Fresh i) q = IsAdded p d i q
-Becomes p d (Known i) q = IsAgainAt q.seen d i × AddsNothing p q
-Becomes p d (Clashed i) q = IsClashAt q.seen d i × AddsNothing p q
-Becomes p d Left q = HasNoRow p d q
 
 -- one accept, in which d had this outcome
 pub record Accepts (p : PassValue) (d : DrawopValue) (o : Outcome) (q : PassValue) : Type 0 where

@@ -38,7 +38,7 @@ pub struct Batch {
 }
 
 impl Batch {
-    ghost use Rattle.wb_feed.specs.Accepts.{outcome};
+    ghost use Rattle.wb_host.specs.Replies.{outcome};
 
     /// Counts a reply.
     fn count(&mut self, reply: Reply)

@@ -5,7 +5,8 @@ ghost use Rattle.crossbeam_channel.specs.Ends.{receives_on};
 ghost use Rattle.wb_names.specs.Arrivals.{Outcome};
 ghost use Rattle.wb_history.specs.Passes.{IsPassOf};
 ghost use Rattle.wb_feed.specs.declared.channel.Message.TheVariants.{Take, End};
-ghost use Rattle.wb_feed.specs.Accepts.{LosesAtMost, Accepts, outcome};
+ghost use Rattle.wb_host.specs.Replies.{outcome};
+ghost use Rattle.wb_feed.specs.Accepts.{LosesAtMost, Accepts};
 ghost use Rattle.wb_feed.specs.Channel.{channel_view, receives, Follows};
 ghost use Rattle.wb_feed.specs.Served.{AcceptsOne, Served};
 

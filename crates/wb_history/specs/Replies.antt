@@ -2,6 +2,7 @@
 use Rattle.std.specs.Prelude.{◌≡◌, ℕ, ◌+◌, ◌-◌, ◌*◌, ◌≤◌, [], ◌∷◌, ◌++◌, length, take, slice_get, Some}
 use Rattle.wb_names.specs.Values.{DrawopValue}
 use Rattle.wb_names.specs.History.{HoldsName, IsNewAt, IsAgainAt, IsClashAt}
+use Rattle.wb_names.specs.Arrivals.{Outcome, Fresh, Known, Clashed, Left}
 use Rattle.wb_history.specs.Sizes.{row_words, member_steps}
 use Rattle.wb_history.specs.Passes.{PassValue, IsWhole, AddsNothing, IsCaughtUp}
 use Rattle.wb_history.specs.declared.hand.Claim.{Claim}
@@ -26,14 +27,12 @@ pub record HasNoRow (p : PassValue) (d : DrawopValue) (q : PassValue) : Type 0 w
   pub end : IsCaughtUp p q
   pub kept : AddsNothing p q
 
-abbrev pub Claimed : PassValue → DrawopValue → PassValue → Claim → Type 0
-Claimed p d q (Added i) = IsAdded p d i q
-Claimed p d q (Present i) = IsAgainAt q.seen d i × AddsNothing p q
-Claimed p d q (Clash i) = IsClashAt q.seen d i × AddsNothing p q
-
-abbrev pub NotClaimed : PassValue → DrawopValue → PassValue → ClaimFault → Type 0
-NotClaimed p d q NoRow = HasNoRow p d q
-NotClaimed p d q Memory = AddsNothing p q
+-- what taking d makes of the pass, by what became of d
+abbrev pub Becomes : PassValue → DrawopValue → Outcome → PassValue → Type 0
+Becomes p d (Fresh i) q = IsAdded p d i q
+Becomes p d (Known i) q = IsAgainAt q.seen d i × AddsNothing p q
+Becomes p d (Clashed i) q = IsClashAt q.seen d i × AddsNothing p q
+Becomes p d Left q = HasNoRow p d q
 
 -- how many members more the pass has seen
 abbrev pub brought : PassValue → PassValue → ℕ
@@ -41,11 +40,33 @@ brought p q = length q.seen - length p.seen
 
 -- A member of others is read by one load of its cell, or a lost exchange, and a load of each word of its row. A drawop is added by a
 -- load that finds the end, a store of each word, and an exchange.
+abbrev pub most_steps : ℕ → ℕ
+most_steps others = member_steps * others + row_words + 2
+
+-- how many steps on words it took, by what became of d
+abbrev pub OutcomeSteps : PassValue → PassValue → Outcome → Type 0
+OutcomeSteps p q (Fresh i) = q.steps ≤ most_steps (i - length p.seen)
+OutcomeSteps p q (Known i) = q.steps ≤ most_steps (brought p q)
+OutcomeSteps p q (Clashed i) = q.steps ≤ most_steps (brought p q)
+OutcomeSteps p q Left = q.steps ≤ member_steps * brought p q + 1
+
+-- ---- a claim
+
+abbrev pub claimed : Claim → Outcome
+claimed (Added i) = Fresh i
+claimed (Present i) = Known i
+claimed (Clash i) = Clashed i
+
+abbrev pub Claimed : PassValue → DrawopValue → PassValue → Claim → Type 0
+Claimed p d q claim = Becomes p d (claimed claim) q
+
+abbrev pub NotClaimed : PassValue → DrawopValue → PassValue → ClaimFault → Type 0
+NotClaimed p d q NoRow = Becomes p d Left q
+NotClaimed p d q Memory = AddsNothing p q
+
 abbrev pub ClaimSteps : PassValue → PassValue → Claim → Type 0
-ClaimSteps p q (Added i) = q.steps ≤ member_steps * (i - length p.seen) + row_words + 2
-ClaimSteps p q (Present i) = q.steps ≤ member_steps * brought p q + row_words + 2
-ClaimSteps p q (Clash i) = q.steps ≤ member_steps * brought p q + row_words + 2
+ClaimSteps p q claim = OutcomeSteps p q (claimed claim)
 
 abbrev pub FaultSteps : PassValue → PassValue → ClaimFault → Type 0
-FaultSteps p q NoRow = q.steps ≤ member_steps * brought p q + 1
-FaultSteps p q Memory = q.steps ≤ member_steps * brought p q + row_words + 2
+FaultSteps p q NoRow = OutcomeSteps p q Left
+FaultSteps p q Memory = q.steps ≤ most_steps (brought p q)
