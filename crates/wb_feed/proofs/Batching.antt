@@ -1,8 +1,8 @@
 -- What the workers accepted and what was taken again, as one batch.
-use Rattle.std.proofs.Common.{◌≡◌, ℕ, ◌+◌, ◌/◌, ◌≤◌, ◌<◌, Bool, List, [], ◌∷◌, ◌++◌, length, map, get_or, refl, ap, sym, subst, ◌∙◌, ⊎_elim, arith, append_assoc, length-append}
+use Rattle.std.proofs.Common.{◌≡◌, ℕ, ◌+◌, ◌/◌, ◌≤◌, ◌<◌, Bool, List, [], ◌∷◌, ◌++◌, length, map, get_or, refl, ap, sym, subst, ◌∙◌, inl, inr, arith, append_assoc, length-append}
 use Rattle.std.specs.Prelude.{All}
 use Rattle.std.proofs.lemmas.Bool.Decides.{nat_tests}
-use Rattle.std.proofs.lemmas.List.Elements.{All-nil, All-cons}
+use Rattle.std.proofs.lemmas.List.Elements.{All-nil, All-cons, filter-append}
 use Rattle.std.specs.List.Sorted.{IsPermutation}
 use Rattle.std.proofs.lemmas.List.Sorted.{IsPermutation-trans, IsPermutation-append_right, length_permutation}
 use mathlib.Core.List.{IsPrefix}
@@ -20,14 +20,16 @@ use Rattle.wb_feed.specs.Workers.{Workers, Work, Worked}
 use Rattle.wb_feed.specs.Channel.{once_below, IsComplete, AreRight, spots}
 use Rattle.wb_feed.specs.Marks.{unmarked, Marks, Retakes}
 use Rattle.wb_feed.specs.Served.{Spot, is_left, entries, accepted_at, offered, Serves}
-use Rattle.wb_feed.proofs.Log.{is_taken, chosen, chosen-append, drawops-append, tally-append, tally_all, left_many, Told, Gathers, gathers_none, gathers_run, runs_empty}
+use Rattle.wb_host.proofs.InOrder.{one_run}
+use Rattle.wb_feed.proofs.Log.{is_taken, chosen, taken_or_left, drawops-append, tally-append, tally_all, left_many, Told, Gathers, gathers_none, gathers_run, runs_empty}
 use Rattle.wb_feed.proofs.Members.{nothing, at_named}
 use Rattle.wb_feed.proofs.Numbers.{times}
 use Rattle.wb_feed.proofs.OneThread.{counted_as, same_counts}
 use Rattle.wb_feed.proofs.OneWorker.{in_given_order}
 use Rattle.wb_feed.proofs.Placing.{OffersRight, places_and_rest, serves_offer, serves_once, workers_offer, workers_once, workers_gather, taken_at}
 use Rattle.wb_feed.proofs.Prefixes.{prefix_length}
-use Rattle.wb_feed.proofs.Settling.{taken_or_left, settles, left_lacks, stays_whole}
+use Rattle.wb_feed.proofs.OneRun.{in_some_order}
+use Rattle.wb_feed.proofs.WholeDesks.{left_lacks, stays_whole}
 
 taken_many : (log : List Entry) → length (drawops (chosen is_taken log)) ≡ ((tally log).fresh + (tally log).again) + (tally log).clash
 taken_many [] = omega arith
@@ -48,21 +50,21 @@ once_rises : (i m n : ℕ) → m ≤ n → once_below i m ≤ once_below i n
 once_rises i m n h = grind (arith, nat_tests)
 
 -- What workers did, whether each had a part of the rows or the one the desk itself: p is the desk before, q the desk after
-pub record Gained (p : PassValue) (log : List Spot) (gots : List Message) (q : PassValue) : Type 0 where
-  pub gathers : Gathers p (entries log) q
-  pub once : (i : ℕ) → times i (accepted_at log) ≤ spots i gots
-  pub offers : (sent ds : List DrawopValue) → IsPrefix sent ds → AreRight sent gots → OffersRight ds (offered log)
+record Gained (p : PassValue) (log : List Spot) (gots : List Message) (q : PassValue) : Type 0 where
+  gathers : Gathers p (entries log) q
+  once : (i : ℕ) → times i (accepted_at log) ≤ spots i gots
+  offers : (sent ds : List DrawopValue) → IsPrefix sent ds → AreRight sent gots → OffersRight ds (offered log)
 
-pub gained : (n : ℕ) (p q : PassValue) (log : List Spot) (gots : List Message) → Work n p log gots q → Gained p log gots q
-gained n p q log gots w = ⊎_elim
-    (λ (x : (n ≡ 1) × Serves p log gots q).
+gained : (n : ℕ) (p q : PassValue) (log : List Spot) (gots : List Message) → Work n p log gots q → Gained p log gots q
+gained n p q log gots (inl x) =
     let s = x.1 in
     let run : Runs p (entries log) q = s.runs in
-    record { gathers = gathers_run p p q [] (entries log) (gathers_none p) run; once = λ i. serves_once i s; offers = λ sent ds h right. serves_offer sent ds h right s })
-    (λ (x : (1 < n) × Workers (p.free / n) n p log gots q). record { gathers = workers_gather x.1; once = λ i. workers_once i x.1; offers = λ sent ds h right. workers_offer sent ds h right x.1 }) w
+    record { gathers = gathers_run p p q [] (entries log) (gathers_none p) run; once = λ i. serves_once i s; offers = λ sent ds h right. serves_offer sent ds h right s }
+gained n p q log gots (inr x) = record { gathers = workers_gather x.1; once = λ i. workers_once i x.1; offers = λ sent ds h right. workers_offer sent ds h right x.1 }
 
 alone : (n : ℕ) (p q : PassValue) (log : List Spot) (gots : List Message) → Work n p log gots q → n ≡ 1 → Serves p log gots q
-alone n p q log gots w one = ⊎_elim (λ (x : (n ≡ 1) × Serves p log gots q). x.1) (λ (x : (1 < n) × Workers (p.free / n) n p log gots q). absurd (omega (arith, x.0, one))) w
+alone n p q log gots (inl x) one = x.1
+alone n p q log gots (inr x) one = absurd (omega (arith, x.0, one))
 
 -- the same, with what n workers told of it
 abbrev pub AllWorked : ℕ → PassValue → PassValue → ChannelView → ChannelView → Accepted → Type 0
@@ -96,6 +98,10 @@ whole_from n p q g h a drawn ms c none all sent m =
       marks = subst (λ l. Marks l (length drawn) ms) c.tells.positions m;
     }
 
+-- how the workers shared them
+abbrev pub shares : (n : ℕ) (p q r : PassValue) (g h : ChannelView) (a : Accepted) (drawn : List DrawopValue) (ms : List Bool) (t : Batch) (c : AllWorked n p q g h a) → Whole drawn ms c.log c.gots → Retakes q (unmarked ms drawn) r t → IsShared n p drawn r
+shares n p q r g h a drawn ms t c whole m = record { log = c.log; gots = c.gots; joined = q; work = c.did; marks = ms; marked = whole.marks; left_over = m.log; rest = m.runs; all = m.all }
+
 pub takes_all : (n : ℕ) (p q r : PassValue) (g h : ChannelView) (a : Accepted) (drawn : List DrawopValue) (ms : List Bool) (t b : Batch) (c : AllWorked n p q g h a) → Whole drawn ms c.log c.gots
     → IsSound p → IsSound q → IsSound r → Retakes q (unmarked ms drawn) r t → IsTotal a t b → Takes p drawn n r b
 takes_all n p q r g h a drawn ms t b c whole sp sq sr m e =
@@ -116,7 +122,7 @@ takes_all n p q r g h a drawn ms t b c whole sp sq sr m e =
     let rest : IsPermutation (unmarked ms drawn) (retaken ++ lefts) = subst (λ l. IsPermutation l (retaken ++ lefts)) m.all (taken_or_left more) in
     let both : IsPermutation drawn ((taken ++ retaken) ++ lefts) = subst (λ l. IsPermutation drawn l) (sym (append_assoc taken retaken lefts))
     (IsPermutation-trans drawn (taken ++ unmarked ms drawn) (taken ++ (retaken ++ lefts)) whole.moved (IsPermutation-append_right taken (unmarked ms drawn) (retaken ++ lefts) rest)) in
-    let in_all : drawops (chosen is_taken all) ≡ taken ++ retaken = ap drawops (chosen-append is_taken log more) ∙ drawops-append (chosen is_taken log) (chosen is_taken more) in
+    let in_all : drawops (chosen is_taken all) ≡ taken ++ retaken = ap drawops (filter-append (λ (e : Entry). is_taken e.1) log more) ∙ drawops-append (chosen is_taken log) (chosen is_taken more) in
     let moved : IsPermutation drawn (drawops (chosen is_taken all) ++ lefts) = subst (λ l. IsPermutation drawn (l ++ lefts)) (sym in_all) both in
     let many = length_permutation drawn (drawops (chosen is_taken all) ++ lefts) moved in
     let none : 0 < length lefts → r.free ≡ 0 = λ some. runs_empty q r more m.runs (omega (arith, left_many more)) in
@@ -126,9 +132,7 @@ takes_all n p q r g h a drawn ms t b c whole sp sq sr m e =
       named = record { held = drawops (chosen is_taken all); others = lefts; moved = moved; names = taken_names r.seen all gs.told; few = left' };
       full = λ some. none (omega (arith, left'));
       whole = stays_whole p r all gs;
-      settled = λ w.
-          let s = settles p r all drawn lefts sp w sr gs moved (left_lacks q r more sr (stays_whole p r all gs w) m.runs) none in
-          record { order = s.order; moved = s.moved; taken = counted_as p.cells p.seen r.seen s.order (counts (tally all).fresh (tally all).again (tally all).clash (length lefts)) (counts_in b) (same_counts fresh again clash left') s.taken };
+      settled = λ w. in_some_order one_run n p drawn r (shares n p q r g h a drawn ms t c whole m) lefts b sp w sr moved (left_lacks q r more sr (stays_whole p r all gs w) m.runs) none (fresh, again, clash, left');
       in_order = λ is w.
           counted_as p.cells p.seen r.seen drawn (counts (tally all).fresh (tally all).again (tally all).clash (tally more).left) (counts_in b) (same_counts fresh again clash left)
           (in_given_order whole.low p q r c.log c.gots more drawn ms sp w sq sr (alone n p q c.log c.gots c.did is) m.runs m.all whole.most whole.once whole.right whole.marks);
@@ -153,7 +157,3 @@ total_few n p q r g h a drawn ms t c whole m =
       m.tallies.clash,
       m.tallies.left,
     )
-
--- and how the workers shared them
-pub shares : (n : ℕ) (p q r : PassValue) (g h : ChannelView) (a : Accepted) (drawn : List DrawopValue) (ms : List Bool) (t : Batch) (c : AllWorked n p q g h a) → Whole drawn ms c.log c.gots → Retakes q (unmarked ms drawn) r t → IsShared n p drawn r
-shares n p q r g h a drawn ms t c whole m = record { log = c.log; gots = c.gots; joined = q; work = c.did; marks = ms; marked = whole.marks; left_over = m.log; rest = m.runs; all = m.all }

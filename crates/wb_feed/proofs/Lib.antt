@@ -3,7 +3,7 @@ pub mod Numbers
 pub mod Members
 pub mod Log
 pub mod OneThread
-pub mod Settling
+pub mod WholeDesks
 pub mod InOrder
 pub mod Rules
 pub mod Sending

@@ -1,10 +1,13 @@
 -- What a log tells of the desks that made it.
-use Rattle.std.proofs.Common.{◌≡◌, ℕ, ◌+◌, ◌≤◌, ◌<◌, Bool, true, false, cond, List, [], ◌∷◌, ◌++◌, length, refl, ap, sym, subst, ◌∙◌, arith, append_assoc, length-append}
+use Rattle.std.proofs.Common.{◌≡◌, ℕ, ◌+◌, ◌≤◌, ◌<◌, Bool, true, false, not, sum_by, filter, map, List, [], ◌∷◌, ◌++◌, length, refl, ap, sym, subst, ◌∙◌, arith, append_assoc, length-append}
 use Rattle.std.proofs.lemmas.List.{append-nil}
+use Rattle.std.specs.List.Sorted.{IsPermutation}
+use Rattle.std.proofs.lemmas.List.Sums.{sum_by-cons}
+use Rattle.std.proofs.lemmas.List.Sorted.{IsPermutation-map, IsPermutation-filter_both, sum_by-IsPermutation}
 use mathlib.Core.List.{IsPrefix}
 use Rattle.wb_names.specs.Values.{DrawopValue}
 use Rattle.wb_names.specs.History.{IsAgainAt, IsClashAt}
-use Rattle.wb_names.specs.Arrivals.{Outcome, Fresh, Known, Clashed, Left, Counts}
+use Rattle.wb_names.specs.Arrivals.{Outcome, Fresh, Known, Clashed, Left, Counts, counts, counts_of}
 use Rattle.wb_history.specs.Passes.{PassValue, KeepsRows, AddsNothing, IsSound, IsWhole}
 use Rattle.wb_history.specs.Sharing.{IsSplit}
 use Rattle.wb_host.specs.Replies.{Accepted, NotAccepted}
@@ -12,36 +15,21 @@ use Rattle.wb_host.specs.declared.reply.Reply.{Reply}
 use Rattle.wb_host.specs.declared.reply.Reply.TheVariants as replied
 use Rattle.wb_host.specs.declared.reply.BoardFault.{BoardFault}
 use Rattle.wb_host.specs.declared.reply.BoardFault.TheVariants.{NoRow, Memory}
-use Rattle.wb_feed.specs.Accepts.{Keeps, LosesAtMost, Accepts, Entry, drawops, tally, Runs}
+use Rattle.wb_feed.specs.Accepts.{Keeps, LosesAtMost, Accepts, Entry, drawops, outcomes, tally, Runs}
 use Rattle.wb_feed.proofs.Prefixes.{prefix_self, prefix_is, prefix_trans, prefix_get}
 use Rattle.wb_feed.specs.Channel.{once_below}
 use Rattle.wb_feed.specs.Served.{is_left}
 use Rattle.wb_feed.specs.Workers.{IsBack}
 use Rattle.wb_feed.proofs.Numbers.{times, times-append, each_once}
+use Rattle.wb_feed.proofs.OneThread.{plus, same_counts, counts_of-append}
 
--- the kinds of outcomes
-abbrev pub is_new : Outcome → Bool
-is_new (Fresh i) = true
-is_new (Known i) = false
-is_new (Clashed i) = false
-is_new Left = false
-
-abbrev pub is_held : Outcome → Bool
-is_held (Fresh i) = false
-is_held (Known i) = true
-is_held (Clashed i) = true
-is_held Left = false
-
+-- what was not left
 abbrev pub is_taken : Outcome → Bool
-is_taken (Fresh i) = true
-is_taken (Known i) = true
-is_taken (Clashed i) = true
-is_taken Left = false
+is_taken o = not (is_left o)
 
 -- the entries with such an outcome
 abbrev pub chosen : (Outcome → Bool) → List Entry → List Entry
-chosen p [] = []
-chosen p (e ∷ es) = cond (p e.1) (e ∷ chosen p es) (chosen p es)
+chosen p es = filter (λ e. p e.1) es
 
 -- the places that were gained
 abbrev pub place : Outcome → List ℕ
@@ -78,15 +66,50 @@ tally-append ((d, Known i) ∷ xs) ys = let s = tally-append xs ys in record { f
 tally-append ((d, Clashed i) ∷ xs) ys = let s = tally-append xs ys in record { fresh = s.fresh; again = s.again; clash = omega arith; left = s.left }
 tally-append ((d, Left) ∷ xs) ys = let s = tally-append xs ys in record { fresh = s.fresh; again = s.again; clash = s.clash; left = omega arith }
 
-pub chosen-append : (p : Outcome → Bool) (xs ys : List Entry) → chosen p (xs ++ ys) ≡ chosen p xs ++ chosen p ys
-chosen-append p [] ys = refl
-chosen-append p (x ∷ xs) ys =
-    elim (p x.1) as (λ b. cond b (x ∷ chosen p (xs ++ ys)) (chosen p (xs ++ ys)) ≡ cond b (x ∷ chosen p xs) (chosen p xs) ++ chosen p ys)
-    [ true ↦ ap (λ l. x ∷ l) (chosen-append p xs ys) | false ↦ chosen-append p xs ys ]
+tally_sum : (pick : Counts → ℕ) → pick (counts 0 0 0 0) ≡ 0 → ((m n : Counts) → pick (plus m n) ≡ pick m + pick n) → (es : List Entry) → pick (tally es) ≡ sum_by (λ e. pick (tally (e ∷ []))) es
+tally_sum pick zero adds [] = zero
+tally_sum pick zero adds (e ∷ es) = ap pick (counts_of-append (e.1 ∷ []) (outcomes es)) ∙ (adds (tally (e ∷ [])) (tally es) ∙ (ap (λ n. pick (tally (e ∷ [])) + n) (tally_sum pick zero adds es) ∙ sym (sum_by-cons (λ (e : Entry). pick (tally (e ∷ []))) e es)))
+
+-- in another order the counts are the same
+pub tally_moved : (xs ys : List Entry) → IsPermutation xs ys → tally ys ≡ tally xs
+tally_moved xs ys moved = same_counts (one (λ c. c.fresh) refl (λ m n. refl)) (one (λ c. c.again) refl (λ m n. refl)) (one (λ c. c.clash) refl (λ m n. refl)) (one (λ c. c.left) refl (λ m n. refl))
+  where
+    one : (pick : Counts → ℕ) → pick (counts 0 0 0 0) ≡ 0 → ((m n : Counts) → pick (plus m n) ≡ pick m + pick n) → pick (tally ys) ≡ pick (tally xs)
+    one pick zero adds = tally_sum pick zero adds ys ∙ (sum_by-IsPermutation (λ (e : Entry). pick (tally (e ∷ []))) xs ys moved ∙ sym (tally_sum pick zero adds xs))
+
+pub taken_tally : (es : List Entry) → tally (chosen is_taken es) ≡ counts (tally es).fresh (tally es).again (tally es).clash 0
+taken_tally [] = refl
+taken_tally ((d, Fresh i) ∷ es) = ap (λ (k : Counts). record k { fresh = k.fresh + 1 }) (taken_tally es)
+taken_tally ((d, Known i) ∷ es) = ap (λ (k : Counts). record k { again = k.again + 1 }) (taken_tally es)
+taken_tally ((d, Clashed i) ∷ es) = ap (λ (k : Counts). record k { clash = k.clash + 1 }) (taken_tally es)
+taken_tally ((d, Left) ∷ es) = taken_tally es
+
+pub one_kind : (o : Outcome) → (counts_of (o ∷ [])).fresh + (counts_of (o ∷ [])).again + (counts_of (o ∷ [])).clash + (counts_of (o ∷ [])).left ≡ 1
+one_kind (Fresh i) = omega arith
+one_kind (Known i) = omega arith
+one_kind (Clashed i) = omega arith
+one_kind Left = omega arith
 
 pub drawops-append : (xs ys : List Entry) → drawops (xs ++ ys) ≡ drawops xs ++ drawops ys
 drawops-append [] ys = refl
 drawops-append (x ∷ xs) ys = ap (λ l. x.0 ∷ l) (drawops-append xs ys)
+
+drawops-map : (es : List Entry) → map (λ e. e.0) es ≡ drawops es
+drawops-map [] = refl
+drawops-map (e ∷ es) = ap (λ l. e.0 ∷ l) (drawops-map es)
+
+pub moved_drawops : (xs ys : List Entry) → IsPermutation xs ys → IsPermutation (drawops xs) (drawops ys)
+moved_drawops xs ys moved = subst (λ (l : List DrawopValue × List DrawopValue). IsPermutation l.0 l.1) (λ i. (drawops-map xs i, drawops-map ys i)) (IsPermutation-map (λ (e : Entry). e.0) xs ys moved)
+
+-- each drawop was taken or left
+pub taken_or_left : (log : List Entry) → IsPermutation (drawops log) (drawops (chosen is_taken log) ++ drawops (chosen is_left log))
+taken_or_left log =
+    let parts = IsPermutation-filter_both (λ (e : Entry). is_taken e.1) (λ (e : Entry). is_left e.1) (λ e. back (is_left e.1)) log in
+    subst (λ l. IsPermutation (drawops log) l) (drawops-append (chosen is_taken log) (chosen is_left log)) (moved_drawops log (chosen is_taken log ++ chosen is_left log) parts)
+  where
+    back : (b : Bool) → b ≡ not (not b)
+    back true = refl
+    back false = refl
 
 pub places-append : (xs ys : List Entry) → places (xs ++ ys) ≡ places xs ++ places ys
 places-append [] ys = refl
@@ -127,10 +150,6 @@ told_longer g h (e ∷ es) p t = (says_longer g h e.0 e.1 p t.0, told_longer g h
 pub told_append : (h : List DrawopValue) (xs ys : List Entry) → Told h xs → Told h ys → Told h (xs ++ ys)
 told_append h [] ys s t = t
 told_append h (x ∷ xs) ys s t = (s.0, told_append h xs ys s.1 t)
-
-pub told_parts : (h : List DrawopValue) (xs ys : List Entry) → Told h (xs ++ ys) → Told h xs × Told h ys
-told_parts h [] ys t = (tt, t)
-told_parts h (x ∷ xs) ys t = let r = told_parts h xs ys t.1 in ((t.0, r.0), r.1)
 
 -- a run and one accept more
 pub runs_more : (p q r : PassValue) (es : List Entry) (d : DrawopValue) (o : Outcome) → Runs p es q → Accepts q d o r → Runs p (es ++ (d, o) ∷ []) r

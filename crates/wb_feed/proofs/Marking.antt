@@ -7,7 +7,8 @@ use Rattle.wb_names.specs.Arrivals.{Outcome, Fresh, Known, Clashed, Left, counts
 use Rattle.wb_history.specs.Passes.{PassValue}
 use Rattle.wb_feed.specs.Accepts.{LosesAtMost, Accepts}
 use Rattle.wb_feed.specs.declared.batch.Batch.{Batch}
-use Rattle.wb_feed.proofs.Log.{runs_more, runs_leave, leaves_lose, drawops-append, tally-append}
+use Rattle.wb_feed.proofs.Numbers.{test_apart, test_same, dec_same}
+use Rattle.wb_feed.proofs.Log.{one_kind, runs_more, runs_leave, leaves_lose, drawops-append, tally-append}
 use Rattle.wb_feed.specs.Marks.{has, unmarked, Marks, CountsOne, Retakes}
 
 has-append : (p : ℕ) (xs ys : List ℕ) → has p (xs ++ ys) ≡ (has p xs || has p ys)
@@ -47,12 +48,6 @@ rest_skip p q ms ds i b z lt e marked h =
     unmarked-take ms ds i z lt e ∙ (ap (λ c. unmarked (take i ms) (take i ds) ++ cond c [] (get_or ds i z ∷ [])) marked ∙ append-nil (unmarked (take i ms) (take i ds))) in
     record { taken = subst (λ l. Retakes p l q b) (sym same) h.taken; few = omega (arith, h.few) }
 
-one_kind : (o : Outcome) → (counts_of (o ∷ [])).fresh + (counts_of (o ∷ [])).again + (counts_of (o ∷ [])).clash + (counts_of (o ∷ [])).left ≡ 1
-one_kind (Fresh i) = omega arith
-one_kind (Known i) = omega arith
-one_kind (Clashed i) = omega arith
-one_kind Left = omega arith
-
 pub rest_more : (p q r : PassValue) (ms : List Bool) (ds : List DrawopValue) (i : ℕ) (b c : Batch) (d : DrawopValue) → i < length ds → length ms ≡ length ds → get_or ms i false ≡ false → d ≡ get_or ds i d → RestSoFar p ms ds i q b
     → (o : Outcome) × Accepts q d o r × CountsOne b o c → RestSoFar p ms ds (i + 1) r c
 rest_more p q r ms ds i b c d lt e free is h one =
@@ -86,24 +81,9 @@ or_false : (b : Bool) → (b || false) ≡ b
 or_false true = refl
 or_false false = refl
 
-test_apart : (m n : ℕ) → m ≢ n → (m == n) ≡ false
-test_apart m n e = grind (arith, nat_tests)
-
-test_same : (m n : ℕ) → m ≡ n → (m == n) ≡ true
-test_same m n e = grind (arith, nat_tests)
-
 or_true : (b : Bool) → (b || true) ≡ true
 or_true true = refl
 or_true false = refl
-
-test_is : (m n : ℕ) → (m == n) ≡ true → m ≡ n
-test_is m n e = grind (arith, nat_tests)
-
-test_not : (m n : ℕ) → (m == n) ≡ false → m ≢ n
-test_not m n e = grind (arith, nat_tests)
-
-dec_same : (p n : ℕ) → (p ≡ n) ⊎ (p ≢ n)
-dec_same p n = elim (p == n) as (λ b. (p == n) ≡ b → (p ≡ n) ⊎ (p ≢ n)) [ true ↦ λ e. inl (test_is p n e) | false ↦ λ e. inr (test_not p n e) ] refl
 
 pub marks_none : (n : ℕ) (ms : List Bool) → length ms ≡ n → ((p : ℕ) → get_or ms p false ≡ false) → Marks [] n ms
 marks_none n ms e h = record { long = e; each = λ p lt. h p }

@@ -17,6 +17,16 @@ pub times-append : (p : ℕ) (xs ys : List ℕ) → times p (xs ++ ys) ≡ times
 times-append p [] ys = omega arith
 times-append p (x ∷ xs) ys = omega (arith, times-append p xs ys)
 
+pub test_apart : (m n : ℕ) → m ≢ n → (m == n) ≡ false
+test_apart m n e = grind (arith, nat_tests)
+
+pub test_same : (m n : ℕ) → m ≡ n → (m == n) ≡ true
+test_same m n e = grind (arith, nat_tests)
+
+pub bool_cases : (b : Bool) → (b ≡ true) ⊎ (b ≡ false)
+bool_cases true = inl refl
+bool_cases false = inr refl
+
 abbrev without : ℕ → List ℕ → List ℕ
 without n [] = []
 without n (x ∷ xs) = cond (x == n) (without n xs) (x ∷ without n xs)
@@ -26,7 +36,7 @@ length-without n [] = refl
 length-without n (x ∷ xs) = elim (x == n) as (λ b. suc (length xs) ≡ (cond b 1 0 + times n xs) + length (cond b (without n xs) (x ∷ without n xs)))
     [ true ↦ omega (arith, length-without n xs) | false ↦ omega (arith, length-without n xs) ]
 
-times_apart : (p x : ℕ) (xs : List ℕ) → p ≢ x → times p (x ∷ xs) ≡ times p xs
+pub times_apart : (p x : ℕ) (xs : List ℕ) → p ≢ x → times p (x ∷ xs) ≡ times p xs
 times_apart p x xs apart = grind (arith, nat_tests)
 
 times_here : (p : ℕ) (xs : List ℕ) → times p (p ∷ xs) ≡ times p xs + 1
@@ -70,7 +80,7 @@ no_times : (xs : List ℕ) → ((p : ℕ) → times p xs ≤ 0) → xs ≡ []
 no_times [] h = refl
 no_times (x ∷ xs) h = absurd (omega (arith, h x, times_here x xs))
 
-dec_same : (p n : ℕ) → (p ≡ n) ⊎ (p ≢ n)
+pub dec_same : (p n : ℕ) → (p ≡ n) ⊎ (p ≢ n)
 dec_same p n = elim (p == n) as (λ b. (p == n) ≡ b → (p ≡ n) ⊎ (p ≢ n)) [ true ↦ λ e. inl (is_same p n e) | false ↦ λ e. inr (false≢same p n e) ] refl
 
 -- different numbers below n are n at most

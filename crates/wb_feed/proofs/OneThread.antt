@@ -1,40 +1,12 @@
--- What one thread makes of drawops: of new ones, of those held already, and of those for which no cell is left.
+-- What one thread makes of drawops for which no cell is left, and of one list of drawops after another.
 use Rattle.std.proofs.Common.{◌≡◌, ℕ, ◌+◌, ◌≤◌, ◌<◌, List, [], ◌∷◌, ◌++◌, length, refl, ap, sym, ◌∙◌, subst, arith, length-append, append_assoc}
 use Rattle.std.proofs.lemmas.List.{append-nil}
 use Rattle.wb_names.specs.Values.{DrawopValue}
 use Rattle.wb_names.specs.History.{IsHistory, HoldsName}
 use Rattle.wb_names.specs.Arrivals.{Outcome, Fresh, Known, Clashed, Left, Counts, counts, counts_of, history_with, AreTaken, IsBatch}
-use Rattle.wb_feed.specs.Accepts.{Entry, drawops, tally}
-use Rattle.wb_feed.proofs.Members.{history_mid}
-use Rattle.wb_feed.proofs.Log.{chosen, is_held, Told}
 
 pub same_counts : {f f' g g' c c' l l' : ℕ} → f ≡ f' → g ≡ g' → c ≡ c' → l ≡ l' → counts f g c l ≡ counts f' g' c' l'
 same_counts p q r s = λ i. counts (p i) (q i) (r i) (s i)
-
--- each drawop that stands behind a in a history is new
-pub takes_new : (cells : ℕ) (a r : List DrawopValue) → IsHistory (a ++ r) → length (a ++ r) ≤ cells → IsBatch cells a r (a ++ r) (counts (length r) 0 0 0)
-takes_new cells a [] h le = ([], append-nil a, refl)
-takes_new cells a (d ∷ r) h le =
-    let b : List DrawopValue = a ++ d ∷ [] in
-    let whole : b ++ r ≡ a ++ d ∷ r = append_assoc a (d ∷ []) r in
-    let short : length a < cells = omega (arith, le, length-append a (d ∷ r)) in
-    let rest = takes_new cells b r (subst IsHistory (sym whole) h) (omega (arith, le, ap length whole)) in
-    let after = subst (λ l. AreTaken cells b r rest.0 l) whole rest.1 in
-    let n = rest.2 in
-    let many : length r + 1 ≡ length (d ∷ r) = omega arith in
-    (Fresh (length a) ∷ rest.0, (((refl, history_mid a r d h), short), after), ap (λ (k : Counts). record k { fresh = k.fresh + 1 }) n ∙ same_counts many refl refl refl)
-
--- each drawop whose name is held stays what it was
-pub takes_held : (cells : ℕ) (h : List DrawopValue) (log : List Entry) → Told h log → IsBatch cells h (drawops (chosen is_held log)) h (counts 0 (tally log).again (tally log).clash 0)
-takes_held cells h [] t = ([], refl, refl)
-takes_held cells h ((d, Fresh i) ∷ es) t = takes_held cells h es t.1
-takes_held cells h ((d, Left) ∷ es) t = takes_held cells h es t.1
-takes_held cells h ((d, Known i) ∷ es) t =
-    let rest = takes_held cells h es t.1 in
-    (Known i ∷ rest.0, (t.0, rest.1), ap (λ (k : Counts). record k { again = k.again + 1 }) rest.2)
-takes_held cells h ((d, Clashed i) ∷ es) t =
-    let rest = takes_held cells h es t.1 in
-    (Clashed i ∷ rest.0, (t.0, rest.1), ap (λ (k : Counts). record k { clash = k.clash + 1 }) rest.2)
 
 -- no member has one of these names
 abbrev pub Lacks : List DrawopValue → List DrawopValue → Type 0
@@ -68,7 +40,7 @@ none_more n = omega arith
 one_more : (m n : ℕ) → m + n + 1 ≡ m + 1 + n
 one_more m n = omega arith
 
-counts_of-append : (os ps : List Outcome) → counts_of (os ++ ps) ≡ plus (counts_of os) (counts_of ps)
+pub counts_of-append : (os ps : List Outcome) → counts_of (os ++ ps) ≡ plus (counts_of os) (counts_of ps)
 counts_of-append [] ps = let n = counts_of ps in same_counts (none_more n.fresh) (none_more n.again) (none_more n.clash) (none_more n.left)
 counts_of-append (Fresh i ∷ os) ps = let m = counts_of os in let n = counts_of ps in ap (λ (k : Counts). record k { fresh = k.fresh + 1 }) (counts_of-append os ps) ∙ same_counts (one_more m.fresh n.fresh) refl refl refl
 counts_of-append (Known i ∷ os) ps = let m = counts_of os in let n = counts_of ps in ap (λ (k : Counts). record k { again = k.again + 1 }) (counts_of-append os ps) ∙ same_counts refl (one_more m.again n.again) refl refl

@@ -8,9 +8,9 @@ use Rattle.wb_names.specs.Arrivals.{Outcome, Fresh, Known, Clashed, Left, counts
 use Rattle.wb_history.specs.Passes.{PassValue, IsSound, IsWhole}
 use Rattle.wb_feed.specs.Accepts.{Entry, drawops, outcomes, tally, Runs}
 use Rattle.wb_feed.proofs.Prefixes.{prefix_whole, prefix_trans, prefix_length}
-use Rattle.wb_feed.proofs.Numbers.{times}
+use Rattle.wb_feed.proofs.Numbers.{times, test_apart, test_same, bool_cases}
 use Rattle.wb_feed.proofs.Log.{chosen, Told, runs_leave, leaves_whole, runs_sound, runs_empty, tally-append, left_many}
-use Rattle.wb_feed.proofs.Settling.{left_lacks}
+use Rattle.wb_feed.proofs.WholeDesks.{left_lacks}
 use Rattle.wb_feed.proofs.OneThread.{Lacks, both_batches, counted_as, same_counts, plus, zero_plus}
 use Rattle.wb_feed.proofs.InOrder.{in_order}
 use Rattle.wb_feed.proofs.Members.{at_named}
@@ -20,18 +20,11 @@ use Rattle.wb_feed.specs.Served.{Spot, is_left, entries, accepted_at, offered, R
 use Rattle.wb_feed.specs.Marks.{has, unmarked, Marks}
 use Rattle.wb_feed.proofs.Placing.{OffersRight, pair_times, accepted_few, takes_spots, once_under, once_past}
 
--- below low, and else 0, as a count
-same_test : (m n : ℕ) → m ≡ n → (m == n) ≡ true
-same_test m n e = grind (arith, nat_tests)
-
-apart_test : (m n : ℕ) → m ≢ n → (m == n) ≡ false
-apart_test m n e = grind (arith, nat_tests)
-
 -- positions that rise from low on have none below
 rises_none : (low p : ℕ) (xs : List (ℕ × DrawopValue)) → p < low → Rises low xs → pair_times p xs ≡ 0
 rises_none low p [] lt r = refl
 rises_none low p (x ∷ xs) lt r =
-    let t : (x.0 == p) ≡ false = apart_test x.0 p (λ e. absurd (omega (arith, e, lt, r.0))) in
+    let t : (x.0 == p) ≡ false = test_apart x.0 p (λ e. absurd (omega (arith, e, lt, r.0))) in
     ap (λ b. cond b 1 0 + pair_times p xs) t ∙ (zero_plus (pair_times p xs) ∙ rises_none (x.0 + 1) p xs (omega (arith, lt, r.0)) r.1)
 
 slice_mid : (a r : List DrawopValue) (x d : DrawopValue) (k : ℕ) → k ≡ length a → slice_get (a ++ x ∷ r) k ≡ Some d → x ≡ d
@@ -57,17 +50,13 @@ pub record Split (ss : List Spot) (ds : List DrawopValue) (ms : List Bool) : Typ
 -- the first position that was received is the next one
 first_is : (p k low : ℕ) (d : DrawopValue) (xs : List (ℕ × DrawopValue)) → Rises k ((p, d) ∷ xs) → ((q : ℕ) → k ≤ q → pair_times q ((p, d) ∷ xs) ≡ once_below q low) → (p ≡ k) × (k < low)
 first_is p k low d xs rise once =
-    let mine : cond (p == p) 1 0 ≡ suc zero = ap (λ b. cond b 1 (zero)) (same_test p p refl) in
+    let mine : cond (p == p) 1 0 ≡ suc zero = ap (λ b. cond b 1 (zero)) (test_same p p refl) in
     let under : p < low = ⊎_elim (λ (h : p < low). h) (λ (h : low ≤ p). absurd (omega (arith, once p rise.0, mine, once_past p low h))) (cases_lt p low) in
     ⊎_elim
     (λ (h : k < p).
-    let none : pair_times k ((p, d) ∷ xs) ≡ 0 = ap (λ b. cond b 1 0 + pair_times k xs) (apart_test p k (λ e. absurd (omega (arith, e, h)))) ∙ (zero_plus (pair_times k xs) ∙ rises_none (p + 1) k xs (omega (arith, h)) rise.1) in
+    let none : pair_times k ((p, d) ∷ xs) ≡ 0 = ap (λ b. cond b 1 0 + pair_times k xs) (test_apart p k (λ e. absurd (omega (arith, e, h)))) ∙ (zero_plus (pair_times k xs) ∙ rises_none (p + 1) k xs (omega (arith, h)) rise.1) in
     absurd (omega (arith, once k (omega arith), none, once_under k low (omega (arith, h, under)))))
     (λ (h : p ≤ k). let e : p ≡ k = omega (arith, h, rise.0) in (e, omega (arith, e, under))) (cases_lt k p)
-
-cases : (b : Bool) → (b ≡ true) ⊎ (b ≡ false)
-cases true = inl refl
-cases false = inr refl
 
 one_more : (p q : ℕ) (ps : List ℕ) → (q == p) ≡ true → times p (q ∷ ps) ≡ 0 → ⊥
 one_more p q ps e h = let t : times p (q ∷ ps) ≡ 1 + times p ps = ap (λ b. cond b 1 0 + times p ps) e in absurd (omega (arith, t, h))
@@ -76,7 +65,7 @@ has_false : (p : ℕ) (ps : List ℕ) → times p ps ≡ 0 → has p ps ≡ fals
 has_false p [] h = refl
 has_false p (q ∷ ps) h =
     ⊎_elim (λ (e : (q == p) ≡ true). absurd (one_more p q ps e h))
-    (λ (e : (q == p) ≡ false). ap₂ (λ a b. a || b) e (has_false p ps (sym (zero_plus (times p ps)) ∙ (sym (ap (λ b. cond b 1 0 + times p ps) e) ∙ h)))) (cases (q == p))
+    (λ (e : (q == p) ≡ false). ap₂ (λ a b. a || b) e (has_false p ps (sym (zero_plus (times p ps)) ∙ (sym (ap (λ b. cond b 1 0 + times p ps) e) ∙ h)))) (bool_cases (q == p))
 
 -- the rest of the log has no place up to k
 none_left : (k p : ℕ) (ss : List Spot) → p ≤ k → Rises (k + 1) (offered ss) → has p (accepted_at ss) ≡ false
@@ -84,7 +73,7 @@ none_left k p ss le rise = has_false p (accepted_at ss) (omega (arith, accepted_
 
 once_next : (p k low : ℕ) (d : DrawopValue) (xs : List (ℕ × DrawopValue)) → p ≡ k → ((q : ℕ) → k ≤ q → pair_times q ((p, d) ∷ xs) ≡ once_below q low) → (q : ℕ) → k + 1 ≤ q → pair_times q xs ≡ once_below q low
 once_next p k low d xs here once q le =
-    let t : pair_times q ((p, d) ∷ xs) ≡ pair_times q xs = ap (λ b. cond b 1 0 + pair_times q xs) (apart_test p q (λ e. absurd (omega (arith, e, here, le)))) ∙ zero_plus (pair_times q xs) in
+    let t : pair_times q ((p, d) ∷ xs) ≡ pair_times q xs = ap (λ b. cond b 1 0 + pair_times q xs) (test_apart p q (λ e. absurd (omega (arith, e, here, le)))) ∙ zero_plus (pair_times q xs) in
     sym t ∙ once q (omega (arith, le))
 
 regroup : (k j : ℕ) → k + suc j ≡ k + 1 + j
@@ -95,11 +84,11 @@ Marked k ms ss = (j : ℕ) → j < length ms → get_or ms j false ≡ has (k + 
 
 has_later : (b : Bool) (p q : ℕ) (ps : List ℕ) → p ≢ q → has q (cond b [] (p ∷ []) ++ ps) ≡ has q ps
 has_later true p q ps apart = refl
-has_later false p q ps apart = ap (λ c. c || has q ps) (apart_test p q apart)
+has_later false p q ps apart = ap (λ c. c || has q ps) (test_apart p q apart)
 
 has_here : (b : Bool) (p q : ℕ) (ps : List ℕ) → p ≡ q → has q ps ≡ false → has q (cond b [] (p ∷ []) ++ ps) ≡ not b
 has_here true p q ps e none = none
-has_here false p q ps e none = ap (λ c. c || has q ps) (same_test p q e)
+has_here false p q ps e none = ap (λ c. c || has q ps) (test_same p q e)
 
 -- a drawop that was left is among the left ones, and else it is marked
 left_or_marked : (b m : Bool) (a d : DrawopValue) (o : Outcome) (un rest : List DrawopValue) (es : List Entry) → m ≡ not b → a ≡ d → un ≡ drawops es ++ rest → cond m un (a ∷ un) ≡ drawops (cond b ((d, o) ∷ es) es) ++ rest

@@ -12,11 +12,11 @@ use Rattle.wb_names.specs.Arrivals.{Fresh, Known, Clashed, Left}
 use Rattle.wb_history.specs.Passes.{PassValue}
 use Rattle.wb_feed.specs.Accepts.{drawops}
 use Rattle.wb_feed.proofs.Prefixes.{prefix_get}
-use Rattle.wb_feed.proofs.Numbers.{times, times-append, IsPermutation-times, times-range}
-use Rattle.wb_feed.proofs.Members.{nothing, get_at, get_mid}
+use Rattle.wb_feed.proofs.Numbers.{times, times-append, times_apart, test_same, bool_cases, IsPermutation-times, times-range}
+use Rattle.std.proofs.Math.Seq.{get_or-append_seam}
+use Rattle.wb_feed.proofs.Members.{nothing, get_at, map_range}
 use Rattle.wb_feed.proofs.Log.{is_taken, chosen, Gathers, gathers_none, gathers_level}
 use Rattle.wb_feed.proofs.OneThread.{zero_plus}
-use Rattle.wb_feed.proofs.Settling.{map_range}
 use Rattle.wb_feed.specs.declared.channel.Message.{Message}
 use Rattle.wb_feed.specs.declared.channel.Message.TheVariants.{Take, End}
 use Rattle.wb_feed.specs.Channel.{spots, once_below, AreRight}
@@ -37,38 +37,29 @@ unmarked_at a (x ∷ r) [] k e l = absurd (omega (arith, l))
 unmarked_at a (x ∷ r) (m ∷ ms) k e l =
     let b : List DrawopValue = a ++ x ∷ [] in
     let at = λ (i : ℕ). get_or (a ++ x ∷ r) i nothing in
-    let here : at k ≡ x = rw e (get_mid a r x nothing) in
+    let here : at k ≡ x = rw e (get_or-append_seam a x r nothing) in
     let more : k + 1 ≡ length b = omega (arith, e, length-append a (x ∷ [])) in
     let same' : b ++ r ≡ a ++ x ∷ r = append_assoc a (x ∷ []) r in
     let rest : unmarked ms r ≡ map at (free_places (k + 1) ms) = unmarked_at b r ms (k + 1) more (omega (arith, l)) ∙ ap (λ l. map (λ i. get_or l i nothing) (free_places (k + 1) ms)) same' in
     elim m as (λ c. cond c (unmarked ms r) (x ∷ unmarked ms r) ≡ map at (cond c (free_places (k + 1) ms) (k ∷ free_places (k + 1) ms)))
     [ true ↦ rest | false ↦ ap₂ (λ y ys. y ∷ ys) (sym here) rest ]
 
-test_apart : (m n : ℕ) → m ≢ n → (m == n) ≡ false
-test_apart m n e = grind (arith, nat_tests)
-
-test_same : (m : ℕ) → (m == m) ≡ true
-test_same m = grind (arith, nat_tests)
-
-times_other : (p k : ℕ) (ks : List ℕ) → k ≢ p → times p (k ∷ ks) ≡ times p ks
-times_other p k ks d = ap (λ b. cond b 1 0 + times p ks) (test_apart k p d) ∙ zero_plus (times p ks)
-
 here_once : (p k : ℕ) (ks : List ℕ) → k ≡ p → times p (k ∷ ks) ≡ 1 + times p ks
-here_once p k ks e = ap (λ b. cond b 1 0 + times p ks) (ap (λ n. n == p) e ∙ test_same p)
+here_once p k ks e = ap (λ b. cond b 1 0 + times p ks) (test_same k p e)
 
 free_low : (p k : ℕ) (ms : List Bool) → p < k → times p (free_places k ms) ≡ 0
 free_low p k [] lt = refl
 free_low p k (m ∷ ms) lt =
     let rest = free_low p (k + 1) ms (omega (arith, lt)) in
     elim m as (λ c. times p (cond c (free_places (k + 1) ms) (k ∷ free_places (k + 1) ms)) ≡ 0)
-    [ true ↦ rest | false ↦ times_other p k (free_places (k + 1) ms) (λ e. absurd (omega (arith, e, lt))) ∙ rest ]
+    [ true ↦ rest | false ↦ times_apart p k (free_places (k + 1) ms) (λ e. absurd (omega (arith, e, lt))) ∙ rest ]
 
 free_high : (p k : ℕ) (ms : List Bool) → k + length ms ≤ p → times p (free_places k ms) ≡ 0
 free_high p k [] le = refl
 free_high p k (m ∷ ms) le =
     let rest = free_high p (k + 1) ms (omega (arith, le)) in
     elim m as (λ c. times p (cond c (free_places (k + 1) ms) (k ∷ free_places (k + 1) ms)) ≡ 0)
-    [ true ↦ rest | false ↦ times_other p k (free_places (k + 1) ms) (λ e. absurd (omega (arith, e, le))) ∙ rest ]
+    [ true ↦ rest | false ↦ times_apart p k (free_places (k + 1) ms) (λ e. absurd (omega (arith, e, le))) ∙ rest ]
 
 -- how often p stands among the places that are free, where p is the j-th of them
 free_at : (p k j : ℕ) (ms : List Bool) → p ≡ k + j → j < length ms → times p (free_places k ms) ≡ cond (get_or ms j false) 0 1
@@ -81,7 +72,7 @@ free_at p k zero (m ∷ ms) e lt =
 free_at p k (suc j) (m ∷ ms) e lt =
     let rest = free_at p (k + 1) j ms (omega (arith, e)) (omega (arith, lt)) in
     elim m as (λ c. times p (cond c (free_places (k + 1) ms) (k ∷ free_places (k + 1) ms)) ≡ cond (get_or ms j false) 0 1)
-    [ true ↦ rest | false ↦ times_other p k (free_places (k + 1) ms) (λ q. absurd (omega (arith, e, q))) ∙ rest ]
+    [ true ↦ rest | false ↦ times_apart p k (free_places (k + 1) ms) (λ q. absurd (omega (arith, e, q))) ∙ rest ]
 
 pub has_not : (p : ℕ) (ps : List ℕ) → has p ps ≡ false → times p ps ≡ 0
 has_not p [] h = refl
@@ -99,13 +90,6 @@ once_under p n h = grind (arith, nat_tests)
 pub once_past : (p n : ℕ) → n ≤ p → once_below p n ≡ 0
 once_past p n h = grind (arith, nat_tests)
 
-bool_cases : (b : Bool) → (b ≡ true) ⊎ (b ≡ false)
-bool_cases true = inl refl
-bool_cases false = inr refl
-
-order_cases : (p n : ℕ) → (p < n) ⊎ (n ≤ p)
-order_cases p n = cases_lt p n
-
 each_once : (ps : List ℕ) (n : ℕ) (ms : List Bool) (p : ℕ) → Marks ps n ms → times p ps ≤ once_below p n → times p ps + times p (free_places 0 ms) ≡ once_below p n
 each_once ps n ms p m most = ⊎_elim
     (λ (lt : p < n).
@@ -114,7 +98,7 @@ each_once ps n ms p m most = ⊎_elim
     ⊎_elim
     (λ (e : has p ps ≡ true). omega (arith, free ∙ ap (λ b. cond b 0 1) (mark ∙ e), has_some p ps e, most, once_under p n lt))
     (λ (e : has p ps ≡ false). omega (arith, free ∙ ap (λ b. cond b 0 1) (mark ∙ e), has_not p ps e, once_under p n lt)) (bool_cases (has p ps)))
-    (λ (le : n ≤ p). omega (arith, free_high p 0 ms (omega (arith, le, m.long)), most, once_past p n le)) (order_cases p n)
+    (λ (le : n ≤ p). omega (arith, free_high p 0 ms (omega (arith, le, m.long)), most, once_past p n le)) (cases_lt p n)
 
 -- what stands at the places, and what is not marked, is the whole list
 pub places_and_rest : (ds : List DrawopValue) (ps : List ℕ) (ms : List Bool) → Marks ps (length ds) ms → ((p : ℕ) → times p ps ≤ once_below p (length ds))

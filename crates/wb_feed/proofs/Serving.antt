@@ -5,7 +5,7 @@ use Rattle.wb_names.specs.Values.{DrawopValue}
 use Rattle.wb_names.specs.Arrivals.{Outcome, Fresh, Known, Clashed, Left, counts_of}
 use Rattle.wb_history.specs.Passes.{PassValue}
 use Rattle.wb_feed.specs.Accepts.{LosesAtMost, Accepts, drawops}
-use Rattle.wb_feed.proofs.Log.{loses_is, loses_trans, runs_more, tally-append, tally_all}
+use Rattle.wb_feed.proofs.Log.{one_kind, loses_is, loses_trans, runs_more, tally-append, tally_all}
 use Rattle.wb_feed.specs.declared.channel.Message.{Message}
 use Rattle.wb_feed.specs.declared.channel.Message.TheVariants.{Take, End}
 use Rattle.wb_feed.specs.declared.channel.ChannelView.{ChannelView}
@@ -97,12 +97,6 @@ serves_failed v w u h i x a b failed s n f k = record {
 }
 
 -- an arrival that is accepted
-one_kind : (o : Outcome) → ((counts_of (o ∷ [])).fresh + (counts_of (o ∷ [])).again) + (counts_of (o ∷ [])).clash ≤ 1
-one_kind (Fresh i) = omega arith
-one_kind (Known i) = omega arith
-one_kind (Clashed i) = omega arith
-one_kind Left = omega arith
-
 pub serves_more : (v w u : PassValue) (h i : ChannelView) (p : ℕ) (d : DrawopValue) (a b : Accepted) → p < 2 ^ 32 → Served v w h a false → i ≡ receives h (Take p d) → Follows h.got (Take p d) → LosesAtMost 0 w u
     → (o : Outcome) × Accepts w d o u × AcceptsOne a p o b → Served v u i b false
 serves_more v w u h i p d a b small s n f k one =
