@@ -15,10 +15,10 @@ use Rattle.wb_codec.specs.declared.header.Kind.TheVariants.{Draw, Session, Reque
 use Rattle.wb_codec.specs.declared.version.Version.{Version}
 use Rattle.wb_codec.specs.declared.version.Version.TheVariants.{One, Two}
 use Rattle.wb_codec.specs.Ranges.{IsName, IsSession, IsPageState, IsDatagram}
-use Rattle.wb_codec.specs.Spelling.{page_bytes, name_bytes, mark_bytes, echo_bytes, marks_bytes, echoes_bytes, body, version_of}
+use Rattle.wb_codec.specs.Spelling.{page_bytes, name_bytes, mark_bytes, echo_bytes, list_bytes, body, version_of}
 use Rattle.wb_codec.specs.Reading.{◌>>=◌, number_at, page_at, name_at, end_of, in_range, marks_at, echoes_at, drawop_at, draw_at, session_at, request_at, ask_pages_at, page_state_at, body_at}
 use Rattle.wb_codec.proofs.Bytes.{IsBytes}
-use Rattle.wb_codec.proofs.FieldLaws.{bind_ok, ok_is, end_ok, in_range_ok, Takes, Takes-then, Takes-all, takes16, takes32, takes64, again16, again32, again64, page_takes, page_again, name_takes, name_again, has_width}
+use Rattle.wb_codec.proofs.FieldLaws.{bind_ok, ok_is, end_ok, in_range_ok, Takes-then, Takes-all, takes32, takes64, again16, again32, again64, page_takes, page_again, name_takes, name_again, has_width}
 use Rattle.wb_codec.proofs.DrawopLaws.{drawop_takes, drawop_again, named, seq_free}
 use Rattle.wb_codec.proofs.EntryLaws.{marks_take, marks_again, echoes_take, echoes_again}
 
@@ -36,14 +36,6 @@ pub record BodyTaken (version : Version) (kind : Kind) (bytes : List ℕ) (v : D
   pub fits : IsDatagram v
   pub version-is : version_of v ≡ version
   pub kind-is : kind_of v ≡ kind
-
--- ---- counted lists
-
-counted_marks : (marks : List MarkValue) (n : ℕ) (bytes after rest : List ℕ) → Takes bytes (to_be_bytes w16 n) after → Takes after (flat_map mark_bytes marks) rest → length marks ≡ n → Takes bytes (marks_bytes marks) rest
-counted_marks marks n bytes after rest t u e = subst (λ (m : ℕ). Takes bytes (to_be_bytes w16 m ++ flat_map mark_bytes marks) rest) (sym e) (Takes-then bytes (to_be_bytes w16 n) after (flat_map mark_bytes marks) rest t u)
-
-counted_echoes : (echoes : List Echo) (n : ℕ) (bytes after rest : List ℕ) → Takes bytes (to_be_bytes w16 n) after → Takes after (flat_map echo_bytes echoes) rest → length echoes ≡ n → Takes bytes (echoes_bytes echoes) rest
-counted_echoes echoes n bytes after rest t u e = subst (λ (m : ℕ). Takes bytes (to_be_bytes w16 m ++ flat_map echo_bytes echoes) rest) (sym e) (Takes-then bytes (to_be_bytes w16 n) after (flat_map echo_bytes echoes) rest t u)
 
 -- ---- each kind
 
@@ -68,19 +60,15 @@ session_takes version bytes v fits e =
     let ta = takes32 bytes a.0 fits a.1 in
     let tb = takes64 a.0.1 b.0 ta.0.rest_fits b.1 in
     let tp = page_takes b.0.1 p.0 tb.0.rest_fits p.1 in
-    let tm = takes16 p.0.1 m.0 tp.0.rest_fits m.1 in
-    let tms = marks_take m.0.0 m.0.1 ms.0 tm.1 tm.0.rest_fits ms.1 in
-    let tn = takes16 ms.0.1 n.0 tms.0.rest_fits n.1 in
-    let tes = echoes_take n.0.0 n.0.1 es.0 tn.1 tn.0.rest_fits es.1 in
-    let marks = counted_marks ms.0.0 m.0.0 p.0.1 m.0.1 ms.0.1 tm.0 tms.0 tms.2 in
-    let echoes = counted_echoes es.0.0 n.0.0 ms.0.1 n.0.1 es.0.1 tn.0 tes.0 tes.2 in
+    let tms = marks_take p.0.1 m.0 ms.0 tp.0.rest_fits m.1 ms.1 in
+    let tes = echoes_take ms.0.1 n.0 es.0 tms.0.rest_fits n.1 es.1 in
     let sender = to_be_bytes w32 a.0.0 in
     let sent = to_be_bytes w64 b.0.0 in
     let page = page_bytes p.0.0 in
     let ab = Takes-then bytes sender a.0.1 sent b.0.1 ta.0 tb.0 in
     let ap-page = Takes-then bytes (sender ++ sent) b.0.1 page p.0.1 ab tp.0 in
-    let am = Takes-then bytes (sender ++ sent ++ page) p.0.1 (marks_bytes ms.0.0) ms.0.1 ap-page marks in
-    let ae = Takes-then bytes (sender ++ sent ++ page ++ marks_bytes ms.0.0) ms.0.1 (echoes_bytes es.0.0) es.0.1 am echoes in
+    let am = Takes-then bytes (sender ++ sent ++ page) p.0.1 (list_bytes mark_bytes ms.0.0) ms.0.1 ap-page tms.0 in
+    let ae = Takes-then bytes (sender ++ sent ++ page ++ list_bytes mark_bytes ms.0.0) ms.0.1 (list_bytes echo_bytes es.0.0) es.0.1 am tes.0 in
     let ended = end_ok es.0.1 made v es.2 in
     subst (λ (u : Datagram). BodyTaken One Session bytes u) ended.1 (record {
       parts = Takes-all bytes (body made) es.0.1 ae ended.0;
@@ -122,13 +110,11 @@ page_state_takes bytes v fits e =
     let made : Datagram = datagrams.PageState a.0.0 p.0.0 ms.0.0 in
     let ta = takes32 bytes a.0 fits a.1 in
     let tp = page_takes a.0.1 p.0 ta.0.rest_fits p.1 in
-    let tm = takes16 p.0.1 m.0 tp.0.rest_fits m.1 in
-    let tms = marks_take m.0.0 m.0.1 ms.0 tm.1 tm.0.rest_fits ms.1 in
-    let marks = counted_marks ms.0.0 m.0.0 p.0.1 m.0.1 ms.0.1 tm.0 tms.0 tms.2 in
+    let tms = marks_take p.0.1 m.0 ms.0 tp.0.rest_fits m.1 ms.1 in
     let sender = to_be_bytes w32 a.0.0 in
     let page = page_bytes p.0.0 in
     let ap-page = Takes-then bytes sender a.0.1 page p.0.1 ta.0 tp.0 in
-    let am = Takes-then bytes (sender ++ page) p.0.1 (marks_bytes ms.0.0) ms.0.1 ap-page marks in
+    let am = Takes-then bytes (sender ++ page) p.0.1 (list_bytes mark_bytes ms.0.0) ms.0.1 ap-page tms.0 in
     let ended = end_ok ms.0.1 made v ms.2 in
     subst (λ (u : Datagram). BodyTaken One PageState bytes u) ended.1 (record {
       parts = Takes-all bytes (body made) ms.0.1 am ended.0;

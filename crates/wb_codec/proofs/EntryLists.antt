@@ -1,10 +1,12 @@
 -- Lists of entries, read one after another.
 use Rattle.std.proofs.Common.{◌≡◌, ℕ, suc, ◌+◌, ◌-◌, ◌<◌, ◌≤◌, true, List, [], ◌∷◌, ◌++◌, Option, Some, None, Result, Ok, Err, refl, sym, ap, subst, ◌∙◌, append_assoc, arith}
+use Rattle.std.specs.Prelude.{All, AllPairs}
 use Rattle.std.specs.Result.{is_ok}
+use Rattle.std.proofs.lemmas.Bool.{ltb-true}
+use Rattle.std.proofs.lemmas.List.Elements.{All-append, All-cons}
+use Rattle.std.proofs.lemmas.List.Quantifiers.{all_pairs_push}
 use Rattle.std.proofs.lemmas.List.{append-nil}
-use Rattle.wb_names.specs.Values.{MarkValue}
-use Rattle.wb_names.specs.Faults.{value_unless}
-use Rattle.wb_names.specs.declared.fault.FieldFault.{FieldFault}
+use Rattle.wb_names.specs.Ascending.{is_above}
 use Rattle.wb_codec.specs.declared.fault.ReadFault.{ReadFault}
 use Rattle.wb_codec.specs.Reading.{◌>>=◌, list_at}
 use Rattle.wb_codec.specs.Checked.{listed}
@@ -42,14 +44,11 @@ module _ {X : Type 0} (entry_at : Option ℕ → List ℕ → Result (X × List 
   unfolding list_at
   stop n before rest fault e = rw e refl
 
-  pub read_more : (n : ℕ) (bytes : List ℕ) (k : ℕ) (before : Option ℕ) (rest after : List ℕ) (xs : List X) (x : X) → HasRead n bytes k before rest xs → k < n → entry_at before rest ≡ Ok (x, after) → HasRead n bytes (k + 1) (Some (source x)) after (xs ++ x ∷ [])
-  read_more n bytes k before rest after xs x h lt e =
+  pub read_more : (n : ℕ) (bytes : List ℕ) (k : ℕ) (before : Option ℕ) (rest after : List ℕ) (xs : List X) (x : X) (ys : List X) (s : ℕ) → HasRead n bytes k before rest xs → k < n → entry_at before rest ≡ Ok (x, after) → ys ≡ xs ++ x ∷ [] → s ≡ source x → HasRead n bytes (k + 1) (Some s) after ys
+  read_more n bytes k before rest after xs x ys s h lt e pushed is =
       let left : n - k ≡ suc (n - (k + 1)) = omega arith in
-      record { so_far = h.so_far ∙ ap (λ (m : ℕ). onto xs (list_at entry_at source m before rest)) left ∙ ap (onto xs) (step (n - (k + 1)) before rest after x e) ∙ onto_onto xs (x ∷ []) (list_at entry_at source (n - (k + 1)) (Some (source x)) after) }
-
-  -- the same, of a list that was extended
-  pub read_pushed : (n : ℕ) (bytes : List ℕ) (k : ℕ) (before : Option ℕ) (rest after : List ℕ) (xs : List X) (x : X) (ys : List X) → HasRead n bytes k before rest xs → k < n → entry_at before rest ≡ Ok (x, after) → ys ≡ xs ++ x ∷ [] → HasRead n bytes (k + 1) (Some (source x)) after ys
-  read_pushed n bytes k before rest after xs x ys h lt e is = subst (λ (zs : List X). HasRead n bytes (k + 1) (Some (source x)) after zs) (sym is) (read_more n bytes k before rest after xs x h lt e)
+      let read : HasRead n bytes (k + 1) (Some (source x)) after (xs ++ x ∷ []) = record { so_far = h.so_far ∙ ap (λ (m : ℕ). onto xs (list_at entry_at source m before rest)) left ∙ ap (onto xs) (step (n - (k + 1)) before rest after x e) ∙ onto_onto xs (x ∷ []) (list_at entry_at source (n - (k + 1)) (Some (source x)) after) } in
+      subst (λ (zs : List X). HasRead n bytes (k + 1) (Some s) after zs) (sym pushed) (subst (λ (t : ℕ). HasRead n bytes (k + 1) (Some t) after (xs ++ x ∷ [])) (sym is) read)
 
   pub read_stops : (n : ℕ) (bytes : List ℕ) (k : ℕ) (before : Option ℕ) (rest : List ℕ) (xs : List X) (fault : ReadFault) → HasRead n bytes k before rest xs → k < n → entry_at before rest ≡ Err fault → list_at entry_at source n None bytes ≡ Err fault
   read_stops n bytes k before rest xs fault h lt e =
@@ -74,7 +73,27 @@ pub never_stops : {X : Type 0} (r : Result (List X × List ℕ) ReadFault) (faul
 never_stops (Ok p) fault ok e = cc
 never_stops (Err f) fault ok e = cc
 
--- what is made of fields without a fault has these fields
-pub made_of : (m n : MarkValue) (f : Option FieldFault) → (let r : Result MarkValue FieldFault = Ok m in r ≡ value_unless f n) → m ≡ n
-made_of m n None e = cc
-made_of m n (Some fault) e = absurd cc
+-- ---- the order of entries
+
+module _ {X : Type 0} (source : X → ℕ) (IsPositive : X → Type 0) where
+  -- these entries ascend, and the last one's source, if there is one, is this
+  pub record Ascends (before : Option ℕ) (xs : List X) : Type 0 where
+    pub ascending : AllPairs (λ a b. source a < source b) xs
+    pub positive : All IsPositive xs
+    pub below : (s : ℕ) → is_above before s ≡ true → All (λ a. source a < s) xs
+
+  pub none_ascend : Ascends None []
+  none_ascend = record { ascending = λ i j d ij h. absurd (omega arith); positive = λ k d h. absurd (omega arith); below = λ s up k d h. absurd (omega arith) }
+
+  pub ascends_more : (before : Option ℕ) (xs : List X) (x : X) (ys : List X) (s : ℕ) → Ascends before xs → is_above before (source x) ≡ true → IsPositive x → ys ≡ xs ++ x ∷ [] → s ≡ source x → Ascends (Some s) ys
+  ascends_more before xs x ys s a up p pushed is =
+      let under : All (λ a. source a < source x) xs = a.below (source x) up in
+      let more : Ascends (Some (source x)) (xs ++ x ∷ []) = record {
+        ascending = all_pairs_push (λ (a b : X). source a < source b) xs x a.ascending under;
+        positive = All-append IsPositive xs (x ∷ []) a.positive (one IsPositive x p);
+        below = λ t above. let lt = ltb-true (source x) t above in All-append (λ (a : X). source a < t) xs (x ∷ []) (λ k d h. let l = under k d h in omega arith) (one (λ (a : X). source a < t) x lt);
+      } in
+      subst (λ (zs : List X). Ascends (Some s) zs) (sym pushed) (subst (λ (t : ℕ). Ascends (Some t) (xs ++ x ∷ [])) (sym is) more)
+    where
+      one : (P : X → Type 0) (x : X) → P x → All P (x ∷ [])
+      one P x p = All-cons P x [] p (λ k d h. absurd (omega arith))

@@ -11,7 +11,7 @@ use Rattle.wb_names.specs.declared.parts.Op.TheVariants.{Drawn, Text, Aimed}
 use Rattle.wb_codec.specs.declared.datagram.Datagram.{Datagram}
 use Rattle.wb_codec.specs.declared.datagram.Datagram.TheVariants.{Draw, Session, Request, AskPages, PageState}
 use Rattle.wb_codec.specs.Ranges.{IsDrawop, IsDatagram}
-use Rattle.wb_codec.specs.Spelling.{mark_bytes, echo_bytes, echoes_bytes, op_bytes, body}
+use Rattle.wb_codec.specs.Spelling.{mark_bytes, echo_bytes, list_bytes, op_bytes, body}
 use Rattle.wb_codec.proofs.Lawful.{lawful_text}
 
 pub marks_length : (marks : List MarkValue) → length (flat_map mark_bytes marks) ≡ 8 * length marks
@@ -23,7 +23,7 @@ echoes_length [] = refl
 echoes_length (e ∷ echoes) = omega (arith, echoes_length echoes)
 
 pub session_length : (sender sent : ℕ) (page : PageId) (marks : List MarkValue) (echoes : List Echo) → length (body (Session sender sent page marks echoes)) ≡ 24 + 8 * length marks + 20 * length echoes
-session_length sender sent page marks echoes = omega (arith, marks_length marks, echoes_length echoes, length-append (flat_map mark_bytes marks) (echoes_bytes echoes))
+session_length sender sent page marks echoes = omega (arith, marks_length marks, echoes_length echoes, length-append (flat_map mark_bytes marks) (list_bytes echo_bytes echoes))
 
 pub page_state_length : (sender : ℕ) (page : PageId) (marks : List MarkValue) → length (body (PageState sender page marks)) ≡ 14 + 8 * length marks
 page_state_length sender page marks = omega (arith, marks_length marks)

@@ -8,7 +8,6 @@ pub mod FieldLaws
 pub mod Lawful
 pub mod GrammarLaws
 pub mod LengthLaws
-pub mod ListFaults
 pub mod NoMemory
 pub mod OpLaws
 pub mod RowLaws

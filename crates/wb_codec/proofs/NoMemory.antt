@@ -7,8 +7,9 @@ use Rattle.wb_names.specs.declared.parts.Figure.{Figure}
 use Rattle.wb_names.specs.declared.parts.Figure.TheVariants.{Line, Frame}
 use Rattle.wb_names.specs.declared.parts.Change.{Change}
 use Rattle.wb_names.specs.declared.parts.Change.TheVariants.{Delete, Restore}
-use Rattle.wb_names.specs.declared.parts.Op.TheVariants.{Drawn, Text, Aimed}
+use Rattle.wb_names.specs.declared.parts.Op.TheVariants.{Text}
 use Rattle.wb_names.specs.declared.fault.FieldFault.{FieldFault}
+use Rattle.wb_names.specs.Ascending.{is_above}
 use Rattle.wb_codec.specs.declared.datagram.Datagram.{Datagram}
 use Rattle.wb_codec.specs.declared.header.Kind.{Kind}
 use Rattle.wb_codec.specs.declared.header.Kind.TheVariants as kinds
@@ -96,11 +97,11 @@ drawop version bytes = next (Reading.name_at bytes) _ (name bytes) (λ a. next (
 
 mark : (before : Option ℕ) (bytes : List ℕ) → Tells (Reading.mark_at before bytes)
 unfolding Reading.mark_at
-mark before bytes = next (Reading.number_at w32 bytes) _ (number w32 bytes) (λ a. next (Reading.number_at w32 a.1) _ (number w32 a.1) (λ b. next (Reading.in_range (seq_fault b.0) b.0) _ (ranges (seq_fault b.0) b.0) (λ c. next (Reading.require (Reading.is_above before a.0) Order a.0) _ (checks (Reading.is_above before a.0) Order a.0 tt) (λ d. tt))))
+mark before bytes = next (Reading.number_at w32 bytes) _ (number w32 bytes) (λ a. next (Reading.number_at w32 a.1) _ (number w32 a.1) (λ b. next (Reading.in_range (seq_fault b.0) b.0) _ (ranges (seq_fault b.0) b.0) (λ c. next (Reading.require (is_above before a.0) Order a.0) _ (checks (is_above before a.0) Order a.0 tt) (λ d. tt))))
 
 echo : (before : Option ℕ) (bytes : List ℕ) → Tells (Reading.echo_at before bytes)
 unfolding Reading.echo_at
-echo before bytes = next (Reading.number_at w32 bytes) _ (number w32 bytes) (λ a. next (Reading.number_at w64 a.1) _ (number w64 a.1) (λ b. next (Reading.number_at w64 b.1) _ (number w64 b.1) (λ c. next (Reading.require (Reading.is_above before a.0) Order a.0) _ (checks (Reading.is_above before a.0) Order a.0 tt) (λ d. tt))))
+echo before bytes = next (Reading.number_at w32 bytes) _ (number w32 bytes) (λ a. next (Reading.number_at w64 a.1) _ (number w64 a.1) (λ b. next (Reading.number_at w64 b.1) _ (number w64 b.1) (λ c. next (Reading.require (is_above before a.0) Order a.0) _ (checks (is_above before a.0) Order a.0 tt) (λ d. tt))))
 
 list : {X : Type 0} (entry_at : Option ℕ → List ℕ → Result (X × List ℕ) ReadFault) (source : X → ℕ) → ((before : Option ℕ) (bytes : List ℕ) → Tells (entry_at before bytes)) → (n : ℕ) (before : Option ℕ) (bytes : List ℕ) → Tells (Reading.list_at entry_at source n before bytes)
 unfolding Reading.list_at

@@ -2,8 +2,7 @@
 use Rattle.std.specs.Prelude.{ℕ, ◌<◌, ◌≤◌, ◌^◌, List, All}
 use Rattle.wb_names.specs.Values.{NameValue, DrawopValue, MarkValue}
 use Rattle.wb_names.specs.Drawing.{IsLawful}
-use Rattle.wb_names.specs.Ascending.{AreMarks}
-use Rattle.wb_names.specs.AscendingEchoes.{AreEchoes}
+use Rattle.wb_names.specs.Ascending.{AreEntries}
 use Rattle.wb_names.specs.declared.name.PageId.{PageId}
 use Rattle.wb_names.specs.declared.echo.Echo.{Echo}
 use Rattle.wb_names.specs.declared.parts.Op.{Op}
@@ -42,14 +41,16 @@ pub record IsEcho (e : Echo) : Type 0 where
   pub sent : e.sent < 2 ^ 64
   pub held : e.held < 2 ^ 64
 
--- marks in order, each number in range
-pub record IsMarkList (marks : List MarkValue) : Type 0 where
-  pub lawful : AreMarks marks
-  pub ranges : All IsMark marks
+-- entries in order, each in range
+pub record IsEntryList {E : Type 0} (source : E → ℕ) (IsPositive IsEntry : E → Type 0) (entries : List E) : Type 0 where
+  pub lawful : AreEntries source IsPositive entries
+  pub ranges : All IsEntry entries
 
-pub record IsEchoList (echoes : List Echo) : Type 0 where
-  pub lawful : AreEchoes echoes
-  pub ranges : All IsEcho echoes
+abbrev pub IsMarkList : List MarkValue → Type 0
+IsMarkList = IsEntryList (λ (m : MarkValue). m.source) (λ (m : MarkValue). 1 ≤ m.high) IsMark
+
+abbrev pub IsEchoList : List Echo → Type 0
+IsEchoList = IsEntryList (λ (e : Echo). e.source) (λ (e : Echo). Unit {0}) IsEcho
 
 pub record IsSession (sender sent : ℕ) (page : PageId) (marks : List MarkValue) (echoes : List Echo) : Type 0 where
   pub sender-fits : sender < 2 ^ 32

@@ -1,9 +1,10 @@
 -- What bytes say, or the first check that fails: the header, then the sizes, then the fields.
-use Rattle.std.specs.Prelude.{◌≡◌, ℕ, zero, suc, Bool, true, false, ◌&&◌, List, [], ◌∷◌, length, take, drop, Option, Some, None, Result, Ok, Err, nat_eq, nat_lt, nat_le, if◌then◌else◌}
+use Rattle.std.specs.Prelude.{◌≡◌, ℕ, zero, suc, Bool, true, false, ◌&&◌, List, [], ◌∷◌, length, take, drop, Option, Some, None, Result, Ok, Err, nat_eq, nat_le, if◌then◌else◌}
 use Rattle.std.specs.List.{list_all}
 use Rattle.std.specs.Int.{Width, w16, w32, w64, byte_len, from_be_bytes}
 use Rattle.wb_names.specs.Values.{NameValue, DrawopValue, MarkValue}
 use Rattle.wb_names.specs.Faults.{first_of, fault_unless}
+use Rattle.wb_names.specs.Ascending.{is_above}
 use Rattle.wb_names.specs.Drawing.{seq_fault, stroke_fault, target_fault, is_coordinate, is_printable}
 use Rattle.wb_names.specs.declared.name.PageId.{PageId}
 use Rattle.wb_names.specs.declared.fault.FieldFault.{FieldFault}
@@ -141,11 +142,6 @@ drawop_at version bytes = do
   in_range (told_fault version named whole) (record { name = named; time = time.0; op = whole })
 
 -- ---- lists: so many entries, each source above the one before it
-
--- whether a source is above the one before it, if there is one
-abbrev pub is_above : Option ℕ → ℕ → Bool
-is_above None source = true
-is_above (Some before) source = nat_lt before source
 
 -- a mark: that it is whole comes first, then its number, then its source
 unfoldable pub mark_at : Option ℕ → List ℕ → Result (MarkValue × List ℕ) ReadFault

@@ -58,18 +58,15 @@ abbrev pub echo_bytes : Echo → List ℕ
 echo_bytes e = to_be_bytes w32 e.source ++ to_be_bytes w64 e.sent ++ to_be_bytes w64 e.held
 
 -- how many, and each
-abbrev pub marks_bytes : List MarkValue → List ℕ
-marks_bytes marks = to_be_bytes w16 (length marks) ++ flat_map mark_bytes marks
-
-abbrev pub echoes_bytes : List Echo → List ℕ
-echoes_bytes echoes = to_be_bytes w16 (length echoes) ++ flat_map echo_bytes echoes
+abbrev pub list_bytes : {E : Type 0} → (E → List ℕ) → List E → List ℕ
+list_bytes entry_bytes entries = to_be_bytes w16 (length entries) ++ flat_map entry_bytes entries
 
 abbrev pub body : Datagram → List ℕ
 body (Draw d) = drawop_bytes d
-body (Session sender sent page marks echoes) = to_be_bytes w32 sender ++ to_be_bytes w64 sent ++ page_bytes page ++ marks_bytes marks ++ echoes_bytes echoes
+body (Session sender sent page marks echoes) = to_be_bytes w32 sender ++ to_be_bytes w64 sent ++ page_bytes page ++ list_bytes mark_bytes marks ++ list_bytes echo_bytes echoes
 body (Request asker name) = to_be_bytes w32 asker ++ name_bytes name
 body (AskPages asker) = to_be_bytes w32 asker
-body (PageState sender page marks) = to_be_bytes w32 sender ++ page_bytes page ++ marks_bytes marks
+body (PageState sender page marks) = to_be_bytes w32 sender ++ page_bytes page ++ list_bytes mark_bytes marks
 
 abbrev pub kind_code : Datagram → ℕ
 kind_code (Draw d) = 1

@@ -2,9 +2,9 @@
 
 use wb_names::{Drawop, Name, PageId};
 
-/// The bytes from the first entry of a list on, and how many entries it has.
+/// A list that is still bytes: those from its first entry on, and how many entries it has.
 #[derive(Clone, Copy)]
-pub(crate) struct Entries<'a> {
+pub(crate) struct Unread<'a> {
     pub(crate) count: u16,
     pub(crate) bytes: &'a [u8],
 }
@@ -18,8 +18,8 @@ pub(crate) enum Body<'a> {
         sender: u32,
         sent: u64,
         page: PageId,
-        marks: Entries<'a>,
-        echoes: Entries<'a>,
+        marks: Unread<'a>,
+        echoes: Unread<'a>,
     },
     Request {
         asker: u32,
@@ -31,6 +31,6 @@ pub(crate) enum Body<'a> {
     PageState {
         sender: u32,
         page: PageId,
-        marks: Entries<'a>,
+        marks: Unread<'a>,
     },
 }

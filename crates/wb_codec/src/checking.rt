@@ -4,14 +4,14 @@ ghost use Rattle.std.specs.Prelude.{IfOk};
 ghost use Rattle.wb_codec.specs.Reading.{Gives, session_at, request_at, ask_pages_at, page_state_at, draw_at, body_at};
 ghost use Rattle.wb_codec.specs.Checked.{datagram_of, IsChecked};
 
-use crate::body::{Body, Entries};
+use crate::body::{Body, Unread};
 use crate::drawing::drawop_of;
-use crate::entries::{after_echoes, after_marks};
+use crate::entries::after_entries;
 use crate::fault::ReadFault;
 use crate::fields::{name_of, page_of, u16_of, u32_of, u64_of};
 use crate::header::Kind;
 use crate::version::Version;
-use wb_names::Name;
+use wb_names::{Echo, Mark, Name};
 
 // Each of these checks all of a body, and takes no memory.
 
@@ -24,11 +24,11 @@ fn session_of(bytes: &[u8]) -> Result<Body<'_>, ReadFault>
     let (sent, rest) = u64_of(rest)?;
     let (page, rest) = page_of(rest)?;
     let (count, rest) = u16_of(rest)?;
-    let marks = Entries { count, bytes: rest };
-    let rest = after_marks(count, rest)?;
+    let marks = Unread { count, bytes: rest };
+    let rest = after_entries::<Mark>(count, rest)?;
     let (count, rest) = u16_of(rest)?;
-    let echoes = Entries { count, bytes: rest };
-    let rest = after_echoes(count, rest)?;
+    let echoes = Unread { count, bytes: rest };
+    let rest = after_entries::<Echo>(count, rest)?;
     if !rest.is_empty() {
         return Err(ReadFault::Length);
     }
@@ -75,8 +75,8 @@ fn page_state_of(bytes: &[u8]) -> Result<Body<'_>, ReadFault>
     let (sender, rest) = u32_of(bytes)?;
     let (page, rest) = page_of(rest)?;
     let (count, rest) = u16_of(rest)?;
-    let marks = Entries { count, bytes: rest };
-    let rest = after_marks(count, rest)?;
+    let marks = Unread { count, bytes: rest };
+    let rest = after_entries::<Mark>(count, rest)?;
     if !rest.is_empty() {
         return Err(ReadFault::Length);
     }

@@ -18,7 +18,6 @@ mod fault;
 mod fields;
 mod header;
 pub mod laws;
-mod lists;
 mod parts;
 mod reading;
 mod row;

@@ -11,9 +11,9 @@ ghost use Rattle.wb_codec.specs.Checked.{datagram_of, IsChecked};
 use crate::body::Body;
 use crate::checking::body_of;
 use crate::datagram::Datagram;
+use crate::entries::entries_of;
 use crate::fault::ReadFault;
 use crate::header::frame_of;
-use crate::lists::{echoes_of, marks_of};
 use std::alloc::{AllocError, Global};
 
 /// The body of the datagram that the bytes are, all of the bytes. Every check is here.
@@ -43,8 +43,8 @@ fn datagram_from(alloc: Global, body: &Body<'_>) -> Result<Datagram, AllocError>
             marks,
             echoes,
         } => {
-            let marks = marks_of(alloc, marks)?;
-            let echoes = echoes_of(alloc, echoes)?;
+            let marks = entries_of(alloc, marks)?;
+            let echoes = entries_of(alloc, echoes)?;
             Ok(Datagram::Session {
                 sender,
                 sent,
@@ -60,7 +60,7 @@ fn datagram_from(alloc: Global, body: &Body<'_>) -> Result<Datagram, AllocError>
             page,
             marks,
         } => {
-            let marks = marks_of(alloc, marks)?;
+            let marks = entries_of(alloc, marks)?;
             Ok(Datagram::PageState {
                 sender,
                 page,

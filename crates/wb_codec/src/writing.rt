@@ -3,16 +3,17 @@
 ghost use Rattle.std.specs.Prelude.{◌≡◌, ◌<◌, ◌≤◌, ◌^◌, ◌∷◌, ◌++◌, length, IfOk, OnOk};
 ghost use Rattle.wb_names.specs.Drawing.{text_of};
 ghost use Rattle.wb_codec.specs.declared.datagram.Datagram.{Datagram as DatagramValue};
-ghost use Rattle.wb_codec.specs.Spelling.{text_bytes, op_bytes, drawop_bytes, echo_bytes, marks_bytes, echoes_bytes, body, kind_code, op_version, version_code, version_of as version_of_datagram, spelling};
+ghost use Rattle.wb_codec.specs.Spelling.{text_bytes, op_bytes, drawop_bytes, body, kind_code, op_version, version_code, version_of as version_of_datagram, spelling};
 
 use crate::datagram::Datagram;
+use crate::entries::put_entries;
 use crate::parts::{
-    drawop_front, echo_part, header, mark_part, page_state_front, request_part, session_front,
-    stroke_part, target_part, text_front,
+    drawop_front, header, page_state_front, request_part, session_front, stroke_part, target_part,
+    text_front,
 };
 use crate::version::{Version, change_version, figure_version};
 use std::alloc::{AllocError, Global};
-use wb_names::{Drawop, Echo, Echoes, Marks, Name, Op, PageId};
+use wb_names::{Drawop, Echoes, Marks, Name, Op, PageId};
 
 // Each of these adds the bytes of a value at the end.
 
@@ -48,35 +49,6 @@ fn put_drawop(out: &mut Vec<u8>, drawop: &Drawop) -> Result<(), AllocError>
     Ok(())
 }
 
-fn put_marks(out: &mut Vec<u8>, marks: &Marks) -> Result<(), AllocError>
-    ensures { OnOk result (out.new.items ≡ out.old.items ++ marks_bytes marks.now) }
-{
-    let marks = marks.as_slice();
-    out.extend_from_slice(&(marks.len() as u16).to_be_bytes())?;
-    for mark in marks {
-        out.extend_from_slice(&mark_part(mark))?;
-    }
-    Ok(())
-}
-
-#[inline(always)]
-fn put_echo(out: &mut Vec<u8>, echo: &Echo) -> Result<(), AllocError>
-    ensures { OnOk result (out.new.items ≡ out.old.items ++ echo_bytes echo.now) }
-{
-    out.extend_from_slice(&echo_part(echo))
-}
-
-fn put_echoes(out: &mut Vec<u8>, echoes: &Echoes) -> Result<(), AllocError>
-    ensures { OnOk result (out.new.items ≡ out.old.items ++ echoes_bytes echoes.now) }
-{
-    let echoes = echoes.as_slice();
-    out.extend_from_slice(&(echoes.len() as u16).to_be_bytes())?;
-    for echo in echoes {
-        put_echo(out, echo)?;
-    }
-    Ok(())
-}
-
 fn put_session(
     out: &mut Vec<u8>,
     sender: u32,
@@ -88,8 +60,8 @@ fn put_session(
     ensures { OnOk result (out.new.items ≡ out.old.items ++ body (DatagramValue.Session sender sent page marks.now echoes.now)) }
 {
     out.extend_from_slice(&session_front(sender, sent, page))?;
-    put_marks(out, marks)?;
-    put_echoes(out, echoes)?;
+    put_entries(out, marks)?;
+    put_entries(out, echoes)?;
     Ok(())
 }
 
@@ -109,7 +81,7 @@ fn put_page_state(
     ensures { OnOk result (out.new.items ≡ out.old.items ++ body (DatagramValue.PageState sender page marks.now)) }
 {
     out.extend_from_slice(page_state_front(sender, page).as_flattened())?;
-    put_marks(out, marks)?;
+    put_entries(out, marks)?;
     Ok(())
 }
 

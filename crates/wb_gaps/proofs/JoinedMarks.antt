@@ -1,48 +1,18 @@
 -- What the marks of two ascending lists are, taken together.
 use Rattle.std.proofs.Common.{◌≡◌, ℕ, suc, ◌+◌, ◌<◌, ◌≤◌, Bool, true, false, cond, max, List, [], ◌∷◌, length, refl, ap, ◌∙◌, sym, subst, arith, ⊎_elim}
-use Rattle.std.specs.Prelude.{◌≢◌, All, AllPairs, filter, nat_eq, nat_lt}
+use Rattle.std.specs.Prelude.{◌≢◌, filter, nat_eq, nat_lt}
 use Rattle.std.proofs.lemmas.Bool.{cases_lt}
 use Rattle.std.proofs.lemmas.Bool.Decides.{nat_tests}
-use Rattle.std.proofs.lemmas.List.Elements.{All-cons, All-head, All-tail, All-weaker}
+use Rattle.std.proofs.lemmas.List.Elements.{All-cons, All-head, All-tail}
 use Rattle.std.proofs.lemmas.List.Sums.{length-filter, count_by-le-length}
 use Rattle.std.proofs.lemmas.List.Kept.{AllPairs-cons}
 use Rattle.wb_names.specs.Values.{MarkValue}
 use Rattle.wb_names.specs.Ascending.{AreMarks}
 use Rattle.wb_names.specs.Marks.{mark_of, IsMerge}
+use Rattle.wb_names.proofs.MarkLists.{Above, Rises, Positive, rest_above, rest_rises, here, there, none_above, above_less}
 use Rattle.wb_gaps.specs.Merging.{source_count}
 use Rattle.wb_gaps.specs.Joining.{greater, joined, joined_at}
 use Rattle.wb_gaps.proofs.GreatestNumbers.{same_or_not}
-
-abbrev pub Above : ℕ → List MarkValue → Type 0
-Above b marks = All (λ m. b < m.source) marks
-
-abbrev pub Rises : List MarkValue → Type 0
-Rises marks = AllPairs (λ m n. m.source < n.source) marks
-
-abbrev pub Positive : List MarkValue → Type 0
-Positive marks = All (λ m. 1 ≤ m.high) marks
-
-pub rest_above : (m : MarkValue) (marks : List MarkValue) → Rises (m ∷ marks) → Above m.source marks
-rest_above m marks up k d h = up 0 (suc k) d (omega arith) (omega arith)
-
-pub rest_rises : (m : MarkValue) (marks : List MarkValue) → Rises (m ∷ marks) → Rises marks
-rest_rises m marks up i j d ij h = up (suc i) (suc j) d (omega arith) (omega arith)
-
-pub here : (m : MarkValue) (marks : List MarkValue) (s : ℕ) → m.source ≡ s → mark_of (m ∷ marks) s ≡ m.high
-here m marks s e = grind (arith, nat_tests)
-
-pub there : (m : MarkValue) (marks : List MarkValue) (s : ℕ) → m.source ≢ s → mark_of (m ∷ marks) s ≡ mark_of marks s
-there m marks s n = grind (arith, nat_tests)
-
--- at a source below all marks there is none
-pub none_above : (marks : List MarkValue) (s : ℕ) → Above s marks → mark_of marks s ≡ 0
-none_above [] s above = refl
-none_above (m ∷ marks) s above =
-    let lt : s < m.source = All-head (λ (m : MarkValue). s < m.source) m marks above in
-    there m marks s (omega arith) ∙ none_above marks s (All-tail (λ (m : MarkValue). s < m.source) m marks above)
-
-pub above_less : (a b : ℕ) (marks : List MarkValue) → a ≤ b → Above b marks → Above a marks
-above_less a b marks le above = All-weaker (λ (m : MarkValue). b < m.source) (λ (m : MarkValue). a < m.source) (λ m lt. omega arith) marks above
 
 -- the marks of a list whose sources another list lacks
 abbrev lacking : List MarkValue → List MarkValue → ℕ
@@ -194,6 +164,22 @@ pub joins : (ms : List MarkValue) → Rises ms → Positive ms → (ns : List Ma
 joins [] um pm ns un = joins_none ns un
 joins (m ∷ ms) um pm ns un = joins_at m ms um (All-head (λ (k : MarkValue). 1 ≤ k.high) m ms pm) (joins ms (rest_rises m ms um) (All-tail (λ (k : MarkValue). 1 ≤ k.high) m ms pm)) ns un
 
+positive_at : (m : MarkValue) (ms : List MarkValue) (rest : List MarkValue → List MarkValue) → 1 ≤ m.high → Positive ms → ((ns : List MarkValue) → Positive ns → Positive (rest ns)) → (ns : List MarkValue) → Positive ns → Positive (joined_at m ms rest ns)
+positive_at m ms rest pos pm pr [] pn = All-cons (λ (k : MarkValue). 1 ≤ k.high) m ms pos pm
+positive_at m ms rest pos pm pr (n ∷ ns) pn =
+    let more = All-tail (λ (k : MarkValue). 1 ≤ k.high) n ns pn in
+    elim (nat_lt m.source n.source) as (λ b. Positive (cond b (m ∷ rest (n ∷ ns)) (cond (nat_lt n.source m.source) (n ∷ joined_at m ms rest ns) (greater m n ∷ rest ns)))) [
+      | true ↦ All-cons (λ (k : MarkValue). 1 ≤ k.high) m _ pos (pr (n ∷ ns) pn)
+      | false ↦ elim (nat_lt n.source m.source) as (λ b. Positive (cond b (n ∷ joined_at m ms rest ns) (greater m n ∷ rest ns))) [
+        | true ↦ All-cons (λ (k : MarkValue). 1 ≤ k.high) n _ (All-head (λ (k : MarkValue). 1 ≤ k.high) n ns pn) (positive_at m ms rest pos pm pr ns more)
+        | false ↦ All-cons (λ (k : MarkValue). 1 ≤ k.high) (greater m n) _ (omega arith) (pr ns more)
+      ]
+    ]
+
+pub positive_joined : (ms : List MarkValue) → Positive ms → (ns : List MarkValue) → Positive ns → Positive (joined ms ns)
+positive_joined [] pm ns pn = pn
+positive_joined (m ∷ ms) pm ns pn = positive_at m ms (joined ms) (All-head (λ (k : MarkValue). 1 ≤ k.high) m ms pm) (All-tail (λ (k : MarkValue). 1 ≤ k.high) m ms pm) (positive_joined ms (All-tail (λ (k : MarkValue). 1 ≤ k.high) m ms pm)) ns pn
+
 -- where the second list has ended, the first one is what is left
 pub joined_alone : (xs ys : List MarkValue) (m : MarkValue) (ms : List MarkValue) → xs ≡ m ∷ ms → length ys ≡ 0 → joined xs ys ≡ m ∷ joined ms ys
 joined_alone xs [] m ms e none = ap (λ (zs : List MarkValue). joined zs []) e ∙ ap (λ (zs : List MarkValue). m ∷ zs) (sym (with_none ms)) where
@@ -219,7 +205,18 @@ joins_read a b first second items p q la lb made =
     let up = subst AreMarks (sym p) la in
     subst (Joins first second) (sym made) (joins first up.ascending up.positive second (subst AreMarks (sym q) lb).ascending)
 
--- and, where there are not too many, they are the merge
+-- where there are not too many, they are a list of marks
+pub joined_marks : (a b first second items : List MarkValue) → first ≡ a → second ≡ b → AreMarks a → AreMarks b → items ≡ joined first second → source_count first second ≤ 65535 → AreMarks items
+joined_marks a b first second items p q la lb made few =
+    let j = joins_read a b first second items p q la lb made in
+    let count = j.count in
+    record {
+      ascending = j.rises;
+      positive = subst Positive (sym made) (positive_joined first (subst AreMarks (sym p) la).positive second (subst AreMarks (sym q) lb).positive);
+      few = omega arith;
+    }
+
+-- and they are the merge
 pub is_merge : (a b first second items marks : List MarkValue) → first ≡ a → second ≡ b → AreMarks a → AreMarks b → items ≡ joined first second → marks ≡ items → AreMarks marks → IsMerge a b marks
 is_merge a b first second items marks p q la lb made is lawful =
     let j = joins_read a b first second items p q la lb made in

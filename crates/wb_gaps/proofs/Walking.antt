@@ -19,7 +19,7 @@ use Rattle.wb_gaps.specs.Walk.{gap_of, spans, spans_at, told, walk_of}
 use Rattle.wb_gaps.specs.declared.run.Run.{Run}
 use Rattle.wb_gaps.specs.declared.walk.Span.{Span}
 use Rattle.wb_gaps.proofs.GreatestNumbers.{first_counted, first_filled, later_all, later_runs, number_cases, number_here, number_none, number_there, same_or_not}
-use Rattle.wb_gaps.proofs.JoinedMarks.{Above, Rises, rest_above, rest_rises, here, there, none_above}
+use Rattle.wb_names.proofs.MarkLists.{Above, Rises, rest_above, rest_rises, here, there, none_above}
 use Rattle.wb_gaps.proofs.Rearranged.{known_is_reached}
 
 -- ---- one span more

@@ -12,7 +12,6 @@ ghost use Rattle.wb_gaps.specs.Starts.{AreRanges, is_page, is_past, pages_in, ru
 
 use crate::highest::highs;
 use crate::holdings::{Holdings, Start};
-use crate::mark_list::as_marks;
 use crate::missing::Missing;
 use crate::run::Runs;
 use std::alloc::{AllocError, Global};
@@ -45,7 +44,7 @@ impl Holdings {
         ensures { (history : List DrawopValue) → HoldNamesOf history self.now → IfOk result (λ marks. IsReport history page marks) }
     {
         let marks = highs(alloc, runs_of(&self.ranges, page))?;
-        Ok(as_marks(marks))
+        Ok(Marks::from_ascending(marks))
     }
 
     /// How many ranges are held: where nothing is missing, one of each page and source.

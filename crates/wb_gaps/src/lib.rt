@@ -22,7 +22,6 @@ mod highest;
 mod holdings;
 mod joined;
 pub mod laws;
-mod mark_list;
 mod merged;
 mod missing;
 mod page_list;

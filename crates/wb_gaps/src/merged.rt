@@ -6,7 +6,6 @@ ghost use Rattle.wb_gaps.specs.Merging.{source_count};
 ghost use Rattle.wb_gaps.specs.MergeFaults.{IsMergeFault};
 
 use crate::joined::{count_sources, join};
-use crate::mark_list::as_marks;
 use std::alloc::Global;
 use thiserror::Error;
 use wb_names::Marks;
@@ -53,5 +52,5 @@ pub fn merge_marks(alloc: Global, first: &Marks, second: &Marks) -> Result<Marks
     let Ok(marks) = join(alloc, first, second, count) else {
         return Err(MergeFault::Memory);
     };
-    Ok(as_marks(marks))
+    Ok(Marks::from_ascending(marks))
 }

@@ -5,7 +5,6 @@ ghost use Rattle.wb_names.specs.Marks.{IsReport};
 
 use crate::candidates::candidates;
 use crate::highest::highs;
-use crate::mark_list::as_marks;
 use crate::run::Runs;
 use std::alloc::{AllocError, Global};
 use wb_names::{Drawop, Marks, PageId};
@@ -19,5 +18,5 @@ pub fn report(alloc: Global, list: &[Drawop], page: PageId) -> Result<Marks, All
 {
     let numbers = candidates(alloc, list, page)?;
     let marks = highs(alloc, Runs::Listed(numbers.as_slice()))?;
-    Ok(as_marks(marks))
+    Ok(Marks::from_ascending(marks))
 }

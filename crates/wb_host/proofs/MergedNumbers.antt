@@ -9,7 +9,8 @@ use Rattle.wb_names.proofs.Listings.{Contains-here, Contains-there}
 use Rattle.wb_codec.specs.declared.datagram.Datagram.{Datagram}
 use Rattle.wb_codec.specs.declared.datagram.Datagram.TheVariants.{Session, PageState}
 use Rattle.wb_gaps.specs.Joining.{joined}
-use Rattle.wb_gaps.proofs.JoinedMarks.{Rises, joins}
+use Rattle.wb_names.proofs.MarkLists.{Rises}
+use Rattle.wb_gaps.proofs.JoinedMarks.{joins}
 use Rattle.wb_host.specs.Hearing.{marks_in, marks_heard}
 use Rattle.wb_host.specs.Keeper.{KeeperCall, Hear, is_own, high_in, high_heard}
 use Rattle.wb_host.specs.KeeperLaws.{AreOrderly, MergedAreGreatest}

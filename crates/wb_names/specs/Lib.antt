@@ -9,7 +9,6 @@ pub mod Listing
 pub mod History
 pub mod Arrivals
 pub mod Ascending
-pub mod AscendingEchoes
 pub mod ListFaults
 pub mod Marks
 pub mod Stream

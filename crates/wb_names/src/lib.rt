@@ -12,6 +12,7 @@
 
 mod drawop;
 mod echo;
+mod entries;
 mod fault;
 mod gap;
 pub mod laws;
@@ -25,10 +26,11 @@ mod stream;
 mod text;
 
 pub use drawop::Drawop;
-pub use echo::{Echo, Echoes};
+pub use echo::Echo;
+pub use entries::{Echoes, Entries, Entry, MAX_ENTRIES, Marks};
 pub use fault::{FieldFault, ListFault};
 pub use gap::Gap;
-pub use mark::{Mark, Marks};
+pub use mark::Mark;
 pub use name::{Name, PageId};
 pub use order::{before, display_order};
 pub use parts::{Change, Figure, Op, Parts, Stroke, Target};

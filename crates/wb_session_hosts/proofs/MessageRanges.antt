@@ -112,6 +112,7 @@ module _ (me : ℕ) (calls : List KeeperCall) (fit : All Fits calls) (now : ℕ)
         record {
           lawful = record {
             ascending = λ i j d ij jn. below (get_or echoes i d).source (get_or echoes j d).source (Less-from_sorted echo_cmp echoes i j d listed.rising ij jn);
+            positive = λ k d h. tt;
             few = omega arith;
           };
           ranges = all_from IsEcho echoes (λ e c. echo_fits e ((listed.members e).0 c));

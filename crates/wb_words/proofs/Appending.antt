@@ -1,7 +1,6 @@
 -- Words added one after another.
-use Rattle.std.proofs.Common.{◌≡◌, ℕ, ◌+◌, ◌<◌, List, [], ◌∷◌, ◌++◌, length, get_or, take, sym, ap, ◌∙◌, append_assoc, append-nil}
-use Rattle.std.specs.Prelude.{map, codes, decimal, OnOk, Result, Ok, Err}
-use Rattle.std.proofs.lemmas.List.{take_more, map-append}
+use Rattle.std.proofs.Common.{◌≡◌, ℕ, List, [], ◌∷◌, ◌++◌, sym, ap, ◌∙◌, append_assoc, append-nil}
+use Rattle.std.specs.Prelude.{codes, decimal, OnOk, Result, Ok, Err}
 use Rattle.std.proofs.lemmas.Grind.{flat_map-append}
 use Rattle.wb_words.specs.Words.{words, joined}
 use Rattle.wb_names.specs.declared.parts.Stroke.{Stroke}
@@ -22,18 +21,6 @@ tailed_words line =
     let h = has_word line in
     let whole : joined (h.first ∷ h.others) ≡ line = ap joined (sym h.is) ∙ joined_words line in
     ap tailed h.is ∙ ap (λ t. 32 ∷ t) (sym (joined_tailed h.first h.others) ∙ whole)
-
-pub tailed_more : {X : Type 0} (f : X → List ℕ) (xs : List X) (i : ℕ) (d : X) → i < length xs → tailed (map f (take (i + 1) xs)) ≡ tailed (map f (take i xs)) ++ 32 ∷ f (get_or xs i d)
-tailed_more f xs i d lt = ap (λ ys. tailed (map f ys)) (take_more xs i d lt) ∙ ap tailed (map-append f (take i xs) (get_or xs i d ∷ [])) ∙ flat_map-append (λ w. 32 ∷ w) (map f (take i xs)) (f (get_or xs i d) ∷ []) ∙ ap (λ t. tailed (map f (take i xs)) ++ t) (append-nil (32 ∷ f (get_or xs i d)))
-
--- an entry of a list added
-pub entry_added : {X : Type 0} (f : X → List ℕ) (xs : List X) (i : ℕ) (x : X) (o a b text : List ℕ) → i < length xs → x ≡ get_or xs i x → a ≡ o ++ tailed (map f (take i xs)) → b ≡ a ++ text → text ≡ 32 ∷ f x → b ≡ o ++ tailed (map f (take (i + 1) xs))
-entry_added f xs i x o a b text lt is e g h =
-    glued o a b (tailed (map f (take i xs))) text _ e g (ap (λ t. tailed (map f (take i xs)) ++ t) (h ∙ ap (λ y. 32 ∷ f y) is) ∙ sym (tailed_more f xs i x lt))
-
--- the same, of the entry at a place
-pub entry_added_at : {X : Type 0} (f : X → List ℕ) (xs : List X) (i : ℕ) (d : X) (o a b : List ℕ) → i < length xs → a ≡ o ++ tailed (map f (take i xs)) → b ≡ a ++ 32 ∷ f (get_or xs i d) → b ≡ o ++ tailed (map f (take (i + 1) xs))
-entry_added_at f xs i d o a b lt e g = glued o a b (tailed (map f (take i xs))) (32 ∷ f (get_or xs i d)) _ e g (sym (tailed_more f xs i d lt))
 
 pub stroke_text : (word : List ℕ) (s : Stroke) → (codes " " ++ (word ++ (codes " " ++ (decimal s.x0 ++ (codes " " ++ (decimal s.y0 ++ (codes " " ++ (decimal s.x1 ++ (codes " " ++ (decimal s.y1 ++ codes " ")))))))))) ++ s.glyph ∷ [] ≡ tailed (word ∷ stroke_words s)
 stroke_text word s = simp append_assoc

@@ -6,10 +6,9 @@ use Rattle.std.proofs.lemmas.Bool.Decides.{nat_tests}
 use Rattle.std.proofs.lemmas.List.{length-append}
 use Rattle.std.proofs.lemmas.List.Elements.{All-cons, All-head, All-tail}
 use Rattle.std.proofs.lemmas.List.Kept.{AllPairs-cons}
-use Rattle.wb_names.specs.ListFaults.{IsListFault}
-use Rattle.wb_names.specs.declared.fault.ListFault.{ListFault}
-use Rattle.wb_codec.specs.Reading.{is_above}
-use Rattle.wb_codec.proofs.ListFaults.{no_list_fault}
+use Rattle.wb_names.specs.Ascending.{is_above}
+use Rattle.wb_codec.specs.Ranges.{IsEntryList}
+use Rattle.wb_codec.proofs.EntryLaws.{EntryFits}
 use Rattle.wb_words.specs.declared.fault.WrongWord.{WrongWord}
 use Rattle.wb_words.specs.declared.fault.WordFault.{WordFault}
 use Rattle.wb_words.specs.declared.fault.WordFault.TheVariants.{TooMany}
@@ -48,6 +47,11 @@ onto_onto xs ys (Err fault) = refl
 onto_one : {X : Type 0} (x : X) (r : Result (List X) WrongWord) → (r >>= λ others. Ok (x ∷ others)) ≡ onto (x ∷ []) r
 onto_one x (Ok xs) = refl
 onto_one x (Err fault) = refl
+
+-- entries end where these words begin
+abbrev pub Stopped : (List ℕ → Bool) → List (List ℕ) → Type 0
+Stopped stops [] = Unit {0}
+Stopped stops (w ∷ ws) = stops w ≡ true
 
 module _ {X : Type 0} (entry_at : ℕ → Option ℕ → List ℕ → Result X WrongWord) (source : X → ℕ) (stops : List ℕ → Bool) where
   abbrev read : ℕ → ℕ → Option ℕ → List (List ℕ) → Result (List X) WrongWord
@@ -126,13 +130,16 @@ module _ {X : Type 0} (entry_at : ℕ → Option ℕ → List ℕ → Result X W
     pub fits : Fits x
     pub above : is_above before (source x) ≡ true
 
-  module _ (spell : X → List ℕ) (Fits : X → Type 0) where
-    pub record ListTaken (n : ℕ) (before : Option ℕ) (ws : List (List ℕ)) (xs : List X) : Type 0 where
-      pub words : ws ≡ map spell xs ++ left_at stops ws
-      pub fits : All Fits xs
-      pub ascending : AllPairs (λ a b. source a < source b) xs
-      pub above : All (λ a. is_above before (source a) ≡ true) xs
-      pub few : n + length xs ≤ 65535
+  module _ (spell : X → List ℕ) (IsPositive IsEntry : X → Type 0) where
+    abbrev Fits : X → Type 0
+    Fits = EntryFits IsPositive IsEntry
+
+    record ListTaken (n : ℕ) (before : Option ℕ) (ws : List (List ℕ)) (xs : List X) : Type 0 where
+      words : ws ≡ map spell xs ++ left_at stops ws
+      fits : All Fits xs
+      ascending : AllPairs (λ a b. source a < source b) xs
+      above : All (λ a. is_above before (source a) ≡ true) xs
+      few : n + length xs ≤ 65535
 
     taken_none : (n : ℕ) (before : Option ℕ) (ws : List (List ℕ)) → n ≤ 65535 → left_at stops ws ≡ ws → ListTaken n before ws []
     taken_none n before ws few is = record {
@@ -159,7 +166,7 @@ module _ {X : Type 0} (entry_at : ℕ → Option ℕ → List ℕ → Result X W
           few = omega (arith, ts.few);
         }
 
-    pub entries_take : ((place : ℕ) (before : Option ℕ) (w : List ℕ) (x : X) → entry_at place before w ≡ Ok x → EntryTaken spell Fits before w x)
+    entries_take : ((place : ℕ) (before : Option ℕ) (w : List ℕ) (x : X) → entry_at place before w ≡ Ok x → EntryTaken spell Fits before w x)
         → (place n : ℕ) (before : Option ℕ) (ws : List (List ℕ)) (xs : List X) → n ≤ 65535 → entries_at entry_at source stops place n before ws ≡ Ok xs → ListTaken n before ws xs
     unfolding entries_at
     entries_take takes place n before [] xs few e = subst (λ (ys : List X). ListTaken n before [] ys) (ok_is [] xs e) (taken_none n before [] few refl)
@@ -178,25 +185,24 @@ module _ {X : Type 0} (entry_at : ℕ → Option ℕ → List ℕ → Result X W
             let room : n + 1 ≤ 65535 = omega arith in
             subst (λ (ys : List X). ListTaken n before (w ∷ ws) ys) (ok_is (b.0 ∷ c.0) xs c.2) (taken_more n before w ws b.0 c.0 h t (later (source b.0) c.0 room c.1))
 
-    -- the list of what was read is not refused
-    pub not_refused : ((place : ℕ) (before : Option ℕ) (w : List ℕ) (x : X) → entry_at place before w ≡ Ok x → EntryTaken spell Fits before w x)
-        → (place : ℕ) (ws : List (List ℕ)) (xs : List X) (fault : ListFault) → entries_at entry_at source stops place 0 None ws ≡ Ok xs → IsListFault (map source xs) fault → ⊥
-    not_refused takes place ws xs fault e h =
-        let t = entries_take takes place 0 None ws xs (omega arith) e in
-        no_list_fault source xs fault (omega (arith, t.few)) t.ascending h
+    pub entries_ok : ((place : ℕ) (before : Option ℕ) (w : List ℕ) (x : X) → entry_at place before w ≡ Ok x → EntryTaken spell Fits before w x)
+        → (place : ℕ) (ws : List (List ℕ)) (xs : List X) → entries_at entry_at source stops place 0 None ws ≡ Ok xs → (ws ≡ map spell xs ++ left_at stops ws) × IsEntryList source IsPositive IsEntry xs
+    entries_ok takes place ws xs e =
+        let t = entries_take takes place 0 None ws xs (omega arith) e in (
+          t.words,
+          record {
+            lawful = record { ascending = t.ascending; positive = λ k d h. (t.fits k d h).positive; few = omega (arith, t.few) };
+            ranges = λ k d h. (t.fits k d h).ranges;
+          },
+        )
 
-    -- entries end where these words begin
-    abbrev pub Stopped : List (List ℕ) → Type 0
-    Stopped [] = Unit {0}
-    Stopped (w ∷ ws) = stops w ≡ true
-
-    stopped_ends : (place n : ℕ) (before : Option ℕ) (ws : List (List ℕ)) → Stopped ws → read place n before ws ≡ Ok []
+    stopped_ends : (place n : ℕ) (before : Option ℕ) (ws : List (List ℕ)) → Stopped stops ws → read place n before ws ≡ Ok []
     unfolding entries_at
     stopped_ends place n before [] h = refl
     stopped_ends place n before (w ∷ ws) h = rw h refl
 
-    pub entries_again : ((place : ℕ) (before : Option ℕ) (x : X) → Fits x → is_above before (source x) ≡ true → entry_at place before (spell x) ≡ Ok x) → ((x : X) → Fits x → stops (spell x) ≡ false)
-        → (xs : List X) (place n : ℕ) (before : Option ℕ) (rest : List (List ℕ)) → Stopped rest → n + length xs ≤ 65535 → All Fits xs → AllPairs (λ a b. source a < source b) xs → All (λ a. is_above before (source a) ≡ true) xs
+    entries_again : ((place : ℕ) (before : Option ℕ) (x : X) → Fits x → is_above before (source x) ≡ true → entry_at place before (spell x) ≡ Ok x) → ((x : X) → Fits x → stops (spell x) ≡ false)
+        → (xs : List X) (place n : ℕ) (before : Option ℕ) (rest : List (List ℕ)) → Stopped stops rest → n + length xs ≤ 65535 → All Fits xs → AllPairs (λ a b. source a < source b) xs → All (λ a. is_above before (source a) ≡ true) xs
         → entries_at entry_at source stops place n before (map spell xs ++ rest) ≡ Ok xs
     unfolding entries_at
     entries_again again goes [] place n before rest ended few fits up above = stopped_ends place n before rest ended
@@ -208,11 +214,14 @@ module _ {X : Type 0} (entry_at : ℕ → Option ℕ → List ℕ → Result X W
         let others = entries_again again goes xs (place + 1) (n + 1) (Some (source x)) rest ended (omega arith) (All-tail Fits x xs fits) (λ i j d ij h. up (suc i) (suc j) d (omega arith) (omega arith)) higher in
         rw (goes x one, test, first, others) refl
 
-    pub left_again : ((x : X) → Fits x → stops (spell x) ≡ false) → (xs : List X) (rest : List (List ℕ)) → Stopped rest → All Fits xs → left_at stops (map spell xs ++ rest) ≡ rest
+    left_again : ((x : X) → Fits x → stops (spell x) ≡ false) → (xs : List X) (rest : List (List ℕ)) → Stopped stops rest → All Fits xs → left_at stops (map spell xs ++ rest) ≡ rest
     left_again goes [] [] ended fits = refl
     left_again goes [] (w ∷ ws) ended fits = rw ended refl
     left_again goes (x ∷ xs) rest ended fits = rw (goes x (All-head Fits x xs fits)) (left_again goes xs rest ended (All-tail Fits x xs fits))
 
-    -- where nothing is left, the words are the entries'
-    pub left_all : (xs : List X) (ws : List (List ℕ)) → ws ≡ map spell xs ++ [] → ws ≡ map spell xs
-    left_all xs ws e = e ∙ append-nil (map spell xs)
+    pub entries_back : ((place : ℕ) (before : Option ℕ) (x : X) → Fits x → is_above before (source x) ≡ true → entry_at place before (spell x) ≡ Ok x) → ((x : X) → Fits x → stops (spell x) ≡ false)
+        → (place : ℕ) (xs : List X) (rest : List (List ℕ)) → Stopped stops rest → IsEntryList source IsPositive IsEntry xs
+        → (entries_at entry_at source stops place 0 None (map spell xs ++ rest) ≡ Ok xs) × (left_at stops (map spell xs ++ rest) ≡ rest)
+    entries_back again goes place xs rest ended h =
+        let fits : All Fits xs = λ k d lt. record { ranges = h.ranges k d lt; positive = h.lawful.positive k d lt } in
+        (entries_again again goes xs place 0 None rest ended (omega (arith, h.lawful.few)) fits h.lawful.ascending (λ k d lt. refl), left_again goes xs rest ended fits)

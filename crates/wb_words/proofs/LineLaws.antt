@@ -19,9 +19,9 @@ use Rattle.wb_names.specs.declared.parts.Op.{Op}
 use Rattle.wb_names.specs.declared.parts.Op.TheVariants.{Drawn, Text, Aimed}
 use Rattle.wb_codec.specs.declared.datagram.Datagram.{Datagram}
 use Rattle.wb_codec.specs.declared.datagram.Datagram.TheVariants as datagrams
-use Rattle.wb_codec.specs.Ranges.{IsPage, IsName, HasTarget, IsDrawop, IsEcho, IsMarkList, IsEchoList, IsDatagram}
+use Rattle.wb_codec.specs.Ranges.{IsPage, IsName, HasTarget, IsDrawop, IsMark, IsEcho, IsMarkList, IsEchoList, IsDatagram}
 use Rattle.wb_codec.proofs.DrawopLaws.{seq_counted, seq_free}
-use Rattle.wb_codec.proofs.EntryLaws.{MarkFits, mark_source, echo_source}
+use Rattle.wb_codec.proofs.EntryLaws.{mark_source, echo_source}
 use Rattle.wb_codec.proofs.Lawful.{IsStroke, lawful_stroke, lawful_text}
 use Rattle.wb_words.specs.declared.fault.WordFault.{WordFault}
 use Rattle.wb_words.specs.declared.fault.WordFault.TheVariants as faults
@@ -32,7 +32,7 @@ use Rattle.wb_words.specs.Reading.{◌>>=◌, said, in_range, word_at, end_at, n
 use Rattle.wb_words.proofs.Numerals.{number_takes, number_again}
 use Rattle.wb_words.proofs.Parting.{NoSpaces, words_joined, text_words}
 use Rattle.wb_words.proofs.TextLaws.{text_takes, text_again}
-use Rattle.wb_words.proofs.EntryLists.{bind_ok, ok_is, entries_take, entries_again, left_again, Stopped}
+use Rattle.wb_words.proofs.EntryLists.{bind_ok, ok_is, entries_ok, entries_back, Stopped}
 use Rattle.wb_words.proofs.WordLaws.{again32, again64, page_takes, page_again, mark_read, mark_spelled, echo_read, echo_spelled, mark_goes, echo_stops}
 
 -- ---- one word
@@ -282,12 +282,7 @@ drawop_back d fits = rw (name_back 2 d.name (decimal d.time ∷ op_words d.op) f
 -- ---- lists
 
 marks_ok : (place : ℕ) (ws : List (List ℕ)) (marks : List MarkValue) → marks_at place ws ≡ Ok marks → (ws ≡ map mark_word marks ++ left_at is_echo ws) × IsMarkList marks
-marks_ok place ws marks e =
-    let t = entries_take mark_at mark_source is_echo mark_word MarkFits mark_read place 0 None ws marks (omega arith) e in
-    (t.words, record { lawful = record { ascending = t.ascending; positive = λ k d h. (t.fits k d h).positive; few = omega (arith, t.few) }; ranges = λ k d h. (t.fits k d h).ranges })
-
-pub mark_fits : (marks : List MarkValue) → IsMarkList marks → All MarkFits marks
-mark_fits marks h = λ k d lt. record { ranges = h.ranges k d lt; positive = h.lawful.positive k d lt }
+marks_ok = entries_ok mark_at mark_source is_echo mark_word (λ (m : MarkValue). 1 ≤ m.high) IsMark mark_read
 
 abbrev never : List ℕ → Bool
 never word = false
@@ -298,31 +293,19 @@ nothing_left (w ∷ ws) = nothing_left ws
 
 echoes_ok : (place : ℕ) (ws : List (List ℕ)) (echoes : List Echo) → echoes_at place ws ≡ Ok echoes → (ws ≡ map echo_word echoes) × IsEchoList echoes
 echoes_ok place ws echoes e =
-    let t = entries_take echo_at echo_source never echo_word IsEcho (echo_read never) place 0 None ws echoes (omega arith) e in
-    (t.words ∙ ap (λ v. map echo_word echoes ++ v) (nothing_left ws) ∙ append-nil (map echo_word echoes), record { lawful = record { ascending = t.ascending; few = omega (arith, t.few) }; ranges = t.fits })
+    let t = entries_ok echo_at echo_source never echo_word (λ (e : Echo). Unit {0}) IsEcho (echo_read never) place ws echoes e in
+    (t.0 ∙ ap (λ v. map echo_word echoes ++ v) (nothing_left ws) ∙ append-nil (map echo_word echoes), t.1)
 
--- where marks end: at the end of the line or at an echo
-abbrev EndsMarks : List (List ℕ) → Type 0
-EndsMarks [] = Unit {0}
-EndsMarks (w ∷ ws) = is_echo w ≡ true
-
-echoes_end : (echoes : List Echo) → All IsEcho echoes → EndsMarks (map echo_word echoes)
+-- marks end at the end of the line or at an echo
+echoes_end : (echoes : List Echo) → All IsEcho echoes → Stopped is_echo (map echo_word echoes)
 echoes_end [] h = tt
 echoes_end (v ∷ echoes) h = echo_stops v (All-head IsEcho v echoes h)
 
-marks_back : (place : ℕ) (marks : List MarkValue) (rest : List (List ℕ)) → EndsMarks rest → IsMarkList marks → (marks_at place (map mark_word marks ++ rest) ≡ Ok marks) × (left_at is_echo (map mark_word marks ++ rest) ≡ rest)
-marks_back place marks rest ends h = (
-  entries_again mark_at mark_source is_echo mark_word MarkFits mark_spelled mark_goes marks place 0 None rest (same rest ends) (omega (arith, h.lawful.few)) (mark_fits marks h) h.lawful.ascending (λ k d lt. refl),
-  left_again mark_at mark_source is_echo mark_word MarkFits mark_goes marks rest (same rest ends) (mark_fits marks h),
-)
-  where
-    same : (rest : List (List ℕ)) → EndsMarks rest → Stopped mark_at mark_source is_echo mark_word MarkFits rest
-    same [] h = tt
-    same (w ∷ ws) h = h
+marks_back : (place : ℕ) (marks : List MarkValue) (rest : List (List ℕ)) → Stopped is_echo rest → IsMarkList marks → (marks_at place (map mark_word marks ++ rest) ≡ Ok marks) × (left_at is_echo (map mark_word marks ++ rest) ≡ rest)
+marks_back = entries_back mark_at mark_source is_echo mark_word (λ (m : MarkValue). 1 ≤ m.high) IsMark mark_spelled mark_goes
 
 echoes_back : (place : ℕ) (echoes : List Echo) → IsEchoList echoes → echoes_at place (map echo_word echoes) ≡ Ok echoes
-echoes_back place echoes h =
-    ap (echoes_at place) (sym (append-nil (map echo_word echoes))) ∙ entries_again echo_at echo_source never echo_word IsEcho echo_spelled (λ v k. refl) echoes place 0 None [] tt (omega (arith, h.lawful.few)) h.ranges h.lawful.ascending (λ k d lt. refl)
+echoes_back place echoes h = ap (echoes_at place) (sym (append-nil (map echo_word echoes))) ∙ (entries_back echo_at echo_source never echo_word (λ (e : Echo). Unit {0}) IsEcho echo_spelled (λ v k. refl) place echoes [] tt h).0
 
 -- ---- datagrams
 

@@ -15,7 +15,7 @@ use Rattle.wb_names.specs.declared.parts.Op.{Op}
 use Rattle.wb_names.specs.declared.parts.Op.TheVariants.{Drawn, Text, Aimed}
 use Rattle.wb_codec.specs.declared.datagram.Datagram.{Datagram}
 use Rattle.wb_codec.specs.declared.datagram.Datagram.TheVariants.{Draw, Session, Request, AskPages, PageState}
-use Rattle.wb_codec.specs.Ranges.{IsName, HasTarget, IsMarkList, IsEcho, IsDatagram}
+use Rattle.wb_codec.specs.Ranges.{IsName, HasTarget, IsMark, IsEcho, IsDatagram}
 use Rattle.wb_codec.proofs.Lawful.{lawful_stroke, lawful_text}
 use Rattle.wb_words.specs.declared.fault.WordsFault.{WordsFault}
 use Rattle.wb_words.specs.declared.fault.WordsFault.TheVariants.{Word, Memory}
@@ -28,7 +28,7 @@ use Rattle.wb_words.proofs.Numerals.{both}
 use Rattle.wb_words.proofs.EntryLists.{ok_is}
 use Rattle.wb_words.proofs.Parting.{NoSpace, NoSpaces, NoSpaces-words, NoSpaces-append, NoSpaces-map, words_joined, joined_words}
 use Rattle.wb_words.proofs.WordLaws.{decimal_space, page_space, mark_space, echo_space}
-use Rattle.wb_words.proofs.LineLaws.{reading_takes, reading_again, mark_fits}
+use Rattle.wb_words.proofs.LineLaws.{reading_takes, reading_again}
 
 -- ---- no word of a spelling has a space
 
@@ -73,17 +73,14 @@ op_space name (Aimed change t) lawful target = (change_space change, (space32 t.
 name_space : (n : NameValue) (more : List (List ℕ)) → IsName n → NoSpaces more → NoSpaces (name_words n more)
 name_space n more fits h = (space32 n.source fits.source, (page_space n.page fits.page, (space32 n.seq fits.seq, h)))
 
-marks_space : (marks : List _) → IsMarkList marks → NoSpaces (map mark_word marks)
-marks_space marks h = NoSpaces-map mark_word _ mark_space marks (mark_fits marks h)
-
 pub words_spelled : (v : Datagram) → IsDatagram v → words (spelled v) ≡ word_list v
 words_spelled (Draw d) fits = words_joined (codes "draw") (name_words d.name (decimal d.time ∷ op_words d.op)) (tested (codes "draw") refl, name_space d.name (decimal d.time ∷ op_words d.op) fits.name (decimal_space d.time fits.time, op_space d.name d.op fits.lawful fits.target))
 words_spelled (Session sender sent page marks echoes) fits =
     words_joined (codes "session-message") (decimal sender ∷ decimal sent ∷ page_word page ∷ (map mark_word marks ++ map echo_word echoes))
-    (tested (codes "session-message") refl, (space32 sender fits.sender-fits, (decimal_space sent fits.sent-fits, (page_space page fits.page-fits, NoSpaces-append (map mark_word marks) (map echo_word echoes) (marks_space marks fits.marks-fit) (NoSpaces-map echo_word IsEcho echo_space echoes fits.echoes-fit.ranges)))))
+    (tested (codes "session-message") refl, (space32 sender fits.sender-fits, (decimal_space sent fits.sent-fits, (page_space page fits.page-fits, NoSpaces-append (map mark_word marks) (map echo_word echoes) (NoSpaces-map mark_word IsMark mark_space marks fits.marks-fit.ranges) (NoSpaces-map echo_word IsEcho echo_space echoes fits.echoes-fit.ranges)))))
 words_spelled (Request asker name) fits = words_joined (codes "request") (decimal asker ∷ name_words name []) (tested (codes "request") refl, (space32 asker fits.0, name_space name [] fits.1 tt))
 words_spelled (AskPages asker) fits = words_joined (codes "ask-pages") (decimal asker ∷ []) (tested (codes "ask-pages") refl, (space32 asker fits, tt))
-words_spelled (PageState sender page marks) fits = words_joined (codes "page-state") (decimal sender ∷ page_word page ∷ map mark_word marks) (tested (codes "page-state") refl, (space32 sender fits.sender-fits, (page_space page fits.page-fits, marks_space marks fits.marks-fit)))
+words_spelled (PageState sender page marks) fits = words_joined (codes "page-state") (decimal sender ∷ page_word page ∷ map mark_word marks) (tested (codes "page-state") refl, (space32 sender fits.sender-fits, (page_space page fits.page-fits, NoSpaces-map mark_word IsMark mark_space marks fits.marks-fit.ranges)))
 
 -- ---- the laws
 

@@ -8,9 +8,9 @@ use Rattle.wb_names.specs.declared.name.PageId.{PageId}
 use Rattle.wb_names.specs.declared.fault.FieldFault.{FieldFault}
 use Rattle.wb_names.specs.declared.echo.Echo.{Echo}
 use Rattle.wb_codec.specs.Ranges.{IsPage, IsMark, IsEcho}
-use Rattle.wb_codec.specs.Reading.{is_above}
+use Rattle.wb_names.specs.Ascending.{is_above}
 use Rattle.wb_codec.proofs.DrawopLaws.{seq_counted, seq_free}
-use Rattle.wb_codec.proofs.EntryLaws.{MarkFits, mark_source, echo_source}
+use Rattle.wb_codec.proofs.EntryLaws.{MarkFits, EchoFits, mark_source, echo_source}
 use Rattle.wb_words.specs.declared.fault.WordFault.{WordFault}
 use Rattle.wb_words.specs.declared.fault.WordFault.TheVariants.{Order, Mark, Echo as EchoFault}
 use Rattle.wb_words.specs.Words.{◌>>=◌, parted, most32, most64, number_in, page_in, mark_in, echo_in}
@@ -145,17 +145,17 @@ pub mark_spelled : (place : ℕ) (before : Option ℕ) (m : MarkValue) → MarkF
 unfolding mark_at
 mark_spelled place before m fits above = rw (mark_again m fits.ranges, seq_free m.high fits.positive, above) refl
 
-pub echo_read : (stops : List ℕ → Bool) (place : ℕ) (before : Option ℕ) (word : List ℕ) (v : Echo) → echo_at place before word ≡ Ok v → EntryTaken echo_at echo_source stops echo_word IsEcho before word v
+pub echo_read : (stops : List ℕ → Bool) (place : ℕ) (before : Option ℕ) (word : List ℕ) (v : Echo) → echo_at place before word ≡ Ok v → EntryTaken echo_at echo_source stops echo_word EchoFits before word v
 unfolding echo_at
 echo_read stops place before word v e =
     let a = bind_ok (said place EchoFault (echo_in word)) _ v e in
     let above = require_ok (is_above before a.0.source) place Order a.0 v a.2 in
     let t = echo_takes word a.0 (said_ok place EchoFault (echo_in word) a.0 a.1) in
-    subst (λ (u : Echo). EntryTaken echo_at echo_source stops echo_word IsEcho before word u) above.1 (record { word = t.0; fits = t.1; above = above.0 })
+    subst (λ (u : Echo). EntryTaken echo_at echo_source stops echo_word EchoFits before word u) above.1 (record { word = t.0; fits = record { ranges = t.1; positive = tt }; above = above.0 })
 
-pub echo_spelled : (place : ℕ) (before : Option ℕ) (v : Echo) → IsEcho v → is_above before (echo_source v) ≡ true → echo_at place before (echo_word v) ≡ Ok v
+pub echo_spelled : (place : ℕ) (before : Option ℕ) (v : Echo) → EchoFits v → is_above before (echo_source v) ≡ true → echo_at place before (echo_word v) ≡ Ok v
 unfolding echo_at
-echo_spelled place before v fits above = rw (echo_again v fits, above) refl
+echo_spelled place before v fits above = rw (echo_again v fits.ranges, above) refl
 
 -- which words are echoes
 
@@ -182,8 +182,8 @@ two_space mark m n other hm hn = All-append (λ b. nat_eq b 32 ≡ false) (decim
 pub page_space : (p : PageId) → IsPage p → NoSpace (page_word p)
 page_space p fits = two_space 47 p.creator p.number refl (omega (arith, fits.creator)) (omega (arith, fits.number))
 
-pub mark_space : (m : MarkValue) → MarkFits m → NoSpace (mark_word m)
-mark_space m fits = two_space 61 m.source m.high refl (omega (arith, fits.ranges.source)) (omega (arith, fits.ranges.high))
+pub mark_space : (m : MarkValue) → IsMark m → NoSpace (mark_word m)
+mark_space m fits = two_space 61 m.source m.high refl (omega (arith, fits.source)) (omega (arith, fits.high))
 
 pub echo_space : (v : Echo) → IsEcho v → NoSpace (echo_word v)
 echo_space v fits = All-append (λ b. nat_eq b 32 ≡ false) (decimal v.source) (64 ∷ (decimal v.sent ++ 43 ∷ decimal v.held)) (decimal_space v.source (omega (arith, fits.source)))

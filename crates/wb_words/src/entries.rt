@@ -1,26 +1,44 @@
-//! Lists of marks and of echoes from words.
+//! Lists of entries, as marks and echoes are, from words and to words.
 
-ghost use Rattle.std.specs.Prelude.{◌≡◌, ◌≤◌, ◌<◌, option_map, [], length};
-ghost use Rattle.wb_codec.specs.Reading.{is_above as above};
+ghost use Rattle.std.specs.Prelude.{◌≡◌, ◌≤◌, ◌∷◌, ◌++◌, ℕ, Bool, true, false, List, Option, Result, None, IfOk, OnOk, option_map, map};
+ghost use Rattle.wb_names.specs.Ascending.{is_above as above};
+ghost use Rattle.wb_words.specs.declared.fault.WrongWord.{WrongWord as WrongWordValue};
 ghost use Rattle.wb_words.specs.Words.{mark_in as mark_in_word, echo_in as echo_in_word};
 ghost use Rattle.wb_words.specs.Rests.{words_left};
-ghost use Rattle.wb_words.specs.Reading.{Gives, MayGive, mark_at, echo_at, is_echo, left_at, marks_at, echoes_at};
+ghost use Rattle.wb_words.specs.Spelling.{mark_word, echo_word, tailed};
+ghost use Rattle.wb_words.specs.Reading.{MayGive, mark_at, echo_at, is_echo, left_at, entries_at};
 
 use crate::fault::{WordFault, WordsFault, WrongWord};
 use crate::fields::u32_in;
 use crate::number::number_in;
 use crate::rest::{Rest, first_word, parted};
-use std::alloc::Global;
-use wb_names::{Echo, Echoes, Mark, Marks};
+use std::alloc::{AllocError, Global};
+use wb_names::{Echo, Entries, Entry, MAX_ENTRIES, Mark};
 
-/// Whether a source is above the one before it, if there is one.
-fn is_above(before: Option<u32>, source: u32) -> bool
-    ensures { result ≡ above before source }
-{
-    match before {
-        None => true,
-        Some(last) => last < source,
-    }
+/// An entry that a word says.
+pub(crate) trait Worded: Entry {
+    /// What the word at a place says. The source of the entry before is given, if there is one.
+    ghost entry_at: { ℕ → Option ℕ → List ℕ → Result Self WrongWordValue };
+
+    /// Whether a list of such entries ends before this word.
+    ghost stops: { List ℕ → Bool };
+
+    /// The word of an entry.
+    ghost entry_word: { Self → List ℕ };
+
+    /// The entry that the word at a place is, where its source is above the one before it.
+    fn read(place: u32, before: Option<u32>, word: &[u8]) -> Result<Self, WrongWord>
+        ensures entry { result ≡ entry_at place before word.now }
+        ensures above { IfOk result (λ x. above before (Self.source x) ≡ true) }
+        ensures positive { IfOk result Self.IsPositive };
+
+    /// Whether a list of such entries ends before this word.
+    fn ends(word: &[u8]) -> bool
+        ensures { result ≡ stops word.now };
+
+    /// Adds a space and the word of the entry.
+    fn put(&self, alloc: Global, out: &mut Vec<u8>) -> Result<(), AllocError>
+        ensures { OnOk result (out.new.items ≡ out.old.items ++ 32 ∷ entry_word self.now) };
 }
 
 /// The fields of a mark, whose number may be 0.
@@ -52,92 +70,119 @@ fn echo_in(word: &[u8]) -> Option<Echo>
     Some(Echo { source, sent, held })
 }
 
-/// The mark that the word at a place is, where its source is above the one before it.
-#[tactic(auto, unfolding(crate::specs::Reading::mark_at))]
-fn mark_of(place: u32, before: Option<u32>, word: &[u8]) -> Result<Mark, WrongWord>
-    ensures { result ≡ mark_at place before word.now }
-{
-    let Some(fields) = mark_in(word) else {
-        return Err(WrongWord {
-            place,
-            fault: WordFault::Mark,
-        });
-    };
-    match Mark::new(fields.source, fields.high) {
-        Ok(mark) => {
-            if is_above(before, fields.source) {
-                Ok(mark)
-            } else {
-                Err(WrongWord {
-                    place,
-                    fault: WordFault::Order,
-                })
+impl Worded for Mark {
+    ghost entry_at = { mark_at };
+
+    ghost stops = { is_echo };
+
+    ghost entry_word = { mark_word };
+
+    #[tactic(auto, unfolding(crate::specs::Reading::mark_at))]
+    fn read(place: u32, before: Option<u32>, word: &[u8]) -> Result<Mark, WrongWord> {
+        let Some(fields) = mark_in(word) else {
+            return Err(WrongWord {
+                place,
+                fault: WordFault::Mark,
+            });
+        };
+        match Mark::new(fields.source, fields.high) {
+            Ok(mark) => {
+                if mark.is_above(before) {
+                    Ok(mark)
+                } else {
+                    Err(WrongWord {
+                        place,
+                        fault: WordFault::Order,
+                    })
+                }
             }
+            Err(fault) => Err(WrongWord {
+                place,
+                fault: WordFault::Field(fault),
+            }),
         }
-        Err(fault) => Err(WrongWord {
-            place,
-            fault: WordFault::Field(fault),
-        }),
+    }
+
+    /// An echo ends a list of marks, by its `@`.
+    fn ends(word: &[u8]) -> bool {
+        parted(word, b'@').is_some()
+    }
+
+    fn put(&self, alloc: Global, out: &mut Vec<u8>) -> Result<(), AllocError> {
+        let source = self.source();
+        let high = self.high();
+        let text = format!(in alloc; " {source}={high}")?;
+        out.extend_from_slice(text.as_bytes())
     }
 }
 
-/// The echo that the word at a place is, where its source is above the one before it.
-#[tactic(auto, unfolding(crate::specs::Reading::echo_at))]
-fn echo_of(place: u32, before: Option<u32>, word: &[u8]) -> Result<Echo, WrongWord>
-    ensures { result ≡ echo_at place before word.now }
-{
-    let Some(echo) = echo_in(word) else {
-        return Err(WrongWord {
-            place,
-            fault: WordFault::Echo,
-        });
-    };
-    if is_above(before, echo.source) {
-        Ok(echo)
-    } else {
-        Err(WrongWord {
-            place,
-            fault: WordFault::Order,
-        })
+impl Worded for Echo {
+    ghost entry_at = { echo_at };
+
+    ghost stops = { λ word. false };
+
+    ghost entry_word = { echo_word };
+
+    #[tactic(auto, unfolding(crate::specs::Reading::echo_at))]
+    fn read(place: u32, before: Option<u32>, word: &[u8]) -> Result<Echo, WrongWord> {
+        let Some(echo) = echo_in(word) else {
+            return Err(WrongWord {
+                place,
+                fault: WordFault::Echo,
+            });
+        };
+        if echo.is_above(before) {
+            Ok(echo)
+        } else {
+            Err(WrongWord {
+                place,
+                fault: WordFault::Order,
+            })
+        }
+    }
+
+    /// Nothing follows echoes.
+    fn ends(_word: &[u8]) -> bool {
+        false
+    }
+
+    fn put(&self, alloc: Global, out: &mut Vec<u8>) -> Result<(), AllocError> {
+        let Echo { source, sent, held } = *self;
+        let text = format!(in alloc; " {source}@{sent}+{held}")?;
+        out.extend_from_slice(text.as_bytes())
     }
 }
 
-/// Whether a word is to be an echo, by its `@`.
-fn is_echo(word: &[u8]) -> bool
-    ensures { result ≡ is_echo word.now }
+/// The entries from a place on, up to a word at which they end.
+pub(crate) fn entries_of<E: Worded>(
+    alloc: Global,
+    place: u32,
+    rest: Rest<'_>,
+) -> Result<Entries<E>, WordsFault>
+    requires { place ≤ 65540 }
+    ensures { MayGive (λ entries. entries) result (entries_at E.entry_at E.source E.stops place 0 None (words_left rest.entry)) }
 {
-    parted(word, b'@').is_some()
-}
-
-/// The marks from a place on, up to the first echo.
-pub(crate) fn marks_of(alloc: Global, place: u32, rest: Rest<'_>) -> Result<Marks, WordsFault>
-    requires { place ≤ 5 }
-    ensures { MayGive (λ marks. marks) result (marks_at place (words_left rest.entry)) }
-{
-    let mut marks = Vec::new(alloc);
+    let mut entries = Vec::new(alloc);
     let mut left = rest;
     let mut before = None;
     while let Rest::Words(bytes) = left {
         let (word, after) = first_word(bytes);
-        if is_echo(word) {
+        if E::ends(word) {
             break;
         }
-        let here = place + marks.len() as u32;
-        if marks.len() == Marks::MAX_LEN {
+        let here = place + entries.len() as u32;
+        if entries.len() == MAX_ENTRIES {
             return Err(WordsFault::Word(WrongWord {
                 place: here,
                 fault: WordFault::TooMany,
             }));
         }
-        let mark = mark_of(here, before, word)?;
-        before = Some(mark.source());
-        marks.push(mark)?;
+        let entry = E::read(here, before, word)?;
+        before = Some(entry.source());
+        entries.push(entry)?;
         left = after;
     }
-    match Marks::new(marks) {
-        Ok(marks) => Ok(marks),
-        Err(_) => unreachable!(),
-    }
+    Ok(Entries::from_ascending(entries))
 }
 
 /// What follows the marks: the words from the first echo on.
@@ -147,7 +192,7 @@ pub(crate) fn after_marks(rest: Rest<'_>) -> Rest<'_>
     let mut left = rest;
     while let Rest::Words(bytes) = left {
         let (word, after) = first_word(bytes);
-        if is_echo(word) {
+        if Mark::ends(word) {
             break;
         }
         left = after;
@@ -155,30 +200,16 @@ pub(crate) fn after_marks(rest: Rest<'_>) -> Rest<'_>
     left
 }
 
-/// The echoes from a place on, up to the end of the line.
-pub(crate) fn echoes_of(alloc: Global, place: u32, rest: Rest<'_>) -> Result<Echoes, WordsFault>
-    requires { place ≤ 65540 }
-    ensures { MayGive (λ echoes. echoes) result (echoes_at place (words_left rest.entry)) }
+/// Adds entries, a space before each.
+pub(crate) fn put_entries<E: Worded>(
+    alloc: Global,
+    out: &mut Vec<u8>,
+    entries: &[E],
+) -> Result<(), AllocError>
+    ensures { OnOk result (out.new.items ≡ out.old.items ++ tailed (map E.entry_word entries.now)) }
 {
-    let mut echoes = Vec::new(alloc);
-    let mut left = rest;
-    let mut before = None;
-    while let Rest::Words(bytes) = left {
-        let (word, after) = first_word(bytes);
-        let here = place + echoes.len() as u32;
-        if echoes.len() == Echoes::MAX_LEN {
-            return Err(WordsFault::Word(WrongWord {
-                place: here,
-                fault: WordFault::TooMany,
-            }));
-        }
-        let echo = echo_of(here, before, word)?;
-        before = Some(echo.source);
-        echoes.push(echo)?;
-        left = after;
+    for entry in entries {
+        entry.put(alloc, out)?;
     }
-    match Echoes::new(echoes) {
-        Ok(echoes) => Ok(echoes),
-        Err(_) => unreachable!(),
-    }
+    Ok(())
 }

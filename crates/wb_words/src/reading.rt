@@ -7,12 +7,13 @@ ghost use Rattle.wb_words.specs.Grammar.{Says};
 ghost use Rattle.wb_words.specs.Reading.{MayGive, draw_at, session_at, request_at, ask_pages_at, page_state_at, datagram_at, reading};
 
 use crate::drawing::drawop_of;
-use crate::entries::{after_marks, echoes_of, marks_of};
+use crate::entries::{after_marks, entries_of};
 use crate::fault::{WordFault, WordsFault, WrongWord};
 use crate::fields::{name_of, named, page_of, u32_of, u64_of};
 use crate::rest::{Rest, first_word, no_word};
 use std::alloc::Global;
 use wb_codec::Datagram;
+use wb_names::Marks;
 
 // Each of these reads the words after the first, of one kind of datagram.
 
@@ -30,9 +31,9 @@ fn session_of(alloc: Global, rest: Rest<'_>) -> Result<Datagram, WordsFault>
     let (sender, rest) = u32_of(2, rest)?;
     let (sent, rest) = u64_of(3, rest)?;
     let (page, rest) = page_of(4, rest)?;
-    let marks = marks_of(alloc, 5, rest)?;
+    let marks: Marks = entries_of(alloc, 5, rest)?;
     let place = 5 + marks.as_slice().len() as u32;
-    let echoes = echoes_of(alloc, place, after_marks(rest))?;
+    let echoes = entries_of(alloc, place, after_marks(rest))?;
     Ok(Datagram::Session {
         sender,
         sent,
@@ -68,7 +69,7 @@ fn page_state_of(alloc: Global, rest: Rest<'_>) -> Result<Datagram, WordsFault>
 {
     let (sender, rest) = u32_of(2, rest)?;
     let (page, rest) = page_of(3, rest)?;
-    let marks = marks_of(alloc, 4, rest)?;
+    let marks: Marks = entries_of(alloc, 4, rest)?;
     let place = 4 + marks.as_slice().len() as u32;
     no_word(place, after_marks(rest))?;
     Ok(Datagram::PageState {

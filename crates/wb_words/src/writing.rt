@@ -1,10 +1,11 @@
 //! Datagrams to words.
 
-ghost use Rattle.std.specs.Prelude.{◌≡◌, ◌∷◌, ◌++◌, IfOk, OnOk, map};
+ghost use Rattle.std.specs.Prelude.{◌≡◌, ◌∷◌, ◌++◌, IfOk, OnOk};
 ghost use Rattle.wb_codec.specs.declared.datagram.Datagram.{Datagram as DatagramValue};
 ghost use Rattle.wb_words.specs.Spelling;
-ghost use Rattle.wb_words.specs.Spelling.{quoted, mark_word, echo_word, op_words, spelled, tailed};
+ghost use Rattle.wb_words.specs.Spelling.{quoted, op_words, spelled, tailed};
 
+use crate::entries::put_entries;
 use crate::text::is_special;
 use std::alloc::{AllocError, Global};
 use wb_codec::Datagram;
@@ -78,38 +79,6 @@ fn put_op(alloc: Global, out: &mut Vec<u8>, op: &Op) -> Result<(), AllocError>
     }
 }
 
-/// Adds marks, a space before each.
-fn put_marks(alloc: Global, out: &mut Vec<u8>, marks: &[Mark]) -> Result<(), AllocError>
-    ensures { OnOk result (out.new.items ≡ out.old.items ++ tailed (map mark_word marks.now)) }
-{
-    for mark in marks {
-        let source = mark.source();
-        let high = mark.high();
-        let text = format!(in alloc; " {source}={high}")?;
-        out.extend_from_slice(text.as_bytes())?;
-    }
-    Ok(())
-}
-
-/// Adds a space and an echo.
-fn put_echo(alloc: Global, out: &mut Vec<u8>, echo: &Echo) -> Result<(), AllocError>
-    ensures { OnOk result (out.new.items ≡ out.old.items ++ 32 ∷ echo_word echo.now) }
-{
-    let Echo { source, sent, held } = *echo;
-    let text = format!(in alloc; " {source}@{sent}+{held}")?;
-    out.extend_from_slice(text.as_bytes())
-}
-
-/// Adds echoes, a space before each.
-fn put_echoes(alloc: Global, out: &mut Vec<u8>, echoes: &[Echo]) -> Result<(), AllocError>
-    ensures { OnOk result (out.new.items ≡ out.old.items ++ tailed (map echo_word echoes.now)) }
-{
-    for echo in echoes {
-        put_echo(alloc, out, echo)?;
-    }
-    Ok(())
-}
-
 fn write_draw(alloc: Global, drawop: &Drawop) -> Result<Vec<u8>, AllocError>
     ensures { IfOk result (λ line. line.items ≡ spelled (DatagramValue.Draw drawop.now)) }
 {
@@ -153,8 +122,8 @@ fn write_session(
     let PageId { creator, number } = page;
     let front = format!(in alloc; "session-message {sender} {sent} {creator}/{number}")?;
     let mut line = front.into_bytes();
-    put_marks(alloc, &mut line, marks)?;
-    put_echoes(alloc, &mut line, echoes)?;
+    put_entries(alloc, &mut line, marks)?;
+    put_entries(alloc, &mut line, echoes)?;
     Ok(line)
 }
 
@@ -169,7 +138,7 @@ fn write_page_state(
     let PageId { creator, number } = page;
     let front = format!(in alloc; "page-state {sender} {creator}/{number}")?;
     let mut line = front.into_bytes();
-    put_marks(alloc, &mut line, marks)?;
+    put_entries(alloc, &mut line, marks)?;
     Ok(line)
 }
 

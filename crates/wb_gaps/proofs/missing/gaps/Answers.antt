@@ -13,5 +13,5 @@ returns c =
     let all = c.new-missing.result in
     let of = single_of c.args.list.now c.args.page numbers _ c.in_ok-held.ensures.numbers c.in_ok-held.ensures.positive refl in
     IfOk-weaker c.collect.result (λ v. (v.items ≡ all) × (v.len ≡ length all)) _
-    (λ v q. are_gaps_read c.args.list.now c.args.page _ _ _ _ v.items of c.as_slice-2.ensures.lawful (ap (map single) c.as_slice.ensures.value) c.as_slice-2.ensures.marks (q.0 ∙ c.new-missing.ensures))
+    (λ v q. are_gaps_read c.args.list.now c.args.page _ _ _ _ v.items of c.as_slice-2.ensures.lawful (ap (map single) c.as_slice.ensures.value) c.as_slice-2.ensures.entries (q.0 ∙ c.new-missing.ensures))
     (fact_from_collect (λ xs v. (v.items ≡ xs) × (v.len ≡ length xs)) c.collect.result c.collect.ensures.ran (YieldsList-from_rest all refl))

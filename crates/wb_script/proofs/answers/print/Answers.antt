@@ -13,7 +13,7 @@ returns-in_ok-add-in-Gaps-clause-ok c =
 
 pub returns-in_ok-add-in-Report-clause-ok : goal.returns-in_ok-add-in-Report-clause-ok
 returns-in_ok-add-in-Report-clause-ok c =
-    let marks = c.as_slice.ensures.marks ∙ c.in_ok-marks-in-Report.ensures.report in
+    let marks = c.as_slice.ensures.entries ∙ c.in_ok-marks-in-Report.ensures.report in
     let text = c.as_bytes-in-Report.ensures.value ∙ c.in_ok-report_text-in-Report.ensures ∙ ap (λ (m : List MarkValue). report_text m) marks in
     rw c.in-Report.is (c.in_ok-add-in-Report.ensures.ok ∙ ap (λ (t : List ℕ). c.args.output.now ++ t) text)
 

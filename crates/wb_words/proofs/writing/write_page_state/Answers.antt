@@ -7,4 +7,4 @@ pub returns : goal.returns
 returns c =
     let marks = map mark_word c.args.marks.now in
     let front = ap (λ v. v.items) c.into_bytes-line.ensures.value ∙ c.in_ok-front.ensures.ok in
-    c.in_ok-put_marks.ensures ∙ ap (λ t. t ++ tailed marks) front ∙ page_state_text c.args.sender c.args.page.creator c.args.page.number marks
+    c.in_ok-put_entries.ensures ∙ ap (λ t. t ++ tailed marks) front ∙ page_state_text c.args.sender c.args.page.creator c.args.page.number marks

@@ -1,0 +1,7 @@
+use Rattle.std.proofs.Common.{◌≡◌, ◌++◌, length, take}
+use Rattle.std.specs.List.{flat_map}
+use Rattle.std.specs.Int.{w16, to_be_bytes}
+use Rattle.wb_codec.proofs.entries.put_entries.Given as goal
+
+abbrev pub invariant-loop-entry : goal.invariant-loop-entry
+invariant-loop-entry g l = l.out.items ≡ (l.fn.out.items ++ to_be_bytes w16 (length l.entries)) ++ flat_map g.E.Spelled.entry_bytes (take l.entry-index l.entries)
