@@ -6,7 +6,7 @@ from __future__ import annotations
 from dataclasses import dataclass
 from itertools import permutations
 
-from host_cases.datagrams import delete, drawop, frame, line, restore, session, text
+from host_cases.datagrams import Words, delete, drawn, drawop, frame, line, request, restore, session, text
 
 
 @dataclass(frozen=True)
@@ -295,4 +295,35 @@ VERSIONS = [
         ("a session message", told(7), 2, 4),
         ("a line", STARS, 3, 3),
     ]
+]
+
+# The greatest delay to a source, so that the moments at which requests are due tell their random words apart
+DELAY = 2**24 - 1
+
+
+def due_by(seed: int) -> list[tuple[int, int]]:
+    """When each of the three dots that a host looks for first is asked for, the earliest first: with C1 = C2 = 2, a word each."""
+    words = Words(seed)
+    return sorted((drawn(0, DELAY, words.next(), 2, 2), number) for number in (1, 2, 3))
+
+
+def asked(number: int) -> str:
+    return f"send {request(1, 7, DOTS, number)}"
+
+
+def looked_for(seed: int) -> str:
+    """Source 7 drew three dots, and none of them is here."""
+    return f"board 1 16 W {seed}\ndistance 7 {DELAY}\nhear {told(3)}\nlook 7 4"
+
+
+def asks_in_time(seed: int) -> Script:
+    """Nothing is asked for one microsecond before it is due."""
+    ticks = "\n".join(f"tick {moment - 1}\ntick {moment}" for moment, _ in due_by(seed))
+    asks = "\n".join(asked(number) for _, number in due_by(seed))
+    return Script(f"the random words of the seed {seed}", f"{looked_for(seed)}\n{ticks}", f"look 3\n{asks}")
+
+
+RANDOM = [
+    *(asks_in_time(seed) for seed in (0, 42, 2**64 - 1)),
+    Script("what is due at once is asked for in the order of the names", f"{looked_for(42)}\ntick {4 * DELAY}", "\n".join(["look 3", asked(1), asked(2), asked(3)])),
 ]

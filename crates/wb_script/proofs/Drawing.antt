@@ -17,12 +17,13 @@ use Rattle.wb_script.specs.Answers.{batch_line}
 use Rattle.wb_lines.specs.Ahead.{Ahead}
 use Rattle.wb_script.specs.Board.{Held}
 use Rattle.wb_script.specs.Hosts.{Opened, opened, batch_text, names_of}
-use Rattle.wb_script.specs.Lines.{LinesValue}
+use Rattle.wb_script.specs.Inside.Lines.{LinesValue}
 use Rattle.wb_script.specs.Script.{State, IsAlone, MayBeTaken, by_host, after_batch, closing_text, Finishes, is_stop, IsStop}
-use Rattle.wb_script.specs.Running.{IsAhead, Passes, Stops}
-use Rattle.wb_script.specs.Stations.{StationValue, IsOpenAt, TakesAll, TakesGiven, TakesBatch}
-use Rattle.wb_script.specs.ReadOn.{IsOpen, IsBatchEnd, with_waiting, DrawsValue, listed, batch_of, GetsTo, ReadsOn}
-use Rattle.wb_script.specs.Taking.{GetsOver, IsDrawn, IsFault, TakesFrom, DrawsAll, GoesOn, TakesOn}
+use Rattle.wb_script.specs.Inside.Passing.{IsAhead, Passes, Stops}
+use Rattle.wb_script.specs.Stations.{StationValue, IsOpenAt, TakesAll, TakesGiven}
+use Rattle.wb_script.specs.Inside.Steps.{TakesBatch}
+use Rattle.wb_script.specs.Inside.Reading.{IsOpen, IsBatchEnd, with_waiting, DrawsValue, listed, batch_of, GetsTo, ReadsOn}
+use Rattle.wb_script.specs.Inside.Taking.{GetsOver, IsDrawn, IsFault, TakesFrom, DrawsAll, GoesOn, TakesOn}
 use Rattle.wb_script.proofs.EarlyEnds.{early_end, finish_leads}
 use Rattle.wb_script.proofs.Outcomes.{Leads-then, Passes-then}
 use Rattle.wb_script.proofs.Steps.{taken}

@@ -17,7 +17,8 @@ use Rattle.wb_script.specs.Script.{State, MayBeTaken, Closing, Opens, Acts, Faul
 use Rattle.wb_script.proofs.AlikeCalls.{tell_same}
 use Rattle.wb_script.proofs.AlikeHosts.{told, ActsAlike, acts_alike}
 use Rattle.wb_script.proofs.Lifted.{lifted}
-use Rattle.wb_script.proofs.ReorderedLines.{onto_onto, Taken, drawops_in, no_fault, part_here, same_line, Arrives, arrived, first_same, others_same, course, course_is, line_course, alone, ToldAlike, state, finish_alike, after_alike}
+use Rattle.wb_script.proofs.ReorderedLines.{onto_onto, Taken, drawops_in, no_fault, part_here, same_line, Arrives, arrived, first_same, others_same, line_course, alone, ToldAlike, state, finish_alike, after_alike}
+use Rattle.wb_script.proofs.Simulations.{course, course_is}
 
 -- ---- arrivals, by their contents
 

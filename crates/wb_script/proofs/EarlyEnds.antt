@@ -10,13 +10,14 @@ use Rattle.wb_script.specs.declared.fault.RunFault.{RunFault}
 use Rattle.wb_script.specs.declared.fault.RunFault.TheVariants as run_faults
 use Rattle.wb_script.specs.Parsing.{line_of}
 use Rattle.wb_lines.specs.Ahead.{Ahead, IsLine}
-use Rattle.wb_script.specs.Lines.{LinesValue, EndsWith, Fronts}
+use Rattle.wb_script.specs.Inside.Lines.{LinesValue, EndsWith, Fronts}
 use Rattle.wb_script.specs.Hosts.{Opened, host_after, batch_text, Act, does, fails, act}
 use Rattle.wb_lines.specs.Input.{InputLine, input_lines, content}
 use Rattle.wb_script.specs.Script.{IsOutcomeFrom, State, MayBeTaken, Closing, Opens, Acts, Faulty, Part, Arrival, Nothing, End, part_of, part_in, refused, by_host, after_batch, closing_text, step_by, closing_step, part_step, Outcome, prints, before, answer, finish, Finishes, Proceeds, fault_at, Continues}
 use Rattle.wb_lines.specs.Input.{MayFollow}
-use Rattle.wb_script.specs.Running.{Leads, Passes}
-use Rattle.wb_script.specs.ReadOn.{IsOpen, EndsBatchAt, EndsBatchBefore, IsBatchEnd}
+use Rattle.wb_script.specs.Inside.Passing.{Leads, Passes}
+use Rattle.wb_script.specs.Inside.Reading.{IsOpen, EndsBatchBefore, IsBatchEnd}
+use Rattle.wb_script.specs.Inside.Parts.{EndsBatchAt}
 use Rattle.wb_lines.proofs.InputLines.{input_lines-whole, input_lines-last}
 use Rattle.wb_script.proofs.Outcomes.{before-nil, before-before}
 

@@ -10,7 +10,8 @@ use Rattle.wb_lines.specs.Ahead.{Ahead, Pulls}
 use Rattle.wb_lines.specs.Input.{input_lines}
 use Rattle.wb_script.specs.Script.{State, start, Outcome, prints, before, outcome, Finishes, IsOutcome, IsStop}
 use Rattle.wb_lines.specs.Input.{MayFollow, MayRemain}
-use Rattle.wb_script.specs.Running.{Leads, Begins, MayBegin, RunsLines, RunsAll, Meets, Settles, Closes}
+use Rattle.wb_script.specs.Inside.Passing.{Leads, MayBegin, RunsLines, RunsAll, Settles, Closes}
+use Rattle.wb_script.specs.Script.{Begins, Meets}
 use Rattle.wb_script.specs.Runs.{Runs}
 use Rattle.wb_lines.proofs.Endings.{fresh, input_from}
 use Rattle.wb_script.proofs.Outcomes.{one_thread}

@@ -6,11 +6,11 @@ use Rattle.wb_names.specs.Values.{DrawopValue}
 use Rattle.wb_script.specs.declared.fault.RunFault.TheVariants as run_faults
 use Rattle.wb_lines.specs.Ahead.{Pulls}
 use Rattle.wb_lines.specs.Output.{Sends}
-use Rattle.wb_script.specs.Lines.{LinesValue}
-use Rattle.wb_script.specs.Running.{Passes}
+use Rattle.wb_script.specs.Inside.Lines.{LinesValue}
+use Rattle.wb_script.specs.Inside.Passing.{Passes}
 use Rattle.wb_script.specs.declared.fault.RunFault.{RunFault}
 use Rattle.wb_script.specs.Script.{State}
-use Rattle.wb_script.specs.ReadOn.{IsOpen, with_waiting, ReadsTo, DrawnValue, DrawsValue, DrawsTo, listed, batch_of, most_of, GetsTo, ReadsOn}
+use Rattle.wb_script.specs.Inside.Reading.{IsOpen, with_waiting, ReadsTo, DrawnValue, DrawsValue, DrawsTo, listed, batch_of, most_of, GetsTo, ReadsOn}
 use Rattle.wb_lines.proofs.KnownBytes.{Sends-none, Sends-then}
 use Rattle.wb_lines.proofs.LineBytes.{Pulls-none, Pulls-then}
 use Rattle.wb_script.proofs.Outcomes.{Passes-none, Passes-then, Passes-stops, memory_stops}

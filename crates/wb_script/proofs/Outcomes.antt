@@ -12,9 +12,10 @@ use Rattle.wb_script.specs.declared.summary.Summary.{Summary}
 use Rattle.wb_lines.specs.Ahead.{Ahead, NoLineFeed, IsLine}
 use Rattle.wb_lines.specs.Input.{InputLine, input_lines, content, most_bytes, BeginsWith}
 use Rattle.wb_script.specs.Script.{State, MayBeTaken, InSomeOrder, Step, goes, refused, step_of, Outcome, prints, before, finish, proceed, most_lines, outcome_from, Finishes, Proceeds, fault_at, Continues, IsOutcomeFrom, IsStop}
-use Rattle.wb_script.specs.Stations.{HostValue, IsAt, IsLeftAt, DoesStep, MayDoStep}
+use Rattle.wb_script.specs.Inside.Steps.{HostValue, IsAt, IsLeftAt, DoesStep, MayDoStep}
 use Rattle.wb_lines.specs.Input.{MayFollow}
-use Rattle.wb_script.specs.Running.{Leads, Begins, MayBegin, IsAhead, Passes, Stops, Ends}
+use Rattle.wb_script.specs.Inside.Passing.{Leads, MayBegin, IsAhead, Passes, Stops, Ends}
+use Rattle.wb_script.specs.Script.{Begins}
 use Rattle.wb_lines.proofs.InputLines.{input_lines-whole, input_lines-last, starts_line, whole_line, last_line, regrouped, fits, past_length, has_line, past_count}
 
 -- ---- what was written before

@@ -3,14 +3,15 @@ use Rattle.std.proofs.Common.{◌≡◌, ℕ, ◌+◌, ◌<◌, Bool, true, fals
 use Rattle.std.specs.Prelude.{Option, Some, None}
 use Rattle.std.proofs.lemmas.List.{append-nil}
 use Rattle.wb_names.specs.Values.{DrawopValue}
-use Rattle.wb_script.specs.Parsing.{line_of}
 use Rattle.wb_script.specs.Hosts.{Opened}
 use Rattle.wb_lines.specs.Ahead.{Ahead, IsLine}
 use Rattle.wb_lines.specs.Input.{InputLine, input_lines, content}
-use Rattle.wb_script.specs.Script.{State, Arrival, Nothing, part_of, part_in, Step, goes, by_host, part_step, step_of, most_lines, IsOutcomeFrom}
-use Rattle.wb_script.specs.Running.{IsAhead, Passes}
-use Rattle.wb_script.specs.Lines.{LinesValue, EndsWith, Fronts, IsFirst, IsContent, TakesNext, Takes}
-use Rattle.wb_script.specs.ReadOn.{IsOpen, with_waiting, EndsBatchAt, EndsBatchBefore}
+use Rattle.wb_script.specs.Script.{State, Arrival, Nothing, part_in, Step, goes, by_host, part_step, step_of, most_lines, IsOutcomeFrom}
+use Rattle.wb_script.specs.Inside.Passing.{IsAhead, Passes}
+use Rattle.wb_script.specs.Inside.Lines.{LinesValue, EndsWith, Fronts, IsFirst, TakesNext, Takes}
+use Rattle.wb_script.specs.Inside.Reading.{IsOpen, with_waiting, EndsBatchBefore}
+use Rattle.wb_script.specs.declared.part.Part.TheVariants as parts
+use Rattle.wb_script.specs.Inside.Parts.{IsPartOf}
 use Rattle.wb_script.proofs.Outcomes.{before-nil, Leads-is, as_it_came, whole_ahead, last_ahead, Passes-then}
 
 -- a look takes nothing
@@ -67,28 +68,28 @@ look_then a s r l mid x g none stays e done p =
 line_then : (a b c : ℕ) (s t u : State) (r r' r'' : Ahead) (x : List ℕ) → r''.ended ≡ r'.ended → Passes a s r x [] b t r' → Passes b t r' [] [] c u r'' → Passes a s r x [] c u r''
 line_then a b c s t u r r' r'' x same p q = subst (λ (y : List ℕ). Passes a s r y [] c u r'') (append-nil x) (Passes-then a b c s t u r r' r'' x [] [] [] (λ e. refl) (λ e. same ∙ e) p q)
 
-skip_seen : (next : Option InputLine) (ahead : Ahead) (done : ℕ) (new : LinesValue) (bytes : List ℕ) (s : State) → IsContent next bytes → TakesNext next ahead done new → part_of (line_of bytes) ≡ Nothing → Passes done s ahead [] [] new.done s new.ahead
-skip_seen None ahead done new bytes s is t e = absurd t
-skip_seen (Some line) ahead done new bytes s is t e = subst (λ (n : ℕ). Passes done s ahead [] [] n s new.ahead) (sym t.3) (skips_line done s ahead new.ahead line t.0 t.1 (ap (λ (b : List ℕ). part_of (line_of b)) (sym is) ∙ e))
+skip_seen : (next : Option InputLine) (ahead : Ahead) (done : ℕ) (new : LinesValue) (s : State) → IsPartOf parts.Skipped next → TakesNext next ahead done new → Passes done s ahead [] [] new.done s new.ahead
+skip_seen None ahead done new s part t = absurd t
+skip_seen (Some line) ahead done new s part t = subst (λ (n : ℕ). Passes done s ahead [] [] n s new.ahead) (sym t.3) (skips_line done s ahead new.ahead line t.0 t.1 part)
 
-arrival_seen : (next : Option InputLine) (ahead : Ahead) (done : ℕ) (new : LinesValue) (bytes : List ℕ) (s : State) (d : DrawopValue) → IsOpen s.host → IsContent next bytes → TakesNext next ahead done new → part_of (line_of bytes) ≡ Arrival d
+arrival_seen : (next : Option InputLine) (ahead : Ahead) (done : ℕ) (new : LinesValue) (s : State) (d : DrawopValue) → IsOpen s.host → IsPartOf (parts.Arrival d) next → TakesNext next ahead done new
     → Passes done s ahead [] [] new.done (with_waiting s (s.waiting ++ d ∷ [])) new.ahead
-arrival_seen None ahead done new bytes s d opened is t e = absurd t
-arrival_seen (Some line) ahead done new bytes s d opened is t e =
-    subst (λ (n : ℕ). Passes done s ahead [] [] n (with_waiting s (s.waiting ++ d ∷ [])) new.ahead) (sym t.3) (takes_arrival done s ahead new.ahead line d opened t.0 t.1 (ap (λ (b : List ℕ). part_of (line_of b)) (sym is) ∙ e))
+arrival_seen None ahead done new s d opened part t = absurd t
+arrival_seen (Some line) ahead done new s d opened part t =
+    subst (λ (n : ℕ). Passes done s ahead [] [] n (with_waiting s (s.waiting ++ d ∷ [])) new.ahead) (sym t.3) (takes_arrival done s ahead new.ahead line d opened t.0 t.1 part)
 
-pub skip_then : (a : ℕ) (s : State) (r : Ahead) (mid new : LinesValue) (x bytes : List ℕ) → IsContent mid.next bytes → Takes mid new → part_of (line_of bytes) ≡ Nothing → Passes a s r x [] mid.done s mid.ahead → Passes a s r x [] new.done s new.ahead
-skip_then a s r mid new x bytes is t e p = line_then a mid.done new.done s s s r mid.ahead new.ahead x (taken_end mid.next mid.ahead mid.done new t) p (skip_seen mid.next mid.ahead mid.done new bytes s is t e)
+pub skip_then : (a : ℕ) (s : State) (r : Ahead) (mid new : LinesValue) (x : List ℕ) → IsPartOf parts.Skipped mid.next → Takes mid new → Passes a s r x [] mid.done s mid.ahead → Passes a s r x [] new.done s new.ahead
+skip_then a s r mid new x part t p = line_then a mid.done new.done s s s r mid.ahead new.ahead x (taken_end mid.next mid.ahead mid.done new t) p (skip_seen mid.next mid.ahead mid.done new s part t)
 
-pub arrival_then : (a : ℕ) (s : State) (r : Ahead) (mid new : LinesValue) (x bytes : List ℕ) (d : DrawopValue) → IsOpen s.host → IsContent mid.next bytes → Takes mid new → part_of (line_of bytes) ≡ Arrival d
+pub arrival_then : (a : ℕ) (s : State) (r : Ahead) (mid new : LinesValue) (x : List ℕ) (d : DrawopValue) → IsOpen s.host → IsPartOf (parts.Arrival d) mid.next → Takes mid new
     → Passes a s r x [] mid.done s mid.ahead → Passes a s r x [] new.done (with_waiting s (s.waiting ++ d ∷ [])) new.ahead
-arrival_then a s r mid new x bytes d opened is t e p =
-    line_then a mid.done new.done s s (with_waiting s (s.waiting ++ d ∷ [])) r mid.ahead new.ahead x (taken_end mid.next mid.ahead mid.done new t) p (arrival_seen mid.next mid.ahead mid.done new bytes s d opened is t e)
+arrival_then a s r mid new x d opened part t p =
+    line_then a mid.done new.done s s (with_waiting s (s.waiting ++ d ∷ [])) r mid.ahead new.ahead x (taken_end mid.next mid.ahead mid.done new t) p (arrival_seen mid.next mid.ahead mid.done new s d opened part t)
 
 -- a batch ends before the line that was looked at
-pub other_seen : (next : Option InputLine) (ahead : Ahead) (bytes : List ℕ) → IsContent next bytes → IsFirst next ahead → EndsBatchAt (part_of (line_of bytes)) → EndsBatchBefore next ahead
-other_seen None ahead bytes is first other = absurd is
-other_seen (Some line) ahead bytes is first other = (subst (λ (b : List ℕ). EndsBatchAt (part_of (line_of b))) is other, first)
+pub other_seen : (next : Option InputLine) (ahead : Ahead) → IsPartOf parts.Other next → IsFirst next ahead → EndsBatchBefore next ahead
+other_seen None ahead part first = absurd part
+other_seen (Some line) ahead part first = (part, first)
 
 pub none_seen : (next : Option InputLine) (ahead : Ahead) → next ≡ None → ahead.bytes ≡ [] → ahead.ended ≡ true → EndsBatchBefore next ahead
 none_seen next ahead none blank over = subst (λ (n : Option InputLine). EndsBatchBefore n ahead) (sym none) (blank, over)

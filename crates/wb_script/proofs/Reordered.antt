@@ -16,7 +16,8 @@ use Rattle.wb_script.specs.Script.{State, start, Closing, Opens, Acts, Faulty, P
 use Rattle.wb_script.proofs.AlikeCalls.{TellAlike, tell_same}
 use Rattle.wb_script.proofs.AlikeHosts.{told, ActsAlike, acts_alike}
 use Rattle.wb_script.proofs.Lifted.{lifted}
-use Rattle.wb_script.proofs.ReorderedLines.{onto_same, onto_none, onto_onto, Taken, lines_in, drawops_in, no_fault, arrives_at, part_here, course, course_is, line_course, alone, ToldAlike, state, finish_alike, after_alike}
+use Rattle.wb_script.proofs.ReorderedLines.{onto_same, onto_none, onto_onto, Taken, lines_in, drawops_in, no_fault, arrives_at, part_here, line_course, alone, ToldAlike, state, finish_alike, after_alike}
+use Rattle.wb_script.proofs.Simulations.{course, course_is}
 
 abbrev pub entire : InputLine → InputLine
 entire line = line

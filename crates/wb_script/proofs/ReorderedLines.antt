@@ -12,9 +12,10 @@ use Rattle.wb_script.specs.declared.fault.RunFault.TheVariants as run_faults
 use Rattle.wb_script.specs.Hosts.{Opened, present, names_of, board_after, calls_after}
 use Rattle.wb_script.specs.Reordering.{part_unless, part_at, other_than, onto_batch, AreRearranged}
 use Rattle.wb_lines.specs.Input.{InputLine, content, most_bytes}
-use Rattle.wb_script.specs.Script.{State, by_host, Part, Arrival, Nothing, End, part_in, part_step, step_of, Outcome, finish, proceed, most_lines, outcome_from, fault_at}
+use Rattle.wb_script.specs.Script.{State, by_host, Part, Arrival, Nothing, End, part_in, part_step, Outcome, finish, proceed, most_lines, outcome_from, fault_at}
 use Rattle.wb_script.proofs.AlikeCalls.{TellAlike, arrive_alike}
 use Rattle.wb_script.proofs.AlikeHosts.{told}
+use Rattle.wb_script.proofs.Simulations.{course, course_is}
 
 -- ---- batches
 
@@ -101,21 +102,6 @@ pub others_same : {X : Type 0} → (a b : X) (xs ys : List X) → a ∷ xs ≡ b
 others_same a b xs ys e = cc
 
 -- ---- one line, by one thread
-
-abbrev pub course : Option RunFault → ℕ → State → List ℕ → (State → Outcome) → Outcome
-course None number s bytes rest = proceed number (step_of s s.waiting bytes) rest
-course (Some e) number s bytes rest = finish s s.waiting (Err e)
-
-pub course_is : (cut : Bool) (n : ℕ) (s : State) (line : InputLine) (lines : List InputLine) → outcome_from cut n s (line ∷ lines) ≡ course (fault_at cut n line) (n + 1) s (content line) (λ t. outcome_from cut (n + 1) t lines)
-course_is cut n s line lines = from (nat_lt n most_lines && nat_le (length line.bytes) most_bytes) (line.ended || not cut) where
-  rest : State → Outcome
-  rest t = outcome_from cut (n + 1) t lines
-
-  from : (within whole : Bool) → cond within (cond whole (proceed (n + 1) (step_of s s.waiting (content line)) rest) (finish s s.waiting (Err run_faults.Read))) (finish s s.waiting (Err run_faults.Endless))
-      ≡ course (cond within (cond whole None (Some run_faults.Read)) (Some run_faults.Endless)) (n + 1) s (content line) rest
-  from true true = refl
-  from true false = refl
-  from false whole = refl
 
 pub line_course : (cut : Bool) (n : ℕ) (s : State) (line : InputLine) (lines : List InputLine) (part : Part) → fault_at cut n line ≡ None → part_in line ≡ part
     → outcome_from cut n s (line ∷ lines) ≡ proceed (n + 1) (part_step s s.waiting part) (λ t. outcome_from cut (n + 1) t lines)

@@ -16,7 +16,8 @@ use Rattle.wb_script.specs.Script.{State, start, Outcome, Arrival, Nothing, End,
 use Rattle.wb_script.specs.ScriptLaws.{EachEnds}
 use Rattle.wb_script.proofs.ArriveWords.{unreturned, some_bytes}
 use Rattle.wb_script.proofs.Reordered.{entire, reorders}
-use Rattle.wb_script.proofs.ReorderedLines.{same_line, Arrives, arrived, first_same, others_same, no_fault, part_here, course, course_is}
+use Rattle.wb_script.proofs.ReorderedLines.{same_line, Arrives, arrived, first_same, others_same, no_fault, part_here}
+use Rattle.wb_script.proofs.Simulations.{course, course_is}
 
 -- a line in the place of another
 abbrev placed : InputLine → InputLine → InputLine

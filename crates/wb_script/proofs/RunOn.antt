@@ -8,26 +8,40 @@ use Rattle.wb_script.specs.declared.fault.LineFault.TheVariants as faults
 use Rattle.wb_script.specs.declared.fault.RunFault.{RunFault}
 use Rattle.wb_script.specs.declared.fault.RunFault.TheVariants as run_faults
 use Rattle.wb_script.specs.declared.line.Line.{Line}
-use Rattle.wb_script.specs.declared.line.Line.TheVariants as lines
 use Rattle.wb_script.specs.declared.taking.Taken.{Taken}
-use Rattle.wb_script.specs.Parsing.{line_of}
 use Rattle.wb_lines.specs.Ahead.{Ahead, IsLine, Pulls}
 use Rattle.wb_script.specs.Hosts.{Opened, host_after}
 use Rattle.wb_lines.specs.Input.{InputLine, content}
-use Rattle.wb_script.specs.Script.{State, IsAlone, part_of, goes, refused, by_host, after_batch, said_step, step_of, most_lines}
-use Rattle.wb_script.specs.Running.{Passes, Stops, Ends, RunsOn}
-use Rattle.wb_script.specs.Lines.{LinesValue, EndsWith, Fronts, IsContent, Says, TakesNext}
-use Rattle.wb_script.specs.Stations.{StationValue, IsOpenAt, MayBeOpenAt, HostValue, IsAt, IsLeftAt, DoesStep, MayDoStep}
-use Rattle.wb_script.specs.ReadOn.{IsOpen, with_waiting}
-use Rattle.wb_script.specs.Taking.{GoesOn, TakesBatchOn}
+use Rattle.wb_script.specs.declared.part.Part.TheVariants as parts
+use Rattle.wb_script.specs.Script.{State, IsAlone, Part, Arrival, Nothing, End, Faulty, part_of, part_in, goes, refused, by_host, after_batch, part_step, step_of, most_lines}
+use Rattle.wb_script.specs.Inside.Parts.{IsPartOf}
+use Rattle.wb_script.specs.Inside.Passing.{Passes, Stops, Ends, RunsOn}
+use Rattle.wb_script.specs.Inside.Lines.{LinesValue, EndsWith, Fronts, Says, TakesNext}
+use Rattle.wb_script.specs.Stations.{StationValue, IsOpenAt, MayBeOpenAt}
+use Rattle.wb_script.specs.Inside.Steps.{HostValue, IsAt, IsLeftAt, DoesStep, MayDoStep}
+use Rattle.wb_script.specs.Inside.Reading.{IsOpen, with_waiting}
+use Rattle.wb_script.specs.Inside.Taking.{GoesOn, TakesBatchOn}
 use Rattle.wb_lines.proofs.LineBytes.{Pulls-none, Pulls-on}
 use Rattle.wb_script.proofs.Outcomes.{as_it_came, whole_passes, last_passes, whole_stops, last_stops, never_left, stops_at_once, ends_here, Passes-then, Passes-stops}
 use Rattle.wb_script.proofs.ReadLines.{looks_on, takes_arrival, taken_end}
 use Rattle.wb_script.proofs.Steps.{ends_empty}
 
-pub says : (next : Option InputLine) (bytes : List ℕ) (parsed : Result Line LineFault) → IsContent next bytes → line_of bytes ≡ parsed → Says next parsed
-says None bytes parsed is e = absurd is
-says (Some line) bytes parsed is e = ap line_of (sym is) ∙ e
+-- the line that was looked at is this to its batch
+abbrev PartIs : Option InputLine → Part → Type 0
+PartIs None part = ⊥
+PartIs (Some line) part = part_in line ≡ part
+
+pub skipped_is : (next : Option InputLine) → IsPartOf parts.Skipped next → PartIs next Nothing
+skipped_is None part = absurd part
+skipped_is (Some line) part = part
+
+arrival_is : (next : Option InputLine) (d : DrawopValue) → IsPartOf (parts.Arrival d) next → PartIs next (Arrival d)
+arrival_is None d part = absurd part
+arrival_is (Some line) d part = part
+
+pub said_is : (next : Option InputLine) (said : Result Line LineFault) → Says next said → PartIs next (part_of said)
+said_is None said is = absurd is
+said_is (Some line) said is = ap part_of is
 
 -- a line that is taken pulls nothing
 pub takes_pulls : (next : Option InputLine) (ahead : Ahead) (done : ℕ) (new : LinesValue) (left : Option (List ℕ)) (failed : Bool) → TakesNext next ahead done new → Pulls ahead new.ahead left left failed failed []
@@ -50,32 +64,32 @@ runs_line : (n : ℕ) (s : State) (new : HostValue) (ahead rest : Ahead) (line :
 runs_line n s new ahead rest line written failed (Ok u) few fronts m = passes_line n s new ahead rest written line.bytes line.ended u few fronts.is_line fronts.stands m
 runs_line n s new ahead rest line written failed (Err f) few fronts m = stops_line n s new ahead rest written line.bytes line.ended failed f few fronts.is_line fronts.stands m
 
-pub seen_runs : (next : Option InputLine) (ahead : Ahead) (done : ℕ) (new : LinesValue) (parsed : Result Line LineFault) (s : State) (host : HostValue) (written : List ℕ) (failed : Bool) (r : Result (Unit {0}) RunFault) → Says next parsed → TakesNext next ahead done new
-    → MayDoStep s new.done host written r (λ order. said_step s order parsed) → (t : State) × IsLeftAt host r t × RunsOn done s ahead [] written new.done t new.ahead failed r
-seen_runs None ahead done new parsed s host written failed r said t m = absurd t
-seen_runs (Some line) ahead done new parsed s host written failed r said t m =
-    let here : MayDoStep s (done + 1) host written r (λ order. said_step s order parsed) = subst (λ (n : ℕ). MayDoStep s n host written r (λ order. said_step s order parsed)) t.3 m in
-    let there : MayDoStep s (done + 1) host written r (λ order. step_of s order (content line)) = subst (λ (p : Result Line LineFault). MayDoStep s (done + 1) host written r (λ order. said_step s order p)) (sym said) here in
+pub seen_runs : (next : Option InputLine) (ahead : Ahead) (done : ℕ) (new : LinesValue) (part : Part) (s : State) (host : HostValue) (written : List ℕ) (failed : Bool) (r : Result (Unit {0}) RunFault) → PartIs next part → TakesNext next ahead done new
+    → MayDoStep s new.done host written r (λ order. part_step s order part) → (t : State) × IsLeftAt host r t × RunsOn done s ahead [] written new.done t new.ahead failed r
+seen_runs None ahead done new part s host written failed r is t m = absurd t
+seen_runs (Some line) ahead done new part s host written failed r is t m =
+    let here : MayDoStep s (done + 1) host written r (λ order. part_step s order part) = subst (λ (n : ℕ). MayDoStep s n host written r (λ order. part_step s order part)) t.3 m in
+    let there : MayDoStep s (done + 1) host written r (λ order. step_of s order (content line)) = subst (λ (p : Part). MayDoStep s (done + 1) host written r (λ order. part_step s order p)) (sym is) here in
     subst (λ (n : ℕ). (u : State) × IsLeftAt host r u × RunsOn done s ahead [] written n u new.ahead failed r) (sym t.3) (runs_line done s host ahead new.ahead line written failed r t.0 t.1 there)
 
 -- it is skipped, and it is refused
-pub skips_on : (next : Option InputLine) (ahead : Ahead) (done : ℕ) (new : LinesValue) (s : State) (host : HostValue) (failed : Bool) → Says next (Ok lines.Skip) → TakesNext next ahead done new → IsAt host s
+pub skips_on : (next : Option InputLine) (ahead : Ahead) (done : ℕ) (new : LinesValue) (s : State) (host : HostValue) (failed : Bool) → IsPartOf parts.Skipped next → TakesNext next ahead done new → IsAt host s
     → (t : State) × IsLeftAt {X = Unit {0}} host (Ok tt) t × RunsOn {U = Unit {0}} done s ahead [] [] new.done t new.ahead failed (Ok tt)
-skips_on next ahead done new s host failed said t at = seen_runs next ahead done new (Ok lines.Skip) s host [] failed (Ok tt) said t (s.waiting, as_it_came s.workers s.waiting, (at, refl))
+skips_on next ahead done new s host failed part t at = seen_runs next ahead done new Nothing s host [] failed (Ok tt) (skipped_is next part) t (s.waiting, as_it_came s.workers s.waiting, (at, refl))
 
 pub refuses_on : (next : Option InputLine) (ahead : Ahead) (done : ℕ) (new : LinesValue) (e : LineFault) (s : State) (host : HostValue) (failed : Bool) → Says next (Err e) → TakesNext next ahead done new → IsAt host s
     → (t : State) × IsLeftAt {X = Unit {0}} host (Err (run_faults.Line new.done e)) t × RunsOn {U = Unit {0}} done s ahead [] [] new.done t new.ahead failed (Err (run_faults.Line new.done e))
 refuses_on next ahead done new e s host failed said t at =
     let b = ends_empty host s at in
-    seen_runs next ahead done new (Err e) s host [] failed (Err (run_faults.Line new.done e)) said t (b.0, b.1, inr (refl, b.2.leads, b.2.text))
+    seen_runs next ahead done new (End (Faulty e)) s host [] failed (Err (run_faults.Line new.done e)) (said_is next (Err e) said) t (b.0, b.1, inr (refl, b.2.leads, b.2.text))
 
 -- ---- an arrival
 
 -- no board is open
-pub arrives_nowhere : (next : Option InputLine) (ahead : Ahead) (done : ℕ) (new : LinesValue) (d : DrawopValue) (s : State) (old host : HostValue) (failed : Bool) → Says next (Ok (lines.Arrive d)) → TakesNext next ahead done new → IsAt old s → old.station ≡ None → host.station ≡ None → host.workers ≡ old.workers
+pub arrives_nowhere : (next : Option InputLine) (ahead : Ahead) (done : ℕ) (new : LinesValue) (d : DrawopValue) (s : State) (old host : HostValue) (failed : Bool) → IsPartOf (parts.Arrival d) next → TakesNext next ahead done new → IsAt old s → old.station ≡ None → host.station ≡ None → host.workers ≡ old.workers
     → (t : State) × IsLeftAt {X = Unit {0}} host (Err (run_faults.Line new.done faults.NoBoard)) t × RunsOn {U = Unit {0}} done s ahead [] [] new.done t new.ahead failed (Err (run_faults.Line new.done faults.NoBoard))
-arrives_nowhere next ahead done new d s old host failed said t at closed none same =
-    seen_runs next ahead done new (Ok (lines.Arrive d)) s host [] failed (Err (run_faults.Line new.done faults.NoBoard)) said t (s.waiting, as_it_came s.workers s.waiting, go s.host (subst (λ (v : Option StationValue). MayBeOpenAt v s.host) closed at.station)) where
+arrives_nowhere next ahead done new d s old host failed part t at closed none same =
+    seen_runs next ahead done new (Arrival d) s host [] failed (Err (run_faults.Line new.done faults.NoBoard)) (arrival_is next d part) t (s.waiting, as_it_came s.workers s.waiting, go s.host (subst (λ (v : Option StationValue). MayBeOpenAt v s.host) closed at.station)) where
       here : IsAt host s
       here = record { station = subst (λ (v : Option StationValue). MayBeOpenAt v s.host) (closed ∙ sym none) at.station; workers = same ∙ at.workers; waiting = at.waiting }
 
@@ -84,10 +98,10 @@ arrives_nowhere next ahead done new d s old host failed said t at closed none sa
       go (Some h) is = absurd is
 
 -- a batch begins
-begins : (next : Option InputLine) (ahead : Ahead) (done : ℕ) (mid : LinesValue) (d : DrawopValue) (s : State) → IsOpen s.host → s.waiting ≡ [] → Says next (Ok (lines.Arrive d)) → TakesNext next ahead done mid → Passes done s ahead [] [] mid.done (with_waiting s (d ∷ [])) mid.ahead
-begins None ahead done mid d s opened none said t = absurd t
-begins (Some line) ahead done mid d s opened none said t =
-    let p : Passes done s ahead [] [] (done + 1) (with_waiting s (s.waiting ++ d ∷ [])) mid.ahead = takes_arrival done s ahead mid.ahead line d opened t.0 t.1 (ap part_of said) in
+begins : (next : Option InputLine) (ahead : Ahead) (done : ℕ) (mid : LinesValue) (d : DrawopValue) (s : State) → IsOpen s.host → s.waiting ≡ [] → IsPartOf (parts.Arrival d) next → TakesNext next ahead done mid → Passes done s ahead [] [] mid.done (with_waiting s (d ∷ [])) mid.ahead
+begins None ahead done mid d s opened none part t = absurd t
+begins (Some line) ahead done mid d s opened none part t =
+    let p : Passes done s ahead [] [] (done + 1) (with_waiting s (s.waiting ++ d ∷ [])) mid.ahead = takes_arrival done s ahead mid.ahead line d opened t.0 t.1 part in
     subst (λ (n : ℕ). Passes done s ahead [] [] n (with_waiting s (d ∷ [])) mid.ahead) (sym t.3) (subst (λ (w : List DrawopValue). Passes done s ahead [] [] (done + 1) (with_waiting s (w ++ d ∷ [])) mid.ahead) none p)
 
 -- how a batch ended
@@ -122,10 +136,10 @@ abbrev pub BatchOn : StationValue → ℕ → LinesValue → DrawopValue → Lis
 BatchOn v crew mid d given written new failed result = (s : State) (host : Opened) → s.host ≡ Some host → (IsAlone s.workers → crew ≤ 1) → IsOpenAt v host → TakesBatchOn s host mid d given written new failed result
 
 pub arrives_open : (next : Option InputLine) (ahead : Ahead) (done : ℕ) (mid new : LinesValue) (d : DrawopValue) (s : State) (old : HostValue) (v : StationValue) (k : Option ℕ) (crew : ℕ) (given written : List ℕ) (failed : Bool) (taken : Taken)
-    → Says next (Ok (lines.Arrive d)) → TakesNext next ahead done mid → IsAt old s → old.station ≡ Some v → k ≡ old.workers → (IsAlone k → crew ≤ 1) → (mid.ahead.ended ≡ true → given ≡ []) → (mid.ahead.ended ≡ true → new.ahead.ended ≡ true)
+    → IsPartOf (parts.Arrival d) next → TakesNext next ahead done mid → IsAt old s → old.station ≡ Some v → k ≡ old.workers → (IsAlone k → crew ≤ 1) → (mid.ahead.ended ≡ true → given ≡ []) → (mid.ahead.ended ≡ true → new.ahead.ended ≡ true)
     → BatchOn v crew mid d given written new failed (Ok taken)
     → (t : State) × IsLeftAt (record { station = Some taken.station; workers = k }) (ending_of taken.fault) t × RunsOn done s ahead given written new.done t new.ahead failed (ending_of taken.fault)
-arrives_open next ahead done mid new d s old v k crew given written failed taken said t at station workers few none stays batch =
+arrives_open next ahead done mid new d s old v k crew given written failed taken part t at station workers few none stays batch =
     let o = open_host s v (subst (λ (x : Option StationValue). MayBeOpenAt x s.host) station at.station) in
     let same : k ≡ s.workers = workers ∙ at.workers in
     let b = batch s o.0 o.1 (λ a. few (subst IsAlone (sym same) a)) o.2 in
@@ -133,7 +147,7 @@ arrives_open next ahead done mid new d s old v k crew given written failed taken
     let after : State = after_batch (with_waiting s b.batch) b.order in (
       after,
       left_at (record { station = Some taken.station; workers = k }) taken.fault after (at_after s o.0 b.batch b.order taken.station k o.1 same b.leads),
-      goes_over taken.fault done s after ahead mid new d given written failed none stays (begins next ahead done mid d s opened at.waiting said t) b.goes,
+      goes_over taken.fault done s after ahead mid new d given written failed none stays (begins next ahead done mid d s opened at.waiting part t) b.goes,
     )
 
 -- it could not be taken

@@ -15,7 +15,7 @@ use Rattle.wb_script.specs.declared.summary.Summary.{Summary}
 use Rattle.wb_lines.specs.Ahead.{IsLine}
 use Rattle.wb_script.specs.Hosts.{Opened, opened, Act, does, fails, act}
 use Rattle.wb_script.specs.Parsing.{line_of}
-use Rattle.wb_script.specs.Running.{Begins}
+use Rattle.wb_script.specs.Script.{Begins}
 use Rattle.wb_lines.specs.Input.{InputLine, onto_first, input_lines, content, most_bytes}
 use Rattle.wb_script.specs.Script.{State, start, closing_text, after_batch, Closing, Opens, Acts, Faulty, Part, Arrival, Nothing, End, part_of, part_in, Step, goes, refused, step_by, closing_step, part_step, step_of, Outcome, prints, before, answer, finish, proceed, most_lines, outcome_from, outcome}
 use Rattle.wb_script.specs.ScriptLaws.{EachEnds, waits_after, waits_at_end, text_of, RefusedStays, PrintedStays, SkippedPrintsNothing}

@@ -18,8 +18,9 @@ use Rattle.wb_script.specs.Board.{Held}
 use Rattle.wb_script.specs.Answers.{batch_line}
 use Rattle.wb_script.specs.Hosts.{Opened, opened, present, board_after, names_of, host_after, batch_text, Act, does, fails, act}
 use Rattle.wb_script.specs.Script.{State, InSomeOrder, Opens, Acts, goes, refused, by_host, closing_text, after_batch, step_by, closing_step, held_count, Outcome, finish, Finishes, is_stop, StopsWithin}
-use Rattle.wb_script.specs.Stations.{StationValue, IsOpenAt, MayBeOpenAt, HostValue, IsAt, TakesBatch, DoesAct, DoesStep, IsLeftAt}
-use Rattle.wb_script.specs.Running.{Settles, Closes, ClosesAfter}
+use Rattle.wb_script.specs.Stations.{StationValue, IsOpenAt, MayBeOpenAt, DoesAct}
+use Rattle.wb_script.specs.Inside.Steps.{HostValue, IsAt, TakesBatch, DoesStep, IsLeftAt}
+use Rattle.wb_script.specs.Inside.Passing.{Settles, Closes, ClosesAfter}
 use Rattle.wb_script.proofs.Outcomes.{as_it_came}
 
 -- ---- stops

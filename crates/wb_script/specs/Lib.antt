@@ -9,11 +9,6 @@ pub mod Hosts
 pub mod Script
 pub mod Stations
 pub mod Driving
-pub mod Running
-pub mod Lines
-pub mod SeenLines
-pub mod ReadOn
-pub mod Taking
 pub mod Laws
 pub mod ScriptLaws
 pub mod Shows
@@ -21,6 +16,7 @@ pub mod Reordering
 pub mod Runs
 pub mod FreeWorkers
 pub mod Checking
+pub mod Inside
 pub use Rattle.wb_names.specs.Values
 pub use Rattle.wb_names.specs.History
 pub use Rattle.wb_names.specs.Arrivals

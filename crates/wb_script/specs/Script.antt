@@ -1,6 +1,6 @@
 -- What a script prints, and how it ends.
 use Rattle.std.specs.Prelude.{◌≡◌, ℕ, ◌+◌, ◌≤◌, ◌^◌, List, [], ◌∷◌, ◌++◌, length, Bool, true, false, nat_eq, nat_le, nat_lt, ◌&&◌, ◌||◌, not, Option, Some, None, Result, Ok, Err, if◌then◌else◌, IsPermutation}
-use Rattle.std.specs.Prelude.{unwrap_or}
+use Rattle.std.specs.Prelude.{◌⊎◌, unwrap_or}
 use Rattle.wb_names.specs.Values.{DrawopValue}
 use Rattle.wb_script.specs.declared.fault.LineFault.{LineFault}
 use Rattle.wb_script.specs.declared.fault.LineFault.TheVariants as faults
@@ -216,3 +216,15 @@ IsStop (run_faults.Line n e) = ⊥
 -- the run stops within a text
 abbrev pub StopsWithin : List ℕ → List ℕ → RunFault → Type 0
 StopsWithin text written e = IsStop e × BeginsWith text written
+
+-- The text of an outcome begins with what was written.
+abbrev pub Begins : Outcome → List ℕ → Type 0
+Begins (prints text end) written = BeginsWith text written
+
+abbrev pub IsStopped : Result Summary RunFault → Type 0
+IsStopped (Ok s) = ⊥
+IsStopped (Err e) = IsStop e
+
+-- A run meets an outcome: it wrote its text and answers its end; or it stops for want of memory or of a thread, or at a failing sink, and wrote a front of its text.
+abbrev pub Meets : Outcome → List ℕ → Result Summary RunFault → Type 0
+Meets (prints text end) written result = ((written ≡ text) × (result ≡ end)) ⊎ (IsStopped result × BeginsWith text written)

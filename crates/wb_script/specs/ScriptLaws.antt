@@ -8,7 +8,7 @@ use Rattle.wb_script.specs.declared.line.Line.TheVariants.{Skip}
 use Rattle.wb_script.specs.declared.summary.Summary.{Summary}
 use Rattle.wb_lines.specs.Ahead.{IsLine}
 use Rattle.wb_script.specs.Parsing.{line_of}
-use Rattle.wb_script.specs.Running.{Begins}
+use Rattle.wb_script.specs.Script.{Begins}
 use Rattle.wb_lines.specs.Input.{InputLine, input_lines}
 use Rattle.wb_script.specs.Script.{IsAlone, Opens, Acts, Faulty, Part, Arrival, Nothing, End, part_in, most_lines, Outcome, prints, outcome, IsOutcome}
 

@@ -1,63 +1,38 @@
 //! The arrivals of a batch, as workers draw them: the script is read on as they do.
-ghost use Rattle.std.specs.Prelude.{◌≡◌, ℕ, [], List, Err, IfOk, true};
+ghost use Rattle.std.specs.Prelude.{◌≡◌, ℕ, [], List, Err, true};
 ghost use Rattle.wb_lines.specs.Output.{Sends};
 ghost use Rattle.wb_lines.specs.Ahead.{Pulls};
-ghost use Rattle.wb_script.specs.ReadOn.{IsPart, ReadsTo, DrawsTo};
-ghost use Rattle.wb_script.specs.Parsing.{line_of};
-ghost use Rattle.wb_script.specs.Script.{part_of};
+ghost use Rattle.wb_script.specs.Inside.Reading.{ReadsTo, DrawsTo};
 
-use crate::fault::{ParseFault, RunFault};
-use crate::line::Line;
-use crate::parsing::parse_line;
-use crate::script_lines::{MAX_LINES, ScriptLines};
-use std::alloc::{AllocError, Global};
+use crate::fault::RunFault;
+use crate::part::Part;
+use crate::progress::Progress;
+use crate::script_lines::MAX_LINES;
+use std::alloc::Global;
 use wb_feed::Arrivals;
-use wb_lines::Output;
 use wb_names::{Drawop, Sink, Source};
-
-/// What a line is to a batch.
-#[derive(Drop)]
-enum Part {
-    Skipped,
-    Arrival(Drawop),
-    /// The batch ends before it.
-    Other,
-}
-
-/// What the line with this content is to a batch.
-fn part_of(alloc: Global, content: &[u8]) -> Result<Part, AllocError>
-    ensures { IfOk result (λ part. IsPart part (part_of (line_of content.now))) }
-{
-    match parse_line(alloc, content) {
-        Ok(line) => Ok(match &line {
-            Line::Skip => Part::Skipped,
-            Line::Arrive(drawop) => Part::Arrival(*drawop),
-            _ => Part::Other,
-        }),
-        Err(ParseFault::Line(_)) => Ok(Part::Other),
-        Err(ParseFault::Memory) => Err(AllocError),
-    }
-}
 
 /// Reads a script up to its next arrival, and takes that line and those that are skipped before it. A line that
 /// is neither is looked at alone: the batch ends there.
 fn read_on<R: Source, W: Sink>(
     alloc: Global,
-    lines: &mut ScriptLines,
+    progress: &mut Progress,
     source: &mut R,
-    output: &mut Output,
     sink: &mut W,
 ) -> Result<Option<Drawop>, RunFault>
-    ensures read { (given : List ℕ) × Pulls lines.old.ahead lines.new.ahead (R.left source.old) (R.left source.new) (R.has_failed source.old) (R.has_failed source.new) given
-        × ReadsTo lines.old lines.new given (R.has_failed source.new) result }
-    ensures sends { Sends (W.taken sink.old) output.old (W.taken sink.new) output.new [] }
+    ensures read { (given : List ℕ) × Pulls progress.old.lines.ahead progress.new.lines.ahead (R.left source.old) (R.left source.new) (R.has_failed source.old) (R.has_failed source.new) given
+        × ReadsTo progress.old.lines progress.new.lines given (R.has_failed source.new) result }
+    ensures sends { Sends (W.taken sink.old) progress.old.output (W.taken sink.new) progress.new.output [] }
     ensures failed { result ≡ Err RunFault.Write → W.has_failed sink.new ≡ true }
 {
-    while lines.look(source, output, sink)? {
-        match part_of(alloc, lines.content())? {
-            Part::Skipped => lines.take(),
+    while progress
+        .lines
+        .look(alloc, source, &mut progress.output, sink)?
+    {
+        match progress.lines.part() {
+            Part::Skipped => progress.lines.pass(),
             Part::Arrival(drawop) => {
-                lines.take();
+                progress.lines.pass();
                 return Ok(Some(drawop));
             }
             Part::Other => return Ok(None),
@@ -69,23 +44,22 @@ fn read_on<R: Source, W: Sink>(
 /// Draws the first arrival of a batch, where it was not drawn yet, and else that of a line that follows.
 fn draw<R: Source, W: Sink>(
     alloc: Global,
-    lines: &mut ScriptLines,
+    progress: &mut Progress,
     source: &mut R,
-    output: &mut Output,
     sink: &mut W,
     first: &mut Option<Drawop>,
     drawn: &mut Vec<Drawop>,
 ) -> Result<Option<Drawop>, RunFault>
-    ensures read { (given : List ℕ) × Pulls lines.old.ahead lines.new.ahead (R.left source.old) (R.left source.new) (R.has_failed source.old) (R.has_failed source.new) given
-        × DrawsTo (record { lines = lines.old; drawn = drawn.old.items; first = first.old }) (record { lines = lines.new; drawn = drawn.new.items; first = first.new }) given (R.has_failed source.new) result }
-    ensures sends { Sends (W.taken sink.old) output.old (W.taken sink.new) output.new [] }
+    ensures read { (given : List ℕ) × Pulls progress.old.lines.ahead progress.new.lines.ahead (R.left source.old) (R.left source.new) (R.has_failed source.old) (R.has_failed source.new) given
+        × DrawsTo (record { lines = progress.old.lines; drawn = drawn.old.items; first = first.old }) (record { lines = progress.new.lines; drawn = drawn.new.items; first = first.new }) given (R.has_failed source.new) result }
+    ensures sends { Sends (W.taken sink.old) progress.old.output (W.taken sink.new) progress.new.output [] }
     ensures failed { result ≡ Err RunFault.Write → W.has_failed sink.new ≡ true }
 {
     if let Some(drawop) = first.take() {
         drawn.push(drawop)?;
         return Ok(Some(drawop));
     }
-    let Some(drawop) = read_on(alloc, lines, source, output, sink)? else {
+    let Some(drawop) = read_on(alloc, progress, source, sink)? else {
         return Ok(None);
     };
     drawn.push(drawop)?;
@@ -97,9 +71,8 @@ fn draw<R: Source, W: Sink>(
 #[derive(Drop)]
 pub struct Arriving<'a, R: Source, W: Sink> {
     pub alloc: Global,
-    pub lines: &'a mut ScriptLines,
+    pub progress: &'a mut Progress,
     pub source: &'a mut R,
-    pub output: &'a mut Output,
     pub sink: &'a mut W,
     /// The arrivals that were drawn.
     pub drawn: &'a mut Vec<Drawop>,
@@ -111,7 +84,7 @@ pub struct Arriving<'a, R: Source, W: Sink> {
 
 impl<R: Source, W: Sink> Arrivals for Arriving<'_, R, W> {
     ghost use Rattle.std.specs.Prelude.{◌≡◌, refl};
-    ghost use Rattle.wb_script.specs.ReadOn.{Follows, most_of};
+    ghost use Rattle.wb_script.specs.Inside.Reading.{Follows, most_of};
     ghost use Rattle.std.specs.Option.{is_some};
     ghost use Rattle.std.proofs.Common.{◌∙◌};
 
@@ -119,12 +92,12 @@ impl<R: Source, W: Sink> Arrivals for Arriving<'_, R, W> {
 
     ghost has_ended = { λ s. is_some s.over };
 
-    ghost most_to_come = { λ s. most_of (record { lines = s.lines.now; drawn = s.drawn.now.items; first = s.first }) };
+    ghost most_to_come = { λ s. most_of (record { lines = s.progress.now.lines; drawn = s.drawn.now.items; first = s.first }) };
 
-    ghost follows = { λ a b. (a.lines.ghost_name ≡ b.lines.ghost_name) × (a.source.ghost_name ≡ b.source.ghost_name) × (a.output.ghost_name ≡ b.output.ghost_name) × (a.sink.ghost_name ≡ b.sink.ghost_name) × (a.drawn.ghost_name ≡ b.drawn.ghost_name)
+    ghost follows = { λ a b. (a.progress.ghost_name ≡ b.progress.ghost_name) × (a.source.ghost_name ≡ b.source.ghost_name) × (a.sink.ghost_name ≡ b.sink.ghost_name) × (a.drawn.ghost_name ≡ b.drawn.ghost_name)
         × Follows
-        (record { at = record { lines = a.lines.now; drawn = a.drawn.now.items; first = a.first }; over = a.over; left = R.left a.source.now; failed = R.has_failed a.source.now; output = a.output.now; taken = W.taken a.sink.now; stuck = W.has_failed a.sink.now })
-        (record { at = record { lines = b.lines.now; drawn = b.drawn.now.items; first = b.first }; over = b.over; left = R.left b.source.now; failed = R.has_failed b.source.now; output = b.output.now; taken = W.taken b.sink.now; stuck = W.has_failed b.sink.now }) };
+        (record { at = record { lines = a.progress.now.lines; drawn = a.drawn.now.items; first = a.first }; over = a.over; left = R.left a.source.now; failed = R.has_failed a.source.now; output = a.progress.now.output; taken = W.taken a.sink.now; stuck = W.has_failed a.sink.now })
+        (record { at = record { lines = b.progress.now.lines; drawn = b.drawn.now.items; first = b.first }; over = b.over; left = R.left b.source.now; failed = R.has_failed b.source.now; output = b.progress.now.output; taken = W.taken b.sink.now; stuck = W.has_failed b.sink.now }) };
 
     fn next(&mut self) -> Option<Drawop> {
         if self.over.is_some() {
@@ -132,9 +105,8 @@ impl<R: Source, W: Sink> Arrivals for Arriving<'_, R, W> {
         }
         match draw(
             self.alloc,
-            self.lines,
+            self.progress,
             self.source,
-            self.output,
             self.sink,
             &mut self.first,
             self.drawn,
@@ -152,10 +124,10 @@ impl<R: Source, W: Sink> Arrivals for Arriving<'_, R, W> {
     }
 
     fn most(&self) -> u32 {
-        MAX_LINES - self.lines.done() + u32::from(self.first.is_some())
+        MAX_LINES - self.progress.lines.done() + u32::from(self.first.is_some())
     }
 
-    ghost follows_itself = { λ s. (refl, refl, refl, refl, refl, λ start p. p) };
+    ghost follows_itself = { λ s. (refl, refl, refl, refl, λ start p. p) };
 
-    ghost follows_on = { λ a b c p q. (p.0 ∙ q.0, p.1 ∙ q.1, p.2 ∙ q.2, p.3 ∙ q.3, p.4 ∙ q.4, λ start r. q.5 start (p.5 start r)) };
+    ghost follows_on = { λ a b c p q. (p.0 ∙ q.0, p.1 ∙ q.1, p.2 ∙ q.2, p.3 ∙ q.3, λ start r. q.4 start (p.4 start r)) };
 }

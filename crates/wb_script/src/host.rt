@@ -1,16 +1,17 @@
 ghost use Rattle.std.specs.Prelude.{◌≡◌, ◌≢◌, ◌<◌, List, [], ℕ, ◌≤◌, ◌++◌, Ok, Err, None, true};
 ghost use Rattle.wb_lines.specs.Ahead.{Pulls};
-ghost use Rattle.wb_script.specs.Lines.{IsSeen, Says};
+ghost use Rattle.wb_script.specs.Inside.Lines.{IsSeen};
 ghost use Rattle.wb_lines.specs.Output.{Sends};
 ghost use Rattle.wb_script.specs.Parsing.{IsWithin};
-ghost use Rattle.wb_script.specs.ReadOn.{EndsBatchAt};
-ghost use Rattle.wb_script.specs.Running.{RunsOn};
+ghost use Rattle.wb_script.specs.Inside.Parts.{EndsBatchAt, IsPartOf};
+ghost use Rattle.wb_script.specs.Inside.Passing.{RunsOn};
 ghost use Rattle.wb_script.specs.Script.{State, IsAlone, Acts, End, part_of, held_count, part_step, said_step, most_lines};
-ghost use Rattle.wb_script.specs.Stations.{IsAt, MayDoStep, Moves};
+ghost use Rattle.wb_script.specs.Inside.Steps.{IsAt, MayDoStep, Moves};
 
 use crate::fault::{LineFault, RunFault};
 use crate::line::Line;
-use crate::script_lines::ScriptLines;
+use crate::part::Part;
+use crate::progress::{Crew, Place, Progress};
 use crate::station::Station;
 use crate::taking::{Taken, take_batch};
 use std::alloc::Global;
@@ -34,7 +35,7 @@ pub struct Host {
 }
 
 impl Model for Host {
-    ghost use Rattle.wb_script.specs.Stations.{HostValue};
+    ghost use Rattle.wb_script.specs.Inside.Steps.{HostValue};
 
     ghost Value = { HostValue };
 
@@ -129,32 +130,28 @@ impl Host {
     /// is read on to its end.
     pub fn arrive<T: Threads + Wait + Sync, R: Source, W: Sink, G: Gate + Sync>(
         &mut self,
-        rt: &T,
-        alloc: Global,
+        place: &Place<'_, T, G>,
         drawop: Drawop,
-        lines: &mut ScriptLines,
+        progress: &mut Progress,
         source: &mut R,
-        output: &mut Output,
         sink: &mut W,
-        gate: &G,
     ) -> Result<(), RunFault>
-        requires seen { IsSeen lines.old.next }
-        requires says { Says lines.old.next (Ok (Line.Arrive drawop)) }
+        requires seen { IsSeen progress.old.lines.next }
+        requires part { IsPartOf (Part.Arrival drawop) progress.old.lines.next }
         ensures text { (given : List ℕ) × (written : List ℕ)
-            × Pulls lines.old.ahead lines.new.ahead (R.left source.old) (R.left source.new) (R.has_failed source.old) (R.has_failed source.new) given
-            × Sends (W.taken sink.old) output.old (W.taken sink.new) output.new written
-            × Moves self.old self.new result (λ s t. RunsOn lines.old.done s lines.old.ahead given written lines.new.done t lines.new.ahead (R.has_failed source.new) result) }
-        ensures on { (lines.old.done < most_lines) × (lines.old.done < lines.new.done) }
+            × Pulls progress.old.lines.ahead progress.new.lines.ahead (R.left source.old) (R.left source.new) (R.has_failed source.old) (R.has_failed source.new) given
+            × Sends (W.taken sink.old) progress.old.output (W.taken sink.new) progress.new.output written
+            × Moves self.old self.new result (λ s t. RunsOn progress.old.lines.done s progress.old.lines.ahead given written progress.new.lines.done t progress.new.lines.ahead (R.has_failed source.new) result) }
+        ensures on { (progress.old.lines.done < most_lines) × (progress.old.lines.done < progress.new.lines.done) }
         ensures failed { result ≡ Err RunFault.Write → W.has_failed sink.new ≡ true }
     {
-        lines.take();
+        progress.lines.pass();
         let Some(station) = self.station.take() else {
-            return Err(RunFault::Line(lines.done(), LineFault::NoBoard));
+            return Err(RunFault::Line(progress.lines.done(), LineFault::NoBoard));
         };
         let workers = crew_of(self.workers);
-        let Taken { station, fault } = take_batch(
-            rt, alloc, station, workers, drawop, lines, source, output, sink, gate,
-        )?;
+        let crew = Crew { station, workers };
+        let Taken { station, fault } = take_batch(place, crew, drawop, progress, source, sink)?;
         self.station = Some(station);
         match fault {
             None => Ok(()),

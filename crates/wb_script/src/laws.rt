@@ -7,6 +7,8 @@ ghost use Rattle.wb_script.specs.Reordering.{WorkersAreOneThread, EachReordering
 ghost use Rattle.wb_script.specs.Shows.{ShowsArrivals, ShowsAreFree};
 ghost use Rattle.wb_script.specs.ScriptLaws.{RefusedStays, PrintedStays, SkippedPrintsNothing, CountsAddUp, HeldStays, OneThreadIsOutcome, OneWorkerIsOneThread, OneThreadIsFree};
 ghost use Rattle.wb_script.specs.FreeWorkers.{OrdersAreFree, WorkersAreFree};
+ghost use Rattle.wb_script.specs.Random.{WordsFollowWords, StepsFollowSteps, WordsFit};
+ghost use Rattle.wb_script.specs.SentLines.{SentIsTaken};
 
 /// What is printed is the view of a page, its missing ranges, its report, and the list of pages.
 pub fn queries_are_answered()
@@ -87,4 +89,18 @@ pub fn workers_are_one_thread()
 pub fn workers_are_free()
     ensures orders { OrdersAreFree }
     ensures workers { WorkersAreFree }
+{}
+
+/// Words that are drawn in two parts are those that are drawn at once, and each has 64 bits: what a
+/// script has drawn is the first so many words of its seed, however it drew them.
+pub fn words_follow_words()
+    ensures words { WordsFollowWords }
+    ensures rest { StepsFollowSteps }
+    ensures fit { WordsFit }
+{}
+
+/// What one script prints as sent, another takes: the digits of a drawop behind the word `arrive`, and
+/// those of every other datagram behind `hear`.
+pub fn sent_is_taken()
+    ensures { SentIsTaken }
 {}

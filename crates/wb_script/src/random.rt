@@ -1,6 +1,6 @@
 //! The random words of a script.
 ghost use Rattle.std.specs.Prelude.{◌≡◌, length, IfOk, OnOk, OnErr};
-ghost use Rattle.wb_script.specs.Random.{started, word_of, after_word, words_of, after_words, WordsFollowWords, StepsFollowSteps, WordsFit};
+ghost use Rattle.wb_script.specs.Random.{started, word_of, after_word, words_of, after_words};
 
 use rand_core::utils::next_u64_via_u32;
 use rand_pcg::Lcg64Xsh32;
@@ -57,11 +57,3 @@ impl RandomWords {
         Ok(words)
     }
 }
-
-/// Words that are drawn in two parts are those that are drawn at once, and each has 64 bits: what a
-/// script has drawn is the first so many words of its seed, however it drew them.
-pub fn words_follow_words()
-    ensures words { WordsFollowWords }
-    ensures rest { StepsFollowSteps }
-    ensures fit { WordsFit }
-{}

@@ -3,16 +3,16 @@ ghost use Rattle.std.specs.Io.KnownBytes.{Appends};
 ghost use Rattle.wb_lines.specs.Driving.{Gave};
 ghost use Rattle.wb_lines.specs.Output.{Sends};
 ghost use Rattle.wb_lines.specs.Ahead.{Pulls};
-ghost use Rattle.wb_script.specs.Lines.{IsSeen};
+ghost use Rattle.wb_script.specs.Inside.Lines.{IsSeen};
 ghost use Rattle.wb_script.specs.Script.{State, most_lines};
-ghost use Rattle.wb_script.specs.Stations.{IsLeftAt, Moves};
-ghost use Rattle.wb_script.specs.Running.{RunsOn, RunsLine, RunsLines, Closes};
+ghost use Rattle.wb_script.specs.Inside.Steps.{IsLeftAt, Moves};
+ghost use Rattle.wb_script.specs.Inside.Passing.{RunsOn, RunsLine, RunsLines, Closes};
 ghost use Rattle.wb_script.specs.Runs.{Runs};
 
-use crate::fault::{ParseFault, RunFault};
+use crate::fault::RunFault;
 use crate::host::Host;
-use crate::line::Line;
-use crate::parsing::parse_line;
+use crate::part::Part;
+use crate::progress::{Place, Progress};
 use crate::script_lines::ScriptLines;
 use crate::summary::Summary;
 use crate::taking::is_stop;
@@ -25,91 +25,81 @@ use wb_names::{Sink, Source};
 
 /// Runs the line that was looked at, and where a batch begins with it, all of the batch.
 fn run_seen<T: Threads + Wait + Sync, R: Source, W: Sink, G: Gate + Sync>(
-    rt: &T,
-    alloc: Global,
-    lines: &mut ScriptLines,
+    place: &Place<'_, T, G>,
+    progress: &mut Progress,
     host: &mut Host,
     source: &mut R,
-    output: &mut Output,
     sink: &mut W,
-    gate: &G,
 ) -> Result<(), RunFault>
-    requires { IsSeen lines.old.next }
+    requires { IsSeen progress.old.lines.next }
     ensures text { (given : List ℕ) × (written : List ℕ)
-        × Pulls lines.old.ahead lines.new.ahead (R.left source.old) (R.left source.new) (R.has_failed source.old) (R.has_failed source.new) given
-        × Sends (W.taken sink.old) output.old (W.taken sink.new) output.new written
-        × Moves host.old host.new result (λ s t. RunsOn lines.old.done s lines.old.ahead given written lines.new.done t lines.new.ahead (R.has_failed source.new) result) }
-    ensures on { result ≡ Ok tt → (lines.old.done < most_lines) × (lines.old.done < lines.new.done) }
+        × Pulls progress.old.lines.ahead progress.new.lines.ahead (R.left source.old) (R.left source.new) (R.has_failed source.old) (R.has_failed source.new) given
+        × Sends (W.taken sink.old) progress.old.output (W.taken sink.new) progress.new.output written
+        × Moves host.old host.new result (λ s t. RunsOn progress.old.lines.done s progress.old.lines.ahead given written progress.new.lines.done t progress.new.lines.ahead (R.has_failed source.new) result) }
+    ensures on { result ≡ Ok tt → (progress.old.lines.done < most_lines) × (progress.old.lines.done < progress.new.lines.done) }
     ensures failed { result ≡ Err RunFault.Write → W.has_failed sink.new ≡ true }
 {
-    let line = match parse_line(alloc, lines.content()) {
-        Ok(line) => line,
-        Err(ParseFault::Memory) => return Err(RunFault::Memory),
-        Err(ParseFault::Line(fault)) => {
-            lines.take();
-            return Err(RunFault::Line(lines.done(), fault));
-        }
-    };
-    match &line {
-        Line::Arrive(drawop) => {
-            host.arrive(rt, alloc, *drawop, lines, source, output, sink, gate)
-        }
-        Line::Skip => {
-            lines.take();
+    match progress.lines.part() {
+        Part::Arrival(drawop) => host.arrive(place, drawop, progress, source, sink),
+        Part::Skipped => {
+            progress.lines.pass();
             Ok(())
         }
-        _ => {
-            lines.take();
-            host.take_line(alloc, lines.done(), &line, output)
-        }
+        Part::Other => match progress.lines.take() {
+            Ok(line) => host.take_line(
+                place.alloc,
+                progress.lines.done(),
+                &line,
+                &mut progress.output,
+            ),
+            Err(fault) => Err(RunFault::Line(progress.lines.done(), fault)),
+        },
     }
 }
 
 /// Runs the next line, and where a batch begins with it, all of the batch. Answers whether there was one.
 fn run_line<T: Threads + Wait + Sync, R: Source, W: Sink, G: Gate + Sync>(
-    rt: &T,
-    alloc: Global,
-    lines: &mut ScriptLines,
+    place: &Place<'_, T, G>,
+    progress: &mut Progress,
     host: &mut Host,
     source: &mut R,
-    output: &mut Output,
     sink: &mut W,
-    gate: &G,
 ) -> Result<bool, RunFault>
     ensures text { (given : List ℕ) × (written : List ℕ)
-        × Pulls lines.old.ahead lines.new.ahead (R.left source.old) (R.left source.new) (R.has_failed source.old) (R.has_failed source.new) given
-        × Sends (W.taken sink.old) output.old (W.taken sink.new) output.new written
-        × Moves host.old host.new result (λ s t. RunsLine lines.old.done s lines.old.ahead given written lines.new.done t lines.new.ahead (R.has_failed source.new) result) }
-    ensures on { result ≡ Ok true → (lines.old.done < most_lines) × (lines.old.done < lines.new.done) }
+        × Pulls progress.old.lines.ahead progress.new.lines.ahead (R.left source.old) (R.left source.new) (R.has_failed source.old) (R.has_failed source.new) given
+        × Sends (W.taken sink.old) progress.old.output (W.taken sink.new) progress.new.output written
+        × Moves host.old host.new result (λ s t. RunsLine progress.old.lines.done s progress.old.lines.ahead given written progress.new.lines.done t progress.new.lines.ahead (R.has_failed source.new) result) }
+    ensures on { result ≡ Ok true → (progress.old.lines.done < most_lines) × (progress.old.lines.done < progress.new.lines.done) }
     ensures failed { result ≡ Err RunFault.Write → W.has_failed sink.new ≡ true }
 {
-    if !lines.look(source, output, sink)? {
+    let alloc = place.alloc;
+    if !progress
+        .lines
+        .look(alloc, source, &mut progress.output, sink)?
+    {
         return Ok(false);
     }
-    run_seen(rt, alloc, lines, host, source, output, sink, gate)?;
+    run_seen(place, progress, host, source, sink)?;
     Ok(true)
 }
 
 /// Runs line after line. Answers how many there were.
 fn run_lines<T: Threads + Wait + Sync, R: Source, W: Sink, G: Gate + Sync>(
-    rt: &T,
-    alloc: Global,
-    lines: &mut ScriptLines,
+    place: &Place<'_, T, G>,
+    progress: &mut Progress,
     host: &mut Host,
     source: &mut R,
-    output: &mut Output,
     sink: &mut W,
-    gate: &G,
 ) -> Result<u32, RunFault>
-    requires { lines.old.done ≡ 0 }
+    requires { progress.old.lines.done ≡ 0 }
     ensures text { (given : List ℕ) × (written : List ℕ)
-        × Pulls lines.old.ahead lines.new.ahead (R.left source.old) (R.left source.new) (R.has_failed source.old) (R.has_failed source.new) given
-        × Sends (W.taken sink.old) output.old (W.taken sink.new) output.new written
-        × Moves host.old host.new result (λ s t. RunsLines s lines.old.ahead given written t lines.new.ahead (R.has_failed source.new) result) }
+        × Pulls progress.old.lines.ahead progress.new.lines.ahead (R.left source.old) (R.left source.new) (R.has_failed source.old) (R.has_failed source.new) given
+        × Sends (W.taken sink.old) progress.old.output (W.taken sink.new) progress.new.output written
+        × Moves host.old host.new result (λ s t. RunsLines s progress.old.lines.ahead given written t progress.new.lines.ahead (R.has_failed source.new) result) }
     ensures failed { result ≡ Err RunFault.Write → W.has_failed sink.new ≡ true }
 {
-    while run_line(rt, alloc, lines, host, source, output, sink, gate)? {}
-    Ok(lines.done())
+    while run_line(place, progress, host, source, sink)? {}
+    Ok(progress.lines.done())
 }
 
 /// Ends the run.
@@ -163,18 +153,11 @@ pub fn run<T: Threads + Wait + Sync, R: Source, W: Sink, G: Gate + Sync>(
     ensures read { result ≡ Err RunFault.Read → R.has_failed source.new ≡ true }
     ensures write { result ≡ Err RunFault.Write → W.has_failed sink.new ≡ true }
 {
-    let mut lines = ScriptLines::new(alloc)?;
+    let lines = ScriptLines::new(alloc)?;
+    let output = Output::new(alloc);
+    let mut progress = Progress { lines, output };
     let mut host = Host::new(workers);
-    let mut output = Output::new(alloc);
-    let ending = run_lines(
-        rt,
-        alloc,
-        &mut lines,
-        &mut host,
-        source,
-        &mut output,
-        sink,
-        gate,
-    );
-    close(&host, ending, &mut output, sink)
+    let place = Place { rt, alloc, gate };
+    let ending = run_lines(&place, &mut progress, &mut host, source, sink);
+    close(&host, ending, &mut progress.output, sink)
 }

@@ -2,43 +2,61 @@
 ghost use Rattle.std.specs.Prelude.{◌≡◌, ◌≤◌, ◌++◌, [], None, List, ℕ, IfOk, Err, true, false};
 ghost use Rattle.wb_lines.specs.Output.{Sends};
 ghost use Rattle.wb_lines.specs.Ahead.{Pulls};
+ghost use Rattle.wb_lines.specs.Input.{content};
 ghost use Rattle.wb_script.specs.Script.{most_lines};
-ghost use Rattle.wb_script.specs.Lines.{IsSeen, IsContent, Looks, Takes};
+ghost use Rattle.wb_script.specs.Parsing.{line_of, IsWithin};
+ghost use Rattle.wb_script.specs.Inside.Lines.{IsSeen, Says, Looks, Takes};
+ghost use Rattle.wb_script.specs.Inside.Parts.{IsPartOf};
 
-use crate::fault::RunFault;
+use crate::fault::{LineFault, ParseFault, RunFault};
+use crate::line::Line;
+use crate::parsing::parse_line;
+use crate::part::{Part, part_of};
 use std::alloc::{AllocError, Global};
 use std::marker::Model;
-use wb_lines::{Found, LineReader, Output, Pulled, without_carriage_return};
+use wb_lines::{Found, LineReader, Output, Pulled, without_end};
 use wb_names::{Sink, Source};
 
 /// A script has at most so many lines.
 pub const MAX_LINES: u32 = 1 << 20;
 
-/// How a line ends.
-#[derive(Clone, Copy, Debug, PartialEq, Eq)]
-enum Ending {
-    LineFeed,
-    /// It is what follows the last line feed.
-    OfInput,
+/// A line that was looked at: whether a line feed ends it, and what it says.
+#[derive(Drop)]
+struct Seen {
+    ended: bool,
+    said: Result<Line, LineFault>,
+}
+
+/// What a line says, of which a line feed may be the end.
+fn said(alloc: Global, line: &[u8], ended: bool) -> Result<Result<Line, LineFault>, AllocError>
+    ensures line { IfOk result (λ said. said ≡ line_of (content (record { bytes = line.now; ended = ended }))) }
+    ensures within { IfOk result (λ said. IfOk said IsWithin) }
+{
+    match parse_line(alloc, without_end(line, ended)) {
+        Ok(line) => Ok(Ok(line)),
+        Err(ParseFault::Line(fault)) => Ok(Err(fault)),
+        Err(ParseFault::Memory) => Err(AllocError),
+    }
 }
 
 /// Reads a script line by line, and counts the lines. The next line can be looked at before it is taken, so
-/// that who takes a batch leaves the line that ends it to who runs the script.
+/// that who takes a batch leaves the line that ends it to who runs the script. Each line is parsed once, when it is
+/// looked at.
 #[derive(Drop)]
 pub struct ScriptLines {
     reader: LineReader,
     done: u32,
     line: Vec<u8>,
-    /// The end of the line that was looked at, where there is one.
-    seen: Option<Ending>,
+    /// The line that was looked at, where there is one.
+    seen: Option<Seen>,
 }
 
 impl Model for ScriptLines {
-    ghost use Rattle.wb_script.specs.Lines.{LinesValue};
+    ghost use Rattle.wb_script.specs.Inside.Lines.{LinesValue};
 
     ghost Value = { LinesValue };
 
-    ghost use Rattle.wb_script.specs.SeenLines.{lines_value, IsSound};
+    ghost use Rattle.wb_script.specs.Inside.SeenLines.{lines_value, IsSound};
 
     ghost view = { λ l. lines_value l.reader l.done l.line.items l.seen };
 
@@ -68,6 +86,7 @@ impl ScriptLines {
     /// Looks at the next line, and answers whether there is one.
     pub fn look<R: Source, W: Sink>(
         &mut self,
+        alloc: Global,
         source: &mut R,
         output: &mut Output,
         sink: &mut W,
@@ -83,15 +102,22 @@ impl ScriptLines {
         if self.done == MAX_LINES {
             return self.look_past_the_last(source, output, sink);
         }
-        self.seen = match self.reader.next_line(source, &mut self.line, output, sink)? {
-            Found::Whole => Some(Ending::LineFeed),
-            Found::Last => Some(Ending::OfInput),
-            Found::End => None,
-            Found::Failed => return Err(RunFault::Read),
-            Found::TooLong => return Err(RunFault::Endless),
-            Found::Unwritten => return Err(RunFault::Write),
-        };
-        Ok(self.seen.is_some())
+        match self.reader.next_line(source, &mut self.line, output, sink)? {
+            Found::Whole => {
+                let said = said(alloc, &self.line, true)?;
+                self.seen = Some(Seen { ended: true, said });
+                Ok(true)
+            }
+            Found::Last => {
+                let said = said(alloc, &self.line, false)?;
+                self.seen = Some(Seen { ended: false, said });
+                Ok(true)
+            }
+            Found::End => Ok(false),
+            Found::Failed => Err(RunFault::Read),
+            Found::TooLong => Err(RunFault::Endless),
+            Found::Unwritten => Err(RunFault::Write),
+        }
     }
 
     /// Behind as many lines as a script has at most.
@@ -115,23 +141,39 @@ impl ScriptLines {
         }
     }
 
-    /// The line that was looked at, without its end.
-    pub fn content(&self) -> &[u8]
+    /// What the line that was looked at is to a batch.
+    pub fn part(&self) -> Part
         requires { IsSeen self.now.next }
-        ensures { IsContent self.now.next result.now }
+        ensures { IsPartOf result self.now.next }
     {
-        match self.seen {
-            Some(Ending::LineFeed) => without_carriage_return(&self.line),
-            _ => &self.line,
+        match &self.seen {
+            Some(seen) => part_of(&seen.said),
+            None => unreachable!(),
         }
     }
 
-    /// Takes the line that was looked at.
-    pub fn take(&mut self)
+    /// Takes the line that was looked at. Answers what it says.
+    pub fn take(&mut self) -> Result<Line, LineFault>
+        requires { IsSeen self.old.next }
+        ensures taken { Takes self.old self.new }
+        ensures said { Says self.old.next result }
+        ensures within { IfOk result IsWithin }
+    {
+        match self.seen.take() {
+            Some(seen) => {
+                self.done += 1;
+                let Seen { ended: _, said } = seen;
+                said
+            }
+            None => unreachable!(),
+        }
+    }
+
+    /// Takes the line that was looked at. What it says is let go.
+    pub fn pass(&mut self)
         requires { IsSeen self.old.next }
         ensures { Takes self.old self.new }
     {
-        self.seen = None;
-        self.done += 1;
+        let _ = self.take();
     }
 }

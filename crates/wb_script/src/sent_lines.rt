@@ -1,7 +1,7 @@
 //! Lines that tell what a host sends, and what it looks for.
 ghost use Rattle.std.specs.Prelude.{◌≡◌, ◌++◌, IfOk, OnOk, OnErr};
 ghost use Rattle.std.specs.String.{string_bytes};
-ghost use Rattle.wb_script.specs.SentLines.{send_line, sends_text, look_line, SentIsTaken};
+ghost use Rattle.wb_script.specs.SentLines.{send_line, sends_text, look_line};
 
 use std::alloc::{AllocError, Global};
 use wb_codec::{Datagram, write};
@@ -41,9 +41,3 @@ pub fn look_line(alloc: Global, count: usize) -> Result<String, AllocError>
 {
     format!(in alloc; "look {count}\n")
 }
-
-/// What one script prints as sent, another takes: the digits of a drawop behind the word `arrive`, and
-/// those of every other datagram behind `hear`.
-pub fn sent_is_taken()
-    ensures { SentIsTaken }
-{}

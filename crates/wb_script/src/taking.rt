@@ -5,18 +5,16 @@ ghost use Rattle.wb_lines.specs.Ahead.{Pulls};
 ghost use Rattle.wb_script.specs.Hosts.{Opened};
 ghost use Rattle.wb_script.specs.Script.{State, IsAlone, is_stop};
 ghost use Rattle.wb_script.specs.Stations.{IsOpenAt};
-ghost use Rattle.wb_script.specs.ReadOn.{ReadsOn};
-ghost use Rattle.wb_script.specs.Taking.{TakesFrom, DrawsAll, TakesBatchOn};
+ghost use Rattle.wb_script.specs.Inside.Reading.{ReadsOn};
+ghost use Rattle.wb_script.specs.Inside.Taking.{TakesFrom, DrawsAll, TakesBatchOn};
 
 use crate::arriving::Arriving;
 use crate::fault::RunFault;
-use crate::script_lines::ScriptLines;
+use crate::progress::{Crew, Place, Progress};
 use crate::station::Station;
-use std::alloc::Global;
 use std::sync::Wait;
 use std::thread::Threads;
 use wb_feed::{Batch, Gate};
-use wb_lines::Output;
 use wb_names::{Drawop, Sink, Source};
 
 /// A station that has taken a batch, its counts, and why the script can't be read on, where it can't.
@@ -43,23 +41,21 @@ pub fn is_stop(fault: RunFault) -> bool
 
 /// Takes what a batch draws from its script, to its end.
 fn take_from<T: Threads + Wait + Sync, R: Source, W: Sink, G: Gate + Sync>(
-    rt: &T,
-    alloc: Global,
-    station: Station,
-    workers: u32,
+    place: &Place<'_, T, G>,
+    crew: Crew,
     arriving: &mut Arriving<'_, R, W>,
-    gate: &G,
 ) -> Result<Drawn, RunFault>
-    requires workers { (0 < workers) × (workers ≤ 8) }
+    requires workers { (0 < crew.workers) × (crew.workers ≤ 8) }
     requires start { (arriving.old.over ≡ None) × (arriving.old.drawn.now.items ≡ []) }
-    ensures names { (arriving.new.lines.ghost_name ≡ arriving.old.lines.ghost_name) × (arriving.new.source.ghost_name ≡ arriving.old.source.ghost_name) × (arriving.new.output.ghost_name ≡ arriving.old.output.ghost_name)
+    ensures names { (arriving.new.progress.ghost_name ≡ arriving.old.progress.ghost_name) × (arriving.new.source.ghost_name ≡ arriving.old.source.ghost_name)
         × (arriving.new.sink.ghost_name ≡ arriving.old.sink.ghost_name) × (arriving.new.drawn.ghost_name ≡ arriving.old.drawn.ghost_name) }
-    ensures reads { ReadsOn (record { at = record { lines = arriving.old.lines.now; drawn = arriving.old.drawn.now.items; first = arriving.old.first }; over = arriving.old.over; left = R.left arriving.old.source.now; failed = R.has_failed arriving.old.source.now; output = arriving.old.output.now; taken = W.taken arriving.old.sink.now; stuck = W.has_failed arriving.old.sink.now })
-        (record { at = record { lines = arriving.new.lines.now; drawn = arriving.new.drawn.now.items; first = arriving.new.first }; over = arriving.new.over; left = R.left arriving.new.source.now; failed = R.has_failed arriving.new.source.now; output = arriving.new.output.now; taken = W.taken arriving.new.sink.now; stuck = W.has_failed arriving.new.sink.now }) }
-    ensures taken { TakesFrom station workers arriving.new.drawn.now.items arriving.new.over result }
+    ensures reads { ReadsOn (record { at = record { lines = arriving.old.progress.now.lines; drawn = arriving.old.drawn.now.items; first = arriving.old.first }; over = arriving.old.over; left = R.left arriving.old.source.now; failed = R.has_failed arriving.old.source.now; output = arriving.old.progress.now.output; taken = W.taken arriving.old.sink.now; stuck = W.has_failed arriving.old.sink.now })
+        (record { at = record { lines = arriving.new.progress.now.lines; drawn = arriving.new.drawn.now.items; first = arriving.new.first }; over = arriving.new.over; left = R.left arriving.new.source.now; failed = R.has_failed arriving.new.source.now; output = arriving.new.progress.now.output; taken = W.taken arriving.new.sink.now; stuck = W.has_failed arriving.new.sink.now }) }
+    ensures taken { TakesFrom crew.station crew.workers arriving.new.drawn.now.items arriving.new.over result }
     ensures failed { result ≡ Err RunFault.Write → W.has_failed arriving.new.sink.now ≡ true }
 {
-    let taken = station.take_arrivals(rt, alloc, workers, arriving, gate);
+    let Crew { station, workers } = crew;
+    let taken = station.take_arrivals(place.rt, place.alloc, workers, arriving, place.gate);
     let over = arriving.over;
     let (station, batch) = taken?;
     let fault = match over {
@@ -76,68 +72,57 @@ fn take_from<T: Threads + Wait + Sync, R: Source, W: Sink, G: Gate + Sync>(
 
 /// Takes a batch, whose first arrival was read before, and reads on to its end.
 fn draw_batch<T: Threads + Wait + Sync, R: Source, W: Sink, G: Gate + Sync>(
-    rt: &T,
-    alloc: Global,
-    station: Station,
-    workers: u32,
+    place: &Place<'_, T, G>,
+    crew: Crew,
     first: Drawop,
-    lines: &mut ScriptLines,
+    progress: &mut Progress,
     source: &mut R,
-    output: &mut Output,
     sink: &mut W,
     drawn: &mut Vec<Drawop>,
-    gate: &G,
 ) -> Result<Drawn, RunFault>
-    requires workers { (0 < workers) × (workers ≤ 8) }
+    requires workers { (0 < crew.workers) × (crew.workers ≤ 8) }
     requires none { drawn.old.items ≡ [] }
-    ensures read { (given : List ℕ) × Pulls lines.old.ahead lines.new.ahead (R.left source.old) (R.left source.new) (R.has_failed source.old) (R.has_failed source.new) given
-        × (lines.old.done ≤ lines.new.done) × DrawsAll station workers lines.old first given lines.new (R.has_failed source.new) drawn.new.items result }
-    ensures sends { Sends (W.taken sink.old) output.old (W.taken sink.new) output.new [] }
+    ensures read { (given : List ℕ) × Pulls progress.old.lines.ahead progress.new.lines.ahead (R.left source.old) (R.left source.new) (R.has_failed source.old) (R.has_failed source.new) given
+        × (progress.old.lines.done ≤ progress.new.lines.done) × DrawsAll crew.station crew.workers progress.old.lines first given progress.new.lines (R.has_failed source.new) drawn.new.items result }
+    ensures sends { Sends (W.taken sink.old) progress.old.output (W.taken sink.new) progress.new.output [] }
     ensures failed { result ≡ Err RunFault.Write → W.has_failed sink.new ≡ true }
 {
     let mut arriving = Arriving {
-        alloc,
-        lines,
+        alloc: place.alloc,
+        progress,
         source,
-        output,
         sink,
         drawn,
         first: Some(first),
         over: None,
     };
-    take_from(rt, alloc, station, workers, &mut arriving, gate)
+    take_from(place, crew, &mut arriving)
 }
 
 /// Takes a batch, whose first arrival was read before, reads on to its end, and prints its counts.
 pub fn take_batch<T: Threads + Wait + Sync, R: Source, W: Sink, G: Gate + Sync>(
-    rt: &T,
-    alloc: Global,
-    station: Station,
-    workers: u32,
+    place: &Place<'_, T, G>,
+    crew: Crew,
     first: Drawop,
-    lines: &mut ScriptLines,
+    progress: &mut Progress,
     source: &mut R,
-    output: &mut Output,
     sink: &mut W,
-    gate: &G,
 ) -> Result<Taken, RunFault>
-    requires workers { (0 < workers) × (workers ≤ 8) }
+    requires workers { (0 < crew.workers) × (crew.workers ≤ 8) }
     ensures read { (given : List ℕ) × (written : List ℕ)
-        × Pulls lines.old.ahead lines.new.ahead (R.left source.old) (R.left source.new) (R.has_failed source.old) (R.has_failed source.new) given
-        × Sends (W.taken sink.old) output.old (W.taken sink.new) output.new written
-        × (lines.old.done ≤ lines.new.done)
-        × ((s : State) (host : Opened) → s.host ≡ Some host → (IsAlone s.workers → workers ≤ 1) → IsOpenAt station host → TakesBatchOn s host lines.old first given written lines.new (R.has_failed source.new) result) }
+        × Pulls progress.old.lines.ahead progress.new.lines.ahead (R.left source.old) (R.left source.new) (R.has_failed source.old) (R.has_failed source.new) given
+        × Sends (W.taken sink.old) progress.old.output (W.taken sink.new) progress.new.output written
+        × (progress.old.lines.done ≤ progress.new.lines.done)
+        × ((s : State) (host : Opened) → s.host ≡ Some host → (IsAlone s.workers → crew.workers ≤ 1) → IsOpenAt crew.station host → TakesBatchOn s host progress.old.lines first given written progress.new.lines (R.has_failed source.new) result) }
     ensures kept { IfOk result (λ t. t.fault ≢ Some RunFault.Write) }
     ensures failed { result ≡ Err RunFault.Write → W.has_failed sink.new ≡ true }
 {
-    let mut drawn = Vec::new(alloc);
+    let mut drawn = Vec::new(place.alloc);
     let Drawn {
         station,
         batch,
         fault,
-    } = draw_batch(
-        rt, alloc, station, workers, first, lines, source, output, sink, &mut drawn, gate,
-    )?;
-    let station = station.print_batch(alloc, batch, &drawn, output)?;
+    } = draw_batch(place, crew, first, progress, source, sink, &mut drawn)?;
+    let station = station.print_batch(place.alloc, batch, &drawn, &mut progress.output)?;
     Ok(Taken { station, fault })
 }

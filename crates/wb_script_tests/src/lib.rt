@@ -1,6 +1,5 @@
 //! Tests of wb_script over its public calls: whole scripts with values from outside, ends that fail in
-//! mid-stream or are fed slowly, limits, random words, lines of what is sent, workers, want of memory, and a
-//! station as a driver holds it.
+//! mid-stream or are fed slowly, limits, workers, want of memory, and a station as a driver holds it.
 #![tactic(auto)]
 
 #[cfg(test)]
@@ -18,13 +17,9 @@ mod limits;
 #[cfg(test)]
 mod memory;
 #[cfg(test)]
-mod random;
-#[cfg(test)]
 mod refused;
 #[cfg(test)]
 mod scripts;
-#[cfg(test)]
-mod sent_lines;
 #[cfg(test)]
 mod stations;
 #[cfg(test)]

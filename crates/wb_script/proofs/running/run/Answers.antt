@@ -23,13 +23,13 @@ returns-clause-script g c =
     let end = c.close.ensures.text in
     let ending = c.run_lines-ending.new in
     let last = lines.4 (start c.args.workers) (record { station = tt; workers = refl; waiting = refl }) in
-    let sends = Sends-then (g.W.Sink.taken c.args.sink.now) (g.W.Sink.taken ending.sink) (g.W.Sink.taken c.close.new.sink) [] ending.output c.close.new.output lines.1 end.0 lines.3 end.1 in
-    let input = input_from ending.lines.ahead (g.R.Source.left c.args.source.now) (g.R.Source.left ending.source) (g.R.Source.has_failed c.args.source.now) (g.R.Source.has_failed ending.source) lines.0 lines.2 in (
+    let sends = Sends-then (g.W.Sink.taken c.args.sink.now) (g.W.Sink.taken ending.sink) (g.W.Sink.taken c.close.new.sink) [] ending.progress.output c.close.new.output lines.1 end.0 lines.3 end.1 in
+    let input = input_from ending.progress.lines.ahead (g.R.Source.left c.args.source.now) (g.R.Source.left ending.source) (g.R.Source.has_failed c.args.source.now) (g.R.Source.has_failed ending.source) lines.0 lines.2 in (
       lines.0 ++ input.more,
       sends.0,
       input.gave,
       sends.1,
-      runs c.args.workers last.0 (g.R.Source.left c.args.source.now) (g.R.Source.left ending.source) (g.R.Source.has_failed c.args.source.now) (g.R.Source.has_failed ending.source) ending.lines.ahead lines.0 lines.1 end.0 sends.0 c.close.new.output c.run_lines-ending.result c.close.result lines.2 sends.2 last.2 (end.2 last.0 last.1),
+      runs c.args.workers last.0 (g.R.Source.left c.args.source.now) (g.R.Source.left ending.source) (g.R.Source.has_failed c.args.source.now) (g.R.Source.has_failed ending.source) ending.progress.lines.ahead lines.0 lines.1 end.0 sends.0 c.close.new.output c.run_lines-ending.result c.close.result lines.2 sends.2 last.2 (end.2 last.0 last.1),
     )
 
 pub returns-clause-write : goal.returns-clause-write
@@ -39,4 +39,4 @@ pub returns-clause-read : goal.returns-clause-read
 returns-clause-read g c = λ e.
     let lines = rw c.new-host.ensures at c.run_lines-ending.ensures.text in
     let last = lines.4 (start c.args.workers) (record { station = tt; workers = refl; waiting = refl }) in
-    read_failed (start c.args.workers) last.0 c.in_ok-lines.lines.ahead c.run_lines-ending.new.lines.ahead lines.0 lines.1 (g.R.Source.has_failed c.run_lines-ending.new.source) c.run_lines-ending.result last.2 (c.close.ensures.read e)
+    read_failed (start c.args.workers) last.0 c.in_ok-lines.lines.ahead c.run_lines-ending.new.progress.lines.ahead lines.0 lines.1 (g.R.Source.has_failed c.run_lines-ending.new.source) c.run_lines-ending.result last.2 (c.close.ensures.read e)

@@ -8,17 +8,17 @@ use Rattle.wb_script.proofs.taking.take_from.Goals.{in-Some-Err-2, in-Some-Ok, i
 use Rattle.wb_script.proofs.taking.take_from.Goals as goal
 
 pub returns-in_err-station-clause-reads : goal.returns-in_err-station-clause-reads
-returns-in_err-station-clause-reads g c = c.take_arrivals-taken.ensures.follows.5 (record { at = record { lines = c.args.arriving.now.lines.now; drawn = c.args.arriving.now.drawn.now.items; first = c.args.arriving.now.first }; over = c.args.arriving.now.over; left = g.R.Source.left c.args.arriving.now.source.now; failed = g.R.Source.has_failed c.args.arriving.now.source.now; output = c.args.arriving.now.output.now; taken = g.W.Sink.taken c.args.arriving.now.sink.now; stuck = g.W.Sink.has_failed c.args.arriving.now.sink.now }) (starts (record { at = record { lines = c.args.arriving.now.lines.now; drawn = c.args.arriving.now.drawn.now.items; first = c.args.arriving.now.first }; over = c.args.arriving.now.over; left = g.R.Source.left c.args.arriving.now.source.now; failed = g.R.Source.has_failed c.args.arriving.now.source.now; output = c.args.arriving.now.output.now; taken = g.W.Sink.taken c.args.arriving.now.sink.now; stuck = g.W.Sink.has_failed c.args.arriving.now.sink.now }) c.requires.start.0)
+returns-in_err-station-clause-reads g c = c.take_arrivals-taken.ensures.follows.4 (record { at = record { lines = c.args.arriving.now.progress.now.lines; drawn = c.args.arriving.now.drawn.now.items; first = c.args.arriving.now.first }; over = c.args.arriving.now.over; left = g.R.Source.left c.args.arriving.now.source.now; failed = g.R.Source.has_failed c.args.arriving.now.source.now; output = c.args.arriving.now.progress.now.output; taken = g.W.Sink.taken c.args.arriving.now.sink.now; stuck = g.W.Sink.has_failed c.args.arriving.now.sink.now }) (starts (record { at = record { lines = c.args.arriving.now.progress.now.lines; drawn = c.args.arriving.now.drawn.now.items; first = c.args.arriving.now.first }; over = c.args.arriving.now.over; left = g.R.Source.left c.args.arriving.now.source.now; failed = g.R.Source.has_failed c.args.arriving.now.source.now; output = c.args.arriving.now.progress.now.output; taken = g.W.Sink.taken c.args.arriving.now.sink.now; stuck = g.W.Sink.has_failed c.args.arriving.now.sink.now }) c.requires.start.0)
 
 pub returns-in-Some-Err-clause-reads : goal.returns-in-Some-Err-clause-reads
-returns-in-Some-Err-clause-reads g c = c.take_arrivals-taken.ensures.follows.5 (record { at = record { lines = c.args.arriving.now.lines.now; drawn = c.args.arriving.now.drawn.now.items; first = c.args.arriving.now.first }; over = c.args.arriving.now.over; left = g.R.Source.left c.args.arriving.now.source.now; failed = g.R.Source.has_failed c.args.arriving.now.source.now; output = c.args.arriving.now.output.now; taken = g.W.Sink.taken c.args.arriving.now.sink.now; stuck = g.W.Sink.has_failed c.args.arriving.now.sink.now }) (starts (record { at = record { lines = c.args.arriving.now.lines.now; drawn = c.args.arriving.now.drawn.now.items; first = c.args.arriving.now.first }; over = c.args.arriving.now.over; left = g.R.Source.left c.args.arriving.now.source.now; failed = g.R.Source.has_failed c.args.arriving.now.source.now; output = c.args.arriving.now.output.now; taken = g.W.Sink.taken c.args.arriving.now.sink.now; stuck = g.W.Sink.has_failed c.args.arriving.now.sink.now }) c.requires.start.0)
+returns-in-Some-Err-clause-reads g c = c.take_arrivals-taken.ensures.follows.4 (record { at = record { lines = c.args.arriving.now.progress.now.lines; drawn = c.args.arriving.now.drawn.now.items; first = c.args.arriving.now.first }; over = c.args.arriving.now.over; left = g.R.Source.left c.args.arriving.now.source.now; failed = g.R.Source.has_failed c.args.arriving.now.source.now; output = c.args.arriving.now.progress.now.output; taken = g.W.Sink.taken c.args.arriving.now.sink.now; stuck = g.W.Sink.has_failed c.args.arriving.now.sink.now }) (starts (record { at = record { lines = c.args.arriving.now.progress.now.lines; drawn = c.args.arriving.now.drawn.now.items; first = c.args.arriving.now.first }; over = c.args.arriving.now.over; left = g.R.Source.left c.args.arriving.now.source.now; failed = g.R.Source.has_failed c.args.arriving.now.source.now; output = c.args.arriving.now.progress.now.output; taken = g.W.Sink.taken c.args.arriving.now.sink.now; stuck = g.W.Sink.has_failed c.args.arriving.now.sink.now }) c.requires.start.0)
 
 pub returns-clause-reads : goal.returns-clause-reads
-returns-clause-reads g c = c.take_arrivals-taken.ensures.follows.5 (record { at = record { lines = c.args.arriving.now.lines.now; drawn = c.args.arriving.now.drawn.now.items; first = c.args.arriving.now.first }; over = c.args.arriving.now.over; left = g.R.Source.left c.args.arriving.now.source.now; failed = g.R.Source.has_failed c.args.arriving.now.source.now; output = c.args.arriving.now.output.now; taken = g.W.Sink.taken c.args.arriving.now.sink.now; stuck = g.W.Sink.has_failed c.args.arriving.now.sink.now }) (starts (record { at = record { lines = c.args.arriving.now.lines.now; drawn = c.args.arriving.now.drawn.now.items; first = c.args.arriving.now.first }; over = c.args.arriving.now.over; left = g.R.Source.left c.args.arriving.now.source.now; failed = g.R.Source.has_failed c.args.arriving.now.source.now; output = c.args.arriving.now.output.now; taken = g.W.Sink.taken c.args.arriving.now.sink.now; stuck = g.W.Sink.has_failed c.args.arriving.now.sink.now }) c.requires.start.0)
+returns-clause-reads g c = c.take_arrivals-taken.ensures.follows.4 (record { at = record { lines = c.args.arriving.now.progress.now.lines; drawn = c.args.arriving.now.drawn.now.items; first = c.args.arriving.now.first }; over = c.args.arriving.now.over; left = g.R.Source.left c.args.arriving.now.source.now; failed = g.R.Source.has_failed c.args.arriving.now.source.now; output = c.args.arriving.now.progress.now.output; taken = g.W.Sink.taken c.args.arriving.now.sink.now; stuck = g.W.Sink.has_failed c.args.arriving.now.sink.now }) (starts (record { at = record { lines = c.args.arriving.now.progress.now.lines; drawn = c.args.arriving.now.drawn.now.items; first = c.args.arriving.now.first }; over = c.args.arriving.now.over; left = g.R.Source.left c.args.arriving.now.source.now; failed = g.R.Source.has_failed c.args.arriving.now.source.now; output = c.args.arriving.now.progress.now.output; taken = g.W.Sink.taken c.args.arriving.now.sink.now; stuck = g.W.Sink.has_failed c.args.arriving.now.sink.now }) c.requires.start.0)
 
 pub returns-in-Some-Err-clause-failed : goal.returns-in-Some-Err-clause-failed
 returns-in-Some-Err-clause-failed g c = λ e.
-    let reads = c.take_arrivals-taken.ensures.follows.5 (record { at = record { lines = c.args.arriving.now.lines.now; drawn = c.args.arriving.now.drawn.now.items; first = c.args.arriving.now.first }; over = c.args.arriving.now.over; left = g.R.Source.left c.args.arriving.now.source.now; failed = g.R.Source.has_failed c.args.arriving.now.source.now; output = c.args.arriving.now.output.now; taken = g.W.Sink.taken c.args.arriving.now.sink.now; stuck = g.W.Sink.has_failed c.args.arriving.now.sink.now }) (starts (record { at = record { lines = c.args.arriving.now.lines.now; drawn = c.args.arriving.now.drawn.now.items; first = c.args.arriving.now.first }; over = c.args.arriving.now.over; left = g.R.Source.left c.args.arriving.now.source.now; failed = g.R.Source.has_failed c.args.arriving.now.source.now; output = c.args.arriving.now.output.now; taken = g.W.Sink.taken c.args.arriving.now.sink.now; stuck = g.W.Sink.has_failed c.args.arriving.now.sink.now }) c.requires.start.0) in
+    let reads = c.take_arrivals-taken.ensures.follows.4 (record { at = record { lines = c.args.arriving.now.progress.now.lines; drawn = c.args.arriving.now.drawn.now.items; first = c.args.arriving.now.first }; over = c.args.arriving.now.over; left = g.R.Source.left c.args.arriving.now.source.now; failed = g.R.Source.has_failed c.args.arriving.now.source.now; output = c.args.arriving.now.progress.now.output; taken = g.W.Sink.taken c.args.arriving.now.sink.now; stuck = g.W.Sink.has_failed c.args.arriving.now.sink.now }) (starts (record { at = record { lines = c.args.arriving.now.progress.now.lines; drawn = c.args.arriving.now.drawn.now.items; first = c.args.arriving.now.first }; over = c.args.arriving.now.over; left = g.R.Source.left c.args.arriving.now.source.now; failed = g.R.Source.has_failed c.args.arriving.now.source.now; output = c.args.arriving.now.progress.now.output; taken = g.W.Sink.taken c.args.arriving.now.sink.now; stuck = g.W.Sink.has_failed c.args.arriving.now.sink.now }) c.requires.start.0) in
     let ends : c.take_arrivals-taken.new.arrivals.over ≡ Some (Err c.in-Some-Err.fault) = search rules in
     reads.unwritten (ends ∙ ap (λ (f : RunFault). Some (Err f)) (same_fault c.in-Some-Err.fault run_faults.Write e))
 
@@ -30,7 +30,7 @@ returns-clause-taken g c =
     let t = c.in_ok-station.ensures.taken in
     let ended = c.in_ok-station.ensures.ended in (
       record {
-        taken = all_drawn c.args.station.board c.in_ok-station.station.board c.args.workers c.args.arriving.now.drawn.now.items c.take_arrivals-taken.new.arrivals.drawn.now.items (counts_in c.in_ok-station.batch) c.requires.start.1 t.0;
+        taken = all_drawn c.args.crew.station.board c.in_ok-station.station.board c.args.crew.workers c.args.arriving.now.drawn.now.items c.take_arrivals-taken.new.arrivals.drawn.now.items (counts_in c.in_ok-station.batch) c.requires.start.1 t.0;
         keeper = t.1;
         words = t.2;
       },

@@ -1,7 +1,7 @@
 use Rattle.std.proofs.Common.{◌≡◌, [], refl, sym, ap, ◌∙◌, arith}
 use Rattle.std.specs.Prelude.{Some, None}
 use Rattle.std.proofs.lemmas.Result.{err_from_is_err_and}
-use Rattle.wb_script.specs.Stations.{HostValue}
+use Rattle.wb_script.specs.Inside.Steps.{HostValue}
 use Rattle.wb_lines.proofs.KnownBytes.{Sends-none}
 use Rattle.wb_lines.proofs.LineBytes.{Pulls-then}
 use Rattle.wb_script.proofs.ReadLines.{taken_few, taken_done}
@@ -11,33 +11,33 @@ use Rattle.wb_script.proofs.host.Host.arrive.Goals as goal
 
 pub returns-in_default-clause-text : goal.returns-in_default-clause-text
 returns-in_default-clause-text g c =
-    let new : HostValue = record { station = c.take-2.new.self; workers = c.self.inside.workers } in
-    let closed : c.args.self.now.station ≡ None = ap (λ (h : HostValue). h.station) (sym c.self.view_is) ∙ sym c.take-2.ensures.value ∙ c.in_default.is in
+    let new : HostValue = record { station = c.take.new.self; workers = c.self.inside.workers } in
+    let closed : c.args.self.now.station ≡ None = ap (λ (h : HostValue). h.station) (sym c.self.view_is) ∙ sym c.take.ensures.value ∙ c.in_default.is in
     let same : c.self.inside.workers ≡ c.args.self.now.workers = ap (λ (h : HostValue). h.workers) c.self.view_is in (
       [],
       [],
-      takes_pulls c.args.lines.now.next c.args.lines.now.ahead c.args.lines.now.done c.take.new.self (g.R.Source.left c.args.source.now) (g.R.Source.has_failed c.args.source.now) c.take.ensures,
-      Sends-none (g.W.Sink.taken c.args.sink.now) c.args.output.now,
-      rw c.done.ensures.count (λ s at. arrives_nowhere c.args.lines.now.next c.args.lines.now.ahead c.args.lines.now.done c.take.new.self c.args.drawop s c.args.self.now new (g.R.Source.has_failed c.args.source.now) c.requires.says c.take.ensures at closed c.take-2.ensures.after same),
+      takes_pulls c.args.progress.now.lines.next c.args.progress.now.lines.ahead c.args.progress.now.lines.done c.pass.new.self (g.R.Source.left c.args.source.now) (g.R.Source.has_failed c.args.source.now) c.pass.ensures,
+      Sends-none (g.W.Sink.taken c.args.sink.now) c.args.progress.now.output,
+      rw c.done.ensures.count (λ s at. arrives_nowhere c.args.progress.now.lines.next c.args.progress.now.lines.ahead c.args.progress.now.lines.done c.pass.new.self c.args.drawop s c.args.self.now new (g.R.Source.has_failed c.args.source.now) c.requires.part c.pass.ensures at closed c.take.ensures.after same),
     )
 
 pub returns-in_err-station-clause-text : goal.returns-in_err-station-clause-text
 returns-in_err-station-clause-text g c =
-    let new : HostValue = record { station = c.take-2.new.self; workers = c.self.inside.workers } in
-    let stood : c.args.self.now.station ≡ Some c.in-Some.station = ap (λ (h : HostValue). h.station) (sym c.self.view_is) ∙ sym c.take-2.ensures.value ∙ c.in-Some.is in
+    let new : HostValue = record { station = c.take.new.self; workers = c.self.inside.workers } in
+    let stood : c.args.self.now.station ≡ Some c.in-Some.station = ap (λ (h : HostValue). h.station) (sym c.self.view_is) ∙ sym c.take.ensures.value ∙ c.in-Some.is in
     let same : c.self.inside.workers ≡ c.args.self.now.workers = ap (λ (h : HostValue). h.workers) c.self.view_is in
     let t = c.in_err-station.ensures.read in
     let p = err_from_is_err_and c.from_residual.result c.from_residual.ensures.1 in (
       t.0,
       t.1,
-      Pulls-then c.args.lines.now.ahead c.take.new.self.ahead c.take_batch.new.lines.ahead (g.R.Source.left c.args.source.now) (g.R.Source.left c.args.source.now) (g.R.Source.left c.take_batch.new.source) (g.R.Source.has_failed c.args.source.now) (g.R.Source.has_failed c.args.source.now) (g.R.Source.has_failed c.take_batch.new.source) [] t.0 (takes_pulls c.args.lines.now.next c.args.lines.now.ahead c.args.lines.now.done c.take.new.self (g.R.Source.left c.args.source.now) (g.R.Source.has_failed c.args.source.now) c.take.ensures) t.2,
+      Pulls-then c.args.progress.now.lines.ahead c.pass.new.self.ahead c.take_batch.new.progress.lines.ahead (g.R.Source.left c.args.source.now) (g.R.Source.left c.args.source.now) (g.R.Source.left c.take_batch.new.source) (g.R.Source.has_failed c.args.source.now) (g.R.Source.has_failed c.args.source.now) (g.R.Source.has_failed c.take_batch.new.source) [] t.0 (takes_pulls c.args.progress.now.lines.next c.args.progress.now.lines.ahead c.args.progress.now.lines.done c.pass.new.self (g.R.Source.left c.args.source.now) (g.R.Source.has_failed c.args.source.now) c.pass.ensures) t.2,
       t.3,
-      rw (p.1, p.2) (λ s at. arrives_refused c.args.lines.now.done c.args.lines.now.ahead c.take.new.self c.take_batch.new.lines c.args.drawop s c.args.self.now new c.in-Some.station c.self.inside.workers c.crew_of-workers.result t.0 t.1 (g.R.Source.has_failed c.take_batch.new.source) c.in_err-station.field-0.0 at stood same c.crew_of-workers.ensures.alone t.5),
+      rw (p.1, p.2) (λ s at. arrives_refused c.args.progress.now.lines.done c.args.progress.now.lines.ahead c.pass.new.self c.take_batch.new.progress.lines c.args.drawop s c.args.self.now new c.in-Some.station c.self.inside.workers c.crew_of-workers.result t.0 t.1 (g.R.Source.has_failed c.take_batch.new.source) c.in_err-station.field-0.0 at stood same c.crew_of-workers.ensures.alone t.5),
     )
 
 pub returns-clause-text : goal.returns-clause-text
 returns-clause-text g c =
-    let stood : c.args.self.now.station ≡ Some c.in-Some.station = ap (λ (h : HostValue). h.station) (sym c.self.view_is) ∙ sym c.take-2.ensures.value ∙ c.in-Some.is in
+    let stood : c.args.self.now.station ≡ Some c.in-Some.station = ap (λ (h : HostValue). h.station) (sym c.self.view_is) ∙ sym c.take.ensures.value ∙ c.in-Some.is in
     let same : c.self.inside.workers ≡ c.args.self.now.workers = ap (λ (h : HostValue). h.workers) c.self.view_is in
     let t = c.in_ok-station.ensures.read in
     let result_is : c.match-fault.result ≡ ending_of c.in_ok-station.field-0.fault = elim c.match-fault.branch [
@@ -46,15 +46,15 @@ returns-clause-text g c =
     ] in (
       t.0,
       t.1,
-      Pulls-then c.args.lines.now.ahead c.take.new.self.ahead c.take_batch.new.lines.ahead (g.R.Source.left c.args.source.now) (g.R.Source.left c.args.source.now) (g.R.Source.left c.take_batch.new.source) (g.R.Source.has_failed c.args.source.now) (g.R.Source.has_failed c.args.source.now) (g.R.Source.has_failed c.take_batch.new.source) [] t.0 (takes_pulls c.args.lines.now.next c.args.lines.now.ahead c.args.lines.now.done c.take.new.self (g.R.Source.left c.args.source.now) (g.R.Source.has_failed c.args.source.now) c.take.ensures) t.2,
+      Pulls-then c.args.progress.now.lines.ahead c.pass.new.self.ahead c.take_batch.new.progress.lines.ahead (g.R.Source.left c.args.source.now) (g.R.Source.left c.args.source.now) (g.R.Source.left c.take_batch.new.source) (g.R.Source.has_failed c.args.source.now) (g.R.Source.has_failed c.args.source.now) (g.R.Source.has_failed c.take_batch.new.source) [] t.0 (takes_pulls c.args.progress.now.lines.next c.args.progress.now.lines.ahead c.args.progress.now.lines.done c.pass.new.self (g.R.Source.left c.args.source.now) (g.R.Source.has_failed c.args.source.now) c.pass.ensures) t.2,
       t.3,
-      rw result_is (λ s at. arrives_open c.args.lines.now.next c.args.lines.now.ahead c.args.lines.now.done c.take.new.self c.take_batch.new.lines c.args.drawop s c.args.self.now c.in-Some.station c.self.inside.workers c.crew_of-workers.result t.0 t.1 (g.R.Source.has_failed c.take_batch.new.source) c.in_ok-station.field-0 c.requires.says c.take.ensures at stood same c.crew_of-workers.ensures.alone t.2.none_after_end t.2.end_stays t.5),
+      rw result_is (λ s at. arrives_open c.args.progress.now.lines.next c.args.progress.now.lines.ahead c.args.progress.now.lines.done c.pass.new.self c.take_batch.new.progress.lines c.args.drawop s c.args.self.now c.in-Some.station c.self.inside.workers c.crew_of-workers.result t.0 t.1 (g.R.Source.has_failed c.take_batch.new.source) c.in_ok-station.field-0 c.requires.part c.pass.ensures at stood same c.crew_of-workers.ensures.alone t.2.none_after_end t.2.end_stays t.5),
     )
 
 pub returns-clause-on : goal.returns-clause-on
 returns-clause-on g c =
-    let few = taken_few c.args.lines.now.next c.args.lines.now.ahead c.args.lines.now.done c.take.new.self c.take.ensures in
-    let done = taken_done c.args.lines.now.next c.args.lines.now.ahead c.args.lines.now.done c.take.new.self c.take.ensures in
+    let few = taken_few c.args.progress.now.lines.next c.args.progress.now.lines.ahead c.args.progress.now.lines.done c.pass.new.self c.pass.ensures in
+    let done = taken_done c.args.progress.now.lines.next c.args.progress.now.lines.ahead c.args.progress.now.lines.done c.pass.new.self c.pass.ensures in
     let on = c.in_ok-station.ensures.read.4 in
     (few, omega (arith, done, on))
 

@@ -3,9 +3,9 @@ use Rattle.std.proofs.lemmas.List.{append-nil}
 use Rattle.wb_names.specs.Values.{DrawopValue}
 use Rattle.wb_script.specs.declared.line.Line.{Line}
 use Rattle.wb_script.specs.declared.line.Line.TheVariants.{Skip, Board, Arrive, Hear, Distance, Tick, Look, Session, Show, Gaps, Report, Pages}
-use Rattle.wb_script.specs.ReadOn.{EndsBatchAt}
+use Rattle.wb_script.specs.Inside.Parts.{EndsBatchAt}
 use Rattle.wb_script.specs.Script.{Acts, Part, End, part_of, part_step}
-use Rattle.wb_script.specs.Stations.{DoesStep}
+use Rattle.wb_script.specs.Inside.Steps.{DoesStep}
 use Rattle.wb_script.proofs.host.Host.take_line.Goals as goal
 
 -- A line that ends its batch, and opens no board, acts at the board.

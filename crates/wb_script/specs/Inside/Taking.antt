@@ -7,10 +7,10 @@ use Rattle.wb_script.specs.declared.taking.Drawn.{Drawn}
 use Rattle.wb_script.specs.declared.taking.Taken.{Taken}
 use Rattle.wb_script.specs.Hosts.{Opened, host_after}
 use Rattle.wb_script.specs.Script.{State, MayBeTaken, after_batch, is_stop, IsStop}
-use Rattle.wb_script.specs.Running.{Passes, Stops}
+use Rattle.wb_script.specs.Inside.Passing.{Passes, Stops}
 use Rattle.wb_script.specs.Stations.{StationValue, IsOpenAt, TakesAll}
-use Rattle.wb_script.specs.Lines.{LinesValue}
-use Rattle.wb_script.specs.ReadOn.{IsOpen, with_waiting, IsBatchEnd}
+use Rattle.wb_script.specs.Inside.Lines.{LinesValue}
+use Rattle.wb_script.specs.Inside.Reading.{IsOpen, with_waiting, IsBatchEnd}
 
 -- The first arrival waited: these were drawn, and the script was read on to the end of the batch, or to a fault.
 abbrev pub GetsOver : Option RunFault → State → LinesValue → DrawopValue → List ℕ → LinesValue → Bool → List DrawopValue → Type 0

@@ -7,7 +7,7 @@ use Rattle.wb_lines.specs.Ahead.{Ahead, IsLine}
 use Rattle.wb_script.specs.Parsing.{line_of}
 use Rattle.wb_lines.specs.Input.{InputLine, content}
 use Rattle.wb_script.specs.Script.{State, most_lines}
-use Rattle.wb_script.specs.Running.{Stops}
+use Rattle.wb_script.specs.Inside.Passing.{Stops}
 
 -- how many lines were taken, what is ahead, and the line at its front, once it was looked at
 pub record LinesValue : Type 0 where
@@ -34,11 +34,6 @@ IsSeen (Some line) = Unit {0}
 abbrev pub IsFirst : Option InputLine → Ahead → Type 0
 IsFirst None ahead = ⊥
 IsFirst (Some line) ahead = (rest : Ahead) × Fronts ahead line rest
-
--- its bytes, without its end
-abbrev pub IsContent : Option InputLine → List ℕ → Type 0
-IsContent None bytes = ⊥
-IsContent (Some line) bytes = bytes ≡ content line
 
 -- what it says
 abbrev pub Says : Option InputLine → Result Line LineFault → Type 0

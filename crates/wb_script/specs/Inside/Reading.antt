@@ -3,21 +3,14 @@ use Rattle.std.specs.Prelude.{◌≡◌, ◌≢◌, ◌≤◌, ◌<◌, ◌+◌,
 use Rattle.wb_names.specs.Values.{DrawopValue}
 use Rattle.wb_script.specs.declared.fault.RunFault.{RunFault}
 use Rattle.wb_script.specs.declared.fault.RunFault.TheVariants as run_faults
-use Rattle.wb_script.specs.declared.arriving.Part.{Part as ReadPart}
-use Rattle.wb_script.specs.declared.arriving.Part.TheVariants as parts
 use Rattle.wb_lines.specs.Ahead.{Ahead, Pulls}
 use Rattle.wb_lines.specs.Output.{Sends}
 use Rattle.wb_script.specs.Hosts.{Opened}
 use Rattle.wb_lines.specs.Input.{InputLine}
-use Rattle.wb_script.specs.Script.{State, Part, Arrival, Nothing, End, part_in, most_lines}
-use Rattle.wb_script.specs.Running.{Passes, Stops}
-use Rattle.wb_script.specs.Lines.{LinesValue, Fronts}
-
--- It is neither skipped nor an arrival.
-abbrev pub EndsBatchAt : Part → Type 0
-EndsBatchAt (Arrival d) = ⊥
-EndsBatchAt Nothing = ⊥
-EndsBatchAt (End c) = Unit {0}
+use Rattle.wb_script.specs.Script.{State, part_in, most_lines}
+use Rattle.wb_script.specs.Inside.Parts.{EndsBatchAt}
+use Rattle.wb_script.specs.Inside.Passing.{Passes, Stops}
+use Rattle.wb_script.specs.Inside.Lines.{LinesValue, Fronts}
 
 abbrev pub EndsBatchBefore : Option InputLine → Ahead → Type 0
 EndsBatchBefore None ahead = (ahead.bytes ≡ []) × (ahead.ended ≡ true)
@@ -30,12 +23,6 @@ IsBatchEnd lines = EndsBatchBefore lines.next lines.ahead
 abbrev pub IsOpen : Option Opened → Type 0
 IsOpen None = ⊥
 IsOpen (Some host) = Unit {0}
-
--- what a line is to a batch
-abbrev pub IsPart : ReadPart → Part → Type 0
-IsPart parts.Skipped part = part ≡ Nothing
-IsPart (parts.Arrival d) part = part ≡ Arrival d
-IsPart parts.Other part = EndsBatchAt part
 
 -- these arrivals wait
 abbrev pub with_waiting : State → List DrawopValue → State

@@ -5,11 +5,7 @@ use Rattle.wb_script.specs.declared.fault.RunFault.TheVariants as run_faults
 use Rattle.wb_script.specs.declared.summary.Summary.{Summary}
 use Rattle.wb_lines.specs.Ahead.{Ahead}
 use Rattle.wb_lines.specs.Input.{MayFollow, MayRemain, input_lines, BeginsWith}
-use Rattle.wb_script.specs.Script.{State, Outcome, prints, before, Finishes, IsOutcomeFrom, IsOutcome, is_stop, IsStop}
-
--- The text of an outcome begins with what was written.
-abbrev pub Begins : Outcome → List ℕ → Type 0
-Begins (prints text end) written = BeginsWith text written
+use Rattle.wb_script.specs.Script.{State, Outcome, prints, before, Finishes, IsOutcomeFrom, IsOutcome, is_stop, Begins, IsStopped}
 
 -- Each outcome of what is left is, behind what was written, one of the whole.
 abbrev pub Leads : (Outcome → Type 0) → List ℕ → (Outcome → Type 0) → Type 0
@@ -64,14 +60,6 @@ RunsLine n old reader given written m new reader' failed (Err e) = Stops n old r
 abbrev pub RunsLines : State → Ahead → List ℕ → List ℕ → State → Ahead → Bool → Result ℕ RunFault → Type 0
 RunsLines old reader given written new reader' failed (Ok m) = Ends 0 old reader given written m new reader'
 RunsLines old reader given written new reader' failed (Err e) = Stops 0 old reader given written new reader' failed e
-
-abbrev pub IsStopped : Result Summary RunFault → Type 0
-IsStopped (Ok s) = ⊥
-IsStopped (Err e) = IsStop e
-
--- A run meets an outcome: it wrote its text and answers its end; or it stops for want of memory or of a thread, or at a failing sink, and wrote a front of its text.
-abbrev pub Meets : Outcome → List ℕ → Result Summary RunFault → Type 0
-Meets (prints text end) written result = ((written ≡ text) × (result ≡ end)) ⊎ (IsStopped result × BeginsWith text written)
 
 -- The same, while some text may wait to be written: none does where the run wrote its text and answers its end.
 abbrev pub Settles : Outcome → List ℕ → List ℕ → Result Summary RunFault → Type 0

@@ -1,0 +1,30 @@
+//! What a line is to a batch.
+ghost use Rattle.wb_script.specs.Inside.Parts.{IsPart};
+ghost use Rattle.wb_script.specs.Script.{part_of};
+
+use crate::fault::LineFault;
+use crate::line::Line;
+use wb_names::Drawop;
+
+/// What a line is to the batch before it.
+#[derive(Drop)]
+pub enum Part {
+    Skipped,
+    Arrival(Drawop),
+    /// The batch ends before it.
+    Other,
+}
+
+/// What a line that says this is to a batch.
+pub fn part_of(said: &Result<Line, LineFault>) -> Part
+    ensures { IsPart result (part_of said.now) }
+{
+    match said {
+        Ok(line) => match line {
+            Line::Skip => Part::Skipped,
+            Line::Arrive(drawop) => Part::Arrival(*drawop),
+            _ => Part::Other,
+        },
+        Err(_) => Part::Other,
+    }
+}
