@@ -16,10 +16,11 @@ use Rattle.wb_host.specs.declared.reply.Reply.{Reply}
 use Rattle.wb_host.specs.declared.reply.Reply.TheVariants.{New, Again, Clash}
 use Rattle.wb_host.specs.Replies.{IsReply}
 use Rattle.wb_host.specs.Board.{Call, Accept, Answer, Replied, Step, IsAnswer, history_after, IsLegalFrom}
+use Rattle.wb_host.specs.Replies.{outcome}
 use Rattle.wb_host.specs.Runs.{Told, AreToldSince, Precedes, IsToldSince, is_new_at, rank, placed, in_order, end_of, IsOneRun, OneRun, run_of}
 use Rattle.wb_feed.specs.declared.batch.Batch.{Batch}
 use Rattle.wb_feed.specs.declared.channel.Message.{Message}
-use Rattle.wb_feed.specs.Accepts.{Entry, Accepts, Runs, drawops, outcomes, outcome, tally}
+use Rattle.wb_feed.specs.Accepts.{Entry, Accepts, Runs, drawops, outcomes, tally}
 use Rattle.wb_feed.specs.Batches.{counts_in, IsInSomeOrder, IsShared}
 use Rattle.wb_feed.specs.Calls.{told, told_of, told_by, told_workers, told_working, told_in, BatchIsOneRun}
 use Rattle.wb_feed.specs.Served.{Spot, entries, Serves}
