@@ -68,10 +68,10 @@ module _ (me now : ℕ) (d : Datagram) (word : ℕ) (held : Bool) where
 -- such a call changes the timers and the moment alone
 keeps_silent : (old new : KeeperValue) (now : ℕ) (d : Datagram) (word : ℕ) (held : Bool) (recovery : RecoveryValue) → IsSilent old.me (Hear now d word held) → new ≡ record old { moment = now; recovery = recovery }
     → ((t : Tuning) (calls : List KeeperCall) → StandsFor old.me t calls old → timers.StandsFor t (asked_by old.me (delay_to old.me calls) now d word held (events_of old.me calls)) recovery) → Keeps (Hear now d word held) old new
-keeps_silent old new now d word held recovery silent is timed = keeps_own (Hear now d word held) old new (λ t calls s. subst (StandsFor old.me t (Hear now d word held ∷ calls)) (sym is) (record {
+keeps_silent old new now d word held recovery silent is stands = keeps_own (Hear now d word held) old new (λ t calls s. subst (StandsFor old.me t (Hear now d word held ∷ calls)) (sym is) (record {
   me_is = refl;
   moment = refl;
-  timed = timed t calls s;
+  recovery = stands t calls s;
   delays = λ source. s.delays source ∙ sym (ap (λ (o : Option ℕ). unwrap_or (option_or o (newest (delay_told old.me source) calls)) 100000) (silent.delays source));
   heard = λ source. s.heard source ∙ sym (
       ap (λ o. cond (list_any (nat_eq source) (remember o (senders_of old.me calls))) (option_or (told_by source o) (newest (λ c. told_by source (session_told old.me c)) calls)) None) silent.sessions);
@@ -90,13 +90,13 @@ own_events me delays now (PageState sender page marks) word held events e = refl
 -- what this member sent itself
 pub keeps_own_datagram : (old new : KeeperValue) (now : ℕ) (d : Datagram) (word : ℕ) (held : Bool) → is_own old.me d ≡ true → new ≡ record old { moment = now } → Keeps (Hear now d word held) old new
 keeps_own_datagram old new now d word held e is = keeps_silent old new now d word held old.recovery (own_silent old.me now d word held e) is
-    (λ t calls s. subst (λ (events : List Event). timers.StandsFor t events old.recovery) (own_events old.me (delay_to old.me calls) now d word held (events_of old.me calls) e) s.timed)
+    (λ t calls s. subst (λ (events : List Event). timers.StandsFor t events old.recovery) (own_events old.me (delay_to old.me calls) now d word held (events_of old.me calls) e) s.recovery)
 
 pub keeps_draw : (old new : KeeperValue) (now : ℕ) (d : DrawopValue) (word : ℕ) (held : Bool) → new ≡ record old { moment = now } → Keeps (Hear now (Draw d) word held) old new
-keeps_draw old new now d word held is = keeps_silent old new now (Draw d) word held old.recovery (record { delays = λ source. refl; sessions = refl; marks = λ page source. refl; merged = λ page. refl }) is (λ t calls s. s.timed)
+keeps_draw old new now d word held is = keeps_silent old new now (Draw d) word held old.recovery (record { delays = λ source. refl; sessions = refl; marks = λ page source. refl; merged = λ page. refl }) is (λ t calls s. s.recovery)
 
 pub keeps_ask_pages : (old new : KeeperValue) (now asker word : ℕ) (held : Bool) → nat_eq asker old.me ≡ false → new ≡ record old { moment = now } → Keeps (Hear now (AskPages asker) word held) old new
-keeps_ask_pages old new now asker word held e is = keeps_silent old new now (AskPages asker) word held old.recovery (other_silent old.me now (AskPages asker) word held e (λ source. refl) refl (λ page source. refl) (λ page. refl)) is (λ t calls s. s.timed)
+keeps_ask_pages old new now asker word held e is = keeps_silent old new now (AskPages asker) word held old.recovery (other_silent old.me now (AskPages asker) word held e (λ source. refl) refl (λ page source. refl) (λ page. refl)) is (λ t calls s. s.recovery)
 
 -- a request is told to the timers
 pub keeps_request : (old new : KeeperValue) (now asker : ℕ) (name : NameValue) (word : ℕ) (held : Bool) (recovery : RecoveryValue) (delay : ℕ) → nat_eq asker old.me ≡ false → new ≡ record old { moment = now; recovery = recovery }
@@ -105,7 +105,7 @@ keeps_request old new now asker name word held recovery delay e is near accepts 
     (other_silent old.me now (Request asker name) word held e (λ source. refl) refl (λ page source. refl) (λ page. refl)) is
     (λ t calls s. subst (λ (events : List Event). timers.StandsFor t events recovery)
     (ap (λ (n : ℕ). Asked name held now n word ∷ events_of old.me calls) (near ∙ s.delays (cond held asker name.source)) ∙ sym (ap (λ (b : Bool). cond b (events_of old.me calls) (Asked name held now (delay_to old.me calls (cond held asker name.source)) word ∷ events_of old.me calls)) e))
-    (accepts t (events_of old.me calls) s.timed))
+    (accepts t (events_of old.me calls) s.recovery))
 
 -- ---- marks
 
@@ -188,7 +188,7 @@ pub keeps_state : (old new : KeeperValue) (now sender : ℕ) (page : PageId) (ma
 keeps_state old new now sender page marks merged word held e is of_heard of_told merges = keeps_own (Hear now (PageState sender page marks) word held) old new (λ t calls s. subst (StandsFor old.me t (Hear now (PageState sender page marks) word held ∷ calls)) (sym is) (record {
   me_is = refl;
   moment = refl;
-  timed = s.timed;
+  recovery = s.recovery;
   delays = λ source. s.delays source ∙ sym (ap (λ (b : Bool). unwrap_or (option_or (cond b None None) (newest (delay_told old.me source) calls)) 100000) e);
   heard = λ source. s.heard source ∙ sym (ap (λ (b : Bool). cond (list_any (nat_eq source) (remember (cond b None None) (senders_of old.me calls))) (option_or (told_by source (cond b None None)) (newest (λ c. told_by source (session_told old.me c)) calls)) None) e);
   senders = s.senders ∙ sym (ap (λ (b : Bool). length (remember (cond b None None) (senders_of old.me calls))) e);
@@ -279,7 +279,7 @@ pub keeps_session : (old new : KeeperValue) (now sender sent : ℕ) (page : Page
 keeps_session old new now sender sent page marks merged echoes delay word held e told is counted of_heard of_told merges = keeps_own (Hear now (Session sender sent page marks echoes) word held) old new (λ t calls s. subst (StandsFor old.me t (Hear now (Session sender sent page marks echoes) word held ∷ calls)) (sym is) (record {
   me_is = refl;
   moment = refl;
-  timed = s.timed;
+  recovery = s.recovery;
   delays = λ source. delay_put old.delays sender delay (newest (delay_told old.me source) calls) source (s.delays source)
       ∙ ap (λ (o : Option ℕ). unwrap_or (option_or (cond (nat_eq sender source) o None) (newest (delay_told old.me source) calls)) 100000) told
       ∙ sym (ap (λ (b : Bool). unwrap_or (option_or (cond b None (cond (nat_eq sender source) (distance_by now (find (λ e. nat_eq e.source old.me) echoes)) None)) (newest (delay_told old.me source) calls)) 100000) e);

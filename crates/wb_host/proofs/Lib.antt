@@ -19,3 +19,4 @@ pub mod NextDues
 pub mod KnownThings
 pub mod MapEdits
 pub mod HeardCalls
+pub mod StoppedTimers

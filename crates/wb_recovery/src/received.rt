@@ -2,7 +2,7 @@ use wb_names::Name;
 
 /// A name that has come.
 #[derive(Clone, Copy, Debug, PartialEq, Eq)]
-pub struct Come {
+pub struct Received {
     pub name: Name,
     /// The delay to the name's source, in microseconds.
     pub delay: u64,

@@ -2,7 +2,7 @@ use Rattle.std.proofs.Common.{ℕ, ◌∙◌, ap, subst}
 use Rattle.wb_recovery.specs.Events.{Got}
 use Rattle.wb_recovery.specs.Standing.{Accepts}
 use Rattle.wb_host.specs.Keeping.{KeeperValue, delay_at}
-use Rattle.wb_host.proofs.keeper.Keeper.come.Goals as goal
+use Rattle.wb_host.proofs.keeper.Keeper.receive.Goals as goal
 
 pub returns-clause-came : goal.returns-clause-came
 returns-clause-came c =

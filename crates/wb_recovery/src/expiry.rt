@@ -1,5 +1,5 @@
 ghost use Rattle.std.specs.Prelude.{◌≡◌, ◌+◌, ◌*◌, ◌^◌, ◌<◌, ◌≤◌};
-ghost use Rattle.wb_recovery.specs.Timing.{draw as draw_of};
+ghost use Rattle.wb_recovery.specs.Timing.{expiry as expiry_of};
 
 /// 2^level times a constant times a delay.
 fn step(level: u32, constant: u32, delay: u64) -> u64
@@ -12,15 +12,15 @@ fn step(level: u32, constant: u32, delay: u64) -> u64
     2u64.pow(level) * u64::from(constant) * delay
 }
 
-/// A moment drawn by a random word: `2^level * lead` delays after now, or up to `2^level * spread`
+/// The random moment at which a timer is due: `2^level * lead` delays after now, or up to `2^level * spread`
 /// delays later.
-pub(crate) fn draw(now: u64, level: u32, lead: u32, spread: u32, delay: u64, word: u64) -> u64
+pub(crate) fn expiry(now: u64, level: u32, lead: u32, spread: u32, delay: u64, word: u64) -> u64
     requires moment { now < 2 ^ 48 }
     requires level { level ≤ 16 }
     requires lead { lead ≤ 16 }
     requires spread { spread ≤ 16 }
     requires delay { delay < 2 ^ 24 }
-    ensures moment { result ≡ draw_of now level lead spread delay word }
+    ensures moment { result ≡ expiry_of now level lead spread delay word }
     ensures later { now ≤ result }
     ensures bounded { result < 2 ^ 49 }
 {
