@@ -20,3 +20,5 @@ pub mod KnownThings
 pub mod MapEdits
 pub mod HeardCalls
 pub mod StoppedTimers
+pub mod Searching
+pub mod NothingNew

@@ -17,11 +17,11 @@ mod arrivals;
 mod giving_up;
 mod hearing;
 mod knowing;
+mod missing;
 mod notices;
 mod sessions;
 mod taking_in;
 mod ticks;
-mod wants;
 
 use crate::keep_fault::KeepFault;
 use std::alloc::Global;

@@ -1,7 +1,7 @@
 -- The names of the alarms: just those with a timer, ascending.
 use Rattle.std.proofs.Common.{◌≡◌, ℕ, ◌<◌, ◌≤◌, Bool, true, false, cond, List, [], ◌∷◌, ◌++◌, length, refl, ap, ◌∙◌, sym, Option, Some, None, arith, true≢false}
-use Rattle.std.specs.Prelude.{◌&&◌, nat_le, not, Contains, filter, is_some}
-use Rattle.std.specs.BTreeMap.{BTreeMap, IsOrdered, get, keys}
+use Rattle.std.specs.Prelude.{◌&&◌, nat_le, not, filter, is_some}
+use Rattle.std.specs.BTreeMap.{IsOrdered, keys}
 use Rattle.std.specs.List.{All, filter_map, cons_option}
 use Rattle.std.specs.Map.{keys_of, values_of}
 use Rattle.std.proofs.lemmas.Bool.Decides.{nat_tests}

@@ -1,9 +1,8 @@
 -- The least of the moments that alarms keep.
 use Rattle.std.proofs.Common.{◌≡◌, ℕ, ◌≤◌, true, List, [], ◌∷◌, refl, ap, ◌∙◌, sym, subst, Option, Some, None, ◌⊎◌, inl, inr, ⊎_elim, arith, eqb-true}
 use Rattle.std.specs.Prelude.{min, Contains}
-use Rattle.std.specs.BTreeMap.{BTreeMap, IsOrdered, get, is_at}
-use Rattle.std.specs.List.{All}
-use Rattle.std.specs.Map.{lookup, values_of}
+use Rattle.std.specs.BTreeMap.{BTreeMap, IsOrdered, get}
+use Rattle.std.specs.Map.{values_of}
 use Rattle.std.proofs.lemmas.Bool.Decides.{nat_tests}
 use Rattle.std.proofs.lemmas.List.Elements.{All-contains}
 use Rattle.std.proofs.lemmas.Map.Views.{All-found, Contains-from_lookup}
@@ -53,9 +52,9 @@ unfolding least
 least_among first [] = inl refl
 least_among first (e ∷ es) = ⊎_elim
     (λ (g : least (min first e.1) es ≡ min first e.1). ⊎_elim
-        (λ (k : min first e.1 ≡ first). inl (g ∙ k))
-        (λ (k : min first e.1 ≡ e.1). inr (e.0, subst (λ (d : ℕ). Contains (e ∷ es) (e.0, d)) (sym (g ∙ k)) (Contains-here e es)))
-        (lesser first e.1))
+    (λ (k : min first e.1 ≡ first). inl (g ∙ k))
+    (λ (k : min first e.1 ≡ e.1). inr (e.0, subst (λ (d : ℕ). Contains (e ∷ es) (e.0, d)) (sym (g ∙ k)) (Contains-here e es)))
+    (lesser first e.1))
     (λ (g : (n : NameValue) × Contains es (n, least (min first e.1) es)). inr (g.0, Contains-there e (g.0, least (min first e.1) es) es g.1))
     (least_among (min first e.1) es)
 

@@ -16,11 +16,11 @@ ghost use Rattle.wb_recovery.specs.declared.received.Received.{Received as ARece
 ghost use Rattle.wb_recovery.specs.declared.tuning.Tuning.{Tuning as Constants};
 
 use crate::action::Action;
-use crate::received::Received;
 use crate::fault::RecoveryFault;
 use crate::firing::{actions, answer_all, ask_all, asked_after};
 use crate::limits::{DELAY_LIMIT, MOMENT_LIMIT};
 use crate::plan::Plan;
+use crate::received::Received;
 use crate::recovery::Recovery;
 use std::alloc::{AllocError, Global};
 use std::collections::BTreeSet;
@@ -132,12 +132,7 @@ impl Recovery {
         requires { (received : List AReceived) × IsPlan self.old received plan.now }
         ensures { (received : List AReceived) (words : List ℕ) → IsPlanOf self.old received words plan.now → FiresThese plan.now.moment words plan.now.asking.items plan.now.answering.items self.old self.new }
     {
-        ask_all(
-            &mut self.records,
-            &mut self.asks,
-            &plan.asking,
-            &plan.after,
-        );
+        ask_all(&mut self.records, &mut self.asks, &plan.asking, &plan.after);
         answer_all(
             &mut self.records,
             &mut self.answers,

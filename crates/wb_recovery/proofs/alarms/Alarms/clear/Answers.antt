@@ -1,4 +1,4 @@
-use Rattle.std.proofs.Common.{◌≡◌, ℕ, None, Some, arith}
+use Rattle.std.proofs.Common.{None, arith}
 use Rattle.wb_recovery.proofs.AlarmMoves.{keep_written}
 use Rattle.wb_recovery.proofs.alarms.Alarms.clear.Goals as goal
 

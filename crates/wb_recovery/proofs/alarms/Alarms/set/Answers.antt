@@ -1,4 +1,4 @@
-use Rattle.std.proofs.Common.{◌≡◌, ℕ, Some, refl, arith}
+use Rattle.std.proofs.Common.{◌≡◌, Some, refl, arith}
 use Rattle.wb_recovery.proofs.Outcomes.{even_on_err}
 use Rattle.wb_recovery.proofs.AlarmMoves.{keep_written, keep_unchanged}
 use Rattle.wb_recovery.proofs.alarms.Alarms.set.Goals as goal

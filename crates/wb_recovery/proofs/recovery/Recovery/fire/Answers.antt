@@ -8,7 +8,7 @@ use Rattle.wb_recovery.specs.Timing.{is_ask_due, is_answer_due, AreDelays}
 use Rattle.wb_recovery.specs.Values.{RecoveryValue, timers_at, timers_in}
 use Rattle.wb_recovery.specs.Alarms.{among}
 use Rattle.wb_recovery.specs.Firing.{with_ask_fired}
-use Rattle.wb_recovery.specs.Stopping.{is_received, with_asks_fired, with_these_fired, IsPlanOf}
+use Rattle.wb_recovery.specs.Stopping.{is_received, with_these_fired, IsPlanOf}
 use Rattle.wb_recovery.proofs.FiredTimers.{due_request_stands}
 use Rattle.wb_recovery.proofs.FiredThese.{answer_as_before, answers_kept, these_fired, asks_kept, fired_delays}
 use Rattle.wb_recovery.proofs.recovery.Recovery.fire.Goals as goal
