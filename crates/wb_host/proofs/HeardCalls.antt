@@ -32,7 +32,7 @@ use Rattle.wb_host.specs.Keeper.{KeeperCall, Hear, newest, is_own, high_in, high
 use Rattle.wb_host.specs.Hearing.{marks_in, marks_told, marks_heard}
 use Rattle.wb_host.specs.Keeping.{KeeperValue, StandsFor, Keeps, delay_at, heard_at, marks_at}
 use Rattle.wb_host.specs.declared.keeper.Heard.{Heard}
-use Rattle.wb_host.specs.TakingIn.{count_with, delays_with, has_place, heard_with}
+use Rattle.wb_host.specs.TakingIn.{count_with, delays_with, has_place, heard_with, marks_with, IsMerged}
 use Rattle.wb_host.proofs.KeptCalls.{max_none}
 use Rattle.wb_host.proofs.MapEdits.{lookup_put, nat_one, nat_here}
 
@@ -68,10 +68,10 @@ module _ (me now : ℕ) (d : Datagram) (word : ℕ) (held : Bool) where
 -- such a call changes the timers and the moment alone
 keeps_silent : (old new : KeeperValue) (now : ℕ) (d : Datagram) (word : ℕ) (held : Bool) (recovery : RecoveryValue) → IsSilent old.me (Hear now d word held) → new ≡ record old { moment = now; recovery = recovery }
     → ((t : Tuning) (calls : List KeeperCall) → StandsFor old.me t calls old → timers.StandsFor t (asked_by old.me (delay_to old.me calls) now d word held (events_of old.me calls)) recovery) → Keeps (Hear now d word held) old new
-keeps_silent old new now d word held recovery silent is timed = keeps_own (Hear now d word held) old new (λ t calls s. subst (StandsFor old.me t (Hear now d word held ∷ calls)) (sym is) (record {
+keeps_silent old new now d word held recovery silent is stands = keeps_own (Hear now d word held) old new (λ t calls s. subst (StandsFor old.me t (Hear now d word held ∷ calls)) (sym is) (record {
   me_is = refl;
   moment = refl;
-  timed = timed t calls s;
+  recovery = stands t calls s;
   delays = λ source. s.delays source ∙ sym (ap (λ (o : Option ℕ). unwrap_or (option_or o (newest (delay_told old.me source) calls)) 100000) (silent.delays source));
   heard = λ source. s.heard source ∙ sym (
       ap (λ o. cond (list_any (nat_eq source) (remember o (senders_of old.me calls))) (option_or (told_by source o) (newest (λ c. told_by source (session_told old.me c)) calls)) None) silent.sessions);
@@ -90,13 +90,13 @@ own_events me delays now (PageState sender page marks) word held events e = refl
 -- what this member sent itself
 pub keeps_own_datagram : (old new : KeeperValue) (now : ℕ) (d : Datagram) (word : ℕ) (held : Bool) → is_own old.me d ≡ true → new ≡ record old { moment = now } → Keeps (Hear now d word held) old new
 keeps_own_datagram old new now d word held e is = keeps_silent old new now d word held old.recovery (own_silent old.me now d word held e) is
-    (λ t calls s. subst (λ (events : List Event). timers.StandsFor t events old.recovery) (own_events old.me (delay_to old.me calls) now d word held (events_of old.me calls) e) s.timed)
+    (λ t calls s. subst (λ (events : List Event). timers.StandsFor t events old.recovery) (own_events old.me (delay_to old.me calls) now d word held (events_of old.me calls) e) s.recovery)
 
 pub keeps_draw : (old new : KeeperValue) (now : ℕ) (d : DrawopValue) (word : ℕ) (held : Bool) → new ≡ record old { moment = now } → Keeps (Hear now (Draw d) word held) old new
-keeps_draw old new now d word held is = keeps_silent old new now (Draw d) word held old.recovery (record { delays = λ source. refl; sessions = refl; marks = λ page source. refl; merged = λ page. refl }) is (λ t calls s. s.timed)
+keeps_draw old new now d word held is = keeps_silent old new now (Draw d) word held old.recovery (record { delays = λ source. refl; sessions = refl; marks = λ page source. refl; merged = λ page. refl }) is (λ t calls s. s.recovery)
 
 pub keeps_ask_pages : (old new : KeeperValue) (now asker word : ℕ) (held : Bool) → nat_eq asker old.me ≡ false → new ≡ record old { moment = now } → Keeps (Hear now (AskPages asker) word held) old new
-keeps_ask_pages old new now asker word held e is = keeps_silent old new now (AskPages asker) word held old.recovery (other_silent old.me now (AskPages asker) word held e (λ source. refl) refl (λ page source. refl) (λ page. refl)) is (λ t calls s. s.timed)
+keeps_ask_pages old new now asker word held e is = keeps_silent old new now (AskPages asker) word held old.recovery (other_silent old.me now (AskPages asker) word held e (λ source. refl) refl (λ page source. refl) (λ page. refl)) is (λ t calls s. s.recovery)
 
 -- a request is told to the timers
 pub keeps_request : (old new : KeeperValue) (now asker : ℕ) (name : NameValue) (word : ℕ) (held : Bool) (recovery : RecoveryValue) (delay : ℕ) → nat_eq asker old.me ≡ false → new ≡ record old { moment = now; recovery = recovery }
@@ -105,7 +105,7 @@ keeps_request old new now asker name word held recovery delay e is near accepts 
     (other_silent old.me now (Request asker name) word held e (λ source. refl) refl (λ page source. refl) (λ page. refl)) is
     (λ t calls s. subst (λ (events : List Event). timers.StandsFor t events recovery)
     (ap (λ (n : ℕ). Asked name held now n word ∷ events_of old.me calls) (near ∙ s.delays (cond held asker name.source)) ∙ sym (ap (λ (b : Bool). cond b (events_of old.me calls) (Asked name held now (delay_to old.me calls (cond held asker name.source)) word ∷ events_of old.me calls)) e))
-    (accepts t (events_of old.me calls) s.timed))
+    (accepts t (events_of old.me calls) s.recovery))
 
 -- ---- marks
 
@@ -125,8 +125,12 @@ page_turned p q = sym (page_ties p q) ∙ turned p q where
   turned p q = grind (arith, nat_tests)
 
 -- of each page, what is kept once the merged marks are put at theirs
-marks_put : (old : List (PageId × List MarkValue)) (page : PageId) (merged : List MarkValue) (p : PageId) → marks_at (insert_entry page_cmp old page merged) p ≡ cond (same_page page p) merged (marks_at old p)
-marks_put old page merged p = ap (λ (o : Option (List MarkValue)). unwrap_or o []) (lookup_put page_cmp page_one page_here page merged p old ∙ ap (λ (b : Bool). cond b (Some merged) (lookup (is_at (page_cmp p)) old)) (page_turned p page)) ∙ from (same_page page p) where
+marks_put : (old : List (PageId × List MarkValue)) (page : PageId) (merged : Option (List MarkValue)) (p : PageId) → marks_at (marks_with page merged old) p ≡ cond (same_page page p) (unwrap_or merged (marks_at old page)) (marks_at old p)
+marks_put old page None p = from (same_page page p) refl where
+  from : (b : Bool) → same_page page p ≡ b → marks_at old p ≡ cond b (marks_at old page) (marks_at old p)
+  from true e = ap (marks_at old) (sym (same_page-is page p e))
+  from false e = refl
+marks_put old page (Some merged) p = ap (λ (o : Option (List MarkValue)). unwrap_or o []) (lookup_put page_cmp page_one page_here page merged p old ∙ ap (λ (b : Bool). cond b (Some merged) (lookup (is_at (page_cmp p)) old)) (page_turned p page)) ∙ from (same_page page p) where
   from : (b : Bool) → unwrap_or (cond b (Some merged) (lookup (is_at (page_cmp p)) old)) [] ≡ cond b merged (marks_at old p)
   from true = refl
   from false = refl
@@ -156,44 +160,44 @@ joined_positive [] ns pm pn = pn
 joined_positive (m ∷ ms) ns pm pn = at_positive m ms pm (λ ns pn. joined_positive ms ns (All-tail (λ (x : MarkValue). 1 ≤ x.high) m ms pm) pn) ns pn
 
 -- the marks are told for one page
-module _ (old : List (PageId × List MarkValue)) (page : PageId) (marks merged : List MarkValue) (of_heard : AreMarks (marks_at old page)) (of_told : AreMarks marks) (merges : IsMerge (marks_at old page) marks merged) where
-  pub marks_of_put : (p : PageId) (source : ℕ) → mark_of (marks_at (insert_entry page_cmp old page merged) p) source ≡ max (cond (same_page page p) (mark_of marks source) 0) (mark_of (marks_at old p) source)
+module _ (old : List (PageId × List MarkValue)) (page : PageId) (marks : List MarkValue) (merged : Option (List MarkValue)) (is : IsMerged (marks_at old page) marks merged) where
+  pub marks_of_put : (p : PageId) (source : ℕ) → mark_of (marks_at (marks_with page merged old) p) source ≡ max (cond (same_page page p) (mark_of marks source) 0) (mark_of (marks_at old p) source)
   marks_of_put p source = ap (λ (ms : List MarkValue). mark_of ms source) (marks_put old page merged p) ∙ from (same_page page p) refl where
-    from : (b : Bool) → same_page page p ≡ b → mark_of (cond b merged (marks_at old p)) source ≡ max (cond b (mark_of marks source) 0) (mark_of (marks_at old p) source)
-    from true e = let m = merges.1 source in let is : mark_of (marks_at old page) source ≡ mark_of (marks_at old p) source = ap (λ (q : PageId). mark_of (marks_at old q) source) (same_page-is page p e) in omega arith
+    from : (b : Bool) → same_page page p ≡ b → mark_of (cond b (unwrap_or merged (marks_at old page)) (marks_at old p)) source ≡ max (cond b (mark_of marks source) 0) (mark_of (marks_at old p) source)
+    from true e = let m = is.merges.1 source in let same : mark_of (marks_at old page) source ≡ mark_of (marks_at old p) source = ap (λ (q : PageId). mark_of (marks_at old q) source) (same_page-is page p e) in omega arith
     from false e = sym (max_none _)
 
   lawful : AreMarks (joined marks (marks_at old page))
   lawful =
-      let count = joined_count marks (marks_at old page) of_told of_heard in
-      let turned : IsMerge marks (marks_at old page) merged = (merges.0, λ s. let m = merges.1 s in omega arith) in
-      let all = merges_all_sources marks (marks_at old page) merged of_told of_heard turned in
-      let few = merges.0.few in
+      let count = joined_count marks (marks_at old page) is.told_are is.heard_are in
+      let turned : IsMerge marks (marks_at old page) (unwrap_or merged (marks_at old page)) = (is.merges.0, λ s. let m = is.merges.1 s in omega arith) in
+      let all = merges_all_sources marks (marks_at old page) (unwrap_or merged (marks_at old page)) is.told_are is.heard_are turned in
+      let few = is.merges.0.few in
       record {
-        ascending = (joins_read marks (marks_at old page) marks (marks_at old page) (joined marks (marks_at old page)) refl refl of_told of_heard refl).rises;
-        positive = joined_positive marks (marks_at old page) of_told.positive of_heard.positive;
+        ascending = (joins_read marks (marks_at old page) marks (marks_at old page) (joined marks (marks_at old page)) refl refl is.told_are is.heard_are refl).rises;
+        positive = joined_positive marks (marks_at old page) is.told_are.positive is.heard_are.positive;
         few = omega (arith, count.0);
       }
 
-  pub merged_put : (p : PageId) → marks_at (insert_entry page_cmp old page merged) p ≡ joined (cond (same_page page p) marks []) (marks_at old p)
+  pub merged_put : (p : PageId) → marks_at (marks_with page merged old) p ≡ joined (cond (same_page page p) marks []) (marks_at old p)
   merged_put p = marks_put old page merged p ∙ from (same_page page p) refl where
-    from : (b : Bool) → same_page page p ≡ b → cond b merged (marks_at old p) ≡ joined (cond b marks []) (marks_at old p)
-    from true e = one_merge (marks_at old page) marks merged (joined marks (marks_at old page)) merges (is_merge marks (marks_at old page) marks (marks_at old page) (joined marks (marks_at old page)) (joined marks (marks_at old page)) refl refl of_told of_heard refl refl lawful)
+    from : (b : Bool) → same_page page p ≡ b → cond b (unwrap_or merged (marks_at old page)) (marks_at old p) ≡ joined (cond b marks []) (marks_at old p)
+    from true e = one_merge (marks_at old page) marks (unwrap_or merged (marks_at old page)) (joined marks (marks_at old page)) is.merges (is_merge marks (marks_at old page) marks (marks_at old page) (joined marks (marks_at old page)) (joined marks (marks_at old page)) refl refl is.told_are is.heard_are refl refl lawful)
         ∙ ap (λ (q : PageId). joined marks (marks_at old q)) (same_page-is page p e)
     from false e = refl
 
 -- a page state tells marks alone
-pub keeps_state : (old new : KeeperValue) (now sender : ℕ) (page : PageId) (marks merged : List MarkValue) (word : ℕ) (held : Bool) → nat_eq sender old.me ≡ false → new ≡ record old { moment = now; marks = insert_entry page_cmp old.marks page merged }
-    → AreMarks (marks_at old.marks page) → AreMarks marks → IsMerge (marks_at old.marks page) marks merged → Keeps (Hear now (PageState sender page marks) word held) old new
-keeps_state old new now sender page marks merged word held e is of_heard of_told merges = keeps_own (Hear now (PageState sender page marks) word held) old new (λ t calls s. subst (StandsFor old.me t (Hear now (PageState sender page marks) word held ∷ calls)) (sym is) (record {
+pub keeps_state : (old new : KeeperValue) (now sender : ℕ) (page : PageId) (marks : List MarkValue) (merged : Option (List MarkValue)) (word : ℕ) (held : Bool) → nat_eq sender old.me ≡ false → new ≡ record old { moment = now; marks = marks_with page merged old.marks }
+    → IsMerged (marks_at old.marks page) marks merged → Keeps (Hear now (PageState sender page marks) word held) old new
+keeps_state old new now sender page marks merged word held e is merges = keeps_own (Hear now (PageState sender page marks) word held) old new (λ t calls s. subst (StandsFor old.me t (Hear now (PageState sender page marks) word held ∷ calls)) (sym is) (record {
   me_is = refl;
   moment = refl;
-  timed = s.timed;
+  recovery = s.recovery;
   delays = λ source. s.delays source ∙ sym (ap (λ (b : Bool). unwrap_or (option_or (cond b None None) (newest (delay_told old.me source) calls)) 100000) e);
   heard = λ source. s.heard source ∙ sym (ap (λ (b : Bool). cond (list_any (nat_eq source) (remember (cond b None None) (senders_of old.me calls))) (option_or (told_by source (cond b None None)) (newest (λ c. told_by source (session_told old.me c)) calls)) None) e);
   senders = s.senders ∙ sym (ap (λ (b : Bool). length (remember (cond b None None) (senders_of old.me calls))) e);
-  marks = λ p source. marks_of_put old.marks page marks merged of_heard of_told merges p source ∙ ap (λ (n : ℕ). max (cond (same_page page p) (mark_of marks source) 0) n) (s.marks p source) ∙ sym (ap (λ (b : Bool). max (cond b 0 (cond (same_page page p) (mark_of marks source) 0)) (high_heard old.me calls p source)) e);
-  merged = λ p. merged_put old.marks page marks merged of_heard of_told merges p ∙ ap (λ (ms : List MarkValue). joined (cond (same_page page p) marks []) ms) (s.merged p) ∙ sym (ap (λ (b : Bool). joined (cond b [] (cond (same_page page p) marks [])) (marks_heard old.me calls p)) e);
+  marks = λ p source. marks_of_put old.marks page marks merged merges p source ∙ ap (λ (n : ℕ). max (cond (same_page page p) (mark_of marks source) 0) n) (s.marks p source) ∙ sym (ap (λ (b : Bool). max (cond b 0 (cond (same_page page p) (mark_of marks source) 0)) (high_heard old.me calls p source)) e);
+  merged = λ p. merged_put old.marks page marks merged merges p ∙ ap (λ (ms : List MarkValue). joined (cond (same_page page p) marks []) ms) (s.merged p) ∙ sym (ap (λ (b : Bool). joined (cond b [] (cond (same_page page p) marks [])) (marks_heard old.me calls p)) e);
 }))
 
 -- ---- the senders of session messages
@@ -271,15 +275,15 @@ delay_put old sender (Some d) rest source same = ap (λ (o : Option ℕ). unwrap
   from false = same
 
 -- a session message
-pub keeps_session : (old new : KeeperValue) (now sender sent : ℕ) (page : PageId) (marks merged : List MarkValue) (echoes : List Echo) (delay : Option ℕ) (word : ℕ) (held : Bool) → nat_eq sender old.me ≡ false
+pub keeps_session : (old new : KeeperValue) (now sender sent : ℕ) (page : PageId) (marks : List MarkValue) (merged : Option (List MarkValue)) (echoes : List Echo) (delay : Option ℕ) (word : ℕ) (held : Bool) → nat_eq sender old.me ≡ false
     → delay ≡ distance_by now (find (λ e. nat_eq e.source old.me) echoes)
-    → new ≡ record old { moment = now; delays = delays_with sender delay old.delays; heard = heard_with sender (record { sent = sent; at = now }) old.heard; marks = insert_entry page_cmp old.marks page merged }
+    → new ≡ record old { moment = now; delays = delays_with sender delay old.delays; heard = heard_with sender (record { sent = sent; at = now }) old.heard; marks = marks_with page merged old.marks }
     → length new.heard ≡ count_with sender old.heard
-    → AreMarks (marks_at old.marks page) → AreMarks marks → IsMerge (marks_at old.marks page) marks merged → Keeps (Hear now (Session sender sent page marks echoes) word held) old new
-keeps_session old new now sender sent page marks merged echoes delay word held e told is counted of_heard of_told merges = keeps_own (Hear now (Session sender sent page marks echoes) word held) old new (λ t calls s. subst (StandsFor old.me t (Hear now (Session sender sent page marks echoes) word held ∷ calls)) (sym is) (record {
+    → IsMerged (marks_at old.marks page) marks merged → Keeps (Hear now (Session sender sent page marks echoes) word held) old new
+keeps_session old new now sender sent page marks merged echoes delay word held e told is counted merges = keeps_own (Hear now (Session sender sent page marks echoes) word held) old new (λ t calls s. subst (StandsFor old.me t (Hear now (Session sender sent page marks echoes) word held ∷ calls)) (sym is) (record {
   me_is = refl;
   moment = refl;
-  timed = s.timed;
+  recovery = s.recovery;
   delays = λ source. delay_put old.delays sender delay (newest (delay_told old.me source) calls) source (s.delays source)
       ∙ ap (λ (o : Option ℕ). unwrap_or (option_or (cond (nat_eq sender source) o None) (newest (delay_told old.me source) calls)) 100000) told
       ∙ sym (ap (λ (b : Bool). unwrap_or (option_or (cond b None (cond (nat_eq sender source) (distance_by now (find (λ e. nat_eq e.source old.me) echoes)) None)) (newest (delay_told old.me source) calls)) 100000) e);
@@ -287,6 +291,6 @@ keeps_session old new now sender sent page marks merged echoes delay word held e
       ∙ sym (ap (λ (b : Bool). cond (list_any (nat_eq source) (remember (cond b None (Some (sender, record { sent = sent; at = now }))) (senders_of old.me calls))) (option_or (told_by source (cond b None (Some (sender, record { sent = sent; at = now })))) (told_last old.me calls source)) None) e);
   senders = sym (ap (λ (v : KeeperValue). length v.heard) is) ∙ counted ∙ count_put old.me calls old.heard sender (record { sent = sent; at = now }) s.heard s.senders
       ∙ sym (ap (λ (b : Bool). length (remember (cond b None (Some (sender, record { sent = sent; at = now }))) (senders_of old.me calls))) e);
-  marks = λ p source. marks_of_put old.marks page marks merged of_heard of_told merges p source ∙ ap (λ (n : ℕ). max (cond (same_page page p) (mark_of marks source) 0) n) (s.marks p source) ∙ sym (ap (λ (b : Bool). max (cond b 0 (cond (same_page page p) (mark_of marks source) 0)) (high_heard old.me calls p source)) e);
-  merged = λ p. merged_put old.marks page marks merged of_heard of_told merges p ∙ ap (λ (ms : List MarkValue). joined (cond (same_page page p) marks []) ms) (s.merged p) ∙ sym (ap (λ (b : Bool). joined (cond b [] (cond (same_page page p) marks [])) (marks_heard old.me calls p)) e);
+  marks = λ p source. marks_of_put old.marks page marks merged merges p source ∙ ap (λ (n : ℕ). max (cond (same_page page p) (mark_of marks source) 0) n) (s.marks p source) ∙ sym (ap (λ (b : Bool). max (cond b 0 (cond (same_page page p) (mark_of marks source) 0)) (high_heard old.me calls p source)) e);
+  merged = λ p. merged_put old.marks page marks merged merges p ∙ ap (λ (ms : List MarkValue). joined (cond (same_page page p) marks []) ms) (s.merged p) ∙ sym (ap (λ (b : Bool). joined (cond b [] (cond (same_page page p) marks [])) (marks_heard old.me calls p)) e);
 }))

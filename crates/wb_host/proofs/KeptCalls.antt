@@ -13,17 +13,16 @@ use Rattle.wb_names.specs.History.{HoldsName}
 use Rattle.wb_names.specs.declared.name.PageId.{PageId}
 use Rattle.std.proofs.Math.Seq.{take-suc}
 use Rattle.wb_names.proofs.Listings.{Contains-cases, Contains-none}
-use Rattle.wb_recovery.proofs.AlarmOrder.{name_ties}
-use Rattle.wb_recovery.proofs.AlarmNames.{name_decides}
+use Rattle.wb_recovery.proofs.NameOrder.{name_ties, name_decides}
 use Rattle.wb_names.proofs.Orders.{nat_ties, same_name-is}
 use Rattle.wb_recovery.specs.Values.{RecoveryValue}
 use Rattle.wb_recovery.specs.Events.{Event, Got}
 use Rattle.wb_recovery.specs.Standing as timers
-use Rattle.wb_recovery.specs.Stopping.{gots}
+use Rattle.wb_recovery.specs.Stopping.{receipts}
 use Rattle.wb_recovery.specs.declared.tuning.Tuning.{Tuning}
-use Rattle.wb_recovery.specs.declared.come.Come.{Come}
+use Rattle.wb_recovery.specs.declared.received.Received.{Received}
 use Rattle.wb_recovery.specs.declared.missed.Missed.{Missed}
-use Rattle.wb_host.specs.Keeper.{KeeperCall, SetDelay, newest, moment_at, high_told, high_heard, delay_told, delay_to, session_told, senders_of, remember, told_by, last_heard, come_of, missed_of, events_of, holds}
+use Rattle.wb_host.specs.Keeper.{KeeperCall, SetDelay, newest, moment_at, high_told, high_heard, delay_told, delay_to, session_told, senders_of, remember, told_by, last_heard, received_of, missed_of, events_of, holds}
 use Rattle.wb_host.specs.Hearing.{marks_told, marks_heard}
 use Rattle.wb_host.specs.Keeping.{KeeperValue, StandsFor, Keeps, delay_at}
 
@@ -59,10 +58,10 @@ module _ (call : KeeperCall) (is : IsInward call) (me : ℕ) (calls : List Keepe
 -- such a call changes the timers and the moment alone
 pub keeps_inward : (call : KeeperCall) → IsInward call → (old new : KeeperValue) (recovery : RecoveryValue) (now : ℕ) → new ≡ record old { moment = now; recovery = recovery } → ((calls : List KeeperCall) → moment_at (call ∷ calls) ≡ now)
     → ((me : ℕ) (t : Tuning) (calls : List KeeperCall) → StandsFor me t calls old → timers.StandsFor t (events_of me (call ∷ calls)) recovery) → Keeps call old new
-keeps_inward call inward old new recovery now is moment timed me t calls s = subst (StandsFor me t (call ∷ calls)) (sym is) (record {
+keeps_inward call inward old new recovery now is moment stands me t calls s = subst (StandsFor me t (call ∷ calls)) (sym is) (record {
   me_is = s.me_is;
   moment = sym (moment calls);
-  timed = timed me t calls s;
+  recovery = stands me t calls s;
   delays = λ source. s.delays source ∙ sym (same_delay call inward me calls source);
   heard = λ source. s.heard source ∙ sym (same_heard call inward me calls source);
   senders = s.senders ∙ ap length (sym (same_senders call inward me calls));
@@ -75,7 +74,7 @@ pub keeps_delay : (source micros : ℕ) (old new : KeeperValue) (delays : List (
 keeps_delay source micros old new delays is r me t calls s = subst (StandsFor me t (SetDelay source micros ∷ calls)) (sym is) (record {
   me_is = s.me_is;
   moment = s.moment;
-  timed = s.timed;
+  recovery = s.recovery;
   delays = λ q. ap (λ (o : Option ℕ). unwrap_or o 100000) (r q ∙ ap (λ (b : Bool). cond b (Some micros) (lookup (is_at (nat_cmp q)) old.delays)) (sym (nat_ties source q))) ∙ from q (nat_eq source q);
   heard = s.heard;
   senders = s.senders;
@@ -118,9 +117,9 @@ found_by None P Q b m f g = sym (f m)
 found_by (Some x) P Q b m f g = sym (g x m)
 
 -- the delays are the same function
-pub same_come : (f g : ℕ → ℕ) → ((source : ℕ) → f source ≡ g source) → (names : List NameValue) → come_of f names ≡ come_of g names
-same_come f g same [] = refl
-same_come f g same (n ∷ names) = ap (λ (d : ℕ). record { name = n; delay = d } ∷ come_of f names) (same n.source) ∙ ap (λ (cs : List Come). record { name = n; delay = g n.source } ∷ cs) (same_come f g same names)
+pub same_received : (f g : ℕ → ℕ) → ((source : ℕ) → f source ≡ g source) → (names : List NameValue) → received_of f names ≡ received_of g names
+same_received f g same [] = refl
+same_received f g same (n ∷ names) = ap (λ (d : ℕ). record { name = n; delay = d } ∷ received_of f names) (same n.source) ∙ ap (λ (cs : List Received). record { name = n; delay = g n.source } ∷ cs) (same_received f g same names)
 
 pub same_missed : (f g : ℕ → ℕ) → ((source : ℕ) → f source ≡ g source) → (names : List NameValue) (words : List ℕ) → missed_of f names words ≡ missed_of g names words
 same_missed f g same names words = from (zip names words) where
@@ -129,13 +128,13 @@ same_missed f g same names words = from (zip names words) where
   from (p ∷ pairs) = ap (λ (d : ℕ). let m : Missed = record { name = p.0; delay = d; word = p.1 } in m ∷ map (λ (p : NameValue × ℕ). let m : Missed = record { name = p.0; delay = f p.0.source; word = p.1 } in m) pairs) (same p.0.source) ∙ ap (λ (ms : List Missed). let m : Missed = record { name = p.0; delay = g p.0.source; word = p.1 } in m ∷ ms) (from pairs)
 
 -- one more name that has come
-gots_two : (now : ℕ) (events : List Event) (cs : List Come) (c : Come) → gots now events (cs ++ c ∷ []) ≡ Got c.name now c.delay ∷ gots now events cs
-gots_two now events [] c = refl
-gots_two now events (d ∷ cs) c = gots_two now (Got d.name now d.delay ∷ events) cs c
+receipts_two : (now : ℕ) (events : List Event) (cs : List Received) (c : Received) → receipts now events (cs ++ c ∷ []) ≡ Got c.name now c.delay ∷ receipts now events cs
+receipts_two now events [] c = refl
+receipts_two now events (d ∷ cs) c = receipts_two now (Got d.name now d.delay ∷ events) cs c
 
-come_two : (delays : ℕ → ℕ) (names : List NameValue) (n : NameValue) → come_of delays (names ++ n ∷ []) ≡ come_of delays names ++ (record { name = n; delay = delays n.source }) ∷ []
-come_two delays [] n = refl
-come_two delays (m ∷ names) n = ap (λ (cs : List Come). record { name = m; delay = delays m.source } ∷ cs) (come_two delays names n)
+received_two : (delays : ℕ → ℕ) (names : List NameValue) (n : NameValue) → received_of delays (names ++ n ∷ []) ≡ received_of delays names ++ (record { name = n; delay = delays n.source }) ∷ []
+received_two delays [] n = refl
+received_two delays (m ∷ names) n = ap (λ (cs : List Received). record { name = m; delay = delays m.source } ∷ cs) (received_two delays names n)
 
 filter_two : (p : NameValue → Bool) (names : List NameValue) (n : NameValue) → filter p (names ++ n ∷ []) ≡ filter p names ++ cond (p n) (n ∷ []) []
 filter_two p [] n = refl
@@ -147,21 +146,21 @@ filter_two p (m ∷ names) n = ap (λ (ms : List NameValue). cond (p m) (m ∷ m
 take_two : (names : List NameValue) (i : ℕ) (n : NameValue) → i < length names → n ≡ get_or names i n → take (i + 1) names ≡ take i names ++ n ∷ []
 take_two names i n lt is = rw (add-one, take-suc names i n lt) (ap (λ (m : NameValue). take i names ++ m ∷ []) (sym is))
 
-pub come_more : (now : ℕ) (events : List Event) (delays : ℕ → ℕ) (p : NameValue → Bool) (names : List NameValue) (i : ℕ) (n : NameValue) → i < length names → n ≡ get_or names i n → p n ≡ true → gots now events (come_of delays (filter p (take (i + 1) names))) ≡ Got n now (delays n.source) ∷ gots now events (come_of delays (filter p (take i names)))
-come_more now events delays p names i n lt is h =
-    ap (λ (ms : List NameValue). gots now events (come_of delays ms)) (ap (filter p) (take_two names i n lt is) ∙ filter_two p (take i names) n ∙ ap (λ (b : Bool). filter p (take i names) ++ cond b (n ∷ []) []) h)
-    ∙ ap (gots now events) (come_two delays (filter p (take i names)) n)
-    ∙ gots_two now events (come_of delays (filter p (take i names))) (record { name = n; delay = delays n.source })
+pub received_more : (now : ℕ) (events : List Event) (delays : ℕ → ℕ) (p : NameValue → Bool) (names : List NameValue) (i : ℕ) (n : NameValue) → i < length names → n ≡ get_or names i n → p n ≡ true → receipts now events (received_of delays (filter p (take (i + 1) names))) ≡ Got n now (delays n.source) ∷ receipts now events (received_of delays (filter p (take i names)))
+received_more now events delays p names i n lt is h =
+    ap (λ (ms : List NameValue). receipts now events (received_of delays ms)) (ap (filter p) (take_two names i n lt is) ∙ filter_two p (take i names) n ∙ ap (λ (b : Bool). filter p (take i names) ++ cond b (n ∷ []) []) h)
+    ∙ ap (receipts now events) (received_two delays (filter p (take i names)) n)
+    ∙ receipts_two now events (received_of delays (filter p (take i names))) (record { name = n; delay = delays n.source })
 
-pub come_same : (p : NameValue → Bool) (names : List NameValue) (i : ℕ) (n : NameValue) → i < length names → n ≡ get_or names i n → p n ≡ false → filter p (take (i + 1) names) ≡ filter p (take i names)
-come_same p names i n lt is h = ap (filter p) (take_two names i n lt is) ∙ filter_two p (take i names) n ∙ ap (λ (b : Bool). filter p (take i names) ++ cond b (n ∷ []) []) h ∙ append-nil _
+pub received_same : (p : NameValue → Bool) (names : List NameValue) (i : ℕ) (n : NameValue) → i < length names → n ≡ get_or names i n → p n ≡ false → filter p (take (i + 1) names) ≡ filter p (take i names)
+received_same p names i n lt is h = ap (filter p) (take_two names i n lt is) ∙ filter_two p (take i names) n ∙ ap (λ (b : Bool). filter p (take i names) ++ cond b (n ∷ []) []) h ∙ append-nil _
 
 -- one more name, which is held, was taken in
-pub come_step : (old now new : KeeperValue) (p : NameValue → Bool) (names : List NameValue) (i : ℕ) (n : NameValue) → i < length names → n ≡ get_or names i n → p n ≡ true
+pub received_step : (old now new : KeeperValue) (p : NameValue → Bool) (names : List NameValue) (i : ℕ) (n : NameValue) → i < length names → n ≡ get_or names i n → p n ≡ true
     → now ≡ record old { recovery = now.recovery } → new ≡ record now { recovery = new.recovery }
     → timers.Accepts (Got n now.moment (delay_at now.delays n.source)) now.recovery new.recovery
-    → ((t : Tuning) (events : List Event) → timers.StandsFor t events old.recovery → timers.StandsFor t (gots old.moment events (come_of (delay_at old.delays) (filter p (take i names)))) now.recovery)
-    → (t : Tuning) (events : List Event) → timers.StandsFor t events old.recovery → timers.StandsFor t (gots old.moment events (come_of (delay_at old.delays) (filter p (take (i + 1) names)))) new.recovery
-come_step old now new p names i n lt is h rest rest' accepts came t events s =
-    subst (λ (after : List Event). timers.StandsFor t after new.recovery) (sym (come_more old.moment events (delay_at old.delays) p names i n lt is h))
-    (subst (λ (v : KeeperValue). timers.StandsFor t (Got n v.moment (delay_at v.delays n.source) ∷ gots old.moment events (come_of (delay_at old.delays) (filter p (take i names)))) new.recovery) rest (accepts t _ (came t events s)))
+    → ((t : Tuning) (events : List Event) → timers.StandsFor t events old.recovery → timers.StandsFor t (receipts old.moment events (received_of (delay_at old.delays) (filter p (take i names)))) now.recovery)
+    → (t : Tuning) (events : List Event) → timers.StandsFor t events old.recovery → timers.StandsFor t (receipts old.moment events (received_of (delay_at old.delays) (filter p (take (i + 1) names)))) new.recovery
+received_step old now new p names i n lt is h rest rest' accepts came t events s =
+    subst (λ (after : List Event). timers.StandsFor t after new.recovery) (sym (received_more old.moment events (delay_at old.delays) p names i n lt is h))
+    (subst (λ (v : KeeperValue). timers.StandsFor t (Got n v.moment (delay_at v.delays n.source) ∷ receipts old.moment events (received_of (delay_at old.delays) (filter p (take i names)))) new.recovery) rest (accepts t _ (came t events s)))

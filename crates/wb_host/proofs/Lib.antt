@@ -19,3 +19,6 @@ pub mod NextDues
 pub mod KnownThings
 pub mod MapEdits
 pub mod HeardCalls
+pub mod StoppedTimers
+pub mod Searching
+pub mod NothingNew

@@ -16,18 +16,18 @@ use Rattle.wb_codec.specs.declared.datagram.Datagram.{Datagram}
 use Rattle.wb_codec.specs.declared.datagram.Datagram.TheVariants.{Draw, Request}
 use Rattle.wb_recovery.specs.Timing.{no_timers, is_ask_due, is_answer_due}
 use Rattle.wb_recovery.specs.Events.{Event, names_of, timers_of, asking, due_asks, due_answers, actions_of}
-use Rattle.wb_recovery.specs.Stopping.{gots, has_come}
+use Rattle.wb_recovery.specs.Stopping.{receipts, is_received}
 use Rattle.wb_recovery.specs.Values.{RecoveryValue, timers_in, names_in}
 use Rattle.wb_recovery.specs.declared.action.Action.{Action}
 use Rattle.wb_recovery.specs.declared.action.Action.TheVariants.{Ask, Answer}
-use Rattle.wb_recovery.specs.declared.come.Come.{Come}
+use Rattle.wb_recovery.specs.declared.received.Received.{Received}
 use Rattle.wb_recovery.specs.declared.timers.AskTimer.{AskTimer}
 use Rattle.wb_recovery.specs.declared.timers.Timers.{Timers}
 use Rattle.wb_recovery.specs.declared.tuning.Tuning.{Tuning}
-use Rattle.wb_recovery.proofs.AlarmNames.{name_decides}
+use Rattle.wb_recovery.proofs.NameOrder.{name_decides}
 use Rattle.wb_recovery.proofs.NameLists.{listed_of}
 use Rattle.wb_recovery.proofs.StoppedNames.{passes_after, no_ask_due, no_answer_due, timers_then}
-use Rattle.wb_host.specs.Keeper.{KeeperCall, events_of, delay_to, come_of, holds}
+use Rattle.wb_host.specs.Keeper.{KeeperCall, events_of, delay_to, received_of, holds}
 use Rattle.wb_host.specs.Keeping.{KeeperValue, StandsFor}
 use Rattle.wb_host.specs.Ticks.{drawop_of, sent_for, stopped_in}
 use Rattle.wb_host.specs.KeeperLaws.{sent_at, AsksForNoneHeld, AnswersWithHeld}
@@ -80,9 +80,9 @@ mapped : (make : NameValue → Action) (names : List NameValue) (name : NameValu
 mapped make names name c = Contains-map make names (make name) (c.0, name, c.1, c.2, refl)
 
 -- ---- the names that are stopped
-come_names : (delays : ℕ → ℕ) (names : List NameValue) (n : NameValue) → has_come (come_of delays names) n ≡ list_any (λ m. same_name m n) names
-come_names delays [] n = refl
-come_names delays (m ∷ names) n = ap (λ (b : Bool). same_name m n || b) (come_names delays names n)
+received_names : (delays : ℕ → ℕ) (names : List NameValue) (n : NameValue) → is_received (received_of delays names) n ≡ list_any (λ m. same_name m n) names
+received_names delays [] n = refl
+received_names delays (m ∷ names) n = ap (λ (b : Bool). same_name m n || b) (received_names delays names n)
 
 among_from : (names : List NameValue) (n : NameValue) → Contains names n → list_any (λ m. same_name m n) names ≡ true
 among_from [] n c = absurd (Contains-none n c)
@@ -141,11 +141,11 @@ module _ (me : ℕ) (t : Tuning) (calls : List KeeperCall) (value : KeeperValue)
   abbrev events : List Event
   events = events_of me calls
 
-  abbrev come : List Come
-  come = come_of (delay_to me calls) (stopped_in history value.recovery)
+  abbrev received : List Received
+  received = received_of (delay_to me calls) (stopped_in history value.recovery)
 
   abbrev after : List Event
-  after = gots now events come
+  after = receipts now events received
 
   abbrev asks : List NameValue
   asks = due_asks (names_of after) (timers_of t after) now
@@ -153,24 +153,24 @@ module _ (me : ℕ) (t : Tuning) (calls : List KeeperCall) (value : KeeperValue)
   abbrev answers : List NameValue
   answers = due_answers (names_of after) (timers_of t after) now
 
-  come_stopped : (n : NameValue) → has_come come n ≡ stopped history value.recovery n
-  come_stopped n = come_names (delay_to me calls) (stopped_in history value.recovery) n
+  received_stopped : (n : NameValue) → is_received received n ≡ stopped history value.recovery n
+  received_stopped n = received_names (delay_to me calls) (stopped_in history value.recovery) n
 
   ask_then : (n : NameValue) → is_ask_due now (timers_of t after n).ask ≡ (not (stopped history value.recovery n) && is_ask_due now (timers_in value.recovery n).ask)
-  ask_then n = ap (λ (k : Timers). is_ask_due now k.ask) (timers_then t now come events value.recovery s.timed n)
-      ∙ passes_after (λ k. is_ask_due now k.ask) (no_ask_due now) now n (timers_in value.recovery n) come
-      ∙ ap (λ (b : Bool). not b && is_ask_due now (timers_in value.recovery n).ask) (come_stopped n)
+  ask_then n = ap (λ (k : Timers). is_ask_due now k.ask) (timers_then t now received events value.recovery s.recovery n)
+      ∙ passes_after (λ k. is_ask_due now k.ask) (no_ask_due now) now n (timers_in value.recovery n) received
+      ∙ ap (λ (b : Bool). not b && is_ask_due now (timers_in value.recovery n).ask) (received_stopped n)
 
   answer_then : (n : NameValue) → is_answer_due now (timers_of t after n).answer ≡ (not (stopped history value.recovery n) && is_answer_due now (timers_in value.recovery n).answer)
-  answer_then n = ap (λ (k : Timers). is_answer_due now k.answer) (timers_then t now come events value.recovery s.timed n)
-      ∙ passes_after (λ k. is_answer_due now k.answer) (no_answer_due now) now n (timers_in value.recovery n) come
-      ∙ ap (λ (b : Bool). not b && is_answer_due now (timers_in value.recovery n).answer) (come_stopped n)
+  answer_then n = ap (λ (k : Timers). is_answer_due now k.answer) (timers_then t now received events value.recovery s.recovery n)
+      ∙ passes_after (λ k. is_answer_due now k.answer) (no_answer_due now) now n (timers_in value.recovery n) received
+      ∙ ap (λ (b : Bool). not b && is_answer_due now (timers_in value.recovery n).answer) (received_stopped n)
 
   asks_forth : (name : NameValue) → Contains asks name → (is_ask_due now (timers_of t events name).ask ≡ true) × (holds history name ≡ false)
   asks_forth name c =
       let due = ((listed_of (λ (r : Timers). is_ask_due now r.ask) refl t after).members name).0 c in
       let both = and_both (not (stopped history value.recovery name)) (is_ask_due now (timers_in value.recovery name).ask) (sym (ask_then name) ∙ due) in (
-        ap (λ (k : Timers). is_ask_due now k.ask) (sym (s.timed.timers name)) ∙ both.1,
+        ap (λ (k : Timers). is_ask_due now k.ask) (sym (s.recovery.timers name)) ∙ both.1,
         is_false (holds history name) (λ h. true≢false (sym (held_stopped history value.recovery name h (due_stands now (timers_in value.recovery name).ask both.1)) ∙ not_true (stopped history value.recovery name) both.0)),
       )
 
@@ -178,14 +178,14 @@ module _ (me : ℕ) (t : Tuning) (calls : List KeeperCall) (value : KeeperValue)
   asks_back name due h =
       let none = is_false (stopped history value.recovery name) (λ e. true≢false (sym (stopped_held history value.recovery name e).0 ∙ h)) in
       ((listed_of (λ (r : Timers). is_ask_due now r.ask) refl t after).members name).1
-      (ask_then name ∙ both_true _ _ (ap not none) (ap (λ (k : Timers). is_ask_due now k.ask) (s.timed.timers name) ∙ due))
+      (ask_then name ∙ both_true _ _ (ap not none) (ap (λ (k : Timers). is_ask_due now k.ask) (s.recovery.timers name) ∙ due))
 
   answers_forth : (name : NameValue) → holds history name ≡ true → Contains answers name → (is_answer_due now (timers_of t events name).answer ≡ true) × (is_none (timers_of t events name).ask ≡ true)
   answers_forth name held c =
       let due = ((listed_of (λ (r : Timers). is_answer_due now r.answer) refl t after).members name).0 c in
       let both = and_both (not (stopped history value.recovery name)) (is_answer_due now (timers_in value.recovery name).answer) (sym (answer_then name) ∙ due) in (
-        ap (λ (k : Timers). is_answer_due now k.answer) (sym (s.timed.timers name)) ∙ both.1,
-        ap (λ (k : Timers). is_none k.ask) (sym (s.timed.timers name)) ∙ none_unless (timers_in value.recovery name).ask
+        ap (λ (k : Timers). is_answer_due now k.answer) (sym (s.recovery.timers name)) ∙ both.1,
+        ap (λ (k : Timers). is_none k.ask) (sym (s.recovery.timers name)) ∙ none_unless (timers_in value.recovery name).ask
             (λ a. true≢false (sym (held_stopped history value.recovery name held a) ∙ not_true (stopped history value.recovery name) both.0)),
       ) where
         none_unless : (o : Option AskTimer) → (is_some o ≡ true → ⊥) → is_none o ≡ true
@@ -194,10 +194,10 @@ module _ (me : ℕ) (t : Tuning) (calls : List KeeperCall) (value : KeeperValue)
 
   answers_back : (name : NameValue) → is_answer_due now (timers_of t events name).answer ≡ true → is_none (timers_of t events name).ask ≡ true → Contains answers name
   answers_back name due none =
-      let no_ask = ap (λ (k : Timers). is_none k.ask) (s.timed.timers name) ∙ none in
+      let no_ask = ap (λ (k : Timers). is_none k.ask) (s.recovery.timers name) ∙ none in
       let free = is_false (stopped history value.recovery name) (λ e. both_not (timers_in value.recovery name).ask (stopped_held history value.recovery name e).1 no_ask) in
       ((listed_of (λ (r : Timers). is_answer_due now r.answer) refl t after).members name).1
-      (answer_then name ∙ both_true _ _ (ap not free) (ap (λ (k : Timers). is_answer_due now k.answer) (s.timed.timers name) ∙ due)) where
+      (answer_then name ∙ both_true _ _ (ap not free) (ap (λ (k : Timers). is_answer_due now k.answer) (s.recovery.timers name) ∙ due)) where
         both_not : (o : Option AskTimer) → is_some o ≡ true → is_none o ≡ true → ⊥
         both_not None e f = true≢false (sym e)
         both_not (Some a) e f = true≢false (sym f)

@@ -12,9 +12,9 @@ use Rattle.wb_codec.specs.declared.datagram.Datagram.TheVariants.{Draw, Session,
 use Rattle.wb_recovery.specs.Distance.{distance_of}
 use Rattle.wb_recovery.specs.Events.{Event, Asked, Tick}
 use Rattle.wb_recovery.specs.Noticing.{notices}
-use Rattle.wb_recovery.specs.Stopping.{gots}
+use Rattle.wb_recovery.specs.Stopping.{receipts}
 use Rattle.wb_recovery.specs.declared.missed.Missed.{Missed}
-use Rattle.wb_recovery.specs.declared.come.Come.{Come}
+use Rattle.wb_recovery.specs.declared.received.Received.{Received}
 use Rattle.wb_host.specs.declared.keeper.Heard.{Heard}
 
 -- An accepted call, with what it found on the desk: whether a name that was asked for was held; which of the names
@@ -145,8 +145,8 @@ last_heard me calls source = if list_any (nat_eq source) (senders_of me calls) t
 -- ---- the timers
 
 -- names that come, and that are missed, with the delays to their sources
-abbrev pub come_of : (ℕ → ℕ) → List NameValue → List Come
-come_of delays names = map (λ n. record { name = n; delay = delays n.source }) names
+abbrev pub received_of : (ℕ → ℕ) → List NameValue → List Received
+received_of delays names = map (λ n. record { name = n; delay = delays n.source }) names
 
 abbrev pub missed_of : (ℕ → ℕ) → List NameValue → List ℕ → List Missed
 missed_of delays names words = map (λ p. record { name = p.0; delay = delays p.0.source; word = p.1 }) (zip names words)
@@ -161,21 +161,21 @@ asked_by me delays now (PageState sender page marks) word held events = events
 
 -- A name that is given up counts as one that has come from nearby, where it had a request timer.
 abbrev pub given_up : ℕ → NameValue → Bool → List Event → List Event
-given_up now name asked events = if asked then gots now events (come_of (λ source. 0) (name ∷ [])) else events
+given_up now name asked events = if asked then receipts now events (received_of (λ source. 0) (name ∷ [])) else events
 
 -- the calls of the timers once a call is accepted, where these are the delays and the calls before it
-abbrev pub timed : ℕ → (ℕ → ℕ) → KeeperCall → List Event → List Event
-timed me delays (Hear now datagram word held) events = asked_by me delays now datagram word held events
-timed me delays (Arrive now held) events = gots now events (come_of delays held)
-timed me delays (Miss now names words) events = notices now events (missed_of delays names words)
-timed me delays (GoOn now words stopped) events = Tick now words ∷ gots now events (come_of delays stopped)
-timed me delays (GiveUp now name asked) events = given_up now name asked events
-timed me delays call events = events
+abbrev pub timer_calls : ℕ → (ℕ → ℕ) → KeeperCall → List Event → List Event
+timer_calls me delays (Hear now datagram word held) events = asked_by me delays now datagram word held events
+timer_calls me delays (Arrive now held) events = receipts now events (received_of delays held)
+timer_calls me delays (Miss now names words) events = notices now events (missed_of delays names words)
+timer_calls me delays (GoOn now words stopped) events = Tick now words ∷ receipts now events (received_of delays stopped)
+timer_calls me delays (GiveUp now name asked) events = given_up now name asked events
+timer_calls me delays call events = events
 
 -- the calls of the timers, the newest first
 abbrev pub events_of : ℕ → List KeeperCall → List Event
 events_of me [] = []
-events_of me (call ∷ calls) = timed me (delay_to me calls) call (events_of me calls)
+events_of me (call ∷ calls) = timer_calls me (delay_to me calls) call (events_of me calls)
 
 -- ---- the desk
 

@@ -11,13 +11,19 @@ use Rattle.wb_codec.specs.declared.datagram.Datagram.{Datagram}
 use Rattle.wb_codec.specs.declared.datagram.Datagram.TheVariants.{Draw, Request}
 use Rattle.wb_recovery.specs.Timing.{is_ask_due, is_answer_due}
 use Rattle.wb_recovery.specs.Events.{timers_of, actions_of}
-use Rattle.wb_recovery.specs.Stopping.{gots}
+use Rattle.wb_recovery.specs.Stopping.{receipts}
 use Rattle.wb_recovery.specs.declared.tuning.Tuning.{Tuning}
-use Rattle.wb_host.specs.Keeper.{KeeperCall, Hear, Arrive, moment_at, is_own, high_in, high_heard, delay_to, session_told, senders_of, told_by, last_heard, come_of, events_of, holds}
+use Rattle.wb_host.specs.Keeper.{KeeperCall, Hear, Arrive, moment_at, is_own, high_in, high_heard, delay_to, session_told, senders_of, told_by, last_heard, received_of, events_of, holds}
 use Rattle.wb_host.specs.Hearing.{marks_in, marks_heard}
 use Rattle.wb_host.specs.Keeping.{KeeperValue, StandsFor}
-use Rattle.wb_host.specs.Ticks.{sends_for, stopped_in}
+use Rattle.wb_host.specs.Ticks.{sends_for, stopped_in, stopped_after}
 use Rattle.wb_host.specs.declared.keeper.Heard.{Heard}
+
+-- ---- timers that a tick stops
+
+-- where a keeper stands for some calls, these and the history tell which of its request timers a tick stops
+abbrev pub StoppedByCalls : Type 0
+StoppedByCalls = (me : ℕ) (constants : Tuning) (calls : List KeeperCall) (value : KeeperValue) → StandsFor me constants calls value → (history : List DrawopValue) → stopped_in history value.recovery ≡ stopped_after me constants calls history
 
 -- ---- marks
 
@@ -91,7 +97,7 @@ FirstSendersAreEchoed = (me : ℕ) (calls : List KeeperCall) (source : ℕ) (h :
 
 -- what a tick at this moment sends, where these are the history and the calls before it
 abbrev pub sent_at : ℕ → Tuning → List KeeperCall → KeeperValue → ℕ → List DrawopValue → List Datagram
-sent_at me t calls value now history = sends_for me history (actions_of t (gots now (events_of me calls) (come_of (delay_to me calls) (stopped_in history value.recovery))) now)
+sent_at me t calls value now history = sends_for me history (actions_of t (receipts now (events_of me calls) (received_of (delay_to me calls) (stopped_in history value.recovery))) now)
 
 -- A tick asks, as me, for just the names whose request timer is due and that are not held.
 abbrev pub AsksForNoneHeld : Type 0

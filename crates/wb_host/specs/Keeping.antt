@@ -37,7 +37,7 @@ marks_at marks page = unwrap_or (lookup (is_at (page_cmp page)) marks) []
 pub record StandsFor (me : ℕ) (tuning : Tuning) (calls : List KeeperCall) (value : KeeperValue) : Type 0 where
   pub me_is : value.me ≡ me
   pub moment : value.moment ≡ moment_at calls
-  pub timed : timers.StandsFor tuning (events_of me calls) value.recovery
+  pub recovery : timers.StandsFor tuning (events_of me calls) value.recovery
   pub delays : (source : ℕ) → delay_at value.delays source ≡ delay_to me calls source
   pub heard : (source : ℕ) → heard_at value.heard source ≡ last_heard me calls source
   pub senders : length value.heard ≡ length (senders_of me calls)

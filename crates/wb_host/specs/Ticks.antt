@@ -7,12 +7,12 @@ use Rattle.wb_names.specs.Orders.{same_name}
 use Rattle.wb_codec.specs.declared.datagram.Datagram.{Datagram}
 use Rattle.wb_codec.specs.declared.datagram.Datagram.TheVariants.{Draw, Request}
 use Rattle.wb_recovery.specs.Events.{asking, names_of, timers_of, actions_of}
-use Rattle.wb_recovery.specs.Stopping.{gots}
+use Rattle.wb_recovery.specs.Stopping.{receipts}
 use Rattle.wb_recovery.specs.Values.{RecoveryValue, timers_in, names_in}
 use Rattle.wb_recovery.specs.declared.tuning.Tuning.{Tuning}
 use Rattle.wb_recovery.specs.declared.action.Action.{Action}
 use Rattle.wb_recovery.specs.declared.action.Action.TheVariants.{Ask, Answer}
-use Rattle.wb_host.specs.Keeper.{KeeperCall, come_of, delay_to, events_of, holds}
+use Rattle.wb_host.specs.Keeper.{KeeperCall, received_of, delay_to, events_of, holds}
 
 -- the member of a name
 abbrev pub drawop_of : List DrawopValue → NameValue → Option DrawopValue
@@ -36,4 +36,4 @@ stopped_after me constants calls history = filter (holds history) (asking (names
 
 -- what a tick at a moment sends, where these are the accepted calls before it and the history
 abbrev pub sent_by_tick : ℕ → Tuning → List KeeperCall → List DrawopValue → ℕ → List Datagram
-sent_by_tick me constants calls history now = sends_for me history (actions_of constants (gots now (events_of me calls) (come_of (delay_to me calls) (stopped_after me constants calls history))) now)
+sent_by_tick me constants calls history now = sends_for me history (actions_of constants (receipts now (events_of me calls) (received_of (delay_to me calls) (stopped_after me constants calls history))) now)

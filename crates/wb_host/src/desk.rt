@@ -76,7 +76,7 @@ impl Desk {
     ) -> Result<&[Drawop], AllocError>
         requires desk { IsPassOf board.now self.old }
         ensures* desk { sem 𝓛 (follows_so the_row the_row self.entry.ghost_name none (λ _ _. ⊤) (λ d. ReadsOn self.old d
-            × IfOk result (λ shown. IsCaughtUp self.old d × IsAnswer d.seen (AskView page) (Shown shown.now)))) }
+            × IfOk result (λ shown. IsCaughtUp self.old d × IsAnswer d.seen (AskView page) (Shown shown.now)) × (d.cells ≡ board.now.cells))) }
     {
         board.refresh(self)?;
         bring_up(&mut self.layers, alloc, page, self.pass.list())?;

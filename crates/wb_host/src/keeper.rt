@@ -4,7 +4,6 @@
 //! "A Reliable Multicast Framework for Light-weight Sessions and Application Level Framing", 1997.
 
 ghost use Rattle.std.specs.Prelude.{◌≡◌, ◌<◌, ◌≤◌, ◌^◌, [], ℕ, List, false, IsTrue, IsOk, IfOk, OnOk, OnErr, MatchOption, MatchResult, length};
-ghost use Rattle.wb_names.specs.Values.{DrawopValue};
 ghost use Rattle.wb_recovery.specs.Timing.{are_constants};
 ghost use Rattle.wb_recovery.specs.Values.{timers_in, names_in};
 ghost use Rattle.wb_recovery.specs.Events.{asking, due_asks, IsNextDue, names_of, timers_of};
@@ -13,17 +12,16 @@ ghost use Rattle.wb_host.specs.Dues.{next_due_of};
 ghost use Rattle.wb_host.specs.Keeper.{KeeperCall, SetDelay, events_of};
 ghost use Rattle.wb_host.specs.Keeping.{StandsFor, Keeps, delay_at, marks_at};
 ghost use Rattle.wb_host.specs.KeepFaults.{moment_fault, delay_fault, IsKeptBy};
-ghost use Rattle.wb_host.specs.Ticks.{stopped_in, stopped_after};
 
 mod arrivals;
 mod giving_up;
 mod hearing;
 mod knowing;
+mod missing;
 mod notices;
 mod sessions;
 mod taking_in;
 mod ticks;
-mod wants;
 
 use crate::keep_fault::KeepFault;
 use std::alloc::Global;
@@ -153,7 +151,6 @@ impl Keeper {
     pub fn due_count(&self, now: u64) -> usize
         ensures count { result ≡ length (due_asks (names_in self.now.recovery) (timers_in self.now.recovery) now) }
         ensures calls { (me : ℕ) (constants : Constants) (calls : List KeeperCall) → StandsFor me constants calls self.now → result ≡ length (due_asks (names_of (events_of me calls)) (timers_of constants (events_of me calls)) now) }
-        ensures stopped { (me : ℕ) (constants : Constants) (calls : List KeeperCall) → StandsFor me constants calls self.now → (history : List DrawopValue) → stopped_in history self.now.recovery ≡ stopped_after me constants calls history }
     {
         self.recovery.due_count(now)
     }

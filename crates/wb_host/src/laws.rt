@@ -12,7 +12,7 @@ ghost use Rattle.wb_host.specs.Known.{KnownPagesAreKnown};
 ghost use Rattle.wb_host.specs.Laws.{AnswersConverge, CanvasesConverge, ReportsAgree};
 ghost use Rattle.wb_host.specs.Runs.{OneRun};
 ghost use Rattle.wb_host.specs.Sessions.{OneSession, MessageIsSession};
-ghost use Rattle.wb_host.specs.KeeperLaws.{AnswersWithHeld, AsksForNoneHeld, DrawopsOnlyMove, FirstSendersAreEchoed, MarksAreGreatest, MergedAreGreatest, OrderOfArrivalIsFree, OwnOnlyMoves};
+ghost use Rattle.wb_host.specs.KeeperLaws.{AnswersWithHeld, AsksForNoneHeld, DrawopsOnlyMove, FirstSendersAreEchoed, MarksAreGreatest, MergedAreGreatest, OrderOfArrivalIsFree, OwnOnlyMoves, StoppedByCalls};
 
 use wb_codec::Datagram;
 use wb_codec::laws::{datagrams_are_in_range, reading_undoes_spelling};
@@ -68,6 +68,12 @@ pub fn one_session()
 /// order.
 pub fn order_of_arrival_is_free()
     ensures { OrderOfArrivalIsFree }
+{}
+
+/// The request timers that a tick stops, since what they ask for is held, are told by the accepted calls
+/// and the history.
+pub fn stopped_by_calls()
+    ensures { StoppedByCalls }
 {}
 
 /// A tick asks, as this member, for just the names whose request timer is due and that the desk does

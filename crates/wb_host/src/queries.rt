@@ -1,6 +1,6 @@
 //! The questions that a board answers: what a page shows, lacks and reports, and which pages there
 //! are. Each reads the history to its end first, and answers at the list that the desk has then seen.
-ghost use Rattle.std.specs.Prelude.{IfOk, OnOk};
+ghost use Rattle.std.specs.Prelude.{◌≡◌, IfOk, OnOk};
 ghost use Rattle.wb_history.specs.Passes.{IsPassOf, IsCaughtUp};
 ghost use Rattle.wb_host.specs.Board.{IsAnswer, AskGaps, AskReport, AskPages, AskView, Gaps, Marks as ReportOf, Pages, Shown};
 ghost use Rattle.wb_host.specs.Desks.{ReadsOn};
@@ -23,6 +23,7 @@ impl Board {
     ) -> Result<Vec<Gap>, AllocError>
         requires desk { IsPassOf self.now desk.old }
         ensures desk { ReadsOn desk.old desk.new }
+        ensures cells { desk.new.cells ≡ self.now.cells }
         ensures end { OnOk result (IsCaughtUp desk.old desk.new) }
         ensures answer { IfOk result (λ gaps. IsAnswer desk.new.seen (AskGaps page marks.now) (Gaps gaps.items)) }
     {
@@ -35,6 +36,7 @@ impl Board {
     pub fn report(&self, alloc: Global, desk: &mut Desk, page: PageId) -> Result<Marks, AllocError>
         requires desk { IsPassOf self.now desk.old }
         ensures desk { ReadsOn desk.old desk.new }
+        ensures cells { desk.new.cells ≡ self.now.cells }
         ensures end { OnOk result (IsCaughtUp desk.old desk.new) }
         ensures answer { IfOk result (λ marks. IsAnswer desk.new.seen (AskReport page) (ReportOf marks)) }
     {
@@ -46,6 +48,7 @@ impl Board {
     pub fn pages(&self, alloc: Global, desk: &mut Desk) -> Result<Vec<PageId>, AllocError>
         requires desk { IsPassOf self.now desk.old }
         ensures desk { ReadsOn desk.old desk.new }
+        ensures cells { desk.new.cells ≡ self.now.cells }
         ensures end { OnOk result (IsCaughtUp desk.old desk.new) }
         ensures answer { IfOk result (λ pages. IsAnswer desk.new.seen AskPages (Pages pages.items)) }
     {
@@ -63,6 +66,7 @@ impl Board {
     ) -> Result<Vec<Drawop>, AllocError>
         requires desk { IsPassOf self.now desk.old }
         ensures desk { ReadsOn desk.old desk.new }
+        ensures cells { desk.new.cells ≡ self.now.cells }
         ensures end { OnOk result (IsCaughtUp desk.old desk.new) }
         ensures answer { IfOk result (λ shown. IsAnswer desk.new.seen (AskView page) (Shown shown.items)) }
     {

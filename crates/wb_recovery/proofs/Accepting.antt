@@ -1,9 +1,10 @@
 -- What a recovery stands for once it has accepted a call about one name.
 use Rattle.std.proofs.Common.{◌≡◌, ℕ, ◌+◌, ◌*◌, Bool, true, false, cond, None, List, ◌∷◌, refl, ap, ◌∙◌, sym}
+use Rattle.std.specs.List.Sorted.{IsStrictlySortedBy}
 use Rattle.wb_names.specs.Values.{NameValue}
-use Rattle.wb_names.specs.Orders.{same_name}
+use Rattle.wb_names.specs.Orders.{same_name, name_cmp}
 use Rattle.wb_names.proofs.Orders.{same_name-is}
-use Rattle.wb_recovery.specs.Values.{RecoveryValue, timers_at, timers_in, Replaces}
+use Rattle.wb_recovery.specs.Values.{RecoveryValue, timers_at, timers_in, names_in, Replaces}
 use Rattle.wb_recovery.specs.Events.{Event, moment_of, timers_of}
 use Rattle.wb_recovery.specs.Timing.{is_standing, got}
 use Rattle.wb_recovery.specs.Standing.{Accepts}
@@ -15,8 +16,8 @@ pub record IsStep (event : Event) (name : NameValue) (now : ℕ) (step : Tuning 
   pub timers : (t : Tuning) (events : List Event) (n : NameValue) → timers_of t (event ∷ events) n ≡ cond (same_name name n) (step t (timers_of t events n)) (timers_of t events n)
   pub moment : (events : List Event) → moment_of (event ∷ events) ≡ now
 
-pub accepted : (event : Event) (name : NameValue) (now : ℕ) (step : Tuning → Timers → Timers) → IsStep event name now step → (old mid : RecoveryValue) (after : Timers) → Replaces old mid name after → after ≡ step old.tuning (timers_in old name) → (new : RecoveryValue) → new.tuning ≡ mid.tuning → new.records ≡ mid.records → new.moment ≡ now → Accepts event old new
-accepted event name now step is old mid after r a new t u m constants events s = record {
+pub accepted : (event : Event) (name : NameValue) (now : ℕ) (step : Tuning → Timers → Timers) → IsStep event name now step → (old mid : RecoveryValue) (after : Timers) → Replaces old mid name after → after ≡ step old.tuning (timers_in old name) → (new : RecoveryValue) → new.tuning ≡ mid.tuning → new.records ≡ mid.records → new.moment ≡ now → IsStrictlySortedBy name_cmp (names_in new) → Accepts event old new
+accepted event name now step is old mid after r a new t u m rises constants events s = record {
   tuning = t ∙ r.tuning ∙ s.tuning;
   moment = m ∙ sym (is.moment events);
   timers = λ n.
@@ -24,6 +25,7 @@ accepted event name now step is old mid after r a new t u m constants events s =
       ∙ r.timers n
       ∙ here n (same_name name n) refl
       ∙ sym (is.timers constants events n);
+  rising = rises;
 } where
   here : (n : NameValue) (b : Bool) → same_name name n ≡ b → cond b after (timers_in old n) ≡ cond b (step constants (timers_of constants events n)) (timers_of constants events n)
   here n false e = s.timers n

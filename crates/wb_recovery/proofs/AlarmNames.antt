@@ -1,189 +1,124 @@
--- The names of the alarms: each once, and just those with a timer.
-use Rattle.std.proofs.Common.{◌≡◌, ℕ, ◌≤◌, Bool, true, false, cond, List, [], ◌∷◌, ◌++◌, length, refl, ap, ◌∙◌, sym, subst, Option, Some, None, arith, eqb-true, true≢false}
-use Rattle.std.specs.Prelude.{◌&&◌, nat_eq, nat_le, Contains, filter, map, take_while, is_some, IsPermutation}
-use Rattle.std.specs.Bool.{Decides, one_answer}
-use Rattle.std.specs.Cmp.{eq_by_cmp_equiv}
-use Rattle.std.specs.List.{list_any, AllByRecursion, IsDistinct}
-use Rattle.std.specs.List.Sorted.{IsStrictlySortedBy, IsSorted}
-use Rattle.std.specs.Set.{is_member}
-use Rattle.std.specs.Ordering.{is_eq, eq_by_cmp, nat_cmp, ordering_then}
-use Rattle.std.specs.declared.cmp.Ordering.{Ordering}
-use Rattle.std.specs.declared.cmp.Ordering.TheVariants.{Less}
+-- The names of the alarms: just those with a timer, ascending.
+use Rattle.std.proofs.Common.{◌≡◌, ℕ, ◌<◌, ◌≤◌, Bool, true, false, cond, List, [], ◌∷◌, ◌++◌, length, refl, ap, ◌∙◌, sym, Option, Some, None, arith, true≢false}
+use Rattle.std.specs.Prelude.{◌&&◌, nat_le, not, filter, is_some}
+use Rattle.std.specs.BTreeMap.{IsOrdered, keys}
+use Rattle.std.specs.List.{All, filter_map, cons_option}
+use Rattle.std.specs.Map.{keys_of, values_of}
 use Rattle.std.proofs.lemmas.Bool.Decides.{nat_tests}
-use Rattle.std.proofs.lemmas.List.{length-map, append_assoc}
+use Rattle.std.proofs.lemmas.List.Elements.{All-head, All-tail, All-weaker}
+use Rattle.std.proofs.lemmas.List.{append_assoc}
 use Rattle.std.proofs.lemmas.List.Kept.{IsStrictlySortedBy-filter}
-use Rattle.std.proofs.lemmas.List.Sorted.{Contains-permutation, IsPermutation-sym}
-use Rattle.std.proofs.lemmas.List.Sums.{take_while-cons}
-use Rattle.std.proofs.lemmas.Map.Keys.{sorted_tail, IsDistinct-cons, IsDistinct-from_sorted, IsDistinct-IsPermutation}
-use Rattle.std.proofs.lemmas.Map.Made.{length-from_same_keys, is_member-Decides}
-use Rattle.std.proofs.lemmas.Map.Views.{Contains-from_any, list_any-from_Contains}
+use Rattle.std.proofs.lemmas.Map.Views.{All-found, Contains-keys_from_lookup}
 use Rattle.wb_names.specs.Values.{NameValue}
-use Rattle.wb_names.specs.Orders.{name_cmp, same_name}
+use Rattle.wb_names.specs.Orders.{name_cmp}
 use Rattle.wb_names.specs.Listing.{Lists}
-use Rattle.wb_names.proofs.Orders.{name_total, same_name-is, and_both}
-use Rattle.wb_names.proofs.Listings.{Contains-here, Contains-there, Contains-filter, Contains-from_filter, Contains-map, Any-from_map, below_all, strictly_sorted}
-use Rattle.wb_recovery.specs.Alarms.{alarm_cmp, alarm, is_due_where}
-use Rattle.wb_recovery.specs.Timing.{is_set_to}
-use Rattle.wb_recovery.specs.declared.alarms.Alarm.{Alarm}
-use Rattle.wb_recovery.proofs.AlarmOrder.{alarm_total, alarm_ties, name_ties}
-use Rattle.wb_recovery.proofs.AlarmReads.{is_set_to-here, is_set_to-is}
+use Rattle.wb_names.proofs.Orders.{name_total}
+use Rattle.wb_names.proofs.Listings.{Contains-filter, Contains-from_filter, Contains-none, lists_same, one_list}
+use Rattle.wb_recovery.specs.Alarms.{is_due_where, is_until, due_name, Keep}
+use Rattle.wb_recovery.specs.declared.alarms.Alarms.{Alarms}
+use Rattle.wb_recovery.proofs.NameOrder.{name_decides}
+use Rattle.wb_recovery.proofs.NameLists.{sorted_nil}
 
-none_distinct : IsDistinct (eq_by_cmp name_cmp) []
-unfolding IsDistinct
-none_distinct = tt
+-- a timer, and one whose moment passes a test, where another test holds
+pub some_due : (o : Option ℕ) → is_some o ≡ is_due_where (λ d. true) o
+some_due None = refl
+some_due (Some d) = refl
 
-same_alarm-is : (a b : Alarm) → eq_by_cmp alarm_cmp a b ≡ true → a ≡ b
-same_alarm-is a b e =
-    let h = and_both (nat_eq a.due b.due) (same_name a.name b.name) (sym (alarm_ties a.due b.due a.name b.name) ∙ e) in
-    parts a.due b.due a.name b.name (eqb-true a.due b.due h.0) (same_name-is a.name b.name h.1) where
-      parts : (d e : ℕ) (m n : NameValue) → d ≡ e → m ≡ n → alarm d m ≡ alarm e n
-      parts d e m n p q = cc
+and_none : (b : Bool) → (b && false) ≡ false
+and_none true = refl
+and_none false = refl
 
-not_below_itself : (a : Alarm) → alarm_cmp a a ≡ Less → ⊥
-not_below_itself a less = true≢false (sym ((eq_by_cmp_equiv alarm_total).refl a) ∙ ap is_eq less)
+none_listed : (P : NameValue → Type 0) → ((n : NameValue) → P n → ⊥) → Lists name_cmp P []
+none_listed P f = record {
+  rising = sorted_nil;
+  members = λ n. ((λ h. absurd (Contains-none n h)), (λ p. absurd (f n p)));
+}
 
-pub name_decides : (m n : NameValue) → Decides (eq_by_cmp name_cmp m n) (m ≡ n)
-name_decides m n = (λ e. same_name-is m n (name_ties m n ∙ e), λ e. subst (λ (k : NameValue). eq_by_cmp name_cmp m k ≡ true) e ((eq_by_cmp_equiv name_total).refl m))
+module _ (dues : NameValue → Option ℕ) (alarms : Alarms) (keep : Keep dues alarms) where
+  -- nothing is due before the bound
+  pub none_until : (now : ℕ) → now < alarms.soonest → (n : NameValue) → is_until now (dues n) ≡ false
+  none_until now before n = from (dues n) (keep.bound n) where
+    from : (o : Option ℕ) → ((d : ℕ) → o ≡ Some d → alarms.soonest ≤ d) → is_until now o ≡ false
+    from None f = refl
+    from (Some d) f = let h = f d refl in grind (arith, nat_tests)
 
-module _ (dues : NameValue → Option ℕ) where
-  -- alarms of one name are one alarm
-  pub distinct_names : (xs : List Alarm) → IsStrictlySortedBy alarm_cmp xs → ((a : Alarm) → Contains xs a → dues a.name ≡ Some a.due) → IsDistinct (eq_by_cmp name_cmp) (map (λ a. a.name) xs)
-  distinct_names [] s f = none_distinct
-  distinct_names (x ∷ xs) s f =
-      IsDistinct-cons (eq_by_cmp name_cmp) x.name (map (λ a. a.name) xs)
-      (apart xs (λ a h. h))
-      (distinct_names xs (sorted_tail alarm_cmp x xs s) (λ a h. f a (Contains-there x a xs h))) where
-        differ : (a : Alarm) → Contains xs a → (b : Bool) → eq_by_cmp name_cmp x.name a.name ≡ b → b ≡ false
-        differ a h false e = refl
-        differ a h true e =
-            let same : x.name ≡ a.name = (name_decides x.name a.name).0 e in
-            let now : Some x.due ≡ Some a.due = sym (f x (Contains-here x xs)) ∙ ap dues same ∙ f a (Contains-there x a xs h) in
-            let due : x.due ≡ a.due = cc in
-            let one : x ≡ a = parts x.due a.due x.name a.name due same in
-            let less : alarm_cmp x a ≡ Less = below_all alarm_total x a xs s h in
-            absurd (not_below_itself x (subst (λ (b : Alarm). alarm_cmp x b ≡ Less) (sym one) less)) where
-              parts : (d e : ℕ) (m n : NameValue) → d ≡ e → m ≡ n → alarm d m ≡ alarm e n
-              parts d e m n p q = cc
+  pub no_names_until : (now : ℕ) (stopped : NameValue → Bool) → now < alarms.soonest → Lists name_cmp (λ n. (not (stopped n) && is_until now (dues n)) ≡ true) []
+  no_names_until now stopped before = none_listed _ (λ n h. true≢false (sym h ∙ ap (λ (b : Bool). not (stopped n) && b) (none_until now before n) ∙ and_none (not (stopped n))))
 
-        apart : (ys : List Alarm) → ((a : Alarm) → Contains ys a → Contains xs a) → AllByRecursion (λ n. eq_by_cmp name_cmp x.name n ≡ false) (map (λ a. a.name) ys)
-        apart [] g = tt
-        apart (y ∷ ys) g = (differ y (g y (Contains-here y ys)) _ refl, apart ys (λ a h. g a (Contains-there y a ys h)))
+  pub no_count_until : (now : ℕ) → now < alarms.soonest → (names : List NameValue) → Lists name_cmp (λ n. is_until now (dues n) ≡ true) names → 0 ≡ length names
+  no_count_until now before names l = ap length (one_list name_total _ [] names (none_listed _ (λ n h. true≢false (sym h ∙ none_until now before n))) l)
 
-  module _ (ks : List Alarm) (s : IsStrictlySortedBy alarm_cmp ks) (keep : (d : ℕ) (n : NameValue) → list_any (eq_by_cmp alarm_cmp (alarm d n)) ks ≡ is_set_to d (dues n)) where
-    due_of : (a : Alarm) → Contains ks a → dues a.name ≡ Some a.due
-    due_of a h = is_set_to-is a.due (dues a.name) (sym (keep a.due a.name) ∙ list_any-from_Contains (eq_by_cmp_equiv alarm_total) a ks h)
+  module _ (ordered : IsOrdered name_cmp alarms.dues) where
+    found : All (λ e. dues e.0 ≡ Some e.1) alarms.dues.entries
+    found = All-weaker _ (λ (e : NameValue × ℕ). dues e.0 ≡ Some e.1) (λ e h. sym (keep.each e.0) ∙ h) alarms.dues.entries (All-found name_total alarms.dues ordered)
 
-    has_due : (d : ℕ) (n : NameValue) → dues n ≡ Some d → Contains ks (alarm d n)
-    has_due d n is = Contains-from_any same_alarm-is (alarm d n) ks (keep d n ∙ ap (is_set_to d) is ∙ is_set_to-here d)
+    -- the names that pass a test which fails where there is no timer
+    names_passing : (test : NameValue → Bool) → ((n : NameValue) → test n ≡ true → is_some (dues n) ≡ true) → Lists name_cmp (λ n. test n ≡ true) (filter test (keys_of alarms.dues.entries))
+    names_passing test some = record {
+      rising = IsStrictlySortedBy-filter name_cmp test _ ordered;
+      members = λ n. ((λ h. (Contains-from_filter test (keys_of alarms.dues.entries) n h).1), (λ h. Contains-filter test (keys_of alarms.dues.entries) n (Contains-keys_from_lookup (λ x y g. (name_decides x y).0 g) n alarms.dues.entries (ap is_some (keep.each n) ∙ some n h)) h));
+    }
 
-    module _ (p : Alarm → Bool) where
-      -- a test of alarms, of that of a name
-      abbrev passes : NameValue → Bool
-      passes n = is_due_where (λ d. p (alarm d n)) (dues n)
+    due_some : (test : ℕ → Bool) (o : Option ℕ) → is_due_where test o ≡ true → is_some o ≡ true
+    due_some test None h = absurd (true≢false (sym h))
+    due_some test (Some d) h = refl
 
-      abbrev pub names : List NameValue
-      names = map (λ (a : Alarm). a.name) (filter p ks)
+    -- as many moments pass as names have such a moment
+    counted : (test : ℕ → Bool) (es : List (NameValue × ℕ)) → All (λ e. dues e.0 ≡ Some e.1) es → length (filter test (values_of es)) ≡ length (filter (λ n. is_due_where test (dues n)) (keys_of es))
+    counted test [] h = refl
+    counted test (e ∷ es) h = from (counted test es (All-tail (λ (e : NameValue × ℕ). dues e.0 ≡ Some e.1) e es h)) (test e.1) ∙ ap (λ (o : Option ℕ). length (cond (is_due_where test o) (e.0 ∷ filter (λ n. is_due_where test (dues n)) (keys_of es)) (filter (λ n. is_due_where test (dues n)) (keys_of es)))) (sym (All-head (λ (e : NameValue × ℕ). dues e.0 ≡ Some e.1) e es h)) where
+      from : length (filter test (values_of es)) ≡ length (filter (λ n. is_due_where test (dues n)) (keys_of es)) → (b : Bool) → length (cond b (e.1 ∷ filter test (values_of es)) (filter test (values_of es))) ≡ length (cond b (e.0 ∷ filter (λ n. is_due_where test (dues n)) (keys_of es)) (filter (λ n. is_due_where test (dues n)) (keys_of es)))
+      from rest true = omega arith
+      from rest false = rest
 
-      pub names_distinct : IsDistinct (eq_by_cmp name_cmp) names
-      names_distinct = distinct_names (filter p ks) (IsStrictlySortedBy-filter alarm_cmp _ ks s) (λ a h. due_of a (Contains-from_filter p ks a h).0)
+    pub count_listed : (test : ℕ → Bool) (names : List NameValue) → Lists name_cmp (λ n. is_due_where test (dues n) ≡ true) names → length (filter test (values_of alarms.dues.entries)) ≡ length names
+    count_listed test names l = counted test alarms.dues.entries found ∙ ap length (one_list name_total _ _ names (names_passing (λ n. is_due_where test (dues n)) (λ n. due_some test (dues n))) l)
 
-      pub name_passes : (n : NameValue) → Contains names n → passes n ≡ true
-      name_passes n h =
-          let found = Any-from_map (λ (a : Alarm). a.name) (filter p ks) n h in
-          passed found.1 (found.0, found.2, found.3) found.4 where
-            passed : (a : Alarm) → Contains (filter p ks) a → a.name ≡ n → passes n ≡ true
-            passed a g e =
-                let r = Contains-from_filter p ks a g in
-                subst (λ (m : NameValue). passes m ≡ true) e (ap (is_due_where (λ d. p (alarm d a.name))) (due_of a r.0) ∙ r.1)
+    all_pass : (es : List (NameValue × ℕ)) → length (filter (λ d. true) (values_of es)) ≡ length es
+    all_pass [] = refl
+    all_pass (e ∷ es) = let rest = all_pass es in omega arith
 
-      pub passes_name : (n : NameValue) → passes n ≡ true → Contains names n
-      passes_name n = from (dues n) refl where
-        from : (o : Option ℕ) → dues n ≡ o → is_due_where (λ d. p (alarm d n)) o ≡ true → Contains names n
-        from None e h = absurd (true≢false (sym h))
-        from (Some d) e h = there (Contains-filter p ks (alarm d n) (has_due d n e) h) where
-          there : Contains (filter p ks) (alarm d n) → Contains names n
-          there g = Contains-map (λ (a : Alarm). a.name) (filter p ks) n (g.0, alarm d n, g.1, g.2, refl)
+    pub count_all : (names : List NameValue) → Lists name_cmp (λ n. is_some (dues n) ≡ true) names → length alarms.dues.entries ≡ length names
+    count_all names l = sym (all_pass alarms.dues.entries) ∙ count_listed (λ d. true) names (lists_same name_total _ _ names (λ n h. sym (some_due (dues n)) ∙ h) (λ n h. some_due (dues n) ∙ h) l)
 
-      -- sorted, they are the list of the names that pass
-      pub names_listed : (sorted : List NameValue) → IsPermutation names sorted → IsSorted name_cmp sorted → Lists name_cmp (λ n. passes n ≡ true) sorted
-      names_listed sorted moved rises = record {
-        rising = strictly_sorted name_total sorted rises (IsDistinct-IsPermutation (eq_by_cmp name_cmp) (eq_by_cmp_equiv name_total).symm names sorted moved names_distinct);
-        members = λ n. ((λ h. name_passes n (Contains-permutation sorted names n (IsPermutation-sym _ _ moved) h)), (λ h. Contains-permutation names sorted n moved (passes_name n h)));
-      }
+    -- the names that are due, one entry after another
+    picked : (stopped : NameValue → Bool) (now : ℕ) (es : List (NameValue × ℕ)) → All (λ e. dues e.0 ≡ Some e.1) es → filter_map (λ e. due_name stopped now e.0 e.1) es ≡ filter (λ n. not (stopped n) && is_until now (dues n)) (keys_of es)
+    picked stopped now [] h = refl
+    picked stopped now (e ∷ es) h = from (picked stopped now es (All-tail (λ (e : NameValue × ℕ). dues e.0 ≡ Some e.1) e es h)) (not (stopped e.0) && nat_le e.1 now) ∙ ap (λ (o : Option ℕ). cond (not (stopped e.0) && is_until now o) (e.0 ∷ filter (λ n. not (stopped n) && is_until now (dues n)) (keys_of es)) (filter (λ n. not (stopped n) && is_until now (dues n)) (keys_of es))) (sym (All-head (λ (e : NameValue × ℕ). dues e.0 ≡ Some e.1) e es h)) where
+      from : filter_map (λ (e : NameValue × ℕ). due_name stopped now e.0 e.1) es ≡ filter (λ n. not (stopped n) && is_until now (dues n)) (keys_of es) → (b : Bool) → cons_option (cond b (Some e.0) None) (filter_map (λ (e : NameValue × ℕ). due_name stopped now e.0 e.1) es) ≡ cond b (e.0 ∷ filter (λ n. not (stopped n) && is_until now (dues n)) (keys_of es)) (filter (λ n. not (stopped n) && is_until now (dues n)) (keys_of es))
+      from same true = ap (λ (ns : List NameValue). e.0 ∷ ns) same
+      from same false = same
 
-      -- they are as many as such a list has
-      pub names_counted : (listed : List NameValue) → Lists name_cmp (λ n. passes n ≡ true) listed → length (filter p ks) ≡ length listed
-      names_counted listed l =
-          sym (length-map (filter p ks) (λ (a : Alarm). a.name))
-          ∙ length-from_same_keys (eq_by_cmp_equiv name_total) names listed names_distinct (IsDistinct-from_sorted name_cmp listed l.rising)
-          (λ q. let a = is_member-Decides name_decides names q in let b = is_member-Decides name_decides listed q in
-          one_answer (is_member (eq_by_cmp name_cmp) names q) (is_member (eq_by_cmp name_cmp) listed q)
-          ((λ h. name_passes q (a.0 h)), (λ h. a.1 (passes_name q h)))
-          ((λ h. (l.members q).0 (b.0 h)), (λ h. b.1 ((l.members q).1 h))))
+    pub names_due : (stopped : NameValue → Bool) (now : ℕ) (names : List NameValue) → names ≡ filter_map (λ e. due_name stopped now e.0 e.1) alarms.dues.entries → Lists name_cmp (λ n. (not (stopped n) && is_until now (dues n)) ≡ true) names
+    names_due stopped now names is = rw (is ∙ picked stopped now alarms.dues.entries found) (names_passing (λ n. not (stopped n) && is_until now (dues n)) (λ n h. due_some (λ d. nat_le d now) (dues n) (right (not (stopped n)) (is_until now (dues n)) h))) where
+      right : (a b : Bool) → (a && b) ≡ true → b ≡ true
+      right true b h = h
+      right false b h = absurd (true≢false (sym h))
 
--- of alarms in order, those that are due come first
-none_pass : {X : Type 0} (p : X → Bool) (xs : List X) → ((x : X) → Contains xs x → p x ≡ false) → filter p xs ≡ []
-none_pass p [] f = refl
-none_pass p (x ∷ xs) f = ap (λ b. cond b (x ∷ filter p xs) (filter p xs)) (f x (Contains-here x xs)) ∙ none_pass p xs (λ y h. f y (Contains-there x y xs h))
+    -- the names with a timer that pass a test
+    pub names_some : (p : NameValue → Bool) (names : List NameValue) → names ≡ filter p (keys alarms.dues) → Lists name_cmp (λ n. (p n && is_some (dues n)) ≡ true) names
+    names_some p names is = rw (is ∙ alike alarms.dues.entries found) (names_passing (λ n. p n && is_some (dues n)) (λ n. right (p n) (is_some (dues n)))) where
+      right : (a b : Bool) → (a && b) ≡ true → b ≡ true
+      right true b h = h
+      right false b h = absurd (true≢false (sym h))
 
-less_due : (d e : ℕ) (r : Ordering) → ordering_then (nat_cmp d e) r ≡ Less → d ≤ e
-less_due d e r h = grind (arith, nat_tests)
+      and_true : (b : Bool) → b ≡ (b && true)
+      and_true true = refl
+      and_true false = refl
 
-pub prefix_due : (now : ℕ) (ks : List Alarm) → IsStrictlySortedBy alarm_cmp ks → take_while (λ a. nat_le a.due now) ks ≡ filter (λ a. nat_le a.due now) ks
-prefix_due now [] s = refl
-prefix_due now (k ∷ ks) s = take_while-cons (λ (a : Alarm). nat_le a.due now) k ks ∙ from (prefix_due now ks (sorted_tail alarm_cmp k ks s)) (nat_le k.due now) refl where
-  from : take_while (λ a. nat_le a.due now) ks ≡ filter (λ a. nat_le a.due now) ks → (b : Bool) → nat_le k.due now ≡ b → cond b (k ∷ take_while (λ a. nat_le a.due now) ks) [] ≡ cond b (k ∷ filter (λ a. nat_le a.due now) ks) (filter (λ a. nat_le a.due now) ks)
-  from same true e = ap (λ xs. k ∷ xs) same
-  from same false e = sym (none_pass (λ (a : Alarm). nat_le a.due now) ks (λ a h. past a.due (less_due k.due a.due _ (below_all alarm_total k a ks s h)))) where
-    past : (d : ℕ) → k.due ≤ d → nat_le d now ≡ false
-    past d le = grind (arith, nat_tests)
+      alike : (es : List (NameValue × ℕ)) → All (λ e. dues e.0 ≡ Some e.1) es → filter p (keys_of es) ≡ filter (λ n. p n && is_some (dues n)) (keys_of es)
+      alike [] h = refl
+      alike (e ∷ es) h =
+          ap (λ (ns : List NameValue). cond (p e.0) (e.0 ∷ ns) ns) (alike es (All-tail (λ (e : NameValue × ℕ). dues e.0 ≡ Some e.1) e es h))
+          ∙ ap (λ (b : Bool). cond b (e.0 ∷ filter (λ n. p n && is_some (dues n)) (keys_of es)) (filter (λ n. p n && is_some (dues n)) (keys_of es))) (and_true (p e.0) ∙ ap (λ (o : Option ℕ). p e.0 && is_some o) (sym (All-head (λ (e : NameValue × ℕ). dues e.0 ≡ Some e.1) e es h)))
 
--- all of them
-pub all_pass : (ks : List Alarm) → filter (λ a. true) ks ≡ ks
-all_pass [] = refl
-all_pass (k ∷ ks) = ap (λ xs. k ∷ xs) (all_pass ks)
+-- the names that pass, one after another
+module _ (p : NameValue → Bool) (all names rest after : List NameValue) (n : NameValue) (so_far : filter p all ≡ names ++ filter p rest) (next : rest ≡ n ∷ after) where
+  at_next : (b : Bool) → b ≡ p n → filter p all ≡ names ++ cond b (n ∷ filter p after) (filter p after)
+  at_next b is = so_far ∙ ap (λ (ks : List NameValue). names ++ filter p ks) next ∙ ap (λ (c : Bool). names ++ cond c (n ∷ filter p after) (filter p after)) (sym is)
 
-pub is_some_where : (o : Option ℕ) → is_some o ≡ is_due_where (λ d. true) o
-is_some_where None = refl
-is_some_where (Some d) = refl
+  pub name_put : (new : List NameValue) (b : Bool) → b ≡ p n → b ≡ true → new ≡ names ++ n ∷ [] → filter p all ≡ new ++ filter p after
+  name_put new b is told put = at_next true (sym told ∙ is) ∙ sym (append_assoc names (n ∷ []) (filter p after)) ∙ ap (λ (ns : List NameValue). ns ++ filter p after) (sym put)
 
--- of those that pass one test, those that pass another
-pub filter_both : {X : Type 0} (p q : X → Bool) (xs : List X) → filter q (filter p xs) ≡ filter (λ x. q x && p x) xs
-filter_both p q [] = refl
-filter_both {X} p q (x ∷ xs) = from (filter_both p q xs) (p x) where
-  from : filter q (filter p xs) ≡ filter (λ x. q x && p x) xs → (a : Bool) → filter q (cond a (x ∷ filter p xs) (filter p xs)) ≡ cond (q x && a) (x ∷ filter (λ x. q x && p x) xs) (filter (λ x. q x && p x) xs)
-  from rest true = both (q x) where
-    both : (b : Bool) → cond b (x ∷ filter q (filter p xs)) (filter q (filter p xs)) ≡ cond (b && true) (x ∷ filter (λ x. q x && p x) xs) (filter (λ x. q x && p x) xs)
-    both true = ap (λ (ys : List X). x ∷ ys) rest
-    both false = rest
-  from rest false = rest ∙ one (q x) where
-    one : (b : Bool) → filter (λ x. q x && p x) xs ≡ cond (b && false) (x ∷ filter (λ x. q x && p x) xs) (filter (λ x. q x && p x) xs)
-    one true = refl
-    one false = refl
-
--- a timer whose moment passes a test, where another test holds
-pub due_and : (b : Bool) (test : ℕ → Bool) (o : Option ℕ) → is_due_where (λ d. b && test d) o ≡ (b && is_due_where test o)
-due_and true test None = refl
-due_and false test None = refl
-due_and b test (Some d) = refl
-
-pub is_some_and : (b : Bool) (o : Option ℕ) → is_due_where (λ d. b) o ≡ (b && is_some o)
-is_some_and true None = refl
-is_some_and false None = refl
-is_some_and true (Some d) = refl
-is_some_and false (Some d) = refl
-
--- the names of those alarms that pass, one alarm after another
-module _ (p : NameValue → Bool) where
-  abbrev pub names_of_those : List Alarm → List NameValue
-  names_of_those alarms = map (λ (a : Alarm). a.name) (filter (λ (a : Alarm). p a.name) alarms)
-
-  module _ (all names : List NameValue) (rest after : List Alarm) (a : Alarm) (so_far : all ≡ names ++ names_of_those rest) (next : rest ≡ a ∷ after) where
-    at_next : (b : Bool) → b ≡ p a.name → all ≡ names ++ map (λ (a : Alarm). a.name) (cond b (a ∷ filter (λ (a : Alarm). p a.name) after) (filter (λ (a : Alarm). p a.name) after))
-    at_next b is = so_far ∙ ap (λ (ks : List Alarm). names ++ names_of_those ks) next ∙ ap (λ (c : Bool). names ++ map (λ (a : Alarm). a.name) (cond c (a ∷ filter (λ (a : Alarm). p a.name) after) (filter (λ (a : Alarm). p a.name) after))) (sym is)
-
-    pub name_put : (new : List NameValue) (b : Bool) → b ≡ p a.name → b ≡ true → new ≡ names ++ a.name ∷ [] → all ≡ new ++ names_of_those after
-    name_put new b is told put = at_next true (sym told ∙ is) ∙ sym (append_assoc names (a.name ∷ []) (names_of_those after)) ∙ ap (λ (ns : List NameValue). ns ++ names_of_those after) (sym put)
-
-    pub name_left : (b : Bool) → b ≡ p a.name → b ≡ false → all ≡ names ++ names_of_those after
-    name_left b is told = at_next false (sym told ∙ is)
+  pub name_left : (b : Bool) → b ≡ p n → b ≡ false → filter p all ≡ names ++ filter p after
+  name_left b is told = at_next false (sym told ∙ is)

@@ -6,7 +6,7 @@ use Rattle.wb_names.specs.Values.{NameValue}
 use Rattle.wb_names.specs.Orders.{name_cmp}
 use Rattle.wb_names.specs.Listing.{Lists}
 use Rattle.wb_recovery.specs.Alarms.{among}
-use Rattle.wb_recovery.proofs.AlarmNames.{name_decides}
+use Rattle.wb_recovery.proofs.NameOrder.{name_decides}
 
 pub among_listed : (p : NameValue → Bool) (xs : List NameValue) → Lists name_cmp (λ n. p n ≡ true) xs → (n : NameValue) → among xs n ≡ p n
 among_listed p xs l n = let d = is_member-Decides name_decides xs n in

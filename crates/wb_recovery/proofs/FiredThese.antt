@@ -1,16 +1,15 @@
 -- What firing some requests and some answers leaves.
 use Rattle.std.proofs.Common.{◌≡◌, ℕ, ◌<◌, ◌^◌, Bool, true, false, cond, Option, Some, None, List, refl, ap, ◌∙◌, sym}
-use Rattle.std.specs.Prelude.{◌&&◌, not, nat_le, IfSome}
+use Rattle.std.specs.Prelude.{nat_le, IfSome}
 use Rattle.wb_names.specs.Values.{NameValue}
-use Rattle.wb_recovery.specs.Timing.{ask_due, answer_due, is_set_to, fired_ask, backed_off, AreDelays}
+use Rattle.wb_recovery.specs.Timing.{ask_due, answer_due, fired_ask, backed_off, AreDelays}
 use Rattle.wb_recovery.specs.Events.{word_for}
 use Rattle.wb_recovery.specs.declared.timers.AskTimer.{AskTimer}
-use Rattle.wb_recovery.specs.Alarms.{among, Keep, AreLeft, AreMoved}
+use Rattle.wb_recovery.specs.Alarms.{among, Keep}
 use Rattle.wb_recovery.specs.Firing.{with_ask_fired, with_answer_fired}
 use Rattle.wb_recovery.specs.Stopping.{with_asks_fired, with_these_fired}
 use Rattle.wb_recovery.specs.declared.tuning.Tuning.{Tuning}
 use Rattle.wb_recovery.specs.declared.timers.Timers.{Timers}
-use Rattle.wb_recovery.specs.declared.alarms.Alarm.{Alarm}
 use Rattle.wb_recovery.specs.declared.alarms.Alarms.{Alarms}
 use Rattle.wb_recovery.proofs.Soundness.{keep_alike}
 
@@ -28,23 +27,7 @@ fired_delays t now words asking f h n = from (among asking n) where
   from true = (ask (word_for words asking n) (f n).ask (h n).0, (h n).1)
   from false = h n
 
-not_both : (b : Bool) → (b && not b) ≡ false
-not_both true = refl
-not_both false = refl
-
 module _ (t : Tuning) (now : ℕ) (words : List ℕ) (asking : List NameValue) (f : NameValue → Timers) where
-  pub these_left : (alarms : List Alarm) → AreMoved asking (λ n. ask_due (f n)) (λ n. ask_due (with_ask_fired t now words asking f n)) alarms → AreLeft (λ n. ask_due (f n)) (λ n. ask_due (with_asks_fired t now words asking f n)) alarms
-  these_left alarms moved d n = moved d n ∙ from (among asking n) where
-    from : (b : Bool) → (b && (is_set_to d (ask_due (f n)) && not (is_set_to d (ask_due (with_ask_fired t now words asking f n))))) ≡ (is_set_to d (ask_due (f n)) && not (is_set_to d (ask_due (cond b (with_ask_fired t now words asking f n) (f n)))))
-    from true = refl
-    from false = sym (not_both (is_set_to d (ask_due (f n))))
-
-  pub these_taken : (alarms : List Alarm) → AreMoved asking (λ n. ask_due (with_ask_fired t now words asking f n)) (λ n. ask_due (f n)) alarms → AreLeft (λ n. ask_due (with_asks_fired t now words asking f n)) (λ n. ask_due (f n)) alarms
-  these_taken alarms moved d n = moved d n ∙ from (among asking n) where
-    from : (b : Bool) → (b && (is_set_to d (ask_due (with_ask_fired t now words asking f n)) && not (is_set_to d (ask_due (f n))))) ≡ (is_set_to d (ask_due (cond b (with_ask_fired t now words asking f n) (f n))) && not (is_set_to d (ask_due (f n))))
-    from true = refl
-    from false = sym (not_both (is_set_to d (ask_due (f n))))
-
   module _ (g : NameValue → Timers) (r : (n : NameValue) → g n ≡ with_asks_fired t now words asking f n) where
     pub answer_as_before : (n : NameValue) → (g n).answer ≡ (f n).answer
     answer_as_before n = ap (λ (s : Timers). s.answer) (r n) ∙ from (among asking n) where
@@ -64,8 +47,8 @@ module _ (t : Tuning) (now : ℕ) (words : List ℕ) (asking : List NameValue) (
       pub these_fired : (n : NameValue) → h n ≡ with_these_fired t now words asking answering f n
       these_fired n = s n ∙ ap (λ (k : Timers). cond (among answering n) (with_answer_fired now (λ m. k) n) k) (r n)
 
-      pub asks_kept : (alarms : Alarms) → Keep (λ n. ask_due (with_asks_fired t now words asking f n)) alarms → Keep (λ n. ask_due (h n)) alarms
-      asks_kept alarms keep = keep_alike _ _ alarms (λ n. sym (ap ask_due (s n) ∙ from n (among answering n) ∙ ap ask_due (r n))) keep where
+      pub asks_kept : (alarms : Alarms) → Keep (λ n. ask_due (g n)) alarms → Keep (λ n. ask_due (h n)) alarms
+      asks_kept alarms keep = keep_alike _ _ alarms (λ n. sym (ap ask_due (s n) ∙ from n (among answering n))) keep where
         from : (n : NameValue) (b : Bool) → ask_due (cond b (with_answer_fired now g n) (g n)) ≡ ask_due (g n)
         from n true = refl
         from n false = refl

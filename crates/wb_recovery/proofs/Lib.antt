@@ -1,6 +1,6 @@
 pub mod Outcomes
 pub mod Bounds
-pub mod AlarmOrder
+pub mod NameOrder
 pub mod AlarmMoves
 pub mod AlarmReads
 pub mod AlarmNames
@@ -8,7 +8,6 @@ pub mod Soundness
 pub mod Accepting
 pub mod NameLists
 pub mod Counting
-pub mod AlarmLists
 pub mod NameRows
 pub mod FiredTimers
 pub mod DueNames

@@ -23,7 +23,7 @@ use Rattle.wb_recovery.specs.Events.{Event, Notice, Asked, Got, Tick, names_of, 
 use Rattle.wb_recovery.specs.Standing.{StandsFor}
 use Rattle.wb_recovery.specs.declared.tuning.Tuning.{Tuning}
 use Rattle.wb_recovery.specs.declared.timers.Timers.{Timers}
-use Rattle.wb_recovery.proofs.AlarmNames.{name_decides}
+use Rattle.wb_recovery.proofs.NameOrder.{name_decides}
 
 equal_is : (m n : NameValue) → name_cmp m n ≡ Equal → m ≡ n
 equal_is m n e = (name_decides m n).0 (ap is_eq e)
@@ -49,7 +49,7 @@ sorted_cons : (k : NameValue) (ks : List NameValue) → AllByRecursion (λ y. na
 unfolding IsStrictlySortedBy
 sorted_cons k ks a s = (a, s)
 
-sorted_nil : IsStrictlySortedBy name_cmp []
+pub sorted_nil : IsStrictlySortedBy name_cmp []
 unfolding IsStrictlySortedBy
 sorted_nil = tt
 

@@ -1,6 +1,6 @@
 -- A rising list of names, taken one after another.
-use Rattle.std.proofs.Common.{◌≡◌, ℕ, zero, suc, ◌+◌, ◌<◌, Bool, true, false, cond, Option, List, [], ◌∷◌, length, get_or, take, refl, ap, ◌∙◌, sym, subst, true≢false, arith}
-use Rattle.std.specs.Prelude.{◌||◌, ◌&&◌, not, filter, Contains}
+use Rattle.std.proofs.Common.{◌≡◌, ℕ, zero, suc, ◌+◌, ◌<◌, Bool, true, false, cond, List, [], ◌∷◌, length, get_or, take, refl, ap, ◌∙◌, sym, subst, true≢false, arith}
+use Rattle.std.specs.Prelude.{◌||◌, filter, Contains}
 use Rattle.std.specs.Cmp.{eq_by_cmp_equiv}
 use Rattle.std.specs.List.Sorted.{IsStrictlySortedBy}
 use Rattle.std.specs.Ordering.{eq_by_cmp, is_eq, is_lt, ordering_reverse}
@@ -14,11 +14,9 @@ use Rattle.wb_names.specs.Orders.{name_cmp, same_name}
 use Rattle.wb_names.proofs.Orders.{name_total, same_name-is}
 use Rattle.wb_names.proofs.Listings.{below_all}
 use Rattle.wb_recovery.specs.Events.{smaller}
-use Rattle.wb_recovery.specs.Timing.{is_set_to}
-use Rattle.wb_recovery.specs.Alarms.{alarm, has, among, AreMoved}
-use Rattle.wb_recovery.specs.declared.alarms.Alarm.{Alarm}
+use Rattle.wb_recovery.specs.Alarms.{among}
 use Rattle.wb_recovery.specs.declared.timers.Timers.{Timers}
-use Rattle.wb_recovery.proofs.AlarmOrder.{name_ties}
+use Rattle.wb_recovery.proofs.NameOrder.{name_ties}
 
 contains_at : (xs : List NameValue) (i : ℕ) (d : NameValue) → i < length xs → Contains xs (get_or xs i d)
 contains_at [] i d h = absurd (omega arith)
@@ -81,36 +79,6 @@ module _ (xs : List NameValue) (i : ℕ) (a : NameValue) (s : IsStrictlySortedBy
 
   pub smaller_here : smaller xs a ≡ i
   smaller_here = ap (smaller xs) is ∙ smaller_at xs i a s lt
-
-  -- the alarms of one more name
-  pub moved_more : (dues others : NameValue → Option ℕ) (alarms new : List Alarm) (due other : Option ℕ) → due ≡ dues a → other ≡ others a → AreMoved (take i xs) dues others alarms → ((d : ℕ) (n : NameValue) → has new (alarm d n) ≡ (has alarms (alarm d n) || (same_name a n && (is_set_to d due && not (is_set_to d other))))) → AreMoved (take (i + 1) xs) dues others new
-  moved_more dues others alarms new due other e f so_far one d n =
-      one d n
-      ∙ ap (λ (b : Bool). b || (same_name a n && (is_set_to d due && not (is_set_to d other)))) (so_far d n)
-      ∙ bits (among (take i xs) n) (same_name a n) _ _ same
-      ∙ ap (λ (b : Bool). b && (is_set_to d (dues n) && not (is_set_to d (others n)))) (sym (among_more n)) where
-        same : same_name a n ≡ true → (is_set_to d due && not (is_set_to d other)) ≡ (is_set_to d (dues n) && not (is_set_to d (others n)))
-        same h =
-            let k = same_name-is a n h in
-            let x : due ≡ dues n = e ∙ ap dues k in
-            let y : other ≡ others n = f ∙ ap others k in
-            ap (λ (o : Option ℕ). is_set_to d o && not (is_set_to d other)) x ∙ ap (λ (o : Option ℕ). is_set_to d (dues n) && not (is_set_to d o)) y
-
-        bits : (m t p q : Bool) → (t ≡ true → p ≡ q) → ((m && q) || (t && p)) ≡ ((m || t) && q)
-        bits true true true q h = or_true q ∙ h refl where
-          or_true : (b : Bool) → (b || true) ≡ true
-          or_true true = refl
-          or_true false = refl
-        bits true true false q h = or_false q where
-          or_false : (b : Bool) → (b || false) ≡ b
-          or_false true = refl
-          or_false false = refl
-        bits true false p q h = or_false q where
-          or_false : (b : Bool) → (b || false) ≡ b
-          or_false true = refl
-          or_false false = refl
-        bits false true p q h = h refl
-        bits false false p q h = refl
 
   module _ (f g now new : NameValue → Timers) (so_far : (n : NameValue) → now n ≡ cond (among (take i xs) n) (g n) (f n)) where
     pub before_now : now a ≡ f a

@@ -25,7 +25,7 @@ use Rattle.wb_recovery.specs.declared.timers.Timers.{Timers}
 use Rattle.wb_recovery.specs.declared.timers.AskTimer.{AskTimer}
 use Rattle.wb_recovery.specs.declared.alarms.Alarms.{Alarms}
 use Rattle.wb_recovery.specs.declared.missed.Missed.{Missed}
-use Rattle.wb_recovery.proofs.AlarmOrder.{name_ties}
+use Rattle.wb_recovery.proofs.NameOrder.{name_ties}
 use Rattle.wb_recovery.proofs.SameRecords.{same_records}
 use Rattle.wb_recovery.proofs.Soundness.{all_replaced, keep_moved_to, keep_unmoved}
 
@@ -216,10 +216,10 @@ stands_more t time m events old new is so_far r n = r.timers n ∙ from (same_na
   from false h = so_far n
 
 -- a recovery stays sound without a request timer
-pub sound_unset : (t : Tuning) (m : ℕ) (old new : BTreeMap NameValue Timers) (asks answers : Alarms) (s : IsSound t m old asks answers) (name : NameValue) (before : Timers) → before ≡ timers_at old.entries name → IsOrdered name_cmp new → (moved : Alarms) (from : Option ℕ)
-    → ((n : NameValue) → timers_at new.entries n ≡ cond (same_name name n) (without_ask before) (timers_at old.entries n)) → from ≡ ask_due before
-    → ((dues : NameValue → Option ℕ) → dues name ≡ from → Keep dues asks → Keep (with_due dues name None) moved) → IsSound t m new moved answers
-sound_unset t m old new asks answers s name before is ordered moved from r f k =
+pub sound_unset : (t : Tuning) (m : ℕ) (old new : BTreeMap NameValue Timers) (asks answers : Alarms) (s : IsSound t m old asks answers) (name : NameValue) (before : Timers) → before ≡ timers_at old.entries name → IsOrdered name_cmp new → (moved : Alarms)
+    → ((n : NameValue) → timers_at new.entries n ≡ cond (same_name name n) (without_ask before) (timers_at old.entries n))
+    → ((dues : NameValue → Option ℕ) → Keep dues asks → Keep (with_due dues name None) moved) → IsSound t m new moved answers
+sound_unset t m old new asks answers s name before is ordered moved r k =
     let delays = subst AreDelays (sym is) (s.delays name) in
     let same : answer_due (timers_at old.entries name) ≡ answer_due (without_ask before) = ap answer_due (sym is) in
     record {
@@ -227,7 +227,7 @@ sound_unset t m old new asks answers s name before is ordered moved from r f k =
       moment = s.moment;
       ordered = ordered;
       delays = all_replaced name (without_ask before) _ _ r AreDelays (tt, delays.1) s.delays;
-      asks = keep_moved_to name (without_ask before) _ _ r ask_due None moved refl (k _ (ap ask_due (sym is) ∙ sym f) s.asks);
+      asks = keep_moved_to name (without_ask before) _ _ r ask_due None moved refl (k _ s.asks);
       answers = keep_unmoved name (without_ask before) _ _ r answer_due answers same s.answers;
     }
 

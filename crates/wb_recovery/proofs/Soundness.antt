@@ -1,13 +1,12 @@
 -- How a recovery stays sound as the timers of a name are replaced.
-use Rattle.std.proofs.Common.{◌≡◌, ℕ, Bool, true, false, cond, refl, ap, ◌∙◌, sym, subst, Option, Some, None, ◌^◌, ◌<◌, true≢false, rules}
+use Rattle.std.proofs.Common.{◌≡◌, ℕ, Bool, true, false, cond, refl, ap, ◌∙◌, sym, subst, List, Option, Some, None, ◌^◌, ◌<◌, true≢false, rules}
 use Rattle.std.specs.Prelude.{unwrap_or, IsSome}
 use Rattle.std.specs.BTreeMap.{BTreeMap, IsOrdered, get, is_at}
-use Rattle.std.specs.BTreeSet.{contains}
 use Rattle.wb_names.specs.Values.{NameValue}
 use Rattle.wb_names.specs.Orders.{same_name, name_cmp}
+use Rattle.wb_names.proofs.Orders.{same_name-is}
 use Rattle.wb_recovery.specs.Timing.{no_timers, ask_due, answer_due, is_standing, AreDelays, with_ask, with_answer}
-use Rattle.wb_recovery.specs.Alarms.{Keep, with_due, alarm_cmp}
-use Rattle.wb_recovery.specs.Timing.{is_set_to}
+use Rattle.wb_recovery.specs.Alarms.{Keep, with_due}
 use Rattle.wb_recovery.specs.Values.{RecoveryValue, timers_at, timers_in, Replaces}
 use Rattle.wb_recovery.specs.Sound.{IsSound}
 use Rattle.wb_recovery.specs.declared.tuning.Tuning.{Tuning}
@@ -15,12 +14,11 @@ use Rattle.wb_recovery.specs.declared.timers.Timers.{Timers}
 use Rattle.wb_recovery.specs.declared.timers.AskTimer.{AskTimer}
 use Rattle.wb_recovery.specs.declared.timers.AnswerTimer.{AnswerTimer}
 use Rattle.wb_recovery.specs.declared.alarms.Alarms.{Alarms}
-use Rattle.wb_recovery.proofs.AlarmOrder.{name_ties}
-use Rattle.wb_recovery.proofs.AlarmMoves.{keep_same}
+use Rattle.wb_recovery.proofs.NameOrder.{name_ties}
 
 -- alarms of moments that are the same
 pub keep_alike : (f g : NameValue → Option ℕ) (alarms : Alarms) → ((n : NameValue) → f n ≡ g n) → Keep f alarms → Keep g alarms
-keep_alike f g alarms same keep = record { each = λ d n. keep.each d n ∙ ap (is_set_to d) (same n) }
+keep_alike f g alarms same keep = record { each = λ n. keep.each n ∙ same n; bound = λ n d e. keep.bound n d (same n ∙ e) }
 
 -- a map whose value at a name was written
 pub written : (old new : BTreeMap NameValue Timers) (name : NameValue) (after : Timers) → ((q : NameValue) → get name_cmp new q ≡ cond (is_at (name_cmp name) q) (Some after) (get name_cmp old q)) → (n : NameValue) → timers_at new.entries n ≡ cond (same_name name n) after (timers_at old.entries n)
@@ -44,7 +42,10 @@ module _ (name : NameValue) (after : Timers) (f g : NameValue → Timers) (repla
 
   -- alarms of moments that stay
   pub keep_unmoved : (due : Timers → Option ℕ) (alarms : Alarms) → due (f name) ≡ due after → Keep (λ n. due (f n)) alarms → Keep (λ n. due (g n)) alarms
-  keep_unmoved due alarms same keep = keep_alike _ _ alarms (dues_replaced due) (record { each = keep_same (λ n. due (f n)) name (due after) (contains alarm_cmp alarms.set) same keep.each })
+  keep_unmoved due alarms same keep = keep_alike _ _ alarms (λ n. from n (same_name name n) refl ∙ sym (ap due (replaced n))) keep where
+    from : (n : NameValue) (b : Bool) → same_name name n ≡ b → due (f n) ≡ due (cond b after (f n))
+    from n true e = ap (λ (m : NameValue). due (f m)) (sym (same_name-is name n e)) ∙ same
+    from n false e = refl
 
   pub keep_moved_to : (due : Timers → Option ℕ) (o : Option ℕ) (alarms : Alarms) → o ≡ due after → Keep (with_due (λ n. due (f n)) name o) alarms → Keep (λ n. due (g n)) alarms
   keep_moved_to due o alarms same keep = keep_alike _ _ alarms (λ n. ap (λ (p : Option ℕ). with_due (λ n. due (f n)) name p n) same ∙ dues_replaced due n) keep
@@ -54,10 +55,9 @@ module _ (t : Tuning) (m : ℕ) (old new : BTreeMap NameValue Timers) (asks answ
   abbrev pub Writes : Timers → Type 0
   Writes after = (q : NameValue) → get name_cmp new q ≡ cond (is_at (name_cmp name) q) (Some after) (get name_cmp old q)
 
-  pub sound_ask : (ask : AskTimer) (moved : Alarms) (from : Option ℕ) → Writes (with_ask before (Some ask)) → ask.delay < 2 ^ 24 → from ≡ ask_due before → ((dues : NameValue → Option ℕ) → dues name ≡ from → Keep dues asks → Keep (with_due dues name (Some ask.due)) moved) → IsSound t m new moved answers
-  sound_ask ask moved from w d f k =
+  pub sound_ask : (ask : AskTimer) (moved : Alarms) → Writes (with_ask before (Some ask)) → ask.delay < 2 ^ 24 → ((dues : NameValue → Option ℕ) → Keep dues asks → Keep (with_due dues name (Some ask.due)) moved) → IsSound t m new moved answers
+  sound_ask ask moved w d k =
       let r = written old new name (with_ask before (Some ask)) w in
-      let had : ask_due (timers_at old.entries name) ≡ from = ap ask_due (sym is) ∙ sym f in
       let same : answer_due (timers_at old.entries name) ≡ answer_due (with_ask before (Some ask)) = ap answer_due (sym is) in
       let delays = subst AreDelays (sym is) (s.delays name) in
       record {
@@ -65,14 +65,13 @@ module _ (t : Tuning) (m : ℕ) (old new : BTreeMap NameValue Timers) (asks answ
         moment = s.moment;
         ordered = ordered;
         delays = all_replaced name (with_ask before (Some ask)) _ _ r AreDelays (d, delays.1) s.delays;
-        asks = keep_moved_to name (with_ask before (Some ask)) _ _ r ask_due (Some ask.due) moved refl (k _ had s.asks);
+        asks = keep_moved_to name (with_ask before (Some ask)) _ _ r ask_due (Some ask.due) moved refl (k _ s.asks);
         answers = keep_unmoved name (with_ask before (Some ask)) _ _ r answer_due answers same s.answers;
       }
 
-  pub sound_answer : (answer : AnswerTimer) (moved : Alarms) (from : Option ℕ) → Writes (with_answer before (Some answer)) → answer.delay < 2 ^ 24 → from ≡ answer_due before → ((dues : NameValue → Option ℕ) → dues name ≡ from → Keep dues answers → Keep (with_due dues name (Some answer.due)) moved) → IsSound t m new asks moved
-  sound_answer answer moved from w d f k =
+  pub sound_answer : (answer : AnswerTimer) (moved : Alarms) → Writes (with_answer before (Some answer)) → answer.delay < 2 ^ 24 → ((dues : NameValue → Option ℕ) → Keep dues answers → Keep (with_due dues name (Some answer.due)) moved) → IsSound t m new asks moved
+  sound_answer answer moved w d k =
       let r = written old new name (with_answer before (Some answer)) w in
-      let had : answer_due (timers_at old.entries name) ≡ from = ap answer_due (sym is) ∙ sym f in
       let same : ask_due (timers_at old.entries name) ≡ ask_due (with_answer before (Some answer)) = ap ask_due (sym is) in
       let delays = subst AreDelays (sym is) (s.delays name) in
       record {
@@ -81,20 +80,39 @@ module _ (t : Tuning) (m : ℕ) (old new : BTreeMap NameValue Timers) (asks answ
         ordered = ordered;
         delays = all_replaced name (with_answer before (Some answer)) _ _ r AreDelays (delays.0, d) s.delays;
         asks = keep_unmoved name (with_answer before (Some answer)) _ _ r ask_due asks same s.asks;
-        answers = keep_moved_to name (with_answer before (Some answer)) _ _ r answer_due (Some answer.due) moved refl (k _ had s.answers);
+        answers = keep_moved_to name (with_answer before (Some answer)) _ _ r answer_due (Some answer.due) moved refl (k _ s.answers);
       }
 
-  pub sound_end : (quiet : ℕ) (a b : Alarms) (from to : Option ℕ) → ((n : NameValue) → timers_at new.entries n ≡ cond (same_name name n) (record { ask = None; answer = None; quiet = quiet }) (timers_at old.entries n)) → from ≡ ask_due before → to ≡ answer_due before → ((dues : NameValue → Option ℕ) → dues name ≡ from → Keep dues asks → Keep (with_due dues name None) a) → ((dues : NameValue → Option ℕ) → dues name ≡ to → Keep dues answers → Keep (with_due dues name None) b) → IsSound t m new a b
-  sound_end quiet a b from to r f g h k = record {
+  pub sound_end : (quiet : ℕ) (a b : Alarms) → ((n : NameValue) → timers_at new.entries n ≡ cond (same_name name n) (record { ask = None; answer = None; quiet = quiet }) (timers_at old.entries n)) → ((dues : NameValue → Option ℕ) → Keep dues asks → Keep (with_due dues name None) a) → ((dues : NameValue → Option ℕ) → Keep dues answers → Keep (with_due dues name None) b) → IsSound t m new a b
+  sound_end quiet a b r h k = record {
     tuning = s.tuning;
     moment = s.moment;
     ordered = ordered;
     delays = all_replaced name _ _ _ r AreDelays (ends quiet) s.delays;
-    asks = keep_moved_to name _ _ _ r ask_due None a refl (h _ (ap ask_due (sym is) ∙ sym f) s.asks);
-    answers = keep_moved_to name _ _ _ r answer_due None b refl (k _ (ap answer_due (sym is) ∙ sym g) s.answers);
+    asks = keep_moved_to name _ _ _ r ask_due None a refl (h _ s.asks);
+    answers = keep_moved_to name _ _ _ r answer_due None b refl (k _ s.answers);
   } where
     ends : (q : ℕ) → AreDelays (record { ask = None; answer = None; quiet = q })
     ends q = search rules
+
+-- what could not be written leaves all as it was
+pub sound_again : (t : Tuning) (m : ℕ) (old new : BTreeMap NameValue Timers) (asks answers moved others : Alarms) → IsSound t m old asks answers → new.entries ≡ old.entries → IsOrdered name_cmp new
+    → Keep (λ n. ask_due (timers_at old.entries n)) moved → Keep (λ n. answer_due (timers_at old.entries n)) others → IsSound t m new moved others
+sound_again t m old new asks answers moved others s same ordered k l = record {
+  tuning = s.tuning;
+  moment = s.moment;
+  ordered = ordered;
+  delays = λ n. subst (λ (es : List (NameValue × Timers)). AreDelays (timers_at es n)) (sym same) (s.delays n);
+  asks = keep_alike _ _ moved (λ n. ap (λ (es : List (NameValue × Timers)). ask_due (timers_at es n)) (sym same)) k;
+  answers = keep_alike _ _ others (λ n. ap (λ (es : List (NameValue × Timers)). answer_due (timers_at es n)) (sym same)) l;
+}
+
+-- an alarm that was set for a name without one, and taken away again
+pub keep_back : (dues : NameValue → Option ℕ) (name : NameValue) (due : Option ℕ) (alarms : Alarms) → dues name ≡ None → Keep (with_due (with_due dues name due) name None) alarms → Keep dues alarms
+keep_back dues name due alarms none keep = keep_alike _ _ alarms (λ n. from n (same_name name n) refl) keep where
+  from : (n : NameValue) (b : Bool) → same_name name n ≡ b → cond b None (cond b due (dues n)) ≡ dues n
+  from n true e = sym none ∙ ap dues (same_name-is name n e)
+  from n false e = refl
 
 -- a name with a timer has a record
 pub has_record : (kept : BTreeMap NameValue Timers) (name : NameValue) → is_standing (timers_at kept.entries name) ≡ true → IsSome (get name_cmp kept name)

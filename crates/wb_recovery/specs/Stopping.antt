@@ -5,42 +5,42 @@ use Rattle.wb_names.specs.Faults.{first_of, fault_unless}
 use Rattle.wb_names.specs.Values.{NameValue}
 use Rattle.wb_names.specs.Orders.{same_name, name_cmp}
 use Rattle.wb_names.specs.Listing.{Lists}
-use Rattle.wb_recovery.specs.Alarms.{among, AreMoved}
+use Rattle.wb_recovery.specs.Alarms.{among}
 use Rattle.wb_recovery.specs.Events.{Event, Got}
 use Rattle.wb_recovery.specs.Faults.{is_moment, is_delay}
-use Rattle.wb_recovery.specs.Timing.{got, is_ask_due, is_answer_due, ask_due}
+use Rattle.wb_recovery.specs.Timing.{got, is_ask_due, is_answer_due}
 use Rattle.wb_recovery.specs.Firing.{with_ask_fired, with_answer_fired}
 use Rattle.wb_recovery.specs.Values.{RecoveryValue, timers_in}
 use Rattle.wb_recovery.specs.declared.fault.RecoveryFault.{RecoveryFault}
 use Rattle.wb_recovery.specs.declared.fault.RecoveryFault.TheVariants.{BackInTime, Range}
-use Rattle.wb_recovery.specs.declared.come.Come.{Come}
+use Rattle.wb_recovery.specs.declared.received.Received.{Received}
 use Rattle.wb_recovery.specs.declared.plan.Plan.{Plan}
 use Rattle.wb_recovery.specs.declared.tuning.Tuning.{Tuning}
 use Rattle.wb_recovery.specs.declared.timers.Timers.{Timers}
 
 -- the calls, once each of these names has come, in their order
-abbrev pub gots : ℕ → List Event → List Come → List Event
-gots now events come = fold (λ before c. Got c.name now c.delay ∷ before) events come
+abbrev pub receipts : ℕ → List Event → List Received → List Event
+receipts now events received = fold (λ before c. Got c.name now c.delay ∷ before) events received
 
 -- the name has come
-abbrev pub has_come : List Come → NameValue → Bool
-has_come come n = list_any (λ c. same_name c.name n) come
+abbrev pub is_received : List Received → NameValue → Bool
+is_received received n = list_any (λ c. same_name c.name n) received
 
 -- the first fault of such a call
-abbrev pub gots_fault : ℕ → ℕ → List Come → Option RecoveryFault
-gots_fault last now come = first_of (
+abbrev pub receipts_fault : ℕ → ℕ → List Received → Option RecoveryFault
+receipts_fault last now received = first_of (
     fault_unless (nat_le last now) BackInTime
-    ∷ fault_unless (list_all (λ c. is_delay c.delay) come && is_moment now) Range
+    ∷ fault_unless (list_all (λ c. is_delay c.delay) received && is_moment now) Range
     ∷ [])
 
 -- the timers of a name, once these have come
-abbrev pub got_each : ℕ → NameValue → Timers → List Come → Timers
-got_each now n s come = fold (λ before c. if same_name c.name n then got now c.delay before else before) s come
+abbrev pub got_each : ℕ → NameValue → Timers → List Received → Timers
+got_each now n s received = fold (λ before c. if same_name c.name n then got now c.delay before else before) s received
 
-pub record EndsAll (now : ℕ) (come : List Come) (old new : RecoveryValue) : Type 0 where
+pub record EndsAll (now : ℕ) (received : List Received) (old new : RecoveryValue) : Type 0 where
   pub tuning : new.tuning ≡ old.tuning
   pub moment : new.moment ≡ old.moment
-  pub timers : (n : NameValue) → timers_in new n ≡ got_each now n (timers_in old n) come
+  pub timers : (n : NameValue) → timers_in new n ≡ got_each now n (timers_in old n) received
 
 -- the timers of a name, once these requests and answers have fired
 abbrev pub with_asks_fired : Tuning → ℕ → List ℕ → List NameValue → (NameValue → Timers) → NameValue → Timers
@@ -55,16 +55,14 @@ pub record FiresThese (now : ℕ) (words : List ℕ) (asking answering : List Na
   pub moment : new.moment ≡ old.moment
   pub timers : (n : NameValue) → timers_in new n ≡ with_these_fired old.tuning now words asking answering (timers_in old) n
 
--- What a plan says of a recovery and of names that have come: those that fire, what their requests become, and which alarms move.
-pub record IsPlanOf (value : RecoveryValue) (come : List Come) (words : List ℕ) (plan : Plan) : Type 0 where
+-- What a plan says of a recovery and of names that have come: those that fire, and what their requests become.
+pub record IsPlanOf (value : RecoveryValue) (received : List Received) (words : List ℕ) (plan : Plan) : Type 0 where
   pub moment : plan.moment < 2 ^ 48
-  pub delays : list_all (λ c. is_delay c.delay) come ≡ true
-  pub asking : Lists name_cmp (λ n. (not (has_come come n) && is_ask_due plan.moment (timers_in value n).ask) ≡ true) plan.asking.items
-  pub answering : Lists name_cmp (λ n. (not (has_come come n) && is_answer_due plan.moment (timers_in value n).answer) ≡ true) plan.answering.items
-  pub after : plan.back_offs.after.items ≡ map (with_ask_fired value.tuning plan.moment words plan.asking.items (timers_in value)) plan.asking.items
-  pub left : AreMoved plan.asking.items (λ n. ask_due (timers_in value n)) (λ n. ask_due (with_ask_fired value.tuning plan.moment words plan.asking.items (timers_in value) n)) plan.back_offs.left.items
-  pub taken : AreMoved plan.asking.items (λ n. ask_due (with_ask_fired value.tuning plan.moment words plan.asking.items (timers_in value) n)) (λ n. ask_due (timers_in value n)) plan.back_offs.taken.items
+  pub delays : list_all (λ c. is_delay c.delay) received ≡ true
+  pub asking : Lists name_cmp (λ n. (not (is_received received n) && is_ask_due plan.moment (timers_in value n).ask) ≡ true) plan.asking.items
+  pub answering : Lists name_cmp (λ n. (not (is_received received n) && is_answer_due plan.moment (timers_in value n).answer) ≡ true) plan.answering.items
+  pub after : plan.after.items ≡ map (with_ask_fired value.tuning plan.moment words plan.asking.items (timers_in value)) plan.asking.items
 
 -- with some words
-abbrev pub IsPlan : RecoveryValue → List Come → Plan → Type 0
-IsPlan value come plan = (words : List ℕ) × IsPlanOf value come words plan
+abbrev pub IsPlan : RecoveryValue → List Received → Plan → Type 0
+IsPlan value received plan = (words : List ℕ) × IsPlanOf value received words plan

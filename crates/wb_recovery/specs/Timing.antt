@@ -13,23 +13,23 @@ abbrev pub are_constants : Tuning → Bool
 are_constants t = is_constant t.c1 && is_constant t.c2 && is_constant t.d1 && is_constant t.d2
 
 -- A moment drawn at random: after the lead of 2^level * a delays, within the next 2^level * b delays.
-abbrev pub draw : ℕ → ℕ → ℕ → ℕ → ℕ → ℕ → ℕ
-draw now level a b delay word = now + 2 ^ level * a * delay + word % (2 ^ level * b * delay + 1)
+abbrev pub expiry : ℕ → ℕ → ℕ → ℕ → ℕ → ℕ → ℕ
+expiry now level a b delay word = now + 2 ^ level * a * delay + word % (2 ^ level * b * delay + 1)
 
 -- a request timer as a notice sets it
 abbrev pub new_ask : Tuning → ℕ → ℕ → ℕ → AskTimer
-new_ask t now delay word = record { level = 0; due = draw now 0 t.c1 t.c2 delay word; deaf = 0; delay = delay }
+new_ask t now delay word = record { level = 0; due = expiry now 0 t.c1 t.c2 delay word; deaf = 0; delay = delay }
 
 -- The wait of each level is twice that of the one below, up to level 16. For the first half of it, requests are ignored.
 abbrev pub backed_off : Tuning → AskTimer → ℕ → ℕ → ℕ → AskTimer
 backed_off t ask now delay word =
     let level = min (ask.level + 1) 16 in
-    let due = draw now level t.c1 t.c2 delay word in
+    let due = expiry now level t.c1 t.c2 delay word in
     record { level = level; due = due; deaf = now + (due - now) / 2; delay = delay }
 
 -- an answer timer as a request for a held name sets it
 abbrev pub new_answer : Tuning → ℕ → ℕ → ℕ → AnswerTimer
-new_answer t now delay word = record { due = draw now 0 t.d1 t.d2 delay word; delay = delay }
+new_answer t now delay word = record { due = expiry now 0 t.d1 t.d2 delay word; delay = delay }
 
 -- no timer stands, and nothing is quiet
 abbrev pub no_timers : Timers

@@ -1,39 +1,28 @@
-ghost use Rattle.std.specs.Prelude.{◌≡◌, is_some, ℕ, Bool, Option, true, map, filter, take_while, nat_le, length, IfOk, OnOk, OnErr};
+//! The moments at which timers are due.
+
+ghost use Rattle.std.specs.Prelude.{◌≡◌, ℕ, Bool, Option, true, filter, nat_le, length, IsSome, IfOk, OnOk, OnErr};
 ghost use Rattle.std.specs.Prelude.{Some as some, None as none};
-ghost use Rattle.std.specs.Prelude.{◌||◌, ◌&&◌, not, false};
-ghost use Rattle.std.specs.BTreeSet.{contains, IsOrdered};
+ghost use Rattle.std.specs.Prelude.{◌&&◌, not, is_some, if◌then◌else◌};
+ghost use Rattle.std.specs.BTreeMap.{get, keys, values, IsOrdered};
+ghost use Rattle.std.specs.BTreeSet.{contains};
 ghost use Rattle.std.specs.Fn.{FnReturnsAt};
+ghost use Rattle.std.specs.List.{filter_map};
 ghost use Rattle.wb_names.specs.Values.{NameValue};
 ghost use Rattle.wb_names.specs.Orders.{name_cmp};
 ghost use Rattle.wb_names.specs.Listing.{Lists};
-ghost use Rattle.wb_recovery.specs.declared.alarms.Alarm.{Alarm as AnAlarm};
-ghost use Rattle.wb_recovery.specs.Alarms.{alarm, alarm_cmp, has, Keep, AreLeft, Tells, is_until, with_due, CountsAll, CountsUntil, IsFirst};
+ghost use Rattle.wb_recovery.specs.Alarms.{Keep, Tells, is_until, with_due, due_name, earlier, earliest, CountsAll, CountsUntil, IsFirst};
 
 use std::alloc::{AllocError, Global};
-use std::collections::BTreeSet;
+use std::collections::{BTreeMap, BTreeSet};
 use wb_names::Name;
 
-/// The moment at which a timer of a name is due. Alarms are ordered by moment, then by name.
-#[derive(Clone, Copy, Debug, PartialEq, Eq, PartialOrd, Ord)]
-pub(crate) struct Alarm {
-    due: u64,
-    name: Name,
-}
-
-impl Alarm {
-    /// The alarm of a name.
-    #[inline(always)]
-    pub(crate) fn new(due: u64, name: Name) -> Alarm
-        ensures { result ≡ alarm due name }
-    {
-        Alarm { due, name }
-    }
-}
-
-/// The alarms of all timers of one kind, so that the next ones are found without a walk over all.
+/// The moments at which all timers of one kind are due, by name. A timer that moves or ends takes no
+/// memory: only one that is set for a name without one does.
 #[derive(Debug, Drop)]
 pub(crate) struct Alarms {
-    set: BTreeSet<Alarm>,
+    dues: BTreeMap<Name, u64>,
+    /// No timer is due before this moment, so that up to it none is looked at.
+    soonest: u64,
 }
 
 impl Alarms {
@@ -42,16 +31,19 @@ impl Alarms {
         ensures { Keep (λ n. none) result }
     {
         Alarms {
-            set: BTreeSet::new(alloc),
+            dues: BTreeMap::new(alloc),
+            soonest: u64::MAX,
         }
     }
 
     /// The same alarms.
     pub(crate) fn copy(&self) -> Result<Alarms, AllocError>
-        ensures { IfOk result (λ alarms. alarms.set.keys ≡ self.now.set.keys) }
+        ensures dues { IfOk result (λ alarms. alarms.dues.entries ≡ self.now.dues.entries) }
+        ensures soonest { IfOk result (λ alarms. alarms.soonest ≡ self.now.soonest) }
     {
         Ok(Alarms {
-            set: self.set.clone()?,
+            dues: self.dues.clone()?,
+            soonest: self.soonest,
         })
     }
 
@@ -59,34 +51,48 @@ impl Alarms {
     pub(crate) fn first(&self) -> Option<u64>
         ensures { (dues : NameValue → Option ℕ) → Keep dues self.now → IsFirst dues result }
     {
-        let alarm = self.set.first()?;
-        Some(alarm.due)
+        self.least()
     }
 
-    /// How many timers there are: a number that the set keeps.
+    /// The least of the moments.
+    fn least(&self) -> Option<u64>
+        ensures least { result ≡ earliest none (values self.now.dues) }
+        ensures ordered { IsOrdered name_cmp self.now.dues }
+    {
+        let mut least = None;
+        for due in self.dues.values() {
+            least = Some(earlier(least, *due));
+        }
+        least
+    }
+
+    /// How many timers there are: a number that the map keeps.
     pub(crate) fn len(&self) -> usize
         ensures { (dues : NameValue → Option ℕ) → Keep dues self.now → CountsAll dues result }
     {
-        self.set.len()
+        self.dues.len()
     }
 
-    /// How many timers are due by this moment. It looks at these alone, and at the next one.
+    /// How many timers are due by this moment. Where none is, it mostly looks at none.
     pub(crate) fn count_until(&self, now: u64) -> usize
         ensures { (dues : NameValue → Option ℕ) → Keep dues self.now → CountsUntil now dues result }
     {
+        if now < self.soonest {
+            return 0;
+        }
         self.due_len(now)
     }
 
-    /// How many alarms come first that are due.
+    /// How many of the moments have come.
     fn due_len(&self, now: u64) -> usize
-        ensures len { result ≡ length (take_while (λ a. nat_le a.due now) self.now.set.keys) }
-        ensures ordered { IsOrdered alarm_cmp self.now.set }
+        ensures len { result ≡ length (filter (λ d. nat_le d now) (values self.now.dues)) }
+        ensures ordered { IsOrdered name_cmp self.now.dues }
     {
-        self.set.iter().take_while(|alarm| alarm.due <= now).count()
+        self.dues.values().filter(|due| **due <= now).count()
     }
 
-    /// The names whose timers are due by this moment, ascending, without the stopped ones. It looks at
-    /// these timers alone, and at the next one.
+    /// The names whose timers are due by this moment, ascending, without the stopped ones. Where none
+    /// is due, it mostly looks at none, and takes no memory.
     pub(crate) fn names_until(
         &self,
         alloc: Global,
@@ -95,27 +101,28 @@ impl Alarms {
     ) -> Result<Vec<Name>, AllocError>
         ensures { (dues : NameValue → Option ℕ) → Keep dues self.now → IfOk result (λ v. Lists name_cmp (λ n. (not (contains name_cmp stopped.now n) && is_until now (dues n)) ≡ true) v.items) }
     {
-        let mut names = self.due_names(alloc, now, stopped)?;
-        names.sort_unstable();
-        Ok(names)
+        if now < self.soonest {
+            return Ok(Vec::new(alloc));
+        }
+        self.due_names(alloc, now, stopped)
     }
 
-    /// The same, in the order of the alarms.
+    /// The same, by a look at each.
     fn due_names(
         &self,
         alloc: Global,
         now: u64,
         stopped: &BTreeSet<Name>,
     ) -> Result<Vec<Name>, AllocError>
-        ensures ordered { IsOrdered alarm_cmp self.now.set }
-        ensures names { IfOk result (λ v. v.items ≡ map (λ a. a.name) (filter (λ a. not (contains name_cmp stopped.now a.name)) (take_while (λ a. nat_le a.due now) self.now.set.keys))) }
+        ensures ordered { IsOrdered name_cmp self.now.dues }
+        ensures names { IfOk result (λ v. v.items ≡ filter_map (λ e. due_name (contains name_cmp stopped.now) now e.0 e.1) self.now.dues.entries) }
     {
-        let due = self.set.iter().take_while(|alarm| alarm.due <= now);
-        let left = due.filter(|alarm| !stopped.contains(&alarm.name));
-        left.map(|alarm| alarm.name).collect(alloc)
+        let dues = self.dues.iter();
+        let names = dues.filter_map(|(name, due)| due_name(*name, *due, now, stopped));
+        names.collect(alloc)
     }
 
-    /// The names that have a timer and pass a test, ascending. It copies and sorts these alone.
+    /// The names that have a timer and pass a test, ascending. It copies these alone.
     pub(crate) fn names_where<F: Fn(&Name) -> bool>(
         &self,
         alloc: Global,
@@ -124,84 +131,83 @@ impl Alarms {
         requires { F.IsAlwaysCallable test }
         ensures { (p : NameValue → Bool) → Tells (FnReturnsAt F.Fn test) p → (dues : NameValue → Option ℕ) → Keep dues self.now → IfOk result (λ v. Lists name_cmp (λ n. (p n && is_some (dues n)) ≡ true) v.items) }
     {
-        let mut names = self.some_names(alloc, test)?;
-        names.sort_unstable();
-        Ok(names)
+        self.some_names(alloc, test)
     }
 
-    /// The same, in the order of the alarms.
+    /// The same, told of the map.
     fn some_names<F: Fn(&Name) -> bool>(
         &self,
         alloc: Global,
         test: F,
     ) -> Result<Vec<Name>, AllocError>
         requires { F.IsAlwaysCallable test }
-        ensures ordered { IsOrdered alarm_cmp self.now.set }
-        ensures names { (p : NameValue → Bool) → Tells (FnReturnsAt F.Fn test) p → IfOk result (λ v. v.items ≡ map (λ a. a.name) (filter (λ a. p a.name) self.now.set.keys)) }
+        ensures ordered { IsOrdered name_cmp self.now.dues }
+        ensures names { (p : NameValue → Bool) → Tells (FnReturnsAt F.Fn test) p → IfOk result (λ v. v.items ≡ filter p (keys self.now.dues)) }
     {
         let mut names = Vec::new(alloc);
-        for alarm in self.set.iter() {
-            if test(&alarm.name) {
-                names.push(alarm.name)?;
+        for name in self.dues.keys() {
+            if test(name) {
+                names.push(*name)?;
             }
         }
         Ok(names)
     }
 
-    /// Moves the alarm of a name.
-    pub(crate) fn set(&mut self, name: Name, from: Option<u64>, to: u64) -> Result<(), AllocError>
-        ensures ok { OnOk result ((dues : NameValue → Option ℕ) → dues name ≡ from → Keep dues self.old → Keep (with_due dues name (some to)) self.new) }
+    /// Sets the alarm of a name, or moves it.
+    pub(crate) fn set(&mut self, name: Name, due: u64) -> Result<(), AllocError>
+        ensures ok { OnOk result ((dues : NameValue → Option ℕ) → Keep dues self.old → Keep (with_due dues name (some due)) self.new) }
         ensures err { OnErr result ((dues : NameValue → Option ℕ) → Keep dues self.old → Keep dues self.new) }
     {
-        if from == Some(to) {
-            return Ok(());
-        }
-        self.set.insert(Alarm { due: to, name })?;
-        if let Some(due) = from {
-            self.set.remove(&Alarm { due, name });
-        }
+        self.dues.insert(name, due)?;
+        self.soonest = self.soonest.min(due);
         Ok(())
+    }
+
+    /// Moves the alarm of a name that has one, or takes it away. It takes no memory.
+    pub(crate) fn follow(&mut self, name: Name, due: Option<u64>)
+        requires { IsSome (get name_cmp self.old.dues name) }
+        ensures { (dues : NameValue → Option ℕ) → Keep dues self.old → Keep (with_due dues name due) self.new }
+    {
+        match due {
+            Some(due) => {
+                // Only an insertion of a new name can want memory.
+                let _ = self.dues.insert(name, due);
+                self.soonest = self.soonest.min(due);
+            }
+            None => self.clear(name),
+        }
     }
 
     /// Takes the alarm of a name away.
-    pub(crate) fn clear(&mut self, name: Name, from: Option<u64>)
-        ensures { (dues : NameValue → Option ℕ) → dues name ≡ from → Keep dues self.old → Keep (with_due dues name none) self.new }
+    pub(crate) fn clear(&mut self, name: Name)
+        ensures { (dues : NameValue → Option ℕ) → Keep dues self.old → Keep (with_due dues name none) self.new }
     {
-        if let Some(due) = from {
-            self.set.remove(&Alarm { due, name });
-        }
+        self.dues.remove(&name);
     }
 
-    /// Takes some alarms away and sets others, all or none.
-    pub(crate) fn exchange(&mut self, left: &[Alarm], taken: &[Alarm]) -> Result<(), AllocError>
-        ensures ok { OnOk result ((before after : NameValue → Option ℕ) → Keep before self.old → AreLeft before after left.now → AreLeft after before taken.now → Keep after self.new) }
-        ensures err { OnErr result ((before after : NameValue → Option ℕ) → Keep before self.old → AreLeft after before taken.now → Keep before self.new) }
+    /// The same alarms. Where some moment has come, they are looked through for the next.
+    pub(crate) fn renew_bound(&mut self, now: u64)
+        ensures { (dues : NameValue → Option ℕ) → Keep dues self.old → Keep dues self.new }
     {
-        self.add_all(taken)?;
-        self.remove_all(left);
-        Ok(())
-    }
-
-    /// Sets alarms, all or none: where memory runs out, those that were set are taken away again.
-    fn add_all(&mut self, alarms: &[Alarm]) -> Result<(), AllocError>
-        ensures ok { OnOk result ((x : AnAlarm) → contains alarm_cmp self.new.set x ≡ (contains alarm_cmp self.old.set x || has alarms.now x)) }
-        ensures err { OnErr result (((x : AnAlarm) → has alarms.now x ≡ true → contains alarm_cmp self.old.set x ≡ false) → (x : AnAlarm) → contains alarm_cmp self.new.set x ≡ contains alarm_cmp self.old.set x) }
-    {
-        for (count, alarm) in alarms.iter().enumerate() {
-            if self.set.insert(*alarm).is_err() {
-                self.remove_all(&alarms[..count]);
-                return Err(AllocError);
-            }
-        }
-        Ok(())
-    }
-
-    /// Takes alarms away.
-    fn remove_all(&mut self, alarms: &[Alarm])
-        ensures { (x : AnAlarm) → contains alarm_cmp self.new.set x ≡ (contains alarm_cmp self.old.set x && not (has alarms.now x)) }
-    {
-        for alarm in alarms {
-            self.set.remove(alarm);
+        if self.soonest <= now {
+            self.soonest = self.first().unwrap_or(u64::MAX);
         }
     }
+}
+
+/// The lesser of two moments, of which there may be one.
+fn earlier(first: Option<u64>, due: u64) -> u64
+    ensures { result ≡ earlier first due }
+{
+    match first {
+        Some(first) => first.min(due),
+        None => due,
+    }
+}
+
+/// A name whose timer is due by this moment, unless it is stopped.
+fn due_name(name: Name, due: u64, now: u64, stopped: &BTreeSet<Name>) -> Option<Name>
+    ensures { result ≡ due_name (contains name_cmp stopped.now) now name due }
+{
+    (due <= now && !stopped.contains(&name)).then_some(name)
 }

@@ -15,14 +15,14 @@
 
 mod action;
 mod alarms;
-mod come;
-mod draw;
+mod expiry;
 mod fault;
 mod firing;
 pub mod laws;
 mod limits;
 mod missed;
 mod plan;
+mod received;
 mod records;
 mod recovery;
 mod round_trip;
@@ -30,11 +30,11 @@ mod timers;
 mod tuning;
 
 pub use action::Action;
-pub use come::Come;
 pub use fault::{RecoveryFault, TuningFault};
 pub use limits::{DELAY_LIMIT, MOMENT_LIMIT};
 pub use missed::Missed;
 pub use plan::Plan;
+pub use received::Received;
 pub use recovery::Recovery;
 pub use round_trip::distance;
 pub use timers::{AnswerTimer, AskTimer};

@@ -1,7 +1,7 @@
 //! What a tick is to do.
 
 use crate::action::Action;
-use crate::firing::BackOffs;
+use crate::timers::Timers;
 use wb_names::Name;
 
 /// What a tick will do: `Recovery::plan` works it out and changes nothing, `Recovery::commit` does it.
@@ -10,9 +10,9 @@ pub struct Plan {
     /// The moment of the tick, in microseconds.
     pub(crate) moment: u64,
     pub(crate) actions: Vec<Action>,
-    /// The names whose request timers fire, ascending, and what becomes of these timers.
+    /// The names whose request timers fire, ascending, and what is then kept of each.
     pub(crate) asking: Vec<Name>,
-    pub(crate) back_offs: BackOffs,
+    pub(crate) after: Vec<Timers>,
     /// The names whose answer timers fire, ascending.
     pub(crate) answering: Vec<Name>,
 }

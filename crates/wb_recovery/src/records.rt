@@ -1,13 +1,10 @@
-ghost use Rattle.std.specs.Prelude.{◌≡◌, true, map, if◌then◌else◌, Contains};
+ghost use Rattle.std.specs.Prelude.{◌≡◌, true, if◌then◌else◌};
 ghost use Rattle.std.specs.Prelude.{Some as some};
 ghost use Rattle.std.specs.BTreeMap.{IsOrdered};
-ghost use Rattle.std.specs.List.Sorted.{IsStrictlySortedBy};
 ghost use Rattle.wb_names.specs.Values.{NameValue};
 ghost use Rattle.wb_names.specs.Orders.{same_name, name_cmp};
 ghost use Rattle.wb_recovery.specs.Timing.{is_standing};
-ghost use Rattle.wb_recovery.specs.Alarms.{among};
 ghost use Rattle.wb_recovery.specs.Values.{record_at, timers_at};
-ghost use Rattle.wb_recovery.specs.declared.timers.Timers.{Timers as SomeTimers};
 
 use crate::timers::Timers;
 use std::collections::BTreeMap;
@@ -29,18 +26,4 @@ pub(crate) fn rewrite(records: &mut BTreeMap<Name, Timers>, name: Name, after: T
 {
     // Only an insertion of a new name can want memory.
     let _ = records.insert(name, after);
-}
-
-/// Writes over the records of these names, each of which has a timer.
-pub(crate) fn rewrite_all(records: &mut BTreeMap<Name, Timers>, names: &[Name], after: &[Timers])
-    requires ordered { IsOrdered name_cmp records.old }
-    requires rising { IsStrictlySortedBy name_cmp names.now }
-    requires standing { (n : NameValue) → Contains names.now n → is_standing (timers_at records.old.entries n) ≡ true }
-    requires each { (f : NameValue → SomeTimers) × (after.now ≡ map f names.now) }
-    ensures written { (f : NameValue → SomeTimers) → after.now ≡ map f names.now → (n : NameValue) → timers_at records.new.entries n ≡ (if among names.now n then f n else timers_at records.old.entries n) }
-    ensures ordered { IsOrdered name_cmp records.new }
-{
-    for (count, name) in names.iter().enumerate() {
-        rewrite(records, *name, after[count]);
-    }
 }

@@ -174,7 +174,6 @@ impl Recovery {
     pub fn due_count(&self, now: u64) -> usize
         ensures count { result ≡ length (due_asks (names_in self.now) (timers_in self.now) now) }
         ensures events { (constants : Constants) (events : List Event) → StandsFor constants events self.now → result ≡ length (due_asks (names_of events) (timers_of constants events) now) }
-        ensures rising { IsStrictlySortedBy name_cmp (names_in self.now) }
     {
         self.asks.count_until(now)
     }
@@ -275,13 +274,13 @@ impl Recovery {
         let Some(ask) = ask else {
             return Ok(());
         };
-        self.asks.set(name, before.ask_due(), ask.due)?;
+        self.asks.set(name, ask.due)?;
         let after = Timers {
             ask: Some(ask),
             ..before
         };
         if self.records.insert(name, after).is_err() {
-            self.asks.clear(name, Some(ask.due));
+            self.asks.clear(name);
             return Err(AllocError);
         }
         Ok(())
@@ -302,13 +301,13 @@ impl Recovery {
         let Some(answer) = answer else {
             return Ok(());
         };
-        self.answers.set(name, before.answer_due(), answer.due)?;
+        self.answers.set(name, answer.due)?;
         let after = Timers {
             answer: Some(answer),
             ..before
         };
         if self.records.insert(name, after).is_err() {
-            self.answers.clear(name, Some(answer.due));
+            self.answers.clear(name);
             return Err(AllocError);
         }
         Ok(())
@@ -321,8 +320,8 @@ impl Recovery {
         requires standing { is_standing before ≡ true }
         ensures { Replaces self.old self.new name (record { ask = none; answer = none; quiet = quiet }) }
     {
-        self.asks.clear(name, before.ask_due());
-        self.answers.clear(name, before.answer_due());
+        self.asks.clear(name);
+        self.answers.clear(name);
         let after = Timers {
             ask: None,
             answer: None,

@@ -1,7 +1,7 @@
 ghost use Rattle.std.specs.Prelude.{◌≡◌, ◌^◌, ◌<◌, false, true, IsTrue, IfSome, is_none, is_some};
 ghost use Rattle.wb_recovery.specs.Timing.{are_constants, backed_off, noticed, asked, fired_ask, fired_answer, quiet_after, with_ask, with_answer, ask_due, answer_due, is_standing, AreDelays};
 
-use crate::draw::draw;
+use crate::expiry::expiry;
 use crate::tuning::Tuning;
 
 /// A request timer: its name is missed, and is asked for when the timer is due.
@@ -47,7 +47,7 @@ impl AskTimer {
         ensures { result ≡ backed_off tuning self now delay word }
     {
         let level = self.level.min(AskTimer::MAX_LEVEL - 1) + 1;
-        let due = draw(now, level, tuning.c1, tuning.c2, delay, word);
+        let due = expiry(now, level, tuning.c1, tuning.c2, delay, word);
         AskTimer {
             level,
             due,
@@ -83,7 +83,7 @@ impl Timers {
         if self.ask.is_some() {
             return None;
         }
-        let due = draw(now, 0, tuning.c1, tuning.c2, delay, word);
+        let due = expiry(now, 0, tuning.c1, tuning.c2, delay, word);
         Some(AskTimer {
             level: 0,
             due,
@@ -131,7 +131,7 @@ impl Timers {
         if self.answer.is_some() || now < self.quiet {
             return None;
         }
-        let due = draw(now, 0, tuning.d1, tuning.d2, delay, word);
+        let due = expiry(now, 0, tuning.d1, tuning.d2, delay, word);
         Some(AnswerTimer { due, delay })
     }
 

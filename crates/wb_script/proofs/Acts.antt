@@ -7,11 +7,11 @@ use Rattle.wb_names.specs.Values.{NameValue, DrawopValue, MarkValue}
 use Rattle.wb_names.specs.declared.name.PageId.{PageId}
 use Rattle.wb_codec.specs.declared.datagram.Datagram.{Datagram}
 use Rattle.wb_recovery.specs.Events.{actions_of}
-use Rattle.wb_recovery.specs.Stopping.{gots}
+use Rattle.wb_recovery.specs.Stopping.{receipts}
 use Rattle.rand_pcg.specs.Lcg.{Lcg}
 use Rattle.wb_gaps.specs.Answers.{gaps_of}
 use Rattle.wb_host.specs.Hearing.{marks_heard}
-use Rattle.wb_host.specs.Keeper.{KeeperCall, Miss, GoOn, come_of, delay_to}
+use Rattle.wb_host.specs.Keeper.{KeeperCall, Miss, GoOn, received_of, delay_to}
 use Rattle.wb_host.specs.Keeping.{KeeperValue, StandsFor, Keeps, marks_at}
 use Rattle.wb_host.specs.Missing.{wanted_of as names_wanted}
 use Rattle.wb_host.specs.Ticks.{sends_for, stopped_in}
@@ -84,7 +84,7 @@ tick_early number v host now at early =
 
 pub tick_done : (number : ℕ) (b : Held) (k k' : KeeperValue) (g g' : Lcg) (host : Opened) (now count : ℕ) (words text : List ℕ) (sent : List Datagram) → IsOpenAt (station b k g) host → k.moment ≤ now
     → count ≡ due_count now host → stopped_in host.board.drawops k.recovery ≡ stopped host → words ≡ words_of g count → g' ≡ after_words g count
-    → sent ≡ sends_for host.me b.drawops (actions_of host.constants (gots now (events host) (come_of (delay_to host.me host.calls) (stopped_in b.drawops k.recovery))) now) → Keeps (GoOn now words (stopped_in b.drawops k.recovery)) k k' → text ≡ sends_text sent
+    → sent ≡ sends_for host.me b.drawops (actions_of host.constants (receipts now (events host) (received_of (delay_to host.me host.calls) (stopped_in b.drawops k.recovery))) now) → Keeps (GoOn now words (stopped_in b.drawops k.recovery)) k k' → text ≡ sends_text sent
     → DoesAct {U = Unit {0}} number host (station b k' g') text (Ok tt) (ticked now host)
 tick_done number b k k' g g' host now count words text sent at late due stop drawn left told keeps printed =
     let same = at.keeper.moment in
@@ -95,8 +95,8 @@ tick_done number b k k' g g' host now count words text sent at late due stop dra
     let call : GoOn now words (stopped_in b.drawops k.recovery) ≡ GoOn now (words_of host.random (due_count now host)) (stopped host) =
     ap (λ (w : List ℕ). GoOn now w (stopped_in b.drawops k.recovery)) ws ∙ ap (GoOn now (words_of host.random (due_count now host))) halted in
     let is : sent ≡ sent_by now host = told
-    ∙ ap (λ (l : List DrawopValue). sends_for host.me l (actions_of host.constants (gots now (events host) (come_of (delay_to host.me host.calls) (stopped_in b.drawops k.recovery))) now)) ds
-    ∙ ap (λ (names : List NameValue). sends_for host.me host.board.drawops (actions_of host.constants (gots now (events host) (come_of (delay_to host.me host.calls) names)) now)) halted in
+    ∙ ap (λ (l : List DrawopValue). sends_for host.me l (actions_of host.constants (receipts now (events host) (received_of (delay_to host.me host.calls) (stopped_in b.drawops k.recovery))) now)) ds
+    ∙ ap (λ (names : List NameValue). sends_for host.me host.board.drawops (actions_of host.constants (receipts now (events host) (received_of (delay_to host.me host.calls) names)) now)) halted in
     rw test (called b k k' g g' host (GoOn now words (stopped_in b.drawops k.recovery)) (GoOn now (words_of host.random (due_count now host)) (stopped host)) (due_count now host) at keeps call (left ∙ ap (after_words g) due), printed ∙ ap sends_text is)
 
 -- ---- a look at a page

@@ -9,9 +9,9 @@ use Rattle.wb_codec.specs.declared.datagram.Datagram.{Datagram}
 use Rattle.wb_codec.specs.declared.datagram.Datagram.TheVariants.{PageState, Session as SessionMessage}
 use Rattle.wb_gaps.specs.declared.page_reports.PageReport.{PageReport}
 use Rattle.wb_recovery.specs.declared.action.Action.{Action}
-use Rattle.wb_recovery.specs.Events.{asking, actions_of, timers_of, names_of as timed_names}
-use Rattle.wb_recovery.specs.Stopping.{gots}
-use Rattle.wb_host.specs.Keeper.{Hear, Miss, GoOn, is_own, delay_to, come_of}
+use Rattle.wb_recovery.specs.Events.{asking, actions_of, timers_of, names_of as timer_names}
+use Rattle.wb_recovery.specs.Stopping.{receipts}
+use Rattle.wb_host.specs.Keeper.{Hear, Miss, GoOn, is_own, delay_to, received_of}
 use Rattle.wb_host.specs.Hearing.{marks_heard, has_room, asks_for_held, asks_for_pages, answers_to}
 use Rattle.wb_host.specs.Sessions.{echoes_of}
 use Rattle.wb_host.specs.Missing.{wanted, names_in_gaps}
@@ -40,11 +40,11 @@ DoAlike host drawops (fails e) (does next text) = ⊥
 -- ---- as time goes on
 
 stopped_alike : (host : Opened) (drawops : List DrawopValue) → AreAlike host.board.drawops drawops → stopped host ≡ stopped (holding host drawops)
-stopped_alike host drawops a = ap (λ (held : NameValue → Bool). filter held (asking (timed_names (events host)) (timers_of host.constants (events host)))) (holds_alike host.board.drawops drawops a)
+stopped_alike host drawops a = ap (λ (held : NameValue → Bool). filter held (asking (timer_names (events host)) (timers_of host.constants (events host)))) (holds_alike host.board.drawops drawops a)
 
 -- what is done as time goes on, where these names are held
 abbrev actions_by : ℕ → Opened → List NameValue → List Action
-actions_by now host names = actions_of host.constants (gots now (events host) (come_of (delay_to host.me host.calls) names)) now
+actions_by now host names = actions_of host.constants (receipts now (events host) (received_of (delay_to host.me host.calls) names)) now
 
 sent_by_alike : (now : ℕ) (host : Opened) (drawops : List DrawopValue) → AreAlike host.board.drawops drawops → sent_by now host ≡ sent_by now (holding host drawops)
 sent_by_alike now host drawops a =
@@ -67,7 +67,7 @@ ticks_alike now host drawops a = at (nat_lt now (present host)) where
 
 wanted_alike : (page : PageId) (host : Opened) (drawops : List DrawopValue) → AreAlike host.board.drawops drawops → wanted_of page host ≡ wanted_of page (holding host drawops)
 wanted_alike page host drawops a =
-    ap (λ (gaps : List Gap). wanted (timers_of host.constants (events host)) (length (asking (timed_names (events host)) (timers_of host.constants (events host)))) (names_in_gaps page gaps))
+    ap (λ (gaps : List Gap). wanted (timers_of host.constants (events host)) (length (asking (timer_names (events host)) (timers_of host.constants (events host)))) (names_in_gaps page gaps))
     (gaps_alike host.board.drawops drawops page (marks_heard host.me host.calls page) a)
 
 looks_alike : (page : PageId) (host : Opened) (drawops : List DrawopValue) → AreAlike host.board.drawops drawops → DoAlike host drawops (looked page host) (looked page (holding host drawops))

@@ -14,14 +14,14 @@ use Rattle.wb_gaps.specs.Joining.{joined}
 use Rattle.wb_recovery.specs.Timing.{noticed, asked, got, ticked}
 use Rattle.wb_recovery.specs.Events.{Event, Notice, Asked, Got, Tick, names_of, word_for, due_asks, timers_of}
 use Rattle.wb_recovery.specs.Noticing.{notices}
-use Rattle.wb_recovery.specs.Stopping.{gots}
-use Rattle.wb_recovery.specs.declared.come.Come.{Come}
+use Rattle.wb_recovery.specs.Stopping.{receipts}
+use Rattle.wb_recovery.specs.declared.received.Received.{Received}
 use Rattle.wb_recovery.specs.declared.missed.Missed.{Missed}
 use Rattle.wb_recovery.specs.declared.timers.Timers.{Timers}
 use Rattle.wb_recovery.specs.declared.tuning.Tuning.{Tuning}
-use Rattle.wb_recovery.proofs.StoppedNames.{names_gots}
+use Rattle.wb_recovery.proofs.StoppedNames.{names_receipts}
 use Rattle.wb_host.specs.Hearing.{marks_told, marks_heard}
-use Rattle.wb_host.specs.Keeper.{KeeperCall, SetDelay, Hear, Arrive, Miss, GoOn, Report, GiveUp, newest, now_of, delay_told, delay_to, session_told, senders_of, remember, told_by, last_heard, come_of, missed_of, asked_by, timed, events_of}
+use Rattle.wb_host.specs.Keeper.{KeeperCall, SetDelay, Hear, Arrive, Miss, GoOn, Report, GiveUp, newest, now_of, delay_told, delay_to, session_told, senders_of, remember, told_by, last_heard, received_of, missed_of, asked_by, timer_calls, events_of}
 use Rattle.wb_host.specs.declared.keeper.Heard.{Heard}
 use Rattle.wb_host.proofs.FreeArrivals.{comes, timers_alike}
 
@@ -60,18 +60,18 @@ time_more (Tick now words) a b p = record {
   timers = λ constants. fun_ext (λ n. ap₂ (λ (l : List NameValue) (f : NameValue → Timers). ticked constants now (word_for words (due_asks l f now) n) (f n)) p.names (p.timers constants));
 }
 
-pub time_gots : (now : ℕ) (come : List Come) (a b : List Event) → TimeAlike a b → TimeAlike (gots now a come) (gots now b come)
-time_gots now [] a b p = p
-time_gots now (c ∷ come) a b p = time_gots now come (Got c.name now c.delay ∷ a) (Got c.name now c.delay ∷ b) (time_more (Got c.name now c.delay) a b p)
+pub time_receipts : (now : ℕ) (received : List Received) (a b : List Event) → TimeAlike a b → TimeAlike (receipts now a received) (receipts now b received)
+time_receipts now [] a b p = p
+time_receipts now (c ∷ received) a b p = time_receipts now received (Got c.name now c.delay ∷ a) (Got c.name now c.delay ∷ b) (time_more (Got c.name now c.delay) a b p)
 
 time_notices : (now : ℕ) (missed : List Missed) (a b : List Event) → TimeAlike a b → TimeAlike (notices now a missed) (notices now b missed)
 time_notices now [] a b p = p
 time_notices now (m ∷ missed) a b p = time_notices now missed (Notice m.name now m.delay m.word ∷ a) (Notice m.name now m.delay m.word ∷ b) (time_more (Notice m.name now m.delay m.word) a b p)
 
 -- names that come may come in any order
-time_moved : (delays : ℕ → ℕ) (now : ℕ) (events : List Event) (names other : List NameValue) → ((n : NameValue) → comes names n ≡ comes other n) → TimeAlike (gots now events (come_of delays names)) (gots now events (come_of delays other))
+time_moved : (delays : ℕ → ℕ) (now : ℕ) (events : List Event) (names other : List NameValue) → ((n : NameValue) → comes names n ≡ comes other n) → TimeAlike (receipts now events (received_of delays names)) (receipts now events (received_of delays other))
 time_moved delays now events names other same = record {
-  names = names_gots now events (come_of delays names) ∙ sym (names_gots now events (come_of delays other));
+  names = names_receipts now events (received_of delays names) ∙ sym (names_receipts now events (received_of delays other));
   timers = λ constants. fun_ext (λ n. timers_alike constants delays now events names other same n);
 }
 
@@ -89,15 +89,15 @@ asked_alike me delays now (Session sender sent page marks echoes) word held a b 
 asked_alike me delays now (AskPages asker) word held a b p = p
 asked_alike me delays now (PageState sender page marks) word held a b p = p
 
-timed_alike : (me : ℕ) (delays : ℕ → ℕ) (call : KeeperCall) (a b : List Event) → TimeAlike a b → TimeAlike (timed me delays call a) (timed me delays call b)
-timed_alike me delays (SetDelay source micros) a b p = p
-timed_alike me delays (Hear now datagram word held) a b p = asked_alike me delays now datagram word held a b p
-timed_alike me delays (Arrive now held) a b p = time_gots now (come_of delays held) a b p
-timed_alike me delays (Miss now names words) a b p = time_notices now (missed_of delays names words) a b p
-timed_alike me delays (GoOn now words stopped) a b p = time_more (Tick now words) (gots now a (come_of delays stopped)) (gots now b (come_of delays stopped)) (time_gots now (come_of delays stopped) a b p)
-timed_alike me delays (Report now) a b p = p
-timed_alike me delays (GiveUp now name true) a b p = time_more (Got name now 0) a b p
-timed_alike me delays (GiveUp now name false) a b p = p
+timer_calls_alike : (me : ℕ) (delays : ℕ → ℕ) (call : KeeperCall) (a b : List Event) → TimeAlike a b → TimeAlike (timer_calls me delays call a) (timer_calls me delays call b)
+timer_calls_alike me delays (SetDelay source micros) a b p = p
+timer_calls_alike me delays (Hear now datagram word held) a b p = asked_alike me delays now datagram word held a b p
+timer_calls_alike me delays (Arrive now held) a b p = time_receipts now (received_of delays held) a b p
+timer_calls_alike me delays (Miss now names words) a b p = time_notices now (missed_of delays names words) a b p
+timer_calls_alike me delays (GoOn now words stopped) a b p = time_more (Tick now words) (receipts now a (received_of delays stopped)) (receipts now b (received_of delays stopped)) (time_receipts now (received_of delays stopped) a b p)
+timer_calls_alike me delays (Report now) a b p = p
+timer_calls_alike me delays (GiveUp now name true) a b p = time_more (Got name now 0) a b p
+timer_calls_alike me delays (GiveUp now name false) a b p = p
 
 -- ---- calls of a keeper
 
@@ -134,8 +134,8 @@ tell_more me call a b p = record {
   delays = λ source. ap (option_or (delay_told me source call)) (p.delays source);
   senders = ap (remember (session_told me call)) p.senders;
   heard = λ source. ap (option_or (told_by source (session_told me call))) (p.heard source);
-  time = subst (λ (delays : ℕ → ℕ). TimeAlike (timed me (delay_to me a) call (events_of me a)) (timed me delays call (events_of me b))) (same_delays me a b p)
-      (timed_alike me (delay_to me a) call (events_of me a) (events_of me b) p.time);
+  time = subst (λ (delays : ℕ → ℕ). TimeAlike (timer_calls me (delay_to me a) call (events_of me a)) (timer_calls me delays call (events_of me b))) (same_delays me a b p)
+      (timer_calls_alike me (delay_to me a) call (events_of me a) (events_of me b) p.time);
 }
 
 -- names that arrive may arrive in any order

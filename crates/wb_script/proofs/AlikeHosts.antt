@@ -10,13 +10,13 @@ use Rattle.wb_names.specs.declared.name.PageId.{PageId}
 use Rattle.wb_codec.specs.declared.datagram.Datagram.{Datagram}
 use Rattle.wb_codec.specs.declared.datagram.Datagram.TheVariants.{Session}
 use Rattle.wb_recovery.specs.Events.{Event, asking, due_asks, due_answers, actions_of, timers_of, names_of}
-use Rattle.wb_recovery.specs.Stopping.{gots}
+use Rattle.wb_recovery.specs.Stopping.{receipts}
 use Rattle.wb_recovery.specs.declared.action.Action.TheVariants.{Ask, Answer}
 use Rattle.wb_recovery.specs.declared.timers.Timers.{Timers}
 use Rattle.wb_gaps.specs.Answers.{gaps_of, report_of}
 use Rattle.wb_gaps.specs.Sorting.{sorted}
 use Rattle.wb_host.specs.Hearing.{marks_heard, has_room, answers_to, asks_for_held}
-use Rattle.wb_host.specs.Keeper.{KeeperCall, SetDelay, Hear, Miss, GoOn, Report, is_own, delay_to, come_of, events_of, holds}
+use Rattle.wb_host.specs.Keeper.{KeeperCall, SetDelay, Hear, Miss, GoOn, Report, is_own, delay_to, received_of, events_of, holds}
 use Rattle.wb_host.specs.Missing.{wanted, names_in_gaps}
 use Rattle.wb_host.specs.Sessions.{echo_cmp, echo_to, echoes_of, message_of}
 use Rattle.wb_host.specs.Ticks.{sends_for}
@@ -30,7 +30,7 @@ use Rattle.wb_script.specs.Answers.{answer_text}
 use Rattle.wb_script.specs.Hosts.{Opened, present, Act, does, fails, calling, asked, due_count, stopped, sent_by, ticked, wanted_of, looked, words_for, word_at, heard, reported, act}
 use Rattle.wb_script.specs.Random.{words_of}
 use Rattle.wb_script.specs.SentLines.{sends_text, look_line}
-use Rattle.wb_script.proofs.AlikeCalls.{time_gots, TellAlike, same_delays, tell_more, same_heard}
+use Rattle.wb_script.proofs.AlikeCalls.{time_receipts, TellAlike, same_delays, tell_more, same_heard}
 
 -- the host whose keeper was told these calls instead
 abbrev pub told : List KeeperCall → Opened → Opened
@@ -60,13 +60,13 @@ module _ (host : Opened) (calls : List KeeperCall) (alike : TellAlike host.me ho
 
   -- with the names that stop at that moment
   abbrev sent_with : ℕ → (ℕ → ℕ) → List NameValue → List Event → List Datagram
-  sent_with now delays names events = sends_for host.me host.board.drawops (actions_of host.constants (gots now events (come_of delays names)) now)
+  sent_with now delays names events = sends_for host.me host.board.drawops (actions_of host.constants (receipts now events (received_of delays names)) now)
 
   same_sent : (now : ℕ) → sent_by now host ≡ sent_by now other
   same_sent now =
       let events = events_of host.me host.calls in
-      let come = come_of (delay_to host.me host.calls) (stopped host) in
-      let time = time_gots now come events (events_of host.me calls) alike.time in
+      let received = received_of (delay_to host.me host.calls) (stopped host) in
+      let time = time_receipts now received events (events_of host.me calls) alike.time in
       ap₂ (λ (names : List NameValue) (timers : NameValue → Timers). sends_for host.me host.board.drawops (map Ask (due_asks names timers now) ++ map Answer (due_answers names timers now))) time.names (time.timers host.constants)
       ∙ ap₂ (λ (delays : ℕ → ℕ) (names : List NameValue). sent_with now delays names (events_of host.me calls)) (same_delays host.me host.calls calls alike) same_stopped
 

@@ -6,7 +6,7 @@ use Rattle.wb_recovery.specs.declared.tuning.Tuning.{Tuning}
 use Rattle.wb_names.specs.declared.name.PageId.{PageId}
 use Rattle.wb_codec.specs.declared.datagram.Datagram.{Datagram}
 use Rattle.wb_codec.specs.declared.datagram.Datagram.TheVariants.{Draw, Session, Request, AskPages, PageState}
-use Rattle.wb_recovery.specs.Events.{Event, due_asks, timers_of, names_of as timed_names}
+use Rattle.wb_recovery.specs.Events.{Event, due_asks, timers_of, names_of as timer_names}
 use Rattle.rand_pcg.specs.Lcg.{Lcg}
 use Rattle.wb_host.specs.Keeper.{KeeperCall, SetDelay, Hear, Arrive, Miss, GoOn, moment_at, Report, is_own, events_of, holds}
 use Rattle.wb_host.specs.Hearing.{marks_heard, has_room, asks_for_held, answers_to}
@@ -91,7 +91,7 @@ events host = events_of host.me host.calls
 
 -- how many of its request timers are due at a moment
 abbrev pub due_count : ℕ → Opened → ℕ
-due_count now host = length (due_asks (timed_names (events host)) (timers_of host.constants (events host)) now)
+due_count now host = length (due_asks (timer_names (events host)) (timers_of host.constants (events host)) now)
 
 -- the names with a request timer that are held
 abbrev pub stopped : Opened → List NameValue

@@ -15,14 +15,14 @@ use Rattle.wb_codec.specs.declared.datagram.Datagram.{Datagram}
 use Rattle.wb_codec.specs.declared.datagram.Datagram.TheVariants as datagrams
 use Rattle.wb_recovery.specs.Events.{Event, Notice, Asked, names_of, asking, timers_of}
 use Rattle.wb_recovery.specs.Noticing.{notices}
-use Rattle.wb_recovery.specs.Stopping.{gots}
-use Rattle.wb_recovery.specs.declared.come.Come.{Come}
+use Rattle.wb_recovery.specs.Stopping.{receipts}
+use Rattle.wb_recovery.specs.declared.received.Received.{Received}
 use Rattle.wb_recovery.specs.declared.missed.Missed.{Missed}
 use Rattle.wb_recovery.specs.declared.timers.Timers.{Timers}
 use Rattle.wb_recovery.specs.declared.tuning.Tuning.{Tuning}
-use Rattle.wb_recovery.proofs.StoppedNames.{names_gots}
+use Rattle.wb_recovery.proofs.StoppedNames.{names_receipts}
 use Rattle.wb_host.specs.Hearing.{marks_in, marks_heard}
-use Rattle.wb_host.specs.Keeper.{KeeperCall, SetDelay, Hear, Arrive, Miss, GoOn, Report, GiveUp, now_of, newest, moment_at, is_own, high_in, high_told, high_heard, delay_to, come_of, missed_of, asked_by, given_up, timed, events_of}
+use Rattle.wb_host.specs.Keeper.{KeeperCall, SetDelay, Hear, Arrive, Miss, GoOn, Report, GiveUp, now_of, newest, moment_at, is_own, high_in, high_told, high_heard, delay_to, received_of, missed_of, asked_by, given_up, timer_calls, events_of}
 use Rattle.wb_host.specs.KeeperLaws.{AreOrderly}
 use Rattle.wb_host.specs.Missing.{IsWanted, wanted_of}
 use Rattle.wb_host.proofs.FirstWanted.{first_are_wanted}
@@ -79,24 +79,24 @@ module _ (me : ℕ) (delays : ℕ → ℕ) (events : List Event) (fit : All IsNa
   asked_fits now (datagrams.AskPages asker) word held f = fit
   asked_fits now (datagrams.PageState sender page marks) word held f = fit
 
-  gots_fit : (now : ℕ) (come : List Come) → All IsName (names_of (gots now events come))
-  gots_fit now come = subst (All IsName) (sym (names_gots now events come)) fit
+  receipts_fit : (now : ℕ) (received : List Received) → All IsName (names_of (receipts now events received))
+  receipts_fit now received = subst (All IsName) (sym (names_receipts now events received)) fit
 
-  timed_fits : (call : KeeperCall) → Fits call → All IsName (names_of (timed me delays call events))
-  timed_fits (SetDelay source micros) f = fit
-  timed_fits (Hear now v word held) f = asked_fits now v word held f.1
-  timed_fits (Arrive now held) f = gots_fit now (come_of delays held)
-  timed_fits (Miss now names words) f = notices_fit now events (missed_of delays names words) fit (missed_fits delays names words f.1)
-  timed_fits (GoOn now words stopped) f = gots_fit now (come_of delays stopped)
-  timed_fits (Report now) f = fit
-  timed_fits (GiveUp now name asked) f = from asked where
+  timer_calls_fit : (call : KeeperCall) → Fits call → All IsName (names_of (timer_calls me delays call events))
+  timer_calls_fit (SetDelay source micros) f = fit
+  timer_calls_fit (Hear now v word held) f = asked_fits now v word held f.1
+  timer_calls_fit (Arrive now held) f = receipts_fit now (received_of delays held)
+  timer_calls_fit (Miss now names words) f = notices_fit now events (missed_of delays names words) fit (missed_fits delays names words f.1)
+  timer_calls_fit (GoOn now words stopped) f = receipts_fit now (received_of delays stopped)
+  timer_calls_fit (Report now) f = fit
+  timer_calls_fit (GiveUp now name asked) f = from asked where
     from : (b : Bool) → All IsName (names_of (given_up now name b events))
-    from true = gots_fit now (come_of (λ source. 0) (name ∷ []))
+    from true = receipts_fit now (received_of (λ source. 0) (name ∷ []))
     from false = fit
 
 pub names_fit : (me : ℕ) (calls : List KeeperCall) → All Fits calls → All IsName (names_of (events_of me calls))
 names_fit me [] fit = All-nil IsName
-names_fit me (call ∷ calls) fit = timed_fits me (delay_to me calls) (events_of me calls) (names_fit me calls (All-tail Fits call calls fit)) call (All-head Fits call calls fit)
+names_fit me (call ∷ calls) fit = timer_calls_fit me (delay_to me calls) (events_of me calls) (names_fit me calls (All-tail Fits call calls fit)) call (All-head Fits call calls fit)
 
 -- ---- the marks that were heard
 

@@ -22,12 +22,12 @@ use Rattle.wb_gaps.specs.Answers.{report_of}
 use Rattle.wb_gaps.proofs.Sorting.{length-sorted-le}
 use Rattle.wb_recovery.specs.Timing.{is_ask_due}
 use Rattle.wb_recovery.specs.Events.{names_of, timers_of, due_asks, due_answers, actions_of}
-use Rattle.wb_recovery.specs.Stopping.{gots}
+use Rattle.wb_recovery.specs.Stopping.{receipts}
 use Rattle.wb_recovery.specs.declared.action.Action.{Action}
 use Rattle.wb_recovery.specs.declared.action.Action.TheVariants.{Ask, Answer}
 use Rattle.wb_recovery.specs.declared.tuning.Tuning.{Tuning}
-use Rattle.wb_recovery.proofs.StoppedNames.{names_gots}
-use Rattle.wb_host.specs.Keeper.{KeeperCall, Hear, is_own, session_in, session_told, remember, senders_of, last_heard, delay_to, come_of, events_of}
+use Rattle.wb_recovery.proofs.StoppedNames.{names_receipts}
+use Rattle.wb_host.specs.Keeper.{KeeperCall, Hear, is_own, session_in, session_told, remember, senders_of, last_heard, delay_to, received_of, events_of}
 use Rattle.wb_host.specs.Sessions.{echo_cmp, IsEchoTo, echo_to, echoes_of, message_of}
 use Rattle.wb_host.specs.Ticks.{drawop_of, sent_for, stopped_after, sent_by_tick}
 use Rattle.wb_host.specs.declared.keeper.Heard.{Heard}
@@ -143,8 +143,8 @@ found_fits (d ∷ history) board name = from (found_fits history (All-tail IsDra
 
 pub tick_fits : (me : ℕ) (constants : Tuning) (calls : List KeeperCall) (history : List DrawopValue) (now : ℕ) → me < 2 ^ 32 → All Fits calls → All IsDrawop history → All IsDatagram (sent_by_tick me constants calls history now)
 tick_fits me constants calls history now lt fit board =
-    let events = gots now (events_of me calls) (come_of (delay_to me calls) (stopped_after me constants calls history)) in
-    let named : All IsName (names_of events) = subst (All IsName) (sym (names_gots now (events_of me calls) (come_of (delay_to me calls) (stopped_after me constants calls history)))) (names_fit me calls fit) in
+    let events = receipts now (events_of me calls) (received_of (delay_to me calls) (stopped_after me constants calls history)) in
+    let named : All IsName (names_of events) = subst (All IsName) (sym (names_receipts now (events_of me calls) (received_of (delay_to me calls) (stopped_after me constants calls history)))) (names_fit me calls fit) in
     let asks = due_asks (names_of events) (timers_of constants events) now in
     let answers = due_answers (names_of events) (timers_of constants events) now in
     let Sends : Action → Type 0 = λ a. IfSome (sent_for me history a) IsDatagram in

@@ -4,9 +4,9 @@ ghost use Rattle.std.specs.Prelude.{◌≡◌, ◌∷◌, List, filter, OnOk, On
 ghost use Rattle.wb_names.specs.Values.{NameValue};
 ghost use Rattle.wb_recovery.specs.Events.{Event, Got};
 ghost use Rattle.wb_recovery.specs.Standing.{Accepts, StandsFor as TimersStandFor};
-ghost use Rattle.wb_recovery.specs.Stopping.{gots};
+ghost use Rattle.wb_recovery.specs.Stopping.{receipts};
 ghost use Rattle.wb_recovery.specs.declared.tuning.Tuning.{Tuning as Constants};
-ghost use Rattle.wb_host.specs.Keeper.{Arrive, come_of, holds};
+ghost use Rattle.wb_host.specs.Keeper.{Arrive, received_of, holds};
 ghost use Rattle.wb_host.specs.Keeping.{Keeps, delay_at};
 ghost use Rattle.wb_host.specs.KeepFaults.{moment_fault};
 
@@ -28,24 +28,24 @@ impl Keeper {
     {
         self.check(now)?;
         self.moment = now;
-        self.come_all(desk, names);
+        self.receive_all(desk, names);
         Ok(())
     }
 
     /// Ends the timers of those of the names that the desk holds.
-    fn come_all(&mut self, desk: &Desk, names: &[Name])
+    fn receive_all(&mut self, desk: &Desk, names: &[Name])
         ensures rest { self.new ≡ record self.old { recovery = self.new.recovery } }
-        ensures came { (constants : Constants) (events : List Event) → TimersStandFor constants events self.old.recovery → TimersStandFor constants (gots self.old.moment events (come_of (delay_at self.old.delays) (filter (holds desk.now.seen) names.now))) self.new.recovery }
+        ensures came { (constants : Constants) (events : List Event) → TimersStandFor constants events self.old.recovery → TimersStandFor constants (receipts self.old.moment events (received_of (delay_at self.old.delays) (filter (holds desk.now.seen) names.now))) self.new.recovery }
     {
         for name in names {
             if is_held(desk, name) {
-                self.come(*name);
+                self.receive(*name);
             }
         }
     }
 
     /// Ends the timers of a name.
-    fn come(&mut self, name: Name)
+    fn receive(&mut self, name: Name)
         ensures rest { self.new ≡ record self.old { recovery = self.new.recovery } }
         ensures came { Accepts (Got name self.old.moment (delay_at self.old.delays name.source)) self.old.recovery self.new.recovery }
     {

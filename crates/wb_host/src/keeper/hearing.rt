@@ -1,30 +1,27 @@
 //! What is heard of others, and answered at once.
 
-ghost use Rattle.std.specs.Prelude.{◌≡◌, ◌≢◌, ◌<◌, ◌≤◌, ◌^◌, ◌⊎◌, ◌∷◌, [], ℕ, None as none, Some as some, IsTrue, IfErr, IfOk, OnOk, OnErr, IsOk, IsSome, false, nat_eq, nat_le, if◌then◌else◌};
-ghost use Rattle.std.specs.List.{find};
+ghost use Rattle.std.specs.Prelude.{◌≡◌, ◌≢◌, ◌⊎◌, ◌∷◌, [], IfErr, IfOk, OnOk, OnErr, false, nat_le};
 ghost use Rattle.wb_history.specs.Passes.{IsPassOf, IsCaughtUp};
 ghost use Rattle.wb_names.specs.Ascending.{AreMarks};
-ghost use Rattle.wb_names.specs.Marks.{IsMerge};
 ghost use Rattle.wb_names.specs.Faults.{first_of, fault_unless};
 ghost use Rattle.wb_gaps.specs.Merging.{source_count};
-ghost use Rattle.wb_codec.specs.declared.datagram.Datagram.TheVariants.{Session, PageState, Request};
 ghost use Rattle.wb_host.specs.Desks.{ReadsOn};
 ghost use Rattle.wb_host.specs.Hearing.{IsSent, ArePageStates, answers_to, asks_for_held, hear_fault, has_room};
-ghost use Rattle.wb_host.specs.Keeper.{Hear, distance_by, is_own};
+ghost use Rattle.wb_host.specs.Keeper.{Hear, is_own};
 ghost use Rattle.wb_host.specs.Keeping.{Keeps, marks_at};
 ghost use Rattle.wb_host.specs.KeepFaults.{IsKeptBy};
-ghost use Rattle.wb_host.specs.TakingIn.{AreMerged};
+ghost use Rattle.wb_host.specs.TakingIn.{AreMerged, IsMerged, has_all};
 ghost use Rattle.wb_host.specs.declared.keep_fault.KeepFault.TheVariants.{Memory, TooMany};
 
 use crate::board::Board;
 use crate::desk::Desk;
 use crate::keep_fault::KeepFault;
 use crate::keeper::Keeper;
+use crate::keeper::knowing::number_of;
 use std::alloc::{AllocError, Global};
 use wb_codec::Datagram;
 use wb_gaps::{MergeFault, merge_marks};
-use wb_names::{Echo, Echoes, Marks, PageId};
-use wb_recovery::distance;
+use wb_names::{Mark, Marks};
 
 impl Keeper {
     /// Hears a datagram, and answers what is to be sent at once: the page states where another member
@@ -82,18 +79,15 @@ impl Keeper {
         }
     }
 
-    /// The marks of its page once those that it tells are merged with what was heard, where it tells any.
+    /// The marks of its page once those that it tells are merged with what was heard, where it tells
+    /// something new.
     fn merged(&self, alloc: Global, datagram: &Datagram) -> Result<Option<Marks>, KeepFault>
         ensures fault { IsKeptBy (first_of (fault_unless (has_room (marks_at self.now.marks) datagram.now) TooMany ∷ [])) result }
         ensures merged { IfOk result (AreMerged (marks_at self.now.marks) datagram.now) }
     {
         match datagram {
-            Datagram::Session { page, marks, .. } => {
-                Ok(Some(merge(alloc, self.marks(*page), marks)?))
-            }
-            Datagram::PageState { page, marks, .. } => {
-                Ok(Some(merge(alloc, self.marks(*page), marks)?))
-            }
+            Datagram::Session { page, marks, .. } => merge(alloc, self.marks(*page), marks),
+            Datagram::PageState { page, marks, .. } => merge(alloc, self.marks(*page), marks),
             Datagram::Draw(_) | Datagram::Request { .. } | Datagram::AskPages { .. } => Ok(None),
         }
     }
@@ -131,74 +125,32 @@ impl Keeper {
         });
         sent.collect(alloc)
     }
-
-    /// Takes in a datagram of another member. All growth comes before what a caller sees.
-    fn take_in(
-        &mut self,
-        desk: &Desk,
-        now: u64,
-        datagram: &Datagram,
-        word: u64,
-        merged: Option<Marks>,
-    ) -> Result<(), AllocError>
-        requires after { self.old.moment ≤ now }
-        requires moment { now < 2 ^ 48 }
-        requires other { is_own self.old.me datagram.now ≡ false }
-        requires merged { AreMerged (marks_at self.old.marks) datagram.now merged }
-        ensures ok { OnOk result (Keeps (Hear now datagram.now word (asks_for_held desk.now.seen datagram.now)) self.old self.new) }
-        ensures err { OnErr result (self.new ≡ self.old) }
-    {
-        match datagram {
-            Datagram::Session {
-                sender,
-                sent,
-                page,
-                echoes,
-                ..
-            } => {
-                let delay = self.delay_told(echoes, now);
-                self.note_session(now, *sender, *sent, delay, *page, merged.unwrap())
-            }
-            Datagram::PageState { page, .. } => self.note_marks(now, *page, merged.unwrap()),
-            Datagram::Request { asker, name } => {
-                self.note_request(desk, now, *asker, *name, word)
-            }
-            Datagram::AskPages { .. } => Ok(self.go_on(now)),
-            Datagram::Draw(_) => Ok(self.go_on(now)),
-        }
-    }
-
-    /// The delay that the echo of this member tells, where there is one and it tells a delay.
-    fn delay_told(&self, echoes: &Echoes, now: u64) -> Option<u64>
-        ensures { result ≡ distance_by now (find (λ e. nat_eq e.source self.now.me) echoes.now) }
-    {
-        let echo = self.echo_of_me(echoes)?;
-        distance(echo.sent, echo.held, now)
-    }
-
-    /// The echo of this member.
-    fn echo_of_me(&self, echoes: &Echoes) -> Option<Echo>
-        ensures { result ≡ find (λ e. nat_eq e.source self.now.me) echoes.now }
-    {
-        for echo in echoes.as_slice() {
-            if echo.source == self.me {
-                return Some(*echo);
-            }
-        }
-        None
-    }
 }
 
-/// Both lists of marks as one.
-fn merge(alloc: Global, heard: &Marks, told: &Marks) -> Result<Marks, KeepFault>
+/// Both lists of marks as one, or None where those that were heard have all that the others tell.
+fn merge(alloc: Global, heard: &Marks, told: &Marks) -> Result<Option<Marks>, KeepFault>
     ensures fault { IsKeptBy (first_of (fault_unless (nat_le (source_count heard.now told.now) 65535) TooMany ∷ [])) result }
-    ensures merged { IfOk result (λ merged. AreMarks heard.now × AreMarks told.now × IsMerge heard.now told.now merged) }
+    ensures merged { IfOk result (IsMerged heard.now told.now) }
 {
-    let _heard = heard.as_slice();
-    let _told = told.as_slice();
+    if have_all(heard.as_slice(), told.as_slice()) {
+        return Ok(None);
+    }
     match merge_marks(alloc, heard, told) {
-        Ok(marks) => Ok(marks),
+        Ok(marks) => Ok(Some(marks)),
         Err(MergeFault::TooMany) => Err(KeepFault::TooMany),
         Err(MergeFault::Memory) => Err(KeepFault::Memory),
     }
+}
+
+/// Whether the marks that were heard have all that the others tell.
+fn have_all(heard: &[Mark], told: &[Mark]) -> bool
+    requires { AreMarks heard.now }
+    ensures { result ≡ has_all heard.now told.now }
+{
+    for mark in told {
+        if number_of(heard, mark.source()) < mark.high() {
+            return false;
+        }
+    }
+    true
 }

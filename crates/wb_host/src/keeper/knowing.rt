@@ -3,6 +3,7 @@
 ghost use Rattle.std.specs.Prelude.{◌≡◌, ◌≢◌, ◌↔◌, [], ℕ, List, Contains, IfOk, OnOk, if◌then◌else◌};
 ghost use Rattle.std.specs.List.Sorted.{IsStrictlySortedBy};
 ghost use Rattle.std.specs.Map.{keys_of};
+ghost use Rattle.wb_names.specs.Ascending.{AreMarks};
 ghost use Rattle.wb_names.specs.Orders.{page_cmp};
 ghost use Rattle.wb_history.specs.Passes.{IsPassOf, IsCaughtUp};
 ghost use Rattle.wb_names.specs.History.{highest, is_of};
@@ -62,7 +63,7 @@ impl Keeper {
         ensures number { result ≡ known desk.now.seen page (marks_at self.now.marks page) source }
         ensures value { (me : ℕ) (constants : Constants) (calls : List KeeperCall) → StandsFor me constants calls self.now → result ≡ known_number me calls desk.now.seen page source }
     {
-        let heard = mark_of(self.marks(page).as_slice(), source);
+        let heard = number_of(self.marks(page).as_slice(), source);
         heard.max(highest(desk.list(), page, source))
     }
 }
@@ -77,16 +78,15 @@ fn page_where(page: PageId, marks: &Marks) -> Option<PageId>
     }
 }
 
-/// The number that marks have for a source, or 0.
-fn mark_of(marks: &[Mark], source: u32) -> u32
+/// The number that marks have for a source, or 0, by a search: marks ascend by source.
+pub(super) fn number_of(marks: &[Mark], source: u32) -> u32
+    requires { AreMarks marks.now }
     ensures { result ≡ mark_of marks.now source }
 {
-    for mark in marks {
-        if mark.source() == source {
-            return mark.high();
-        }
+    match marks.binary_search_by_key(&source, |mark| mark.source()) {
+        Ok(place) => marks[place].high(),
+        Err(_) => 0,
     }
-    0
 }
 
 /// The greatest number of a source on a page, or 0 where it has no drawop there.
@@ -95,13 +95,13 @@ fn highest(list: &[Drawop], page: PageId, source: u32) -> u32
 {
     let mut highest = 0;
     for drawop in list {
-        highest = number_of(drawop, page, source).max(highest);
+        highest = number_on(drawop, page, source).max(highest);
     }
     highest
 }
 
 /// The number of a drawop, where it is of the source and on the page, and else 0.
-fn number_of(drawop: &Drawop, page: PageId, source: u32) -> u32
+fn number_on(drawop: &Drawop, page: PageId, source: u32) -> u32
     ensures { result ≡ (if is_of page source drawop.now then drawop.now.name.seq else 0) }
 {
     let name = drawop.name();

@@ -1,50 +1,108 @@
 //! What is kept of a datagram. A call that is refused puts back what it changed.
 
 ghost use Rattle.std.specs.Prelude.{◌≡◌, ◌<◌, ◌≤◌, ◌^◌, IsSome, OnOk, OnErr, IfSome, false, length, nat_eq};
-ghost use Rattle.std.specs.BTreeMap.{get, insert_entry};
+ghost use Rattle.std.specs.List.{find};
+ghost use Rattle.std.specs.BTreeMap.{get};
 ghost use Rattle.std.specs.Ordering.{nat_cmp};
-ghost use Rattle.wb_names.specs.Orders.{page_cmp};
 ghost use Rattle.wb_codec.specs.declared.datagram.Datagram.TheVariants.{Request};
-ghost use Rattle.wb_host.specs.Keeper.{Hear, holds};
-ghost use Rattle.wb_host.specs.Keeping.{Keeps};
-ghost use Rattle.wb_host.specs.TakingIn.{count_with, delays_with, has_place, heard_with, restored};
+ghost use Rattle.wb_host.specs.Hearing.{asks_for_held};
+ghost use Rattle.wb_host.specs.Keeper.{Hear, distance_by, holds, is_own};
+ghost use Rattle.wb_host.specs.Keeping.{Keeps, marks_at};
+ghost use Rattle.wb_host.specs.TakingIn.{AreMerged, count_with, delays_with, has_place, heard_with, marks_with, restored};
 
 use crate::desk::Desk;
 use crate::keeper::arrivals::is_held;
 use crate::keeper::{Heard, Keeper};
 use std::alloc::AllocError;
 use std::collections::BTreeMap;
-use wb_names::{Marks, Name, PageId};
+use wb_codec::Datagram;
+use wb_names::{Echo, Echoes, Marks, Name, PageId};
+use wb_recovery::distance;
 
 impl Keeper {
     /// The most members whose session messages are remembered.
     const MOST_HEARD: usize = 65_535;
 
+    /// Takes in a datagram of another member. All growth comes before what a caller sees.
+    pub(super) fn take_in(
+        &mut self,
+        desk: &Desk,
+        now: u64,
+        datagram: &Datagram,
+        word: u64,
+        merged: Option<Marks>,
+    ) -> Result<(), AllocError>
+        requires after { self.old.moment ≤ now }
+        requires moment { now < 2 ^ 48 }
+        requires other { is_own self.old.me datagram.now ≡ false }
+        requires merged { AreMerged (marks_at self.old.marks) datagram.now merged }
+        ensures ok { OnOk result (Keeps (Hear now datagram.now word (asks_for_held desk.now.seen datagram.now)) self.old self.new) }
+        ensures err { OnErr result (self.new ≡ self.old) }
+    {
+        match datagram {
+            Datagram::Session {
+                sender,
+                sent,
+                page,
+                echoes,
+                ..
+            } => {
+                let delay = self.delay_told(echoes, now);
+                self.note_session(now, *sender, *sent, delay, *page, merged)
+            }
+            Datagram::PageState { page, .. } => self.note_marks(now, *page, merged),
+            Datagram::Request { asker, name } => {
+                self.note_request(desk, now, *asker, *name, word)
+            }
+            Datagram::AskPages { .. } => Ok(self.go_on(now)),
+            Datagram::Draw(_) => Ok(self.go_on(now)),
+        }
+    }
+
+    /// The delay that the echo of this member tells, where there is one and it tells a delay.
+    fn delay_told(&self, echoes: &Echoes, now: u64) -> Option<u64>
+        ensures { result ≡ distance_by now (find (λ e. nat_eq e.source self.now.me) echoes.now) }
+    {
+        let echo = self.echo_of_me(echoes)?;
+        distance(echo.sent, echo.held, now)
+    }
+
+    /// The echo of this member, by a search: echoes ascend by source.
+    fn echo_of_me(&self, echoes: &Echoes) -> Option<Echo>
+        ensures { result ≡ find (λ e. nat_eq e.source self.now.me) echoes.now }
+    {
+        let echoes = echoes.as_slice();
+        match echoes.binary_search_by_key(&self.me, |echo| echo.source) {
+            Ok(place) => Some(echoes[place]),
+            Err(_) => None,
+        }
+    }
+
     /// Keeps what a session message tells: the delay to its sender, where it tells one, when it was heard,
-    /// and the marks of its page.
-    pub(super) fn note_session(
+    /// and the marks of its page, where they changed.
+    fn note_session(
         &mut self,
         now: u64,
         sender: u32,
         sent: u64,
         delay: Option<u64>,
         page: PageId,
-        marks: Marks,
+        merged: Option<Marks>,
     ) -> Result<(), AllocError>
         requires after { self.old.moment ≤ now }
         requires moment { now < 2 ^ 48 }
         requires near { IfSome delay (λ d. d < 2 ^ 24) }
-        ensures ok { OnOk result (self.new ≡ record self.old { moment = now; delays = delays_with sender delay self.old.delays; heard = heard_with sender (record { sent = sent; at = now }) self.old.heard; marks = insert_entry page_cmp self.old.marks page marks }) }
+        ensures ok { OnOk result (self.new ≡ record self.old { moment = now; delays = delays_with sender delay self.old.delays; heard = heard_with sender (record { sent = sent; at = now }) self.old.heard; marks = marks_with page merged self.old.marks }) }
         ensures counted { OnOk result (length self.new.heard ≡ count_with sender self.old.heard) }
         ensures err { OnErr result (self.new ≡ self.old) }
     {
         let Some(delay) = delay else {
-            return self.note_sender(now, sender, sent, page, marks);
+            return self.note_sender(now, sender, sent, page, merged);
         };
         let Ok(before) = self.delays.insert(sender, delay) else {
             return Err(AllocError);
         };
-        if self.note_sender(now, sender, sent, page, marks).is_err() {
+        if self.note_sender(now, sender, sent, page, merged).is_err() {
             restore(&mut self.delays, sender, before);
             return Err(AllocError);
         }
@@ -52,28 +110,28 @@ impl Keeper {
     }
 
     /// Keeps when the session message of a sender was heard, where the sender has a place, and the marks
-    /// of its page.
+    /// of its page, where they changed.
     fn note_sender(
         &mut self,
         now: u64,
         sender: u32,
         sent: u64,
         page: PageId,
-        marks: Marks,
+        merged: Option<Marks>,
     ) -> Result<(), AllocError>
         requires after { self.old.moment ≤ now }
         requires moment { now < 2 ^ 48 }
-        ensures ok { OnOk result (self.new ≡ record self.old { moment = now; heard = heard_with sender (record { sent = sent; at = now }) self.old.heard; marks = insert_entry page_cmp self.old.marks page marks }) }
+        ensures ok { OnOk result (self.new ≡ record self.old { moment = now; heard = heard_with sender (record { sent = sent; at = now }) self.old.heard; marks = marks_with page merged self.old.marks }) }
         ensures counted { OnOk result (length self.new.heard ≡ count_with sender self.old.heard) }
         ensures err { OnErr result (self.new ≡ self.old) }
     {
         if !self.has_place(sender) {
-            return self.note_marks(now, page, marks);
+            return self.note_marks(now, page, merged);
         }
         let Ok(before) = self.heard.insert(sender, Heard { sent, at: now }) else {
             return Err(AllocError);
         };
-        if self.note_marks(now, page, marks).is_err() {
+        if self.note_marks(now, page, merged).is_err() {
             restore(&mut self.heard, sender, before);
             return Err(AllocError);
         }
@@ -89,7 +147,7 @@ impl Keeper {
 
     /// Tells the timers of a request: the delay that counts is that to the asker where the desk holds the
     /// name, and else that to its source.
-    pub(super) fn note_request(
+    fn note_request(
         &mut self,
         desk: &Desk,
         now: u64,
@@ -121,20 +179,22 @@ impl Keeper {
         self.moment = now;
     }
 
-    /// Keeps the marks of a page.
-    pub(super) fn note_marks(
+    /// Keeps the marks of a page, where they changed.
+    fn note_marks(
         &mut self,
         now: u64,
         page: PageId,
-        marks: Marks,
+        merged: Option<Marks>,
     ) -> Result<(), AllocError>
         requires after { self.old.moment ≤ now }
         requires moment { now < 2 ^ 48 }
-        ensures ok { OnOk result (self.new ≡ record self.old { moment = now; marks = insert_entry page_cmp self.old.marks page marks }) }
+        ensures ok { OnOk result (self.new ≡ record self.old { moment = now; marks = marks_with page merged self.old.marks }) }
         ensures err { OnErr result (self.new ≡ self.old) }
     {
-        if self.marks.insert(page, marks).is_err() {
-            return Err(AllocError);
+        if let Some(marks) = merged {
+            if self.marks.insert(page, marks).is_err() {
+                return Err(AllocError);
+            }
         }
         self.moment = now;
         Ok(())

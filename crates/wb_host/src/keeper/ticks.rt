@@ -3,11 +3,11 @@
 ghost use Rattle.std.specs.Prelude.{◌≡◌, ◌≢◌, ◌≤◌, ◌⊎◌, ◌∷◌, ℕ, List, length, IfErr, IfOk, OnOk, OnErr};
 ghost use Rattle.wb_history.specs.Passes.{IsPassOf, IsSound, IsCaughtUp};
 ghost use Rattle.wb_recovery.specs.Events.{due_asks, actions_of};
-ghost use Rattle.wb_recovery.specs.Stopping.{gots};
+ghost use Rattle.wb_recovery.specs.Stopping.{receipts};
 ghost use Rattle.wb_recovery.specs.Values.{timers_in, names_in};
 ghost use Rattle.wb_recovery.specs.declared.tuning.Tuning.{Tuning as Constants};
 ghost use Rattle.wb_host.specs.Desks.{ReadsOn};
-ghost use Rattle.wb_host.specs.Keeper.{KeeperCall, GoOn, come_of, delay_to, events_of};
+ghost use Rattle.wb_host.specs.Keeper.{KeeperCall, GoOn, received_of, delay_to, events_of};
 ghost use Rattle.wb_host.specs.Keeping.{StandsFor, Keeps, delay_at};
 ghost use Rattle.wb_host.specs.KeepFaults.{moment_fault, IsKeptBy};
 ghost use Rattle.wb_host.specs.Ticks.{sent_for, sends_for, stopped_in};
@@ -21,7 +21,7 @@ use crate::keeper::arrivals::is_held;
 use std::alloc::{AllocError, Global};
 use wb_codec::Datagram;
 use wb_names::Name;
-use wb_recovery::{Action, Come};
+use wb_recovery::{Action, Received};
 
 impl Keeper {
     /// Time goes on to a moment: answers what is to be sent, a request for each name whose request
@@ -47,41 +47,41 @@ impl Keeper {
         ensures desk { (desk.new ≡ desk.old) ⊎ ReadsOn desk.old desk.new }
         ensures untouched { IfErr result (λ fault. fault ≢ Memory → desk.new ≡ desk.old) }
         ensures end { OnOk result (ReadsOn desk.old desk.new × IsCaughtUp desk.old desk.new) }
-        ensures sent { IfOk result (λ sent. (me : ℕ) (constants : Constants) (calls : List KeeperCall) → StandsFor me constants calls self.old → sent.items ≡ sends_for me desk.new.seen (actions_of constants (gots now (events_of me calls) (come_of (delay_to me calls) (stopped_in desk.new.seen self.old.recovery))) now)) }
+        ensures sent { IfOk result (λ sent. (me : ℕ) (constants : Constants) (calls : List KeeperCall) → StandsFor me constants calls self.old → sent.items ≡ sends_for me desk.new.seen (actions_of constants (receipts now (events_of me calls) (received_of (delay_to me calls) (stopped_in desk.new.seen self.old.recovery))) now)) }
         ensures ok { OnOk result (Keeps (GoOn now words.now (stopped_in desk.new.seen self.old.recovery)) self.old self.new) }
         ensures err { OnErr result (self.new ≡ self.old) }
     {
         self.check(now)?;
         board.refresh(desk)?;
-        let come = self.stopped(alloc, desk)?;
-        let Ok(plan) = self.recovery.plan(alloc, &come, now, words) else {
+        let received = self.stopped(alloc, desk)?;
+        let Ok(plan) = self.recovery.plan(alloc, &received, now, words) else {
             return Err(KeepFault::Memory);
         };
         let sent = self.sends(alloc, desk, plan.actions())?;
-        self.recovery.commit(plan, &come)?;
+        self.recovery.commit(plan, &received);
         self.moment = now;
         Ok(sent)
     }
 
     /// The names with a request timer that the desk holds, with the delays to their sources.
-    fn stopped(&self, alloc: Global, desk: &Desk) -> Result<Vec<Come>, AllocError>
-        ensures { IfOk result (λ come. come.items ≡ come_of (delay_at self.now.delays) (stopped_in desk.now.seen self.now.recovery)) }
+    fn stopped(&self, alloc: Global, desk: &Desk) -> Result<Vec<Received>, AllocError>
+        ensures { IfOk result (λ received. received.items ≡ received_of (delay_at self.now.delays) (stopped_in desk.now.seen self.now.recovery)) }
     {
         let held = self
             .recovery
             .asked_where(alloc, |name| is_held(desk, name))?;
-        self.come_from(alloc, &held)
+        self.received_from(alloc, &held)
     }
 
     /// The names with the delays to their sources.
-    fn come_from(&self, alloc: Global, names: &[Name]) -> Result<Vec<Come>, AllocError>
-        ensures { IfOk result (λ come. come.items ≡ come_of (delay_at self.now.delays) names.now) }
+    fn received_from(&self, alloc: Global, names: &[Name]) -> Result<Vec<Received>, AllocError>
+        ensures { IfOk result (λ received. received.items ≡ received_of (delay_at self.now.delays) names.now) }
     {
-        let come = names.iter().map(|name| Come {
+        let received = names.iter().map(|name| Received {
             name: *name,
             delay: self.delay(name.source()),
         });
-        come.collect(alloc)
+        received.collect(alloc)
     }
 
     /// What is sent for these actions.

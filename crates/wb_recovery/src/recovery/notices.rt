@@ -48,9 +48,7 @@ impl Recovery {
                 return Err(RecoveryFault::Memory);
             }
         }
-        if !missed.is_empty() {
-            self.moment = now;
-        }
+        self.moment = if missed.is_empty() { self.moment } else { now };
         Ok(())
     }
 
@@ -117,7 +115,7 @@ impl Recovery {
         let timers = self.timers(&name);
         let had = before.unwrap_or(Timers::NONE);
         if had.ask.is_none() && timers.ask.is_some() {
-            self.asks.clear(name, timers.ask_due());
+            self.asks.clear(name);
             if before.is_some() {
                 let after = Timers {
                     ask: None,
@@ -125,7 +123,7 @@ impl Recovery {
                 };
                 rewrite(&mut self.records, name, after);
             } else {
-                self.answers.clear(name, timers.answer_due());
+                self.answers.clear(name);
                 self.records.remove(&name);
             }
         }

@@ -1,11 +1,11 @@
 //! What a keeper does at the board of a script. Nobody else adds to it, so it stays as it is.
 ghost use Rattle.std.specs.Prelude.{◌≡◌, ◌<◌, ◌≤◌, ◌^◌, ℕ, List, filter, length, IfOk, OnOk, OnErr};
 ghost use Rattle.wb_recovery.specs.Events.{actions_of, due_asks};
-ghost use Rattle.wb_recovery.specs.Stopping.{gots};
+ghost use Rattle.wb_recovery.specs.Stopping.{receipts};
 ghost use Rattle.wb_recovery.specs.Values.{timers_in, names_in};
 ghost use Rattle.wb_recovery.specs.declared.tuning.Tuning.{Tuning as Constants};
 ghost use Rattle.wb_host.specs.Hearing.{answers_to, asks_for_held, hear_fault, marks_heard};
-ghost use Rattle.wb_host.specs.Keeper.{KeeperCall, Arrive, GoOn, Hear, Report, come_of, delay_to, events_of, holds};
+ghost use Rattle.wb_host.specs.Keeper.{KeeperCall, Arrive, GoOn, Hear, Report, received_of, delay_to, events_of, holds};
 ghost use Rattle.wb_host.specs.Keeping.{Keeps, StandsFor, marks_at};
 ghost use Rattle.wb_host.specs.KeepFaults.{IsKeptBy};
 ghost use Rattle.wb_host.specs.Known.{known_pages, known_number};
@@ -43,7 +43,7 @@ impl Whiteboard {
         requires moment { now < 2 ^ 48 }
         requires words { length (due_asks (names_in keeper.old.recovery) (timers_in keeper.old.recovery) now) ≤ length words.now }
         ensures same { self.new ≡ self.old }
-        ensures sent { IfOk result (λ sent. (me : ℕ) (constants : Constants) (calls : List KeeperCall) → StandsFor me constants calls keeper.old → sent.items ≡ sends_for me self.old.drawops (actions_of constants (gots now (events_of me calls) (come_of (delay_to me calls) (stopped_in self.old.drawops keeper.old.recovery))) now)) }
+        ensures sent { IfOk result (λ sent. (me : ℕ) (constants : Constants) (calls : List KeeperCall) → StandsFor me constants calls keeper.old → sent.items ≡ sends_for me self.old.drawops (actions_of constants (receipts now (events_of me calls) (received_of (delay_to me calls) (stopped_in self.old.drawops keeper.old.recovery))) now)) }
         ensures ok { OnOk result (Keeps (GoOn now words.now (stopped_in self.old.drawops keeper.old.recovery)) keeper.old keeper.new) }
     {
         match keeper.tick(alloc, &self.board, &mut self.desk, now, words) {

@@ -37,6 +37,6 @@ loop-name-preserved c =
       written = replaced_more xs i a c.requires.rising (omega arith) c.name-item.is f g now new c.loop-name.invariant.written c.answer_fired.result c.rewrite.ensures.written after;
       delays = all_replaced a c.answer_fired.result now new c.rewrite.ensures.written AreDelays c.answer_fired.ensures.delays c.loop-name.invariant.delays;
       kept = keep_moved_to a c.answer_fired.result now new c.rewrite.ensures.written answer_due None c.clear.new.self none
-          (c.clear.ensures (λ (n : NameValue). answer_due (now n)) (sym (c.answer_due.ensures ∙ ap answer_due c.timers_of-timers.ensures)) c.loop-name.invariant.kept);
+          (c.clear.ensures (λ (n : NameValue). answer_due (now n)) c.loop-name.invariant.kept);
       ordered = c.rewrite.ensures.ordered;
     }

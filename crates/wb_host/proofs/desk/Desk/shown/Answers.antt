@@ -1,4 +1,4 @@
-use Rattle.std.proofs.Common.{refl, sym, subst, List}
+use Rattle.std.proofs.Common.{refl, sym, ap, subst, List, ◌∙◌}
 use Rattle.wb_names.specs.Values.{DrawopValue}
 use Rattle.wb_names.specs.History.{IsHistory}
 use Rattle.wb_history.specs.Passes.{PassValue, IsCaughtUp}
@@ -25,4 +25,4 @@ returns c =
     let r = c.in_ok-refresh.ensures in
     let is = sym c.self.view_is in
     let read : ReadsOn c.args.self.now c.self.inside.pass = subst (λ (p : PassValue). ReadsOn c.args.self.now p) is (record { same = r.same; sound = r.sound; grows = r.grows; nothing = r.nothing; steps = r.steps; few_steps = r.few_steps }) in
-    ((refl, λ _. tt, (read, (subst (λ (p : PassValue). IsCaughtUp c.args.self.now p) is r.end, of_list))), record { desk = tt })
+    ((refl, λ _. tt, (read, (subst (λ (p : PassValue). IsCaughtUp c.args.self.now p) is r.end, of_list), ap (λ (p : PassValue). p.cells) c.self.view_is ∙ r.cells)), record { desk = tt })

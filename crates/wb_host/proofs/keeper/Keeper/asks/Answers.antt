@@ -6,4 +6,4 @@ use Rattle.wb_host.proofs.keeper.Keeper.asks.Goals as goal
 
 pub returns-clause-calls : goal.returns-clause-calls
 returns-clause-calls c = λ me constants calls s.
-    c.asks.ensures.events constants (events_of me calls) (subst (λ (v : KeeperValue). timers.StandsFor constants (events_of me calls) v.recovery) (sym c.self.view_is) s.timed)
+    c.asks.ensures.events constants (events_of me calls) (subst (λ (v : KeeperValue). timers.StandsFor constants (events_of me calls) v.recovery) (sym c.self.view_is) s.recovery)

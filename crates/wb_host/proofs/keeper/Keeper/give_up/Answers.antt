@@ -11,7 +11,7 @@ returns-then-not-is_asked-clause-ok c =
     keeps_inward (GiveUp a.now a.name.now false) (record { delays = λ me source. refl; sessions = λ me. refl; marks = λ me page source. refl; merged = λ me page. refl }) a.self.now _ c.self.inside.recovery a.now
     (ap (λ (v : KeeperValue). record v { moment = a.now; recovery = c.self.inside.recovery }) c.self.view_is)
     (λ calls. refl)
-    (λ me t calls s. subst (λ (v : KeeperValue). timers.StandsFor t (events_of me calls) v.recovery) (sym c.self.view_is) s.timed)
+    (λ me t calls s. subst (λ (v : KeeperValue). timers.StandsFor t (events_of me calls) v.recovery) (sym c.self.view_is) s.recovery)
 
 pub returns-clause-ok : goal.returns-clause-ok
 returns-clause-ok c =
@@ -20,4 +20,4 @@ returns-clause-ok c =
     keeps_inward (GiveUp a.now a.name.now true) (record { delays = λ me source. refl; sessions = λ me. refl; marks = λ me page source. refl; merged = λ me page. refl }) a.self.now _ new a.now
     (ap (λ (v : KeeperValue). record v { moment = a.now; recovery = new }) c.self.view_is)
     (λ calls. refl)
-    (λ me t calls s. c.in-Ok.ensures.ok t (events_of me calls) (subst (λ (v : KeeperValue). timers.StandsFor t (events_of me calls) v.recovery) (sym c.self.view_is) s.timed))
+    (λ me t calls s. c.in-Ok.ensures.ok t (events_of me calls) (subst (λ (v : KeeperValue). timers.StandsFor t (events_of me calls) v.recovery) (sym c.self.view_is) s.recovery))

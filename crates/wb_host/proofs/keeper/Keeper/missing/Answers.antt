@@ -15,13 +15,13 @@ use Rattle.wb_host.proofs.keeper.Keeper.missing.Goals as goal
 pub returns-then-room-eq0-clause-value : goal.returns-then-room-eq0-clause-value
 returns-then-room-eq0-clause-value c = λ me constants calls s.
     let events = events_of me calls in
-    let stands = subst (λ (v : KeeperValue). timers.StandsFor constants events v.recovery) (sym c.self.view_is) s.timed in
+    let stands = subst (λ (v : KeeperValue). timers.StandsFor constants events v.recovery) (sym c.self.view_is) s.recovery in
     none_wanted constants events c.asks.result c.saturating_sub-room.result _ c.new.result.items (c.asks.ensures.events constants events stands) c.saturating_sub-room.ensures c.if-room-eq0.true c.new.ensures.items
 
 pub returns-clause-value : goal.returns-clause-value
 returns-clause-value c = λ me constants calls s.
     let events = events_of me calls in
-    let stands = subst (λ (v : KeeperValue). timers.StandsFor constants events v.recovery) (sym c.self.view_is) s.timed in
+    let stands = subst (λ (v : KeeperValue). timers.StandsFor constants events v.recovery) (sym c.self.view_is) s.recovery in
     let told = c.in_ok-unasked.ensures.names in
     let gaps = told.0 in
     let history = c.unasked.new.self.seen in

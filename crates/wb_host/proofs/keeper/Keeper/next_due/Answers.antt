@@ -8,4 +8,4 @@ use Rattle.wb_host.proofs.keeper.Keeper.next_due.Goals as goal
 pub returns-clause-calls : goal.returns-clause-calls
 returns-clause-calls c = λ me t calls s.
     next_by_calls t (events_of me calls) c.self.inside.recovery c.next_due.result
-    (subst (λ (v : KeeperValue). timers.StandsFor t (events_of me calls) v.recovery) (sym c.self.view_is) s.timed) c.next_due.ensures
+    (subst (λ (v : KeeperValue). timers.StandsFor t (events_of me calls) v.recovery) (sym c.self.view_is) s.recovery) c.next_due.ensures

@@ -19,4 +19,4 @@ returns-clause-ok c =
     (λ me t calls s.
     subst (λ (missed : List Missed). timers.StandsFor t (notices a.now (events_of me calls) missed) new)
     (c.deref.ensures.value ∙ c.in_ok-missed.ensures ∙ same_missed _ _ s.delays a.names.now a.words.now)
-    (ok t (events_of me calls) (subst (λ (v : KeeperValue). timers.StandsFor t (events_of me calls) v.recovery) (sym c.self.view_is) s.timed)))
+    (ok t (events_of me calls) (subst (λ (v : KeeperValue). timers.StandsFor t (events_of me calls) v.recovery) (sym c.self.view_is) s.recovery)))

@@ -22,4 +22,4 @@ returns-clause-value c = λ me constants calls s. only_message me calls c.args.n
 pub returns-clause-ok : goal.returns-clause-ok
 returns-clause-ok c =
     keeps_inward (Report c.args.now) (record { delays = λ me source. refl; sessions = λ me. refl; marks = λ me page source. refl; merged = λ me page. refl }) c.args.self.now _ c.args.self.now.recovery c.args.now
-    (ap (λ (v : KeeperValue). record v { moment = c.args.now }) c.self.view_is) (λ calls. refl) (λ me t calls s. s.timed)
+    (ap (λ (v : KeeperValue). record v { moment = c.args.now }) c.self.view_is) (λ calls. refl) (λ me t calls s. s.recovery)

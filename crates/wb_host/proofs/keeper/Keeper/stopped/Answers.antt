@@ -1,6 +1,6 @@
 use Rattle.std.proofs.Common.{◌∙◌, ap, rules}
 use Rattle.std.proofs.lemmas.Result.{IfOk-weaker}
-use Rattle.wb_host.specs.Keeper.{come_of, holds}
+use Rattle.wb_host.specs.Keeper.{received_of, holds}
 use Rattle.wb_host.specs.Keeping.{KeeperValue, delay_at}
 use Rattle.wb_host.specs.Ticks.{stopped_in}
 use Rattle.wb_host.proofs.keeper.Keeper.stopped.Goals as goal
@@ -9,4 +9,4 @@ pub returns : goal.returns
 returns c =
     let seen = c.args.desk.now.seen in
     let held = c.in_ok-held.ensures (holds seen) (λ n b told. search rules) ∙ ap (λ (v : KeeperValue). stopped_in seen v.recovery) c.self.view_is in
-    IfOk-weaker c.come_from.result _ _ (λ come is. is ∙ ap (come_of (delay_at c.args.self.now.delays)) (c.deref.ensures.value ∙ held)) c.come_from.ensures
+    IfOk-weaker c.received_from.result _ _ (λ received is. is ∙ ap (received_of (delay_at c.args.self.now.delays)) (c.deref.ensures.value ∙ held)) c.received_from.ensures

@@ -1,7 +1,5 @@
-use Rattle.std.proofs.Common.{false, Option, List, ap, ◌∙◌, sym, subst}
-use Rattle.wb_names.specs.Values.{MarkValue}
+use Rattle.std.proofs.Common.{false, ap, ◌∙◌, sym, subst}
 use Rattle.wb_codec.specs.declared.datagram.Datagram.{Datagram}
-use Rattle.wb_codec.specs.declared.datagram.Datagram.TheVariants.{Session, PageState}
 use Rattle.wb_host.specs.Hearing.{asks_for_held}
 use Rattle.wb_host.specs.Keeper.{Hear, is_own}
 use Rattle.wb_host.specs.Keeping.{Keeps, marks_at}
@@ -14,17 +12,17 @@ pub returns-in-PageState-clause-ok : goal.returns-in-PageState-clause-ok
 returns-in-PageState-clause-ok c =
     let a = c.args in
     let d = c.in-PageState in
-    let merged = subst (λ (o : Option (List MarkValue)). AreMerged (marks_at a.self.now.marks) (PageState d.sender d.page d.marks) o) c.unwrap-in-PageState.ensures (subst (λ (x : Datagram). AreMerged (marks_at a.self.now.marks) x a.merged) d.is c.requires.merged) in
+    let merged = subst (λ (x : Datagram). AreMerged (marks_at a.self.now.marks) x a.merged) d.is c.requires.merged in
     on_ok_so c.note_marks.result _ _ (λ is. subst (λ (x : Datagram). Keeps (Hear a.now x a.word (asks_for_held a.desk.now.seen x)) a.self.now c.note_marks.new.self) (sym d.is)
-    (keeps_state a.self.now c.note_marks.new.self a.now d.sender d.page d.marks c.unwrap-in-PageState.result a.word false (sym (ap (is_own a.self.now.me) d.is) ∙ c.requires.other) is merged.0 merged.1 merged.2)) c.note_marks.ensures.ok
+    (keeps_state a.self.now c.note_marks.new.self a.now d.sender d.page d.marks a.merged a.word false (sym (ap (is_own a.self.now.me) d.is) ∙ c.requires.other) is merged)) c.note_marks.ensures.ok
 
 pub returns-in-Session-clause-ok : goal.returns-in-Session-clause-ok
 returns-in-Session-clause-ok c =
     let a = c.args in
     let d = c.in-Session in
-    let merged = subst (λ (o : Option (List MarkValue)). AreMerged (marks_at a.self.now.marks) (Session d.sender d.sent d.page d.marks d.echoes) o) c.unwrap.ensures (subst (λ (x : Datagram). AreMerged (marks_at a.self.now.marks) x a.merged) d.is c.requires.merged) in
+    let merged = subst (λ (x : Datagram). AreMerged (marks_at a.self.now.marks) x a.merged) d.is c.requires.merged in
     on_ok_both c.note_session.result _ _ _ (λ is counted. subst (λ (x : Datagram). Keeps (Hear a.now x a.word (asks_for_held a.desk.now.seen x)) a.self.now c.note_session.new.self) (sym d.is)
-    (keeps_session a.self.now c.note_session.new.self a.now d.sender d.sent d.page d.marks c.unwrap.result d.echoes c.delay_told-delay.result a.word false (sym (ap (is_own a.self.now.me) d.is) ∙ c.requires.other) c.delay_told-delay.ensures is counted merged.0 merged.1 merged.2)) c.note_session.ensures.ok c.note_session.ensures.counted
+    (keeps_session a.self.now c.note_session.new.self a.now d.sender d.sent d.page d.marks a.merged d.echoes c.delay_told-delay.result a.word false (sym (ap (is_own a.self.now.me) d.is) ∙ c.requires.other) c.delay_told-delay.ensures is counted merged)) c.note_session.ensures.ok c.note_session.ensures.counted
 
 pub returns-in-Request-clause-ok : goal.returns-in-Request-clause-ok
 returns-in-Request-clause-ok c =

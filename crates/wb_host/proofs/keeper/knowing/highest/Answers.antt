@@ -5,6 +5,6 @@ use Rattle.wb_host.proofs.keeper.knowing.highest.Goals as goal
 
 pub loop-drawop-preserved : goal.loop-drawop-preserved
 loop-drawop-preserved c =
-    c.max-highest.ensures ∙ ap (λ (n : ℕ). max n c.loop-drawop.highest) c.number_of.ensures
+    c.max-highest.ensures ∙ ap (λ (n : ℕ). max n c.loop-drawop.highest) c.number_on.ensures
     ∙ ap (max _) c.loop-drawop.invariant
     ∙ sym (highest_more c.args.page c.args.source c.args.list.now c.loop-drawop.drawop-index c.drawop-item.result c.loop-drawop-test.true c.drawop-item.is)

@@ -22,7 +22,7 @@ returns-clause-ok c =
           (accepted (Asked a.name true a.now a.delay a.word) a.name a.now (λ (t : Tuning). asked t true a.now a.delay a.word)
           (record { timers = λ t events n. refl; moment = λ events. refl })
           a.self.now w.set_answer.new.self _ w.in_ok-set_answer.ensures.ok after new
-          (ap (λ (v : RecoveryValue). v.tuning) is) (ap (λ (v : RecoveryValue). v.records) is) refl)
+          (ap (λ (v : RecoveryValue). v.tuning) is) (ap (λ (v : RecoveryValue). v.records) is) refl c.self-2.invariant.ordered)
       | else-held+in_ok-set_ask w ↦
           let after = w.overheard-ask.ensures.timers
           ∙ ap (λ (v : RecoveryValue). asked v.tuning false a.now a.delay a.word c.timers-before.result) c.self.view_is
@@ -32,5 +32,5 @@ returns-clause-ok c =
           (accepted (Asked a.name false a.now a.delay a.word) a.name a.now (λ (t : Tuning). asked t false a.now a.delay a.word)
           (record { timers = λ t events n. refl; moment = λ events. refl })
           a.self.now w.set_ask.new.self _ w.in_ok-set_ask.ensures.ok after new
-          (ap (λ (v : RecoveryValue). v.tuning) is) (ap (λ (v : RecoveryValue). v.records) is) refl)
+          (ap (λ (v : RecoveryValue). v.tuning) is) (ap (λ (v : RecoveryValue). v.records) is) refl c.self-2.invariant.ordered)
     ]

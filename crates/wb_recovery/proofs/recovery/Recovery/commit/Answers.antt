@@ -7,5 +7,5 @@ pub returns-clause-ok : goal.returns-clause-ok
 returns-clause-ok c = λ words is.
     let p = c.args.plan in
     let new : RecoveryValue = record { tuning = c.self.inside.tuning; moment = p.moment; records = c.self.inside.records.entries } in
-    stops_and_ticks p.moment words c.args.come.now p.asking.items p.answering.items c.args.self.now c.fire.new.self c.end_all.new.self new is.asking is.answering (c.in_ok-fire.ensures.ok c.args.come.now words is) c.end_all.ensures
-    (ap (λ (v : RecoveryValue). v.tuning) c.self.view_is) (ap (λ (v : RecoveryValue). v.records) c.self.view_is) refl
+    stops_and_ticks p.moment words c.args.received.now p.asking.items p.answering.items c.args.self.now c.fire.new.self c.end_all.new.self new is.asking is.answering (c.fire.ensures c.args.received.now words is) c.end_all.ensures
+    (ap (λ (v : RecoveryValue). v.tuning) c.self.view_is) (ap (λ (v : RecoveryValue). v.records) c.self.view_is) refl c.self.invariant.ordered

@@ -1,6 +1,4 @@
 use Rattle.std.proofs.Common.{◌≡◌, ◌∙◌, sym, ap, subst, refl, length}
-use Rattle.std.specs.List.Sorted.{IsStrictlySortedBy}
-use Rattle.wb_names.specs.Orders.{name_cmp}
 use Rattle.wb_recovery.specs.Timing.{is_ask_due}
 use Rattle.wb_recovery.specs.Values.{RecoveryValue, timers_in, names_in}
 use Rattle.wb_recovery.specs.Events.{due_asks}
@@ -21,8 +19,3 @@ returns-clause-events c = λ constants events stands.
     let view : RecoveryValue = record { tuning = c.self.inside.tuning; moment = c.self.inside.moment; records = c.self.inside.records.entries } in
     count_due view c.self.invariant.ordered c.args.now c.count_until.result (c.count_until.ensures _ c.self.invariant.asks)
     ∙ ap length (listed_same (λ (s : Timers). is_ask_due c.args.now s.ask) refl constants events view c.self.invariant.ordered (subst (StandsFor constants events) (sym c.self.view_is) stands))
-
-pub returns-clause-rising : goal.returns-clause-rising
-returns-clause-rising c =
-    let view : RecoveryValue = record { tuning = c.self.inside.tuning; moment = c.self.inside.moment; records = c.self.inside.records.entries } in
-    subst (λ (v : RecoveryValue). IsStrictlySortedBy name_cmp (names_in v)) c.self.view_is c.self.invariant.ordered

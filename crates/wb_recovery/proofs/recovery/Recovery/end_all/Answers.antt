@@ -16,13 +16,13 @@ loop-one-preserved c =
       | then-is_standing w ↦ record {
         tuning = ap (λ (v : RecoveryValue). v.tuning) w.self-is ∙ w.end.ensures.tuning ∙ inv.tuning;
         moment = ap (λ (v : RecoveryValue). v.moment) w.self-is ∙ w.end.ensures.moment ∙ inv.moment;
-        timers = got_more a.now a.come.now c.loop-one.one-index one (omega arith) c.one-item.is (timers_in a.self.now) (timers_in old) (timers_in c.if-is_standing.self) inv.timers
+        timers = got_more a.now a.received.now c.loop-one.one-index one (omega arith) c.one-item.is (timers_in a.self.now) (timers_in old) (timers_in c.if-is_standing.self) inv.timers
             (got_stands a.now one old c.if-is_standing.self _ w.end.new.self w.self-is w.end.ensures (got_standing a.now one.delay c.timers-before.result (sym c.is_standing.ensures ∙ w.if-is_standing.true) ∙ ap (got a.now one.delay) c.timers-before.ensures.timers));
       }
       | else-is_standing w ↦ record {
         tuning = ap (λ (v : RecoveryValue). v.tuning) w.self-is ∙ inv.tuning;
         moment = ap (λ (v : RecoveryValue). v.moment) w.self-is ∙ inv.moment;
-        timers = got_more a.now a.come.now c.loop-one.one-index one (omega arith) c.one-item.is (timers_in a.self.now) (timers_in old) (timers_in c.if-is_standing.self) inv.timers
+        timers = got_more a.now a.received.now c.loop-one.one-index one (omega arith) c.one-item.is (timers_in a.self.now) (timers_in old) (timers_in c.if-is_standing.self) inv.timers
             (got_stands a.now one old c.if-is_standing.self (timers_in old one.name) old w.self-is (replaced_none old one.name) (sym c.timers-before.ensures.timers ∙ got_none a.now one.delay c.timers-before.result (sym c.is_standing.ensures ∙ w.if-is_standing.false) ∙ ap (got a.now one.delay) c.timers-before.ensures.timers));
       }
     ]

@@ -15,3 +15,4 @@ returns-clause-ok c =
     (ap (λ (v : RecoveryValue). v.tuning) c.self.view_is)
     (ap (λ (v : RecoveryValue). v.records) c.self.view_is)
     refl
+    c.self.invariant.ordered

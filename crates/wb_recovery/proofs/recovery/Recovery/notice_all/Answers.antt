@@ -12,7 +12,7 @@ use Rattle.wb_recovery.specs.declared.missed.Missed.{Missed}
 use Rattle.wb_recovery.proofs.Outcomes.{on_err, on_no_err}
 use Rattle.wb_recovery.proofs.NoticedNames.{notices_first, notices_none, sets_more, sets_wider, all_back, notices_more, stands_more}
 use Rattle.wb_recovery.proofs.recovery.Recovery.notice_all.Goals as goal
-use Rattle.wb_recovery.proofs.recovery.Recovery.notice_all.Goals.{then-not-is_empty, else-not-is_empty}
+use Rattle.wb_recovery.proofs.recovery.Recovery.notice_all.Goals.{then-is_empty, else-is_empty}
 
 pub loop-one-init : goal.loop-one-init
 loop-one-init c = record {
@@ -41,20 +41,24 @@ returns-clause-ok c = λ constants events s.
     let inv = c.loop-one.invariant in
     let len : length missed ≤ c.loop-one.one-index = omega arith in
     let whole = λ (n : NameValue). inv.events constants events s n ∙ ap (λ (xs : List Missed). timers_of constants (notices c.args.now events xs) n) (take_all c.loop-one.one-index missed len) in
-    elim c.if-not-is_empty.branch [
-      | then-not-is_empty w ↦
-          let some : length missed ≡ 0 → ⊥ = λ h. true≢false (sym (sym (w.if-not-is_empty.true) ∙ c.is_empty.ensures ∙ ap (λ (k : ℕ). k == 0) h)) in
+    let tuning = ap (λ (v : RecoveryValue). v.tuning) c.self-2.view_is ∙ inv.set.tuning ∙ s.tuning in
+    let timers = λ (n : NameValue). ap (λ (v : RecoveryValue). timers_in v n) c.self-2.view_is ∙ whole n in
+    elim c.if-is_empty.branch [
+      | then-is_empty w ↦
+          let none : length missed ≡ 0 = eqb-true _ _ (sym c.is_empty.ensures ∙ w.if-is_empty.true) in
           record {
-            tuning = ap (λ (v : RecoveryValue). v.tuning) w.self-is ∙ ap (λ (v : RecoveryValue). v.tuning) c.self-2.view_is ∙ inv.set.tuning ∙ s.tuning;
-            moment = ap (λ (v : RecoveryValue). v.moment) w.self-is ∙ sym (notices_first c.args.now events missed some);
-            timers = λ n. ap (λ (v : RecoveryValue). timers_in v n) w.self-is ∙ ap (λ (v : RecoveryValue). timers_in v n) c.self-2.view_is ∙ whole n;
+            tuning = tuning;
+            moment = w.self-is ∙ ap (λ (v : RecoveryValue). v.moment) c.self-2.view_is ∙ inv.set.moment ∙ s.moment ∙ ap moment_of (sym (notices_none c.args.now events missed none));
+            timers = timers;
+            rising = c.self-2.invariant.ordered;
           }
-      | else-not-is_empty w ↦
-          let none : length missed ≡ 0 = eqb-true _ _ (sym c.is_empty.ensures ∙ w.if-not-is_empty.false) in
+      | else-is_empty w ↦
+          let some : length missed ≡ 0 → ⊥ = λ h. true≢false (sym (ap (λ (k : ℕ). k == 0) h) ∙ sym c.is_empty.ensures ∙ w.if-is_empty.false) in
           record {
-            tuning = ap (λ (v : RecoveryValue). v.tuning) w.self-is ∙ inv.set.tuning ∙ s.tuning;
-            moment = ap (λ (v : RecoveryValue). v.moment) w.self-is ∙ inv.set.moment ∙ s.moment ∙ ap moment_of (sym (notices_none c.args.now events missed none));
-            timers = λ n. ap (λ (v : RecoveryValue). timers_in v n) w.self-is ∙ whole n;
+            tuning = tuning;
+            moment = w.self-is ∙ sym (notices_first c.args.now events missed some);
+            timers = timers;
+            rising = c.self-2.invariant.ordered;
           }
     ]
 

@@ -1,5 +1,6 @@
 use Rattle.std.proofs.Common.{◌<◌, ◌≤◌, ◌∙◌, [], Ok, ap, sym, subst, ℕ}
 use Rattle.std.proofs.lemmas.List.{append-nil}
+use Rattle.wb_host.proofs.StoppedTimers.{stopped_by_calls}
 use Rattle.wb_script.specs.Board.{Held}
 use Rattle.wb_script.specs.Hosts.{ticked}
 use Rattle.wb_script.specs.SentLines.{sends_text}
@@ -22,7 +23,7 @@ returns-clause-text c = (
       (tick_done c.args.number c.self.inside.board c.self.inside.keeper c.tick.new.keeper c.self.inside.words c.take.new.self host c.args.now c.due_count-count.result c.deref.result.now (sends_text c.deref-2.result.now) c.in_ok-sent.sent.items there
       (subst (λ (n : ℕ). n ≤ c.args.now) c.moment.ensures.moment c.if-now-moment.false)
       (c.due_count-count.ensures.calls host.me host.constants host.calls there.keeper)
-      (c.due_count-count.ensures.stopped host.me host.constants host.calls there.keeper host.board.drawops)
+      (stopped_by_calls host.me host.constants host.calls c.self.inside.keeper there.keeper host.board.drawops)
       (c.deref.ensures.value ∙ c.in_ok-words.ensures.words)
       c.in_ok-words.ensures.rest
       (c.in_ok-sent.ensures.sent host.me host.constants host.calls there.keeper)

@@ -1,9 +1,0 @@
-use wb_names::Name;
-
-/// A name that has come.
-#[derive(Clone, Copy, Debug, PartialEq, Eq)]
-pub struct Come {
-    pub name: Name,
-    /// The delay to the name's source, in microseconds.
-    pub delay: u64,
-}
