@@ -10,3 +10,4 @@ pub mod Shows
 pub mod Unions
 pub mod Portions
 pub mod Fronts
+pub mod RowLists

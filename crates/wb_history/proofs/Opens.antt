@@ -1,23 +1,20 @@
 -- The table at the start keeps the rule.
 use Rattle.wb_history.specs.Sizes.{member_steps}
-use Rattle.std.proofs.Common.{◌≡◌, ℕ, zero, suc, ◌*◌, ◌<◌, List, [], ◌∷◌, length, get_or, refl, sym, ap, ◌∙◌, subst, ⊎_elim, arith, length-append}
+use Rattle.std.proofs.Common.{◌≡◌, ℕ, zero, suc, ◌+◌, ◌*◌, ◌<◌, List, [], ◌∷◌, length, get_or, refl, sym, ap, ◌∙◌, subst, arith}
 use Rattle.std.specs.Prelude.{replicate}
 use mathlib.Core.Option.{some, some-injective, some-ne-none}
 use lib.ListN.{get_elem?}
 use Rattle.atomic_table.specs.Table.{opening}
 use Rattle.wb_history.specs.declared.knowledge.Knowledge.{Knowledge}
-use Rattle.wb_history.specs.Lists.{numbers}
+use Rattle.std.specs.List.{range_with_len}
 use Rattle.wb_history.specs.Views.{whole_pass}
 use Rattle.wb_history.specs.Lawful.{Knows, Lawful}
-use Rattle.wb_history.proofs.Lists.{at_nothing, at_end, once_nothing}
+use Rattle.wb_history.proofs.Lists.{at_nothing, once_nothing}
 
-pub length-numbers : (n : ℕ) → length (numbers n) ≡ n
-length-numbers zero = refl
-length-numbers (suc n) = let t = length-numbers n in omega (arith, length-append (numbers n) (n ∷ []))
-
-at_numbers : (n i r : ℕ) → get_elem? (numbers n) i ≡ some r → (i ≡ r) × (r < n)
-at_numbers zero i r e = absurd (some-ne-none r (sym e))
-at_numbers (suc n) i r e = ⊎_elim (λ h. let t = at_numbers n i r h in let a = t.0 in let b = t.1 in (t.0, omega arith)) (λ t. let a = t.0 in let b = t.1 in let l = length-numbers n in (omega arith, omega arith)) (at_end (numbers n) n i r e)
+at_range : (a n i r : ℕ) → get_elem? (range_with_len a n) i ≡ some r → (a + i ≡ r) × (i < n)
+at_range a zero i r e = absurd (some-ne-none r (sym e))
+at_range a (suc n) zero r e = let is = some-injective a r e in (omega arith, omega arith)
+at_range a (suc n) (suc i) r e = let t = at_range (a + 1) n i r e in let is = t.0 in let few = t.1 in (omega arith, omega arith)
 
 get_or-replicate : (n i : ℕ) → get_or {A = ℕ} (replicate n 0) i 0 ≡ 0
 get_or-replicate zero i = refl
@@ -46,8 +43,8 @@ opens cells words n zeros len size = record {
       sized = λ _. refl;
       begins = ([], refl);
       told = ([], refl);
-      free_is = λ i q e. ((at_numbers cells i q e).1, refl, λ p h. at_nothing p q h);
-      free_once = λ i k q e f. (at_numbers cells i q e).0 ∙ sym (at_numbers cells k q f).0;
+      free_is = λ i q e. let t = at_range 0 cells i q e in let is = t.0 in let few = t.1 in (omega arith, refl, λ p h. at_nothing p q h);
+      free_once = λ i k q e f. let t = (at_range 0 cells i q e).0 in let u = (at_range 0 cells k q f).0 in omega arith;
       mine_is = λ i p e. absurd (at_nothing i p e);
       mine_once = once_nothing;
       mine_all = λ p q e _. absurd (at_nothing p q e);

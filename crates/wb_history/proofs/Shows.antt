@@ -6,7 +6,7 @@ use Rattle.std.proofs.Common.{Result, Ok, Err, OnOk, OnErr, MatchResult}
 use Rattle.std.specs.Prelude.{replicate}
 use Rattle.std.proofs.lemmas.List.{length-replicate}
 use Rattle.atomic_table.specs.Table.{Me, opening}
-use Rattle.wb_history.specs.Lists.{numbers}
+use Rattle.std.specs.List.{range_with_len}
 use Rattle.wb_history.specs.Views.{whole_pass}
 use Rattle.wb_history.proofs.Opens.{opens}
 use Rattle.wb_history.proofs.Keeps.{sane}
@@ -180,7 +180,7 @@ first_sane cells h =
     let r = opens cells (replicate n 0) n refl (length-replicate n 0) refl in
     sane cells (opening (replicate n 0) [] (whole_pass cells)) r 0 (whole_pass cells) (r.each_pass 0 (whole_pass cells) refl) h
 
-pub first_order : (h : Hand) (cells : ℕ) → 0 < cells → h.seat.me ≡ (whole_pass cells, []) → h.seen.items ≡ [] → h.mine.items ≡ [] → h.free.items ≡ numbers cells → InOrder h
+pub first_order : (h : Hand) (cells : ℕ) → 0 < cells → h.seat.me ≡ (whole_pass cells, []) → h.seen.items ≡ [] → h.mine.items ≡ [] → h.free.items ≡ range_with_len 0 cells → InOrder h
 first_order h cells some_cells me seen mine free = record {
   slots = ap (λ (m : Me DrawopValue Knowledge). m.1) me;
   seen = ap (λ (m : Me DrawopValue Knowledge). m.0.seen) me ∙ sym seen;

@@ -3,6 +3,7 @@ pub mod Lists
 pub mod Plays
 pub mod Members
 pub mod Indexed
+pub mod RowRanges
 pub mod Sizes
 pub mod Views
 pub mod Seats

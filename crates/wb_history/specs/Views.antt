@@ -3,11 +3,12 @@ use Rattle.wb_history.specs.Sizes.{row_words}
 use Rattle.std.specs.Prelude.{◌≡◌, ℕ, ◌+◌, ◌-◌, List, [], ◌∷◌, ◌++◌, length, take, drop}
 use Rattle.wb_history.specs.declared.knowledge.Knowledge.{Knowledge}
 use Rattle.wb_names.specs.Values.{DrawopValue}
-use Rattle.wb_history.specs.Lists.{longer, shorter, numbers}
+use Rattle.wb_history.specs.Lists.{longer, shorter}
+use Rattle.std.specs.List.{range_with_len}
 
 -- the first pass: it has seen nothing, and all rows are its own
 abbrev pub whole_pass : ℕ → Knowledge
-whole_pass cells = record { cells = cells; seen = []; told = []; mine = []; free = numbers cells; looking = 0; read = []; stored = []; made = 0; last_word = 0; last_found = 0 }
+whole_pass cells = record { cells = cells; seen = []; told = []; mine = []; free = range_with_len 0 cells; looking = 0; read = []; stored = []; made = 0; last_word = 0; last_found = 0 }
 
 abbrev pub OwnsAll : Knowledge → Type 0
 OwnsAll v = length v.free + length v.mine ≡ v.cells

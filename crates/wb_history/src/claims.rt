@@ -45,7 +45,7 @@ impl CellTable {
         hand.steps += 1;
         if found == 0 {
             hand.mine.push_reserved(place as u32);
-            let _row = hand.free.pop();
+            hand.free.take_last();
             return Ok(None);
         }
         hand.seen.take_back();
@@ -108,7 +108,7 @@ impl CellTable {
             Ok(None) => {}
             Err(_) => return Err(ClaimFault::Memory),
         }
-        let Some(row) = last(hand.free.as_slice()) else {
+        let Some(row) = hand.free.last() else {
             return Err(ClaimFault::NoRow);
         };
         match self.settle(hand, row, drawop) {
@@ -125,15 +125,4 @@ fn known(members: &Members, drawop: &Drawop) -> Option<Claim>
 {
     let place = members.place_of(&drawop.name())?;
     Some(answer(drawop, &members.as_slice()[place], place))
-}
-
-/// The row that is used next.
-fn last(rows: &[u32]) -> Option<u32>
-    ensures { MatchOption result (rows.now ≡ []) (λ r. get_elem? rows.now (length rows.now - 1) ≡ some r) }
-{
-    let count = rows.len();
-    if count == 0 {
-        return None;
-    }
-    Some(rows[count - 1])
 }

@@ -3,6 +3,7 @@ ghost use Rattle.std.specs.Prelude.{◌≡◌};
 
 use crate::cells::Chair;
 use crate::members::Members;
+use crate::ranges::Rows;
 use thiserror::Error;
 
 /// A seat at the table of a history, and lists of what it knows. The proofs see that the lists are
@@ -16,7 +17,7 @@ pub(crate) struct Hand {
     /// The places that it added, as they were gained.
     pub(crate) mine: Vec<u32>,
     /// The rows that it owns and has not published. The last one is used next.
-    pub(crate) free: Vec<u32>,
+    pub(crate) free: Rows,
     /// The steps on words of the last claim or refresh.
     pub(crate) steps: u32,
 }

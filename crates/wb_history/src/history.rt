@@ -3,7 +3,6 @@ ghost use Rattle.std.specs.Prelude.{◌≡◌, ◌≢◌, ◌+◌, ◌*◌, ◌<
 ghost use mathlib.Core.List.{IsPrefix};
 ghost use Rattle.wb_names.specs.History.{HoldsName};
 ghost use Rattle.wb_history.specs.Sizes.{member_steps};
-ghost use Rattle.wb_history.specs.Lists.{numbers};
 ghost use Rattle.wb_history.specs.Passes.{IsPassOf, IsSamePass, IsSound, AddsNothing, IsCaughtUp};
 ghost use Rattle.wb_history.specs.Replies.{Claimed, NotClaimed, ClaimSteps, FaultSteps, brought};
 ghost use Rattle.wb_history.specs.declared.history.OpenFault.TheVariants as fault;
@@ -12,6 +11,7 @@ use crate::cells::CellTable;
 use crate::hand::{Claim, ClaimFault, Hand};
 use crate::members::Members;
 use crate::pass::Pass;
+use crate::ranges::Rows;
 use std::alloc::{AllocError, Global};
 use std::marker::Model;
 use thiserror::Error;
@@ -57,17 +57,6 @@ impl OpenFault {
     }
 }
 
-/// The rows of a history, all of them free.
-fn all_rows(alloc: Global, cells: u32) -> Result<Vec<u32>, AllocError>
-    ensures { IfOk result (λ v. v.items ≡ numbers cells) }
-{
-    let mut rows = Vec::with_capacity(alloc, cells as usize)?;
-    for row in 0..cells {
-        rows.push(row)?;
-    }
-    Ok(rows)
-}
-
 impl History {
     /// An empty history of so many cells, from 1 to 65,535, and as many rows; and the pass that
     /// owns all rows. There is room for as many drawops as there are cells.
@@ -79,7 +68,7 @@ impl History {
         if cells == 0 || cells > 65535 {
             return Err(OpenFault::Cells);
         }
-        let Ok(free) = all_rows(alloc, cells) else {
+        let Ok(free) = Rows::first(alloc, cells) else {
             return Err(OpenFault::Memory);
         };
         let Ok((table, seat)) = CellTable::make(alloc, cells) else {

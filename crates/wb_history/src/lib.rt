@@ -13,7 +13,7 @@
 //! used again, a drawop never leaves, and nothing is kept on disk. Callers see drawops by place; the
 //! words, the contents of cells and the numbers of rows stay inside.
 //!
-//! In reading order: `history`, `parts` and `pass` have the public calls; `hand`, `members`, `spares`,
+//! In reading order: `history`, `parts` and `pass` have the public calls; `hand`, `members`, `ranges`, `spares`,
 //! `walk` and `claims` what a pass does in them; `cells`, `steps`, `rule` and `knowledge` the table.
 #![tactic(auto)]
 
@@ -25,6 +25,7 @@ mod knowledge;
 mod members;
 mod parts;
 mod pass;
+mod ranges;
 mod rule;
 mod spares;
 mod steps;

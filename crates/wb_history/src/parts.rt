@@ -78,13 +78,13 @@ impl History {
         ensures too_many { pass.old.free < rows → result ≡ Err (fault.TooMany pass.old.free) }
     {
         let have = pass.hand.free.len();
-        if have < rows as usize {
-            return Err(SplitFault::TooMany(have as u32));
+        if have < rows {
+            return Err(SplitFault::TooMany(have));
         }
         let Ok(seen) = another(&mut pass.spares, &pass.hand.seen) else {
             return Err(SplitFault::Memory);
         };
-        let Ok(free) = pass.hand.free.split_off(have - rows as usize) else {
+        let Ok(free) = pass.hand.free.split_off(rows) else {
             return Err(SplitFault::Memory);
         };
         let seat = self.cells.cut::<Brand>(&mut pass.hand.seat, rows as usize);
@@ -119,7 +119,7 @@ impl CellTable {
     fn take_in(&self, hand: &mut Hand, other: Hand) -> Members
         requires hand { SitsAt self.now hand.old.seat × InOrder hand.old }
         requires other { SitsAt self.now other.seat × InOrder other }
-        requires room { (vec_len hand.old.mine + vec_len other.mine ≤ vec_capacity hand.old.mine) × (vec_len hand.old.free + vec_len other.free ≤ vec_capacity hand.old.free) }
+        requires room { (vec_len hand.old.mine + vec_len other.mine ≤ vec_capacity hand.old.mine) × (other.free.parts ≤ hand.old.free.room) }
         ensures united { United hand.old other.seat.me.0 hand.new }
         ensures front { IsPrefix result.items hand.new.seen.items }
     {
@@ -133,7 +133,7 @@ impl CellTable {
         self.unite(&mut hand.seat, seat);
         self.confirm(&mut hand.seat);
         append(&mut hand.mine, mine.as_slice());
-        append(&mut hand.free, free.as_slice());
+        hand.free.append(free);
         if hand.seen.len() < seen.len() {
             return replace(&mut hand.seen, seen);
         }
@@ -167,7 +167,7 @@ impl History {
         if pass.hand.mine.reserve(other.hand.mine.len()).is_err() {
             return Err((JoinFault::Memory, other));
         }
-        if pass.hand.free.reserve(other.hand.free.len()).is_err() {
+        if pass.hand.free.reserve(&other.hand.free).is_err() {
             return Err((JoinFault::Memory, other));
         }
         let Pass {

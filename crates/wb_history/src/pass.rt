@@ -80,14 +80,14 @@ impl Pass {
         ensures value { result ≡ self.now.free }
         ensures sound { IsSound self.now }
     {
-        self.hand.free.len() as u32
+        self.hand.free.len()
     }
 
     /// Whether it owns all rows of the history.
     pub fn is_whole(&self) -> bool
         ensures { IsTrue result ↔ IsWhole self.now }
     {
-        self.hand.free.len() + self.hand.mine.len() == self.cells as usize
+        self.hand.free.len() as usize + self.hand.mine.len() == self.cells as usize
     }
 
     /// The steps on words of its last claim or refresh, and 0 before the first.

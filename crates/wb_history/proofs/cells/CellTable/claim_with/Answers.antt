@@ -14,16 +14,14 @@ returns-in-Some-clause-done c =
 pub returns-in-Ok-clause-done : goal.returns-in-Ok-clause-done
 returns-in-Ok-clause-done c =
     let s = subst (λ (o : Option Claim). Sought c.args.self.now.cells c.args.hand.now c.args.drawop.now c.seek.new.hand o) c.in-Ok-None.field-0-is c.in-Ok-None.ensures.done in
-    let some_free = at-lt c.as_slice.result.now _ _ c.in-Some-last.ensures in
-    let same = ap length c.as_slice.ensures.value in
+    let some_free = at-lt c.seek.new.hand.free.items _ _ c.in-Some-last.ensures in
     let e = free_end c.args.self.now c.args.hand.now s.0 c.seek.new.hand c.requires.hand.0 s.1 (omega arith) in
     (member_steps, (omega arith), settle_on c.args.hand.now s.0 c.args.drawop.now 1 row_words c.seek.new.hand c.settle.new.hand c.in-Ok.claim c.requires.hand.1 e.0 c.in-Ok.ensures.done)
 
 pub returns-in-Err-settle-clause-done : goal.returns-in-Err-settle-clause-done
 returns-in-Err-settle-clause-done c =
     let s = subst (λ (o : Option Claim). Sought c.args.self.now.cells c.args.hand.now c.args.drawop.now c.seek.new.hand o) c.in-Ok-None.field-0-is c.in-Ok-None.ensures.done in
-    let some_free = at-lt c.as_slice.result.now _ _ c.in-Some-last.ensures in
-    let same = ap length c.as_slice.ensures.value in
+    let some_free = at-lt c.seek.new.hand.free.items _ _ c.in-Some-last.ensures in
     let e = free_end c.args.self.now c.args.hand.now s.0 c.seek.new.hand c.requires.hand.0 s.1 (omega arith) in
     let w = c.in-Err-settle.ensures.done in
     let few = w.2 in

@@ -13,8 +13,8 @@ returns-then-len-clause-united c =
     let f = c.confirm.ensures in
     let seen = ap (λ (m : MembersValue). m.items) c.replace.ensures.after ∙ sym o.seen in
     let long = ap length o.seen in
-    took_in h w (record { seat = c.confirm.new.seat; seen = c.replace.new.dest; mine = c.append.new.to; free = c.append-2.new.to; steps = h.steps }) c.unite.new.seat.me _ f.found.0 c.requires.hand.1 u.0.2 u.1 f.found.1 (f.seat.0 ∙ u.0.0) (f.seat.1 ∙ u.0.1) (seen ∙ sym (second_longer h.seen.items w.seen (omega arith)))
-    (c.append.ensures ∙ ap (λ (l : List ℕ). h.mine.items ++ l) (c.as_slice.ensures.value ∙ sym o.mine)) (c.append-2.ensures ∙ ap (λ (l : List ℕ). h.free.items ++ l) (c.as_slice-2.ensures.value ∙ sym o.free)) refl
+    took_in h w (record { seat = c.confirm.new.seat; seen = c.replace.new.dest; mine = c.append.new.to; free = c.append-2.new.self; steps = h.steps }) c.unite.new.seat.me _ f.found.0 c.requires.hand.1 u.0.2 u.1 f.found.1 (f.seat.0 ∙ u.0.0) (f.seat.1 ∙ u.0.1) (seen ∙ sym (second_longer h.seen.items w.seen (omega arith)))
+    (c.append.ensures ∙ ap (λ (l : List ℕ). h.mine.items ++ l) (c.as_slice.ensures.value ∙ sym o.mine)) (c.append-2.ensures ∙ ap (λ (l : List ℕ). h.free.items ++ l) (sym o.free)) refl
 
 pub returns-then-len-clause-front : goal.returns-then-len-clause-front
 returns-then-len-clause-front c = subst (λ (m : MembersValue). IsPrefix m.items c.replace.new.dest.items) (sym c.replace.ensures.value) (returns-then-len-clause-united c).first

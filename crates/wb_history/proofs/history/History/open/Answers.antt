@@ -3,7 +3,7 @@ use Rattle.atomic_table.specs.Table.{Me}
 use Rattle.wb_names.specs.Values.{DrawopValue}
 use Rattle.wb_history.specs.declared.knowledge.Knowledge.{Knowledge}
 use Rattle.wb_history.proofs.Fronts.{none_are_fronts}
-use Rattle.wb_history.proofs.Opens.{length-numbers}
+use Rattle.std.proofs.lemmas.List.FromFn.{length-range_with_len}
 use Rattle.wb_history.proofs.Shows.{first_order, sound}
 use Rattle.wb_history.proofs.history.History.open.Goals as goal
 
@@ -25,4 +25,4 @@ pub returns-clause-opened : goal.returns-clause-opened
 returns-clause-opened c =
     let m = c.in-Ok-make.ensures in
     let cells = ap (λ (x : Me DrawopValue Knowledge). x.0.cells) m.2 in
-    (m.1, cells, c.new.ensures, c.new-2.ensures.items, (ap length c.in-Ok.ensures ∙ length-numbers c.args.cells), refl, m.0, sound (record { seat = c.in-Ok-make.seat; seen = c.new.result; mine = c.new-2.result; free = c.in-Ok.free; steps = 0 }) (invariant_of-pass c).0)
+    (m.1, cells, c.new.ensures, c.new-2.ensures.items, (ap length c.in-Ok.ensures ∙ length-range_with_len 0 c.args.cells), refl, m.0, sound (record { seat = c.in-Ok-make.seat; seen = c.new.result; mine = c.new-2.result; free = c.in-Ok.free; steps = 0 }) (invariant_of-pass c).0)

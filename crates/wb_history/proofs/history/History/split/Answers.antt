@@ -13,7 +13,6 @@ pub invariant_of-result : goal.invariant_of-result
 invariant_of-result c =
     let i = c.pass.invariant in
     let n = c.cut-seat.ensures.new in
-    let have : c.len-have.result ≡ length c.pass.inside.hand.free.items = omega arith in
     let cells = ap (λ (m : Me DrawopValue Knowledge). m.0.cells) n.1 in
     let words = ap (λ z. z.words) n.0 in
     let size = i.0.1 in
@@ -22,7 +21,7 @@ invariant_of-result c =
     let same = i.1 in (
       (
         right_order c.pass.inside.hand (record { seat = c.cut-seat.result; seen = c.in-Ok.seen; mine = c.new.result; free = c.in-Ok-split_off.free; steps = 0 }) c.args.rows i.0.0 n.1 c.in-Ok.ensures.list c.new.ensures.items
-            (c.in-Ok-split_off.ensures.tail ∙ ap (λ (k : ℕ). drop (k - c.args.rows) c.pass.inside.hand.free.items) have),
+            c.in-Ok-split_off.ensures.tail,
         (omega arith),
         (omega arith),
         (omega arith),
@@ -35,7 +34,6 @@ pub invariant_of-pass-2 : goal.invariant_of-pass-2
 invariant_of-pass-2 c =
     let i = c.pass.invariant in
     let n = c.cut-seat.ensures.seat in
-    let have : c.len-have.result ≡ length c.pass.inside.hand.free.items = omega arith in
     let cells = ap (λ (v : Knowledge). v.cells) n.1 in
     let words = ap (λ z. z.words) n.0.0 in
     let size = i.0.1 in
@@ -44,7 +42,7 @@ invariant_of-pass-2 c =
     let same = i.1 in (
       (
         left_order c.pass.inside.hand (record { seat = c.cut-seat.new.seat; seen = c.pass.inside.hand.seen; mine = c.pass.inside.hand.mine; free = c.split_off.new.self; steps = c.pass.inside.hand.steps }) c.args.rows i.0.0 n.0.2 n.1 refl refl
-            (c.in-Ok-split_off.ensures.items ∙ ap (λ (k : ℕ). take (k - c.args.rows) c.pass.inside.hand.free.items) have),
+            c.in-Ok-split_off.ensures.items,
         (omega arith),
         (omega arith),
         (omega arith),
