@@ -1,3 +1,4 @@
+//! The lines that answer questions, and the counts of a batch.
 ghost use Rattle.std.specs.Prelude.{◌≡◌, ◌++◌, IfOk, IfErr, OnOk};
 ghost use Rattle.std.specs.String.{string_bytes};
 ghost use Rattle.wb_host.specs.Keeping.{marks_at};

@@ -1,3 +1,4 @@
+//! Whether each line of a script parses, and nothing is run.
 ghost use Rattle.std.specs.Prelude.{◌≡◌, ◌≢◌, ◌≤◌, List, ℕ, true, IfOk, Err};
 ghost use Rattle.wb_lines.specs.Driving.{Gave};
 ghost use Rattle.wb_script.specs.Checking.{Checks, CountsLines, IsCounted, fault_of};

@@ -1,3 +1,4 @@
+//! Why a line is refused, and why a script is not run to its end.
 ghost use Rattle.std.specs.Prelude.{◌≡◌};
 ghost use Rattle.wb_script.specs.declared.fault.ParseFault.TheVariants as parse_faults;
 ghost use Rattle.wb_script.specs.declared.fault.RunFault.TheVariants as run_faults;

@@ -1,3 +1,4 @@
+//! The lines of a script, with their words as fields.
 use wb_codec::Datagram;
 use wb_names::{Drawop, PageId};
 

@@ -1,3 +1,4 @@
+//! What the words of a line mean.
 ghost use Rattle.std.specs.Prelude.{◌≡◌, ◌≤◌, IfOk, Result, Ok, Err};
 ghost use Rattle.std.specs.Option.{option_map};
 ghost use Rattle.wb_lines.specs.Words.{words};

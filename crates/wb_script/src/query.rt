@@ -1,3 +1,4 @@
+//! The questions that a script asks of its board.
 use wb_names::PageId;
 
 /// What a script asks of its board.
