@@ -4,6 +4,7 @@ pub mod Layers
 pub mod Held
 pub mod Board
 pub mod Desks
+pub mod Lending
 pub mod Runs
 pub mod Laws
 pub mod Keeper

@@ -1,7 +1,6 @@
 //! A desk: what one caller knows of a board and owns in it.
-ghost use Rattle.std.specs.Prelude.{◌≡◌, ◌↔◌, ⊤, List, IsTrue, IfOk, MatchOption, Contains, filter, take};
-ghost use Rattle.std.specs.Borrow.{sem, follows_so};
-ghost use mathlib.Core.Option.{none};
+ghost use Rattle.std.specs.Prelude.{◌≡◌, ◌↔◌, List, IsTrue, IfOk, MatchOption, Contains, filter, take};
+ghost use Rattle.std.specs.Borrow.{sem};
 ghost use Rattle.wb_names.specs.History.{HoldsName};
 ghost use Rattle.wb_names.specs.Marks.{IsReport};
 ghost use Rattle.wb_gaps.specs.Gaps.{AreGaps};
@@ -52,7 +51,7 @@ impl Model for Desk {
 impl Desk {
     ghost use Rattle.wb_host.specs.Board.{IsAnswer, AskView, Shown};
     ghost use Rattle.wb_host.specs.Desks.{ReadsOn};
-    ghost use Rattle.wb_host.specs.contracts.desk.Desk.{the_row};
+    ghost use Rattle.wb_host.specs.Lending.{EndsAs};
 
     /// The desk of a pass, on which no page was viewed.
     pub(crate) fn new(alloc: Global, pass: Pass) -> Desk
@@ -75,7 +74,7 @@ impl Desk {
         page: PageId,
     ) -> Result<&[Drawop], AllocError>
         requires desk { IsPassOf board.now self.old }
-        ensures* desk { sem 𝓛 (follows_so the_row the_row self.entry.ghost_name none (λ _ _. ⊤) (λ d. ReadsOn self.old d
+        ensures* desk { sem 𝓛 (EndsAs self.entry.ghost_name (λ d. ReadsOn self.old d
             × IfOk result (λ shown. IsCaughtUp self.old d × IsAnswer d.seen (AskView page) (Shown shown.now)) × (d.cells ≡ board.now.cells))) }
     {
         board.refresh(self)?;
