@@ -150,8 +150,8 @@ impl Recovery {
     ///
     /// A request timer that fires backs off with its own delay, and takes a word: the first word goes
     /// to the smallest name. An answer timer that fires takes none; it ends, and its name is quiet for
-    /// three of its delays. Where nothing is due, no timer is looked at but the next ones. The moment is
-    /// in microseconds. There are at least as many words as `due_count` says at this moment.
+    /// three of its delays. Where nothing is due, mostly no timer is looked at. The moment is in
+    /// microseconds. There are at least as many words as `due_count` says at this moment.
     ///
     /// Refused with `BackInTime`, `Range` or `Memory`, in this order.
     pub fn tick(
@@ -170,7 +170,7 @@ impl Recovery {
     }
 
     /// How many request timers are due at a moment, in microseconds, and so how many words `tick` then
-    /// wants. It looks at these timers alone, and at the next one.
+    /// wants. Where none is due, it mostly looks at none.
     pub fn due_count(&self, now: u64) -> usize
         ensures count { result ≡ length (due_asks (names_in self.now) (timers_in self.now) now) }
         ensures events { (constants : Constants) (events : List Event) → StandsFor constants events self.now → result ≡ length (due_asks (names_of events) (timers_of constants events) now) }
@@ -187,8 +187,7 @@ impl Recovery {
     }
 
     /// The least moment at which a timer is due, in microseconds, and so when the next `tick` has
-    /// something to do.
-    /// None where no timer stands.
+    /// something to do. It looks at each timer that stands. None where none does.
     pub fn next_due(&self) -> Option<u64>
         ensures { IsNextDue (timers_in self.now) result }
     {

@@ -99,8 +99,8 @@ impl Recovery {
         plan.actions
     }
 
-    /// The names for which a request timer stands and that pass a test, ascending. It copies and sorts
-    /// these alone, and takes no memory where none passes.
+    /// The names for which a request timer stands and that pass a test, ascending. It copies these
+    /// alone, and takes no memory where none passes.
     pub fn asked_where<F: Fn(&Name) -> bool>(
         &self,
         alloc: Global,
