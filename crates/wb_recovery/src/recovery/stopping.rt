@@ -93,8 +93,6 @@ impl Recovery {
     {
         self.fire(&plan);
         self.end_all(received, plan.moment);
-        self.asks.renew_bound(plan.moment);
-        self.answers.renew_bound(plan.moment);
         self.moment = plan.moment;
         plan.actions
     }
@@ -139,6 +137,8 @@ impl Recovery {
             &plan.answering,
             plan.moment,
         );
+        self.asks.renew();
+        self.answers.renew();
     }
 
     /// Ends the timers of these names. It takes no memory.
