@@ -1,7 +1,10 @@
 //! A keeper: what one member asks for, answers and reports.
 //!
-//! Its requests, repairs and session messages are those of Floyd, Jacobson, Liu, McCanne and Zhang,
-//! "A Reliable Multicast Framework for Light-weight Sessions and Application Level Framing", 1997.
+//! It follows Floyd, Jacobson, Liu, McCanne and Zhang, "A Reliable Multicast Framework for Light-weight
+//! Sessions and Application Level Framing", 1997: `session` and `hear` its part on session messages,
+//! which tell the state of a page and the distances of members; `notice`, `arrived` and `tick` its part
+//! on loss recovery, by requests and repairs; `missing` its rule that a gap in the numbers of a source,
+//! or a number that is reported and not held, is a loss.
 
 ghost use Rattle.std.specs.Prelude.{◌≡◌, ◌<◌, ◌≤◌, ◌^◌, [], ℕ, List, false, IsTrue, IsOk, IfOk, OnOk, OnErr, MatchOption, MatchResult, length};
 ghost use Rattle.wb_recovery.specs.Timing.{are_constants};

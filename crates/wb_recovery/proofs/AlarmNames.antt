@@ -1,5 +1,5 @@
 -- The names of the alarms: just those with a timer, ascending.
-use Rattle.std.proofs.Common.{◌≡◌, ℕ, ◌<◌, ◌≤◌, Bool, true, false, cond, List, [], ◌∷◌, ◌++◌, length, refl, ap, ◌∙◌, sym, Option, Some, None, arith, true≢false}
+use Rattle.std.proofs.Common.{◌≡◌, ℕ, ◌≤◌, Bool, true, false, cond, List, [], ◌∷◌, ◌++◌, length, refl, ap, ◌∙◌, sym, Option, Some, None, arith, true≢false}
 use Rattle.std.specs.Prelude.{◌&&◌, nat_le, not, filter, is_some}
 use Rattle.std.specs.BTreeMap.{IsOrdered, keys}
 use Rattle.std.specs.List.{All, filter_map, cons_option}
@@ -14,7 +14,7 @@ use Rattle.wb_names.specs.Orders.{name_cmp}
 use Rattle.wb_names.specs.Listing.{Lists}
 use Rattle.wb_names.proofs.Orders.{name_total}
 use Rattle.wb_names.proofs.Listings.{Contains-filter, Contains-from_filter, Contains-none, lists_same, one_list}
-use Rattle.wb_recovery.specs.Alarms.{is_due_where, is_until, due_name, Keep}
+use Rattle.wb_recovery.specs.Alarms.{is_due_where, is_until, is_after, due_name, IsUpTo, Keep}
 use Rattle.wb_recovery.specs.declared.alarms.Alarms.{Alarms}
 use Rattle.wb_recovery.proofs.NameOrder.{name_decides}
 use Rattle.wb_recovery.proofs.NameLists.{sorted_nil}
@@ -36,16 +36,17 @@ none_listed P f = record {
 
 module _ (dues : NameValue → Option ℕ) (alarms : Alarms) (keep : Keep dues alarms) where
   -- nothing is due before the bound
-  pub none_until : (now : ℕ) → now < alarms.soonest → (n : NameValue) → is_until now (dues n) ≡ false
-  none_until now before n = from (dues n) (keep.bound n) where
-    from : (o : Option ℕ) → ((d : ℕ) → o ≡ Some d → alarms.soonest ≤ d) → is_until now o ≡ false
-    from None f = refl
-    from (Some d) f = let h = f d refl in grind (arith, nat_tests)
+  pub none_until : (now : ℕ) → is_after now alarms.soonest ≡ true → (n : NameValue) → is_until now (dues n) ≡ false
+  none_until now before n = from (dues n) alarms.soonest (keep.bound n) before where
+    from : (o s : Option ℕ) → ((d : ℕ) → o ≡ Some d → IsUpTo s d) → is_after now s ≡ true → is_until now o ≡ false
+    from None s f h = refl
+    from (Some d) None f h = absurd (f d refl)
+    from (Some d) (Some b) f h = let g : b ≤ d = f d refl in grind (arith, nat_tests)
 
-  pub no_names_until : (now : ℕ) (stopped : NameValue → Bool) → now < alarms.soonest → Lists name_cmp (λ n. (not (stopped n) && is_until now (dues n)) ≡ true) []
+  pub no_names_until : (now : ℕ) (stopped : NameValue → Bool) → is_after now alarms.soonest ≡ true → Lists name_cmp (λ n. (not (stopped n) && is_until now (dues n)) ≡ true) []
   no_names_until now stopped before = none_listed _ (λ n h. true≢false (sym h ∙ ap (λ (b : Bool). not (stopped n) && b) (none_until now before n) ∙ and_none (not (stopped n))))
 
-  pub no_count_until : (now : ℕ) → now < alarms.soonest → (names : List NameValue) → Lists name_cmp (λ n. is_until now (dues n) ≡ true) names → 0 ≡ length names
+  pub no_count_until : (now : ℕ) → is_after now alarms.soonest ≡ true → (names : List NameValue) → Lists name_cmp (λ n. is_until now (dues n) ≡ true) names → 0 ≡ length names
   no_count_until now before names l = ap length (one_list name_total _ [] names (none_listed _ (λ n h. true≢false (sym h ∙ none_until now before n))) l)
 
   module _ (ordered : IsOrdered name_cmp alarms.dues) where

@@ -44,7 +44,7 @@ least_below_each first (e ∷ es) n d h = ⊎_elim
     (λ (g : Contains es (n, d)). least_below_each (min first e.1) es n d g)
     (Contains-cases e (n, d) es h)
 
-lesser : (a b : ℕ) → (min a b ≡ a) ⊎ (min a b ≡ b)
+pub lesser : (a b : ℕ) → (min a b ≡ a) ⊎ (min a b ≡ b)
 lesser a b = grind (arith, nat_tests)
 
 least_among : (first : ℕ) (es : List (NameValue × ℕ)) → (least first es ≡ first) ⊎ ((n : NameValue) × Contains es (n, least first es))

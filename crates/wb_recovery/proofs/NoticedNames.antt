@@ -218,8 +218,8 @@ stands_more t time m events old new is so_far r n = r.timers n ∙ from (same_na
 -- a recovery stays sound without a request timer
 pub sound_unset : (t : Tuning) (m : ℕ) (old new : BTreeMap NameValue Timers) (asks answers : Alarms) (s : IsSound t m old asks answers) (name : NameValue) (before : Timers) → before ≡ timers_at old.entries name → IsOrdered name_cmp new → (moved : Alarms)
     → ((n : NameValue) → timers_at new.entries n ≡ cond (same_name name n) (without_ask before) (timers_at old.entries n))
-    → ((dues : NameValue → Option ℕ) → Keep dues asks → Keep (with_due dues name None) moved) → IsSound t m new moved answers
-sound_unset t m old new asks answers s name before is ordered moved r k =
+    → ((dues : NameValue → Option ℕ) → Keep dues asks → Keep (with_due dues name None) moved) → moved.is_exact ≡ true → IsSound t m new moved answers
+sound_unset t m old new asks answers s name before is ordered moved r k first =
     let delays = subst AreDelays (sym is) (s.delays name) in
     let same : answer_due (timers_at old.entries name) ≡ answer_due (without_ask before) = ap answer_due (sym is) in
     record {
@@ -229,6 +229,8 @@ sound_unset t m old new asks answers s name before is ordered moved r k =
       delays = all_replaced name (without_ask before) _ _ r AreDelays (tt, delays.1) s.delays;
       asks = keep_moved_to name (without_ask before) _ _ r ask_due None moved refl (k _ s.asks);
       answers = keep_unmoved name (without_ask before) _ _ r answer_due answers same s.answers;
+      first_ask = first;
+      first_answer = s.first_answer;
     }
 
 -- a map whose record of a name was written, or taken out

@@ -6,7 +6,7 @@ use Rattle.wb_names.specs.Values.{NameValue}
 use Rattle.wb_names.specs.Orders.{same_name, name_cmp}
 use Rattle.wb_names.proofs.Orders.{same_name-is}
 use Rattle.wb_recovery.specs.Timing.{no_timers, ask_due, answer_due, is_standing, AreDelays, with_ask, with_answer}
-use Rattle.wb_recovery.specs.Alarms.{Keep, with_due}
+use Rattle.wb_recovery.specs.Alarms.{Keep, IsFirst, with_due}
 use Rattle.wb_recovery.specs.Values.{RecoveryValue, timers_at, timers_in, Replaces}
 use Rattle.wb_recovery.specs.Sound.{IsSound}
 use Rattle.wb_recovery.specs.declared.tuning.Tuning.{Tuning}
@@ -18,7 +18,10 @@ use Rattle.wb_recovery.proofs.NameOrder.{name_ties}
 
 -- alarms of moments that are the same
 pub keep_alike : (f g : NameValue → Option ℕ) (alarms : Alarms) → ((n : NameValue) → f n ≡ g n) → Keep f alarms → Keep g alarms
-keep_alike f g alarms same keep = record { each = λ n. keep.each n ∙ same n; bound = λ n d e. keep.bound n d (same n ∙ e) }
+keep_alike f g alarms same keep = record { each = λ n. keep.each n ∙ same n; bound = λ n d e. keep.bound n d (same n ∙ e); exact = λ e. from alarms.soonest (keep.exact e) } where
+  from : (s : Option ℕ) → IsFirst f s → IsFirst g s
+  from None h = λ n. sym (same n) ∙ h n
+  from (Some d) h = (h.0, sym (same h.0) ∙ h.1, λ n e k. h.2 n e (same n ∙ k))
 
 -- a map whose value at a name was written
 pub written : (old new : BTreeMap NameValue Timers) (name : NameValue) (after : Timers) → ((q : NameValue) → get name_cmp new q ≡ cond (is_at (name_cmp name) q) (Some after) (get name_cmp old q)) → (n : NameValue) → timers_at new.entries n ≡ cond (same_name name n) after (timers_at old.entries n)
@@ -55,8 +58,8 @@ module _ (t : Tuning) (m : ℕ) (old new : BTreeMap NameValue Timers) (asks answ
   abbrev pub Writes : Timers → Type 0
   Writes after = (q : NameValue) → get name_cmp new q ≡ cond (is_at (name_cmp name) q) (Some after) (get name_cmp old q)
 
-  pub sound_ask : (ask : AskTimer) (moved : Alarms) → Writes (with_ask before (Some ask)) → ask.delay < 2 ^ 24 → ((dues : NameValue → Option ℕ) → Keep dues asks → Keep (with_due dues name (Some ask.due)) moved) → IsSound t m new moved answers
-  sound_ask ask moved w d k =
+  pub sound_ask : (ask : AskTimer) (moved : Alarms) → Writes (with_ask before (Some ask)) → ask.delay < 2 ^ 24 → ((dues : NameValue → Option ℕ) → Keep dues asks → Keep (with_due dues name (Some ask.due)) moved) → moved.is_exact ≡ true → IsSound t m new moved answers
+  sound_ask ask moved w d k first =
       let r = written old new name (with_ask before (Some ask)) w in
       let same : answer_due (timers_at old.entries name) ≡ answer_due (with_ask before (Some ask)) = ap answer_due (sym is) in
       let delays = subst AreDelays (sym is) (s.delays name) in
@@ -67,10 +70,12 @@ module _ (t : Tuning) (m : ℕ) (old new : BTreeMap NameValue Timers) (asks answ
         delays = all_replaced name (with_ask before (Some ask)) _ _ r AreDelays (d, delays.1) s.delays;
         asks = keep_moved_to name (with_ask before (Some ask)) _ _ r ask_due (Some ask.due) moved refl (k _ s.asks);
         answers = keep_unmoved name (with_ask before (Some ask)) _ _ r answer_due answers same s.answers;
+        first_ask = first;
+        first_answer = s.first_answer;
       }
 
-  pub sound_answer : (answer : AnswerTimer) (moved : Alarms) → Writes (with_answer before (Some answer)) → answer.delay < 2 ^ 24 → ((dues : NameValue → Option ℕ) → Keep dues answers → Keep (with_due dues name (Some answer.due)) moved) → IsSound t m new asks moved
-  sound_answer answer moved w d k =
+  pub sound_answer : (answer : AnswerTimer) (moved : Alarms) → Writes (with_answer before (Some answer)) → answer.delay < 2 ^ 24 → ((dues : NameValue → Option ℕ) → Keep dues answers → Keep (with_due dues name (Some answer.due)) moved) → moved.is_exact ≡ true → IsSound t m new asks moved
+  sound_answer answer moved w d k first =
       let r = written old new name (with_answer before (Some answer)) w in
       let same : ask_due (timers_at old.entries name) ≡ ask_due (with_answer before (Some answer)) = ap ask_due (sym is) in
       let delays = subst AreDelays (sym is) (s.delays name) in
@@ -81,30 +86,36 @@ module _ (t : Tuning) (m : ℕ) (old new : BTreeMap NameValue Timers) (asks answ
         delays = all_replaced name (with_answer before (Some answer)) _ _ r AreDelays (delays.0, d) s.delays;
         asks = keep_unmoved name (with_answer before (Some answer)) _ _ r ask_due asks same s.asks;
         answers = keep_moved_to name (with_answer before (Some answer)) _ _ r answer_due (Some answer.due) moved refl (k _ s.answers);
+        first_ask = s.first_ask;
+        first_answer = first;
       }
 
-  pub sound_end : (quiet : ℕ) (a b : Alarms) → ((n : NameValue) → timers_at new.entries n ≡ cond (same_name name n) (record { ask = None; answer = None; quiet = quiet }) (timers_at old.entries n)) → ((dues : NameValue → Option ℕ) → Keep dues asks → Keep (with_due dues name None) a) → ((dues : NameValue → Option ℕ) → Keep dues answers → Keep (with_due dues name None) b) → IsSound t m new a b
-  sound_end quiet a b r h k = record {
+  pub sound_end : (quiet : ℕ) (a b : Alarms) → ((n : NameValue) → timers_at new.entries n ≡ cond (same_name name n) (record { ask = None; answer = None; quiet = quiet }) (timers_at old.entries n)) → ((dues : NameValue → Option ℕ) → Keep dues asks → Keep (with_due dues name None) a) → ((dues : NameValue → Option ℕ) → Keep dues answers → Keep (with_due dues name None) b) → a.is_exact ≡ true → b.is_exact ≡ true → IsSound t m new a b
+  sound_end quiet a b r h k first_ask first_answer = record {
     tuning = s.tuning;
     moment = s.moment;
     ordered = ordered;
     delays = all_replaced name _ _ _ r AreDelays (ends quiet) s.delays;
     asks = keep_moved_to name _ _ _ r ask_due None a refl (h _ s.asks);
     answers = keep_moved_to name _ _ _ r answer_due None b refl (k _ s.answers);
+    first_ask = first_ask;
+    first_answer = first_answer;
   } where
     ends : (q : ℕ) → AreDelays (record { ask = None; answer = None; quiet = q })
     ends q = search rules
 
 -- what could not be written leaves all as it was
 pub sound_again : (t : Tuning) (m : ℕ) (old new : BTreeMap NameValue Timers) (asks answers moved others : Alarms) → IsSound t m old asks answers → new.entries ≡ old.entries → IsOrdered name_cmp new
-    → Keep (λ n. ask_due (timers_at old.entries n)) moved → Keep (λ n. answer_due (timers_at old.entries n)) others → IsSound t m new moved others
-sound_again t m old new asks answers moved others s same ordered k l = record {
+    → Keep (λ n. ask_due (timers_at old.entries n)) moved → Keep (λ n. answer_due (timers_at old.entries n)) others → moved.is_exact ≡ true → others.is_exact ≡ true → IsSound t m new moved others
+sound_again t m old new asks answers moved others s same ordered k l first_ask first_answer = record {
   tuning = s.tuning;
   moment = s.moment;
   ordered = ordered;
   delays = λ n. subst (λ (es : List (NameValue × Timers)). AreDelays (timers_at es n)) (sym same) (s.delays n);
   asks = keep_alike _ _ moved (λ n. ap (λ (es : List (NameValue × Timers)). ask_due (timers_at es n)) (sym same)) k;
   answers = keep_alike _ _ others (λ n. ap (λ (es : List (NameValue × Timers)). answer_due (timers_at es n)) (sym same)) l;
+  first_ask = first_ask;
+  first_answer = first_answer;
 }
 
 -- an alarm that was set for a name without one, and taken away again

@@ -1,5 +1,5 @@
 -- Alarms: for each name with a timer, the moment at which it is due.
-use Rattle.std.specs.Prelude.{◌≡◌, ℕ, ◌≤◌, Bool, true, false, not, ◌&&◌, List, [], ◌∷◌, Option, Some, None, nat_le, is_some, min, length, if◌then◌else◌}
+use Rattle.std.specs.Prelude.{◌≡◌, ℕ, ◌≤◌, Bool, true, false, not, ◌&&◌, List, [], ◌∷◌, Option, Some, None, nat_le, nat_lt, is_some, min, length, if◌then◌else◌}
 use Rattle.std.specs.BTreeMap.{get}
 use Rattle.std.specs.List.{list_any}
 use Rattle.std.specs.Ordering.{eq_by_cmp}
@@ -25,10 +25,26 @@ is_until now = is_due_where (λ e. nat_le e now)
 abbrev pub Tells : (NameValue → Bool → Type 0) → (NameValue → Bool) → Type 0
 Tells told test = (n : NameValue) (b : Bool) → told n b → b ≡ test n
 
--- there is an alarm for each timer, at its moment, and no other; and none is before the moment that is kept as a bound
+-- the least of all moments, or None where there is none
+abbrev pub IsFirst : (NameValue → Option ℕ) → Option ℕ → Type 0
+IsFirst dues None = (n : NameValue) → dues n ≡ None
+IsFirst dues (Some d) = (n : NameValue) × (dues n ≡ Some d) × ((m : NameValue) (e : ℕ) → dues m ≡ Some e → d ≤ e)
+
+-- a bound is not above a moment, and is after one; there is none where no timer stands
+abbrev pub IsUpTo : Option ℕ → ℕ → Type 0
+IsUpTo None d = ⊥
+IsUpTo (Some bound) d = bound ≤ d
+
+abbrev pub is_after : ℕ → Option ℕ → Bool
+is_after now None = true
+is_after now (Some bound) = nat_lt now bound
+
+-- there is an alarm for each timer, at its moment, and no other; none is before the moment that is kept as a bound, which
+-- is the least moment where it is told to be exact
 pub record Keep (dues : NameValue → Option ℕ) (alarms : Alarms) : Type 0 where
   pub each : (n : NameValue) → get name_cmp alarms.dues n ≡ dues n
-  pub bound : (n : NameValue) (d : ℕ) → dues n ≡ Some d → alarms.soonest ≤ d
+  pub bound : (n : NameValue) (d : ℕ) → dues n ≡ Some d → IsUpTo alarms.soonest d
+  pub exact : alarms.is_exact ≡ true → IsFirst dues alarms.soonest
 
 -- the moments with that of one name changed
 abbrev pub with_due : (NameValue → Option ℕ) → NameValue → Option ℕ → NameValue → Option ℕ
@@ -53,8 +69,3 @@ CountsAll dues k = (names : List NameValue) → Lists name_cmp (λ n. is_some (d
 
 abbrev pub CountsUntil : ℕ → (NameValue → Option ℕ) → ℕ → Type 0
 CountsUntil now dues k = (names : List NameValue) → Lists name_cmp (λ n. is_until now (dues n) ≡ true) names → k ≡ length names
-
--- the least of all moments, or None where there is none
-abbrev pub IsFirst : (NameValue → Option ℕ) → Option ℕ → Type 0
-IsFirst dues None = (n : NameValue) → dues n ≡ None
-IsFirst dues (Some d) = (n : NameValue) × (dues n ≡ Some d) × ((m : NameValue) (e : ℕ) → dues m ≡ Some e → d ≤ e)

@@ -1,5 +1,5 @@
--- How a recovery keeps its timers: by name, with their alarms in order of the moments.
-use Rattle.std.specs.Prelude.{ℕ, ◌<◌, ◌^◌, IsTrue}
+-- How a recovery keeps its timers: by name, with their alarms, and the first moment of each kind.
+use Rattle.std.specs.Prelude.{◌≡◌, ℕ, ◌<◌, ◌^◌, IsTrue, true}
 use Rattle.std.specs.BTreeMap.{BTreeMap, IsOrdered}
 use Rattle.wb_names.specs.Values.{NameValue}
 use Rattle.wb_names.specs.Orders.{name_cmp}
@@ -17,3 +17,5 @@ pub record IsSound (constants : Tuning) (last : ℕ) (kept : BTreeMap NameValue 
   pub delays : (n : NameValue) → AreDelays (timers_at kept.entries n)
   pub asks : Keep (λ n. ask_due (timers_at kept.entries n)) ask_alarms
   pub answers : Keep (λ n. answer_due (timers_at kept.entries n)) answer_alarms
+  pub first_ask : ask_alarms.is_exact ≡ true
+  pub first_answer : answer_alarms.is_exact ≡ true

@@ -1,3 +1,4 @@
+//! What a tick sends.
 use wb_names::Name;
 
 /// What a tick asks its caller to send.

@@ -1,6 +1,6 @@
 //! The moments at which timers are due.
 
-ghost use Rattle.std.specs.Prelude.{◌≡◌, ℕ, Bool, Option, true, filter, nat_le, length, IsSome, IfOk, OnOk, OnErr};
+ghost use Rattle.std.specs.Prelude.{◌≡◌, ◌≢◌, ℕ, Bool, Option, true, filter, nat_le, length, IsSome, IfOk, OnOk, OnErr};
 ghost use Rattle.std.specs.Prelude.{Some as some, None as none};
 ghost use Rattle.std.specs.Prelude.{◌&&◌, not, is_some, if◌then◌else◌};
 ghost use Rattle.std.specs.BTreeMap.{get, keys, values, IsOrdered};
@@ -10,7 +10,7 @@ ghost use Rattle.std.specs.List.{filter_map};
 ghost use Rattle.wb_names.specs.Values.{NameValue};
 ghost use Rattle.wb_names.specs.Orders.{name_cmp};
 ghost use Rattle.wb_names.specs.Listing.{Lists};
-ghost use Rattle.wb_recovery.specs.Alarms.{Keep, Tells, is_until, with_due, due_name, earlier, earliest, CountsAll, CountsUntil, IsFirst};
+ghost use Rattle.wb_recovery.specs.Alarms.{Keep, Tells, is_until, is_after, with_due, due_name, earlier, earliest, CountsAll, CountsUntil, IsFirst};
 
 use std::alloc::{AllocError, Global};
 use std::collections::{BTreeMap, BTreeSet};
@@ -21,18 +21,23 @@ use wb_names::Name;
 #[derive(Debug, Drop)]
 pub(crate) struct Alarms {
     dues: BTreeMap<Name, u64>,
-    /// No timer is due before this moment, so that up to it none is looked at.
-    soonest: u64,
+    /// No timer is due before this moment, so that up to it none is looked at. None where none stands.
+    soonest: Option<u64>,
+    /// Whether that moment is known to be the first one. It is not once the alarm at it was moved or
+    /// taken away.
+    is_exact: bool,
 }
 
 impl Alarms {
     /// No alarms.
     pub(crate) fn new(alloc: Global) -> Alarms
-        ensures { Keep (λ n. none) result }
+        ensures kept { Keep (λ n. none) result }
+        ensures exact { result.is_exact ≡ true }
     {
         Alarms {
             dues: BTreeMap::new(alloc),
-            soonest: u64::MAX,
+            soonest: None,
+            is_exact: true,
         }
     }
 
@@ -40,18 +45,21 @@ impl Alarms {
     pub(crate) fn copy(&self) -> Result<Alarms, AllocError>
         ensures dues { IfOk result (λ alarms. alarms.dues.entries ≡ self.now.dues.entries) }
         ensures soonest { IfOk result (λ alarms. alarms.soonest ≡ self.now.soonest) }
+        ensures exact { IfOk result (λ alarms. alarms.is_exact ≡ self.now.is_exact) }
     {
         Ok(Alarms {
             dues: self.dues.clone()?,
             soonest: self.soonest,
+            is_exact: self.is_exact,
         })
     }
 
-    /// The least moment at which a timer is due.
+    /// The least moment at which a timer is due: the bound, which is exact.
     pub(crate) fn first(&self) -> Option<u64>
+        requires { self.now.is_exact ≡ true }
         ensures { (dues : NameValue → Option ℕ) → Keep dues self.now → IsFirst dues result }
     {
-        self.least()
+        self.soonest
     }
 
     /// The least of the moments.
@@ -77,10 +85,20 @@ impl Alarms {
     pub(crate) fn count_until(&self, now: u64) -> usize
         ensures { (dues : NameValue → Option ℕ) → Keep dues self.now → CountsUntil now dues result }
     {
-        if now < self.soonest {
+        if self.is_ahead_of(now) {
             return 0;
         }
         self.due_len(now)
+    }
+
+    /// Whether the bound is after this moment, so that no timer is due by then.
+    fn is_ahead_of(&self, now: u64) -> bool
+        ensures { result ≡ is_after now self.now.soonest }
+    {
+        match self.soonest {
+            Some(soonest) => now < soonest,
+            None => true,
+        }
     }
 
     /// How many of the moments have come.
@@ -101,7 +119,7 @@ impl Alarms {
     ) -> Result<Vec<Name>, AllocError>
         ensures { (dues : NameValue → Option ℕ) → Keep dues self.now → IfOk result (λ v. Lists name_cmp (λ n. (not (contains name_cmp stopped.now n) && is_until now (dues n)) ≡ true) v.items) }
     {
-        if now < self.soonest {
+        if self.is_ahead_of(now) {
             return Ok(Vec::new(alloc));
         }
         self.due_names(alloc, now, stopped)
@@ -157,9 +175,12 @@ impl Alarms {
     pub(crate) fn set(&mut self, name: Name, due: u64) -> Result<(), AllocError>
         ensures ok { OnOk result ((dues : NameValue → Option ℕ) → Keep dues self.old → Keep (with_due dues name (some due)) self.new) }
         ensures err { OnErr result ((dues : NameValue → Option ℕ) → Keep dues self.old → Keep dues self.new) }
+        ensures exact { OnErr result (self.new.is_exact ≡ self.old.is_exact) }
     {
-        self.dues.insert(name, due)?;
-        self.soonest = self.soonest.min(due);
+        let old = self.dues.insert(name, due)?;
+        let soonest = earlier(self.soonest, due);
+        self.is_exact = soonest == due || self.is_exact_without(old);
+        self.soonest = Some(soonest);
         Ok(())
     }
 
@@ -172,7 +193,8 @@ impl Alarms {
             Some(due) => {
                 // Only an insertion of a new name can want memory.
                 let _ = self.dues.insert(name, due);
-                self.soonest = self.soonest.min(due);
+                self.soonest = Some(earlier(self.soonest, due));
+                self.is_exact = false;
             }
             None => self.clear(name),
         }
@@ -182,16 +204,28 @@ impl Alarms {
     pub(crate) fn clear(&mut self, name: Name)
         ensures { (dues : NameValue → Option ℕ) → Keep dues self.old → Keep (with_due dues name none) self.new }
     {
-        self.dues.remove(&name);
+        let old = self.dues.remove(&name);
+        self.is_exact = self.is_exact_without(old);
     }
 
-    /// The same alarms. Where some moment has come, they are looked through for the next.
-    pub(crate) fn renew_bound(&mut self, now: u64)
-        ensures { (dues : NameValue → Option ℕ) → Keep dues self.old → Keep dues self.new }
+    /// The same alarms, with a bound that is exact. They are looked through only where the alarm at the
+    /// bound was moved or taken away.
+    pub(crate) fn renew(&mut self)
+        ensures kept { (dues : NameValue → Option ℕ) → Keep dues self.old → Keep dues self.new }
+        ensures exact { self.new.is_exact ≡ true }
     {
-        if self.soonest <= now {
-            self.soonest = self.first().unwrap_or(u64::MAX);
+        if !self.is_exact {
+            self.soonest = self.least();
+            self.is_exact = true;
         }
+    }
+
+    /// Whether the bound is exact, and not this moment, at which an alarm is no more.
+    fn is_exact_without(&self, old: Option<u64>) -> bool
+        ensures exact { result ≡ true → self.now.is_exact ≡ true }
+        ensures other { result ≡ true → old ≢ self.now.soonest }
+    {
+        self.is_exact && old != self.soonest
     }
 }
 

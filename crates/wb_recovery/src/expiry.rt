@@ -1,3 +1,4 @@
+//! The random moment at which a timer is due.
 ghost use Rattle.std.specs.Prelude.{◌≡◌, ◌+◌, ◌*◌, ◌^◌, ◌<◌, ◌≤◌};
 ghost use Rattle.wb_recovery.specs.Timing.{expiry as expiry_of};
 

@@ -1,3 +1,4 @@
+//! Why a call of the timers, or a constant of theirs, is refused.
 ghost use Rattle.std.specs.Prelude.{◌≡◌};
 
 use std::alloc::AllocError;

@@ -1,3 +1,4 @@
+//! A name that is missed.
 use wb_names::Name;
 
 /// A name that is missed, and what its request timer is drawn with.

@@ -1,3 +1,4 @@
+//! A name that has come.
 use wb_names::Name;
 
 /// A name that has come.

@@ -1,4 +1,5 @@
-ghost use Rattle.std.specs.Prelude.{◌≡◌, true, if◌then◌else◌};
+//! What is kept of each name, by name.
+ghost use Rattle.std.specs.Prelude.{◌≡◌, true, if◌then◌else◌, IfOk};
 ghost use Rattle.std.specs.Prelude.{Some as some};
 ghost use Rattle.std.specs.BTreeMap.{IsOrdered};
 ghost use Rattle.wb_names.specs.Values.{NameValue};
@@ -7,6 +8,7 @@ ghost use Rattle.wb_recovery.specs.Timing.{is_standing};
 ghost use Rattle.wb_recovery.specs.Values.{record_at, timers_at};
 
 use crate::timers::Timers;
+use std::alloc::AllocError;
 use std::collections::BTreeMap;
 use wb_names::Name;
 
@@ -15,6 +17,15 @@ pub(crate) fn timers_of(records: &BTreeMap<Name, Timers>, name: &Name) -> Timers
     ensures { result ≡ timers_at records.now.entries name.now }
 {
     records.get(name).copied().unwrap_or(Timers::NONE)
+}
+
+/// The same records.
+pub(crate) fn copy_of(
+    records: &BTreeMap<Name, Timers>,
+) -> Result<BTreeMap<Name, Timers>, AllocError>
+    ensures { IfOk result (λ copy. copy.entries ≡ records.now.entries) }
+{
+    records.clone()
 }
 
 /// Writes over the record of a name with a timer.

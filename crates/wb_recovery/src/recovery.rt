@@ -1,3 +1,4 @@
+//! The request and answer timers of one host.
 ghost use Rattle.std.specs.Prelude.{◌≡◌, ◌+◌, ◌*◌, ◌<◌, ◌≤◌, ◌^◌, ◌∷◌, ◌&&◌, [], ℕ, List, Option, is_some, false, true, if◌then◌else◌, IsTrue, IsOk, IfOk, OnOk, OnErr, IfSome, MatchOption, MatchResult, length};
 ghost use Rattle.std.specs.List.Sorted.{IsStrictlySortedBy};
 ghost use Rattle.wb_names.specs.Values.{NameValue};
@@ -18,7 +19,7 @@ use crate::alarms::Alarms;
 use crate::fault::{RecoveryFault, TuningFault};
 use crate::limits::{DELAY_LIMIT, MOMENT_LIMIT};
 use crate::missed::Missed;
-use crate::records::{rewrite, timers_of};
+use crate::records::{copy_of, rewrite, timers_of};
 use crate::timers::{AnswerTimer, AskTimer, Timers};
 use crate::tuning::Tuning;
 use std::alloc::{AllocError, Global};
@@ -150,8 +151,8 @@ impl Recovery {
     ///
     /// A request timer that fires backs off with its own delay, and takes a word: the first word goes
     /// to the smallest name. An answer timer that fires takes none; it ends, and its name is quiet for
-    /// three of its delays. Where nothing is due, no timer is looked at but the next ones. The moment is
-    /// in microseconds. There are at least as many words as `due_count` says at this moment.
+    /// three of its delays. Where nothing is due, mostly no timer is looked at. The moment is in
+    /// microseconds. There are at least as many words as `due_count` says at this moment.
     ///
     /// Refused with `BackInTime`, `Range` or `Memory`, in this order.
     pub fn tick(
@@ -170,7 +171,7 @@ impl Recovery {
     }
 
     /// How many request timers are due at a moment, in microseconds, and so how many words `tick` then
-    /// wants. It looks at these timers alone, and at the next one.
+    /// wants. Where none is due, it mostly looks at none.
     pub fn due_count(&self, now: u64) -> usize
         ensures count { result ≡ length (due_asks (names_in self.now) (timers_in self.now) now) }
         ensures events { (constants : Constants) (events : List Event) → StandsFor constants events self.now → result ≡ length (due_asks (names_of events) (timers_of constants events) now) }
@@ -187,8 +188,7 @@ impl Recovery {
     }
 
     /// The least moment at which a timer is due, in microseconds, and so when the next `tick` has
-    /// something to do.
-    /// None where no timer stands.
+    /// something to do: a moment that is kept. None where no timer stands.
     pub fn next_due(&self) -> Option<u64>
         ensures { IsNextDue (timers_in self.now) result }
     {
@@ -227,7 +227,7 @@ impl Recovery {
         Ok(Recovery {
             tuning: self.tuning,
             moment: self.moment,
-            records: self.records.clone()?,
+            records: copy_of(&self.records)?,
             asks: self.asks.copy()?,
             answers: self.answers.copy()?,
         })
@@ -275,12 +275,14 @@ impl Recovery {
             return Ok(());
         };
         self.asks.set(name, ask.due)?;
+        self.asks.renew();
         let after = Timers {
             ask: Some(ask),
             ..before
         };
         if self.records.insert(name, after).is_err() {
             self.asks.clear(name);
+            self.asks.renew();
             return Err(AllocError);
         }
         Ok(())
@@ -302,12 +304,14 @@ impl Recovery {
             return Ok(());
         };
         self.answers.set(name, answer.due)?;
+        self.answers.renew();
         let after = Timers {
             answer: Some(answer),
             ..before
         };
         if self.records.insert(name, after).is_err() {
             self.answers.clear(name);
+            self.answers.renew();
             return Err(AllocError);
         }
         Ok(())
@@ -321,7 +325,9 @@ impl Recovery {
         ensures { Replaces self.old self.new name (record { ask = none; answer = none; quiet = quiet }) }
     {
         self.asks.clear(name);
+        self.asks.renew();
         self.answers.clear(name);
+        self.answers.renew();
         let after = Timers {
             ask: None,
             answer: None,

@@ -1,3 +1,4 @@
+//! The delay to another member, from an exchange of session messages.
 ghost use Rattle.std.specs.Prelude.{◌≡◌};
 ghost use Rattle.wb_recovery.specs.Distance.{distance_of};
 

@@ -1,3 +1,4 @@
+//! The timers of one name, and how each call changes them.
 ghost use Rattle.std.specs.Prelude.{◌≡◌, ◌^◌, ◌<◌, false, true, IsTrue, IfSome, is_none, is_some};
 ghost use Rattle.wb_recovery.specs.Timing.{are_constants, backed_off, noticed, asked, fired_ask, fired_answer, quiet_after, with_ask, with_answer, ask_due, answer_due, is_standing, AreDelays};
 

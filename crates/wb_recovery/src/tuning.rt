@@ -1,3 +1,4 @@
+//! The constants of the timers.
 ghost use Rattle.std.specs.Prelude.{◌≡◌};
 ghost use Rattle.wb_recovery.specs.Timing.{are_constants};
 

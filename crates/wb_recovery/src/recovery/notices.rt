@@ -116,6 +116,7 @@ impl Recovery {
         let had = before.unwrap_or(Timers::NONE);
         if had.ask.is_none() && timers.ask.is_some() {
             self.asks.clear(name);
+            self.asks.renew();
             if before.is_some() {
                 let after = Timers {
                     ask: None,
@@ -124,6 +125,7 @@ impl Recovery {
                 rewrite(&mut self.records, name, after);
             } else {
                 self.answers.clear(name);
+                self.answers.renew();
                 self.records.remove(&name);
             }
         }

@@ -93,14 +93,12 @@ impl Recovery {
     {
         self.fire(&plan);
         self.end_all(received, plan.moment);
-        self.asks.renew_bound(plan.moment);
-        self.answers.renew_bound(plan.moment);
         self.moment = plan.moment;
         plan.actions
     }
 
-    /// The names for which a request timer stands and that pass a test, ascending. It copies and sorts
-    /// these alone, and takes no memory where none passes.
+    /// The names for which a request timer stands and that pass a test, ascending. It copies these
+    /// alone, and takes no memory where none passes.
     pub fn asked_where<F: Fn(&Name) -> bool>(
         &self,
         alloc: Global,
@@ -139,6 +137,8 @@ impl Recovery {
             &plan.answering,
             plan.moment,
         );
+        self.asks.renew();
+        self.answers.renew();
     }
 
     /// Ends the timers of these names. It takes no memory.

@@ -74,8 +74,10 @@ invariant_of-self c =
       moment = s.moment;
       ordered = c.answer_all.ensures.ordered;
       delays = c.answer_all.ensures.delays;
-      asks = asks_kept view.tuning p.moment c.requires.1.0 p.asking.items f (timers_at c.ask_all.new.records.entries) written c.deref-3.result.now (timers_at c.answer_all.new.records.entries) c.answer_all.ensures.written c.ask_all.new.alarms c.ask_all.ensures.kept;
-      answers = c.answer_all.ensures.kept;
+      asks = asks_kept view.tuning p.moment c.requires.1.0 p.asking.items f (timers_at c.ask_all.new.records.entries) written c.deref-3.result.now (timers_at c.answer_all.new.records.entries) c.answer_all.ensures.written c.renew.new.self (c.renew.ensures.kept _ c.ask_all.ensures.kept);
+      answers = c.renew-2.ensures.kept _ c.answer_all.ensures.kept;
+      first_ask = c.renew.ensures.exact;
+      first_answer = c.renew-2.ensures.exact;
     }
 
 pub returns : goal.returns

@@ -10,13 +10,13 @@ use Rattle.wb_recovery.proofs.recovery.Recovery.unset_ask.Goals as goal
 pub invariant_of-self : goal.invariant_of-self
 invariant_of-self c =
     let is = c.timers-timers.ensures.timers ∙ sym (ap (λ (v : RecoveryValue). timers_in v c.args.name) c.self.view_is) in
-    sound_unset _ _ c.self.inside.records c.rewrite.new.records c.self.inside.asks c.self.inside.answers c.self.invariant c.args.name c.timers-timers.result is c.rewrite.ensures.ordered c.clear.new.self c.rewrite.ensures.written c.clear.ensures
+    sound_unset _ _ c.self.inside.records c.rewrite.new.records c.self.inside.asks c.self.inside.answers c.self.invariant c.args.name c.timers-timers.result is c.rewrite.ensures.ordered c.renew.new.self c.rewrite.ensures.written (λ dues keep. c.renew.ensures.kept _ (c.clear.ensures dues keep)) c.renew.ensures.exact
 
 pub invariant_of-self-else-is_some-2 : goal.invariant_of-self-else-is_some-2
 invariant_of-self-else-is_some-2 c =
     let is = c.timers-timers.ensures.timers ∙ sym (ap (λ (v : RecoveryValue). timers_in v c.args.name) c.self.view_is) in
     let gone = timers_gone c.self.inside.records c.remove.new.self c.args.name (record_written c.self.inside.records c.remove.new.self c.args.name _ c.remove.ensures.updates.0) in
-    sound_end _ _ c.self.inside.records c.remove.new.self c.self.inside.asks c.self.inside.answers c.self.invariant c.args.name c.timers-timers.result is c.remove.ensures.ordered 0 c.clear.new.self c.clear-else-is_some-2.new.self gone c.clear.ensures c.clear-else-is_some-2.ensures
+    sound_end _ _ c.self.inside.records c.remove.new.self c.self.inside.asks c.self.inside.answers c.self.invariant c.args.name c.timers-timers.result is c.remove.ensures.ordered 0 c.renew.new.self c.renew-else-is_some-2.new.self gone (λ dues keep. c.renew.ensures.kept _ (c.clear.ensures dues keep)) (λ dues keep. c.renew-else-is_some-2.ensures.kept _ (c.clear-else-is_some-2.ensures dues keep)) c.renew.ensures.exact c.renew-else-is_some-2.ensures.exact
 
 pub returns-then-is_some-2-clause-back : goal.returns-then-is_some-2-clause-back
 returns-then-is_some-2-clause-back c =
