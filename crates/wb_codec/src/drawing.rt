@@ -2,7 +2,7 @@
 
 ghost use Rattle.std.specs.Prelude.{◌≡◌};
 ghost use Rattle.std.specs.Result.{result_err};
-ghost use Rattle.wb_names.specs.Shapes.{op_of_parts};
+ghost use Rattle.wb_names.specs.Shapes.{op_of};
 ghost use Rattle.wb_codec.specs.Kinds.{op_kind_of as op_kind_of_number};
 ghost use Rattle.wb_codec.specs.Reading.{Gives, stroke_at, text_at, target_at, fields_at, told_kind, op_at, drawop_at};
 ghost use Rattle.wb_codec.specs.TextLengths.{is_length_told, fault_at_length, drawop_told};
@@ -10,15 +10,15 @@ ghost use Rattle.wb_codec.specs.TextLengths.{is_length_told, fault_at_length, dr
 use crate::fault::ReadFault;
 use crate::fields::{NameFields, name_of, u8_of, u16_of, u32_of, u64_of};
 use crate::version::{Version, has_kind, op_kind_of};
-use wb_names::{Change, Drawop, FieldFault, Figure, Name, OpKind, Parts, Stroke, Target};
+use wb_names::{Change, Drawop, FieldFault, Figure, Name, OpKind, Shape, Stroke, Target};
 
-// Each reader takes the parts of an operation from the front, not yet checked, and gives the bytes
-// after them.
+// Each reader takes an operation from the front, not yet checked, and gives the bytes
+// after it.
 
 #[inline(always)]
 #[tactic(auto, unfolding(crate::specs::Reading::stroke_at))]
-fn stroke_of(figure: Figure, bytes: &[u8]) -> Result<(Parts<'_>, &[u8]), ReadFault>
-    ensures { Gives (λ x. (op_of_parts x.0, x.1.now)) result (stroke_at figure bytes.now) }
+fn stroke_of(figure: Figure, bytes: &[u8]) -> Result<(Shape<'_>, &[u8]), ReadFault>
+    ensures { Gives (λ x. (op_of x.0, x.1.now)) result (stroke_at figure bytes.now) }
 {
     let (x0, rest) = u16_of(bytes)?;
     let (y0, rest) = u16_of(rest)?;
@@ -32,13 +32,13 @@ fn stroke_of(figure: Figure, bytes: &[u8]) -> Result<(Parts<'_>, &[u8]), ReadFau
         y1,
         glyph,
     };
-    Ok((Parts::Drawn(figure, stroke), rest))
+    Ok((Shape::Drawn(figure, stroke), rest))
 }
 
 #[inline(always)]
 #[tactic(auto, unfolding(crate::specs::Reading::text_at))]
-fn text_of(bytes: &[u8]) -> Result<(Parts<'_>, &[u8]), ReadFault>
-    ensures { Gives (λ x. (op_of_parts x.0, x.1.now)) result (text_at bytes.now) }
+fn text_of(bytes: &[u8]) -> Result<(Shape<'_>, &[u8]), ReadFault>
+    ensures { Gives (λ x. (op_of x.0, x.1.now)) result (text_at bytes.now) }
 {
     let (x, rest) = u16_of(bytes)?;
     let (y, rest) = u16_of(rest)?;
@@ -47,24 +47,24 @@ fn text_of(bytes: &[u8]) -> Result<(Parts<'_>, &[u8]), ReadFault>
         return Err(ReadFault::Length);
     }
     let (bytes, rest) = rest.split_at(n as usize);
-    Ok((Parts::Text { x, y, bytes }, rest))
+    Ok((Shape::Text { x, y, bytes }, rest))
 }
 
 #[inline(always)]
 #[tactic(auto, unfolding(crate::specs::Reading::target_at))]
-fn target_of(change: Change, bytes: &[u8]) -> Result<(Parts<'_>, &[u8]), ReadFault>
-    ensures { Gives (λ x. (op_of_parts x.0, x.1.now)) result (target_at change bytes.now) }
+fn target_of(change: Change, bytes: &[u8]) -> Result<(Shape<'_>, &[u8]), ReadFault>
+    ensures { Gives (λ x. (op_of x.0, x.1.now)) result (target_at change bytes.now) }
 {
     let (source, rest) = u32_of(bytes)?;
     let (seq, rest) = u32_of(rest)?;
-    Ok((Parts::Aimed(change, Target { source, seq }), rest))
+    Ok((Shape::Aimed(change, Target { source, seq }), rest))
 }
 
 /// The fields of an operation of this kind.
 #[inline(always)]
 #[tactic(auto, unfolding(crate::specs::Reading::fields_at))]
-fn fields_of(kind: OpKind, bytes: &[u8]) -> Result<(Parts<'_>, &[u8]), ReadFault>
-    ensures { Gives (λ x. (op_of_parts x.0, x.1.now)) result (fields_at kind bytes.now) }
+fn fields_of(kind: OpKind, bytes: &[u8]) -> Result<(Shape<'_>, &[u8]), ReadFault>
+    ensures { Gives (λ x. (op_of x.0, x.1.now)) result (fields_at kind bytes.now) }
 {
     match kind {
         OpKind::Drawn(figure) => stroke_of(figure, bytes),
@@ -87,8 +87,8 @@ fn kind_told(version: Version, number: u8) -> Result<OpKind, ReadFault>
 
 #[inline(always)]
 #[tactic(auto, unfolding(crate::specs::Reading::op_at))]
-fn parts_of(version: Version, bytes: &[u8]) -> Result<(Parts<'_>, &[u8]), ReadFault>
-    ensures { Gives (λ x. (op_of_parts x.0, x.1.now)) result (op_at version bytes.now) }
+fn shape_of(version: Version, bytes: &[u8]) -> Result<(Shape<'_>, &[u8]), ReadFault>
+    ensures { Gives (λ x. (op_of x.0, x.1.now)) result (op_at version bytes.now) }
 {
     let (number, rest) = u8_of(bytes)?;
     let kind = kind_told(version, number)?;
@@ -97,10 +97,10 @@ fn parts_of(version: Version, bytes: &[u8]) -> Result<(Parts<'_>, &[u8]), ReadFa
 
 /// Whether the version says texts of this length. Other operations have no length.
 #[inline(always)]
-fn is_length_said(version: Version, parts: &Parts<'_>) -> bool
-    ensures { result ≡ is_length_told version (op_of_parts parts.now) }
+fn is_length_said(version: Version, shape: &Shape<'_>) -> bool
+    ensures { result ≡ is_length_told version (op_of shape.now) }
 {
-    let Parts::Text { bytes, .. } = *parts else {
+    let Shape::Text { bytes, .. } = *shape else {
         return true;
     };
     match version {
@@ -127,13 +127,13 @@ fn drawop_from(
     version: Version,
     fields: NameFields,
     time: u64,
-    parts: Parts<'_>,
+    shape: Shape<'_>,
 ) -> Result<Drawop, ReadFault>
-    ensures { result ≡ drawop_told version (record { source = fields.source; page = fields.page; seq = fields.seq }) time (op_of_parts parts.entry) }
+    ensures { result ≡ drawop_told version (record { source = fields.source; page = fields.page; seq = fields.seq }) time (op_of shape.entry) }
 {
     let name = Name::new(fields.source, fields.page, fields.seq)?;
-    let made = Drawop::of_parts(name, time, parts);
-    if !is_length_said(version, &parts) {
+    let made = Drawop::new(name, time, shape);
+    if !is_length_said(version, &shape) {
         return Err(ReadFault::Field(length_fault(&made)));
     }
     let drawop = made?;
@@ -148,9 +148,9 @@ pub(crate) fn drawop_of(version: Version, bytes: &[u8]) -> Result<Drawop, ReadFa
 {
     let (fields, rest) = name_of(bytes)?;
     let (time, rest) = u64_of(rest)?;
-    let (parts, rest) = parts_of(version, rest)?;
+    let (shape, rest) = shape_of(version, rest)?;
     if !rest.is_empty() {
         return Err(ReadFault::Length);
     }
-    drawop_from(version, fields, time, parts)
+    drawop_from(version, fields, time, shape)
 }

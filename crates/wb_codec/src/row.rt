@@ -5,14 +5,14 @@ ghost use Rattle.std.specs.List.{flat_map};
 ghost use Rattle.std.specs.Int.{w64, to_be_bytes};
 ghost use Rattle.wb_names.specs.Values.{DrawopValue};
 ghost use Rattle.wb_names.specs.Drawing.{IsLawful};
-ghost use Rattle.wb_names.specs.Shapes.{op_of_parts, TextFits};
+ghost use Rattle.wb_names.specs.Shapes.{op_of, TextFits};
 ghost use Rattle.wb_names.specs.TextFields.{padded as padded_text};
 ghost use Rattle.wb_codec.specs.Ranges.{IsDrawop, HasTarget};
 ghost use Rattle.wb_codec.specs.Rows.{row, row_words, pair_word, op_word as op_word_of, op_words as op_words_of, text_word as text_word_of, text_words};
 ghost use Rattle.wb_codec.specs.RowReading.{high_half, low_half, op_in};
 
 use crate::version::{op_code, op_kind_of};
-use wb_names::{Drawop, Name, Op, OpKind, PageId, Parts, Stroke, Target};
+use wb_names::{Drawop, Name, Op, OpKind, PageId, Shape, Stroke, Target};
 
 /// How many words the record of a drawop has.
 pub const ROW_WORDS: usize = 12;
@@ -153,11 +153,11 @@ fn text_bytes(words: &[u64]) -> [u8; 64]
     bytes
 }
 
-/// The parts of the operation that these words tell, not yet checked.
+/// The operation that these words tell, not yet checked.
 #[inline(always)]
 #[tactic(auto, unfolding(crate::specs::RowReading::op_in))]
-fn parts_in<'a>(word: u64, target: u64, bytes: &'a [u8; 64]) -> Option<Parts<'a>>
-    ensures { option_map op_of_parts result ≡ op_in word target bytes.now }
+fn shape_in<'a>(word: u64, target: u64, bytes: &'a [u8; 64]) -> Option<Shape<'a>>
+    ensures { option_map op_of result ≡ op_in word target bytes.now }
 {
     let kind = op_kind_of((word >> 56) as u8)?;
     let stroke = Stroke {
@@ -170,14 +170,14 @@ fn parts_in<'a>(word: u64, target: u64, bytes: &'a [u8; 64]) -> Option<Parts<'a>
     let (source, seq) = halves(target);
     let target = Target { source, seq };
     match kind {
-        OpKind::Drawn(figure) => Some(Parts::Drawn(figure, stroke)),
-        OpKind::Text if stroke.glyph <= 64 => Some(Parts::Text {
+        OpKind::Drawn(figure) => Some(Shape::Drawn(figure, stroke)),
+        OpKind::Text if stroke.glyph <= 64 => Some(Shape::Text {
             x: stroke.x0,
             y: stroke.y0,
             bytes: &bytes[..stroke.glyph as usize],
         }),
         OpKind::Text => None,
-        OpKind::Aimed(change) => Some(Parts::Aimed(change, target)),
+        OpKind::Aimed(change) => Some(Shape::Aimed(change, target)),
     }
 }
 
@@ -190,8 +190,8 @@ fn drawop_in(words: &[u64; 12]) -> Option<Drawop>
     let (creator, number) = halves(words[1]);
     let name = Name::new(source, PageId { creator, number }, seq).ok()?;
     let bytes = text_bytes(&words[4..]);
-    let parts = parts_in(words[3], words[4], &bytes)?;
-    Drawop::of_parts(name, words[2], parts).ok()
+    let shape = shape_in(words[3], words[4], &bytes)?;
+    Drawop::new(name, words[2], shape).ok()
 }
 
 /// The drawop whose record these words are, and none where they are no drawop's record.

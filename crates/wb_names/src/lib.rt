@@ -33,7 +33,7 @@ pub use gap::Gap;
 pub use mark::Mark;
 pub use name::{Name, PageId};
 pub use order::{before, display_order};
-pub use parts::{Change, Figure, Op, OpKind, Parts, Stroke, Target};
+pub use parts::{Change, Figure, Op, OpKind, Stroke, Target};
 pub use shape::Shape;
 pub use stream::{FromRead, Sink, Source, ToWrite};
 pub use text::Text;

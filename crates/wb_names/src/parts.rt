@@ -89,14 +89,3 @@ impl Op {
         }
     }
 }
-
-/// The parts of an operation, not yet checked.
-#[derive(Clone, Copy, Debug)]
-pub enum Parts<'a> {
-    /// Draws between two ends.
-    Drawn(Figure, Stroke),
-    /// Draws a row of characters that begins at a point.
-    Text { x: u16, y: u16, bytes: &'a [u8] },
-    /// Hides or shows another drawop of its page.
-    Aimed(Change, Target),
-}

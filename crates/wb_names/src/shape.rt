@@ -4,51 +4,24 @@ ghost use Rattle.std.specs.Prelude.{◌≡◌, None, Some, OnOk, nat_le};
 ghost use Rattle.std.specs.List.{list_all};
 ghost use Rattle.wb_names.specs.Faults.{value_unless};
 ghost use Rattle.wb_names.specs.Drawing.{IsLawful, op_fault, stroke_fault, text_fault, target_fault, is_coordinate as is_coordinate_number, is_glyph as is_glyph_code, is_printable as is_printable_code};
-ghost use Rattle.wb_names.specs.Shapes.{op_of, op_of_parts, TextFits};
+ghost use Rattle.wb_names.specs.Shapes.{op_of, TextFits};
 
 use crate::drawop::Drawop;
 use crate::fault::FieldFault;
 use crate::name::Name;
-use crate::parts::{Change, Figure, Op, Parts, Stroke, Target};
+use crate::parts::{Change, Figure, Op, Stroke, Target};
 use crate::text::Text;
 
 /// An operation as a caller hands it in, its fields not yet checked. Coordinates are cells, x to the
-/// right and y down; glyphs and bytes are of ASCII; a target is a source and a sequence number on
-/// the drawop's own page.
+/// right and y down; glyphs and bytes are of ASCII.
 #[derive(Clone, Copy, Debug)]
 pub enum Shape<'a> {
-    /// A line between two points, both of them drawn.
-    Line {
-        x0: u16,
-        y0: u16,
-        x1: u16,
-        y1: u16,
-        glyph: u8,
-    },
-    /// The four sides of the rectangle with two opposite corners.
-    Frame {
-        x0: u16,
-        y0: u16,
-        x1: u16,
-        y1: u16,
-        glyph: u8,
-    },
-    /// A row of characters that begins at a point.
-    Text {
-        x: u16,
-        y: u16,
-        bytes: &'a [u8],
-    },
-    /// Hides its target.
-    Delete {
-        source: u32,
-        seq: u32,
-    },
-    /// Shows its target again.
-    Restore {
-        source: u32,
-        seq: u32,
-    },
+    /// Draws between two ends.
+    Drawn(Figure, Stroke),
+    /// Draws a row of characters that begins at a point.
+    Text { x: u16, y: u16, bytes: &'a [u8] },
+    /// Hides or shows another drawop of its page.
+    Aimed(Change, Target),
 }
 
 const MAX_COORDINATE: u16 = 4095;
@@ -64,17 +37,12 @@ fn is_coordinate(number: u16) -> bool
 fn check_stroke(stroke: Stroke) -> Option<FieldFault>
     ensures { result ≡ stroke_fault stroke }
 {
-    let Stroke {
-        x0,
-        y0,
-        x1,
-        y1,
-        glyph,
-    } = stroke;
-    if !(is_coordinate(x0) && is_coordinate(y0) && is_coordinate(x1) && is_coordinate(y1)) {
+    let from = is_coordinate(stroke.x0) && is_coordinate(stroke.y0);
+    let to = is_coordinate(stroke.x1) && is_coordinate(stroke.y1);
+    if !(from && to) {
         return Some(FieldFault::Coordinate);
     }
-    if !(b'!'..=b'~').contains(&glyph) {
+    if !(b'!'..=b'~').contains(&stroke.glyph) {
         return Some(FieldFault::Glyph);
     }
     None
@@ -116,78 +84,32 @@ fn check_target(name: Name, target: Target) -> Option<FieldFault>
     None
 }
 
-/// The first fault of an operation of these parts under a name.
+/// The first fault of an operation of this shape under a name.
 #[inline(always)]
-fn fault_of(name: Name, parts: &Parts<'_>) -> Option<FieldFault>
-    ensures { result ≡ op_fault name (op_of_parts parts.now) }
+fn fault_of(name: Name, shape: &Shape<'_>) -> Option<FieldFault>
+    ensures { result ≡ op_fault name (op_of shape.now) }
 {
-    match *parts {
-        Parts::Drawn(_, stroke) => check_stroke(stroke),
-        Parts::Text { x, y, bytes } => check_text(x, y, bytes),
-        Parts::Aimed(_, target) => check_target(name, target),
+    match *shape {
+        Shape::Drawn(_, stroke) => check_stroke(stroke),
+        Shape::Text { x, y, bytes } => check_text(x, y, bytes),
+        Shape::Aimed(_, target) => check_target(name, target),
     }
 }
 
-/// The operation of these parts, whose text fits.
+/// The operation of this shape, whose text fits.
 #[inline(always)]
-fn op_from(parts: Parts<'_>) -> Op
-    requires { TextFits parts }
-    ensures { result ≡ op_of_parts parts.entry }
+fn op_from(shape: Shape<'_>) -> Op
+    requires { TextFits shape }
+    ensures { result ≡ op_of shape.entry }
 {
-    match parts {
-        Parts::Drawn(figure, stroke) => Op::Drawn(figure, stroke),
-        Parts::Text { x, y, bytes } => Op::Text {
+    match shape {
+        Shape::Drawn(figure, stroke) => Op::Drawn(figure, stroke),
+        Shape::Text { x, y, bytes } => Op::Text {
             x,
             y,
             text: Text::new(bytes),
         },
-        Parts::Aimed(change, target) => Op::Aimed(change, target),
-    }
-}
-
-impl<'a> Shape<'a> {
-    /// What the operation is made of.
-    #[inline(always)]
-    pub fn parts(self) -> Parts<'a>
-        ensures { op_of_parts result ≡ op_of self.entry }
-    {
-        match self {
-            Shape::Line {
-                x0,
-                y0,
-                x1,
-                y1,
-                glyph,
-            } => Parts::Drawn(
-                Figure::Line,
-                Stroke {
-                    x0,
-                    y0,
-                    x1,
-                    y1,
-                    glyph,
-                },
-            ),
-            Shape::Frame {
-                x0,
-                y0,
-                x1,
-                y1,
-                glyph,
-            } => Parts::Drawn(
-                Figure::Frame,
-                Stroke {
-                    x0,
-                    y0,
-                    x1,
-                    y1,
-                    glyph,
-                },
-            ),
-            Shape::Text { x, y, bytes } => Parts::Text { x, y, bytes },
-            Shape::Delete { source, seq } => Parts::Aimed(Change::Delete, Target { source, seq }),
-            Shape::Restore { source, seq } => Parts::Aimed(Change::Restore, Target { source, seq }),
-        }
+        Shape::Aimed(change, target) => Op::Aimed(change, target),
     }
 }
 
@@ -199,18 +121,9 @@ impl Drawop {
         ensures drawop { let op = op_of shape.entry in result ≡ value_unless (op_fault name op) (record { name = name; time = time; op = op }) }
         ensures lawful { OnOk result (IsLawful name (op_of shape.entry)) }
     {
-        Drawop::of_parts(name, time, shape.parts())
-    }
-
-    /// The drawop of this name, time and parts of an operation, or their first fault, as for `new`.
-    #[inline(always)]
-    pub fn of_parts(name: Name, time: u64, parts: Parts<'_>) -> Result<Drawop, FieldFault>
-        ensures drawop { let op = op_of_parts parts.entry in result ≡ value_unless (op_fault name op) (record { name = name; time = time; op = op }) }
-        ensures lawful { OnOk result (IsLawful name (op_of_parts parts.entry)) }
-    {
-        if let Some(fault) = fault_of(name, &parts) {
+        if let Some(fault) = fault_of(name, &shape) {
             return Err(fault);
         }
-        Ok(Drawop::from_parts(name, time, op_from(parts)))
+        Ok(Drawop::from_parts(name, time, op_from(shape)))
     }
 }

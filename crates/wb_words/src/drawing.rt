@@ -1,7 +1,7 @@
 //! Drawops from words.
 
 ghost use Rattle.std.specs.Prelude.{◌≡◌};
-ghost use Rattle.wb_names.specs.Shapes.{op_of_parts};
+ghost use Rattle.wb_names.specs.Shapes.{op_of};
 ghost use Rattle.wb_words.specs.Rests.{words_left};
 ghost use Rattle.wb_words.specs.Reading.{Gives, MayGive, text_at, drawn, stroke_at, figure_at, written_at, change_at, op_at, drawop_at};
 
@@ -11,15 +11,15 @@ use crate::kind::kind_in;
 use crate::rest::{Rest, next_word, no_word};
 use crate::text::text_in;
 use std::alloc::Global;
-use wb_names::{Change, Drawop, Figure, Name, OpKind, Parts, Stroke, Target};
+use wb_names::{Change, Drawop, Figure, Name, OpKind, Shape, Stroke, Target};
 
 // The operation of a drawop is the word at place 6, its fields begin at place 7.
 
-/// The drawop with these parts. A fault of it is told of the word at the place.
-fn drawn(place: u32, name: Name, time: u64, parts: Parts<'_>) -> Result<Drawop, WrongWord>
-    ensures { result ≡ drawn place name time (op_of_parts parts.entry) }
+/// The drawop of this shape. A fault of it is told of the word at the place.
+fn drawn(place: u32, name: Name, time: u64, shape: Shape<'_>) -> Result<Drawop, WrongWord>
+    ensures { result ≡ drawn place name time (op_of shape.entry) }
 {
-    match Drawop::of_parts(name, time, parts) {
+    match Drawop::new(name, time, shape) {
         Ok(drawop) => Ok(drawop),
         Err(fault) => Err(WrongWord {
             place,
@@ -52,7 +52,7 @@ fn figure_of(figure: Figure, name: Name, time: u64, rest: Rest<'_>) -> Result<Dr
     ensures { result ≡ figure_at figure name time (words_left rest.entry) }
 {
     let (stroke, rest) = stroke_of(rest)?;
-    let drawop = drawn(11, name, time, Parts::Drawn(figure, stroke))?;
+    let drawop = drawn(11, name, time, Shape::Drawn(figure, stroke))?;
     no_word(12, rest)?;
     Ok(drawop)
 }
@@ -84,7 +84,7 @@ fn written_of(alloc: Global, name: Name, time: u64, rest: Rest<'_>) -> Result<Dr
     let (y, rest) = coordinate_of(8, rest)?;
     let text = text_of(alloc, 9, rest)?;
     let bytes = text.as_slice();
-    Ok(drawn(9, name, time, Parts::Text { x, y, bytes })?)
+    Ok(drawn(9, name, time, Shape::Text { x, y, bytes })?)
 }
 
 #[tactic(auto, unfolding(crate::specs::Reading::change_at))]
@@ -94,7 +94,7 @@ fn change_of(change: Change, name: Name, time: u64, rest: Rest<'_>) -> Result<Dr
     let (source, rest) = u32_of(7, rest)?;
     let (seq, rest) = u32_of(8, rest)?;
     let target = Target { source, seq };
-    let drawop = drawn(8, name, time, Parts::Aimed(change, target))?;
+    let drawop = drawn(8, name, time, Shape::Aimed(change, target))?;
     no_word(9, rest)?;
     Ok(drawop)
 }
