@@ -127,10 +127,7 @@ page_state_takes bytes v fits e =
 abbrev pub HasKind : Version → Kind → Type 0
 HasKind One kind = Unit {0}
 HasKind Two Draw = Unit {0}
-HasKind Two Session = ⊥
-HasKind Two Request = ⊥
-HasKind Two AskPages = ⊥
-HasKind Two PageState = ⊥
+HasKind Two kind = ⊥
 
 pub body_takes : (version : Version) (kind : Kind) (bytes : List ℕ) (v : Datagram) → HasKind version kind → IsBytes bytes → body_at version kind bytes ≡ Ok v → BodyTaken version kind bytes v
 unfolding body_at
@@ -139,10 +136,7 @@ body_takes One Session bytes v has fits e = session_takes One bytes v fits e
 body_takes One Request bytes v has fits e = request_takes bytes v fits e
 body_takes One AskPages bytes v has fits e = ask_pages_takes bytes v fits e
 body_takes One PageState bytes v has fits e = page_state_takes bytes v fits e
-body_takes Two Session bytes v has fits e = absurd has
-body_takes Two Request bytes v has fits e = absurd has
-body_takes Two AskPages bytes v has fits e = absurd has
-body_takes Two PageState bytes v has fits e = absurd has
+body_takes Two kind bytes v has fits e = absurd has
 
 -- ---- again
 

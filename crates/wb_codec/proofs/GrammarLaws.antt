@@ -179,15 +179,7 @@ one_datagram v w hv hw e = ok_is v w (sym (reading_again v hv) ∙ ap reading e 
 
 pub is_fault : (bytes : List ℕ) (fault : ReadFault) → reading bytes ≡ Err fault → IsFaultOf bytes fault
 is_fault bytes faults.Memory e = absurd (never_memory bytes e)
-is_fault bytes faults.Short e = e
-is_fault bytes faults.Magic e = e
-is_fault bytes faults.Version e = e
-is_fault bytes faults.Kind e = e
-is_fault bytes faults.Trailing e = e
-is_fault bytes faults.Length e = e
-is_fault bytes faults.OpKind e = e
-is_fault bytes (faults.Field f) e = e
-is_fault bytes faults.Order e = e
+is_fault bytes fault e = e
 
 pub spells : (bytes : List ℕ) (v : Datagram) → IsBytes bytes → reading bytes ≡ Ok v → Spells bytes v
 spells bytes v fits e = let t = reading_takes bytes v fits e in (t.1, t.0)

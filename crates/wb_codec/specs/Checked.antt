@@ -31,8 +31,6 @@ datagram_of (PageState sender page marks) = datagrams.PageState sender page (mar
 
 -- the entries of its lists have passed every check
 abbrev pub IsChecked : Body → Type 0
-IsChecked (Draw d) = Unit {0}
 IsChecked (Session sender sent page marks echoes) = (is_ok (marks_at marks.count marks.bytes.now) ≡ true) × (is_ok (echoes_at echoes.count echoes.bytes.now) ≡ true)
-IsChecked (Request asker name) = Unit {0}
-IsChecked (AskPages asker) = Unit {0}
 IsChecked (PageState sender page marks) = is_ok (marks_at marks.count marks.bytes.now) ≡ true
+IsChecked body = Unit {0}

@@ -1,7 +1,7 @@
 -- The bytes that are datagrams, and what is wrong with others.
 use Rattle.std.specs.Prelude.{◌≡◌, ℕ, List, Err}
 use Rattle.wb_codec.specs.declared.datagram.Datagram.{Datagram}
-use Rattle.wb_codec.specs.declared.datagram.Datagram.TheVariants.{Draw, Session, Request, AskPages, PageState}
+use Rattle.wb_codec.specs.declared.datagram.Datagram.TheVariants.{Session, PageState}
 use Rattle.wb_codec.specs.declared.fault.ReadFault.{ReadFault}
 use Rattle.wb_codec.specs.declared.fault.ReadFault.TheVariants.{Memory}
 use Rattle.wb_codec.specs.Ranges.{IsDatagram}
@@ -14,11 +14,9 @@ Spells bytes v = IsDatagram v × (bytes ≡ spelling v)
 
 -- a datagram with lists, which alone take memory
 abbrev pub HasLists : Datagram → Type 0
-HasLists (Draw d) = ⊥
 HasLists (Session sender sent page marks echoes) = Unit {0}
-HasLists (Request asker name) = ⊥
-HasLists (AskPages asker) = ⊥
 HasLists (PageState sender page marks) = Unit {0}
+HasLists v = ⊥
 
 -- the first check that fails; want of memory is told of the bytes of a datagram with lists alone
 abbrev pub IsFaultOf : List ℕ → ReadFault → Type 0

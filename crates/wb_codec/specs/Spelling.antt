@@ -74,10 +74,7 @@ op_version op = first_version (op_kind op)
 
 abbrev pub version_of : Datagram → Version
 version_of (Draw d) = op_version d.op
-version_of (Session sender sent page marks echoes) = One
-version_of (Request asker name) = One
-version_of (AskPages asker) = One
-version_of (PageState sender page marks) = One
+version_of v = One
 
 abbrev pub version_code : Version → ℕ
 version_code One = 1

@@ -1,9 +1,9 @@
 -- The lengths of texts, apart from the other checks of a drawop; and all these checks in their order.
-use Rattle.std.specs.Prelude.{ℕ, Bool, true, Option, Some, None, Result, length}
+use Rattle.std.specs.Prelude.{ℕ, Bool, true, Option, Some, Result, length}
 use Rattle.wb_names.specs.Values.{NameValue, DrawopValue}
 use Rattle.wb_names.specs.Drawing.{seq_fault}
 use Rattle.wb_names.specs.declared.fault.FieldFault.{FieldFault}
-use Rattle.wb_names.specs.declared.fault.FieldFault.TheVariants.{SeqZero, Coordinate, Glyph, TextLength, TextByte, TargetZero, TargetSelf}
+use Rattle.wb_names.specs.declared.fault.FieldFault.TheVariants.{Coordinate, TextLength}
 use Rattle.wb_names.specs.declared.parts.Op.{Op}
 use Rattle.wb_names.specs.declared.parts.Op.TheVariants.{Drawn, Text, Aimed}
 use Rattle.wb_codec.specs.declared.version.Version.{Version}
@@ -18,14 +18,8 @@ is_length_told version (Aimed change t) = true
 
 -- The fault of a text whose length is not told, by what is wrong with the operation else: it stands where lengths are checked, after the coordinates and before the bytes.
 abbrev pub fault_at_length : Option FieldFault → FieldFault
-fault_at_length None = TextLength
-fault_at_length (Some SeqZero) = TextLength
 fault_at_length (Some Coordinate) = Coordinate
-fault_at_length (Some Glyph) = TextLength
-fault_at_length (Some TextLength) = TextLength
-fault_at_length (Some TextByte) = TextLength
-fault_at_length (Some TargetZero) = TextLength
-fault_at_length (Some TargetSelf) = TextLength
+fault_at_length other = TextLength
 
 -- the drawop of these fields, or the first that has a fault
 abbrev pub drawop_told : Version → NameValue → ℕ → Op → Result DrawopValue ReadFault
