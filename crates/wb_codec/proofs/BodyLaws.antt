@@ -18,9 +18,9 @@ use Rattle.wb_codec.specs.Ranges.{IsName, IsSession, IsPageState, IsDatagram}
 use Rattle.wb_codec.specs.Spelling.{page_bytes, name_bytes, mark_bytes, echo_bytes, list_bytes, body, version_of}
 use Rattle.wb_codec.specs.Reading.{◌>>=◌, number_at, page_at, name_at, end_of, in_range, marks_at, echoes_at, drawop_at, draw_at, session_at, request_at, ask_pages_at, page_state_at, body_at}
 use Rattle.wb_codec.proofs.Bytes.{IsBytes}
-use Rattle.wb_codec.proofs.FieldLaws.{bind_ok, ok_is, end_ok, in_range_ok, Takes-then, Takes-all, takes32, takes64, again16, again32, again64, page_takes, page_again, name_takes, name_again, has_width}
-use Rattle.wb_codec.proofs.DrawopLaws.{drawop_takes, drawop_again, named, seq_free}
-use Rattle.wb_codec.proofs.EntryLaws.{marks_take, marks_again, echoes_take, echoes_again}
+use Rattle.wb_codec.proofs.FieldLaws.{Reads, gives, step, ended, ranges, ends, Takes-then, Takes-all, reads16, reads32, reads64, again16, again32, again64, page_reads, page_again, name_reads, name_again, has_width}
+use Rattle.wb_codec.proofs.DrawopLaws.{drawop_reads, drawop_again, named, seq_free}
+use Rattle.wb_codec.proofs.EntryLaws.{marks_read, marks_again, echoes_read, echoes_again}
 
 -- the kind of a datagram
 abbrev pub kind_of : Datagram → Kind
@@ -37,106 +37,32 @@ pub record BodyTaken (version : Version) (kind : Kind) (bytes : List ℕ) (v : D
   pub version-is : version_of v ≡ version
   pub kind-is : kind_of v ≡ kind
 
--- ---- each kind
-
-draw_takes : (version : Version) (bytes : List ℕ) (v : Datagram) → IsBytes bytes → draw_at version bytes ≡ Ok v → BodyTaken version Draw bytes v
-unfolding draw_at
-draw_takes version bytes v fits e =
-    let d = bind_ok (drawop_at version bytes) _ v e in
-    let t = drawop_takes version bytes d.0 fits d.1 in
-    subst (λ (u : Datagram). BodyTaken version Draw bytes u) (ok_is (datagrams.Draw d.0) v d.2) (record { parts = t.parts; fits = t.fits; version-is = t.version-is; kind-is = refl })
-
-session_takes : (version : Version) (bytes : List ℕ) (v : Datagram) → IsBytes bytes → session_at bytes ≡ Ok v → BodyTaken One Session bytes v
-unfolding session_at
-session_takes version bytes v fits e =
-    let a = bind_ok (number_at w32 bytes) _ v e in
-    let b = bind_ok (number_at w64 a.0.1) _ v a.2 in
-    let p = bind_ok (page_at b.0.1) _ v b.2 in
-    let m = bind_ok (number_at w16 p.0.1) _ v p.2 in
-    let ms = bind_ok (marks_at m.0.0 m.0.1) _ v m.2 in
-    let n = bind_ok (number_at w16 ms.0.1) _ v ms.2 in
-    let es = bind_ok (echoes_at n.0.0 n.0.1) _ v n.2 in
-    let made : Datagram = datagrams.Session a.0.0 b.0.0 p.0.0 ms.0.0 es.0.0 in
-    let ta = takes32 bytes a.0 fits a.1 in
-    let tb = takes64 a.0.1 b.0 ta.0.rest_fits b.1 in
-    let tp = page_takes b.0.1 p.0 tb.0.rest_fits p.1 in
-    let tms = marks_take p.0.1 m.0 ms.0 tp.0.rest_fits m.1 ms.1 in
-    let tes = echoes_take ms.0.1 n.0 es.0 tms.0.rest_fits n.1 es.1 in
-    let sender = to_be_bytes w32 a.0.0 in
-    let sent = to_be_bytes w64 b.0.0 in
-    let page = page_bytes p.0.0 in
-    let ab = Takes-then bytes sender a.0.1 sent b.0.1 ta.0 tb.0 in
-    let ap-page = Takes-then bytes (sender ++ sent) b.0.1 page p.0.1 ab tp.0 in
-    let am = Takes-then bytes (sender ++ sent ++ page) p.0.1 (list_bytes mark_bytes ms.0.0) ms.0.1 ap-page tms.0 in
-    let ae = Takes-then bytes (sender ++ sent ++ page ++ list_bytes mark_bytes ms.0.0) ms.0.1 (list_bytes echo_bytes es.0.0) es.0.1 am tes.0 in
-    let ended = end_ok es.0.1 made v es.2 in
-    subst (λ (u : Datagram). BodyTaken One Session bytes u) ended.1 (record {
-      parts = Takes-all bytes (body made) es.0.1 ae ended.0;
-      fits = record { sender-fits = ta.1; sent-fits = tb.1; page-fits = tp.1; marks-fit = tms.1; echoes-fit = tes.1 };
-      version-is = refl;
-      kind-is = refl;
-    })
-
-request_takes : (bytes : List ℕ) (v : Datagram) → IsBytes bytes → request_at bytes ≡ Ok v → BodyTaken One Request bytes v
-unfolding request_at
-request_takes bytes v fits e =
-    let a = bind_ok (number_at w32 bytes) _ v e in
-    let n = bind_ok (name_at a.0.1) _ v a.2 in
-    let w = bind_ok (end_of n.0.1 n.0.0) _ v n.2 in
-    let ta = takes32 bytes a.0 fits a.1 in
-    let tn = name_takes a.0.1 n.0 ta.0.rest_fits n.1 in
-    let ended = end_ok n.0.1 n.0.0 w.0 w.1 in
-    let last = in_range_ok (seq_fault w.0.seq) (datagrams.Request a.0.0 w.0) v w.2 in
-    let counted : seq_fault n.0.0.seq ≡ None = subst (λ (m : NameValue). seq_fault m.seq ≡ None) (sym ended.1) last.0 in
-    let all = Takes-all bytes (to_be_bytes w32 a.0.0 ++ name_bytes n.0.0) n.0.1 (Takes-then bytes (to_be_bytes w32 a.0.0) a.0.1 (name_bytes n.0.0) n.0.1 ta.0 tn.0) ended.0 in
-    let made : BodyTaken One Request bytes (datagrams.Request a.0.0 n.0.0) = record { parts = all; fits = (ta.1, named n.0.0 tn.1 counted); version-is = refl; kind-is = refl } in
-    subst (λ (u : Datagram). BodyTaken One Request bytes u) (ap (λ (m : NameValue). datagrams.Request a.0.0 m) ended.1 ∙ last.1) made
-
-ask_pages_takes : (bytes : List ℕ) (v : Datagram) → IsBytes bytes → ask_pages_at bytes ≡ Ok v → BodyTaken One AskPages bytes v
-unfolding ask_pages_at
-ask_pages_takes bytes v fits e =
-    let a = bind_ok (number_at w32 bytes) _ v e in
-    let ta = takes32 bytes a.0 fits a.1 in
-    let ended = end_ok a.0.1 (datagrams.AskPages a.0.0) v a.2 in
-    subst (λ (u : Datagram). BodyTaken One AskPages bytes u) ended.1 (record { parts = Takes-all bytes (to_be_bytes w32 a.0.0) a.0.1 ta.0 ended.0; fits = ta.1; version-is = refl; kind-is = refl })
-
-page_state_takes : (bytes : List ℕ) (v : Datagram) → IsBytes bytes → page_state_at bytes ≡ Ok v → BodyTaken One PageState bytes v
-unfolding page_state_at
-page_state_takes bytes v fits e =
-    let a = bind_ok (number_at w32 bytes) _ v e in
-    let p = bind_ok (page_at a.0.1) _ v a.2 in
-    let m = bind_ok (number_at w16 p.0.1) _ v p.2 in
-    let ms = bind_ok (marks_at m.0.0 m.0.1) _ v m.2 in
-    let made : Datagram = datagrams.PageState a.0.0 p.0.0 ms.0.0 in
-    let ta = takes32 bytes a.0 fits a.1 in
-    let tp = page_takes a.0.1 p.0 ta.0.rest_fits p.1 in
-    let tms = marks_take p.0.1 m.0 ms.0 tp.0.rest_fits m.1 ms.1 in
-    let sender = to_be_bytes w32 a.0.0 in
-    let page = page_bytes p.0.0 in
-    let ap-page = Takes-then bytes sender a.0.1 page p.0.1 ta.0 tp.0 in
-    let am = Takes-then bytes (sender ++ page) p.0.1 (list_bytes mark_bytes ms.0.0) ms.0.1 ap-page tms.0 in
-    let ended = end_ok ms.0.1 made v ms.2 in
-    subst (λ (u : Datagram). BodyTaken One PageState bytes u) ended.1 (record {
-      parts = Takes-all bytes (body made) ms.0.1 am ended.0;
-      fits = record { sender-fits = ta.1; page-fits = tp.1; marks-fit = tms.1 };
-      version-is = refl;
-      kind-is = refl;
-    })
-
 -- version 2 has drawops alone
 abbrev pub HasKind : Version → Kind → Type 0
 HasKind One kind = Unit {0}
 HasKind Two Draw = Unit {0}
 HasKind Two kind = ⊥
 
-pub body_takes : (version : Version) (kind : Kind) (bytes : List ℕ) (v : Datagram) → HasKind version kind → IsBytes bytes → body_at version kind bytes ≡ Ok v → BodyTaken version kind bytes v
-unfolding body_at
-body_takes version Draw bytes v has fits e = draw_takes version bytes v fits e
-body_takes One Session bytes v has fits e = session_takes One bytes v fits e
-body_takes One Request bytes v has fits e = request_takes bytes v fits e
-body_takes One AskPages bytes v has fits e = ask_pages_takes bytes v fits e
-body_takes One PageState bytes v has fits e = page_state_takes bytes v fits e
-body_takes Two kind bytes v has fits e = absurd has
+pub body_reads : (version : Version) (kind : Kind) (bytes : List ℕ) → HasKind version kind → IsBytes bytes → Reads (BodyTaken version kind bytes) (body_at version kind bytes)
+unfolding body_at draw_at session_at request_at ask_pages_at page_state_at
+body_reads version Draw bytes has fits = step _ (drawop_reads version bytes fits) (λ d t. gives _ (record { parts = t.parts; fits = t.fits; version-is = t.version-is; kind-is = refl }))
+body_reads One Session bytes has fits = step _ (reads32 bytes fits) (λ a ta. step _ (reads64 a.1 ta.0.rest_fits) (λ b tb. step _ (page_reads b.1 tb.0.rest_fits) (λ p tp.
+    step _ (reads16 p.1 tp.0.rest_fits) (λ m tm. step _ (marks_read p.1 m tm) (λ ms tms. step _ (reads16 ms.1 tms.0.rest_fits) (λ n tn. step _ (echoes_read ms.1 n tn) (λ es tes. ends es.1 _ (λ end. record {
+      parts = Takes-all _ _ _ (Takes-then _ _ _ _ _ (Takes-then _ _ _ _ _ (Takes-then _ _ _ _ _ (Takes-then _ _ _ _ _ ta.0 tb.0) tp.0) tms.0) tes.0) end;
+      fits = record { sender-fits = ta.1; sent-fits = tb.1; page-fits = tp.1; marks-fit = tms.1; echoes-fit = tes.1 };
+      version-is = refl;
+      kind-is = refl;
+    }))))))))
+body_reads One Request bytes has fits = step _ (reads32 bytes fits) (λ a ta. step _ (name_reads a.1 ta.0.rest_fits) (λ n tn. ended n.1 n.0 _ (λ end. ranges (seq_fault n.0.seq) _ (λ counted.
+    record { parts = Takes-all _ _ _ (Takes-then _ _ _ _ _ ta.0 tn.0) end; fits = (ta.1, named n.0 tn.1 counted); version-is = refl; kind-is = refl }))))
+body_reads One AskPages bytes has fits = step _ (reads32 bytes fits) (λ a ta. ends a.1 _ (λ end. record { parts = Takes-all _ _ _ ta.0 end; fits = ta.1; version-is = refl; kind-is = refl }))
+body_reads One PageState bytes has fits = step _ (reads32 bytes fits) (λ a ta. step _ (page_reads a.1 ta.0.rest_fits) (λ p tp. step _ (reads16 p.1 tp.0.rest_fits) (λ m tm. step _ (marks_read p.1 m tm) (λ ms tms. ends ms.1 _ (λ end. record {
+  parts = Takes-all _ _ _ (Takes-then _ _ _ _ _ (Takes-then _ _ _ _ _ ta.0 tp.0) tms.0) end;
+  fits = record { sender-fits = ta.1; page-fits = tp.1; marks-fit = tms.1 };
+  version-is = refl;
+  kind-is = refl;
+})))))
+body_reads Two kind bytes has fits = absurd has
 
 -- ---- again
 

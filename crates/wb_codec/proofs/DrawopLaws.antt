@@ -15,8 +15,8 @@ use Rattle.wb_codec.specs.Kinds.{has_kind}
 use Rattle.wb_codec.specs.Spelling.{name_bytes, op_bytes, op_version, drawop_bytes}
 use Rattle.wb_codec.specs.Reading.{number_at, name_at, op_at, end_of, in_range, told_fault, drawop_at}
 use Rattle.wb_codec.proofs.Bytes.{IsBytes}
-use Rattle.wb_codec.proofs.FieldLaws.{bind_ok, end_ok, in_range_ok, Takes-then, Takes-all, takes64, again64, HasWidth, has_width, name_takes, name_again}
-use Rattle.wb_codec.proofs.OpLaws.{op_takes, op_again, one_version, told_again}
+use Rattle.wb_codec.proofs.FieldLaws.{Reads, step, ended, ranged, ranges, Takes-then, Takes-all, reads64, again64, name_reads, name_again, HasWidth, has_width}
+use Rattle.wb_codec.proofs.OpLaws.{op_reads, op_again, one_version, told_again}
 
 pub seq_counted : (seq : ℕ) → seq_fault seq ≡ None → 1 ≤ seq
 seq_counted seq e = grind (arith, nat_tests)
@@ -37,25 +37,11 @@ drawn version bytes name time op parts width lt target kind seq told =
     let v = one_version version name op kind told in
     record { parts = parts; fits = record { name = named name width seq; time = lt; lawful = v.1; target = target }; version-is = v.0 }
 
-pub drawop_takes : (version : Version) (bytes : List ℕ) (d : DrawopValue) → IsBytes bytes → drawop_at version bytes ≡ Ok d → DrawopTaken version bytes d
+pub drawop_reads : (version : Version) (bytes : List ℕ) → IsBytes bytes → Reads (DrawopTaken version bytes) (drawop_at version bytes)
 unfolding drawop_at
-drawop_takes version bytes d fits e =
-    let a = bind_ok (name_at bytes) _ d e in
-    let b = bind_ok (number_at w64 a.0.1) _ d a.2 in
-    let c = bind_ok (op_at version b.0.1) _ d b.2 in
-    let w = bind_ok (end_of c.0.1 c.0.0) _ d c.2 in
-    let n = bind_ok (in_range (seq_fault a.0.0.seq) a.0.0) _ d w.2 in
-    let ta = name_takes bytes a.0 fits a.1 in
-    let tb = takes64 a.0.1 b.0 ta.0.rest_fits b.1 in
-    let tc = op_takes version b.0.1 c.0 tb.0.rest_fits c.1 in
-    let ended = end_ok c.0.1 c.0.0 w.0 w.1 in
-    let counted = in_range_ok (seq_fault a.0.0.seq) a.0.0 n.0 n.1 in
-    let last = in_range_ok (told_fault version n.0 w.0) (record { name = n.0; time = b.0.0; op = w.0 }) d n.2 in
-    let told : told_fault version a.0.0 c.0.0 ≡ None = subst (λ (o : Op). told_fault version a.0.0 o ≡ None) (sym ended.1) (subst (λ (m : NameValue). told_fault version m w.0 ≡ None) (sym counted.1) last.0) in
-    let all = Takes-all bytes (name_bytes a.0.0 ++ to_be_bytes w64 b.0.0 ++ op_bytes c.0.0) c.0.1 (Takes-then bytes (name_bytes a.0.0 ++ to_be_bytes w64 b.0.0) b.0.1 (op_bytes c.0.0) c.0.1 (Takes-then bytes (name_bytes a.0.0) a.0.1 (to_be_bytes w64 b.0.0) b.0.1 ta.0 tb.0) tc.taken) ended.0 in
-    let made = drawn version bytes a.0.0 b.0.0 c.0.0 all ta.1 tb.1 tc.target tc.kind counted.0 told in
-    let read : DrawopTaken version bytes (record { name = n.0; time = b.0.0; op = w.0 }) = subst (λ (o : Op). DrawopTaken version bytes (record { name = n.0; time = b.0.0; op = o })) ended.1 (subst (λ (m : NameValue). DrawopTaken version bytes (record { name = m; time = b.0.0; op = c.0.0 })) counted.1 made) in
-    subst (λ (v : DrawopValue). DrawopTaken version bytes v) last.1 read
+drawop_reads version bytes fits = step _ (name_reads bytes fits) (λ n tn. step _ (reads64 n.1 tn.0.rest_fits) (λ t tm. step _ (op_reads version t.1 tm.0.rest_fits) (λ o to. ended o.1 o.0 _ (λ end. ranged (seq_fault n.0.seq) n.0 _ (λ counted. ranges (told_fault version n.0 o.0) _ (λ told.
+    let all = Takes-all _ _ _ (Takes-then _ _ _ _ _ (Takes-then _ _ _ _ _ tn.0 tm.0) to.taken) end in
+    drawn version bytes n.0 t.0 o.0 all tn.1 tm.1 to.target to.kind counted told))))))
 
 pub drawop_again : (d : DrawopValue) → IsDrawop d → drawop_at (op_version d.op) (drawop_bytes d) ≡ Ok d
 unfolding drawop_at

@@ -1,5 +1,5 @@
 -- Lists of marks and of echoes: what is read is what was written, in order, and what was written is read again.
-use Rattle.std.proofs.Common.{◌≡◌, ℕ, zero, suc, ◌<◌, ◌≤◌, true, Option, Some, None, List, [], ◌∷◌, ◌++◌, length, get_or, Result, Ok, refl, sym, ap, subst, ◌∙◌, append_assoc, arith}
+use Rattle.std.proofs.Common.{◌≡◌, ℕ, zero, suc, ◌^◌, ◌<◌, ◌≤◌, true, Option, Some, None, List, [], ◌∷◌, ◌++◌, length, get_or, Result, Ok, refl, sym, ap, subst, ◌∙◌, append_assoc, arith}
 use Rattle.std.specs.Prelude.{All, AllPairs}
 use Rattle.std.specs.List.{flat_map}
 use Rattle.std.specs.Int.{w16, w32, w64, to_be_bytes}
@@ -16,7 +16,7 @@ use Rattle.wb_codec.specs.Ranges.{IsMark, IsEcho, IsEntryList, IsMarkList, IsEch
 use Rattle.wb_codec.specs.Spelling.{mark_bytes, echo_bytes, list_bytes}
 use Rattle.wb_codec.specs.Reading.{require, number_at, in_range, mark_at, echo_at, list_at, marks_at, echoes_at}
 use Rattle.wb_codec.proofs.Bytes.{IsBytes}
-use Rattle.wb_codec.proofs.FieldLaws.{bind_ok, ok_is, require_ok, in_range_ok, Takes, Takes-then, takes16, takes32, takes64, again32, again64}
+use Rattle.wb_codec.proofs.FieldLaws.{Reads, gives, step, weaker, checked, ranged, Takes, Takes-then, Numbered, reads32, reads64, again32, again64}
 use Rattle.wb_codec.proofs.DrawopLaws.{seq_counted, seq_free}
 
 -- ---- one entry
@@ -44,52 +44,30 @@ mark_source m = m.source
 abbrev pub echo_source : Echo → ℕ
 echo_source e = e.source
 
-pub mark_takes : (before : Option ℕ) (bytes : List ℕ) (x : MarkValue × List ℕ) → IsBytes bytes → mark_at before bytes ≡ Ok x → EntryTaken mark_source mark_bytes MarkFits before bytes x.0 x.1
+mark_reads : (before : Option ℕ) (bytes : List ℕ) → IsBytes bytes → Reads (λ x. EntryTaken mark_source mark_bytes MarkFits before bytes x.0 x.1) (mark_at before bytes)
 unfolding mark_at
-mark_takes before bytes x fits e =
-    let a = bind_ok (number_at w32 bytes) _ x e in
-    let b = bind_ok (number_at w32 a.0.1) _ x a.2 in
-    let c = bind_ok (in_range (seq_fault b.0.0) b.0.0) _ x b.2 in
-    let d = bind_ok (require (is_above before a.0.0) Order a.0.0) _ x c.2 in
-    let ta = takes32 bytes a.0 fits a.1 in
-    let tb = takes32 a.0.1 b.0 ta.0.rest_fits b.1 in
-    let counted = in_range_ok (seq_fault b.0.0) b.0.0 c.0 c.1 in
-    let above = require_ok (is_above before a.0.0) Order a.0.0 d.0 d.1 in
-    let made : EntryTaken mark_source mark_bytes MarkFits before bytes (record { source = a.0.0; high = b.0.0 }) b.0.1 = record {
-      taken = Takes-then bytes (to_be_bytes w32 a.0.0) a.0.1 (to_be_bytes w32 b.0.0) b.0.1 ta.0 tb.0;
-      fits = record { ranges = record { source = ta.1; high = tb.1 }; positive = seq_counted b.0.0 counted.0 };
-      above = above.0;
-    } in
-    let read : EntryTaken mark_source mark_bytes MarkFits before bytes (record { source = d.0; high = c.0 }) b.0.1 = subst (λ (s : ℕ). EntryTaken mark_source mark_bytes MarkFits before bytes (record { source = s; high = c.0 }) b.0.1) above.1 (subst (λ (h : ℕ). EntryTaken mark_source mark_bytes MarkFits before bytes (record { source = a.0.0; high = h }) b.0.1) counted.1 made) in
-    subst (λ (y : MarkValue × List ℕ). EntryTaken mark_source mark_bytes MarkFits before bytes y.0 y.1) (ok_is (record { source = d.0; high = c.0 }, b.0.1) x d.2) read
+mark_reads before bytes fits = step _ (reads32 bytes fits) (λ s ts. step _ (reads32 s.1 ts.0.rest_fits) (λ h th. ranged (seq_fault h.0) h.0 _ (λ counted. checked (is_above before s.0) Order s.0 _ refl (λ above. gives _ (record {
+  taken = Takes-then _ _ _ _ _ ts.0 th.0;
+  fits = record { ranges = record { source = ts.1; high = th.1 }; positive = seq_counted h.0 counted };
+  above = above;
+})))))
 
-pub mark_again : (before : Option ℕ) (m : MarkValue) (rest : List ℕ) → MarkFits m → is_above before m.source ≡ true → mark_at before (mark_bytes m ++ rest) ≡ Ok (m, rest)
+mark_again : (before : Option ℕ) (m : MarkValue) (rest : List ℕ) → MarkFits m → is_above before m.source ≡ true → mark_at before (mark_bytes m ++ rest) ≡ Ok (m, rest)
 unfolding mark_at
 mark_again before m rest fits above =
     let s = to_be_bytes w32 m.source in
     let h = to_be_bytes w32 m.high in
     ap (mark_at before) (append_assoc s h rest) ∙ rw (again32 m.source (h ++ rest) fits.ranges.source, again32 m.high rest fits.ranges.high, seq_free m.high fits.positive, above) refl
 
-pub echo_takes : (before : Option ℕ) (bytes : List ℕ) (x : Echo × List ℕ) → IsBytes bytes → echo_at before bytes ≡ Ok x → EntryTaken echo_source echo_bytes EchoFits before bytes x.0 x.1
+echo_reads : (before : Option ℕ) (bytes : List ℕ) → IsBytes bytes → Reads (λ x. EntryTaken echo_source echo_bytes EchoFits before bytes x.0 x.1) (echo_at before bytes)
 unfolding echo_at
-echo_takes before bytes x fits e =
-    let a = bind_ok (number_at w32 bytes) _ x e in
-    let b = bind_ok (number_at w64 a.0.1) _ x a.2 in
-    let c = bind_ok (number_at w64 b.0.1) _ x b.2 in
-    let d = bind_ok (require (is_above before a.0.0) Order a.0.0) _ x c.2 in
-    let ta = takes32 bytes a.0 fits a.1 in
-    let tb = takes64 a.0.1 b.0 ta.0.rest_fits b.1 in
-    let tc = takes64 b.0.1 c.0 tb.0.rest_fits c.1 in
-    let above = require_ok (is_above before a.0.0) Order a.0.0 d.0 d.1 in
-    let made : EntryTaken echo_source echo_bytes EchoFits before bytes (record { source = a.0.0; sent = b.0.0; held = c.0.0 }) c.0.1 = record {
-      taken = Takes-then bytes (to_be_bytes w32 a.0.0 ++ to_be_bytes w64 b.0.0) b.0.1 (to_be_bytes w64 c.0.0) c.0.1 (Takes-then bytes (to_be_bytes w32 a.0.0) a.0.1 (to_be_bytes w64 b.0.0) b.0.1 ta.0 tb.0) tc.0;
-      fits = record { ranges = record { source = ta.1; sent = tb.1; held = tc.1 }; positive = tt };
-      above = above.0;
-    } in
-    let read : EntryTaken echo_source echo_bytes EchoFits before bytes (record { source = d.0; sent = b.0.0; held = c.0.0 }) c.0.1 = subst (λ (s : ℕ). EntryTaken echo_source echo_bytes EchoFits before bytes (record { source = s; sent = b.0.0; held = c.0.0 }) c.0.1) above.1 made in
-    subst (λ (y : Echo × List ℕ). EntryTaken echo_source echo_bytes EchoFits before bytes y.0 y.1) (ok_is (record { source = d.0; sent = b.0.0; held = c.0.0 }, c.0.1) x d.2) read
+echo_reads before bytes fits = step _ (reads32 bytes fits) (λ s ts. step _ (reads64 s.1 ts.0.rest_fits) (λ m tm. step _ (reads64 m.1 tm.0.rest_fits) (λ h th. checked (is_above before s.0) Order s.0 _ refl (λ above. gives _ (record {
+  taken = Takes-then _ _ _ _ _ (Takes-then _ _ _ _ _ ts.0 tm.0) th.0;
+  fits = record { ranges = record { source = ts.1; sent = tm.1; held = th.1 }; positive = tt };
+  above = above;
+})))))
 
-pub echo_again : (before : Option ℕ) (e : Echo) (rest : List ℕ) → EchoFits e → is_above before e.source ≡ true → echo_at before (echo_bytes e ++ rest) ≡ Ok (e, rest)
+echo_again : (before : Option ℕ) (e : Echo) (rest : List ℕ) → EchoFits e → is_above before e.source ≡ true → echo_at before (echo_bytes e ++ rest) ≡ Ok (e, rest)
 unfolding echo_at
 echo_again before e rest fits above =
     let s = to_be_bytes w32 e.source in
@@ -124,24 +102,19 @@ module _ {X : Type 0} (entry_at : Option ℕ → List ℕ → Result (X × List 
     count = ap suc ts.count;
   }
 
-  list_takes : ((before : Option ℕ) (bytes : List ℕ) (x : X × List ℕ) → IsBytes bytes → entry_at before bytes ≡ Ok x → EntryTaken source spell Fits before bytes x.0 x.1)
-      → (n : ℕ) (before : Option ℕ) (bytes : List ℕ) (y : List X × List ℕ) → IsBytes bytes → list_at entry_at source n before bytes ≡ Ok y → ListTaken n before bytes y.0 y.1
+  abbrev EntryReads : Type 0
+  EntryReads = (before : Option ℕ) (bytes : List ℕ) → IsBytes bytes → Reads (λ x. EntryTaken source spell Fits before bytes x.0 x.1) (entry_at before bytes)
+
+  list_reads : EntryReads → (n : ℕ) (before : Option ℕ) (bytes : List ℕ) → IsBytes bytes → Reads (λ y. ListTaken n before bytes y.0 y.1) (list_at entry_at source n before bytes)
   unfolding list_at
-  list_takes takes zero before bytes y fits e =
-      let none : ListTaken 0 before bytes [] bytes = record {
-        taken = record { parts = refl; rest_fits = fits };
-        fits = λ k d h. absurd (omega arith);
-        ascending = λ i j d ij h. absurd (omega arith);
-        above = λ k d h. absurd (omega arith);
-        count = refl;
-      } in
-      subst (λ (z : List X × List ℕ). ListTaken 0 before bytes z.0 z.1) (ok_is ([], bytes) y e) none
-  list_takes takes (suc n) before bytes y fits e =
-      let a = bind_ok (entry_at before bytes) _ y e in
-      let b = bind_ok (list_at entry_at source n (Some (source a.0.0)) a.0.1) _ y a.2 in
-      let ta = takes before bytes a.0 fits a.1 in
-      let tb = list_takes takes n (Some (source a.0.0)) a.0.1 b.0 ta.taken.rest_fits b.1 in
-      subst (λ (z : List X × List ℕ). ListTaken (suc n) before bytes z.0 z.1) (ok_is (a.0.0 ∷ b.0.0, b.0.1) y b.2) (one_more n before bytes a.0.0 a.0.1 b.0.0 b.0.1 ta tb)
+  list_reads entry zero before bytes fits = gives _ (record {
+    taken = record { parts = refl; rest_fits = fits };
+    fits = λ k d h. absurd (omega arith);
+    ascending = λ i j d ij h. absurd (omega arith);
+    above = λ k d h. absurd (omega arith);
+    count = refl;
+  })
+  list_reads entry (suc n) before bytes fits = step _ (entry before bytes fits) (λ a ta. step _ (list_reads entry n (Some (source a.0)) a.1 ta.taken.rest_fits) (λ b tb. gives _ (one_more n before bytes a.0 a.1 b.0 b.1 ta tb)))
 
   again_from : ((before : Option ℕ) (x : X) (rest : List ℕ) → Fits x → is_above before (source x) ≡ true → entry_at before (spell x ++ rest) ≡ Ok (x, rest))
       → (xs : List X) (before : Option ℕ) (rest : List ℕ) → All Fits xs → AllPairs (λ a b. source a < source b) xs → All (λ a. is_above before (source a) ≡ true) xs → list_at entry_at source (length xs) before (flat_map spell xs ++ rest) ≡ Ok (xs, rest)
@@ -154,20 +127,15 @@ module _ {X : Type 0} (entry_at : Option ℕ → List ℕ → Result (X × List 
       ap (list_at entry_at source (suc (length xs)) before) (append_assoc (spell x) (flat_map spell xs) rest) ∙ rw (first, others) refl
 
   -- how many there are, and each
-  counted_take : ((before : Option ℕ) (bytes : List ℕ) (x : X × List ℕ) → IsBytes bytes → entry_at before bytes ≡ Ok x → EntryTaken source spell Fits before bytes x.0 x.1)
-      → (bytes : List ℕ) (n : ℕ × List ℕ) (y : List X × List ℕ) → IsBytes bytes → number_at w16 bytes ≡ Ok n → list_at entry_at source n.0 None n.1 ≡ Ok y → Takes bytes (list_bytes spell y.0) y.1 × IsEntryList source IsPositive IsEntry y.0
-  counted_take takes bytes n y fits en ey =
-      let number = takes16 bytes n fits en in
-      let t = list_takes takes n.0 None n.1 y number.0.rest_fits ey in
-      let few = number.1 in
-      let count = t.count in
-      let all = Takes-then bytes (to_be_bytes w16 n.0) n.1 (flat_map spell y.0) y.1 number.0 t.taken in (
-        subst (λ (m : ℕ). Takes bytes (to_be_bytes w16 m ++ flat_map spell y.0) y.1) (sym count) all,
+  counted_reads : EntryReads → (bytes : List ℕ) (n : ℕ × List ℕ) → Numbered w16 (2 ^ 16) bytes n → Reads (λ y. Takes bytes (list_bytes spell y.0) y.1 × IsEntryList source IsPositive IsEntry y.0) (list_at entry_at source n.0 None n.1)
+  counted_reads entry bytes n (number, few) = weaker (list_reads entry n.0 None n.1 number.rest_fits) (λ y t.
+      let count = t.count in (
+        Takes-then bytes (to_be_bytes w16 (length y.0)) n.1 (flat_map spell y.0) y.1 (subst (λ (m : ℕ). Takes bytes (to_be_bytes w16 m) n.1) (sym count) number) t.taken,
         record {
           lawful = record { ascending = t.ascending; positive = λ k d h. (t.fits k d h).positive; few = omega arith };
           ranges = λ k d h. (t.fits k d h).ranges;
         },
-      )
+      ))
 
   list_again : ((before : Option ℕ) (x : X) (rest : List ℕ) → Fits x → is_above before (source x) ≡ true → entry_at before (spell x ++ rest) ≡ Ok (x, rest))
       → (xs : List X) (rest : List ℕ) → IsEntryList source IsPositive IsEntry xs → list_at entry_at source (length xs) None (flat_map spell xs ++ rest) ≡ Ok (xs, rest)
@@ -175,14 +143,14 @@ module _ {X : Type 0} (entry_at : Option ℕ → List ℕ → Result (X × List 
 
 -- ---- lists of marks and of echoes
 
-pub marks_take : (bytes : List ℕ) (n : ℕ × List ℕ) (y : List MarkValue × List ℕ) → IsBytes bytes → number_at w16 bytes ≡ Ok n → marks_at n.0 n.1 ≡ Ok y → Takes bytes (list_bytes mark_bytes y.0) y.1 × IsMarkList y.0
-marks_take = counted_take mark_at mark_source mark_bytes (λ (m : MarkValue). 1 ≤ m.high) IsMark mark_takes
+pub marks_read : (bytes : List ℕ) (n : ℕ × List ℕ) → Numbered w16 (2 ^ 16) bytes n → Reads (λ y. Takes bytes (list_bytes mark_bytes y.0) y.1 × IsMarkList y.0) (marks_at n.0 n.1)
+marks_read = counted_reads mark_at mark_source mark_bytes (λ (m : MarkValue). 1 ≤ m.high) IsMark mark_reads
 
 pub marks_again : (marks : List MarkValue) (rest : List ℕ) → IsMarkList marks → marks_at (length marks) (flat_map mark_bytes marks ++ rest) ≡ Ok (marks, rest)
 marks_again = list_again mark_at mark_source mark_bytes (λ (m : MarkValue). 1 ≤ m.high) IsMark mark_again
 
-pub echoes_take : (bytes : List ℕ) (n : ℕ × List ℕ) (y : List Echo × List ℕ) → IsBytes bytes → number_at w16 bytes ≡ Ok n → echoes_at n.0 n.1 ≡ Ok y → Takes bytes (list_bytes echo_bytes y.0) y.1 × IsEchoList y.0
-echoes_take = counted_take echo_at echo_source echo_bytes (λ (e : Echo). Unit {0}) IsEcho echo_takes
+pub echoes_read : (bytes : List ℕ) (n : ℕ × List ℕ) → Numbered w16 (2 ^ 16) bytes n → Reads (λ y. Takes bytes (list_bytes echo_bytes y.0) y.1 × IsEchoList y.0) (echoes_at n.0 n.1)
+echoes_read = counted_reads echo_at echo_source echo_bytes (λ (e : Echo). Unit {0}) IsEcho echo_reads
 
 pub echoes_again : (echoes : List Echo) (rest : List ℕ) → IsEchoList echoes → echoes_at (length echoes) (flat_map echo_bytes echoes ++ rest) ≡ Ok (echoes, rest)
 echoes_again = list_again echo_at echo_source echo_bytes (λ (e : Echo). Unit {0}) IsEcho echo_again

@@ -1,6 +1,6 @@
 -- A field that is read is the field that was written, and what was written is read again.
 use Rattle.std.proofs.Common.{◌≡◌, ℕ, ◌^◌, ◌<◌, ◌≤◌, Bool, true, false, Option, Some, None, List, [], ◌∷◌, ◌++◌, length, take, drop, Result, Ok, Err, refl, sym, ap, subst, ◌∙◌, append_assoc, arith}
-use Rattle.std.specs.Prelude.{nat_eq, nat_le}
+use Rattle.std.specs.Prelude.{◌≢◌, nat_eq, nat_le}
 use Rattle.std.specs.Int.{Width, w16, w32, w64, byte_len, from_be_bytes, to_be_bytes}
 use Rattle.std.proofs.lemmas.Bool.{leb-true, le-leb, eqb-true}
 use Rattle.std.proofs.lemmas.List.{take_at, drop_at, take-append-drop, length-append, length-take, append-nil, nil_from_length}
@@ -9,7 +9,7 @@ use Rattle.wb_names.specs.Values.{NameValue}
 use Rattle.wb_names.specs.declared.name.PageId.{PageId}
 use Rattle.wb_names.specs.declared.fault.FieldFault.{FieldFault}
 use Rattle.wb_codec.specs.declared.fault.ReadFault.{ReadFault}
-use Rattle.wb_codec.specs.declared.fault.ReadFault.TheVariants.{Length}
+use Rattle.wb_codec.specs.declared.fault.ReadFault.TheVariants.{Length, Memory}
 use Rattle.wb_codec.specs.Ranges.{IsPage, IsName}
 use Rattle.wb_codec.specs.Spelling.{page_bytes, name_bytes}
 use Rattle.wb_codec.specs.Reading.{◌>>=◌, require, number_at, byte_at, page_at, name_at, end_of, in_range}
@@ -17,29 +17,64 @@ use Rattle.wb_codec.proofs.Bytes.{IsBytes, IsBytes-drop, IsBytes-take, IsBytes-r
 
 -- ---- steps and checks
 
--- the value of a step that did not fail
-pub bind_ok : {A B : Type 0} (r : Result A ReadFault) (f : A → Result B ReadFault) (y : B) → (r >>= f) ≡ Ok y → (x : A) × (r ≡ Ok x) × (f x ≡ Ok y)
-bind_ok (Ok x) f y e = (x, refl, e)
-bind_ok (Err d) f y e = absurd cc
-
 abbrev done : {A : Type 0} → A → Result A ReadFault
 done x = Ok x
 
 pub ok_is : {A : Type 0} (x y : A) → done x ≡ done y → x ≡ y
 ok_is x y e = cc
 
-pub require_ok : {A : Type 0} (b : Bool) (d : ReadFault) (x y : A) → require b d x ≡ Ok y → (b ≡ true) × (x ≡ y)
-require_ok true d x y e = (refl, cc)
-require_ok false d x y e = absurd cc
+abbrev pub is_memory : ReadFault → Bool
+is_memory Memory = true
+is_memory fault = false
 
-pub in_range_ok : {A : Type 0} (f : Option FieldFault) (x y : A) → in_range f x ≡ Ok y → (f ≡ None) × (x ≡ y)
-in_range_ok None x y e = (refl, cc)
-in_range_ok (Some d) x y e = absurd cc
+abbrev Holds : {A : Type 0} → (A → Type 0) → Result A ReadFault → Type 0
+Holds P (Ok x) = P x
+Holds P (Err fault) = is_memory fault ≡ false
 
-pub end_ok : {A : Type 0} (rest : List ℕ) (x y : A) → end_of rest x ≡ Ok y → (rest ≡ []) × (x ≡ y)
-end_ok rest x y e =
-    let g = require_ok (nat_eq (length rest) 0) Length x y e in
-    (nil_from_length rest (eqb-true (length rest) 0 g.0), g.1)
+-- what was read has P, and nothing is refused for want of memory
+pub record Reads {A : Type 0} (P : A → Type 0) (r : Result A ReadFault) : Type 0 where
+  pub it : Holds P r
+
+pub found : {A : Type 0} {P : A → Type 0} {r : Result A ReadFault} (x : A) → Reads P r → r ≡ Ok x → P x
+found {P = P} x h e = (subst (Reads P) e h).it
+
+pub never_memory : {A : Type 0} {P : A → Type 0} {r : Result A ReadFault} → Reads P r → r ≢ Err Memory
+never_memory {P = P} h e = let f : true ≡ false = (subst (Reads P) e h).it in cc
+
+pub gives : {A : Type 0} {P : A → Type 0} (x : A) → P x → Reads P (Ok x)
+gives x h = record { it = h }
+
+pub weaker : {A : Type 0} {P Q : A → Type 0} {r : Result A ReadFault} → Reads P r → ((x : A) → P x → Q x) → Reads Q r
+weaker {r = Ok x} h k = record { it = k x h.it }
+weaker {r = Err fault} h k = record { it = h.it }
+
+pub step : {A B : Type 0} {P : A → Type 0} {Q : B → Type 0} {r : Result A ReadFault} (f : A → Result B ReadFault) → Reads P r → ((x : A) → P x → Reads Q (f x)) → Reads Q (r >>= f)
+step {r = Ok x} f h k = k x h.it
+step {r = Err fault} f h k = record { it = h.it }
+
+-- a check, and what follows it
+pub checked : {A B : Type 0} {Q : B → Type 0} (b : Bool) (fault : ReadFault) (x : A) (f : A → Result B ReadFault) → is_memory fault ≡ false → (b ≡ true → Reads Q (f x)) → Reads Q (require b fault x >>= f)
+checked true fault x f m h = h refl
+checked false fault x f m h = record { it = m }
+
+pub ranged : {A B : Type 0} {Q : B → Type 0} (o : Option FieldFault) (x : A) (f : A → Result B ReadFault) → (o ≡ None → Reads Q (f x)) → Reads Q (in_range o x >>= f)
+ranged None x f h = h refl
+ranged (Some fault) x f h = record { it = refl }
+
+pub ended : {A B : Type 0} {Q : B → Type 0} (rest : List ℕ) (x : A) (f : A → Result B ReadFault) → (rest ≡ [] → Reads Q (f x)) → Reads Q (end_of rest x >>= f)
+ended rest x f h = checked _ _ x f refl (λ e. h (nil_from_length rest (eqb-true (length rest) 0 e)))
+
+-- a check that is the last
+pub checks : {A : Type 0} {P : A → Type 0} (b : Bool) (fault : ReadFault) (x : A) → is_memory fault ≡ false → (b ≡ true → P x) → Reads P (require b fault x)
+checks true fault x m h = record { it = h refl }
+checks false fault x m h = record { it = m }
+
+pub ranges : {A : Type 0} {P : A → Type 0} (o : Option FieldFault) (x : A) → (o ≡ None → P x) → Reads P (in_range o x)
+ranges None x h = record { it = h refl }
+ranges (Some fault) x h = record { it = refl }
+
+pub ends : {A : Type 0} {P : A → Type 0} (rest : List ℕ) (x : A) → (rest ≡ [] → P x) → Reads P (end_of rest x)
+ends rest x h = checks _ _ x refl (λ e. h (nil_from_length rest (eqb-true (length rest) 0 e)))
 
 -- what a reader took from the front
 pub record Takes (bytes text rest : List ℕ) : Type 0 where
@@ -85,14 +120,16 @@ wide64 = record {
   below = λ bytes fits. omega (arith, fits 0, fits 1, fits 2, fits 3, fits 4, fits 5, fits 6, fits 7);
 }
 
-number_takes : (w : Width) (limit : ℕ) (wide : IsWide w limit) (bytes : List ℕ) (x : ℕ × List ℕ) → IsBytes bytes → number_at w bytes ≡ Ok x → Takes bytes (to_be_bytes w x.0) x.1 × (x.0 < limit)
-number_takes w limit wide bytes x fits e =
-    let made : ℕ × List ℕ = (from_be_bytes w (take (byte_len w) bytes), drop (byte_len w) bytes) in
-    let g = require_ok (nat_le (byte_len w) (length bytes)) Length made x e in
-    let long : byte_len w ≤ length bytes = leb-true _ _ g.0 in
-    let front : to_be_bytes w made.0 ≡ take (byte_len w) bytes = wide.back (take (byte_len w) bytes) (omega (arith, length-take (byte_len w) bytes)) (IsBytes-take (byte_len w) bytes fits) in
-    subst (λ (y : ℕ × List ℕ). Takes bytes (to_be_bytes w y.0) y.1 × (y.0 < limit)) g.1
-    (record { parts = rw front (sym (take-append-drop (byte_len w) bytes)); rest_fits = IsBytes-drop (byte_len w) bytes fits }, wide.below (take (byte_len w) bytes) (IsBytes-take (byte_len w) bytes fits))
+-- a number of this width was taken
+abbrev pub Numbered : Width → ℕ → List ℕ → ℕ × List ℕ → Type 0
+Numbered w limit bytes x = Takes bytes (to_be_bytes w x.0) x.1 × (x.0 < limit)
+
+reads : (w : Width) (limit : ℕ) (wide : IsWide w limit) (bytes : List ℕ) → IsBytes bytes → Reads (Numbered w limit bytes) (number_at w bytes)
+reads w limit wide bytes fits = checks _ _ _ refl (λ (t : nat_le (byte_len w) (length bytes) ≡ true).
+    let long : byte_len w ≤ length bytes = leb-true _ _ t in
+    let front : List ℕ = take (byte_len w) bytes in
+    let back : to_be_bytes w (from_be_bytes w front) ≡ front = wide.back front (omega (arith, length-take (byte_len w) bytes)) (IsBytes-take (byte_len w) bytes fits) in
+    (record { parts = rw back (sym (take-append-drop (byte_len w) bytes)); rest_fits = IsBytes-drop (byte_len w) bytes fits }, wide.below front (IsBytes-take (byte_len w) bytes fits)))
 
 number_again : (w : Width) (limit : ℕ) (wide : IsWide w limit) (n : ℕ) (rest : List ℕ) → n < limit → number_at w (to_be_bytes w n ++ rest) ≡ Ok (n, rest)
 number_again w limit wide n rest lt =
@@ -100,38 +137,33 @@ number_again w limit wide n rest lt =
     let long : nat_le (byte_len w) (length (to_be_bytes w n ++ rest)) ≡ true = le-leb _ _ (omega (arith, length-append (to_be_bytes w n) rest)) in
     rw (long, take_at (to_be_bytes w n) rest (byte_len w) len, drop_at (to_be_bytes w n) rest (byte_len w) len, wide.again n lt) refl
 
-pub takes16 : (bytes : List ℕ) (x : ℕ × List ℕ) → IsBytes bytes → number_at w16 bytes ≡ Ok x → Takes bytes (to_be_bytes w16 x.0) x.1 × (x.0 < 2 ^ 16)
-takes16 bytes x fits e = number_takes w16 (2 ^ 16) wide16 bytes x fits e
+pub reads16 : (bytes : List ℕ) → IsBytes bytes → Reads (Numbered w16 (2 ^ 16) bytes) (number_at w16 bytes)
+reads16 = reads w16 (2 ^ 16) wide16
 
-pub takes32 : (bytes : List ℕ) (x : ℕ × List ℕ) → IsBytes bytes → number_at w32 bytes ≡ Ok x → Takes bytes (to_be_bytes w32 x.0) x.1 × (x.0 < 2 ^ 32)
-takes32 bytes x fits e = number_takes w32 (2 ^ 32) wide32 bytes x fits e
+pub reads32 : (bytes : List ℕ) → IsBytes bytes → Reads (Numbered w32 (2 ^ 32) bytes) (number_at w32 bytes)
+reads32 = reads w32 (2 ^ 32) wide32
 
-pub takes64 : (bytes : List ℕ) (x : ℕ × List ℕ) → IsBytes bytes → number_at w64 bytes ≡ Ok x → Takes bytes (to_be_bytes w64 x.0) x.1 × (x.0 < 2 ^ 64)
-takes64 bytes x fits e = number_takes w64 (2 ^ 64) wide64 bytes x fits e
+pub reads64 : (bytes : List ℕ) → IsBytes bytes → Reads (Numbered w64 (2 ^ 64) bytes) (number_at w64 bytes)
+reads64 = reads w64 (2 ^ 64) wide64
 
 pub again16 : (n : ℕ) (rest : List ℕ) → n < 2 ^ 16 → number_at w16 (to_be_bytes w16 n ++ rest) ≡ Ok (n, rest)
-again16 n rest lt = number_again w16 (2 ^ 16) wide16 n rest lt
+again16 = number_again w16 (2 ^ 16) wide16
 
 pub again32 : (n : ℕ) (rest : List ℕ) → n < 2 ^ 32 → number_at w32 (to_be_bytes w32 n ++ rest) ≡ Ok (n, rest)
-again32 n rest lt = number_again w32 (2 ^ 32) wide32 n rest lt
+again32 = number_again w32 (2 ^ 32) wide32
 
 pub again64 : (n : ℕ) (rest : List ℕ) → n < 2 ^ 64 → number_at w64 (to_be_bytes w64 n ++ rest) ≡ Ok (n, rest)
-again64 n rest lt = number_again w64 (2 ^ 64) wide64 n rest lt
+again64 = number_again w64 (2 ^ 64) wide64
 
-pub takes8 : (bytes : List ℕ) (x : ℕ × List ℕ) → IsBytes bytes → byte_at bytes ≡ Ok x → Takes bytes (x.0 ∷ []) x.1 × (x.0 < 256)
-takes8 [] x fits e = absurd cc
-takes8 (b ∷ bytes) x fits e = subst (λ (y : ℕ × List ℕ). Takes (b ∷ bytes) (y.0 ∷ []) y.1 × (y.0 < 256)) (ok_is (b, bytes) x e) (record { parts = refl; rest_fits = IsBytes-rest b bytes fits }, fits 0)
+pub reads8 : (bytes : List ℕ) → IsBytes bytes → Reads (λ x. Takes bytes (x.0 ∷ []) x.1 × (x.0 < 256)) (byte_at bytes)
+reads8 [] fits = record { it = refl }
+reads8 (b ∷ bytes) fits = gives (b, bytes) (record { parts = refl; rest_fits = IsBytes-rest b bytes fits }, fits 0)
 
 -- ---- pages and names
 
-pub page_takes : (bytes : List ℕ) (x : PageId × List ℕ) → IsBytes bytes → page_at bytes ≡ Ok x → Takes bytes (page_bytes x.0) x.1 × IsPage x.0
+pub page_reads : (bytes : List ℕ) → IsBytes bytes → Reads (λ x. Takes bytes (page_bytes x.0) x.1 × IsPage x.0) (page_at bytes)
 unfolding page_at
-page_takes bytes x fits e =
-    let a = bind_ok (number_at w32 bytes) _ x e in
-    let ta = takes32 bytes a.0 fits a.1 in
-    let b = bind_ok (number_at w32 a.0.1) _ x a.2 in
-    let tb = takes32 a.0.1 b.0 ta.0.rest_fits b.1 in
-    subst (λ (v : PageId × List ℕ). Takes bytes (page_bytes v.0) v.1 × IsPage v.0) (ok_is _ x b.2) (Takes-then _ _ _ _ _ ta.0 tb.0, record { creator = ta.1; number = tb.1 })
+page_reads bytes fits = step _ (reads32 bytes fits) (λ a ta. step _ (reads32 a.1 ta.0.rest_fits) (λ b tb. gives _ (Takes-then _ _ _ _ _ ta.0 tb.0, record { creator = ta.1; number = tb.1 })))
 
 pub page_again : (p : PageId) (rest : List ℕ) → IsPage p → page_at (page_bytes p ++ rest) ≡ Ok (p, rest)
 unfolding page_at
@@ -143,17 +175,10 @@ pub record HasWidth (n : NameValue) : Type 0 where
   pub page : IsPage n.page
   pub seq : n.seq < 2 ^ 32
 
-pub name_takes : (bytes : List ℕ) (x : NameValue × List ℕ) → IsBytes bytes → name_at bytes ≡ Ok x → Takes bytes (name_bytes x.0) x.1 × HasWidth x.0
+pub name_reads : (bytes : List ℕ) → IsBytes bytes → Reads (λ x. Takes bytes (name_bytes x.0) x.1 × HasWidth x.0) (name_at bytes)
 unfolding name_at
-name_takes bytes x fits e =
-    let a = bind_ok (number_at w32 bytes) _ x e in
-    let ta = takes32 bytes a.0 fits a.1 in
-    let b = bind_ok (page_at a.0.1) _ x a.2 in
-    let tb = page_takes a.0.1 b.0 ta.0.rest_fits b.1 in
-    let c = bind_ok (number_at w32 b.0.1) _ x b.2 in
-    let tc = takes32 b.0.1 c.0 tb.0.rest_fits c.1 in
-    let ab = Takes-then _ _ _ _ _ ta.0 tb.0 in
-    subst (λ (v : NameValue × List ℕ). Takes bytes (name_bytes v.0) v.1 × HasWidth v.0) (ok_is _ x c.2) (Takes-then _ _ _ _ _ ab tc.0, record { source = ta.1; page = tb.1; seq = tc.1 })
+name_reads bytes fits = step _ (reads32 bytes fits) (λ s ts. step _ (page_reads s.1 ts.0.rest_fits) (λ p tp. step _ (reads32 p.1 tp.0.rest_fits) (λ q tq.
+    gives _ (Takes-then _ _ _ _ _ (Takes-then _ _ _ _ _ ts.0 tp.0) tq.0, record { source = ts.1; page = tp.1; seq = tq.1 }))))
 
 pub name_again : (n : NameValue) (rest : List ℕ) → HasWidth n → name_at (name_bytes n ++ rest) ≡ Ok (n, rest)
 unfolding name_at

@@ -1,5 +1,5 @@
 -- The two laws of the grammar: what is read is spelled so, and what is spelled so is read.
-use Rattle.std.proofs.Common.{◌≡◌, ℕ, ◌^◌, ◌<◌, ◌≤◌, Bool, true, false, cond, List, [], ◌∷◌, ◌++◌, length, Result, Ok, Err, refl, sym, ap, subst, ◌∙◌, arith, ◌⊎◌, inl, inr, ⊎_elim}
+use Rattle.std.proofs.Common.{◌≡◌, ℕ, ◌^◌, ◌<◌, ◌≤◌, Bool, true, false, cond, List, [], ◌∷◌, ◌++◌, length, Result, Ok, Err, refl, sym, ap, subst, ◌∙◌, arith}
 use Rattle.std.specs.Prelude.{nat_eq, nat_le, ◌&&◌}
 use Rattle.std.specs.Int.{w32, to_be_bytes, from_be_bytes}
 use Rattle.std.proofs.lemmas.Bool.{eqb-true, leb-true, le-leb}
@@ -17,11 +17,10 @@ use Rattle.wb_codec.specs.Ranges.{IsDatagram}
 use Rattle.wb_codec.specs.Spelling.{version_code, version_of, kind_code, framed, body, spelling}
 use Rattle.wb_codec.specs.Reading.{require, Framed, version_at, kind_at, frame_at, reading}
 use Rattle.wb_codec.proofs.Bytes.{IsBytes, IsBytes-drop, IsBytes-take}
-use Rattle.wb_codec.proofs.FieldLaws.{bind_ok, ok_is, require_ok}
-use Rattle.wb_codec.proofs.BodyLaws.{kind_of, HasKind, body_takes, body_again}
+use Rattle.wb_codec.proofs.FieldLaws.{Reads, found, never_memory, gives, weaker, step, checked, ok_is}
+use Rattle.wb_codec.proofs.BodyLaws.{kind_of, HasKind, body_reads, body_again}
 use Rattle.wb_codec.proofs.LengthLaws.{body_short}
 use Rattle.wb_codec.specs.Grammar.{Spells, IsFaultOf}
-use Rattle.wb_codec.proofs.NoMemory.{never_memory}
 
 -- ---- the header
 
@@ -39,42 +38,28 @@ code_of_kind (datagrams.Request asker name) = refl
 code_of_kind (datagrams.AskPages asker) = refl
 code_of_kind (datagrams.PageState sender page marks) = refl
 
--- which of two it was
-choose : {A : Type 0} (b : Bool) (x y : Result A ReadFault) (z : A) → cond b x y ≡ Ok z → ((b ≡ true) × (x ≡ Ok z)) ⊎ (y ≡ Ok z)
-choose true x y z e = inl (refl, e)
-choose false x y z e = inr e
+-- what is read, the first where a test holds, else the second
+chosen : {A : Type 0} {P : A → Type 0} (b : Bool) (r s : Result A ReadFault) → (b ≡ true → Reads P r) → Reads P s → Reads P (cond b r s)
+chosen true r s h k = h refl
+chosen false r s h k = k
 
-version_takes : (number : ℕ) (version : Version) → version_at number ≡ Ok version → number ≡ version_code version
+version_reads : (number : ℕ) → Reads (λ version. number ≡ version_code version) (version_at number)
 unfolding version_at
-version_takes number version e =
-    ⊎_elim (λ (p : (nat_eq number 1 ≡ true) × (_ ≡ Ok version)). eqb-true number 1 p.0 ∙ ap version_code (ok_is One version p.1)) (λ (f : _).
-    ⊎_elim (λ (p : (nat_eq number 2 ≡ true) × (_ ≡ Ok version)). eqb-true number 2 p.0 ∙ ap version_code (ok_is Two version p.1)) (λ (g : _). absurd cc)
-    (choose (nat_eq number 2) (Ok Two) (Err faults.Version) version f))
-    (choose (nat_eq number 1) (Ok One) _ version e)
+version_reads number = chosen _ _ _ (λ e. gives _ (eqb-true number 1 e)) (chosen _ _ _ (λ e. gives _ (eqb-true number 2 e)) (record { it = refl }))
 
 record KindTaken (version : Version) (number : ℕ) (kind : Kind) : Type 0 where
   number-is : number ≡ kind_number kind
   has : HasKind version kind
 
-kind_found : (version : Version) (number m : ℕ) (found kind : Kind) → nat_eq number m ≡ true → m ≡ kind_number found → HasKind version found → (let r : Result Kind ReadFault = Ok found in let s : Result Kind ReadFault = Ok kind in r ≡ s) → KindTaken version number kind
-kind_found version number m found kind e f has is = subst (λ (k : Kind). KindTaken version number k) (ok_is found kind is) (record { number-is = eqb-true number m e ∙ f; has = has })
-
-kind_takes : (version : Version) (number : ℕ) (kind : Kind) → kind_at version number ≡ Ok kind → KindTaken version number kind
+kind_reads : (version : Version) (number : ℕ) → Reads (KindTaken version number) (kind_at version number)
 unfolding kind_at
-kind_takes One number kind e =
-    ⊎_elim (λ (p : (nat_eq number 1 ≡ true) × (_ ≡ Ok kind)). kind_found One number 1 Draw kind p.0 refl tt p.1) (λ (e2 : _).
-    ⊎_elim (λ (p : (nat_eq number 2 ≡ true) × (_ ≡ Ok kind)). kind_found One number 2 Session kind p.0 refl tt p.1) (λ (e3 : _).
-    ⊎_elim (λ (p : (nat_eq number 3 ≡ true) × (_ ≡ Ok kind)). kind_found One number 3 Request kind p.0 refl tt p.1) (λ (e4 : _).
-    ⊎_elim (λ (p : (nat_eq number 4 ≡ true) × (_ ≡ Ok kind)). kind_found One number 4 AskPages kind p.0 refl tt p.1) (λ (e5 : _).
-    ⊎_elim (λ (p : (nat_eq number 5 ≡ true) × (_ ≡ Ok kind)). kind_found One number 5 PageState kind p.0 refl tt p.1) (λ (e6 : _). absurd cc)
-    (choose (nat_eq number 5) (Ok PageState) (Err faults.Kind) kind e5))
-    (choose (nat_eq number 4) (Ok AskPages) _ kind e4))
-    (choose (nat_eq number 3) (Ok Request) _ kind e3))
-    (choose (nat_eq number 2) (Ok Session) _ kind e2))
-    (choose (nat_eq number 1) (Ok Draw) _ kind e)
-kind_takes Two number kind e =
-    ⊎_elim (λ (p : (nat_eq number 1 ≡ true) × (_ ≡ Ok kind)). kind_found Two number 1 Draw kind p.0 refl tt p.1) (λ (e2 : _). absurd cc)
-    (choose (nat_eq number 1) (Ok Draw) (Err faults.Kind) kind e)
+kind_reads One number =
+    chosen _ _ _ (λ e. gives _ (record { number-is = eqb-true number 1 e; has = tt }))
+    (chosen _ _ _ (λ e. gives _ (record { number-is = eqb-true number 2 e; has = tt }))
+    (chosen _ _ _ (λ e. gives _ (record { number-is = eqb-true number 3 e; has = tt }))
+    (chosen _ _ _ (λ e. gives _ (record { number-is = eqb-true number 4 e; has = tt }))
+    (chosen _ _ _ (λ e. gives _ (record { number-is = eqb-true number 5 e; has = tt })) (record { it = refl })))))
+kind_reads Two number = chosen _ _ _ (λ e. gives _ (record { number-is = eqb-true number 1 e; has = tt })) (record { it = refl })
 
 record FrameTaken (bytes : List ℕ) (f : Framed) : Type 0 where
   parts : bytes ≡ framed (version_code f.version) (kind_number f.kind) f.body
@@ -94,29 +79,15 @@ frame_parts a b v k l0 l1 l2 l3 bytes version kind fits ea eb ev ek told =
       body_fits = IsBytes-drop 8 (a ∷ b ∷ v ∷ k ∷ l0 ∷ l1 ∷ l2 ∷ l3 ∷ bytes) fits;
     }
 
-frame_takes : (bytes : List ℕ) (f : Framed) → IsBytes bytes → frame_at bytes ≡ Ok f → FrameTaken bytes f
+frame_reads : (bytes : List ℕ) → IsBytes bytes → Reads (FrameTaken bytes) (frame_at bytes)
 unfolding frame_at
-frame_takes (a ∷ b ∷ v ∷ k ∷ l0 ∷ l1 ∷ l2 ∷ l3 ∷ bytes) f fits e =
+frame_reads (a ∷ b ∷ v ∷ k ∷ l0 ∷ l1 ∷ l2 ∷ l3 ∷ bytes) fits =
     let told = from_be_bytes w32 (l0 ∷ l1 ∷ l2 ∷ l3 ∷ []) in
-    let t = bind_ok (require (nat_eq a 0x57 && nat_eq b 0x42) faults.Magic told) _ f e in
-    let vv = bind_ok (version_at v) _ f t.2 in
-    let kk = bind_ok (kind_at vv.0 k) _ f vv.2 in
-    let n = bind_ok (require (nat_le t.0 (length bytes)) faults.Short bytes) _ f kk.2 in
-    let m = bind_ok (require (nat_le (length n.0) t.0) faults.Trailing n.0) _ f n.2 in
-    let magic = require_ok (nat_eq a 0x57 && nat_eq b 0x42) faults.Magic told t.0 t.1 in
-    let enough = require_ok (nat_le t.0 (length bytes)) faults.Short bytes n.0 n.1 in
-    let exact = require_ok (nat_le (length n.0) t.0) faults.Trailing n.0 m.0 m.1 in
-    let wb = both_bytes a b magic.0 in
-    let low : t.0 ≤ length bytes = leb-true t.0 (length bytes) enough.0 in
-    let high : length n.0 ≤ t.0 = leb-true (length n.0) t.0 exact.0 in
-    let same : length bytes ≡ length n.0 = ap length enough.1 in
-    let told-is : told ≡ length bytes = magic.1 ∙ (omega arith) in
-    let made = frame_parts a b v k l0 l1 l2 l3 bytes vv.0 kk.0 fits wb.0 wb.1 (version_takes v vv.0 vv.1) (kind_takes vv.0 k kk.0 kk.1) told-is in
-    let bytes-is : bytes ≡ m.0 = enough.1 ∙ exact.1 in
-    let whole : List ℕ = a ∷ b ∷ v ∷ k ∷ l0 ∷ l1 ∷ l2 ∷ l3 ∷ bytes in
-    let read : FrameTaken whole (record { version = vv.0; kind = kk.0; body = m.0 }) = subst (λ (r : List ℕ). FrameTaken whole (record { version = vv.0; kind = kk.0; body = r })) bytes-is made in
-    subst (λ (g : Framed). FrameTaken whole g) (ok_is (record { version = vv.0; kind = kk.0; body = m.0 }) f m.2) read
-frame_takes bytes f fits e = absurd cc
+    checked (nat_eq a 0x57 && nat_eq b 0x42) faults.Magic told _ refl (λ magic. step _ (version_reads v) (λ version tv. step _ (kind_reads version k) (λ kind tk. checked (nat_le told (length bytes)) faults.Short bytes _ refl (λ enough. checked (nat_le (length bytes) told) faults.Trailing bytes _ refl (λ exact.
+    let wb = both_bytes a b magic in
+    let told-is : told ≡ length bytes = omega (arith, leb-true told (length bytes) enough, leb-true (length bytes) told exact) in
+    gives _ (frame_parts a b v k l0 l1 l2 l3 bytes version kind fits wb.0 wb.1 tv tk told-is))))))
+frame_reads bytes fits = record { it = refl }
 
 pub version_again : (version : Version) → version_at (version_code version) ≡ Ok version
 unfolding version_at
@@ -131,10 +102,7 @@ kind_again One Request has = refl
 kind_again One AskPages has = refl
 kind_again One PageState has = refl
 kind_again Two Draw has = refl
-kind_again Two Session has = absurd has
-kind_again Two Request has = absurd has
-kind_again Two AskPages has = absurd has
-kind_again Two PageState has = absurd has
+kind_again Two kind has = absurd has
 
 frame_again : (version : Version) (kind : Kind) (bytes : List ℕ) → HasKind version kind → length bytes < 2 ^ 32 → frame_at (framed (version_code version) (kind_number kind) bytes) ≡ Ok (record { version = version; kind = kind; body = bytes })
 unfolding frame_at
@@ -155,15 +123,15 @@ has_kind (datagrams.Request asker name) = tt
 has_kind (datagrams.AskPages asker) = tt
 has_kind (datagrams.PageState sender page marks) = tt
 
-pub reading_takes : (bytes : List ℕ) (v : Datagram) → IsBytes bytes → reading bytes ≡ Ok v → (bytes ≡ spelling v) × IsDatagram v
+reads : (bytes : List ℕ) → IsBytes bytes → Reads (λ v. (bytes ≡ spelling v) × IsDatagram v) (reading bytes)
 unfolding reading
-reading_takes bytes v fits e =
-    let f = bind_ok (frame_at bytes) _ v e in
-    let tf = frame_takes bytes f.0 fits f.1 in
-    let t = body_takes f.0.version f.0.kind f.0.body v tf.has tf.body_fits f.2 in
-    let version : version_code f.0.version ≡ version_code (version_of v) = ap version_code (sym t.version-is) in
-    let kind : kind_number f.0.kind ≡ kind_code v = ap kind_number (sym t.kind-is) ∙ code_of_kind v in
-    (tf.parts ∙ ap (λ (n : ℕ). framed n (kind_number f.0.kind) f.0.body) version ∙ ap (λ (n : ℕ). framed (version_code (version_of v)) n f.0.body) kind ∙ ap (framed (version_code (version_of v)) (kind_code v)) t.parts, t.fits)
+reads bytes fits = step _ (frame_reads bytes fits) (λ f tf. weaker (body_reads f.version f.kind f.body tf.has tf.body_fits) (λ v t.
+    let version : version_code f.version ≡ version_code (version_of v) = ap version_code (sym t.version-is) in
+    let kind : kind_number f.kind ≡ kind_code v = ap kind_number (sym t.kind-is) ∙ code_of_kind v in
+    (tf.parts ∙ ap (λ (n : ℕ). framed n (kind_number f.kind) f.body) version ∙ ap (λ (n : ℕ). framed (version_code (version_of v)) n f.body) kind ∙ ap (framed (version_code (version_of v)) (kind_code v)) t.parts, t.fits)))
+
+pub reading_takes : (bytes : List ℕ) (v : Datagram) → IsBytes bytes → reading bytes ≡ Ok v → (bytes ≡ spelling v) × IsDatagram v
+reading_takes bytes v fits e = found v (reads bytes fits) e
 
 pub reading_again : (v : Datagram) → IsDatagram v → reading (spelling v) ≡ Ok v
 unfolding reading
@@ -177,9 +145,9 @@ one_datagram v w hv hw e = ok_is v w (sym (reading_again v hv) ∙ ap reading e 
 
 -- ---- what the checks answer
 
-pub is_fault : (bytes : List ℕ) (fault : ReadFault) → reading bytes ≡ Err fault → IsFaultOf bytes fault
-is_fault bytes faults.Memory e = absurd (never_memory bytes e)
-is_fault bytes fault e = e
+pub is_fault : (bytes : List ℕ) (fault : ReadFault) → IsBytes bytes → reading bytes ≡ Err fault → IsFaultOf bytes fault
+is_fault bytes faults.Memory fits e = absurd (never_memory (reads bytes fits) e)
+is_fault bytes fault fits e = e
 
 pub spells : (bytes : List ℕ) (v : Datagram) → IsBytes bytes → reading bytes ≡ Ok v → Spells bytes v
 spells bytes v fits e = let t = reading_takes bytes v fits e in (t.1, t.0)

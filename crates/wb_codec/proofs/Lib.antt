@@ -9,7 +9,6 @@ pub mod FieldLaws
 pub mod Lawful
 pub mod GrammarLaws
 pub mod LengthLaws
-pub mod NoMemory
 pub mod OpLaws
 pub mod RowLaws
 pub mod SpelledBytes

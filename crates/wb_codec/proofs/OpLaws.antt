@@ -27,7 +27,7 @@ use Rattle.wb_codec.specs.Reading.{◌>>=◌, require, number_at, byte_at, strok
 use Rattle.wb_codec.proofs.Codes.{code_back, code_is, version_is, version_here}
 use Rattle.wb_codec.proofs.Bytes.{IsBytes, IsBytes-drop, IsBytes-rest}
 use Rattle.wb_codec.proofs.Lawful.{IsStroke, lawful_stroke, lawful_text}
-use Rattle.wb_codec.proofs.FieldLaws.{bind_ok, ok_is, require_ok, Takes, Takes-then, takes8, takes16, takes32, again16, again32}
+use Rattle.wb_codec.proofs.FieldLaws.{Reads, gives, step, weaker, checks, Takes, Takes-then, reads8, reads16, reads32, again16, again32}
 
 -- ---- the fields of each kind
 
@@ -37,25 +37,19 @@ record FieldsTaken (kind : OpKind) (bytes : List ℕ) (x : Op × List ℕ) : Typ
   taken : Takes bytes (field_bytes x.0) x.1
   target : HasTarget x.0
 
-taken_is : (bytes : List ℕ) (op : Op) (rest : List ℕ) (x : Op × List ℕ) → Takes bytes (field_bytes op) rest → HasTarget op → (let r : Result (Op × List ℕ) ReadFault = Ok (op, rest) in r ≡ Ok x) → FieldsTaken (op_kind op) bytes x
-taken_is bytes op rest x taken target e = subst (FieldsTaken (op_kind op) bytes) (ok_is (op, rest) x e) (record { kind-is = refl; taken = taken; target = target })
-
-stroke_takes : (figure : Figure) (bytes : List ℕ) (x : Op × List ℕ) → IsBytes bytes → stroke_at figure bytes ≡ Ok x → FieldsTaken (kinds.Drawn figure) bytes x
-unfolding stroke_at
-stroke_takes figure bytes x fits e =
-    let a = bind_ok (number_at w16 bytes) _ x e in
-    let b = bind_ok (number_at w16 a.0.1) _ x a.2 in
-    let c = bind_ok (number_at w16 b.0.1) _ x b.2 in
-    let d = bind_ok (number_at w16 c.0.1) _ x c.2 in
-    let g = bind_ok (byte_at d.0.1) _ x d.2 in
-    let ta = takes16 bytes a.0 fits a.1 in
-    let tb = takes16 a.0.1 b.0 ta.0.rest_fits b.1 in
-    let tc = takes16 b.0.1 c.0 tb.0.rest_fits c.1 in
-    let td = takes16 c.0.1 d.0 tc.0.rest_fits d.1 in
-    let tg = takes8 d.0.1 g.0 td.0.rest_fits g.1 in
-    let stroke : Stroke = record { x0 = a.0.0; y0 = b.0.0; x1 = c.0.0; y1 = d.0.0; glyph = g.0.0 } in
+fields_read : (kind : OpKind) (bytes : List ℕ) → IsBytes bytes → Reads (FieldsTaken kind bytes) (fields_at kind bytes)
+unfolding fields_at stroke_at text_at target_at
+fields_read (kinds.Drawn figure) bytes fits = step _ (reads16 bytes fits) (λ a ta. step _ (reads16 a.1 ta.0.rest_fits) (λ b tb. step _ (reads16 b.1 tb.0.rest_fits) (λ c tc. step _ (reads16 c.1 tc.0.rest_fits) (λ d td. step _ (reads8 d.1 td.0.rest_fits) (λ g tg.
     let all = Takes-then _ _ _ _ _ (Takes-then _ _ _ _ _ (Takes-then _ _ _ _ _ (Takes-then _ _ _ _ _ ta.0 tb.0) tc.0) td.0) tg.0 in
-    taken_is bytes (Drawn figure stroke) g.0.1 x all tt g.2
+    gives _ (record { kind-is = refl; taken = all; target = tt }))))))
+fields_read kinds.Text bytes fits = step _ (reads16 bytes fits) (λ x tx. step _ (reads16 x.1 tx.0.rest_fits) (λ y ty. step _ (reads8 y.1 ty.0.rest_fits) (λ n tn. checks _ _ _ refl (λ (enough : nat_le n.0 (length n.1) ≡ true).
+    let long : n.0 ≤ length n.1 = leb-true _ _ enough in
+    let text : List ℕ = take n.0 n.1 in
+    let len : length text ≡ n.0 = omega (arith, length-take n.0 n.1) in
+    let front : Takes n.1 text (drop n.0 n.1) = record { parts = sym (take-append-drop n.0 n.1); rest_fits = IsBytes-drop n.0 n.1 tn.0.rest_fits } in
+    let counted : Takes y.1 (length text ∷ []) n.1 = subst (λ (m : ℕ). Takes y.1 (m ∷ []) n.1) (sym len) tn.0 in
+    record { kind-is = refl; taken = Takes-then _ _ _ _ _ (Takes-then _ _ _ _ _ (Takes-then _ _ _ _ _ tx.0 ty.0) counted) front; target = tt }))))
+fields_read (kinds.Aimed change) bytes fits = step _ (reads32 bytes fits) (λ s ts. step _ (reads32 s.1 ts.0.rest_fits) (λ q tq. gives _ (record { kind-is = refl; taken = Takes-then _ _ _ _ _ ts.0 tq.0; target = (ts.1, tq.1) })))
 
 stroke_again : (figure : Figure) (s : Stroke) (rest : List ℕ) → IsStroke s → stroke_at figure (stroke_bytes s ++ rest) ≡ Ok (Drawn figure s, rest)
 unfolding stroke_at
@@ -67,24 +61,6 @@ stroke_again figure s rest fits =
     let regrouped : stroke_bytes s ++ rest ≡ a ++ (b ++ (c ++ (d ++ (s.glyph ∷ rest)))) = simp append_assoc in
     ap (stroke_at figure) regrouped ∙ rw (again16 s.x0 (b ++ (c ++ (d ++ (s.glyph ∷ rest)))) (omega (arith, fits.x0-fits)), again16 s.y0 (c ++ (d ++ (s.glyph ∷ rest))) (omega (arith, fits.y0-fits)), again16 s.x1 (d ++ (s.glyph ∷ rest)) (omega (arith, fits.x1-fits)), again16 s.y1 (s.glyph ∷ rest) (omega (arith, fits.y1-fits))) refl
 
-text_takes : (bytes : List ℕ) (x : Op × List ℕ) → IsBytes bytes → text_at bytes ≡ Ok x → FieldsTaken kinds.Text bytes x
-unfolding text_at
-text_takes bytes x fits e =
-    let a = bind_ok (number_at w16 bytes) _ x e in
-    let b = bind_ok (number_at w16 a.0.1) _ x a.2 in
-    let n = bind_ok (byte_at b.0.1) _ x b.2 in
-    let ta = takes16 bytes a.0 fits a.1 in
-    let tb = takes16 a.0.1 b.0 ta.0.rest_fits b.1 in
-    let tn = takes8 b.0.1 n.0 tb.0.rest_fits n.1 in
-    let g = require_ok (nat_le n.0.0 (length n.0.1)) Length (Text a.0.0 b.0.0 (take n.0.0 n.0.1), drop n.0.0 n.0.1) x n.2 in
-    let long : n.0.0 ≤ length n.0.1 = leb-true _ _ g.0 in
-    let text = take n.0.0 n.0.1 in
-    let len : length text ≡ n.0.0 = omega (arith, length-take n.0.0 n.0.1) in
-    let front : Takes n.0.1 text (drop n.0.0 n.0.1) = record { parts = sym (take-append-drop n.0.0 n.0.1); rest_fits = IsBytes-drop n.0.0 n.0.1 tn.0.rest_fits } in
-    let counted : Takes b.0.1 (length text ∷ []) n.0.1 = subst (λ (m : ℕ). Takes b.0.1 (m ∷ []) n.0.1) (sym len) tn.0 in
-    let all = Takes-then _ _ _ _ _ (Takes-then _ _ _ _ _ (Takes-then _ _ _ _ _ ta.0 tb.0) counted) front in
-    taken_is bytes (Text a.0.0 b.0.0 text) (drop n.0.0 n.0.1) x all tt (ap (λ (p : Op × List ℕ). Ok p) g.1)
-
 text_again : (x y : ℕ) (text rest : List ℕ) → x < 2 ^ 16 → y < 2 ^ 16 → text_at (text_bytes x y text ++ rest) ≡ Ok (Text x y text, rest)
 unfolding text_at
 text_again x y text rest fx fy =
@@ -94,25 +70,9 @@ text_again x y text rest fx fy =
     let long : nat_le (length text) (length (text ++ rest)) ≡ true = le-leb _ _ (omega (arith, length-append text rest)) in
     ap text_at regrouped ∙ rw (again16 x (b ++ (length text ∷ (text ++ rest))) fx, again16 y (length text ∷ (text ++ rest)) fy, long, take_at text rest (length text) refl, drop_at text rest (length text) refl) refl
 
-target_takes : (change : Change) (bytes : List ℕ) (x : Op × List ℕ) → IsBytes bytes → target_at change bytes ≡ Ok x → FieldsTaken (kinds.Aimed change) bytes x
-unfolding target_at
-target_takes change bytes x fits e =
-    let a = bind_ok (number_at w32 bytes) _ x e in
-    let b = bind_ok (number_at w32 a.0.1) _ x a.2 in
-    let ta = takes32 bytes a.0 fits a.1 in
-    let tb = takes32 a.0.1 b.0 ta.0.rest_fits b.1 in
-    let target : Target = record { source = a.0.0; seq = b.0.0 } in
-    taken_is bytes (Aimed change target) b.0.1 x (Takes-then _ _ _ _ _ ta.0 tb.0) (ta.1, tb.1) b.2
-
 target_again : (change : Change) (t : Target) (rest : List ℕ) → t.source < 2 ^ 32 → t.seq < 2 ^ 32 → target_at change (target_bytes t ++ rest) ≡ Ok (Aimed change t, rest)
 unfolding target_at
 target_again change t rest fs fq = ap (target_at change) (append_assoc (to_be_bytes w32 t.source) (to_be_bytes w32 t.seq) rest) ∙ rw (again32 t.source (to_be_bytes w32 t.seq ++ rest) fs, again32 t.seq rest fq) refl
-
-fields_take : (kind : OpKind) (bytes : List ℕ) (x : Op × List ℕ) → IsBytes bytes → fields_at kind bytes ≡ Ok x → FieldsTaken kind bytes x
-unfolding fields_at
-fields_take (kinds.Drawn figure) bytes x fits e = stroke_takes figure bytes x fits e
-fields_take kinds.Text bytes x fits e = text_takes bytes x fits e
-fields_take (kinds.Aimed change) bytes x fits e = target_takes change bytes x fits e
 
 fields_again : (name : NameValue) (op : Op) (rest : List ℕ) → IsLawful name op → HasTarget op → fields_at (op_kind op) (field_bytes op ++ rest) ≡ Ok (op, rest)
 unfolding fields_at
@@ -127,23 +87,19 @@ pub record OpTaken (version : Version) (bytes : List ℕ) (x : Op × List ℕ) :
   pub target : HasTarget x.0
   pub kind : has_kind version (op_kind x.0) ≡ true
 
-told_ok : (version : Version) (o : Option OpKind) (kind : OpKind) → told_kind version o ≡ Ok kind → (o ≡ Some kind) × (has_kind version kind ≡ true)
-told_ok version None kind e = absurd cc
-told_ok version (Some k) kind e = let t = require_ok (has_kind version k) OpKindFault k kind e in (ap Some t.1, subst (λ (l : OpKind). has_kind version l ≡ true) t.1 t.0)
+told_reads : (version : Version) (o : Option OpKind) → Reads (λ kind. (o ≡ Some kind) × (has_kind version kind ≡ true)) (told_kind version o)
+told_reads version None = record { it = refl }
+told_reads version (Some kind) = checks _ _ kind refl (λ has. (refl, has))
 
-pub op_takes : (version : Version) (bytes : List ℕ) (x : Op × List ℕ) → IsBytes bytes → op_at version bytes ≡ Ok x → OpTaken version bytes x
+pub op_reads : (version : Version) (bytes : List ℕ) → IsBytes bytes → Reads (OpTaken version bytes) (op_at version bytes)
 unfolding op_at
-op_takes version [] x fits e = absurd cc
-op_takes version (n ∷ bytes) x fits e =
-    let k = bind_ok (told_kind version (op_kind_of n)) _ x e in
-    let told = told_ok version (op_kind_of n) k.0 k.1 in
-    let t = fields_take k.0 bytes x (IsBytes-rest n bytes fits) k.2 in
-    let number : n ≡ op_code (op_kind x.0) = code_is n k.0 told.0 ∙ ap op_code (sym t.kind-is) in
+op_reads version bytes fits = step _ (reads8 bytes fits) (λ n tn. step _ (told_reads version (op_kind_of n.0)) (λ k told. weaker (fields_read k n.1 tn.0.rest_fits) (λ x t.
+    let number : n.0 ≡ op_code (op_kind x.0) = code_is n.0 k told.0 ∙ ap op_code (sym t.kind-is) in
     record {
-      taken = record { parts = ap (λ (l : List ℕ). n ∷ l) t.taken.parts ∙ ap (λ (m : ℕ). m ∷ (field_bytes x.0 ++ x.1)) number; rest_fits = t.taken.rest_fits };
+      taken = Takes-then bytes (op_code (op_kind x.0) ∷ []) n.1 (field_bytes x.0) x.1 (subst (λ (m : ℕ). Takes bytes (m ∷ []) n.1) number tn.0) t.taken;
       target = t.target;
       kind = subst (λ (l : OpKind). has_kind version l ≡ true) (sym t.kind-is) told.1;
-    }
+    })))
 
 -- ---- the version of an operation
 

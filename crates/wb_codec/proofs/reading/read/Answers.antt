@@ -19,4 +19,4 @@ pub returns-in-Err-clause-only : goal.returns-in-Err-clause-only
 returns-in-Err-clause-only c = λ v s. absurd (no_spelling _ v _ c.in-Err.ensures.body s)
 
 pub returns-in-Err-clause-fault : goal.returns-in-Err-clause-fault
-returns-in-Err-clause-fault c = is_fault _ _ c.in-Err.ensures.body
+returns-in-Err-clause-fault c = is_fault _ _ (λ i. omega (arith, c.type_inv.bytes i)) c.in-Err.ensures.body
