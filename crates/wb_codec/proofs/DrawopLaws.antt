@@ -1,22 +1,164 @@
 -- A drawop that is read is the one that was written, and what was written is read again.
-use Rattle.std.proofs.Common.{◌≡◌, ℕ, ◌^◌, ◌<◌, ◌≤◌, Bool, true, None, List, [], ◌++◌, Ok, refl, sym, ap, subst, ◌∙◌, append_assoc, append-nil, arith}
-use Rattle.std.specs.Int.{w64, to_be_bytes}
-use Rattle.std.proofs.lemmas.Bool.{le-leb}
-use Rattle.std.proofs.lemmas.Bool.Decides.{nat_tests}
-use Rattle.wb_names.specs.Values.{NameValue, DrawopValue}
-use Rattle.wb_names.specs.Faults.{fault_unless}
-use Rattle.wb_names.specs.Drawing.{seq_fault}
-use Rattle.wb_names.specs.Kinds.{op_kind}
-use Rattle.wb_names.specs.declared.fault.FieldFault.TheVariants.{SeqZero}
-use Rattle.wb_names.specs.declared.parts.Op.{Op}
+use Rattle.std.proofs.Common.{◌≡◌, ℕ, ◌<◌, Bool, true, Option, Some, refl, ◌^◌, ◌≤◌, false, cond, None, List, [], ◌∷◌, ◌++◌, length, take, drop, Result, Ok, Err, sym, ap, subst, ◌∙◌, append_assoc, arith, append-nil}
+use Rattle.std.specs.Prelude.{nat_eq, nat_lt, nat_le}
+use Rattle.std.proofs.lemmas.Bool.{eqb-true, ltb-true, leb-true, le-leb}
+use Rattle.wb_names.specs.Kinds.{every_kind, kind_with-key, kind_with-is, op_kind}
+use Rattle.wb_names.specs.declared.parts.OpKind.{OpKind}
 use Rattle.wb_codec.specs.declared.version.Version.{Version}
-use Rattle.wb_codec.specs.Ranges.{IsName, IsDrawop, HasTarget}
-use Rattle.wb_codec.specs.Kinds.{has_kind}
-use Rattle.wb_codec.specs.Spelling.{name_bytes, op_bytes, op_version, drawop_bytes}
-use Rattle.wb_codec.specs.Reading.{number_at, name_at, op_at, end_of, in_range, told_fault, drawop_at}
-use Rattle.wb_codec.proofs.Bytes.{IsBytes}
-use Rattle.wb_codec.proofs.FieldLaws.{Reads, step, ended, ranged, ranges, Takes-then, Takes-all, reads64, again64, name_reads, name_again, HasWidth, has_width}
-use Rattle.wb_codec.proofs.OpLaws.{op_reads, op_again, one_version, told_again}
+use Rattle.wb_codec.specs.declared.version.Version.TheVariants.{One, Two}
+use Rattle.wb_codec.specs.Kinds.{op_code, op_kind_of, is_version, first_version, has_kind}
+use Rattle.std.specs.Int.{w16, w32, to_be_bytes, w64}
+use Rattle.std.proofs.lemmas.Bool.Decides.{nat_tests}
+use Rattle.std.proofs.lemmas.List.{take_at, drop_at, take-append-drop, length-append, length-take}
+use Rattle.wb_names.specs.Values.{NameValue, DrawopValue}
+use Rattle.wb_names.specs.Drawing.{IsLawful, seq_fault}
+use Rattle.wb_names.specs.declared.parts.Figure.{Figure}
+use Rattle.wb_names.specs.declared.parts.Stroke.{Stroke}
+use Rattle.wb_names.specs.declared.parts.Change.{Change}
+use Rattle.wb_names.specs.declared.parts.Target.{Target}
+use Rattle.wb_names.specs.declared.parts.Op.{Op}
+use Rattle.wb_names.specs.declared.parts.Op.TheVariants.{Drawn, Text, Aimed}
+use Rattle.wb_codec.specs.declared.fault.ReadFault.{ReadFault}
+use Rattle.wb_codec.specs.declared.fault.ReadFault.TheVariants.{Length, OpKind as OpKindFault}
+use Rattle.wb_codec.specs.Ranges.{HasTarget, IsName, IsDrawop}
+use Rattle.wb_codec.specs.Spelling.{stroke_bytes, text_bytes, target_bytes, field_bytes, op_bytes, op_version, name_bytes, drawop_bytes}
+use Rattle.wb_codec.specs.Reading.{◌>>=◌, require, number_at, byte_at, stroke_at, text_at, target_at, fields_at, told_kind, op_at, told_fault, name_at, end_of, in_range, drawop_at}
+use Rattle.wb_codec.proofs.Bytes.{IsBytes, IsBytes-drop, IsBytes-rest}
+use Rattle.wb_codec.proofs.Lawful.{IsStroke, lawful_stroke, lawful_text}
+use Rattle.wb_codec.proofs.FieldLaws.{Reads, gives, step, weaker, checks, Takes, Takes-then, reads8, reads16, reads32, again16, again32, ended, ranged, ranges, Takes-all, reads64, again64, name_reads, name_again, HasWidth, has_width}
+use Rattle.wb_names.specs.Faults.{fault_unless}
+use Rattle.wb_names.specs.declared.fault.FieldFault.TheVariants.{SeqZero}
+use Rattle.wb_names.specs.declared.parts.OpKind.TheVariants as kinds
+
+-- ---- a number tells a kind of operation, and each kind has one
+
+pub code_back : (kind : OpKind) → op_kind_of (op_code kind) ≡ Some kind
+unfolding op_kind_of
+code_back kind = kind_with-key nat_eq op_code refl kind
+
+pub code_is : (n : ℕ) (kind : OpKind) → op_kind_of n ≡ Some kind → n ≡ op_code kind
+unfolding op_kind_of
+code_is n kind e = kind_with-is nat_eq op_code eqb-true n kind e
+
+pub code_below : (kind : OpKind) → op_code kind < 256
+code_below kind = ltb-true _ _ (every_kind (λ k. nat_lt (op_code k) 256) refl kind)
+
+pub version_is : (v w : Version) → is_version v w ≡ true → w ≡ v
+version_is One One e = refl
+version_is Two Two e = refl
+version_is v w e = cc
+
+pub version_here : (v : Version) → is_version v v ≡ true
+version_here One = refl
+version_here Two = refl
+
+-- ---- the fields of each kind
+
+-- the bytes told the fields of an operation of this kind
+record FieldsTaken (kind : OpKind) (bytes : List ℕ) (x : Op × List ℕ) : Type 0 where
+  kind-is : op_kind x.0 ≡ kind
+  taken : Takes bytes (field_bytes x.0) x.1
+  target : HasTarget x.0
+
+fields_read : (kind : OpKind) (bytes : List ℕ) → IsBytes bytes → Reads (FieldsTaken kind bytes) (fields_at kind bytes)
+unfolding fields_at stroke_at text_at target_at
+fields_read (kinds.Drawn figure) bytes fits = step _ (reads16 bytes fits) (λ a ta. step _ (reads16 a.1 ta.0.rest_fits) (λ b tb. step _ (reads16 b.1 tb.0.rest_fits) (λ c tc. step _ (reads16 c.1 tc.0.rest_fits) (λ d td. step _ (reads8 d.1 td.0.rest_fits) (λ g tg.
+    let all = Takes-then _ _ _ _ _ (Takes-then _ _ _ _ _ (Takes-then _ _ _ _ _ (Takes-then _ _ _ _ _ ta.0 tb.0) tc.0) td.0) tg.0 in
+    gives _ (record { kind-is = refl; taken = all; target = tt }))))))
+fields_read kinds.Text bytes fits = step _ (reads16 bytes fits) (λ x tx. step _ (reads16 x.1 tx.0.rest_fits) (λ y ty. step _ (reads8 y.1 ty.0.rest_fits) (λ n tn. checks _ _ _ refl (λ (enough : nat_le n.0 (length n.1) ≡ true).
+    let long : n.0 ≤ length n.1 = leb-true _ _ enough in
+    let text : List ℕ = take n.0 n.1 in
+    let len : length text ≡ n.0 = omega (arith, length-take n.0 n.1) in
+    let front : Takes n.1 text (drop n.0 n.1) = record { parts = sym (take-append-drop n.0 n.1); rest_fits = IsBytes-drop n.0 n.1 tn.0.rest_fits } in
+    let counted : Takes y.1 (length text ∷ []) n.1 = subst (λ (m : ℕ). Takes y.1 (m ∷ []) n.1) (sym len) tn.0 in
+    record { kind-is = refl; taken = Takes-then _ _ _ _ _ (Takes-then _ _ _ _ _ (Takes-then _ _ _ _ _ tx.0 ty.0) counted) front; target = tt }))))
+fields_read (kinds.Aimed change) bytes fits = step _ (reads32 bytes fits) (λ s ts. step _ (reads32 s.1 ts.0.rest_fits) (λ q tq. gives _ (record { kind-is = refl; taken = Takes-then _ _ _ _ _ ts.0 tq.0; target = (ts.1, tq.1) })))
+
+stroke_again : (figure : Figure) (s : Stroke) (rest : List ℕ) → IsStroke s → stroke_at figure (stroke_bytes s ++ rest) ≡ Ok (Drawn figure s, rest)
+unfolding stroke_at
+stroke_again figure s rest fits =
+    let a = to_be_bytes w16 s.x0 in
+    let b = to_be_bytes w16 s.y0 in
+    let c = to_be_bytes w16 s.x1 in
+    let d = to_be_bytes w16 s.y1 in
+    let regrouped : stroke_bytes s ++ rest ≡ a ++ (b ++ (c ++ (d ++ (s.glyph ∷ rest)))) = simp append_assoc in
+    ap (stroke_at figure) regrouped ∙ rw (again16 s.x0 (b ++ (c ++ (d ++ (s.glyph ∷ rest)))) (omega (arith, fits.x0-fits)), again16 s.y0 (c ++ (d ++ (s.glyph ∷ rest))) (omega (arith, fits.y0-fits)), again16 s.x1 (d ++ (s.glyph ∷ rest)) (omega (arith, fits.x1-fits)), again16 s.y1 (s.glyph ∷ rest) (omega (arith, fits.y1-fits))) refl
+
+text_again : (x y : ℕ) (text rest : List ℕ) → x < 2 ^ 16 → y < 2 ^ 16 → text_at (text_bytes x y text ++ rest) ≡ Ok (Text x y text, rest)
+unfolding text_at
+text_again x y text rest fx fy =
+    let a = to_be_bytes w16 x in
+    let b = to_be_bytes w16 y in
+    let regrouped : text_bytes x y text ++ rest ≡ a ++ (b ++ (length text ∷ (text ++ rest))) = simp append_assoc in
+    let long : nat_le (length text) (length (text ++ rest)) ≡ true = le-leb _ _ (omega (arith, length-append text rest)) in
+    ap text_at regrouped ∙ rw (again16 x (b ++ (length text ∷ (text ++ rest))) fx, again16 y (length text ∷ (text ++ rest)) fy, long, take_at text rest (length text) refl, drop_at text rest (length text) refl) refl
+
+target_again : (change : Change) (t : Target) (rest : List ℕ) → t.source < 2 ^ 32 → t.seq < 2 ^ 32 → target_at change (target_bytes t ++ rest) ≡ Ok (Aimed change t, rest)
+unfolding target_at
+target_again change t rest fs fq = ap (target_at change) (append_assoc (to_be_bytes w32 t.source) (to_be_bytes w32 t.seq) rest) ∙ rw (again32 t.source (to_be_bytes w32 t.seq ++ rest) fs, again32 t.seq rest fq) refl
+
+fields_again : (name : NameValue) (op : Op) (rest : List ℕ) → IsLawful name op → HasTarget op → fields_at (op_kind op) (field_bytes op ++ rest) ≡ Ok (op, rest)
+unfolding fields_at
+fields_again name (Drawn figure s) rest lawful target = stroke_again figure s rest (lawful_stroke s lawful)
+fields_again name (Text x y text) rest lawful target = let t = lawful_text x y text lawful in text_again x y text rest (omega (arith, t.x-fits)) (omega (arith, t.y-fits))
+fields_again name (Aimed change t) rest lawful target = target_again change t rest target.0 target.1
+
+-- ---- operations
+
+pub record OpTaken (version : Version) (bytes : List ℕ) (x : Op × List ℕ) : Type 0 where
+  pub taken : Takes bytes (op_bytes x.0) x.1
+  pub target : HasTarget x.0
+  pub kind : has_kind version (op_kind x.0) ≡ true
+
+told_reads : (version : Version) (o : Option OpKind) → Reads (λ kind. (o ≡ Some kind) × (has_kind version kind ≡ true)) (told_kind version o)
+told_reads version None = record { it = refl }
+told_reads version (Some kind) = checks _ _ kind refl (λ has. (refl, has))
+
+pub op_reads : (version : Version) (bytes : List ℕ) → IsBytes bytes → Reads (OpTaken version bytes) (op_at version bytes)
+unfolding op_at
+op_reads version bytes fits = step _ (reads8 bytes fits) (λ n tn. step _ (told_reads version (op_kind_of n.0)) (λ k told. weaker (fields_read k n.1 tn.0.rest_fits) (λ x t.
+    let number : n.0 ≡ op_code (op_kind x.0) = code_is n.0 k told.0 ∙ ap op_code (sym t.kind-is) in
+    record {
+      taken = Takes-then bytes (op_code (op_kind x.0) ∷ []) n.1 (field_bytes x.0) x.1 (subst (λ (m : ℕ). Takes bytes (m ∷ []) n.1) number tn.0) t.taken;
+      target = t.target;
+      kind = subst (λ (l : OpKind). has_kind version l ≡ true) (sym t.kind-is) told.1;
+    })))
+
+-- ---- the version of an operation
+
+-- each operation is told by one version
+pub one_version : (version : Version) (name : NameValue) (op : Op) → has_kind version (op_kind op) ≡ true → told_fault version name op ≡ None → (op_version op ≡ version) × IsLawful name op
+one_version version name (Drawn figure s) k e = (version_is version (first_version (kinds.Drawn figure)) k, e)
+one_version One name (Text x y text) k e =
+    let short : nat_le (length text) 40 ≡ true = grind (arith, nat_tests) in
+    (ap (λ (b : Bool). cond b One Two) short, grind (arith, nat_tests))
+one_version Two name (Text x y text) k e =
+    let long : nat_le (length text) 40 ≡ false = grind (arith, nat_tests) in
+    (ap (λ (b : Bool). cond b One Two) long, grind (arith, nat_tests))
+one_version version name (Aimed change t) k e = (version_is version (first_version (kinds.Aimed change)) k, e)
+
+-- what is lawful has no fault in its version
+pub told_again : (name : NameValue) (op : Op) → IsLawful name op → told_fault (op_version op) name op ≡ None
+told_again name (Drawn figure s) e = e
+told_again name (Text x y text) e = by_length (nat_le (length text) 40) refl where
+  by_length : (b : Bool) → nat_le (length text) 40 ≡ b → told_fault (cond b One Two) name (Text x y text) ≡ None
+  by_length true h = grind (arith, nat_tests)
+  by_length false h = grind (arith, nat_tests)
+told_again name (Aimed change t) e = e
+
+its_version : (op : Op) → has_kind (op_version op) (op_kind op) ≡ true
+its_version (Drawn figure s) = version_here (first_version (kinds.Drawn figure))
+its_version (Text x y text) = refl
+its_version (Aimed change t) = version_here (first_version (kinds.Aimed change))
+
+pub op_again : (name : NameValue) (op : Op) (rest : List ℕ) → IsLawful name op → HasTarget op → op_at (op_version op) (op_bytes op ++ rest) ≡ Ok (op, rest)
+unfolding op_at
+op_again name op rest lawful target =
+    let told : told_kind (op_version op) (op_kind_of (op_code (op_kind op))) ≡ Ok (op_kind op) =
+    ap (told_kind (op_version op)) (code_back (op_kind op)) ∙ ap (λ (b : Bool). require b OpKindFault (op_kind op)) (its_version op) in
+    ap (λ (r : Result OpKind ReadFault). r >>= λ kind. fields_at kind (field_bytes op ++ rest)) told ∙ fields_again name op rest lawful target
+
+-- ---- drawops
 
 pub seq_counted : (seq : ℕ) → seq_fault seq ≡ None → 1 ≤ seq
 seq_counted seq e = grind (arith, nat_tests)

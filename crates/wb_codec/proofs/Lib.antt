@@ -1,16 +1,11 @@
 pub mod Appending
-pub mod BodyLaws
+pub mod GrammarLaws
 pub mod Bytes
-pub mod Codes
 pub mod DrawopLaws
 pub mod EntryLaws
 pub mod EntryLists
 pub mod FieldLaws
 pub mod Lawful
-pub mod GrammarLaws
-pub mod LengthLaws
-pub mod OpLaws
 pub mod RowLaws
 pub mod SpelledBytes
 pub mod TooShort
-pub mod WholeLaws

@@ -25,7 +25,7 @@ use Rattle.wb_codec.specs.Ranges.{IsName, IsDrawop, HasTarget}
 use Rattle.wb_codec.specs.Rows.{row_words, row, op_words, text_word, text_words, op_word, pair_word}
 use Rattle.wb_codec.specs.RowReading.{high_half, low_half, code_in, byte_in, p_in, q_in, r_in, s_in, stroke_in, target_in, op_told, op_in}
 use Rattle.wb_codec.specs.Kinds.{op_code, op_kind_of}
-use Rattle.wb_codec.proofs.Codes.{code_back}
+use Rattle.wb_codec.proofs.DrawopLaws.{code_back}
 use Rattle.wb_codec.proofs.Bytes.{IsBytes, IsBytes-take, IsBytes-drop, IsBytes-append, IsBytes-zeros}
 use Rattle.wb_codec.proofs.Lawful.{IsText, lawful_stroke, lawful_text}
 

@@ -19,7 +19,7 @@ use Rattle.wb_codec.specs.declared.version.Version.TheVariants.{One, Two}
 use Rattle.wb_codec.specs.Ranges.{IsDatagram}
 use Rattle.wb_codec.specs.Kinds.{op_code}
 use Rattle.wb_codec.specs.Spelling.{page_bytes, name_bytes, stroke_bytes, target_bytes, field_bytes, op_bytes, mark_bytes, echo_bytes, body, kind_code, version_of, version_code, spelling}
-use Rattle.wb_codec.proofs.Codes.{code_below}
+use Rattle.wb_codec.proofs.DrawopLaws.{code_below}
 use Rattle.wb_codec.proofs.Lawful.{lawful_stroke, lawful_text}
 
 abbrev Below : List ℕ → Type 0

@@ -1,4 +1,4 @@
-use Rattle.wb_codec.proofs.WholeLaws.{prefix_short, longer_trails}
+use Rattle.wb_codec.proofs.GrammarLaws.{prefix_short, longer_trails}
 use Rattle.wb_codec.proofs.laws.only_whole_datagrams_are_read.Goals as goal
 
 pub returns-clause-short : goal.returns-clause-short

@@ -1,5 +1,4 @@
-use Rattle.wb_codec.proofs.GrammarLaws.{reading_again, one_datagram}
-use Rattle.wb_codec.proofs.WholeLaws.{spells_below}
+use Rattle.wb_codec.proofs.GrammarLaws.{reading_again, one_datagram, spells_below}
 use Rattle.wb_codec.proofs.laws.reading_undoes_spelling.Goals as goal
 
 pub returns-clause-reads : goal.returns-clause-reads

@@ -1,4 +1,4 @@
-use Rattle.wb_codec.proofs.LengthLaws.{session_length_of, page_state_length_of}
+use Rattle.wb_codec.proofs.GrammarLaws.{session_length_of, page_state_length_of}
 use Rattle.wb_codec.proofs.writing.body_len.Goals as goal
 
 pub returns-in-Session-clause-len : goal.returns-in-Session-clause-len
