@@ -6,7 +6,7 @@ use Rattle.wb_names.specs.Values.{NameValue, DrawopValue}
 use Rattle.wb_history.specs.declared.hand.Hand.{Hand}
 use Rattle.wb_history.specs.declared.cells.CellTable.{CellTable}
 use Rattle.wb_history.specs.Members.{Lacks, NamesOnce}
-use Rattle.wb_history.specs.Hands.{InOrder, Walked, AtEnd, FoundFree, Won, IsAnswer, Settled}
+use Rattle.wb_history.specs.Hands.{InOrder, Walked, AtEnd, FoundFree, Won, TellsNamesake, Settled}
 use Rattle.wb_history.specs.declared.hand.Claim.{Claim}
 use Rattle.wb_history.specs.declared.hand.Claim.TheVariants.{Added, Present, Clash}
 use Rattle.wb_history.specs.Seats.{SitsAt}
@@ -92,7 +92,7 @@ pub nearer : (t : CellTable) (h : Hand) (d : DrawopValue) (h' : Hand) → InOrde
 nearer t h d h' o s w =
     let a = ap length w.seen in let b = seen_within t h' w.order (sits_still t h (d ∷ []) 0 h' s w) in omega (arith, length-append h.seen.items (d ∷ []))
 
-pub settled : (h : Hand) (d : DrawopValue) (extra : ℕ) (h' : Hand) (c : Claim) (more : List DrawopValue) → Walked h more extra h' → IsAnswer h'.seen.items d c → Settled h d extra h' c
+pub settled : (h : Hand) (d : DrawopValue) (extra : ℕ) (h' : Hand) (c : Claim) (more : List DrawopValue) → Walked h more extra h' → TellsNamesake h'.seen.items d c → Settled h d extra h' c
 settled h d extra h' (Added i) more w a = absurd a
 settled h d extra h' (Present i) more w a = (more, w, a)
 settled h d extra h' (Clash i) more w a = (more, w, a)

@@ -5,7 +5,7 @@ ghost use Rattle.std.specs.Prelude.{◌≡◌, ℕ, ◌+◌, ◌*◌, ◌<◌, �
 ghost use mathlib.Core.Option.{some};
 ghost use lib.ListN.{get_elem?};
 ghost use Rattle.wb_names.specs.Values.{DrawopValue};
-ghost use Rattle.wb_history.specs.Hands.{InOrder, Walked, AtEnd, IsAnswer, Sought};
+ghost use Rattle.wb_history.specs.Hands.{InOrder, Walked, AtEnd, TellsNamesake, Sought};
 ghost use Rattle.wb_history.specs.Members.{Lacks};
 ghost use Rattle.wb_history.specs.Seats.{SitsAt, SameSeat};
 ghost use Rattle.wb_history.specs.Views.{IsMember};
@@ -27,7 +27,7 @@ pub(crate) fn is_namesake(member: &Drawop, drawop: &Drawop) -> bool
 /// The answer where the member at a place has the name of the drawop.
 pub(crate) fn answer(drawop: &Drawop, member: &Drawop, place: usize) -> Claim
     requires { (member.now.name ≡ drawop.now.name) × (place < 65536) }
-    ensures { (l : List DrawopValue) → get_elem? l place ≡ some member.now → IsAnswer l drawop.now result }
+    ensures { (l : List DrawopValue) → get_elem? l place ≡ some member.now → TellsNamesake l drawop.now result }
 {
     if member == drawop {
         Claim::Present(place as u32)

@@ -5,7 +5,7 @@ ghost use Rattle.std.specs.Prelude.{◌≡◌, ℕ, ◌+◌, ◌-◌, ◌*◌, �
 ghost use mathlib.Core.Option.{some};
 ghost use lib.ListN.{get_elem?};
 ghost use Rattle.wb_names.specs.Values.{DrawopValue};
-ghost use Rattle.wb_history.specs.Hands.{InOrder, Walked, Won, AtEnd, IsAnswer, Settled, Refused};
+ghost use Rattle.wb_history.specs.Hands.{InOrder, Walked, Won, AtEnd, TellsNamesake, Settled, Refused};
 ghost use Rattle.wb_history.specs.Members.{Lacks};
 ghost use Rattle.wb_codec.specs.Rows.{row as record_of};
 ghost use Rattle.wb_codec.specs.Ranges.{IsDrawop};
@@ -121,7 +121,7 @@ impl CellTable {
 /// The answer to a claim of a drawop whose name one of these members has.
 fn known(members: &Members, drawop: &Drawop) -> Option<Claim>
     requires { length members.now.items ≤ 65535 }
-    ensures { MatchOption result (Lacks members.now.items drawop.now.name) (λ c. IsAnswer members.now.items drawop.now c) }
+    ensures { MatchOption result (Lacks members.now.items drawop.now.name) (λ c. TellsNamesake members.now.items drawop.now c) }
 {
     let place = members.place_of(&drawop.name())?;
     Some(answer(drawop, &members.as_slice()[place], place))

@@ -46,14 +46,14 @@ abbrev pub AtEnd : ℕ → Hand → List DrawopValue → Hand → Type 0
 AtEnd cells h more h' = (Walked h more 1 h' × FoundFree h') ⊎ (Walked h more 0 h' × (length h'.seen.items ≡ cells))
 
 -- the list has the name of d: it has d, or another drawop of that name
-abbrev pub IsAnswer : List DrawopValue → DrawopValue → Claim → Type 0
-IsAnswer l d (Added i) = ⊥
-IsAnswer l d (Present i) = get_elem? l i ≡ some d
-IsAnswer l d (Clash i) = (e : DrawopValue) × (get_elem? l i ≡ some e) × (e.name ≡ d.name) × (e ≢ d)
+abbrev pub TellsNamesake : List DrawopValue → DrawopValue → Claim → Type 0
+TellsNamesake l d (Added i) = ⊥
+TellsNamesake l d (Present i) = get_elem? l i ≡ some d
+TellsNamesake l d (Clash i) = (e : DrawopValue) × (get_elem? l i ≡ some e) × (e.name ≡ d.name) × (e ≢ d)
 
 abbrev pub Sought : ℕ → Hand → DrawopValue → Hand → Option Claim → Type 0
 Sought cells h d h' None = (more : List DrawopValue) × AtEnd cells h more h' × Lacks h'.seen.items d.name
-Sought cells h d h' (Some c) = (more : List DrawopValue) × Walked h more 0 h' × IsAnswer h'.seen.items d c
+Sought cells h d h' (Some c) = (more : List DrawopValue) × Walked h more 0 h' × TellsNamesake h'.seen.items d c
 
 -- the hand after it has read these members and added d at a place
 pub record Won (h : Hand) (more : List DrawopValue) (d : DrawopValue) (place extra : ℕ) (h' : Hand) : Type 0 where
@@ -71,8 +71,8 @@ pub record Won (h : Hand) (more : List DrawopValue) (d : DrawopValue) (place ext
 -- the claim of d is settled: it was added, or a member has its name
 abbrev pub Settled : Hand → DrawopValue → ℕ → Hand → Claim → Type 0
 Settled h d extra h' (Added i) = (more : List DrawopValue) × Won h more d i (extra + 1) h'
-Settled h d extra h' (Present i) = (more : List DrawopValue) × Walked h more extra h' × IsAnswer h'.seen.items d (Present i)
-Settled h d extra h' (Clash i) = (more : List DrawopValue) × Walked h more extra h' × IsAnswer h'.seen.items d (Clash i)
+Settled h d extra h' (Present i) = (more : List DrawopValue) × Walked h more extra h' × TellsNamesake h'.seen.items d (Present i)
+Settled h d extra h' (Clash i) = (more : List DrawopValue) × Walked h more extra h' × TellsNamesake h'.seen.items d (Clash i)
 
 -- a claim of d was refused: the pass has no free row and has read to the end, where no member has the name; or memory ran out
 abbrev pub Refused : ℕ → Hand → DrawopValue → Hand → ClaimFault → Type 0
