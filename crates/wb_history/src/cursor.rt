@@ -1,17 +1,14 @@
-//! The parts of a pass, and the answers to a claim.
-ghost use Rattle.std.specs.Prelude.{◌≡◌};
-
-use crate::cells::Chair;
+//! A cursor: the part of a pass that reads on and adds.
+use crate::cells::HistorySeat;
 use crate::members::Members;
 use crate::ranges::Rows;
-use thiserror::Error;
 
-/// A seat at the table of a history, and lists of what it knows. The proofs see that the lists are
-/// what the seat knows; no clause outside this crate speaks of a hand.
+/// A seat at the table of a history, with lists of what the seat knows. It reads on after the last
+/// member that it has seen, and adds there. No clause outside this crate speaks of a cursor.
 #[derive(Drop)]
-pub(crate) struct Hand {
+pub(crate) struct Cursor {
     /// The token that steps on words.
-    pub(crate) seat: Chair,
+    pub(crate) seat: HistorySeat,
     /// The members that it has seen.
     pub(crate) seen: Members,
     /// The places that it added, as they were gained.
@@ -20,40 +17,4 @@ pub(crate) struct Hand {
     pub(crate) free: Rows,
     /// The steps on words of the last claim or refresh.
     pub(crate) steps: u32,
-}
-
-/// The answer to a claim, with the place of the member that has the name.
-#[derive(Clone, Copy, Debug, PartialEq, Eq)]
-pub enum Claim {
-    /// The drawop was new, and stands at this place now.
-    Added(u32),
-    /// The same drawop stands at this place already.
-    Present(u32),
-    /// Another drawop of that name stands at this place, and stays.
-    Clash(u32),
-}
-
-/// Why a drawop was not claimed.
-#[derive(Clone, Copy, Debug, PartialEq, Eq, Error)]
-pub enum ClaimFault {
-    /// The pass has no free row, and the name stands nowhere in the history.
-    #[error("no free row")]
-    NoRow,
-    /// A growth was refused.
-    #[error("out of memory")]
-    Memory,
-}
-
-impl ClaimFault {
-    ghost use Rattle.wb_history.specs.Faults.{claim_code};
-
-    /// The number of the fault, from 1.
-    pub fn code(&self) -> u32
-        ensures { result ≡ claim_code self.now }
-    {
-        match self {
-            ClaimFault::NoRow => 1,
-            ClaimFault::Memory => 2,
-        }
-    }
 }
