@@ -1,5 +1,5 @@
 use Rattle.wb_history.specs.Sizes.{row_words, member_steps}
-use Rattle.std.proofs.Common.{◌+◌, [], ◌++◌, length, ap, arith, subst, Option}
+use Rattle.std.proofs.Common.{◌+◌, [], ◌++◌, arith, subst, Option}
 use Rattle.wb_history.specs.declared.claim.Claim.{Claim}
 use Rattle.wb_history.specs.Cursors.{Sought}
 use Rattle.wb_history.proofs.Lists.{at-lt}
