@@ -15,7 +15,7 @@ use Rattle.wb_history.specs.Passes.{PassValue, IsSound, IsWhole}
 use Rattle.wb_host.specs.declared.reply.Reply.{Reply}
 use Rattle.wb_host.specs.declared.reply.Reply.TheVariants.{New, Again, Clash}
 use Rattle.wb_host.specs.Replies.{IsReply}
-use Rattle.wb_host.specs.Board.{Call, Accept, Answer, Replied, Step, IsAnswer, history_after, IsLegalFrom}
+use Rattle.wb_host.specs.Board.{Call, Accept, Answer, Replied, Step, IsAnswer, after_call, IsLegalFrom}
 use Rattle.wb_host.specs.Replies.{outcome}
 use Rattle.wb_host.specs.Runs.{Told, AreToldSince, Precedes, IsToldSince, is_new_at, rank, placed, in_order, end_of, IsOneRun, OneRun, run_of}
 use Rattle.wb_feed.specs.declared.batch.Batch.{Batch}
@@ -236,15 +236,15 @@ batch_is_one_run law n p given q sp wp sq s =
 
 -- ---- one thread takes the drawops in the order of the run
 
-one_longer : (h : List DrawopValue) (call : Call) (answer : Answer) → length h ≤ length (history_after h call answer)
+one_longer : (h : List DrawopValue) (call : Call) (answer : Answer) → length h ≤ length (after_call h call answer)
 one_longer h (Accept d) (Replied (New i)) = omega (arith, length-append h (d ∷ []))
 one_longer h call answer = omega arith
 
 longer : (h : List DrawopValue) (steps : List Step) → length h ≤ length (end_of h steps)
 longer h [] = omega arith
-longer h (s ∷ ss) = omega (arith, one_longer h s.call s.answer, longer (history_after h s.call s.answer) ss)
+longer h (s ∷ ss) = omega (arith, one_longer h s.call s.answer, longer (after_call h s.call s.answer) ss)
 
-one_taken : (cells : ℕ) (h end : List DrawopValue) (d : DrawopValue) (reply : Reply) (es : List Entry) → IsReply h d reply → length (history_after h (Accept d) (Replied reply)) ≤ cells → AreTaken cells (history_after h (Accept d) (Replied reply)) (drawops es) (outcomes es) end
+one_taken : (cells : ℕ) (h end : List DrawopValue) (d : DrawopValue) (reply : Reply) (es : List Entry) → IsReply h d reply → length (after_call h (Accept d) (Replied reply)) ≤ cells → AreTaken cells (after_call h (Accept d) (Replied reply)) (drawops es) (outcomes es) end
     → AreTaken cells h (d ∷ drawops es) (outcome reply ∷ outcomes es) end
 one_taken cells h end d (New i) es a le rest = ((a, omega (arith, le, length-append h (d ∷ []))), rest)
 one_taken cells h end d (Again i) es a le rest = (a, rest)
@@ -255,11 +255,11 @@ legal_taken : (cells : ℕ) (h : List DrawopValue) (k : ℕ) (By : ℕ → Type 
 legal_taken cells h k By g [] all legal le = refl
 legal_taken cells h k By g (t ∷ ts) all legal le =
     let one = All-head (IsOne g k By) t ts all in
-    let after = history_after h t.step.call t.step.answer in
+    let after = after_call h t.step.call t.step.answer in
     let end = end_of after (map (λ t. t.step) ts) in
     let rest = legal_taken cells after k By g ts (All-tail (IsOne g k By) t ts all) legal.1 le in
     let room : length after ≤ cells = omega (arith, le, longer after (map (λ t. t.step) ts)) in
-    let Takes : Call → Answer → Type 0 = λ call answer. IsAnswer h call answer → length (history_after h call answer) ≤ cells → AreTaken cells (history_after h call answer) (drawops (map entry ts)) (outcomes (map entry ts)) end
+    let Takes : Call → Answer → Type 0 = λ call answer. IsAnswer h call answer → length (after_call h call answer) ≤ cells → AreTaken cells (after_call h call answer) (drawops (map entry ts)) (outcomes (map entry ts)) end
     → AreTaken cells h (drawop_in call ∷ drawops (map entry ts)) (outcome_in answer ∷ outcomes (map entry ts)) end in
     let here : Takes (Accept one.drawop) (Replied one.reply) = one_taken cells h end one.drawop one.reply (map entry ts) in
     subst (λ (x : Call × Answer). Takes x.0 x.1) (λ i. (sym one.call i, sym one.answer i)) here legal.0 room rest

@@ -46,69 +46,68 @@ lacking_below m ms (n ∷ ns) above =
     let c : absent (mark_of (m ∷ ms) n.source) ≡ absent (mark_of ms n.source) = ap absent same in
     omega arith
 
--- what is known of a merge of two ascending lists
-pub record Joins (ms ns marks : List MarkValue) : Type 0 where
+-- what is known of the marks of two ascending lists, taken together
+pub record Merges (ms ns marks : List MarkValue) : Type 0 where
   pub highs : (s : ℕ) → mark_of marks s ≡ max (mark_of ms s) (mark_of ns s)
   pub above : (b : ℕ) → Above b ms → Above b ns → Above b marks
   pub rises : Rises marks
+  pub positive : Positive ms → Positive ns → Positive marks
+
+-- and how many there are
+pub record Joins (ms ns marks : List MarkValue) : Type 0 where
+  pub merges : Merges ms ns marks
+  pub open merges use *
   pub count : length marks ≡ source_count ms ns
 
+turned : (ms ns marks : List MarkValue) → Merges ms ns marks → Merges ns ms marks
+turned ms ns marks j = record { highs = λ s. let e = j.highs s in omega arith; above = λ b p q. j.above b q p; rises = j.rises; positive = λ pm pn. j.positive pn pm }
+
 joins_none : (ns : List MarkValue) → Rises ns → Joins [] ns ns
-joins_none ns up = record { highs = λ s. omega arith; above = λ b a c. c; rises = up; count = let e = lacking_none ns in omega arith }
+joins_none ns un = record { merges = record { highs = λ s. omega arith; above = λ b a c. c; rises = un; positive = λ pm pn. pn }; count = let e = lacking_none ns in omega arith }
 
 joins_all : (ms : List MarkValue) → Rises ms → Joins ms [] ms
-joins_all ms up = record { highs = λ s. omega arith; above = λ b a c. a; rises = up; count = omega arith }
+joins_all ms um = record { merges = record { highs = λ s. omega arith; above = λ b a c. a; rises = um; positive = λ pm pn. pm }; count = omega arith }
+
+-- a mark below the first of a list is below all of it
+below : (m n : MarkValue) (ns : List MarkValue) → m.source < n.source → Rises (n ∷ ns) → Above m.source (n ∷ ns)
+below m n ns lt un = All-cons (λ (k : MarkValue). m.source < k.source) n ns lt (above_less m.source n.source ns (omega arith) (rest_above n ns un))
+
+merges_first : (m n : MarkValue) (ms ns marks : List MarkValue) → m.source < n.source → Rises (m ∷ ms) → Rises (n ∷ ns) → Merges ms (n ∷ ns) marks → Merges (m ∷ ms) (n ∷ ns) (m ∷ marks)
+merges_first m n ms ns marks lt um un j = record {
+  highs = λ s. ⊎_elim
+      (λ (e : m.source ≡ s).
+      let a = here m marks s e in
+      let b = here m ms s e in
+      let c = none_above (n ∷ ns) s (above_less s m.source (n ∷ ns) (omega arith) (below m n ns lt un)) in
+      omega arith)
+      (λ (other : m.source ≢ s).
+      let a = there m marks s other in
+      let b = there m ms s other in
+      let c = j.highs s in
+      omega arith)
+      (same_or_not m.source s);
+  above = λ b p q. All-cons (λ (k : MarkValue). b < k.source) m marks (All-head (λ (k : MarkValue). b < k.source) m ms p) (j.above b (All-tail (λ (k : MarkValue). b < k.source) m ms p) q);
+  rises = AllPairs-cons (λ (k l : MarkValue). k.source < l.source) m marks (j.above m.source (rest_above m ms um) (below m n ns lt un)) j.rises;
+  positive = λ pm pn. All-cons (λ (k : MarkValue). 1 ≤ k.high) m marks (All-head (λ (k : MarkValue). 1 ≤ k.high) m ms pm) (j.positive (All-tail (λ (k : MarkValue). 1 ≤ k.high) m ms pm) pn);
+}
 
 joins_first : (m n : MarkValue) (ms ns marks : List MarkValue) → m.source < n.source → Rises (m ∷ ms) → Rises (n ∷ ns) → Joins ms (n ∷ ns) marks → Joins (m ∷ ms) (n ∷ ns) (m ∷ marks)
-joins_first m n ms ns marks lt um un j =
-    let below : Above m.source (n ∷ ns) = All-cons (λ (k : MarkValue). m.source < k.source) n ns lt (above_less m.source n.source ns (omega arith) (rest_above n ns un)) in
-    record {
-      highs = λ s. ⊎_elim
-          (λ (e : m.source ≡ s).
-          let a = here m marks s e in
-          let b = here m ms s e in
-          let c = none_above (n ∷ ns) s (above_less s m.source (n ∷ ns) (omega arith) below) in
-          omega arith)
-          (λ (other : m.source ≢ s).
-          let a = there m marks s other in
-          let b = there m ms s other in
-          let c = j.highs s in
-          omega arith)
-          (same_or_not m.source s);
-      above = λ b p q. All-cons (λ (k : MarkValue). b < k.source) m marks (All-head (λ (k : MarkValue). b < k.source) m ms p) (j.above b (All-tail (λ (k : MarkValue). b < k.source) m ms p) q);
-      rises = AllPairs-cons (λ (k l : MarkValue). k.source < l.source) m marks (j.above m.source (rest_above m ms um) below) j.rises;
-      count = let a = j.count in let b = lacking_below m ms (n ∷ ns) below in omega arith;
-    }
+joins_first m n ms ns marks lt um un j = record { merges = merges_first m n ms ns marks lt um un j.merges; count = let a = j.count in let b = lacking_below m ms (n ∷ ns) (below m n ns lt un) in omega arith }
 
 joins_second : (m n : MarkValue) (ms ns marks : List MarkValue) → n.source < m.source → Rises (m ∷ ms) → Rises (n ∷ ns) → Joins (m ∷ ms) ns marks → Joins (m ∷ ms) (n ∷ ns) (n ∷ marks)
-joins_second m n ms ns marks lt um un j =
-    let below : Above n.source (m ∷ ms) = All-cons (λ (k : MarkValue). n.source < k.source) m ms lt (above_less n.source m.source ms (omega arith) (rest_above m ms um)) in
-    record {
-      highs = λ s. ⊎_elim
-          (λ (e : n.source ≡ s).
-          let a = here n marks s e in
-          let b = here n ns s e in
-          let c = none_above (m ∷ ms) s (above_less s n.source (m ∷ ms) (omega arith) below) in
-          omega arith)
-          (λ (other : n.source ≢ s).
-          let a = there n marks s other in
-          let b = there n ns s other in
-          let c = j.highs s in
-          omega arith)
-          (same_or_not n.source s);
-      above = λ b p q. All-cons (λ (k : MarkValue). b < k.source) n marks (All-head (λ (k : MarkValue). b < k.source) n ns q) (j.above b p (All-tail (λ (k : MarkValue). b < k.source) n ns q));
-      rises = AllPairs-cons (λ (k l : MarkValue). k.source < l.source) n marks (j.above n.source below (rest_above n ns un)) j.rises;
-      count =
-          let a = j.count in
-          let b = lacking_step (m ∷ ms) ns n in
-          let c : absent (mark_of (m ∷ ms) n.source) ≡ 1 = ap absent (none_above (m ∷ ms) n.source below) in
-          omega arith;
-    }
+joins_second m n ms ns marks lt um un j = record {
+  merges = turned (n ∷ ns) (m ∷ ms) (n ∷ marks) (merges_first n m ns ms marks lt un um (turned (m ∷ ms) ns marks j.merges));
+  count =
+      let a = j.count in
+      let b = lacking_step (m ∷ ms) ns n in
+      let c : absent (mark_of (m ∷ ms) n.source) ≡ 1 = ap absent (none_above (m ∷ ms) n.source (below n m ms lt um)) in
+      omega arith;
+}
 
 joins_both : (m n : MarkValue) (ms ns marks : List MarkValue) → m.source ≡ n.source → Rises (m ∷ ms) → Rises (n ∷ ns) → 1 ≤ m.high → Joins ms ns marks → Joins (m ∷ ms) (n ∷ ns) (greater m n ∷ marks)
 joins_both m n ms ns marks same um un pos j =
-    let below : Above m.source ns = above_less m.source n.source ns (omega arith) (rest_above n ns un) in
-    record {
+    let low : Above m.source ns = above_less m.source n.source ns (omega arith) (rest_above n ns un) in
+    let merges : Merges (m ∷ ms) (n ∷ ns) (greater m n ∷ marks) = record {
       highs = λ s. ⊎_elim
           (λ (e : m.source ≡ s).
           let a = here (greater m n) marks s e in
@@ -123,14 +122,14 @@ joins_both m n ms ns marks same um un pos j =
           omega arith)
           (same_or_not m.source s);
       above = λ b p q. All-cons (λ (k : MarkValue). b < k.source) (greater m n) marks (All-head (λ (k : MarkValue). b < k.source) m ms p) (j.above b (All-tail (λ (k : MarkValue). b < k.source) m ms p) (All-tail (λ (k : MarkValue). b < k.source) n ns q));
-      rises = AllPairs-cons (λ (k l : MarkValue). k.source < l.source) (greater m n) marks (j.above m.source (rest_above m ms um) below) j.rises;
-      count =
-          let a = j.count in
-          let b = lacking_step (m ∷ ms) ns n in
-          let c : absent (mark_of (m ∷ ms) n.source) ≡ 0 = ap absent (here m ms n.source same) ∙ absent_some m.high pos in
-          let d = lacking_below m ms ns below in
-          omega arith;
-    }
+      rises = AllPairs-cons (λ (k l : MarkValue). k.source < l.source) (greater m n) marks (j.above m.source (rest_above m ms um) low) j.rises;
+      positive = λ pm pn. All-cons (λ (k : MarkValue). 1 ≤ k.high) (greater m n) marks (omega arith) (j.positive (All-tail (λ (k : MarkValue). 1 ≤ k.high) m ms pm) (All-tail (λ (k : MarkValue). 1 ≤ k.high) n ns pn));
+    } in
+    let a = j.count in
+    let b = lacking_step (m ∷ ms) ns n in
+    let c : absent (mark_of (m ∷ ms) n.source) ≡ 0 = ap absent (here m ms n.source same) ∙ absent_some m.high pos in
+    let d = lacking_below m ms ns low in
+    record { merges = merges; count = omega arith }
 
 -- the three cases of the walk at two first marks
 at_first : (m n : MarkValue) (ms ns : List MarkValue) (rest : List MarkValue → List MarkValue) → m.source < n.source → joined_at m ms rest (n ∷ ns) ≡ m ∷ rest (n ∷ ns)
@@ -164,22 +163,6 @@ pub joins : (ms : List MarkValue) → Rises ms → Positive ms → (ns : List Ma
 joins [] um pm ns un = joins_none ns un
 joins (m ∷ ms) um pm ns un = joins_at m ms um (All-head (λ (k : MarkValue). 1 ≤ k.high) m ms pm) (joins ms (rest_rises m ms um) (All-tail (λ (k : MarkValue). 1 ≤ k.high) m ms pm)) ns un
 
-positive_at : (m : MarkValue) (ms : List MarkValue) (rest : List MarkValue → List MarkValue) → 1 ≤ m.high → Positive ms → ((ns : List MarkValue) → Positive ns → Positive (rest ns)) → (ns : List MarkValue) → Positive ns → Positive (joined_at m ms rest ns)
-positive_at m ms rest pos pm pr [] pn = All-cons (λ (k : MarkValue). 1 ≤ k.high) m ms pos pm
-positive_at m ms rest pos pm pr (n ∷ ns) pn =
-    let more = All-tail (λ (k : MarkValue). 1 ≤ k.high) n ns pn in
-    elim (nat_lt m.source n.source) as (λ b. Positive (cond b (m ∷ rest (n ∷ ns)) (cond (nat_lt n.source m.source) (n ∷ joined_at m ms rest ns) (greater m n ∷ rest ns)))) [
-      | true ↦ All-cons (λ (k : MarkValue). 1 ≤ k.high) m _ pos (pr (n ∷ ns) pn)
-      | false ↦ elim (nat_lt n.source m.source) as (λ b. Positive (cond b (n ∷ joined_at m ms rest ns) (greater m n ∷ rest ns))) [
-        | true ↦ All-cons (λ (k : MarkValue). 1 ≤ k.high) n _ (All-head (λ (k : MarkValue). 1 ≤ k.high) n ns pn) (positive_at m ms rest pos pm pr ns more)
-        | false ↦ All-cons (λ (k : MarkValue). 1 ≤ k.high) (greater m n) _ (omega arith) (pr ns more)
-      ]
-    ]
-
-pub positive_joined : (ms : List MarkValue) → Positive ms → (ns : List MarkValue) → Positive ns → Positive (joined ms ns)
-positive_joined [] pm ns pn = pn
-positive_joined (m ∷ ms) pm ns pn = positive_at m ms (joined ms) (All-head (λ (k : MarkValue). 1 ≤ k.high) m ms pm) (All-tail (λ (k : MarkValue). 1 ≤ k.high) m ms pm) (positive_joined ms (All-tail (λ (k : MarkValue). 1 ≤ k.high) m ms pm)) ns pn
-
 -- where the second list has ended, the first one is what is left
 pub joined_alone : (xs ys : List MarkValue) (m : MarkValue) (ms : List MarkValue) → xs ≡ m ∷ ms → length ys ≡ 0 → joined xs ys ≡ m ∷ joined ms ys
 joined_alone xs [] m ms e none = ap (λ (zs : List MarkValue). joined zs []) e ∙ ap (λ (zs : List MarkValue). m ∷ zs) (sym (with_none ms)) where
@@ -210,11 +193,7 @@ pub joined_marks : (a b first second items : List MarkValue) → first ≡ a →
 joined_marks a b first second items p q la lb made few =
     let j = joins_read a b first second items p q la lb made in
     let count = j.count in
-    record {
-      ascending = j.rises;
-      positive = subst Positive (sym made) (positive_joined first (subst AreMarks (sym p) la).positive second (subst AreMarks (sym q) lb).positive);
-      few = omega arith;
-    }
+    record { ascending = j.rises; positive = j.positive (subst AreMarks (sym p) la).positive (subst AreMarks (sym q) lb).positive; few = omega arith }
 
 -- and they are the merge
 pub is_merge : (a b first second items marks : List MarkValue) → first ≡ a → second ≡ b → AreMarks a → AreMarks b → items ≡ joined first second → marks ≡ items → AreMarks marks → IsMerge a b marks

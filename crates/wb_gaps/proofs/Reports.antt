@@ -17,7 +17,7 @@ use Rattle.wb_gaps.specs.Numbers.{HasNumber}
 use Rattle.wb_gaps.proofs.HeldNumbers.{same_page-here}
 use Rattle.wb_gaps.proofs.GreatestNumbers.{one_greatest}
 use Rattle.wb_gaps.proofs.SingleRuns.{single_has}
-use Rattle.wb_gaps.specs.declared.held.Number.{Number}
+use Rattle.wb_gaps.specs.declared.held.SourceNumber.{SourceNumber}
 use Rattle.wb_gaps.specs.declared.run.Run.{Run}
 
 pub held_here : (d : DrawopValue) (history : List DrawopValue) (page : PageId) (source : ℕ) → is_of page source d ≡ true → IsHeld (d ∷ history) page source d.name.seq
@@ -88,7 +88,7 @@ report_of_runs history page runs marks of tops few =
     (record { ascending = tops.ascending; positive = tops.positive; few = omega arith }, highest_from_marks history page runs marks of tops)
 
 -- where the greatest of each source's numbers is the greatest that is held, their marks are the report
-pub is_report : (history : List DrawopValue) (page : PageId) (numbers : List Number) (runs : List Run) (marks : List MarkValue) → HasGreatest history page numbers → runs ≡ map single numbers → AreGreatest runs marks → length numbers ≤ length history → length history ≤ 65535 → IsReport history page marks
+pub is_report : (history : List DrawopValue) (page : PageId) (numbers : List SourceNumber) (runs : List Run) (marks : List MarkValue) → HasGreatest history page numbers → runs ≡ map single numbers → AreGreatest runs marks → length numbers ≤ length history → length history ≤ 65535 → IsReport history page marks
 is_report history page numbers runs marks has is tops short few =
     let fewer = tops.few in
     let same : length runs ≡ length numbers = ap length is ∙ length-map numbers single in (

@@ -3,7 +3,7 @@ use Rattle.std.specs.Prelude.{◌≡◌, ℕ, ◌<◌, ◌≤◌, ◌⊎◌, ◌
 use Rattle.wb_names.specs.Values.{DrawopValue}
 use Rattle.wb_names.specs.History.{IsHeld}
 use Rattle.wb_names.specs.declared.name.PageId.{PageId}
-use Rattle.wb_gaps.specs.declared.held.Number.{Number}
+use Rattle.wb_gaps.specs.declared.held.SourceNumber.{SourceNumber}
 use Rattle.wb_gaps.specs.Starts.{run_of}
 use Rattle.wb_gaps.specs.declared.run.Run.{Run}
 use Rattle.wb_gaps.specs.declared.run.Runs.{Runs}
@@ -29,7 +29,7 @@ pub record AreRunsOf (history : List DrawopValue) (page : PageId) (runs : List R
   pub held : (source n : ℕ) → InRuns runs source n ↔ IsHeld history page source n
 
 -- a run of one number
-abbrev pub single : Number → Run
+abbrev pub single : SourceNumber → Run
 single n = record { source = n.source; first = n.seq; last = n.seq }
 
 -- what is left of runs: ranges that are kept, or numbers

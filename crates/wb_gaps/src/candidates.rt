@@ -5,7 +5,7 @@ ghost use Rattle.std.specs.List.Sorted.{IsStrictlySortedBy};
 ghost use Rattle.wb_gaps.specs.Candidates.{HasGreatest, IsTakenIn};
 ghost use Rattle.wb_gaps.specs.Numbers.{number_cmp};
 
-use crate::held::Number;
+use crate::held::SourceNumber;
 use std::alloc::{AllocError, Global};
 use wb_names::{Drawop, PageId};
 
@@ -15,7 +15,11 @@ const PLACES: usize = 256;
 /// Raises the number at this place to the given one where it is of the same source, and otherwise adds
 /// the given one. The result is the place that now has a number of this source.
 #[inline(always)]
-fn take_in(held: &mut Vec<Number>, place: usize, number: Number) -> Result<usize, AllocError>
+fn take_in(
+    held: &mut Vec<SourceNumber>,
+    place: usize,
+    number: SourceNumber,
+) -> Result<usize, AllocError>
     ensures { OnOk result (IsTakenIn number held.old.items held.new.items) }
 {
     if let Some(standing) = held.get_mut(place) {
@@ -36,7 +40,7 @@ pub(crate) fn candidates(
     alloc: Global,
     list: &[Drawop],
     page: PageId,
-) -> Result<Vec<Number>, AllocError>
+) -> Result<Vec<SourceNumber>, AllocError>
     ensures rising { IfOk result (λ numbers. IsStrictlySortedBy number_cmp numbers.items) }
     ensures greatest { IfOk result (λ numbers. HasGreatest list.now page numbers.items) }
     ensures positive { IfOk result (λ numbers. All (λ n. 1 ≤ n.seq) numbers.items) }
@@ -47,7 +51,7 @@ pub(crate) fn candidates(
     for drawop in list {
         let name = drawop.name();
         if name.page() == page {
-            let number = Number {
+            let number = SourceNumber {
                 source: name.source(),
                 seq: name.seq(),
             };

@@ -9,7 +9,7 @@ use wb_names::{Drawop, PageId};
 
 /// A number that a source has used on some page. Numbers are ordered by source, then by number.
 #[derive(Clone, Copy, PartialEq, Eq)]
-pub(crate) struct Number {
+pub(crate) struct SourceNumber {
     pub(crate) source: u32,
     pub(crate) seq: u32,
 }
@@ -17,7 +17,7 @@ pub(crate) struct Number {
 /// How many numbers of 32 bits there are.
 pub(crate) const SPAN: u64 = 1 << 32;
 
-impl Number {
+impl SourceNumber {
     /// Source and number in one word, which compares in one step.
     #[inline(always)]
     fn word(&self) -> u64
@@ -29,7 +29,7 @@ impl Number {
 
     /// The order of numbers, which is that of their words.
     #[inline(always)]
-    pub(crate) fn order(&self, other: &Number) -> Ordering
+    pub(crate) fn order(&self, other: &SourceNumber) -> Ordering
         ensures { result ≡ number_cmp self.now other.now }
     {
         self.word().cmp(&other.word())
@@ -41,7 +41,7 @@ pub(crate) fn numbers(
     alloc: Global,
     list: &[Drawop],
     page: PageId,
-) -> Result<Vec<Number>, AllocError>
+) -> Result<Vec<SourceNumber>, AllocError>
     ensures numbers { IfOk result (λ numbers. AreNumbers list.now page numbers.items) }
     ensures positive { IfOk result (λ numbers. All (λ n. 1 ≤ n.seq) numbers.items) }
     ensures few { IfOk result (λ numbers. length numbers.items ≤ length list.now) }
@@ -50,7 +50,7 @@ pub(crate) fn numbers(
     for drawop in list {
         let name = drawop.name();
         if name.page() == page {
-            held.push(Number {
+            held.push(SourceNumber {
                 source: name.source(),
                 seq: name.seq(),
             })?;

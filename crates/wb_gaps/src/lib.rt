@@ -2,11 +2,11 @@
 //!
 //! Members of a whiteboard find their losses by comparing what they hold with what others report. For a
 //! list of drawops this crate answers which pages it has (`page_list`), the greatest number of each
-//! source on a page (`page_report`), and which numbers are missing on
-//! a page (`missing`); and it merges what two members reported (`merged`). Each answer is a walk over
-//! ascending runs of numbers (`run`), of which gaps want all that the page holds (`held`) and a report
-//! those that may be the greatest of their source (`candidates`), the last of each source (`highest`), or
-//! two lists of marks taken as one (`joined`).
+//! source on a page (`page_report`) and on each of its pages (`page_reports`), and which numbers are
+//! missing on a page (`missing`), found one by one (`walk`); and it merges what two members reported
+//! (`merged`). Each answer is a walk over ascending runs of numbers (`run`), of which gaps want all that
+//! the page holds (`held`) and a report those that may be the greatest of their source (`candidates`), the
+//! last of each source (`highest`), or two lists of marks taken as one (`joined`).
 //!
 //! Who takes in drawops one by one keeps what is held as ranges of numbers (`holdings`), which answer the
 //! same questions by the same walk (`asked`), at the cost of what a page has of ranges.

@@ -3,7 +3,7 @@
 ghost use Rattle.std.specs.Prelude.{◌≡◌, [], ◌∷◌, MatchOption};
 ghost use Rattle.wb_gaps.specs.Runs.{runs_left};
 
-use crate::held::Number;
+use crate::held::SourceNumber;
 use crate::holdings::Start;
 use std::collections::btree_map::Range;
 
@@ -20,7 +20,7 @@ pub(crate) struct Run {
 #[derive(Drop)]
 pub(crate) enum Runs<'a> {
     Kept(Range<'a, Start, u32>),
-    Listed(&'a [Number]),
+    Listed(&'a [SourceNumber]),
 }
 
 impl Runs<'_> {

@@ -21,6 +21,7 @@ use Rattle.wb_history.specs.Views.{OwnsAll, after_look, after_read, after_member
 use Rattle.wb_history.specs.Lawful.{address, Knows, Lawful, Sane}
 use Rattle.wb_history.specs.Plays.{Known, looked, read_word, read_last, stored_word, published, confirmed}
 use Rattle.wb_codec.proofs.RowLaws.{row_length}
+use Rattle.wb_history.proofs.Rows.{nothing_remembered}
 use Rattle.wb_history.proofs.Lists.{at-lt, at_same, at_nothing, at_some, at_append, at_end, at_map_back, once_append, once_one, once_take, same_list, starts-le, starts_more, next_member, starts_whole, there, few, at_take, both_start}
 
 abbrev Board : Type 0
@@ -125,14 +126,7 @@ module _ (cells : ℕ) (s : Board) (r : Lawful cells s) where
     log = r.log;
     rows = r.rows;
     owner = r.owner;
-    wide = r.wide;
-    long = r.long;
-    filled = r.filled;
-    unfilled = r.unfilled;
-    rows_once = r.rows_once;
-    records = r.records;
-    valid = r.valid;
-    names_once = r.names_once;
+    history = r.history;
     seated = λ q. let a = r.seated q in omega (arith, length-set s.views me w);
     each_pass = seats (Knows cells s.words r.log r.rows r.owner) s.views me w known (λ j u _ e. r.each_pass j u e);
   }
@@ -141,17 +135,13 @@ module _ (cells : ℕ) (s : Board) (r : Lawful cells s) where
 looking_at : (cells : ℕ) (words : List ℕ) (log : List DrawopValue) (rows : List ℕ) (owner : ℕ → ℕ) (j : ℕ) (v : Knowledge) → Knows cells words log rows owner j v → (word found : ℕ)
     → (found ≡ 0) ⊎ ((q : ℕ) × (get_elem? rows (length v.seen) ≡ some q) × (q < cells) × (found ≡ suc q)) → Knows cells words log rows owner j (after_look v word found)
 looking_at cells words log rows owner j v known word found holds = record {
-  sized = known.sized;
-  begins = known.begins;
-  told = known.told;
-  free_is = known.free_is;
-  free_once = known.free_once;
-  mine_is = known.mine_is;
-  mine_once = known.mine_once;
-  mine_all = known.mine_all;
-  looks = λ h. ⊎_elim (λ z. absurd (omega arith)) (λ t. let e = t.3 in let back : t.0 ≡ found - 1 = omega arith in t.1 ∙ ap some back) holds;
-  reads = λ k n e. absurd (at_nothing k n e);
-  stores = λ k n q e. absurd (at_nothing k n e);
+  sees = known.sees;
+  owns = known.owns;
+  remembers = record {
+    looks = λ h. ⊎_elim (λ z. absurd (omega arith)) (λ t. let e = t.3 in let back : t.0 ≡ found - 1 = omega arith in t.1 ∙ ap some back) holds;
+    reads = λ k n e. absurd (at_nothing k n e);
+    stores = λ k n q e. absurd (at_nothing k n e);
+  };
 }
 
 pub looks : (cells slots id : ℕ) (m : Known) (word : ℕ) → word ≡ length m.0.seen → 0 < m.0.cells → length m.0.seen < m.0.cells → Allows (Lawful cells) slots id m word (λ n. n) (looked (step slots word 0 0 none) m)
@@ -196,19 +186,15 @@ reads_word cells slots id m word unspent some_row short is s r _ at small =
     let found = get_or s.words word 0 in
     let w = after_read v word found in
     let knows : Knows cells s.words r.log r.rows r.owner id w = record {
-      sized = known.sized;
-      begins = known.begins;
-      told = known.told;
-      free_is = known.free_is;
-      free_once = known.free_once;
-      mine_is = known.mine_is;
-      mine_once = known.mine_once;
-      mine_all = known.mine_all;
-      looks = known.looks;
-      reads = λ k n e. ⊎_elim (λ h. known.reads k n h)
-          (λ t. let f = t.0 in (some_row, (omega arith), subst (λ z. get_or s.words (address cells (v.looking - 1) z) 0 ≡ n) (sym f) (ap (λ z. get_or s.words z 0) (sym is) ∙ t.1)))
-          (at_end v.read found k n e);
-      stores = known.stores;
+      sees = known.sees;
+      owns = known.owns;
+      remembers = record {
+        looks = known.looks;
+        reads = λ k n e. ⊎_elim (λ h. known.reads k n h)
+            (λ t. let f = t.0 in (some_row, (omega arith), subst (λ z. get_or s.words (address cells (v.looking - 1) z) 0 ≡ n) (sym f) (ap (λ z. get_or s.words z 0) (sym is) ∙ t.1)))
+            (at_end v.read found k n e);
+        stores = known.stores;
+      };
     } in
     (w, keeps, tt, unmoved cells s r word id m.1 w knows, (refl, refl, unmoved_sane cells slots id m unspent s r at word w unspent knows))
 
@@ -224,17 +210,15 @@ reads_last cells slots id m word unspent some_row long is s r _ at small =
     let d = member.0 in
     let w = after_member v d word found in
     let knows : Knows cells s.words r.log r.rows r.owner id w = record {
-      sized = known.sized;
-      begins = next_member r.log v.seen d known.begins member.1;
-      told = known.told;
-      free_is = known.free_is;
-      free_once = known.free_once;
-      mine_is = λ i p e. let b = known.mine_is i p e in let l = b.0 in (omega (arith, length-append v.seen (d ∷ [])), b.1);
-      mine_once = known.mine_once;
-      mine_all = known.mine_all;
-      looks = λ h. absurd (omega arith);
-      reads = λ k n e. absurd (at_nothing k n e);
-      stores = known.stores;
+      sees = record { sized = known.sized; begins = next_member r.log v.seen d known.begins member.1; told_begins = known.told_begins };
+      owns = record {
+        free_is = known.free_is;
+        free_once = known.free_once;
+        mine_is = λ i p e. let b = known.mine_is i p e in let l = b.0 in (omega (arith, length-append v.seen (d ∷ [])), b.1);
+        mine_once = known.mine_once;
+        mine_all = known.mine_all;
+      };
+      remembers = record { looks = λ h. absurd (omega arith); reads = λ k n e. absurd (at_nothing k n e); stores = known.stores };
     } in
     let read_so : (k a b : ℕ) → get_elem? (row d) k ≡ some a → get_elem? (v.read ++ found ∷ []) k ≡ some b → a ≡ b = λ k a b x y.
     let stands = r.records (length v.seen) (v.looking - 1) d row_there member.1 k a x in
@@ -263,21 +247,17 @@ module _ (cells : ℕ) (s : Board) (r : Lawful cells s) (id q k : ℕ) (own : r.
 
   others_after_store : (j : ℕ) (u : Knowledge) → j ≢ id → Knows cells s.words r.log r.rows r.owner j u → Knows cells written r.log r.rows r.owner j u
   others_after_store j u other known = record {
-    sized = known.sized;
-    begins = known.begins;
-    told = known.told;
-    free_is = known.free_is;
-    free_once = known.free_once;
-    mine_is = known.mine_is;
-    mine_once = known.mine_once;
-    mine_all = known.mine_all;
-    looks = known.looks;
-    reads = λ l x e. let old = known.reads l x e in (
-      old.0,
-      old.1,
-      row_stays (u.looking - 1) l (λ same. free (length u.seen) (subst (λ z. get_elem? r.rows (length u.seen) ≡ some z) same (known.looks old.0))) old.1 ∙ old.2,
-    );
-    stores = λ l x a e last. let old = known.stores l x a e last in (old.0, row_stays a l (λ same. other (sym (known.free_is (length u.free - 1) a last).1 ∙ (ap r.owner same ∙ own))) old.0 ∙ old.1);
+    sees = known.sees;
+    owns = known.owns;
+    remembers = record {
+      looks = known.looks;
+      reads = λ l x e. let old = known.reads l x e in (
+        old.0,
+        old.1,
+        row_stays (u.looking - 1) l (λ same. free (length u.seen) (subst (λ z. get_elem? r.rows (length u.seen) ≡ some z) same (known.looks old.0))) old.1 ∙ old.2,
+      );
+      stores = λ l x a e last. let old = known.stores l x a e last in (old.0, row_stays a l (λ same. other (sym (known.free_is (length u.free - 1) a last).1 ∙ (ap r.owner same ∙ own))) old.0 ∙ old.1);
+    };
   }
 
 pub stores_word : (cells slots id : ℕ) (m : Known) (word n q : ℕ) → 0 < m.0.cells → get_elem? m.0.free (length m.0.free - 1) ≡ some q → length m.0.stored < row_words → word ≡ address cells q (length m.0.stored)
@@ -295,39 +275,37 @@ stores_word cells slots id m word n q unspent last short is s r _ at small =
     let row' = row_stays cells s r id q k mine.1 mine.2 short n in
     let few_rows = rows_few cells s r in
     let knows : Knows cells after r.log r.rows r.owner id w = record {
-      sized = known.sized;
-      begins = known.begins;
-      told = known.told;
-      free_is = known.free_is;
-      free_once = known.free_once;
-      mine_is = known.mine_is;
-      mine_once = known.mine_once;
-      mine_all = known.mine_all;
-      looks = known.looks;
-      reads = λ l x e. let old = known.reads l x e in (
-        old.0,
-        old.1,
-        row' (v.looking - 1) l (λ same. mine.2 (length v.seen) (subst (λ z. get_elem? r.rows (length v.seen) ≡ some z) same (known.looks old.0))) old.1 ∙ old.2,
-      );
-      stores = λ l x a e la. let same = at_same v.free (length v.free - 1) a q la last in
-          subst (λ z. (l < row_words) × (get_or after (address cells z l) 0 ≡ x)) (sym same)
-          (⊎_elim
-          (λ h. let old = known.stores l x q h last in let short' = at-lt v.stored l x h in (old.0, get_or-set_other s.words (address cells q k) (address cells q l) n 0 (λ e. omega arith) ∙ old.1))
-          (λ t. let f = t.0 in ((omega arith), ap (λ z. get_or after (address cells q z) 0) f ∙ (get_or-set_same s.words (address cells q k) n 0 (omega arith) ∙ t.1)))
-          (at_end v.stored n l x e));
+      sees = known.sees;
+      owns = known.owns;
+      remembers = record {
+        looks = known.looks;
+        reads = λ l x e. let old = known.reads l x e in (
+          old.0,
+          old.1,
+          row' (v.looking - 1) l (λ same. mine.2 (length v.seen) (subst (λ z. get_elem? r.rows (length v.seen) ≡ some z) same (known.looks old.0))) old.1 ∙ old.2,
+        );
+        stores = λ l x a e la. let same = at_same v.free (length v.free - 1) a q la last in
+            subst (λ z. (l < row_words) × (get_or after (address cells z l) 0 ≡ x)) (sym same)
+            (⊎_elim
+            (λ h. let old = known.stores l x q h last in let short' = at-lt v.stored l x h in (old.0, get_or-set_other s.words (address cells q k) (address cells q l) n 0 (λ e. omega arith) ∙ old.1))
+            (λ t. let f = t.0 in ((omega arith), ap (λ z. get_or after (address cells q z) 0) f ∙ (get_or-set_same s.words (address cells q k) n 0 (omega arith) ∙ t.1)))
+            (at_end v.stored n l x e));
+      };
     } in
     let next : Lawful cells (stepped s (address cells q k) n id m.1 w keeps) = record {
       log = r.log;
       rows = r.rows;
       owner = r.owner;
-      wide = length-set s.words (address cells q k) n ∙ r.wide;
-      long = r.long;
-      filled = λ p a e. let f = r.filled p a e in let inside = at-lt r.rows p a e in (f.0, cell p (omega arith) ∙ f.1);
-      unfilled = λ p h l. cell p l ∙ r.unfilled p h l;
-      rows_once = r.rows_once;
-      records = λ p a d x y l z e. row' a l (λ same. mine.2 p (subst (λ t. get_elem? r.rows p ≡ some t) same x)) (let lt = at-lt (row d) l z e in let long = row_length d in omega arith) ∙ r.records p a d x y l z e;
-      valid = r.valid;
-      names_once = r.names_once;
+      history = record {
+        wide = length-set s.words (address cells q k) n ∙ r.wide;
+        long = r.long;
+        filled = λ p a e. let f = r.filled p a e in let inside = at-lt r.rows p a e in (f.0, cell p (omega arith) ∙ f.1);
+        unfilled = λ p h l. cell p l ∙ r.unfilled p h l;
+        rows_once = r.rows_once;
+        records = λ p a d x y l z e. row' a l (λ same. mine.2 p (subst (λ t. get_elem? r.rows p ≡ some t) same x)) (let lt = at-lt (row d) l z e in let long = row_length d in omega arith) ∙ r.records p a d x y l z e;
+        valid = r.valid;
+        names_once = r.names_once;
+      };
       seated = λ a. let b = r.seated a in omega (arith, length-set s.views id w);
       each_pass = seats (Knows cells after r.log r.rows r.owner) s.views id w knows (λ j u other e. others_after_store cells s r id q k mine.1 mine.2 short n j u other (r.each_pass j u e));
     } in
@@ -350,18 +328,20 @@ module _ (cells : ℕ) (s : Board) (r : Lawful cells s) (id q : ℕ) (d : Drawop
 
   others_after_win : (j : ℕ) (u : Knowledge) → j ≢ id → length u.seen ≤ length r.rows → Knows cells s.words r.log r.rows r.owner j u → Knows cells filled_words log_after rows_after r.owner j u
   others_after_win j u other few_seen known = record {
-    sized = known.sized;
-    begins = starts_more r.log u.seen (d ∷ []) known.begins;
-    told = starts_more r.log u.told (d ∷ []) known.told;
-    free_is = λ i a e. let f = known.free_is i a e in
-        (f.0, f.1, λ p h. ⊎_elim (λ old. f.2 p old) (λ t. other (sym f.1 ∙ (ap r.owner (sym t.1) ∙ own))) (at_end r.rows q p a h));
-    free_once = known.free_once;
-    mine_is = λ i p e. let f = known.mine_is i p e in let b = f.0 in (b, λ a h. ⊎_elim (λ old. f.1 a old) (λ t. let c = t.0 in absurd (omega arith)) (at_end r.rows q p a h));
-    mine_once = known.mine_once;
-    mine_all = λ p a h owned. ⊎_elim (λ old. known.mine_all p a old owned) (λ t. absurd (other (sym owned ∙ (ap r.owner (sym t.1) ∙ own)))) (at_end r.rows q p a h);
-    looks = λ h. at_longer r.rows (q ∷ []) (length u.seen) (u.looking - 1) (known.looks h);
-    reads = λ l x e. let old = known.reads l x e in (old.0, old.1, other_word (address cells (u.looking - 1) l) (λ e. omega arith) ∙ old.2);
-    stores = λ l x a e last. let old = known.stores l x a e last in (old.0, other_word (address cells a l) (λ e. omega arith) ∙ old.1);
+    sees = record { sized = known.sized; begins = starts_more r.log u.seen (d ∷ []) known.begins; told_begins = starts_more r.log u.told (d ∷ []) known.told_begins };
+    owns = record {
+      free_is = λ i a e. let f = known.free_is i a e in
+          (f.0, f.1, λ p h. ⊎_elim (λ old. f.2 p old) (λ t. other (sym f.1 ∙ (ap r.owner (sym t.1) ∙ own))) (at_end r.rows q p a h));
+      free_once = known.free_once;
+      mine_is = λ i p e. let f = known.mine_is i p e in let b = f.0 in (b, λ a h. ⊎_elim (λ old. f.1 a old) (λ t. let c = t.0 in absurd (omega arith)) (at_end r.rows q p a h));
+      mine_once = known.mine_once;
+      mine_all = λ p a h owned. ⊎_elim (λ old. known.mine_all p a old owned) (λ t. absurd (other (sym owned ∙ (ap r.owner (sym t.1) ∙ own)))) (at_end r.rows q p a h);
+    };
+    remembers = record {
+      looks = λ h. at_longer r.rows (q ∷ []) (length u.seen) (u.looking - 1) (known.looks h);
+      reads = λ l x e. let old = known.reads l x e in (old.0, old.1, other_word (address cells (u.looking - 1) l) (λ e. omega arith) ∙ old.2);
+      stores = λ l x a e last. let old = known.stores l x a e last in (old.0, other_word (address cells a l) (λ e. omega arith) ∙ old.1);
+    };
   }
 
 wins : (cells slots id : ℕ) (m : Known) (d : DrawopValue) (q : ℕ) → 0 < m.0.cells → length m.0.seen < cells → get_elem? m.0.free (length m.0.free - 1) ≡ some q → m.0.stored ≡ row d → IsDrawop d → Lacks m.0.seen d.name
@@ -387,44 +367,44 @@ wins cells slots id m d q unspent inside last stored_is valid_d lacks s r at fou
     let word' = other_word cells s r id q d mine.1 mine.0 mine.2 inside' in
     let begins' : IsPrefix (v.seen ++ d ∷ []) log' = next_member log' v.seen d (starts_more r.log v.seen (d ∷ []) known.begins) (at_last' r.log d (length v.seen) (omega arith)) in
     let knows : Knows cells words' log' rows' r.owner id w = record {
-      sized = known.sized;
-      begins = begins';
-      told = starts_more r.log v.told (d ∷ []) known.told;
-      free_is = λ i a e. let t = at_take (length v.free - 1) v.free i a e in let f = known.free_is i a t.1 in let lt = t.0 in
-          (f.0, f.1, λ p h. ⊎_elim (λ old. f.2 p old) (λ c. let same = known.free_once i (length v.free - 1) q (subst (λ z. get_elem? v.free i ≡ some z) (sym c.1) t.1) last in absurd (omega arith)) (at_end r.rows q p a h));
-      free_once = once_take (length v.free - 1) v.free known.free_once;
-      mine_is = λ i p e. ⊎_elim
-          (λ h. let f = known.mine_is i p h in let b = f.0 in (omega (arith, length-append v.seen (d ∷ [])), λ a x. ⊎_elim (λ old. f.1 a old) (λ c. let c0 = c.0 in absurd (omega arith)) (at_end r.rows q p a x)))
-          (λ t. let same = t.1 in (omega (arith, length-append v.seen (d ∷ [])), λ a x. ⊎_elim (λ old. let lt = at-lt r.rows p a old in absurd (omega arith)) (λ c. ap r.owner (sym c.1) ∙ mine.1) (at_end r.rows q p a x)))
-          (at_end v.mine (length v.seen) i p e);
-      mine_once = once_append v.mine (length v.seen ∷ []) known.mine_once (once_one (length v.seen)) (λ i k a x y. let b = (known.mine_is i a x).0 in let e = at_end [] (length v.seen) k a y in
-          ⊎_elim (λ h. at_nothing k a h) (λ t. let same = t.1 in omega arith) e);
-      mine_all = λ p a x owned. ⊎_elim (λ old. let h = known.mine_all p a old owned in (h.0, at_longer v.mine (length v.seen ∷ []) h.0 p h.1))
-          (λ c. (length v.mine, subst (λ z. get_elem? (v.mine ++ length v.seen ∷ []) (length v.mine) ≡ some z) (at_end_of_rows ∙ sym c.0) (at_last' v.mine (length v.seen) (length v.mine) refl))) (at_end r.rows q p a x);
-      looks = λ h. absurd (omega arith);
-      reads = λ k n e. absurd (at_nothing k n e);
-      stores = λ k n a e _. absurd (at_nothing k n e);
+      sees = record { sized = known.sized; begins = begins'; told_begins = starts_more r.log v.told (d ∷ []) known.told_begins };
+      owns = record {
+        free_is = λ i a e. let t = at_take (length v.free - 1) v.free i a e in let f = known.free_is i a t.1 in let lt = t.0 in
+            (f.0, f.1, λ p h. ⊎_elim (λ old. f.2 p old) (λ c. let same = known.free_once i (length v.free - 1) q (subst (λ z. get_elem? v.free i ≡ some z) (sym c.1) t.1) last in absurd (omega arith)) (at_end r.rows q p a h));
+        free_once = once_take (length v.free - 1) v.free known.free_once;
+        mine_is = λ i p e. ⊎_elim
+            (λ h. let f = known.mine_is i p h in let b = f.0 in (omega (arith, length-append v.seen (d ∷ [])), λ a x. ⊎_elim (λ old. f.1 a old) (λ c. let c0 = c.0 in absurd (omega arith)) (at_end r.rows q p a x)))
+            (λ t. let same = t.1 in (omega (arith, length-append v.seen (d ∷ [])), λ a x. ⊎_elim (λ old. let lt = at-lt r.rows p a old in absurd (omega arith)) (λ c. ap r.owner (sym c.1) ∙ mine.1) (at_end r.rows q p a x)))
+            (at_end v.mine (length v.seen) i p e);
+        mine_once = once_append v.mine (length v.seen ∷ []) known.mine_once (once_one (length v.seen)) (λ i k a x y. let b = (known.mine_is i a x).0 in let e = at_end [] (length v.seen) k a y in
+            ⊎_elim (λ h. at_nothing k a h) (λ t. let same = t.1 in omega arith) e);
+        mine_all = λ p a x owned. ⊎_elim (λ old. let h = known.mine_all p a old owned in (h.0, at_longer v.mine (length v.seen ∷ []) h.0 p h.1))
+            (λ c. (length v.mine, subst (λ z. get_elem? (v.mine ++ length v.seen ∷ []) (length v.mine) ≡ some z) (at_end_of_rows ∙ sym c.0) (at_last' v.mine (length v.seen) (length v.mine) refl))) (at_end r.rows q p a x);
+      };
+      remembers = nothing_remembered _ _ _ _ _;
     } in
     subst (λ a. Lawful cells (stepped s a (suc q) id m.1 w keeps)) (sym at_end_of_rows) record {
       log = log';
       rows = rows';
       owner = r.owner;
-      wide = length-set s.words (length r.rows) (suc q) ∙ r.wide;
-      long = length-append r.rows (q ∷ []) ∙ (ap (λ z. z + 1) r.long ∙ sym (length-append r.log (d ∷ [])));
-      filled = λ p a e. ⊎_elim (λ old. let f = r.filled p a old in let lt = at-lt r.rows p a old in (f.0, word' p (λ e. omega arith) ∙ f.1))
-          (λ c. (subst (λ z. z < cells) c.1 mine.0, ap (λ z. get_or words' z 0) c.0 ∙ (get_or-set_same s.words (length r.rows) (suc q) 0 (omega arith) ∙ ap suc c.1))) (at_end r.rows q p a e);
-      unfilled = λ p h l. let more = length-append r.rows (q ∷ []) in word' p (λ e. omega arith) ∙ r.unfilled p (omega arith) l;
-      rows_once = once_append r.rows (q ∷ []) r.rows_once (once_one q) (λ i k a x y. ⊎_elim (λ h. at_nothing k a h) (λ t. mine.2 i (subst (λ z. get_elem? r.rows i ≡ some z) (sym t.1) x)) (at_end [] q k a y));
-      records = λ p a e x y l n z. word' (address cells a l) (λ e. omega arith) ∙ ⊎_elim
-          (λ old. ⊎_elim (λ was. r.records p a e old was l n z) (λ c. let c0 = c.0 in let lt = at-lt r.rows p a old in absurd (omega arith)) (at_end r.log d p e y))
-          (λ c. ⊎_elim (λ was. let c0 = c.0 in let lt = at-lt r.log p e was in absurd (omega arith))
-          (λ t. subst (λ b. get_or s.words (address cells b l) 0 ≡ n) c.1 (known.stores l n q (subst (λ b. get_elem? b l ≡ some n) (ap row (sym t.1) ∙ sym stored_is) z) last).1) (at_end r.log d p e y))
-          (at_end r.rows q p a x);
-      valid = λ p e x. ⊎_elim (λ old. r.valid p e old) (λ c. subst IsDrawop c.1 valid_d) (at_end r.log d p e x);
-      names_once = λ p k e f x y same. ⊎_elim
-          (λ a. ⊎_elim (λ b. r.names_once p k e f a b same) (λ b. absurd (lacks p e (subst (λ l. get_elem? l p ≡ some e) all_seen a) (same ∙ ap (λ (o : DrawopValue). o.name) (sym b.1)))) (at_end r.log d k f y))
-          (λ a. ⊎_elim (λ b. absurd (lacks k f (subst (λ l. get_elem? l k ≡ some f) all_seen b) (sym same ∙ ap (λ (o : DrawopValue). o.name) (sym a.1)))) (λ b. a.0 ∙ sym b.0) (at_end r.log d k f y))
-          (at_end r.log d p e x);
+      history = record {
+        wide = length-set s.words (length r.rows) (suc q) ∙ r.wide;
+        long = length-append r.rows (q ∷ []) ∙ (ap (λ z. z + 1) r.long ∙ sym (length-append r.log (d ∷ [])));
+        filled = λ p a e. ⊎_elim (λ old. let f = r.filled p a old in let lt = at-lt r.rows p a old in (f.0, word' p (λ e. omega arith) ∙ f.1))
+            (λ c. (subst (λ z. z < cells) c.1 mine.0, ap (λ z. get_or words' z 0) c.0 ∙ (get_or-set_same s.words (length r.rows) (suc q) 0 (omega arith) ∙ ap suc c.1))) (at_end r.rows q p a e);
+        unfilled = λ p h l. let more = length-append r.rows (q ∷ []) in word' p (λ e. omega arith) ∙ r.unfilled p (omega arith) l;
+        rows_once = once_append r.rows (q ∷ []) r.rows_once (once_one q) (λ i k a x y. ⊎_elim (λ h. at_nothing k a h) (λ t. mine.2 i (subst (λ z. get_elem? r.rows i ≡ some z) (sym t.1) x)) (at_end [] q k a y));
+        records = λ p a e x y l n z. word' (address cells a l) (λ e. omega arith) ∙ ⊎_elim
+            (λ old. ⊎_elim (λ was. r.records p a e old was l n z) (λ c. let c0 = c.0 in let lt = at-lt r.rows p a old in absurd (omega arith)) (at_end r.log d p e y))
+            (λ c. ⊎_elim (λ was. let c0 = c.0 in let lt = at-lt r.log p e was in absurd (omega arith))
+            (λ t. subst (λ b. get_or s.words (address cells b l) 0 ≡ n) c.1 (known.stores l n q (subst (λ b. get_elem? b l ≡ some n) (ap row (sym t.1) ∙ sym stored_is) z) last).1) (at_end r.log d p e y))
+            (at_end r.rows q p a x);
+        valid = λ p e x. ⊎_elim (λ old. r.valid p e old) (λ c. subst IsDrawop c.1 valid_d) (at_end r.log d p e x);
+        names_once = λ p k e f x y same. ⊎_elim
+            (λ a. ⊎_elim (λ b. r.names_once p k e f a b same) (λ b. absurd (lacks p e (subst (λ l. get_elem? l p ≡ some e) all_seen a) (same ∙ ap (λ (o : DrawopValue). o.name) (sym b.1)))) (at_end r.log d k f y))
+            (λ a. ⊎_elim (λ b. absurd (lacks k f (subst (λ l. get_elem? l k ≡ some f) all_seen b) (sym same ∙ ap (λ (o : DrawopValue). o.name) (sym a.1)))) (λ b. a.0 ∙ sym b.0) (at_end r.log d k f y))
+            (at_end r.log d p e x);
+      };
       seated = λ a. let b = r.seated a in omega (arith, length-set s.views id w);
       each_pass = seats (Knows cells words' log' rows' r.owner) s.views id w knows (λ j u other e. others_after_win cells s r id q d mine.1 mine.0 mine.2 inside' j u other (seen_under j u e) (r.each_pass j u e));
     }
@@ -439,17 +419,9 @@ wins cells slots id m d q unspent inside last stored_is valid_d lacks s r at fou
 losing : (cells : ℕ) (words : List ℕ) (log : List DrawopValue) (rows : List ℕ) (owner : ℕ → ℕ) (j : ℕ) (v : Knowledge) → Knows cells words log rows owner j v → (word found : ℕ)
     → (found ≡ 0) ⊎ ((q : ℕ) × (get_elem? rows (length v.seen) ≡ some q) × (q < cells) × (found ≡ suc q)) → Knows cells words log rows owner j (after_loss v word found)
 losing cells words log rows owner j v known word found holds = let base = looking_at cells words log rows owner j v known word found holds in record {
-  sized = known.sized;
-  begins = known.begins;
-  told = known.told;
-  free_is = known.free_is;
-  free_once = known.free_once;
-  mine_is = known.mine_is;
-  mine_once = known.mine_once;
-  mine_all = known.mine_all;
-  looks = base.looks;
-  reads = λ k n e. absurd (at_nothing k n e);
-  stores = known.stores;
+  sees = known.sees;
+  owns = known.owns;
+  remembers = record { looks = base.looks; reads = λ k n e. absurd (at_nothing k n e); stores = known.stores };
 }
 
 pub publishes : (cells slots id : ℕ) (m : Known) (word new : ℕ) (d : DrawopValue) (q : ℕ) → word ≡ length m.0.seen → new ≡ q + 1 → 0 < m.0.cells → length m.0.seen < m.0.cells
@@ -499,16 +471,8 @@ confirms cells slots id m word unspent s r _ at small =
     let found = get_or s.words word 0 in
     let w = after_confirm v word found in
     let knows : Knows cells s.words r.log r.rows r.owner id w = record {
-      sized = known.sized;
-      begins = known.begins;
-      told = (r.log, refl);
-      free_is = known.free_is;
-      free_once = known.free_once;
-      mine_is = known.mine_is;
-      mine_once = known.mine_once;
-      mine_all = known.mine_all;
-      looks = known.looks;
-      reads = known.reads;
-      stores = known.stores;
+      sees = record { sized = known.sized; begins = known.begins; told_begins = (r.log, refl) };
+      owns = known.owns;
+      remembers = known.remembers;
     } in
-    (w, keeps, tt, unmoved cells s r word id m.1 w knows, (refl, refl, (λ h. both_start r.log v.seen v.told known.begins known.told h), unmoved_sane cells slots id m unspent s r at word w unspent knows))
+    (w, keeps, tt, unmoved cells s r word id m.1 w knows, (refl, refl, (λ h. both_start r.log v.seen v.told known.begins known.told_begins h), unmoved_sane cells slots id m unspent s r at word w unspent knows))

@@ -9,6 +9,7 @@ use Rattle.wb_history.specs.declared.knowledge.Knowledge.{Knowledge}
 use Rattle.std.specs.List.{range_with_len}
 use Rattle.wb_history.specs.Views.{whole_pass}
 use Rattle.wb_history.specs.Lawful.{Knows, Lawful}
+use Rattle.wb_history.proofs.Rows.{nothing_remembered}
 use Rattle.wb_history.proofs.Lists.{at_nothing, once_nothing}
 
 at_range : (a n i r : ℕ) → get_elem? (range_with_len a n) i ≡ some r → (a + i ≡ r) × (i < n)
@@ -26,31 +27,31 @@ opens cells words n zeros len size = record {
   log = [];
   rows = [];
   owner = λ _. 0;
-  wide = omega arith;
-  long = refl;
-  filled = λ p q e. absurd (at_nothing p q e);
-  unfilled = λ p _ _. ap (λ l. get_or l p 0) zeros ∙ get_or-replicate n p;
-  rows_once = once_nothing;
-  records = λ p q d e _ _ _ _. absurd (at_nothing p q e);
-  valid = λ p d e. absurd (at_nothing p d e);
-  names_once = λ p q d e x _ _. absurd (at_nothing p d x);
+  history = record {
+    wide = omega arith;
+    long = refl;
+    filled = λ p q e. absurd (at_nothing p q e);
+    unfilled = λ p _ _. ap (λ l. get_or l p 0) zeros ∙ get_or-replicate n p;
+    rows_once = once_nothing;
+    records = λ p q d e _ _ _ _. absurd (at_nothing p q e);
+    valid = λ p d e. absurd (at_nothing p d e);
+    names_once = λ p q d e x _ _. absurd (at_nothing p d x);
+  };
   seated = λ _. omega arith;
   each_pass = one;
 }
   where
     first : Knows cells words [] [] (λ _. 0) 0 (whole_pass cells)
     first = record {
-      sized = λ _. refl;
-      begins = ([], refl);
-      told = ([], refl);
-      free_is = λ i q e. let t = at_range 0 cells i q e in let is = t.0 in let few = t.1 in (omega arith, refl, λ p h. at_nothing p q h);
-      free_once = λ i k q e f. let t = (at_range 0 cells i q e).0 in let u = (at_range 0 cells k q f).0 in omega arith;
-      mine_is = λ i p e. absurd (at_nothing i p e);
-      mine_once = once_nothing;
-      mine_all = λ p q e _. absurd (at_nothing p q e);
-      looks = λ h. absurd (omega arith);
-      reads = λ k n e. absurd (at_nothing k n e);
-      stores = λ k n q e _. absurd (at_nothing k n e);
+      sees = record { sized = λ _. refl; begins = ([], refl); told_begins = ([], refl) };
+      owns = record {
+        free_is = λ i q e. let t = at_range 0 cells i q e in let is = t.0 in let few = t.1 in (omega arith, refl, λ p h. at_nothing p q h);
+        free_once = λ i k q e f. let t = (at_range 0 cells i q e).0 in let u = (at_range 0 cells k q f).0 in omega arith;
+        mine_is = λ i p e. absurd (at_nothing i p e);
+        mine_once = once_nothing;
+        mine_all = λ p q e _. absurd (at_nothing p q e);
+      };
+      remembers = nothing_remembered _ _ _ _ _;
     }
 
     one : (j : ℕ) (v : Knowledge) → get_elem? (whole_pass cells ∷ []) j ≡ some v → Knows cells words [] [] (λ _. 0) j v

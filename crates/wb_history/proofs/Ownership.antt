@@ -13,6 +13,7 @@ use mathlib.Core.List.{IsPrefix}
 use Rattle.wb_history.specs.Lists.{Has, longer, shorter}
 use Rattle.wb_history.specs.Views.{left_part, right_part, united, spent}
 use Rattle.wb_history.specs.Lawful.{Knows, Lawful}
+use Rattle.wb_history.proofs.Rows.{nothing_remembered}
 use Rattle.wb_history.proofs.Lists.{at-lt, at_nothing, at_append, at_end, at_after, at_take, at_drop, once_nothing, once_append, once_take, once_drop, starts-le, there}
 
 abbrev Board : Type 0
@@ -48,56 +49,43 @@ splits cells id n v s r at =
     let gone_own : (q : ℕ) → Has gone q → r.owner q ≡ id = λ q h. let t = is_gone q h in (known.free_is t.0 q t.1).1 in
     let wide : length (set s.views id (left_part n v)) ≡ new = length-set s.views id (left_part n v) in
     let left : Knows cells s.words r.log r.rows owner' id (left_part n v) = record {
-      sized = known.sized;
-      begins = known.begins;
-      told = known.told;
-      free_is = λ i q e. let t = at_take keep v.free i q e in let f = known.free_is i q t.1 in let lt = t.0 in
-          (f.0, ⊎_elim (λ g. let same = known.free_once i (keep + g.0.0) q t.1 (at_drop keep v.free g.0.0 q g.0.1) in absurd (omega arith)) (λ g. g.1 ∙ f.1) (given_cases gone new r.owner q), f.2);
-      free_once = once_take keep v.free known.free_once;
-      mine_is = λ i p e. let f = known.mine_is i p e in (f.0, λ q h. row_same p q h ∙ f.1 q h);
-      mine_once = known.mine_once;
-      mine_all = λ p q e owned. known.mine_all p q e (sym (row_same p q e) ∙ owned);
-      looks = λ h. absurd (omega arith);
-      reads = λ k x e. absurd (at_nothing k x e);
-      stores = λ k x q e _. absurd (at_nothing k x e);
+      sees = known.sees;
+      owns = record {
+        free_is = λ i q e. let t = at_take keep v.free i q e in let f = known.free_is i q t.1 in let lt = t.0 in
+            (f.0, ⊎_elim (λ g. let same = known.free_once i (keep + g.0.0) q t.1 (at_drop keep v.free g.0.0 q g.0.1) in absurd (omega arith)) (λ g. g.1 ∙ f.1) (given_cases gone new r.owner q), f.2);
+        free_once = once_take keep v.free known.free_once;
+        mine_is = λ i p e. let f = known.mine_is i p e in (f.0, λ q h. row_same p q h ∙ f.1 q h);
+        mine_once = known.mine_once;
+        mine_all = λ p q e owned. known.mine_all p q e (sym (row_same p q e) ∙ owned);
+      };
+      remembers = nothing_remembered _ _ _ _ _;
     } in
     let right : Knows cells s.words r.log r.rows owner' new (right_part n v) = record {
-      sized = known.sized;
-      begins = known.begins;
-      told = (r.log, refl);
-      free_is = λ i q e. let f = known.free_is (keep + i) q (at_drop keep v.free i q e) in (f.0, ⊎_elim (λ g. g.1) (λ g. absurd (g.0 i e)) (given_cases gone new r.owner q), f.2);
-      free_once = once_drop keep v.free known.free_once;
-      mine_is = λ i p e. absurd (at_nothing i p e);
-      mine_once = once_nothing;
-      mine_all = λ p q e owned. let a = r.seated q in let b = sym (row_same p q e) ∙ owned in absurd (omega arith);
-      looks = λ h. absurd (omega arith);
-      reads = λ k x e. absurd (at_nothing k x e);
-      stores = λ k x q e _. absurd (at_nothing k x e);
+      sees = record { sized = known.sized; begins = known.begins; told_begins = (r.log, refl) };
+      owns = record {
+        free_is = λ i q e. let f = known.free_is (keep + i) q (at_drop keep v.free i q e) in (f.0, ⊎_elim (λ g. g.1) (λ g. absurd (g.0 i e)) (given_cases gone new r.owner q), f.2);
+        free_once = once_drop keep v.free known.free_once;
+        mine_is = λ i p e. absurd (at_nothing i p e);
+        mine_once = once_nothing;
+        mine_all = λ p q e owned. let a = r.seated q in let b = sym (row_same p q e) ∙ owned in absurd (omega arith);
+      };
+      remembers = nothing_remembered _ _ _ _ _;
     } in
     let others : (j : ℕ) (u : Knowledge) → j ≢ id → Knows cells s.words r.log r.rows r.owner j u → Knows cells s.words r.log r.rows owner' j u = λ j u other k. record {
-      sized = k.sized;
-      begins = k.begins;
-      told = k.told;
-      free_is = λ i q e. let f = k.free_is i q e in (f.0, ⊎_elim (λ g. absurd (other (sym f.1 ∙ gone_own q g.0))) (λ g. g.1 ∙ f.1) (given_cases gone new r.owner q), f.2);
-      free_once = k.free_once;
-      mine_is = λ i p e. let f = k.mine_is i p e in (f.0, λ q h. row_same p q h ∙ f.1 q h);
-      mine_once = k.mine_once;
-      mine_all = λ p q e owned. k.mine_all p q e (sym (row_same p q e) ∙ owned);
-      looks = k.looks;
-      reads = k.reads;
-      stores = k.stores;
+      sees = k.sees;
+      owns = record {
+        free_is = λ i q e. let f = k.free_is i q e in (f.0, ⊎_elim (λ g. absurd (other (sym f.1 ∙ gone_own q g.0))) (λ g. g.1 ∙ f.1) (given_cases gone new r.owner q), f.2);
+        free_once = k.free_once;
+        mine_is = λ i p e. let f = k.mine_is i p e in (f.0, λ q h. row_same p q h ∙ f.1 q h);
+        mine_once = k.mine_once;
+        mine_all = λ p q e owned. k.mine_all p q e (sym (row_same p q e) ∙ owned);
+      };
+      remembers = k.remembers;
     } in record {
       log = r.log;
       rows = r.rows;
       owner = owner';
-      wide = r.wide;
-      long = r.long;
-      filled = r.filled;
-      unfilled = r.unfilled;
-      rows_once = r.rows_once;
-      records = r.records;
-      valid = r.valid;
-      names_once = r.names_once;
+      history = r.history;
       seated = λ q. let a = r.seated q in let l = length-append (set s.views id (left_part n v)) (right_part n v ∷ []) in
           ⊎_elim (λ g. let e = g.1 in omega arith) (λ g. let e = g.1 in omega arith) (given_cases gone new r.owner q);
       each_pass = λ j u e. ⊎_elim
@@ -139,57 +127,48 @@ joins cells id v other w s r at apart at_other =
     let now_own : (q : ℕ) → r.owner q ≡ id → owner' q ≡ id = λ q own. ⊎_elim (λ t. t.1) (λ t. t.1 ∙ own) (cases q) in
     let now_own' : (q : ℕ) → r.owner q ≡ other → owner' q ≡ id = λ q own. ⊎_elim (λ t. t.1) (λ t. absurd (t.0 own)) (cases q) in
     let mine : Knows cells s.words r.log r.rows owner' id both = record {
-      sized = known.sized;
-      begins = ⊎_elim (λ t. subst (λ (l : List DrawopValue). IsPrefix l r.log) (sym t.0) known.begins) (λ t. subst (λ (l : List DrawopValue). IsPrefix l r.log) (sym t.0) known_w.begins) (longer_cases v.seen w.seen);
-      told = shorter_of (λ (l : List DrawopValue). IsPrefix l r.log) v.seen w.seen known.begins known_w.begins;
-      free_is = λ i q e. ⊎_elim (λ h. let f = known.free_is i q h in (f.0, now_own q f.1, f.2)) (λ t. let f = known_w.free_is t.0 q t.2 in (f.0, now_own' q f.1, f.2)) (at_append v.free w.free i q e);
-      free_once = once_append v.free w.free known.free_once known_w.free_once (λ i k q x y. apart (sym (known_w.free_is k q y).1 ∙ (known.free_is i q x).1));
-      mine_is = λ i p e. ⊎_elim (λ h. let f = known.mine_is i p h in let l = f.0 in ((omega arith), λ q x. now_own q (f.1 q x)))
-          (λ t. let f = known_w.mine_is t.0 p t.2 in let l = f.0 in ((omega arith), λ q x. now_own' q (f.1 q x))) (at_append v.mine w.mine i p e);
-      mine_once = once_append v.mine w.mine known.mine_once known_w.mine_once (λ i k p x y.
-          let f = known.mine_is i p x in let g = known_w.mine_is k p y in let l = f.0 in let here = there r.rows p (omega arith) in apart (sym (g.1 (get_or r.rows p 0) here) ∙ f.1 (get_or r.rows p 0) here));
-      mine_all = λ p q e owned. ⊎_elim (λ t. let h = known_w.mine_all p q e t.0 in (length v.mine + h.0, at_after v.mine w.mine h.0 p h.1)) (λ t. let h = known.mine_all p q e (sym t.1 ∙ owned) in (h.0, at_longer v.mine w.mine h.0 p h.1)) (cases q);
-      looks = λ h. absurd (omega arith);
-      reads = λ k x e. absurd (at_nothing k x e);
-      stores = λ k x q e _. absurd (at_nothing k x e);
+      sees = record {
+        sized = known.sized;
+        begins = ⊎_elim (λ t. subst (λ (l : List DrawopValue). IsPrefix l r.log) (sym t.0) known.begins) (λ t. subst (λ (l : List DrawopValue). IsPrefix l r.log) (sym t.0) known_w.begins) (longer_cases v.seen w.seen);
+        told_begins = shorter_of (λ (l : List DrawopValue). IsPrefix l r.log) v.seen w.seen known.begins known_w.begins;
+      };
+      owns = record {
+        free_is = λ i q e. ⊎_elim (λ h. let f = known.free_is i q h in (f.0, now_own q f.1, f.2)) (λ t. let f = known_w.free_is t.0 q t.2 in (f.0, now_own' q f.1, f.2)) (at_append v.free w.free i q e);
+        free_once = once_append v.free w.free known.free_once known_w.free_once (λ i k q x y. apart (sym (known_w.free_is k q y).1 ∙ (known.free_is i q x).1));
+        mine_is = λ i p e. ⊎_elim (λ h. let f = known.mine_is i p h in let l = f.0 in ((omega arith), λ q x. now_own q (f.1 q x)))
+            (λ t. let f = known_w.mine_is t.0 p t.2 in let l = f.0 in ((omega arith), λ q x. now_own' q (f.1 q x))) (at_append v.mine w.mine i p e);
+        mine_once = once_append v.mine w.mine known.mine_once known_w.mine_once (λ i k p x y.
+            let f = known.mine_is i p x in let g = known_w.mine_is k p y in let l = f.0 in let here = there r.rows p (omega arith) in apart (sym (g.1 (get_or r.rows p 0) here) ∙ f.1 (get_or r.rows p 0) here));
+        mine_all = λ p q e owned. ⊎_elim (λ t. let h = known_w.mine_all p q e t.0 in (length v.mine + h.0, at_after v.mine w.mine h.0 p h.1)) (λ t. let h = known.mine_all p q e (sym t.1 ∙ owned) in (h.0, at_longer v.mine w.mine h.0 p h.1)) (cases q);
+      };
+      remembers = nothing_remembered _ _ _ _ _;
     } in
     let gone : Knows cells s.words r.log r.rows owner' other spent = record {
-      sized = λ h. absurd (omega arith);
-      begins = (r.log, refl);
-      told = (r.log, refl);
-      free_is = λ i q e. absurd (at_nothing i q e);
-      free_once = once_nothing;
-      mine_is = λ i p e. absurd (at_nothing i p e);
-      mine_once = once_nothing;
-      mine_all = λ p q e owned. absurd (⊎_elim (λ t. apart (sym owned ∙ t.1)) (λ t. t.0 (sym t.1 ∙ owned)) (cases q));
-      looks = λ h. absurd (omega arith);
-      reads = λ k x e. absurd (at_nothing k x e);
-      stores = λ k x q e _. absurd (at_nothing k x e);
+      sees = record { sized = λ h. absurd (omega arith); begins = (r.log, refl); told_begins = (r.log, refl) };
+      owns = record {
+        free_is = λ i q e. absurd (at_nothing i q e);
+        free_once = once_nothing;
+        mine_is = λ i p e. absurd (at_nothing i p e);
+        mine_once = once_nothing;
+        mine_all = λ p q e owned. absurd (⊎_elim (λ t. apart (sym owned ∙ t.1)) (λ t. t.0 (sym t.1 ∙ owned)) (cases q));
+      };
+      remembers = nothing_remembered _ _ _ _ _;
     } in
     let others : (j : ℕ) (u : Knowledge) → j ≢ id → j ≢ other → Knows cells s.words r.log r.rows r.owner j u → Knows cells s.words r.log r.rows owner' j u = λ j u ne ne' k. record {
-      sized = k.sized;
-      begins = k.begins;
-      told = k.told;
-      free_is = λ i q e. let f = k.free_is i q e in (f.0, ⊎_elim (λ t. absurd (ne' (sym f.1 ∙ t.0))) (λ t. t.1 ∙ f.1) (cases q), f.2);
-      free_once = k.free_once;
-      mine_is = λ i p e. let f = k.mine_is i p e in (f.0, λ q x. ⊎_elim (λ t. absurd (ne' (sym (f.1 q x) ∙ t.0))) (λ t. t.1 ∙ f.1 q x) (cases q));
-      mine_once = k.mine_once;
-      mine_all = λ p q e owned. ⊎_elim (λ t. absurd (ne (sym owned ∙ t.1))) (λ t. k.mine_all p q e (sym t.1 ∙ owned)) (cases q);
-      looks = k.looks;
-      reads = k.reads;
-      stores = k.stores;
+      sees = k.sees;
+      owns = record {
+        free_is = λ i q e. let f = k.free_is i q e in (f.0, ⊎_elim (λ t. absurd (ne' (sym f.1 ∙ t.0))) (λ t. t.1 ∙ f.1) (cases q), f.2);
+        free_once = k.free_once;
+        mine_is = λ i p e. let f = k.mine_is i p e in (f.0, λ q x. ⊎_elim (λ t. absurd (ne' (sym (f.1 q x) ∙ t.0))) (λ t. t.1 ∙ f.1 q x) (cases q));
+        mine_once = k.mine_once;
+        mine_all = λ p q e owned. ⊎_elim (λ t. absurd (ne (sym owned ∙ t.1))) (λ t. k.mine_all p q e (sym t.1 ∙ owned)) (cases q);
+      };
+      remembers = k.remembers;
     } in record {
       log = r.log;
       rows = r.rows;
       owner = owner';
-      wide = r.wide;
-      long = r.long;
-      filled = r.filled;
-      unfilled = r.unfilled;
-      rows_once = r.rows_once;
-      records = r.records;
-      valid = r.valid;
-      names_once = r.names_once;
+      history = r.history;
       seated = λ q. let a = r.seated q in let in_list = at-lt s.views id v at in let l = length-set s.views id both in let l' = length-set (set s.views id both) other spent in
           ⊎_elim (λ t. let e = t.1 in omega arith) (λ t. let e = t.1 in omega arith) (cases q);
       each_pass = λ j u e. ⊎_elim (λ (t : (j ≡ other) × (spent ≡ u)). subst (λ (x : ℕ × Knowledge). Knows cells s.words r.log r.rows owner' x.0 x.1) (λ i. (sym t.0 i, t.1 i)) gone)

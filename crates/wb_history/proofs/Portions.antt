@@ -1,12 +1,12 @@
--- The hands after a split, and after a join.
+-- The cursors after a split, and after a join.
 use Rattle.std.proofs.Common.{◌≡◌, ℕ, ◌+◌, ◌-◌, ◌≤◌, List, [], length, take, drop, sym, ap, ◌∙◌, subst, arith, length-drop}
 use Rattle.std.proofs.lemmas.List.{length-take}
 use Rattle.atomic_table.specs.Table.{Me}
 use Rattle.wb_names.specs.Values.{DrawopValue}
 use Rattle.wb_history.specs.declared.knowledge.Knowledge.{Knowledge}
-use Rattle.wb_history.specs.declared.hand.Hand.{Hand}
+use Rattle.wb_history.specs.declared.cursor.Cursor.{Cursor}
 use Rattle.wb_history.specs.Lawful.{Sane}
-use Rattle.wb_history.specs.Hands.{InOrder}
+use Rattle.wb_history.specs.Cursors.{InOrder}
 use Rattle.wb_history.specs.Views.{left_part, right_part}
 use Rattle.wb_history.proofs.Lists.{at_take, at_drop, at_nothing, once_nothing}
 
@@ -43,7 +43,7 @@ sane_right n v s =
       whole = λ all p below. absurd (omega arith);
     }
 
-pub left_order : (h h' : Hand) (n : ℕ) → InOrder h → h'.seat.me.1 ≡ h.seat.me.1 → h'.seat.me.0 ≡ left_part n h.seat.me.0 → h'.seen.items ≡ h.seen.items → h'.mine.items ≡ h.mine.items → h'.free.items ≡ take (length h.free.items - n) h.free.items → InOrder h'
+pub left_order : (h h' : Cursor) (n : ℕ) → InOrder h → h'.seat.me.1 ≡ h.seat.me.1 → h'.seat.me.0 ≡ left_part n h.seat.me.0 → h'.seen.items ≡ h.seen.items → h'.mine.items ≡ h.mine.items → h'.free.items ≡ take (length h.free.items - n) h.free.items → InOrder h'
 left_order h h' n o slots is seen mine free = record {
   slots = slots ∙ o.slots;
   seen = ap (λ (v : Knowledge). v.seen) is ∙ (o.seen ∙ sym seen);
@@ -52,7 +52,7 @@ left_order h h' n o slots is seen mine free = record {
   sane = subst Sane (sym is) (sane_left n h.seat.me.0 o.sane);
 }
 
-pub right_order : (h h' : Hand) (n : ℕ) → InOrder h → h'.seat.me ≡ (right_part n h.seat.me.0, []) → h'.seen.items ≡ h.seen.items → h'.mine.items ≡ [] → h'.free.items ≡ drop (length h.free.items - n) h.free.items → InOrder h'
+pub right_order : (h h' : Cursor) (n : ℕ) → InOrder h → h'.seat.me ≡ (right_part n h.seat.me.0, []) → h'.seen.items ≡ h.seen.items → h'.mine.items ≡ [] → h'.free.items ≡ drop (length h.free.items - n) h.free.items → InOrder h'
 right_order h h' n o is seen mine free = record {
   slots = ap (λ (m : Me DrawopValue Knowledge). m.1) is;
   seen = ap (λ (m : Me DrawopValue Knowledge). m.0.seen) is ∙ (o.seen ∙ sym seen);

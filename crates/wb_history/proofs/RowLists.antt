@@ -1,5 +1,5 @@
 -- Rows as ranges: the last one, and ranges that are cut where so many rows end.
-use Rattle.std.proofs.Common.{◌≡◌, ℕ, zero, suc, ◌+◌, ◌-◌, ◌<◌, ◌≤◌, List, [], ◌∷◌, ◌++◌, length, get_or, take, drop, refl, sym, ap, ◌∙◌, subst, arith, append_assoc, length-append}
+use Rattle.std.proofs.Common.{◌≡◌, ℕ, zero, suc, ◌+◌, ◌-◌, ◌<◌, ◌≤◌, List, [], ◌∷◌, ◌++◌, length, get_or, take, drop, slice_set, refl, sym, ap, ◌∙◌, subst, arith, append_assoc, length-append}
 use Rattle.std.specs.List.{range_with_len}
 use Rattle.std.proofs.lemmas.List.{append-nil, take-append-drop, take_more, drop_all}
 use Rattle.std.proofs.lemmas.List.FromFn.{length-range_with_len}
@@ -96,62 +96,81 @@ pub some_range : (rs : List RowRange) → 0 < length (rows_in rs) → 0 < length
 some_range [] h = absurd (omega arith)
 some_range (r ∷ rs) h = omega arith
 
--- these ranges have the first rows, so many, of others
-pub record HaveFirst (rs : List RowRange) (k : ℕ) (ts : List RowRange) : Type 0 where
-  pub rows : take k (rows_in rs) ≡ rows_in ts
-  pub count : k ≡ length (rows_in ts)
-  pub ranges : All IsRange ts
+-- The ranges have the rows of a list but for its last ones, so many. It has `count` rows
+pub record HaveFirst (items : List ℕ) (count rows : ℕ) (kept : List RowRange) : Type 0 where
+  pub first : rows_in kept ≡ take (length items - rows) items
+  pub many : count - rows ≡ length (rows_in kept)
+  pub ranges : All IsRange kept
 
-have_first : (rs ts : List RowRange) (k : ℕ) → take k (rows_in rs) ≡ rows_in ts → k ≤ length (rows_in rs) → All IsRange ts → HaveFirst rs k ts
-have_first rs ts k is few all = record { rows = is; count = sym (length-take-le k (rows_in rs) few) ∙ ap length is; ranges = all }
+-- the ranges have the last rows of a list, so many
+pub record HaveLast (items : List ℕ) (rows : ℕ) (cut : List RowRange) : Type 0 where
+  pub last : rows_in cut ≡ drop (length items - rows) items
+  pub many : rows ≡ length (rows_in cut)
+  pub ranges : All IsRange cut
 
-pub is_range : (rs : List RowRange) (n : ℕ) (r : RowRange) → All IsRange rs → n < length rs → r ≡ get_or rs n r → IsRange r
-is_range rs n r all below at = subst IsRange (sym at) (all n r below)
+-- the rows of ranges, which are counted
+module _ (rs : List RowRange) (count rows : ℕ) (items : List ℕ) (is : rows_in rs ≡ items) (lawful : (count ≡ length (rows_in rs)) × All IsRange rs) (few : rows ≤ length items) where
+  in_two : (kept cut : List RowRange) → rows_in rs ≡ rows_in kept ++ rows_in cut → length (rows_in kept) ≡ count - rows → All IsRange kept → All IsRange cut → HaveFirst items count rows kept × HaveLast items rows cut
+  in_two kept cut parts long first second =
+      let all = ap length is in
+      let counted = lawful.0 in
+      let many = ap length parts ∙ length-append (rows_in kept) (rows_in cut) in
+      let at = cut_at items (rows_in kept) (rows_in cut) (length items - rows) (sym is ∙ parts) (omega arith) in
+      (record { first = sym at.0; many = sym long; ranges = first }, record { last = sym at.1; many = omega arith; ranges = second })
 
--- the last range has one row less
-pub one_less : (rs : List RowRange) (n : ℕ) (r : RowRange) → length rs ≡ n + 1 → r ≡ get_or rs n r → All IsRange rs → 1 < r.count → HaveFirst rs (length (rows_in rs) - 1) (take n rs ++ record { first = r.first; count = r.count - 1 } ∷ [])
-one_less rs n r long at all more =
-    let s : RowRange = record { first = r.first; count = r.count - 1 } in
-    let one = is_range rs n r all (omega arith) at in
-    let low = one.0 in
-    let high = one.1 in
-    let is = without_last rs n r long at low ∙ sym (rows-append (take n rs) (s ∷ []) ∙ ap (λ (l : List ℕ). rows_in (take n rs) ++ l) (append-nil (rows_of s))) in
-    have_first rs (take n rs ++ s ∷ []) (length (rows_in rs) - 1) is (omega arith) (All-push IsRange (take n rs) s (All-take IsRange n rs all) (omega arith, omega arith))
+  -- cut at a place that a slice of them has told: between two ranges
+  module _ (slice : List RowRange) (at part : ℕ) (same : slice ≡ rs) (before : length (rows_in (take at slice)) + part ≡ count - rows) where
+    here : length (rows_in (take at rs)) + part ≡ count - rows
+    here = subst (λ (l : List RowRange). length (rows_in (take at l)) + part ≡ count - rows) same before
 
--- or it had one row alone
-pub none_left : (rs : List RowRange) (n : ℕ) (r : RowRange) → length rs ≡ n + 1 → r ≡ get_or rs n r → All IsRange rs → r.count ≤ 1 → HaveFirst rs (length (rows_in rs) - 1) (take n rs)
-none_left rs n r long at all few =
-    let low = (is_range rs n r all (omega arith) at).0 in
-    let zero_rows : r.count - 1 ≡ 0 = omega arith in
-    let is = without_last rs n r long at low ∙ (ap (λ k. rows_in (take n rs) ++ range_with_len r.first k) zero_rows ∙ append-nil (rows_in (take n rs))) in
-    have_first rs (take n rs) (length (rows_in rs) - 1) is (omega arith) (All-take IsRange n rs all)
+    pub parts_between : part ≡ 0 → HaveFirst items count rows (take at rs) × HaveLast items rows (drop at rs)
+    parts_between none = let kept = here in in_two (take at rs) (drop at rs) (cut_between rs at) (omega arith) (All-take IsRange at rs lawful.1) (All-drop IsRange at rs lawful.1)
 
--- these have the last rows
-pub record HaveLast (rs : List RowRange) (k : ℕ) (ts : List RowRange) : Type 0 where
-  pub rows : drop k (rows_in rs) ≡ rows_in ts
-  pub count : k + length (rows_in ts) ≡ length (rows_in rs)
-  pub ranges : All IsRange ts
+    -- or inside of one
+    pub parts_inside : (tail : List RowRange) (r : RowRange) → (0 < part → (x : RowRange) × (get_elem? slice at ≡ some x) × (part < x.count)) → tail ≡ drop at rs → 0 < part → r ≡ get_or tail 0 r
+        → IsRange r × (part < r.count) × HaveFirst items count rows (take at rs ++ record { first = r.first; count = part } ∷ []) × HaveLast items rows (slice_set tail 0 record { first = r.first + part; count = r.count - part })
+    parts_inside tail r inside cut some_rows read =
+        let there = inside some_rows in
+        let from : tail ≡ there.0 ∷ drop (suc at) rs = cut ∙ drop_at rs at there.0 (subst (λ (l : List RowRange). get_elem? l at ≡ some there.0) same there.1) in
+        let is_r : there.0 ≡ r = sym (read ∙ ap (λ (l : List RowRange). get_or l 0 r) from) in
+        let begins : drop at rs ≡ r ∷ drop (suc at) rs = sym cut ∙ (from ∙ ap (λ (x : RowRange). x ∷ drop (suc at) rs) is_r) in
+        let split = subst (All IsRange) begins (All-drop IsRange at rs lawful.1) in
+        let one = All-head IsRange r (drop (suc at) rs) split in
+        let high : part < r.count = subst (λ (x : RowRange). part < x.count) is_r there.2 in
+        let end = one.1 in
+        let front : RowRange = record { first = r.first; count = part } in
+        let back : RowRange = record { first = r.first + part; count = r.count - part } in
+        let kept = here in
+        let many = ap length (rows-append (take at rs) (front ∷ []) ∙ ap (λ (l : List ℕ). rows_in (take at rs) ++ l) (append-nil (rows_of front))) ∙ (length-append (rows_in (take at rs)) (rows_of front) ∙ ap (λ j. length (rows_in (take at rs)) + j) (length-range_with_len r.first part)) in
+        let two = in_two (take at rs ++ front ∷ []) (back ∷ drop (suc at) rs) (cut_inside rs (drop (suc at) rs) at part r front back begins (omega arith) refl refl) (many ∙ kept)
+        (All-push IsRange (take at rs) front (All-take IsRange at rs lawful.1) (some_rows, omega arith))
+        (All-cons IsRange back (drop (suc at) rs) (omega arith, omega arith) (All-tail IsRange r (drop (suc at) rs) split)) in
+        (one, high, two.0, subst (HaveLast items rows) (sym (ap (λ (l : List RowRange). slice_set l 0 back) from)) two.1)
 
-both_parts : (rs ts us : List RowRange) (k : ℕ) → rows_in rs ≡ rows_in ts ++ rows_in us → length (rows_in ts) ≡ k → All IsRange ts → All IsRange us → HaveFirst rs k ts × HaveLast rs k us
-both_parts rs ts us k is long first second =
-    let cut = cut_at (rows_in rs) (rows_in ts) (rows_in us) k is long in
-    let many = ap length is ∙ length-append (rows_in ts) (rows_in us) in
-    (record { rows = cut.0; count = sym long; ranges = first }, record { rows = cut.1; count = omega arith; ranges = second })
+-- without the last row: the last range has one less, or had it alone
+module _ (rs : List RowRange) (count size : ℕ) (r : RowRange) (items : List ℕ) (is : rows_in rs ≡ items) (lawful : (count ≡ length (rows_in rs)) × All IsRange rs) (some_rows : 0 < length items) (sized : size ≡ length rs) (at : r ≡ get_or rs (size - 1) r) where
+  long : length rs ≡ (size - 1) + 1
+  long = let all = ap length is in let some = some_range rs (omega arith) in omega arith
 
-pub parts_between : (rs : List RowRange) (n k : ℕ) → length (rows_in (take n rs)) ≡ k → All IsRange rs → HaveFirst rs k (take n rs) × HaveLast rs k (drop n rs)
-parts_between rs n k long all = both_parts rs (take n rs) (drop n rs) k (cut_between rs n) long (All-take IsRange n rs all) (All-drop IsRange n rs all)
+  one : IsRange r
+  one = let l = long in subst IsRange (sym at) (lawful.1 (size - 1) r (omega arith))
 
-pub parts_inside : (rs : List RowRange) (n m k : ℕ) (r front back : RowRange) → get_elem? rs n ≡ some r → length (rows_in (take n rs)) + m ≡ k → 0 < m → m < r.count → All IsRange rs
-    → front ≡ record { first = r.first; count = m } → back ≡ record { first = r.first + m; count = r.count - m } → HaveFirst rs k (take n rs ++ front ∷ []) × HaveLast rs k (back ∷ drop (suc n) rs)
-parts_inside rs n m k r front back at long some_rows few all first second =
-    let from = drop_at rs n r at in
-    let tail = All-drop IsRange n rs all in
-    let split = subst (All IsRange) from tail in
-    let one = All-head IsRange r (drop (suc n) rs) split in
-    let low = one.0 in
-    let high = one.1 in
-    let is = cut_inside rs (drop (suc n) rs) n m r front back from (omega arith) (ap rows_of first) (ap rows_of second) in
-    let many = ap length (rows-append (take n rs) (front ∷ []) ∙ ap (λ (l : List ℕ). rows_in (take n rs) ++ l) (append-nil (rows_of front) ∙ ap rows_of first)) ∙ (length-append (rows_in (take n rs)) (range_with_len r.first m) ∙ ap (λ j. length (rows_in (take n rs)) + j) (length-range_with_len r.first m)) in
-    both_parts rs (take n rs ++ front ∷ []) (back ∷ drop (suc n) rs) k is (many ∙ long)
-    (All-push IsRange (take n rs) front (All-take IsRange n rs all) (subst IsRange (sym first) (some_rows, omega arith)))
-    (All-cons IsRange back (drop (suc n) rs) (subst IsRange (sym second) (omega arith, omega arith)) (All-tail IsRange r (drop (suc n) rs) split))
+  but_last : (kept : List RowRange) → rows_in (take (size - 1) rs) ++ range_with_len r.first (r.count - 1) ≡ rows_in kept → All IsRange kept → HaveFirst items count 1 kept
+  but_last kept same ranges =
+      let low = one.0 in
+      let counted = lawful.0 in
+      let first = without_last rs (size - 1) r long at low ∙ same in
+      let rest = sym (length-take-le (length (rows_in rs) - 1) (rows_in rs) (omega arith)) ∙ ap length first in
+      record { first = sym first ∙ ap (λ (l : List ℕ). take (length l - 1) l) is; many = omega arith; ranges = ranges }
+
+  pub one_less : 1 < r.count → HaveFirst items count 1 (take (size - 1) rs ++ record { first = r.first; count = r.count - 1 } ∷ [])
+  one_less more =
+      let s : RowRange = record { first = r.first; count = r.count - 1 } in
+      let high = one.1 in
+      but_last (take (size - 1) rs ++ s ∷ []) (sym (rows-append (take (size - 1) rs) (s ∷ []) ∙ ap (λ (l : List ℕ). rows_in (take (size - 1) rs) ++ l) (append-nil (rows_of s))))
+      (All-push IsRange (take (size - 1) rs) s (All-take IsRange (size - 1) rs lawful.1) (omega arith, omega arith))
+
+  pub none_left : r.count ≤ 1 → HaveFirst items count 1 (take (size - 1) rs)
+  none_left few =
+      let none : r.count - 1 ≡ 0 = omega arith in
+      but_last (take (size - 1) rs) (ap (λ k. rows_in (take (size - 1) rs) ++ range_with_len r.first k) none ∙ append-nil (rows_in (take (size - 1) rs))) (All-take IsRange (size - 1) rs lawful.1)

@@ -8,11 +8,17 @@ use Rattle.wb_history.specs.declared.knowledge.Knowledge.{Knowledge}
 use Rattle.wb_names.specs.Values.{DrawopValue}
 use Rattle.wb_codec.specs.Rows.{row}
 use Rattle.wb_codec.proofs.RowLaws.{row_length}
+use Rattle.wb_history.specs.Lawful.{Remembers}
+use Rattle.wb_history.proofs.Lists.{at_nothing}
 use Rattle.wb_history.specs.Views.{after_read, after_member, after_store, IsMember, IsStored}
 
 take_all : (xs : List ℕ) → take (length xs) xs ≡ xs
 take_all [] = refl
 take_all (x ∷ xs) = λ i. x ∷ take_all xs i
+
+-- inside no call nothing is remembered
+pub nothing_remembered : (cells : ℕ) (words rows : List ℕ) (seen : ℕ) (free : List ℕ) → Remembers cells words rows seen free 0 [] []
+nothing_remembered cells words rows seen free = record { looks = λ h. absurd (omega arith); reads = λ k n e. absurd (at_nothing k n e); stores = λ k n q e _. absurd (at_nothing k n e) }
 
 -- the view w after these words were read
 pub record ReadSo (v : Knowledge) (words : List ℕ) (w : Knowledge) : Type 0 where

@@ -1,4 +1,4 @@
--- Two hands, and two passes, that become one.
+-- Two cursors, and two passes, that become one.
 use Rattle.std.proofs.Common.{◌≡◌, ℕ, ◌+◌, ◌<◌, ◌≤◌, List, [], ◌++◌, length, refl, sym, ap, ◌∙◌, subst, ⊎_elim, arith, length-append}
 use Rattle.std.proofs.lemmas.List.{append-nil}
 use Rattle.std.proofs.lemmas.Bool.{cases_lt, cond_below, cond_above}
@@ -10,9 +10,9 @@ use mathlib.Core.List.{IsPrefix}
 use Rattle.atomic_table.specs.Table.{Me, step}
 use Rattle.wb_names.specs.Values.{DrawopValue}
 use Rattle.wb_history.specs.declared.knowledge.Knowledge.{Knowledge}
-use Rattle.wb_history.specs.declared.hand.Hand.{Hand}
+use Rattle.wb_history.specs.declared.cursor.Cursor.{Cursor}
 use Rattle.wb_history.specs.Lists.{Once, longer, shorter}
-use Rattle.wb_history.specs.Hands.{InOrder, United}
+use Rattle.wb_history.specs.Cursors.{InOrder, United}
 use Rattle.wb_history.specs.Plays.{confirmed}
 use Rattle.wb_history.specs.Sharing.{IsJoined}
 use Rattle.wb_history.specs.Passes.{PassValue, IsSamePass, KeepsRows}
@@ -37,19 +37,19 @@ both_begin xs ys h = ⊎_elim
     (cases_lt (length xs) (length ys))
 
 -- of the lists of two seats that were united each begins the longer, as a load tells
-begins : (h : Hand) (w : Knowledge) (u : Me DrawopValue Knowledge) (word found : ℕ) (m : Me DrawopValue Knowledge) → InOrder h → u.0 ≡ united h.seat.me.0 w → confirmed (step 0 word 0 0 none) u found m
+begins : (h : Cursor) (w : Knowledge) (u : Me DrawopValue Knowledge) (word found : ℕ) (m : Me DrawopValue Knowledge) → InOrder h → u.0 ≡ united h.seat.me.0 w → confirmed (step 0 word 0 0 none) u found m
     → IsPrefix h.seen.items (longer h.seen.items w.seen) × IsPrefix w.seen (longer h.seen.items w.seen)
 begins h w u word found m o is told =
     let starts = subst (λ (v : Knowledge). length v.told ≤ length v.seen → IsPrefix v.told v.seen) is told.2 in
     both_begin h.seen.items w.seen (subst (λ (l : List DrawopValue). length (shorter l w.seen) ≤ length (longer l w.seen) → IsPrefix (shorter l w.seen) (longer l w.seen)) o.seen starts)
 
--- the hand has seen a front of what the other has, where that is no shorter
-pub told_front : (h : Hand) (w : Knowledge) (u : Me DrawopValue Knowledge) (word found : ℕ) (m : Me DrawopValue Knowledge) → InOrder h → u.0 ≡ united h.seat.me.0 w → confirmed (step 0 word 0 0 none) u found m → length h.seen.items ≤ length w.seen
+-- the cursor has seen a front of what the other has, where that is no shorter
+pub told_front : (h : Cursor) (w : Knowledge) (u : Me DrawopValue Knowledge) (word found : ℕ) (m : Me DrawopValue Knowledge) → InOrder h → u.0 ≡ united h.seat.me.0 w → confirmed (step 0 word 0 0 none) u found m → length h.seen.items ≤ length w.seen
     → IsPrefix h.seen.items w.seen
 told_front h w u word found m o is told few = let b = begins h w u word found m o is told in both_start (longer h.seen.items w.seen) w.seen h.seen.items b.1 b.0 few
 
--- the hand after its seat took in the other, and a load told what the join did not
-pub took_in : (h : Hand) (w : Knowledge) (h' : Hand) (u : Me DrawopValue Knowledge) (word found : ℕ) → InOrder h → u.1 ≡ h.seat.me.1 → u.0 ≡ united h.seat.me.0 w → confirmed (step 0 word 0 0 none) u found h'.seat.me
+-- the cursor after its seat took in the other, and a load told what the join did not
+pub took_in : (h : Cursor) (w : Knowledge) (h' : Cursor) (u : Me DrawopValue Knowledge) (word found : ℕ) → InOrder h → u.1 ≡ h.seat.me.1 → u.0 ≡ united h.seat.me.0 w → confirmed (step 0 word 0 0 none) u found h'.seat.me
     → h'.seat.table_id ≡ h.seat.table_id → h'.seat.id ≡ h.seat.id → h'.seen.items ≡ longer h.seen.items w.seen → h'.mine.items ≡ h.mine.items ++ w.mine → h'.free.items ≡ h.free.items ++ w.free → h'.steps ≡ h.steps → United h w h'
 took_in h w h' u word found o slots is told table id seen mine free steps =
     let after : h'.seat.me.0 ≡ after_confirm (united h.seat.me.0 w) word found = told.1 ∙ ap (λ (v : Knowledge). after_confirm v word found) is in
@@ -82,7 +82,7 @@ shared_none xs ys once i a b =
     absurd (omega arith)
 
 -- more capacity is not seen
-pub same_view : (h k : Hand) → h.seat ≡ k.seat → h.seen ≡ k.seen → h.mine.items ≡ k.mine.items → h.free.items ≡ k.free.items → h.steps ≡ k.steps → view_of h ≡ view_of k
+pub same_view : (h k : Cursor) → h.seat ≡ k.seat → h.seen ≡ k.seen → h.mine.items ≡ k.mine.items → h.free.items ≡ k.free.items → h.steps ≡ k.steps → view_of h ≡ view_of k
 same_view h k seat seen mine free steps = λ i. record {
   table = (seat i).table_id;
   cells = (seat i).me.0.cells;
@@ -95,7 +95,7 @@ same_view h k seat seen mine free steps = λ i. record {
   steps = steps i;
 }
 
-pub joined : (p q : PassValue) (h g h' : Hand) → view_of h ≡ p → view_of g ≡ q → InOrder g → United h g.seat.me.0 h' → IsJoined p q (view_of h')
+pub joined : (p q : PassValue) (h g h' : Cursor) → view_of h ≡ p → view_of g ≡ q → InOrder g → United h g.seat.me.0 h' → IsJoined p q (view_of h')
 joined p q h g h' is_p is_q o u = subst (λ (v : PassValue). IsJoined v q (view_of h')) is_p (subst (λ (v : PassValue). IsJoined (view_of h) v (view_of h')) is_q record {
   seen = u.seen ∙ ap (λ (l : List DrawopValue). longer h.seen.items l) o.seen;
   first = u.first;

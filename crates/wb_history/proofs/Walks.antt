@@ -1,20 +1,20 @@
--- Walks of a hand along the history.
+-- Walks of a cursor along the history.
 use Rattle.wb_history.specs.Sizes.{member_steps}
 use Rattle.std.proofs.Common.{◌≡◌, ◌≢◌, ℕ, ◌+◌, ◌-◌, ◌*◌, ◌<◌, ◌≤◌, List, [], ◌∷◌, ◌++◌, length, refl, sym, ap, ◌∙◌, subst, inl, inr, ⊎_elim, arith, length-append, append_assoc}
 use Rattle.std.proofs.lemmas.List.{append-nil}
 use Rattle.wb_names.specs.Values.{NameValue, DrawopValue}
-use Rattle.wb_history.specs.declared.hand.Hand.{Hand}
+use Rattle.wb_history.specs.declared.cursor.Cursor.{Cursor}
 use Rattle.wb_history.specs.declared.cells.CellTable.{CellTable}
 use Rattle.wb_history.specs.Members.{Lacks, NamesOnce}
-use Rattle.wb_history.specs.Hands.{InOrder, Walked, AtEnd, FoundFree, Won, IsAnswer, Settled}
-use Rattle.wb_history.specs.declared.hand.Claim.{Claim}
-use Rattle.wb_history.specs.declared.hand.Claim.TheVariants.{Added, Present, Clash}
+use Rattle.wb_history.specs.Cursors.{InOrder, Walked, AtEnd, FoundFree, Won, TellsNamesake, Answered}
+use Rattle.wb_history.specs.declared.claim.Claim.{Claim}
+use Rattle.wb_history.specs.declared.claim.Claim.TheVariants.{Added, Present, Clash}
 use Rattle.wb_history.specs.Seats.{SitsAt}
 use Rattle.wb_history.specs.Views.{OwnsAll}
 use Rattle.wb_history.proofs.Lists.{at_end, at-lt}
 use Rattle.atomic_table.proofs.Lists.{at_longer, at_last}
 
-pub stay : (h : Hand) → InOrder h → Walked h [] 0 h
+pub stay : (h : Cursor) → InOrder h → Walked h [] 0 h
 stay h o = record {
   order = o;
   seat = (refl, refl, refl);
@@ -27,11 +27,11 @@ stay h o = record {
   steps = omega arith;
 }
 
-owns_still : (h : Hand) (a : List DrawopValue) (k : ℕ) (h' : Hand) → InOrder h → Walked h a k h' → OwnsAll h.seat.me.0 → OwnsAll h'.seat.me.0
+owns_still : (h : Cursor) (a : List DrawopValue) (k : ℕ) (h' : Cursor) → InOrder h → Walked h a k h' → OwnsAll h.seat.me.0 → OwnsAll h'.seat.me.0
 owns_still h a k h' o w all =
     let free = ap length (w.order.free ∙ (w.free ∙ sym o.free)) in let mine = ap length (w.order.mine ∙ (w.mine ∙ sym o.mine)) in let cells = w.cells in omega arith
 
-pub walk_on : (h : Hand) (a b : List DrawopValue) (j k : ℕ) (h' h'' : Hand) → InOrder h → Walked h a j h' → Walked h' b k h'' → Walked h (a ++ b) (j + k) h''
+pub walk_on : (h : Cursor) (a b : List DrawopValue) (j k : ℕ) (h' h'' : Cursor) → InOrder h → Walked h a j h' → Walked h' b k h'' → Walked h (a ++ b) (j + k) h''
 walk_on h a b j k h' h'' o v w =
     let long = length-append a b in
     let m = v.made in
@@ -49,7 +49,7 @@ walk_on h a b j k h' h'' o v w =
       steps = omega arith;
     }
 
-pub win_on : (h : Hand) (a b : List DrawopValue) (d : DrawopValue) (place j k : ℕ) (h' h'' : Hand) → InOrder h → Walked h a j h' → Won h' b d place k h'' → Won h (a ++ b) d place (j + k) h''
+pub win_on : (h : Cursor) (a b : List DrawopValue) (d : DrawopValue) (place j k : ℕ) (h' h'' : Cursor) → InOrder h → Walked h a j h' → Won h' b d place k h'' → Won h (a ++ b) d place (j + k) h''
 win_on h a b d place j k h' h'' o v w =
     let long = length-append a b in
     let m = v.made in
@@ -72,38 +72,38 @@ win_on h a b d place j k h' h'' o v w =
       steps = omega arith;
     }
 
-pub end_on : (cells : ℕ) (h : Hand) (a b : List DrawopValue) (h' h'' : Hand) → InOrder h → Walked h a 0 h' → AtEnd cells h' b h'' → AtEnd cells h (a ++ b) h''
+pub end_on : (cells : ℕ) (h : Cursor) (a b : List DrawopValue) (h' h'' : Cursor) → InOrder h → Walked h a 0 h' → AtEnd cells h' b h'' → AtEnd cells h (a ++ b) h''
 end_on cells h a b h' h'' o v e = ⊎_elim (λ x. inl (walk_on h a b 0 1 h' h'' o v x.0, x.1)) (λ x. inr (walk_on h a b 0 0 h' h'' o v x.0, x.1)) e
 
-pub sits_still : (t : CellTable) (h : Hand) (a : List DrawopValue) (k : ℕ) (h' : Hand) → SitsAt t h.seat → Walked h a k h' → SitsAt t h'.seat
+pub sits_still : (t : CellTable) (h : Cursor) (a : List DrawopValue) (k : ℕ) (h' : Cursor) → SitsAt t h.seat → Walked h a k h' → SitsAt t h'.seat
 sits_still t h a k h' s w = (w.seat.0 ∙ s.0, w.cells ∙ s.1)
 
--- a hand has not seen more than all cells
-pub seen_within : (t : CellTable) (h : Hand) → InOrder h → SitsAt t h.seat → length h.seen.items + length h.free.items ≤ t.cells
+-- a cursor has not seen more than all cells
+pub seen_within : (t : CellTable) (h : Cursor) → InOrder h → SitsAt t h.seat → length h.seen.items + length h.free.items ≤ t.cells
 seen_within t h o s = let room = o.sane.room in let c = s.1 in let a = ap length o.seen in let b = ap length o.free in omega arith
 
-pub few_steps : (h : Hand) (a : List DrawopValue) (h' : Hand) → h.steps ≡ 0 → Walked h a 0 h' → h'.steps ≤ member_steps * length h'.seen.items
+pub few_steps : (h : Cursor) (a : List DrawopValue) (h' : Cursor) → h.steps ≡ 0 → Walked h a 0 h' → h'.steps ≤ member_steps * length h'.seen.items
 few_steps h a h' none w = let s = w.steps in let l = ap length w.seen in omega (arith, length-append h.seen.items a)
 
 pub lacks_more : (l : List DrawopValue) (d : DrawopValue) (name : NameValue) → Lacks l name → d.name ≢ name → Lacks (l ++ d ∷ []) name
 lacks_more l d name lacks other p e at same = ⊎_elim (λ old. lacks p e old same) (λ c. other (ap (λ (o : DrawopValue). o.name) c.1 ∙ same)) (at_end l d p e at)
 
-pub nearer : (t : CellTable) (h : Hand) (d : DrawopValue) (h' : Hand) → InOrder h → SitsAt t h.seat → Walked h (d ∷ []) 0 h' → t.cells - length h'.seen.items < t.cells - length h.seen.items
+pub nearer : (t : CellTable) (h : Cursor) (d : DrawopValue) (h' : Cursor) → InOrder h → SitsAt t h.seat → Walked h (d ∷ []) 0 h' → t.cells - length h'.seen.items < t.cells - length h.seen.items
 nearer t h d h' o s w =
     let a = ap length w.seen in let b = seen_within t h' w.order (sits_still t h (d ∷ []) 0 h' s w) in omega (arith, length-append h.seen.items (d ∷ []))
 
-pub settled : (h : Hand) (d : DrawopValue) (extra : ℕ) (h' : Hand) (c : Claim) (more : List DrawopValue) → Walked h more extra h' → IsAnswer h'.seen.items d c → Settled h d extra h' c
-settled h d extra h' (Added i) more w a = absurd a
-settled h d extra h' (Present i) more w a = (more, w, a)
-settled h d extra h' (Clash i) more w a = (more, w, a)
+pub answered : (h : Cursor) (d : DrawopValue) (extra : ℕ) (h' : Cursor) (c : Claim) (more : List DrawopValue) → Walked h more extra h' → TellsNamesake h'.seen.items d c → Answered h d extra h' c
+answered h d extra h' (Added i) more w a = absurd a
+answered h d extra h' (Present i) more w a = (more, w, a)
+answered h d extra h' (Clash i) more w a = (more, w, a)
 
-pub settle_on : (h : Hand) (a : List DrawopValue) (d : DrawopValue) (j k : ℕ) (h' h'' : Hand) (c : Claim) → InOrder h → Walked h a j h' → Settled h' d k h'' c → Settled h d (j + k) h'' c
-settle_on h a d j k h' h'' (Added i) o v s = (a ++ s.0, subst (λ n. Won h (a ++ s.0) d i n h'') (omega arith) (win_on h a s.0 d i j (k + 1) h' h'' o v s.1))
-settle_on h a d j k h' h'' (Present i) o v s = (a ++ s.0, walk_on h a s.0 j k h' h'' o v s.1, s.2)
-settle_on h a d j k h' h'' (Clash i) o v s = (a ++ s.0, walk_on h a s.0 j k h' h'' o v s.1, s.2)
+pub answer_on : (h : Cursor) (a : List DrawopValue) (d : DrawopValue) (j k : ℕ) (h' h'' : Cursor) (c : Claim) → InOrder h → Walked h a j h' → Answered h' d k h'' c → Answered h d (j + k) h'' c
+answer_on h a d j k h' h'' (Added i) o v s = (a ++ s.0, subst (λ n. Won h (a ++ s.0) d i n h'') (omega arith) (win_on h a s.0 d i j (k + 1) h' h'' o v s.1))
+answer_on h a d j k h' h'' (Present i) o v s = (a ++ s.0, walk_on h a s.0 j k h' h'' o v s.1, s.2)
+answer_on h a d j k h' h'' (Clash i) o v s = (a ++ s.0, walk_on h a s.0 j k h' h'' o v s.1, s.2)
 
 -- after the end was found free
-pub free_end : (t : CellTable) (h : Hand) (more : List DrawopValue) (h' : Hand) → SitsAt t h.seat → AtEnd t.cells h more h' → 0 < length h'.free.items → Walked h more 1 h' × FoundFree h'
+pub free_end : (t : CellTable) (h : Cursor) (more : List DrawopValue) (h' : Cursor) → SitsAt t h.seat → AtEnd t.cells h more h' → 0 < length h'.free.items → Walked h more 1 h' × FoundFree h'
 free_end t h more h' s e some_free = ⊎_elim (λ x. x) (λ x. let b = seen_within t h' x.0.order (sits_still t h more 0 h' s x.0) in let full = x.1 in absurd (omega arith)) e
 
 -- of a list with no name twice, the members before the last lack its name

@@ -2,8 +2,8 @@
 use Rattle.std.specs.Prelude.{ℕ}
 use Rattle.wb_history.specs.declared.history.OpenFault.{OpenFault}
 use Rattle.wb_history.specs.declared.history.OpenFault.TheVariants as opening
-use Rattle.wb_history.specs.declared.hand.ClaimFault.{ClaimFault}
-use Rattle.wb_history.specs.declared.hand.ClaimFault.TheVariants as claiming
+use Rattle.wb_history.specs.declared.claim.ClaimFault.{ClaimFault}
+use Rattle.wb_history.specs.declared.claim.ClaimFault.TheVariants as claim_faults
 use Rattle.wb_history.specs.declared.parts.SplitFault.{SplitFault}
 use Rattle.wb_history.specs.declared.parts.SplitFault.TheVariants as splitting
 use Rattle.wb_history.specs.declared.parts.JoinFault.{JoinFault}
@@ -13,8 +13,8 @@ open_code opening.Cells = 1
 open_code opening.Memory = 2
 
 abbrev pub claim_code : ClaimFault → ℕ
-claim_code claiming.NoRow = 1
-claim_code claiming.Memory = 2
+claim_code claim_faults.NoRow = 1
+claim_code claim_faults.Memory = 2
 
 abbrev pub split_code : SplitFault → ℕ
 split_code (splitting.TooMany have) = 1

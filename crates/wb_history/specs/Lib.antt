@@ -7,7 +7,7 @@ pub mod RowRanges
 pub mod Sizes
 pub mod Views
 pub mod Seats
-pub mod Hands
+pub mod Cursors
 pub mod Passes
 pub mod Replies
 pub mod Sharing

@@ -5,10 +5,10 @@ use Rattle.wb_names.specs.History.{HoldsName, IsNewAt, IsAgainAt, IsClashAt}
 use Rattle.wb_names.specs.Arrivals.{Outcome, Fresh, Known, Clashed, Left}
 use Rattle.wb_history.specs.Sizes.{row_words, member_steps}
 use Rattle.wb_history.specs.Passes.{PassValue, IsWhole, AddsNothing, IsCaughtUp}
-use Rattle.wb_history.specs.declared.hand.Claim.{Claim}
-use Rattle.wb_history.specs.declared.hand.Claim.TheVariants.{Added, Present, Clash}
-use Rattle.wb_history.specs.declared.hand.ClaimFault.{ClaimFault}
-use Rattle.wb_history.specs.declared.hand.ClaimFault.TheVariants.{NoRow, Memory}
+use Rattle.wb_history.specs.declared.claim.Claim.{Claim}
+use Rattle.wb_history.specs.declared.claim.Claim.TheVariants.{Added, Present, Clash}
+use Rattle.wb_history.specs.declared.claim.ClaimFault.{ClaimFault}
+use Rattle.wb_history.specs.declared.claim.ClaimFault.TheVariants.{NoRow, Memory}
 
 -- d was new to the history before place i, and is its member i. The pass gained that place for one of its rows
 pub record IsAdded (p : PassValue) (d : DrawopValue) (i : ℕ) (q : PassValue) : Type 0 where

@@ -1,15 +1,15 @@
 -- How a pass is seen, by its parts.
 use Rattle.wb_history.specs.Sizes.{row_words}
 use Rattle.std.specs.Prelude.{◌≡◌, ◌+◌, ◌*◌, ◌<◌, ◌≤◌, length}
-use Rattle.wb_history.specs.declared.hand.Hand.{Hand}
+use Rattle.wb_history.specs.declared.cursor.Cursor.{Cursor}
 use Rattle.wb_history.specs.declared.cells.CellTable.{CellTable}
-use Rattle.wb_history.specs.Hands.{InOrder}
+use Rattle.wb_history.specs.Cursors.{InOrder}
 use Rattle.wb_history.specs.Passes.{HistoryValue, PassValue}
 
 abbrev pub history_of : CellTable → HistoryValue
 history_of t = record { table = t.table.shared.table_id; cells = t.cells }
 
-abbrev pub view_of : Hand → PassValue
+abbrev pub view_of : Cursor → PassValue
 view_of h = record {
   table = h.seat.table_id;
   cells = h.seat.me.0.cells;
@@ -23,5 +23,5 @@ view_of h = record {
 }
 
 -- the parts of a pass agree with one another, and its cells are those of its table
-abbrev pub IsHeld : Hand → Type 0
+abbrev pub IsHeld : Cursor → Type 0
 IsHeld h = InOrder h × (h.seat.table_id.words ≡ h.seat.me.0.cells + h.seat.me.0.cells * row_words) × (0 < h.seat.me.0.cells) × (h.seat.me.0.cells ≤ 65535)

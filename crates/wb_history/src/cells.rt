@@ -10,7 +10,7 @@ use wb_codec::ROW_WORDS;
 use wb_names::Drawop;
 
 /// A seat at the table of a history.
-pub(crate) type Chair = Seat<Drawop, Knowledge>;
+pub(crate) type HistorySeat = Seat<Drawop, Knowledge>;
 
 /// Cells and rows that passes share. Word `p` is cell `p`: it holds 0, or a row number plus one.
 #[derive(Drop)]
@@ -27,7 +27,7 @@ impl CellTable {
     ghost use Rattle.std.specs.Prelude.{[]};
 
     /// A table of free cells and rows that no cell names, with the seat that owns all rows.
-    pub(crate) fn make(alloc: Global, cells: u32) -> Result<(CellTable, Chair), AllocError>
+    pub(crate) fn make(alloc: Global, cells: u32) -> Result<(CellTable, HistorySeat), AllocError>
         requires { (0 < cells) × (cells ≤ 65535) }
         ensures { IfOk result (λ t. (t.0.cells ≡ cells) × (t.1.table_id ≡ t.0.table.shared.table_id) × (t.1.me ≡ (whole_pass cells, []))) }
     {

@@ -8,7 +8,8 @@ ghost use Rattle.wb_history.specs.Replies.{Claimed, NotClaimed, ClaimSteps, Faul
 ghost use Rattle.wb_history.specs.declared.history.OpenFault.TheVariants as fault;
 
 use crate::cells::CellTable;
-use crate::hand::{Claim, ClaimFault, Hand};
+use crate::claim::{Claim, ClaimFault};
+use crate::cursor::Cursor;
 use crate::members::Members;
 use crate::pass::Pass;
 use crate::ranges::Rows;
@@ -74,7 +75,7 @@ impl History {
         let Ok((table, seat)) = CellTable::make(alloc, cells) else {
             return Err(OpenFault::Memory);
         };
-        let hand = Hand {
+        let cursor = Cursor {
             seat,
             seen: Members::new(alloc),
             mine: Vec::new(alloc),
@@ -82,7 +83,7 @@ impl History {
             steps: 0,
         };
         let pass = Pass {
-            hand,
+            cursor,
             spares: Vec::new(alloc),
             cells,
         };
@@ -104,8 +105,8 @@ impl History {
         ensures steps { pass.new.made ≡ pass.old.made + pass.new.steps }
         ensures few_steps { MatchResult result (ClaimSteps pass.old pass.new) (FaultSteps pass.old pass.new) }
     {
-        pass.hand.steps = 0;
-        self.cells.claim_with(&mut pass.hand, drawop)
+        pass.cursor.steps = 0;
+        self.cells.claim_with(&mut pass.cursor, drawop)
     }
 
     /// Reads the history to its end, and returns the length of the list then seen. After a fault
@@ -121,8 +122,8 @@ impl History {
         ensures steps { pass.new.made ≡ pass.old.made + pass.new.steps }
         ensures few_steps { pass.new.steps ≤ member_steps * brought pass.old pass.new + 1 }
     {
-        pass.hand.steps = 0;
-        self.cells.catch_up(&mut pass.hand)?;
-        Ok(pass.hand.seen.len() as u32)
+        pass.cursor.steps = 0;
+        self.cells.catch_up(&mut pass.cursor)?;
+        Ok(pass.cursor.seen.len() as u32)
     }
 }

@@ -13,13 +13,15 @@
 //! used again, a drawop never leaves, and nothing is kept on disk. Callers see drawops by place; the
 //! words, the contents of cells and the numbers of rows stay inside.
 //!
-//! In reading order: `history`, `parts` and `pass` have the public calls; `hand`, `members`, `ranges`, `spares`,
-//! `walk` and `claims` what a pass does in them; `cells`, `steps`, `rule` and `knowledge` the table.
+//! In reading order: `history`, `parts` and `pass` have the public calls, and `claim` the answers to one;
+//! `cursor`, `members`, `ranges`, `spares`, `walk` and `claiming` what a pass does in them; `cells`, `steps`,
+//! `rule` and `knowledge` the table.
 #![tactic(auto)]
 
 mod cells;
-mod claims;
-mod hand;
+mod claim;
+mod claiming;
+mod cursor;
 mod history;
 mod knowledge;
 mod members;
@@ -31,7 +33,7 @@ mod spares;
 mod steps;
 mod walk;
 
-pub use hand::{Claim, ClaimFault};
+pub use claim::{Claim, ClaimFault};
 pub use history::{History, OpenFault};
 pub use parts::{JoinFault, SplitFault};
 pub use pass::Pass;

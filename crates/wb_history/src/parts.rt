@@ -1,7 +1,7 @@
 //! How a pass is split, how two are joined, and how two tell each other what they have seen.
 ghost use Rattle.std.specs.Prelude.{◌≡◌, ◌+◌, ◌<◌, ◌≤◌, [], ◌++◌, Err, IfOk, IfErr, OnOk, OnErr, MatchResult, length, vec_len, vec_capacity};
 ghost use mathlib.Core.List.{IsPrefix};
-ghost use Rattle.wb_history.specs.Hands.{InOrder, United};
+ghost use Rattle.wb_history.specs.Cursors.{InOrder, United};
 ghost use Rattle.wb_history.specs.Lists.{longer};
 ghost use Rattle.wb_history.specs.Members.{NamesOnce};
 ghost use Rattle.wb_history.specs.Seats.{SitsAt};
@@ -9,8 +9,8 @@ ghost use Rattle.wb_history.specs.Sharing.{IsSplit, IsSplitFault, IsJoined};
 ghost use Rattle.wb_history.specs.Passes.{IsPassOf, IsSamePass, IsSound, KeepsRows};
 ghost use Rattle.wb_history.specs.declared.parts.SplitFault.TheVariants as fault;
 
-use crate::cells::{CellTable, Chair};
-use crate::hand::Hand;
+use crate::cells::{CellTable, HistorySeat};
+use crate::cursor::Cursor;
 use crate::history::History;
 use crate::members::Members;
 use crate::pass::Pass;
@@ -77,18 +77,20 @@ impl History {
         ensures parts { MatchResult result (IsSplit pass.old rows pass.new) (λ e. (pass.new ≡ pass.old) × IsSplitFault pass.old rows e) }
         ensures too_many { pass.old.free < rows → result ≡ Err (fault.TooMany pass.old.free) }
     {
-        let have = pass.hand.free.len();
+        let have = pass.cursor.free.len();
         if have < rows {
             return Err(SplitFault::TooMany(have));
         }
-        let Ok(seen) = another(&mut pass.spares, &pass.hand.seen) else {
+        let Ok(seen) = another(&mut pass.spares, &pass.cursor.seen) else {
             return Err(SplitFault::Memory);
         };
-        let Ok(free) = pass.hand.free.split_off(rows) else {
+        let Ok(free) = pass.cursor.free.split_off(rows) else {
             return Err(SplitFault::Memory);
         };
-        let seat = self.cells.cut::<Brand>(&mut pass.hand.seat, rows as usize);
-        let hand = Hand {
+        let seat = self
+            .cells
+            .cut::<Brand>(&mut pass.cursor.seat, rows as usize);
+        let cursor = Cursor {
             seat,
             seen,
             mine: Vec::new(alloc),
@@ -96,7 +98,7 @@ impl History {
             steps: 0,
         };
         Ok(Pass {
-            hand,
+            cursor,
             spares: Vec::new(alloc),
             cells: pass.cells,
         })
@@ -114,44 +116,44 @@ fn append(to: &mut Vec<u32>, from: &[u32])
 }
 
 impl CellTable {
-    /// Makes two hands one. The load of the first cell tells what the join of the seats does not: that
+    /// Makes two cursors one. The load of the first cell tells what the join of the seats does not: that
     /// the longer list begins with the shorter, and that no place was of both. The shorter comes back.
-    fn take_in(&self, hand: &mut Hand, other: Hand) -> Members
-        requires hand { SitsAt self.now hand.old.seat × InOrder hand.old }
+    fn take_in(&self, cursor: &mut Cursor, other: Cursor) -> Members
+        requires cursor { SitsAt self.now cursor.old.seat × InOrder cursor.old }
         requires other { SitsAt self.now other.seat × InOrder other }
-        requires room { (vec_len hand.old.mine + vec_len other.mine ≤ vec_capacity hand.old.mine) × (other.free.parts ≤ hand.old.free.room) }
-        ensures united { United hand.old other.seat.me.0 hand.new }
-        ensures front { IsPrefix result.items hand.new.seen.items }
+        requires room { (vec_len cursor.old.mine + vec_len other.mine ≤ vec_capacity cursor.old.mine) × (other.free.parts ≤ cursor.old.free.room) }
+        ensures united { United cursor.old other.seat.me.0 cursor.new }
+        ensures front { IsPrefix result.items cursor.new.seen.items }
     {
-        let Hand {
+        let Cursor {
             seat,
             seen,
             mine,
             free,
             steps: _,
         } = other;
-        self.unite(&mut hand.seat, seat);
-        self.confirm(&mut hand.seat);
-        append(&mut hand.mine, mine.as_slice());
-        hand.free.append(free);
-        if hand.seen.len() < seen.len() {
-            return replace(&mut hand.seen, seen);
+        self.unite(&mut cursor.seat, seat);
+        self.confirm(&mut cursor.seat);
+        append(&mut cursor.mine, mine.as_slice());
+        cursor.free.append(free);
+        if cursor.seen.len() < seen.len() {
+            return replace(&mut cursor.seen, seen);
         }
         seen
     }
 
-    /// Takes in a seat that owns nothing and has seen this list, which is no shorter. The hand's own
+    /// Takes in a seat that owns nothing and has seen this list, which is no shorter. The cursor's own
     /// list gets what the other has more; there is room for it.
-    fn hear(&self, hand: &mut Hand, seat: Chair, list: &[Drawop])
-        requires hand { SitsAt self.now hand.old.seat × InOrder hand.old }
+    fn hear(&self, cursor: &mut Cursor, seat: HistorySeat, list: &[Drawop])
+        requires cursor { SitsAt self.now cursor.old.seat × InOrder cursor.old }
         requires seat { SitsAt self.now seat × (seat.me.1 ≡ []) × (seat.me.0.mine ≡ []) × (seat.me.0.free ≡ []) }
         requires list { (seat.me.0.seen ≡ list.now) × NamesOnce list.now }
-        requires room { (length hand.old.seen.items ≤ length list.now) × (length list.now ≤ length hand.old.seen.items + hand.old.seen.room) }
-        ensures { United hand.old seat.me.0 hand.new }
+        requires room { (length cursor.old.seen.items ≤ length list.now) × (length list.now ≤ length cursor.old.seen.items + cursor.old.seen.room) }
+        ensures { United cursor.old seat.me.0 cursor.new }
     {
-        self.unite(&mut hand.seat, seat);
-        self.confirm(&mut hand.seat);
-        hand.seen.extend_to(list);
+        self.unite(&mut cursor.seat, seat);
+        self.confirm(&mut cursor.seat);
+        cursor.seen.extend_to(list);
     }
 }
 
@@ -164,18 +166,18 @@ impl History {
         ensures sound { IsSound pass.new × IfErr result (λ e. IsSound e.1) }
         ensures joined { MatchResult result (λ _. IsJoined pass.old other pass.new) (λ e. (pass.new ≡ pass.old) × (e.1 ≡ other)) }
     {
-        if pass.hand.mine.reserve(other.hand.mine.len()).is_err() {
+        if pass.cursor.mine.reserve(other.cursor.mine.len()).is_err() {
             return Err((JoinFault::Memory, other));
         }
-        if pass.hand.free.reserve(&other.hand.free).is_err() {
+        if pass.cursor.free.reserve(&other.cursor.free).is_err() {
             return Err((JoinFault::Memory, other));
         }
         let Pass {
-            hand,
+            cursor,
             spares: _spares,
             cells: _,
         } = other;
-        let shorter = self.cells.take_in(&mut pass.hand, hand);
+        let shorter = self.cells.take_in(&mut pass.cursor, cursor);
         keep(&mut pass.spares, shorter);
         Ok(())
     }
@@ -191,11 +193,11 @@ impl History {
         ensures told { OnOk result (KeepsRows hearer.old hearer.new × (hearer.new.seen ≡ longer hearer.old.seen teller.old.seen) × IsPrefix hearer.old.seen hearer.new.seen × IsPrefix teller.old.seen hearer.new.seen × (hearer.new.steps ≡ hearer.old.steps)) }
         ensures refused { OnErr result ((teller.new ≡ teller.old) × (hearer.new ≡ hearer.old)) }
     {
-        let more = teller.hand.seen.len() - hearer.hand.seen.len();
-        hearer.hand.seen.reserve(more)?;
-        let message = self.cells.cut::<Brand>(&mut teller.hand.seat, 0);
+        let more = teller.cursor.seen.len() - hearer.cursor.seen.len();
+        hearer.cursor.seen.reserve(more)?;
+        let message = self.cells.cut::<Brand>(&mut teller.cursor.seat, 0);
         self.cells
-            .hear(&mut hearer.hand, message, teller.hand.seen.as_slice());
+            .hear(&mut hearer.cursor, message, teller.cursor.seen.as_slice());
         Ok(())
     }
 
@@ -214,7 +216,7 @@ impl History {
         ensures met { OnOk result ((first.new.seen ≡ second.new.seen) × (second.new.seen ≡ longer second.old.seen first.old.seen)) }
         ensures refused { OnErr result ((first.new ≡ first.old) × (second.new ≡ second.old)) }
     {
-        if first.hand.seen.len() < second.hand.seen.len() {
+        if first.cursor.seen.len() < second.cursor.seen.len() {
             self.tell(second, first)
         } else {
             self.tell(first, second)

@@ -4,7 +4,7 @@ ghost use Rattle.wb_names.specs.Values.{DrawopValue};
 ghost use Rattle.wb_names.specs.History.{HoldsName};
 ghost use Rattle.wb_history.specs.Passes.{IsSound, IsWhole};
 
-use crate::hand::Hand;
+use crate::cursor::Cursor;
 use crate::members::Members;
 use std::marker::Model;
 use wb_names::{Drawop, Name};
@@ -18,7 +18,7 @@ use wb_names::{Drawop, Name};
 /// most eight, which are given back when it is dropped.
 #[derive(Drop)]
 pub struct Pass {
-    pub(crate) hand: Hand,
+    pub(crate) cursor: Cursor,
     /// Lists that joined passes brought back, each a front of its own.
     pub(crate) spares: Vec<Members>,
     pub(crate) cells: u32,
@@ -32,9 +32,9 @@ impl Model for Pass {
 
     ghost Value = { PassValue };
 
-    ghost view = { λ p. view_of p.hand };
+    ghost view = { λ p. view_of p.cursor };
 
-    ghost invariant = { λ p. IsHeld p.hand × (p.cells ≡ p.hand.seat.me.0.cells) × AreFronts p.spares.items p.hand.seen.items };
+    ghost invariant = { λ p. IsHeld p.cursor × (p.cells ≡ p.cursor.seat.me.0.cells) × AreFronts p.spares.items p.cursor.seen.items };
 }
 
 impl Pass {
@@ -43,14 +43,14 @@ impl Pass {
         ensures value { result.now ≡ self.now.seen }
         ensures sound { IsSound self.now }
     {
-        self.hand.seen.as_slice()
+        self.cursor.seen.as_slice()
     }
 
     /// The place of the drawop with this name, by one look-up.
     pub fn place_of(&self, name: &Name) -> Option<u32>
         ensures { MatchOption result (¬ HoldsName self.now.seen name.now) (λ i. (d : DrawopValue) × (slice_get self.now.seen i ≡ Some d) × (d.name ≡ name.now)) }
     {
-        match self.hand.seen.place_of(name) {
+        match self.cursor.seen.place_of(name) {
             Some(place) => Some(place as u32),
             None => None,
         }
@@ -60,7 +60,7 @@ impl Pass {
     pub fn at(&self, place: u32) -> Option<&Drawop>
         ensures { option_copied result ≡ slice_get self.now.seen place }
     {
-        let members = self.hand.seen.as_slice();
+        let members = self.cursor.seen.as_slice();
         if (place as usize) < members.len() {
             Some(&members[place as usize])
         } else {
@@ -72,7 +72,7 @@ impl Pass {
     pub fn is_mine(&self, place: u32) -> bool
         ensures { IsTrue result ↔ Contains self.now.mine place }
     {
-        self.hand.mine.as_slice().contains(&place)
+        self.cursor.mine.as_slice().contains(&place)
     }
 
     /// The number of rows that it owns and has not used.
@@ -80,20 +80,20 @@ impl Pass {
         ensures value { result ≡ self.now.free }
         ensures sound { IsSound self.now }
     {
-        self.hand.free.len()
+        self.cursor.free.len()
     }
 
     /// Whether it owns all rows of the history.
     pub fn is_whole(&self) -> bool
         ensures { IsTrue result ↔ IsWhole self.now }
     {
-        self.hand.free.len() as usize + self.hand.mine.len() == self.cells as usize
+        self.cursor.free.len() as usize + self.cursor.mine.len() == self.cells as usize
     }
 
     /// The steps on words of its last claim or refresh, and 0 before the first.
     pub fn steps(&self) -> u32
         ensures { result ≡ self.now.steps }
     {
-        self.hand.steps
+        self.cursor.steps
     }
 }

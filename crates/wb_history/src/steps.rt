@@ -13,7 +13,7 @@ ghost use Rattle.wb_codec.specs.Ranges.{IsDrawop};
 ghost use Rattle.wb_history.specs.Seats.{SitsAt, SameSeat};
 ghost use Rattle.wb_history.specs.Views.{IsMember, IsStored, left_part, right_part, united};
 
-use crate::cells::{CellTable, Chair};
+use crate::cells::{CellTable, HistorySeat};
 use crate::rule::{Confirm, Cut, Look, Portion, Publish, ReadLast, ReadWord, StoreWord, Unite};
 use wb_codec::{ROW_WORDS, from_row, to_row};
 use wb_names::Drawop;
@@ -21,7 +21,7 @@ use wb_names::Drawop;
 impl CellTable {
     /// Loads the first cell that the seat has not seen. It holds 0 while it is free, and otherwise a
     /// row number plus one.
-    pub(crate) fn look(&self, seat: &mut Chair, place: usize) -> u64
+    pub(crate) fn look(&self, seat: &mut HistorySeat, place: usize) -> u64
         requires seat { SitsAt self.now seat.old }
         requires place { (place ≡ length seat.old.me.0.seen) × (place < self.now.cells) }
         ensures seat { SameSeat seat.old seat.new }
@@ -40,7 +40,7 @@ impl CellTable {
 
     /// Reads the row that the cell names which the seat looked at. Its owner stored it before that
     /// cell was won, and stores nothing there again.
-    pub(crate) fn read_row(&self, seat: &mut Chair, row: usize) -> Drawop
+    pub(crate) fn read_row(&self, seat: &mut HistorySeat, row: usize) -> Drawop
         requires seat { SitsAt self.now seat.old }
         requires row { (row < self.now.cells) × (seat.old.me.0.looking ≡ row + 1) × (seat.old.me.0.read ≡ []) }
         ensures seat { SameSeat seat.old seat.new }
@@ -63,7 +63,7 @@ impl CellTable {
 
     /// Stores a record into the last free row of the seat, which no cell names, so that no other
     /// seat reads it.
-    pub(crate) fn store_row(&self, seat: &mut Chair, row: usize, drawop: &Drawop)
+    pub(crate) fn store_row(&self, seat: &mut HistorySeat, row: usize, drawop: &Drawop)
         requires seat { SitsAt self.now seat.old }
         requires row { (row < self.now.cells) × (get_elem? seat.old.me.0.free (length seat.old.me.0.free - 1) ≡ some row) × (seat.old.me.0.stored ≡ []) }
         requires sane { Sane seat.old.me.0 }
@@ -82,7 +82,13 @@ impl CellTable {
 
     /// Exchanges the first cell that the seat has not seen, if it is free, for the row in which the
     /// whole record stands. It returns what the cell held: 0 where the exchange was won.
-    pub(crate) fn publish(&self, seat: &mut Chair, place: usize, row: u32, drawop: &Drawop) -> u64
+    pub(crate) fn publish(
+        &self,
+        seat: &mut HistorySeat,
+        place: usize,
+        row: u32,
+        drawop: &Drawop,
+    ) -> u64
         requires seat { SitsAt self.now seat.old }
         requires place { (place ≡ length seat.old.me.0.seen) × (place < self.now.cells) }
         requires row { get_elem? seat.old.me.0.free (length seat.old.me.0.free - 1) ≡ some row }
@@ -101,7 +107,7 @@ impl CellTable {
 impl CellTable {
     /// Loads the first cell after a join, which tells nothing by itself: of the two lists the longer
     /// begins with the shorter, and a step tells that.
-    pub(crate) fn confirm(&self, seat: &mut Chair)
+    pub(crate) fn confirm(&self, seat: &mut HistorySeat)
         requires seat { SitsAt self.now seat.old }
         ensures seat { SameSeat seat.old seat.new }
         ensures found { (found : ℕ) × confirmed (step 0 0 0 0 none) seat.old.me found seat.new.me }
@@ -110,7 +116,7 @@ impl CellTable {
     }
 
     /// Gives the last rows to a new seat, which has seen the same.
-    pub(crate) fn cut<B: Portion>(&self, seat: &mut Chair, rows: usize) -> Chair
+    pub(crate) fn cut<B: Portion>(&self, seat: &mut HistorySeat, rows: usize) -> HistorySeat
         requires seat { SitsAt self.now seat.old }
         requires rows { B.rows ≡ rows }
         ensures seat { SameSeat seat.old seat.new × (seat.new.me.0 ≡ left_part rows seat.old.me.0) }
@@ -120,7 +126,7 @@ impl CellTable {
     }
 
     /// Takes in another seat, with what it has seen and its rows and places.
-    pub(crate) fn unite(&self, seat: &mut Chair, other: Chair)
+    pub(crate) fn unite(&self, seat: &mut HistorySeat, other: HistorySeat)
         requires seat { SitsAt self.now seat.old }
         requires other { SitsAt self.now other × (other.me.1 ≡ []) }
         ensures seat { SameSeat seat.old seat.new × (seat.new.me.0 ≡ united seat.old.me.0 other.me.0) }

@@ -8,7 +8,7 @@ use Rattle.std.proofs.lemmas.Option.{slice_get_within, slice_get-get_or}
 use Rattle.std.proofs.Math.Seq.{take-suc, take-length}
 use Rattle.wb_names.specs.Values.{DrawopValue}
 use Rattle.wb_host.specs.declared.reply.Reply.TheVariants.{New}
-use Rattle.wb_host.specs.Board.{Call, Accept, AskGaps, AskReport, AskPages, AskView, Answer, Replied, Step, IsAnswer, history_after, IsLegalFrom}
+use Rattle.wb_host.specs.Board.{Call, Accept, AskGaps, AskReport, AskPages, AskView, Answer, Replied, Step, IsAnswer, after_call, IsLegalFrom}
 use Rattle.wb_host.specs.Runs.{Told, is_new, IsMember, Precedes, IsToldSince, is_new_at, rank, placed, in_order, steps_of, end_of, OneRun}
 
 -- P holds of each, element by element
@@ -194,13 +194,13 @@ all_later history p (u ∷ us) none low told =
     )
 
 -- a call that added nothing leaves the history
-after_old : (history : List DrawopValue) (call : Call) (answer : Answer) → is_new answer ≡ false → history_after history call answer ≡ history
+after_old : (history : List DrawopValue) (call : Call) (answer : Answer) → is_new answer ≡ false → after_call history call answer ≡ history
 after_old history (Accept d) (Replied (New i)) e = cc
 after_old history call answer e = refl
 
 -- a new drawop makes it one member longer
 after_new : (history : List DrawopValue) (p : ℕ) (call : Call) (answer : Answer) → p ≤ length history → is_new answer ≡ true → IsAnswer (take p history) call answer → IsMember history call answer
-    → (history_after (take p history) call answer ≡ take (p + 1) history) × (p < length history)
+    → (after_call (take p history) call answer ≡ take (p + 1) history) × (p < length history)
 after_new history p (Accept d) (Replied (New i)) within e a m =
     let at : i ≡ p = a.0 ∙ length-take-le p history within in
     let there : slice_get history p ≡ Some d = subst (λ (j : ℕ). slice_get history j ≡ Some d) at m in

@@ -1,15 +1,15 @@
 -- A whiteboard of one thread: its calls, their answers, and its runs.
-use Rattle.std.specs.Prelude.{ℕ, List, [], ◌∷◌, ◌++◌}
+use Rattle.std.specs.Prelude.{ℕ, List, [], ◌∷◌}
 use Rattle.wb_names.specs.Values.{DrawopValue, MarkValue}
+use Rattle.wb_names.specs.Arrivals.{history_with}
 use Rattle.wb_names.specs.Marks.{IsReport}
 use Rattle.wb_names.specs.declared.name.PageId.{PageId}
 use Rattle.wb_names.specs.declared.gap.Gap.{Gap}
 use Rattle.wb_gaps.specs.Gaps.{AreGaps}
 use Rattle.wb_gaps.specs.Pages.{ArePages}
 use Rattle.wb_display.specs.Display.{IsView}
-use Rattle.wb_host.specs.Replies.{IsReply}
+use Rattle.wb_host.specs.Replies.{IsReply, outcome}
 use Rattle.wb_host.specs.declared.reply.Reply.{Reply}
-use Rattle.wb_host.specs.declared.reply.Reply.TheVariants.{New}
 
 pub data Call : Type 0 where
   Accept : (d : DrawopValue) → Call
@@ -34,10 +34,10 @@ IsAnswer history AskPages (Pages pages) = ArePages history pages
 IsAnswer history (AskView page) (Shown drawops) = IsView history page drawops
 IsAnswer history call answer = ⊥
 
--- only a new drawop extends the history
-abbrev pub history_after : List DrawopValue → Call → Answer → List DrawopValue
-history_after history (Accept d) (Replied (New i)) = history ++ d ∷ []
-history_after history call answer = history
+-- the history after the call: only a new drawop extends it
+abbrev pub after_call : List DrawopValue → Call → Answer → List DrawopValue
+after_call history (Accept d) (Replied reply) = history_with history d (outcome reply)
+after_call history call answer = history
 
 -- one call of one caller, with its answer
 pub record Step : Type 0 where
@@ -48,7 +48,7 @@ pub record Step : Type 0 where
 -- each answer is that of the whiteboard at the history so far
 abbrev pub IsLegalFrom : List DrawopValue → List Step → Type 0
 IsLegalFrom history [] = Unit {0}
-IsLegalFrom history (step ∷ steps) = IsAnswer history step.call step.answer × IsLegalFrom (history_after history step.call step.answer) steps
+IsLegalFrom history (step ∷ steps) = IsAnswer history step.call step.answer × IsLegalFrom (after_call history step.call step.answer) steps
 
 abbrev pub IsLegalRun : List Step → Type 0
 IsLegalRun steps = IsLegalFrom [] steps

@@ -2,7 +2,7 @@
 use Rattle.std.specs.Prelude.{◌≡◌, ℕ, ◌+◌, ◌*◌, ◌<◌, ◌≤◌, Bool, true, false, ◌&&◌, if◌then◌else◌, nat_eq, nat_le, List, [], ◌∷◌, length, take, map, filter, All, AllPairs, slice_get, Some}
 use Rattle.wb_names.specs.Values.{DrawopValue}
 use Rattle.wb_host.specs.declared.reply.Reply.TheVariants.{New}
-use Rattle.wb_host.specs.Board.{Call, Accept, Answer, Replied, Step, IsAnswer, history_after, IsLegalFrom}
+use Rattle.wb_host.specs.Board.{Call, Accept, Answer, Replied, Step, IsAnswer, after_call, IsLegalFrom}
 
 -- a call with its answer, and the point at which it was answered: how many members the history had there
 pub record Told : Type 0 where
@@ -64,7 +64,7 @@ steps_of caller steps = filter (λ s. nat_eq s.caller caller) steps
 -- the history at the end of a run
 abbrev pub end_of : List DrawopValue → List Step → List DrawopValue
 end_of history [] = history
-end_of history (step ∷ steps) = end_of (history_after history step.call step.answer) steps
+end_of history (step ∷ steps) = end_of (after_call history step.call step.answer) steps
 
 -- The run is legal from the first k members on, ends at the whole history, and has the calls of each caller, each once, in their order.
 pub record IsOneRun (history : List DrawopValue) (k : ℕ) (told : List Told) (run : List Step) : Type 0 where

@@ -9,7 +9,7 @@ use Rattle.wb_gaps.proofs.HeldNumbers.{number_total, left_listed, positive_left}
 use Rattle.wb_gaps.proofs.TakenIn.{greatest_left, seen_here, seen_elsewhere}
 use Rattle.wb_gaps.specs.Candidates.{HasGreatest}
 use Rattle.wb_gaps.specs.Numbers.{number_cmp}
-use Rattle.wb_gaps.specs.declared.held.Number.{Number}
+use Rattle.wb_gaps.specs.declared.held.SourceNumber.{SourceNumber}
 use Rattle.wb_gaps.proofs.candidates.candidates.Goals as goal
 use Rattle.wb_gaps.proofs.candidates.candidates.Goals.{then-eq+in_ok-place, else-eq}
 
@@ -42,12 +42,12 @@ loop-drawop-preserved c =
 
 pub returns-clause-rising : goal.returns-clause-rising
 returns-clause-rising c =
-    let rises = c.sort_unstable_by.ensures.sorted (λ x y. is_lt (number_cmp x y)) (ranks_by number_total (λ (n : Number). n)) (answers_always _ _ _ (λ f a r g h. search rules)) in
+    let rises = c.sort_unstable_by.ensures.sorted (λ x y. is_lt (number_cmp x y)) (ranks_by number_total (λ (n : SourceNumber). n)) (answers_always _ _ _ (λ f a r g h. search rules)) in
     (left_listed _ _ _ c.sort_unstable_by.ensures.permutation rises (dedup_is _ _ _ c.dedup.ensures.filtered)).rising
 
 pub returns-clause-greatest : goal.returns-clause-greatest
 returns-clause-greatest c =
-    let rises = c.sort_unstable_by.ensures.sorted (λ x y. is_lt (number_cmp x y)) (ranks_by number_total (λ (n : Number). n)) (answers_always _ _ _ (λ f a r g h. search rules)) in
+    let rises = c.sort_unstable_by.ensures.sorted (λ x y. is_lt (number_cmp x y)) (ranks_by number_total (λ (n : SourceNumber). n)) (answers_always _ _ _ (λ f a r g h. search rules)) in
     greatest_left _ _ _ _ (left_listed _ _ _ c.sort_unstable_by.ensures.permutation rises (dedup_is _ _ _ c.dedup.ensures.filtered))
     (subst (λ xs. HasGreatest xs c.args.page c.loop-drawop.held.items) (take_all _ _ c.loop-drawop-test.false) c.loop-drawop.invariant.greatest)
 

@@ -4,10 +4,10 @@ use mathlib.Core.Option.{some}
 use lib.ListN.{get_elem?}
 use Rattle.atomic_table.proofs.Lists.{at_last}
 use Rattle.wb_names.specs.Values.{DrawopValue}
-use Rattle.wb_history.specs.Hands.{Walked, Won}
+use Rattle.wb_history.specs.Cursors.{Walked, Won}
 use Rattle.wb_history.specs.Members.{Lacks}
 use Rattle.wb_history.proofs.Words.{not_so}
-use Rattle.wb_history.proofs.Walks.{walk_on, lacks_more, settled}
+use Rattle.wb_history.proofs.Walks.{walk_on, lacks_more, answered}
 use Rattle.wb_history.proofs.cells.CellTable.contend.Goals as goal
 
 pub returns-in_err-member : goal.returns-in_err-member
@@ -16,20 +16,20 @@ returns-in_err-member c =
     let i = c.loop-member.invariant in
     let e = c.in_err-member.ensures in
     let few = e.done.0 in
-    rw p.1 record { done = (i.0.0 ++ [], 0 + (c.exchange.new.hand.steps - c.loop-member.hand.steps), (omega arith), walk_on _ _ _ 0 _ _ _ c.requires.hand.1 i.0.1 e.done.1) }
+    rw p.1 record { done = (i.0.0 ++ [], 0 + (c.exchange.new.cursor.steps - c.loop-member.cursor.steps), (omega arith), walk_on _ _ _ 0 _ _ _ c.requires.cursor.1 i.0.1 e.done.1) }
 
 pub returns-then-is_namesake : goal.returns-then-is_namesake
 returns-then-is_namesake c =
     let i = c.loop-member.invariant in
-    let w = subst (λ (o : Option DrawopValue). MatchOption o (Won c.loop-member.hand [] c.args.drawop.now (length c.loop-member.hand.seen.items) 1 c.exchange.new.hand)
-    (λ d. Walked c.loop-member.hand (d ∷ []) 0 c.exchange.new.hand × (c.exchange.new.hand.seat.me.0.stored ≡ c.loop-member.hand.seat.me.0.stored))) c.in-Some.is c.in_ok-member.ensures.done in
-    let here = at_last c.loop-member.hand.seen.items c.in-Some.member (c.len.result - 1) (let l = ap length w.0.seen in omega (arith, length-append c.loop-member.hand.seen.items (c.in-Some.member ∷ []))) in
-    let a = c.answer.ensures c.exchange.new.hand.seen.items (subst (λ (l : List DrawopValue). get_elem? l (c.len.result - 1) ≡ some c.in-Some.member) (sym w.0.seen) here) in
-    record { done = settled c.args.hand.now c.args.drawop.now 0 c.exchange.new.hand c.answer.result (i.0.0 ++ c.in-Some.member ∷ []) (walk_on _ _ _ 0 0 _ _ c.requires.hand.1 i.0.1 w.0) a }
+    let w = subst (λ (o : Option DrawopValue). MatchOption o (Won c.loop-member.cursor [] c.args.drawop.now (length c.loop-member.cursor.seen.items) 1 c.exchange.new.cursor)
+    (λ d. Walked c.loop-member.cursor (d ∷ []) 0 c.exchange.new.cursor × (c.exchange.new.cursor.seat.me.0.stored ≡ c.loop-member.cursor.seat.me.0.stored))) c.in-Some.is c.in_ok-member.ensures.done in
+    let here = at_last c.loop-member.cursor.seen.items c.in-Some.member (c.len.result - 1) (let l = ap length w.0.seen in omega (arith, length-append c.loop-member.cursor.seen.items (c.in-Some.member ∷ []))) in
+    let a = c.answer.ensures c.exchange.new.cursor.seen.items (subst (λ (l : List DrawopValue). get_elem? l (c.len.result - 1) ≡ some c.in-Some.member) (sym w.0.seen) here) in
+    record { done = answered c.args.cursor.now c.args.drawop.now 0 c.exchange.new.cursor c.answer.result (i.0.0 ++ c.in-Some.member ∷ []) (walk_on _ _ _ 0 0 _ _ c.requires.cursor.1 i.0.1 w.0) a }
 
 pub loop-member-preserved : goal.loop-member-preserved
 loop-member-preserved c =
     let i = c.loop-member.invariant in
-    let w = subst (λ (o : Option DrawopValue). MatchOption o (Won c.loop-member.hand [] c.args.drawop.now (length c.loop-member.hand.seen.items) 1 c.exchange.new.hand)
-    (λ d. Walked c.loop-member.hand (d ∷ []) 0 c.exchange.new.hand × (c.exchange.new.hand.seat.me.0.stored ≡ c.loop-member.hand.seat.me.0.stored))) c.in-Some.is c.in_ok-member.ensures.done in
-    ((i.0.0 ++ c.in-Some.member ∷ [], walk_on _ _ _ 0 0 _ _ c.requires.hand.1 i.0.1 w.0), w.1 ∙ i.1, subst (λ (l : List DrawopValue). Lacks l c.args.drawop.now.name) (sym w.0.seen) (lacks_more _ c.in-Some.member _ i.2 (not_so c.is_namesake.result c.if-is_namesake.false c.is_namesake.ensures.1)))
+    let w = subst (λ (o : Option DrawopValue). MatchOption o (Won c.loop-member.cursor [] c.args.drawop.now (length c.loop-member.cursor.seen.items) 1 c.exchange.new.cursor)
+    (λ d. Walked c.loop-member.cursor (d ∷ []) 0 c.exchange.new.cursor × (c.exchange.new.cursor.seat.me.0.stored ≡ c.loop-member.cursor.seat.me.0.stored))) c.in-Some.is c.in_ok-member.ensures.done in
+    ((i.0.0 ++ c.in-Some.member ∷ [], walk_on _ _ _ 0 0 _ _ c.requires.cursor.1 i.0.1 w.0), w.1 ∙ i.1, subst (λ (l : List DrawopValue). Lacks l c.args.drawop.now.name) (sym w.0.seen) (lacks_more _ c.in-Some.member _ i.2 (not_so c.is_namesake.result c.if-is_namesake.false c.is_namesake.ensures.1)))

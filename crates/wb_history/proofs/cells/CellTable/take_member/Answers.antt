@@ -7,5 +7,5 @@ use Rattle.wb_history.proofs.cells.CellTable.take_member.Goals as goal
 pub put-requires-clause-new : goal.put-requires-clause-new
 put-requires-clause-new c =
     let r = c.read_row-drawop.ensures.member in
-    let seen = c.requires.hand.1.seen ∙ sym c.reserve.ensures.items in
+    let seen = c.requires.cursor.1.seen ∙ sym c.reserve.ensures.items in
     new_name c.reserve.new.self.items c.read_row-drawop.result (subst NamesOnce (r.0.seen ∙ ap (λ (l : List DrawopValue). l ++ c.read_row-drawop.result ∷ []) seen) r.2.names_once)

@@ -8,25 +8,25 @@ use Rattle.wb_history.proofs.history.History.join.Goals as goal
 pub invariant_of-pass-2 : goal.invariant_of-pass-2
 invariant_of-pass-2 c =
     let u = c.take_in-shorter.ensures.united in (
-      held_on c.pass.inside.hand c.take_in-shorter.new.hand c.pass.invariant.0 u.order u.seat u.cells,
+      held_on c.pass.inside.cursor c.take_in-shorter.new.cursor c.pass.invariant.0 u.order u.seat u.cells,
       c.pass.invariant.1 ∙ sym u.cells,
-      c.keep.ensures c.take_in-shorter.new.hand.seen.items (fronts_on c.pass.inside.spares.items c.pass.inside.hand.seen.items c.take_in-shorter.new.hand.seen.items u.first c.pass.invariant.2) c.take_in-shorter.ensures.front,
+      c.keep.ensures c.take_in-shorter.new.cursor.seen.items (fronts_on c.pass.inside.spares.items c.pass.inside.cursor.seen.items c.take_in-shorter.new.cursor.seen.items u.first c.pass.invariant.2) c.take_in-shorter.ensures.front,
     )
 
 pub returns-clause-joined : goal.returns-clause-joined
 returns-clause-joined c =
-    let p = same_view (record c.pass.inside.hand { mine = c.reserve.new.self; free = c.reserve-2.new.self }) c.pass.inside.hand refl refl c.reserve.ensures.items c.reserve-2.ensures.items refl in
-    joined c.args.pass.now c.args.other _ c.other.inside.hand c.take_in-shorter.new.hand (p ∙ c.pass.view_is) c.other.view_is c.other.invariant.0.0 c.take_in-shorter.ensures.united
+    let p = same_view (record c.pass.inside.cursor { mine = c.reserve.new.self; free = c.reserve-2.new.self }) c.pass.inside.cursor refl refl c.reserve.ensures.items c.reserve-2.ensures.items refl in
+    joined c.args.pass.now c.args.other _ c.other.inside.cursor c.take_in-shorter.new.cursor (p ∙ c.pass.view_is) c.other.view_is c.other.invariant.0.0 c.take_in-shorter.ensures.united
 
 pub returns-then-is_err-clause-sound : goal.returns-then-is_err-clause-sound
 returns-then-is_err-clause-sound c =
-    let same = same_view (record c.pass.inside.hand { mine = c.reserve.new.self }) c.pass.inside.hand refl refl c.reserve.ensures.items refl refl in
-    (subst IsSound (sym same) (sound c.pass.inside.hand c.pass.invariant.0), sound_pass c.other.inside.hand c.other.view_is c.other.invariant.0)
+    let same = same_view (record c.pass.inside.cursor { mine = c.reserve.new.self }) c.pass.inside.cursor refl refl c.reserve.ensures.items refl refl in
+    (subst IsSound (sym same) (sound c.pass.inside.cursor c.pass.invariant.0), sound_pass c.other.inside.cursor c.other.view_is c.other.invariant.0)
 
 pub returns-then-is_err-2-clause-sound : goal.returns-then-is_err-2-clause-sound
 returns-then-is_err-2-clause-sound c =
-    let same = same_view (record c.pass.inside.hand { mine = c.reserve.new.self; free = c.reserve-2.new.self }) c.pass.inside.hand refl refl c.reserve.ensures.items c.reserve-2.ensures.items refl in
-    (subst IsSound (sym same) (sound c.pass.inside.hand c.pass.invariant.0), sound_pass c.other.inside.hand c.other.view_is c.other.invariant.0)
+    let same = same_view (record c.pass.inside.cursor { mine = c.reserve.new.self; free = c.reserve-2.new.self }) c.pass.inside.cursor refl refl c.reserve.ensures.items c.reserve-2.ensures.items refl in
+    (subst IsSound (sym same) (sound c.pass.inside.cursor c.pass.invariant.0), sound_pass c.other.inside.cursor c.other.view_is c.other.invariant.0)
 
 pub returns-clause-sound : goal.returns-clause-sound
-returns-clause-sound c = (sound c.take_in-shorter.new.hand (invariant_of-pass-2 c).0, tt)
+returns-clause-sound c = (sound c.take_in-shorter.new.cursor (invariant_of-pass-2 c).0, tt)

@@ -6,17 +6,17 @@ use Rattle.wb_history.proofs.history.History.refresh.Goals as goal
 pub invariant_of-pass : goal.invariant_of-pass
 invariant_of-pass c =
     let w = c.in_err-catch_up.ensures.done in
-    let on = walked_held (record c.pass.inside.hand { steps = 0 }) w.0 1 c.catch_up.new.hand (fresh c.pass.inside.hand c.pass.invariant.0) w.1 in
-    (on.0, c.pass.invariant.1 ∙ sym on.1, fronts_on c.pass.inside.spares.items c.pass.inside.hand.seen.items c.catch_up.new.hand.seen.items on.2 c.pass.invariant.2)
+    let on = walked_held (record c.pass.inside.cursor { steps = 0 }) w.0 1 c.catch_up.new.cursor (fresh c.pass.inside.cursor c.pass.invariant.0) w.1 in
+    (on.0, c.pass.invariant.1 ∙ sym on.1, fronts_on c.pass.inside.spares.items c.pass.inside.cursor.seen.items c.catch_up.new.cursor.seen.items on.2 c.pass.invariant.2)
 
 pub invariant_of-pass-2 : goal.invariant_of-pass-2
 invariant_of-pass-2 c =
     let e = c.in_ok-catch_up.ensures.done in
-    let on = end_held c.self.inside.cells.cells (record c.pass.inside.hand { steps = 0 }) e.0 c.catch_up.new.hand (fresh c.pass.inside.hand c.pass.invariant.0) e.1 in
-    (on.0, c.pass.invariant.1 ∙ sym on.1, fronts_on c.pass.inside.spares.items c.pass.inside.hand.seen.items c.catch_up.new.hand.seen.items on.2 c.pass.invariant.2)
+    let on = end_held c.self.inside.cells.cells (record c.pass.inside.cursor { steps = 0 }) e.0 c.catch_up.new.cursor (fresh c.pass.inside.cursor c.pass.invariant.0) e.1 in
+    (on.0, c.pass.invariant.1 ∙ sym on.1, fronts_on c.pass.inside.spares.items c.pass.inside.cursor.seen.items c.catch_up.new.cursor.seen.items on.2 c.pass.invariant.2)
 
 pub returns-in_err-catch_up-clause-sound : goal.returns-in_err-catch_up-clause-sound
-returns-in_err-catch_up-clause-sound c = sound c.catch_up.new.hand (invariant_of-pass c).0
+returns-in_err-catch_up-clause-sound c = sound c.catch_up.new.cursor (invariant_of-pass c).0
 
 pub returns-clause-sound : goal.returns-clause-sound
-returns-clause-sound c = sound c.catch_up.new.hand (invariant_of-pass-2 c).0
+returns-clause-sound c = sound c.catch_up.new.cursor (invariant_of-pass-2 c).0

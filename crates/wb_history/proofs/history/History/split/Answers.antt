@@ -1,4 +1,4 @@
-use Rattle.std.proofs.Common.{◌≡◌, ℕ, ◌-◌, length, take, drop, refl, sym, ap, subst, ◌∙◌, arith}
+use Rattle.std.proofs.Common.{refl, sym, ap, subst, arith}
 use Rattle.atomic_table.specs.Table.{Me}
 use Rattle.wb_names.specs.Values.{DrawopValue}
 use Rattle.wb_history.specs.declared.knowledge.Knowledge.{Knowledge}
@@ -20,7 +20,7 @@ invariant_of-result c =
     let few_cells = i.0.3 in
     let same = i.1 in (
       (
-        right_order c.pass.inside.hand (record { seat = c.cut-seat.result; seen = c.in-Ok.seen; mine = c.new.result; free = c.in-Ok-split_off.free; steps = 0 }) c.args.rows i.0.0 n.1 c.in-Ok.ensures.list c.new.ensures.items
+        right_order c.pass.inside.cursor (record { seat = c.cut-seat.result; seen = c.in-Ok.seen; mine = c.new.result; free = c.in-Ok-split_off.free; steps = 0 }) c.args.rows i.0.0 n.1 c.in-Ok.ensures.list c.new.ensures.items
             c.in-Ok-split_off.ensures.tail,
         (omega arith),
         (omega arith),
@@ -41,7 +41,7 @@ invariant_of-pass-2 c =
     let few_cells = i.0.3 in
     let same = i.1 in (
       (
-        left_order c.pass.inside.hand (record { seat = c.cut-seat.new.seat; seen = c.pass.inside.hand.seen; mine = c.pass.inside.hand.mine; free = c.split_off.new.self; steps = c.pass.inside.hand.steps }) c.args.rows i.0.0 n.0.2 n.1 refl refl
+        left_order c.pass.inside.cursor (record { seat = c.cut-seat.new.seat; seen = c.pass.inside.cursor.seen; mine = c.pass.inside.cursor.mine; free = c.split_off.new.self; steps = c.pass.inside.cursor.steps }) c.args.rows i.0.0 n.0.2 n.1 refl refl
             c.in-Ok-split_off.ensures.items,
         (omega arith),
         (omega arith),
@@ -52,18 +52,18 @@ invariant_of-pass-2 c =
     )
 
 pub returns-then-have-rows-clause-sound : goal.returns-then-have-rows-clause-sound
-returns-then-have-rows-clause-sound c = (sound_pass c.pass.inside.hand c.pass.view_is c.pass.invariant.0, tt)
+returns-then-have-rows-clause-sound c = (sound_pass c.pass.inside.cursor c.pass.view_is c.pass.invariant.0, tt)
 
 pub returns-in_default-clause-sound : goal.returns-in_default-clause-sound
-returns-in_default-clause-sound c = (sound c.pass.inside.hand c.pass.invariant.0, tt)
+returns-in_default-clause-sound c = (sound c.pass.inside.cursor c.pass.invariant.0, tt)
 
 pub returns-in_default-split_off-clause-sound : goal.returns-in_default-split_off-clause-sound
 returns-in_default-split_off-clause-sound c =
-    let same = same_view (record c.pass.inside.hand { free = c.split_off.new.self }) c.pass.inside.hand refl refl refl (λ i. (c.in_default-split_off.ensures.err i).items) refl in
-    (subst IsSound (sym same) (sound c.pass.inside.hand c.pass.invariant.0), tt)
+    let same = same_view (record c.pass.inside.cursor { free = c.split_off.new.self }) c.pass.inside.cursor refl refl refl (λ i. (c.in_default-split_off.ensures.err i).items) refl in
+    (subst IsSound (sym same) (sound c.pass.inside.cursor c.pass.invariant.0), tt)
 
 pub returns-clause-sound : goal.returns-clause-sound
 returns-clause-sound c = (
-  sound (record { seat = c.cut-seat.new.seat; seen = c.pass.inside.hand.seen; mine = c.pass.inside.hand.mine; free = c.split_off.new.self; steps = c.pass.inside.hand.steps }) (invariant_of-pass-2 c).0,
+  sound (record { seat = c.cut-seat.new.seat; seen = c.pass.inside.cursor.seen; mine = c.pass.inside.cursor.mine; free = c.split_off.new.self; steps = c.pass.inside.cursor.steps }) (invariant_of-pass-2 c).0,
   sound (record { seat = c.cut-seat.result; seen = c.in-Ok.seen; mine = c.new.result; free = c.in-Ok-split_off.free; steps = 0 }) (invariant_of-result c).0,
 )

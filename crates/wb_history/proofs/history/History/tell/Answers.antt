@@ -11,17 +11,17 @@ pub invariant_of-hearer : goal.invariant_of-hearer
 invariant_of-hearer c =
     let i = c.hearer.invariant in
     let same = c.reserve.ensures.items in
-    (roomier c.hearer.inside.hand c.reserve.new.self same i.0, i.1, subst (λ (l : List DrawopValue). AreFronts c.hearer.inside.spares.items l) (sym same) i.2)
+    (roomier c.hearer.inside.cursor c.reserve.new.self same i.0, i.1, subst (λ (l : List DrawopValue). AreFronts c.hearer.inside.spares.items l) (sym same) i.2)
 
 pub returns-in_err-reserve-clause-sound : goal.returns-in_err-reserve-clause-sound
 returns-in_err-reserve-clause-sound c = (
-  sound_pass c.teller.inside.hand c.teller.view_is c.teller.invariant.0,
-  on_ok c.from_residual.result (sound (record c.hearer.inside.hand { seen = c.reserve.new.self }) (invariant_of-hearer c).0),
+  sound_pass c.teller.inside.cursor c.teller.view_is c.teller.invariant.0,
+  on_ok c.from_residual.result (sound (record c.hearer.inside.cursor { seen = c.reserve.new.self }) (invariant_of-hearer c).0),
 )
 
 pub invariant_of-teller : goal.invariant_of-teller
 invariant_of-teller c =
-    let h = c.teller.inside.hand in
+    let h = c.teller.inside.cursor in
     let i = c.teller.invariant in
     let n = c.cut-message.ensures.seat in
     let cells = ap (λ (v : Knowledge). v.cells) n.1 in
@@ -37,14 +37,14 @@ invariant_of-teller c =
 
 pub invariant_of-hearer-2 : goal.invariant_of-hearer-2
 invariant_of-hearer-2 c =
-    let h = record c.hearer.inside.hand { seen = c.reserve.new.self } in
+    let h = record c.hearer.inside.cursor { seen = c.reserve.new.self } in
     let i = c.hearer.invariant in
     let same = c.reserve.ensures.items in
     let u = c.hear.ensures in (
-      held_on h c.hear.new.hand (roomier c.hearer.inside.hand c.reserve.new.self same i.0) u.order u.seat u.cells,
+      held_on h c.hear.new.cursor (roomier c.hearer.inside.cursor c.reserve.new.self same i.0) u.order u.seat u.cells,
       i.1 ∙ sym u.cells,
-      fronts_on c.hearer.inside.spares.items h.seen.items c.hear.new.hand.seen.items u.first (subst (λ (l : List DrawopValue). AreFronts c.hearer.inside.spares.items l) (sym same) i.2),
+      fronts_on c.hearer.inside.spares.items h.seen.items c.hear.new.cursor.seen.items u.first (subst (λ (l : List DrawopValue). AreFronts c.hearer.inside.spares.items l) (sym same) i.2),
     )
 
 pub returns-clause-sound : goal.returns-clause-sound
-returns-clause-sound c = (sound (record c.teller.inside.hand { seat = c.cut-message.new.seat }) (invariant_of-teller c).0, sound c.hear.new.hand (invariant_of-hearer-2 c).0)
+returns-clause-sound c = (sound (record c.teller.inside.cursor { seat = c.cut-message.new.seat }) (invariant_of-teller c).0, sound c.hear.new.cursor (invariant_of-hearer-2 c).0)

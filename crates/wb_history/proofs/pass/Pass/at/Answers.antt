@@ -9,7 +9,7 @@ use Rattle.wb_history.proofs.pass.Pass.at.Goals as goal
 
 pub returns-then-place-members : goal.returns-then-place-members
 returns-then-place-members c =
-    let l = c.self.inside.hand.seen.items in
+    let l = c.self.inside.cursor.seen.items in
     let d = c.index-members-place.result in
     let same = c.as_slice-members.ensures in
     let inside : c.args.place < length l = subst (λ (m : List DrawopValue). c.args.place < length m) same c.if-place-members.true in
@@ -17,6 +17,6 @@ returns-then-place-members c =
 
 pub returns-else-place-members : goal.returns-else-place-members
 returns-else-place-members c =
-    let l = c.self.inside.hand.seen.items in
+    let l = c.self.inside.cursor.seen.items in
     let past : length l ≤ c.args.place = subst (λ (m : List DrawopValue). length m ≤ c.args.place) c.as_slice-members.ensures c.if-place-members.false in
     subst (λ (p : PassValue). None ≡ slice_get p.seen c.args.place) c.self.view_is (sym (slice_get_past l c.args.place past))

@@ -8,4 +8,4 @@ use Rattle.wb_history.proofs.pass.Pass.is_mine.Goals as goal
 pub returns : goal.returns
 returns c =
     let told = c.contains.ensures.value ∙ ap (λ (l : List ℕ). list_any (λ y. nat_eq y c.args.place) l) c.as_slice.ensures.value in
-    subst (λ (p : PassValue). IsTrue c.contains.result ↔ Contains p.mine c.args.place) c.self.view_is (subst (λ (b : Bool). IsTrue b ↔ Contains c.self.inside.hand.mine.items c.args.place) (sym told) (listed c.self.inside.hand.mine.items c.args.place))
+    subst (λ (p : PassValue). IsTrue c.contains.result ↔ Contains p.mine c.args.place) c.self.view_is (subst (λ (b : Bool). IsTrue b ↔ Contains c.self.inside.cursor.mine.items c.args.place) (sym told) (listed c.self.inside.cursor.mine.items c.args.place))

@@ -1,15 +1,15 @@
--- What a clause says of a hand.
+-- What a clause says of a cursor.
 use Rattle.wb_history.specs.Sizes.{row_words, member_steps}
 use Rattle.std.specs.Prelude.{◌≡◌, ◌≢◌, ◌⊎◌, ℕ, ◌+◌, ◌*◌, ◌≤◌, List, [], ◌∷◌, ◌++◌, length, Option, Some, None}
 use mathlib.Core.Option.{some}
 use lib.ListN.{get_elem?}
 use Rattle.wb_names.specs.Values.{DrawopValue}
 use Rattle.wb_history.specs.declared.knowledge.Knowledge.{Knowledge}
-use Rattle.wb_history.specs.declared.hand.Hand.{Hand}
-use Rattle.wb_history.specs.declared.hand.Claim.{Claim}
-use Rattle.wb_history.specs.declared.hand.ClaimFault.{ClaimFault}
-use Rattle.wb_history.specs.declared.hand.ClaimFault.TheVariants.{NoRow, Memory}
-use Rattle.wb_history.specs.declared.hand.Claim.TheVariants.{Added, Present, Clash}
+use Rattle.wb_history.specs.declared.cursor.Cursor.{Cursor}
+use Rattle.wb_history.specs.declared.claim.Claim.{Claim}
+use Rattle.wb_history.specs.declared.claim.ClaimFault.{ClaimFault}
+use Rattle.wb_history.specs.declared.claim.ClaimFault.TheVariants.{NoRow, Memory}
+use Rattle.wb_history.specs.declared.claim.Claim.TheVariants.{Added, Present, Clash}
 use mathlib.Core.List.{IsPrefix}
 use Rattle.wb_history.specs.Lists.{longer}
 use Rattle.wb_history.specs.Members.{Lacks}
@@ -18,15 +18,15 @@ use Rattle.wb_history.specs.Seats.{SameSeat}
 use Rattle.wb_history.specs.Views.{OwnsAll}
 
 -- the lists are what the seat knows
-pub record InOrder (h : Hand) : Type 0 where
+pub record InOrder (h : Cursor) : Type 0 where
   pub slots : h.seat.me.1 ≡ []
   pub seen : h.seat.me.0.seen ≡ h.seen.items
   pub mine : h.seat.me.0.mine ≡ h.mine.items
   pub free : h.seat.me.0.free ≡ h.free.items
   pub sane : Sane h.seat.me.0
 
--- the hand after it has read these members, and has made some more steps. A hand with all rows reads none
-pub record Walked (h : Hand) (more : List DrawopValue) (extra : ℕ) (h' : Hand) : Type 0 where
+-- the cursor after it has read these members, and has made some more steps. A cursor with all rows reads none
+pub record Walked (h : Cursor) (more : List DrawopValue) (extra : ℕ) (h' : Cursor) : Type 0 where
   pub order : InOrder h'
   pub seat : SameSeat h.seat h'.seat
   pub cells : h'.seat.me.0.cells ≡ h.seat.me.0.cells
@@ -38,25 +38,25 @@ pub record Walked (h : Hand) (more : List DrawopValue) (extra : ℕ) (h' : Hand)
   pub steps : h'.steps ≡ h.steps + member_steps * length more + extra
 
 -- the last step found the next cell free
-abbrev pub FoundFree : Hand → Type 0
+abbrev pub FoundFree : Cursor → Type 0
 FoundFree h = (h.seat.me.0.last_word ≡ length h.seen.items) × (h.seat.me.0.last_found ≡ 0) × (h.seat.me.0.stored ≡ [])
 
--- the hand after it has read all members to the end: the last step found the next cell free, or the history is full
-abbrev pub AtEnd : ℕ → Hand → List DrawopValue → Hand → Type 0
+-- the cursor after it has read all members to the end: the last step found the next cell free, or the history is full
+abbrev pub AtEnd : ℕ → Cursor → List DrawopValue → Cursor → Type 0
 AtEnd cells h more h' = (Walked h more 1 h' × FoundFree h') ⊎ (Walked h more 0 h' × (length h'.seen.items ≡ cells))
 
 -- the list has the name of d: it has d, or another drawop of that name
-abbrev pub IsAnswer : List DrawopValue → DrawopValue → Claim → Type 0
-IsAnswer l d (Added i) = ⊥
-IsAnswer l d (Present i) = get_elem? l i ≡ some d
-IsAnswer l d (Clash i) = (e : DrawopValue) × (get_elem? l i ≡ some e) × (e.name ≡ d.name) × (e ≢ d)
+abbrev pub TellsNamesake : List DrawopValue → DrawopValue → Claim → Type 0
+TellsNamesake l d (Added i) = ⊥
+TellsNamesake l d (Present i) = get_elem? l i ≡ some d
+TellsNamesake l d (Clash i) = (e : DrawopValue) × (get_elem? l i ≡ some e) × (e.name ≡ d.name) × (e ≢ d)
 
-abbrev pub Sought : ℕ → Hand → DrawopValue → Hand → Option Claim → Type 0
+abbrev pub Sought : ℕ → Cursor → DrawopValue → Cursor → Option Claim → Type 0
 Sought cells h d h' None = (more : List DrawopValue) × AtEnd cells h more h' × Lacks h'.seen.items d.name
-Sought cells h d h' (Some c) = (more : List DrawopValue) × Walked h more 0 h' × IsAnswer h'.seen.items d c
+Sought cells h d h' (Some c) = (more : List DrawopValue) × Walked h more 0 h' × TellsNamesake h'.seen.items d c
 
--- the hand after it has read these members and added d at a place
-pub record Won (h : Hand) (more : List DrawopValue) (d : DrawopValue) (place extra : ℕ) (h' : Hand) : Type 0 where
+-- the cursor after it has read these members and added d at a place
+pub record Won (h : Cursor) (more : List DrawopValue) (d : DrawopValue) (place extra : ℕ) (h' : Cursor) : Type 0 where
   pub order : InOrder h'
   pub seat : SameSeat h.seat h'.seat
   pub cells : h'.seat.me.0.cells ≡ h.seat.me.0.cells
@@ -68,19 +68,19 @@ pub record Won (h : Hand) (more : List DrawopValue) (d : DrawopValue) (place ext
   pub made : h'.seat.me.0.made ≡ h.seat.me.0.made + member_steps * length more + extra
   pub steps : h'.steps ≡ h.steps + member_steps * length more + extra
 
--- the claim of d is settled: it was added, or a member has its name
-abbrev pub Settled : Hand → DrawopValue → ℕ → Hand → Claim → Type 0
-Settled h d extra h' (Added i) = (more : List DrawopValue) × Won h more d i (extra + 1) h'
-Settled h d extra h' (Present i) = (more : List DrawopValue) × Walked h more extra h' × IsAnswer h'.seen.items d (Present i)
-Settled h d extra h' (Clash i) = (more : List DrawopValue) × Walked h more extra h' × IsAnswer h'.seen.items d (Clash i)
+-- the claim of d was answered: it was added, or a member has its name
+abbrev pub Answered : Cursor → DrawopValue → ℕ → Cursor → Claim → Type 0
+Answered h d extra h' (Added i) = (more : List DrawopValue) × Won h more d i (extra + 1) h'
+Answered h d extra h' (Present i) = (more : List DrawopValue) × Walked h more extra h' × TellsNamesake h'.seen.items d (Present i)
+Answered h d extra h' (Clash i) = (more : List DrawopValue) × Walked h more extra h' × TellsNamesake h'.seen.items d (Clash i)
 
 -- a claim of d was refused: the pass has no free row and has read to the end, where no member has the name; or memory ran out
-abbrev pub Refused : ℕ → Hand → DrawopValue → Hand → ClaimFault → Type 0
+abbrev pub Refused : ℕ → Cursor → DrawopValue → Cursor → ClaimFault → Type 0
 Refused cells h d h' NoRow = (more : List DrawopValue) × AtEnd cells h more h' × Lacks h'.seen.items d.name × (h.free.items ≡ [])
 Refused cells h d h' Memory = (more : List DrawopValue) × (extra : ℕ) × (extra ≤ row_words + 2) × Walked h more extra h'
 
--- the hand after it took in what another seat knows
-pub record United (h : Hand) (w : Knowledge) (h' : Hand) : Type 0 where
+-- the cursor after it took in what another seat knows
+pub record United (h : Cursor) (w : Knowledge) (h' : Cursor) : Type 0 where
   pub order : InOrder h'
   pub seat : SameSeat h.seat h'.seat
   pub cells : h'.seat.me.0.cells ≡ h.seat.me.0.cells

@@ -1,26 +1,7 @@
-//! The parts of a pass, and the answers to a claim.
+//! The answers to a claim.
 ghost use Rattle.std.specs.Prelude.{◌≡◌};
 
-use crate::cells::Chair;
-use crate::members::Members;
-use crate::ranges::Rows;
 use thiserror::Error;
-
-/// A seat at the table of a history, and lists of what it knows. The proofs see that the lists are
-/// what the seat knows; no clause outside this crate speaks of a hand.
-#[derive(Drop)]
-pub(crate) struct Hand {
-    /// The token that steps on words.
-    pub(crate) seat: Chair,
-    /// The members that it has seen.
-    pub(crate) seen: Members,
-    /// The places that it added, as they were gained.
-    pub(crate) mine: Vec<u32>,
-    /// The rows that it owns and has not published. The last one is used next.
-    pub(crate) free: Rows,
-    /// The steps on words of the last claim or refresh.
-    pub(crate) steps: u32,
-}
 
 /// The answer to a claim, with the place of the member that has the name.
 #[derive(Clone, Copy, Debug, PartialEq, Eq)]

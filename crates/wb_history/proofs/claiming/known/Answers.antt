@@ -2,7 +2,7 @@ use Rattle.std.proofs.Common.{ap, ◌∙◌, List, arith, get_or}
 use Rattle.wb_names.specs.Values.{DrawopValue}
 use Rattle.wb_history.proofs.Lists.{at_same}
 use Rattle.atomic_table.proofs.Lists.{at_index}
-use Rattle.wb_history.proofs.claims.known.Goals as goal
+use Rattle.wb_history.proofs.claiming.known.Goals as goal
 
 pub answer-requires : goal.answer-requires
 answer-requires c =

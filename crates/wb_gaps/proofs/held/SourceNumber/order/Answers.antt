@@ -1,7 +1,7 @@
 use Rattle.std.proofs.Common.{◌+◌, ◌*◌, ◌∙◌, ap}
 use Rattle.std.specs.Ordering.{nat_cmp}
 use Rattle.wb_gaps.proofs.WordOrder.{words_rank}
-use Rattle.wb_gaps.proofs.held.Number.order.Goals as goal
+use Rattle.wb_gaps.proofs.held.SourceNumber.order.Goals as goal
 
 pub returns : goal.returns
 returns c =
