@@ -140,11 +140,11 @@ drawn_back place name time op lawful = rw lawful refl
 stroke_reads : (ws : List (List ℕ)) → Reads (λ x. ws ≡ decimal x.0.x0 ∷ decimal x.0.y0 ∷ decimal x.0.x1 ∷ decimal x.0.y1 ∷ (x.0.glyph ∷ []) ∷ x.1) (stroke_at ws)
 unfolding stroke_at
 stroke_reads ws = step _ (number_reads 7 4095 ws) (λ a ta. step _ (number_reads 8 4095 a.1) (λ b tb. step _ (number_reads 9 4095 b.1) (λ c tc. step _ (number_reads 10 4095 c.1) (λ d td. step _ (glyph_reads 11 d.1) (λ g tg. gives _ (
-  ta.0
-  ∙ ap (λ v. decimal a.0 ∷ v) tb.0
-  ∙ ap (λ v. decimal a.0 ∷ decimal b.0 ∷ v) tc.0
-  ∙ ap (λ v. decimal a.0 ∷ decimal b.0 ∷ decimal c.0 ∷ v) td.0
-  ∙ ap (λ v. decimal a.0 ∷ decimal b.0 ∷ decimal c.0 ∷ decimal d.0 ∷ v) tg))))))
+    ta.0
+    ∙ ap (λ v. decimal a.0 ∷ v) tb.0
+    ∙ ap (λ v. decimal a.0 ∷ decimal b.0 ∷ v) tc.0
+    ∙ ap (λ v. decimal a.0 ∷ decimal b.0 ∷ decimal c.0 ∷ v) td.0
+    ∙ ap (λ v. decimal a.0 ∷ decimal b.0 ∷ decimal c.0 ∷ decimal d.0 ∷ v) tg))))))
 
 back12 : (place n : ℕ) (ws : List (List ℕ)) → n < 2 ^ 12 → number_at place 4095 (decimal n ∷ ws) ≡ Ok (n, ws)
 back12 place n ws lt = let le : n ≤ 4095 = omega arith in number_back place 4095 n ws (number_again 4095 n le (omega arith))
