@@ -1,5 +1,5 @@
 -- A drawop that is read is the one that was written, and what was written is read again.
-use Rattle.std.proofs.Common.{◌≡◌, ℕ, ◌<◌, Bool, true, Option, Some, refl, ◌^◌, ◌≤◌, false, cond, None, List, [], ◌∷◌, ◌++◌, length, take, drop, Result, Ok, Err, sym, ap, subst, ◌∙◌, append_assoc, arith, append-nil}
+use Rattle.std.proofs.Common.{◌≡◌, ℕ, ◌<◌, Bool, true, Option, Some, refl, ◌^◌, ◌≤◌, false, cond, None, List, [], ◌∷◌, ◌++◌, length, take, drop, Result, Ok, sym, ap, subst, ◌∙◌, append_assoc, arith, append-nil}
 use Rattle.std.specs.Prelude.{nat_eq, nat_lt, nat_le}
 use Rattle.std.proofs.lemmas.Bool.{eqb-true, ltb-true, leb-true, le-leb}
 use Rattle.wb_names.specs.Kinds.{every_kind, kind_with-key, kind_with-is, op_kind}
@@ -19,11 +19,11 @@ use Rattle.wb_names.specs.declared.parts.Target.{Target}
 use Rattle.wb_names.specs.declared.parts.Op.{Op}
 use Rattle.wb_names.specs.declared.parts.Op.TheVariants.{Drawn, Text, Aimed}
 use Rattle.wb_codec.specs.declared.fault.ReadFault.{ReadFault}
-use Rattle.wb_codec.specs.declared.fault.ReadFault.TheVariants.{Length, OpKind as OpKindFault}
+use Rattle.wb_codec.specs.declared.fault.ReadFault.TheVariants.{OpKind as OpKindFault}
 use Rattle.wb_codec.specs.Ranges.{HasTarget, IsName, IsDrawop}
 use Rattle.wb_codec.specs.Spelling.{stroke_bytes, text_bytes, target_bytes, field_bytes, op_bytes, op_version, name_bytes, drawop_bytes}
-use Rattle.wb_codec.specs.Reading.{◌>>=◌, require, number_at, byte_at, stroke_at, text_at, target_at, fields_at, told_kind, op_at, told_fault, name_at, end_of, in_range, drawop_at}
-use Rattle.wb_codec.proofs.Bytes.{IsBytes, IsBytes-drop, IsBytes-rest}
+use Rattle.wb_codec.specs.Reading.{◌>>=◌, require, stroke_at, text_at, target_at, fields_at, told_kind, op_at, told_fault, drawop_at}
+use Rattle.wb_codec.proofs.Bytes.{IsBytes, IsBytes-drop}
 use Rattle.wb_codec.proofs.Lawful.{IsStroke, lawful_stroke, lawful_text}
 use Rattle.wb_codec.proofs.FieldLaws.{Reads, gives, step, weaker, checks, Takes, Takes-then, reads8, reads16, reads32, again16, again32, ended, ranged, ranges, Takes-all, reads64, again64, name_reads, name_again, HasWidth, has_width}
 use Rattle.wb_names.specs.Faults.{fault_unless}

@@ -14,7 +14,7 @@ use Rattle.wb_codec.specs.declared.fault.ReadFault.{ReadFault}
 use Rattle.wb_codec.specs.declared.fault.ReadFault.TheVariants.{Order}
 use Rattle.wb_codec.specs.Ranges.{IsMark, IsEcho, IsEntryList, IsMarkList, IsEchoList}
 use Rattle.wb_codec.specs.Spelling.{mark_bytes, echo_bytes, list_bytes}
-use Rattle.wb_codec.specs.Reading.{require, number_at, in_range, mark_at, echo_at, list_at, marks_at, echoes_at}
+use Rattle.wb_codec.specs.Reading.{mark_at, echo_at, list_at, marks_at, echoes_at}
 use Rattle.wb_codec.proofs.Bytes.{IsBytes}
 use Rattle.wb_codec.proofs.FieldLaws.{Reads, gives, step, weaker, checked, ranged, Takes, Takes-then, Numbered, reads32, reads64, again32, again64}
 use Rattle.wb_codec.proofs.DrawopLaws.{seq_counted, seq_free}

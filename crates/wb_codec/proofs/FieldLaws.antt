@@ -1,6 +1,6 @@
 -- A field that is read is the field that was written, and what was written is read again.
-use Rattle.std.proofs.Common.{◌≡◌, ℕ, ◌^◌, ◌<◌, ◌≤◌, Bool, true, false, Option, Some, None, List, [], ◌∷◌, ◌++◌, length, take, drop, Result, Ok, Err, refl, sym, ap, subst, ◌∙◌, append_assoc, arith}
-use Rattle.std.specs.Prelude.{◌≢◌, nat_eq, nat_le}
+use Rattle.std.proofs.Common.{◌≡◌, ℕ, ◌^◌, ◌<◌, ◌≤◌, Bool, true, false, Option, Some, None, List, [], ◌∷◌, ◌++◌, length, take, Result, Ok, Err, refl, sym, ap, subst, ◌∙◌, append_assoc, arith}
+use Rattle.std.specs.Prelude.{◌≢◌, nat_le}
 use Rattle.std.specs.Int.{Width, w16, w32, w64, byte_len, from_be_bytes, to_be_bytes}
 use Rattle.std.proofs.lemmas.Bool.{leb-true, le-leb, eqb-true}
 use Rattle.std.proofs.lemmas.List.{take_at, drop_at, take-append-drop, length-append, length-take, append-nil, nil_from_length}
@@ -9,7 +9,7 @@ use Rattle.wb_names.specs.Values.{NameValue}
 use Rattle.wb_names.specs.declared.name.PageId.{PageId}
 use Rattle.wb_names.specs.declared.fault.FieldFault.{FieldFault}
 use Rattle.wb_codec.specs.declared.fault.ReadFault.{ReadFault}
-use Rattle.wb_codec.specs.declared.fault.ReadFault.TheVariants.{Length, Memory}
+use Rattle.wb_codec.specs.declared.fault.ReadFault.TheVariants.{Memory}
 use Rattle.wb_codec.specs.Ranges.{IsPage, IsName}
 use Rattle.wb_codec.specs.Spelling.{page_bytes, name_bytes}
 use Rattle.wb_codec.specs.Reading.{◌>>=◌, require, number_at, byte_at, page_at, name_at, end_of, in_range}

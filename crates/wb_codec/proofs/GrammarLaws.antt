@@ -1,5 +1,5 @@
 -- The laws of the grammar: what is read is spelled so, what is spelled so is read, and only whole datagrams are read.
-use Rattle.std.proofs.Common.{◌≡◌, ℕ, ◌^◌, ◌<◌, List, [], ◌++◌, length, Result, Ok, Option, None, refl, sym, ap, subst, ◌∙◌, append_assoc, append-nil, arith, ◌+◌, ◌*◌, ◌∷◌, ◌≤◌, Bool, true, false, cond, Err, zero, suc, take, inl, inr}
+use Rattle.std.proofs.Common.{◌≡◌, ℕ, ◌^◌, ◌<◌, List, [], ◌++◌, length, Result, Ok, Option, refl, sym, ap, subst, ◌∙◌, append_assoc, append-nil, arith, ◌+◌, ◌*◌, ◌∷◌, Bool, true, false, cond, Err, zero, suc, take, inl, inr}
 use Rattle.std.specs.List.{flat_map}
 use Rattle.std.specs.Int.{w16, w32, w64, to_be_bytes, from_be_bytes}
 use Rattle.wb_names.specs.Values.{NameValue, MarkValue, DrawopValue}
@@ -15,7 +15,7 @@ use Rattle.wb_codec.specs.declared.version.Version.{Version}
 use Rattle.wb_codec.specs.declared.version.Version.TheVariants.{One, Two}
 use Rattle.wb_codec.specs.Ranges.{IsName, IsSession, IsPageState, IsDatagram, IsDrawop}
 use Rattle.wb_codec.specs.Spelling.{page_bytes, name_bytes, mark_bytes, echo_bytes, list_bytes, body, version_of, op_bytes, version_code, kind_code, framed, spelling}
-use Rattle.wb_codec.specs.Reading.{◌>>=◌, number_at, page_at, name_at, end_of, in_range, marks_at, echoes_at, drawop_at, draw_at, session_at, request_at, ask_pages_at, page_state_at, body_at, require, Framed, version_at, kind_at, frame_at, reading}
+use Rattle.wb_codec.specs.Reading.{◌>>=◌, name_at, end_of, in_range, draw_at, session_at, request_at, ask_pages_at, page_state_at, body_at, Framed, version_at, kind_at, frame_at, reading}
 use Rattle.wb_codec.proofs.Bytes.{IsBytes, IsBytes-drop, IsBytes-take}
 use Rattle.wb_codec.proofs.FieldLaws.{Reads, gives, step, ended, ranges, ends, Takes-then, Takes-all, reads16, reads32, reads64, again16, again32, again64, page_reads, page_again, name_reads, name_again, has_width, found, never_memory, weaker, checked, ok_is}
 use Rattle.wb_codec.proofs.DrawopLaws.{drawop_reads, drawop_again, named, seq_free}

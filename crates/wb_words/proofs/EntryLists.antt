@@ -1,6 +1,6 @@
 -- Lists of entries, one word after another.
 use Rattle.std.proofs.Common.{◌≡◌, ℕ, suc, ◌+◌, ◌<◌, ◌≤◌, Bool, true, false, cond, Option, Some, None, List, [], ◌∷◌, ◌++◌, length, get_or, Result, Ok, Err, refl, sym, ap, subst, ◌∙◌, append_assoc, append-nil, arith}
-use Rattle.std.specs.Prelude.{nat_lt, All, AllPairs, map}
+use Rattle.std.specs.Prelude.{nat_lt, All, AllPairs, IfOk, map}
 use Rattle.std.proofs.lemmas.Bool.{ltb-true, lt-ltb}
 use Rattle.std.proofs.lemmas.Bool.Decides.{nat_tests}
 use Rattle.std.proofs.lemmas.List.{length-append}
@@ -16,20 +16,42 @@ use Rattle.wb_words.specs.Reading.{◌>>=◌, require, wrong, entries_at, left_a
 
 -- ---- steps and checks
 
--- the value of a step that did not fail
-pub bind_ok : {A B : Type 0} (r : Result A WrongWord) (f : A → Result B WrongWord) (y : B) → (r >>= f) ≡ Ok y → (x : A) × (r ≡ Ok x) × (f x ≡ Ok y)
-bind_ok (Ok x) f y e = (x, refl, e)
-bind_ok (Err d) f y e = absurd cc
-
 abbrev done : {A : Type 0} → A → Result A WrongWord
 done x = Ok x
 
 pub ok_is : {A : Type 0} (x y : A) → done x ≡ done y → x ≡ y
 ok_is x y e = cc
 
-pub require_ok : {A : Type 0} (b : Bool) (place : ℕ) (fault : WordFault) (x y : A) → require b place fault x ≡ Ok y → (b ≡ true) × (x ≡ y)
-require_ok true place fault x y e = (refl, cc)
-require_ok false place fault x y e = absurd cc
+-- what was read has P
+pub record Reads {A : Type 0} (P : A → Type 0) (r : Result A WrongWord) : Type 0 where
+  pub it : IfOk r P
+
+pub found : {A : Type 0} {P : A → Type 0} {r : Result A WrongWord} (x : A) → Reads P r → r ≡ Ok x → P x
+found {P = P} x h e = (subst (Reads P) e h).it
+
+pub gives : {A : Type 0} {P : A → Type 0} (x : A) → P x → Reads P (Ok x)
+gives x h = record { it = h }
+
+pub weaker : {A : Type 0} {P Q : A → Type 0} {r : Result A WrongWord} → Reads P r → ((x : A) → P x → Q x) → Reads Q r
+weaker {r = Ok x} h k = record { it = k x h.it }
+weaker {r = Err wrong} h k = record { it = tt }
+
+pub step : {A B : Type 0} {P : A → Type 0} {Q : B → Type 0} {r : Result A WrongWord} (f : A → Result B WrongWord) → Reads P r → ((x : A) → P x → Reads Q (f x)) → Reads Q (r >>= f)
+step {r = Ok x} f h k = k x h.it
+step {r = Err wrong} f h k = record { it = tt }
+
+pub required : {A B : Type 0} {Q : B → Type 0} (b : Bool) (place : ℕ) (fault : WordFault) (x : A) (f : A → Result B WrongWord) → (b ≡ true → Reads Q (f x)) → Reads Q (require b place fault x >>= f)
+required true place fault x f h = h refl
+required false place fault x f h = record { it = tt }
+
+pub requires : {A : Type 0} {P : A → Type 0} (b : Bool) (place : ℕ) (fault : WordFault) (x : A) → (b ≡ true → P x) → Reads P (require b place fault x)
+requires true place fault x h = record { it = h refl }
+requires false place fault x h = record { it = tt }
+
+-- the first where a test holds, else the second
+chosen : {A : Type 0} {P : A → Type 0} (b : Bool) (r s : Result A WrongWord) → (b ≡ true → Reads P r) → (b ≡ false → Reads P s) → Reads P (cond b r s)
+chosen true r s h k = h refl
+chosen false r s h k = k refl
 
 -- these entries before those that are still to be read
 abbrev pub onto : {X : Type 0} → List X → Result (List X) WrongWord → Result (List X) WrongWord
@@ -67,10 +89,10 @@ module _ {X : Type 0} (entry_at : ℕ → Option ℕ → List ℕ → Result X W
       let same : place + 0 ≡ place = omega arith in
       record { so_far = onto_none (read place 0 None ws) ∙ ap (λ (p : ℕ). onto [] (read p 0 None ws)) (sym same); few = omega arith }
 
-  step : (place n : ℕ) (before : Option ℕ) (w : List ℕ) (after : List (List ℕ)) (x : X) → stops w ≡ false → n < 65535 → entry_at place before w ≡ Ok x
+  read_one : (place n : ℕ) (before : Option ℕ) (w : List ℕ) (after : List (List ℕ)) (x : X) → stops w ≡ false → n < 65535 → entry_at place before w ≡ Ok x
       → read place n before (w ∷ after) ≡ onto (x ∷ []) (read (place + 1) (n + 1) (Some (source x)) after)
   unfolding entries_at
-  step place n before w after x goes few e =
+  read_one place n before w after x goes few e =
       let test : nat_lt n 65535 ≡ true = lt-ltb n 65535 few in
       rw (goes, test, e) (onto_one x (read (place + 1) (n + 1) (Some (source x)) after))
 
@@ -83,7 +105,7 @@ module _ {X : Type 0} (entry_at : ℕ → Option ℕ → List ℕ → Result X W
       record {
         so_far = h.so_far
             ∙ ap (λ (r : List (List ℕ)). onto xs (read (place + length xs) (length xs) before r)) is
-            ∙ ap (onto xs) (step (place + length xs) (length xs) before w after x goes few e)
+            ∙ ap (onto xs) (read_one (place + length xs) (length xs) before w after x goes few e)
             ∙ onto_onto xs (x ∷ []) (read (place + length xs + 1) (length xs + 1) (Some (source x)) after)
             ∙ ap (λ (p : ℕ). onto (xs ++ x ∷ []) (read p (length xs + 1) (Some (source x)) after)) place-is
             ∙ ap (λ (n : ℕ). onto (xs ++ x ∷ []) (read (place + length (xs ++ x ∷ [])) n (Some (source x)) after)) count-is;
@@ -166,35 +188,26 @@ module _ {X : Type 0} (entry_at : ℕ → Option ℕ → List ℕ → Result X W
           few = omega (arith, ts.few);
         }
 
-    entries_take : ((place : ℕ) (before : Option ℕ) (w : List ℕ) (x : X) → entry_at place before w ≡ Ok x → EntryTaken spell Fits before w x)
-        → (place n : ℕ) (before : Option ℕ) (ws : List (List ℕ)) (xs : List X) → n ≤ 65535 → entries_at entry_at source stops place n before ws ≡ Ok xs → ListTaken n before ws xs
-    unfolding entries_at
-    entries_take takes place n before [] xs few e = subst (λ (ys : List X). ListTaken n before [] ys) (ok_is [] xs e) (taken_none n before [] few refl)
-    entries_take takes place n before (w ∷ ws) xs few e = by (λ (s : ℕ) (ys : List X) (le : n + 1 ≤ 65535). entries_take takes (place + 1) (n + 1) (Some s) ws ys le) (stops w) refl e
-      where
-        by : ((s : ℕ) (ys : List X) → n + 1 ≤ 65535 → read (place + 1) (n + 1) (Some s) ws ≡ Ok ys → ListTaken (n + 1) (Some s) ws ys)
-            → (t : Bool) → stops w ≡ t → cond t (Ok []) (require (nat_lt n 65535) place TooMany w >>= λ word. entry_at place before word >>= λ entry. read (place + 1) (n + 1) (Some (source entry)) ws >>= λ others. Ok (entry ∷ others)) ≡ Ok xs → ListTaken n before (w ∷ ws) xs
-        by later true h e = subst (λ (ys : List X). ListTaken n before (w ∷ ws) ys) (ok_is [] xs e) (taken_none n before (w ∷ ws) few (rw h refl))
-        by later false h e =
-            let a = bind_ok (require (nat_lt n 65535) place TooMany w) _ xs e in
-            let test = require_ok (nat_lt n 65535) place TooMany w a.0 a.1 in
-            let b = bind_ok (entry_at place before a.0) _ xs a.2 in
-            let c = bind_ok (read (place + 1) (n + 1) (Some (source b.0)) ws) _ xs b.2 in
-            let t : EntryTaken spell Fits before w b.0 = subst (λ (v : List ℕ). EntryTaken spell Fits before v b.0) (sym test.1) (takes place before a.0 b.0 b.1) in
-            let below : n < 65535 = ltb-true n 65535 test.0 in
-            let room : n + 1 ≤ 65535 = omega arith in
-            subst (λ (ys : List X). ListTaken n before (w ∷ ws) ys) (ok_is (b.0 ∷ c.0) xs c.2) (taken_more n before w ws b.0 c.0 h t (later (source b.0) c.0 room c.1))
+    abbrev EntryReads : Type 0
+    EntryReads = (place : ℕ) (before : Option ℕ) (w : List ℕ) → Reads (EntryTaken spell Fits before w) (entry_at place before w)
 
-    pub entries_ok : ((place : ℕ) (before : Option ℕ) (w : List ℕ) (x : X) → entry_at place before w ≡ Ok x → EntryTaken spell Fits before w x)
-        → (place : ℕ) (ws : List (List ℕ)) (xs : List X) → entries_at entry_at source stops place 0 None ws ≡ Ok xs → (ws ≡ map spell xs ++ left_at stops ws) × IsEntryList source IsPositive IsEntry xs
-    entries_ok takes place ws xs e =
-        let t = entries_take takes place 0 None ws xs (omega arith) e in (
-          t.words,
-          record {
-            lawful = record { ascending = t.ascending; positive = λ k d h. (t.fits k d h).positive; few = omega (arith, t.few) };
-            ranges = λ k d h. (t.fits k d h).ranges;
-          },
-        )
+    entries_read : EntryReads → (place n : ℕ) (before : Option ℕ) (ws : List (List ℕ)) → n ≤ 65535 → Reads (ListTaken n before ws) (entries_at entry_at source stops place n before ws)
+    unfolding entries_at
+    entries_read entry place n before [] few = gives _ (taken_none n before [] few refl)
+    entries_read entry place n before (w ∷ ws) few = chosen (stops w) _ _
+        (λ (h : stops w ≡ true). gives _ (taken_none n before (w ∷ ws) few (rw h refl)))
+        (λ (h : stops w ≡ false). required (nat_lt n 65535) place TooMany w _ (λ room.
+        let more : n + 1 ≤ 65535 = omega (arith, ltb-true n 65535 room) in
+        step _ (entry place before w) (λ x t. step _ (entries_read entry (place + 1) (n + 1) (Some (source x)) ws more) (λ xs ts. gives _ (taken_more n before w ws x xs h t ts)))))
+
+    pub list_reads : EntryReads → (place : ℕ) (ws : List (List ℕ)) → Reads (λ xs. (ws ≡ map spell xs ++ left_at stops ws) × IsEntryList source IsPositive IsEntry xs) (entries_at entry_at source stops place 0 None ws)
+    list_reads entry place ws = weaker (entries_read entry place 0 None ws (omega arith)) (λ xs t. (
+      t.words,
+      record {
+        lawful = record { ascending = t.ascending; positive = λ k d h. (t.fits k d h).positive; few = omega (arith, t.few) };
+        ranges = λ k d h. (t.fits k d h).ranges;
+      },
+    ))
 
     stopped_ends : (place n : ℕ) (before : Option ℕ) (ws : List (List ℕ)) → Stopped stops ws → read place n before ws ≡ Ok []
     unfolding entries_at

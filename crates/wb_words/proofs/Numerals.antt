@@ -4,7 +4,7 @@ use Rattle.std.specs.Prelude.{◌&&◌, nat_le, not, decimal}
 use Rattle.std.specs.Char.{digit_value, is_ascii_digit}
 use Rattle.std.specs.Str.{bytes_eq}
 use Rattle.std.specs.Str.Parse.{AllDigits, digits_value, digits_value_after}
-use Rattle.std.proofs.lemmas.Bool.{leb-true, le-leb, cases_lt}
+use Rattle.std.proofs.lemmas.Bool.{leb-true, le-leb, cases_lt, and_parts}
 use Rattle.std.proofs.lemmas.Bool.Decides.{nat_tests}
 use Rattle.std.proofs.lemmas.Fmt.{decimal_is_IsNumeral, decimal-digits_value, decimal_digit, first_decimal}
 use Rattle.std.proofs.lemmas.List.{drop_more}
@@ -13,10 +13,6 @@ use Rattle.std.proofs.lemmas.Slice.Eq.{bytes_eq-Decides}
 use Rattle.std.proofs.lemmas.Str.{digit_value_digit}
 use Rattle.std.proofs.lemmas.Str.Parse.{IsNumeralModel, numerals_by_value, tells_digits, digit_from_value}
 use Rattle.wb_words.specs.Words.{number_in, is_plain}
-
-pub both : (a b : Bool) → (a && b) ≡ true → (a ≡ true) × (b ≡ true)
-both true b e = (refl, e)
-both false b e = absurd cc
 
 -- ---- a number is read from its spelling, and from no other word
 
@@ -37,7 +33,7 @@ unfolding number_in
 number_takes most n word e =
     let v = digits_value 10 word in
     let t = chosen (bytes_eq (decimal v) word && nat_le v most) v n e in
-    let p = both (bytes_eq (decimal v) word) (nat_le v most) t.0 in
+    let p = and_parts (bytes_eq (decimal v) word) (nat_le v most) t.0 in
     let spelled : decimal v ≡ word = (bytes_eq-Decides (decimal v) word).0 p.0 in
     let few : v ≤ most = leb-true v most p.1 in
     (sym spelled ∙ ap decimal t.1, subst (λ (m : ℕ). m ≤ most) t.1 few)
@@ -143,4 +139,4 @@ pub not_digit : (b : ℕ) (test : Bool) → test ≡ is_ascii_digit b → test �
 not_digit b test is no_digit low high = let yes_low : nat_le 48 b ≡ true = le-leb 48 b low in let yes_high : nat_le b 57 ≡ true = le-leb b 57 high in let passes : is_ascii_digit b ≡ true = rw (yes_low, yes_high) refl in absurd cc
 
 pub a_digit : (b : ℕ) (test : Bool) → test ≡ is_ascii_digit b → test ≡ true → (48 ≤ b) × (b ≤ 57)
-a_digit b test is passes = let t = both (nat_le 48 b) (nat_le b 57) (sym is ∙ passes) in (leb-true 48 b t.0, leb-true b 57 t.1)
+a_digit b test is passes = let t = and_parts (nat_le 48 b) (nat_le b 57) (sym is ∙ passes) in (leb-true 48 b t.0, leb-true b 57 t.1)

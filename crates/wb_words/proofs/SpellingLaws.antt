@@ -4,6 +4,7 @@ use Rattle.std.specs.Prelude.{map, nat_eq, not, codes, decimal, ◌⊎◌, IfOk}
 use Rattle.std.specs.List.{list_all}
 use Rattle.std.proofs.lemmas.Bool.Decides.{nat_tests}
 use Rattle.std.proofs.lemmas.List.Elements.{All-cons, All-nil}
+use Rattle.std.proofs.lemmas.Bool.{and_parts, not-true}
 use Rattle.wb_names.specs.Values.{NameValue}
 use Rattle.wb_names.specs.Drawing.{IsLawful, stroke_fault}
 use Rattle.wb_names.specs.declared.parts.Stroke.{Stroke}
@@ -22,7 +23,6 @@ use Rattle.wb_words.specs.Words.{words, joined}
 use Rattle.wb_words.specs.Spelling.{page_word, mark_word, echo_word, quoted, stroke_words, kind_word, field_words, op_words, name_words, word_list, spelled}
 use Rattle.wb_words.specs.Reading.{MayGive, datagram_at, reading_of, reading}
 use Rattle.wb_words.specs.Grammar.{Says}
-use Rattle.wb_words.proofs.Numerals.{both}
 use Rattle.wb_words.proofs.EntryLists.{ok_is}
 use Rattle.wb_words.proofs.Parting.{NoSpace, NoSpaces, NoSpaces-words, NoSpaces-append, NoSpaces-map, words_joined, joined_words}
 use Rattle.wb_words.proofs.WordLaws.{decimal_space, page_space, mark_space, echo_space}
@@ -33,13 +33,9 @@ use Rattle.wb_words.proofs.LineLaws.{reading_takes, reading_again}
 abbrev other : ℕ → Bool
 other b = not (nat_eq b 32)
 
-not_true : (b : Bool) → not b ≡ true → b ≡ false
-not_true false e = refl
-not_true true e = absurd cc
-
 tested : (word : List ℕ) → list_all other word ≡ true → NoSpace word
 tested [] e = All-nil (λ b. nat_eq b 32 ≡ false)
-tested (b ∷ word) e = let p = both (other b) (list_all other word) e in All-cons (λ b. nat_eq b 32 ≡ false) b word (not_true (nat_eq b 32) p.0) (tested word p.1)
+tested (b ∷ word) e = let p = and_parts (other b) (list_all other word) e in All-cons (λ b. nat_eq b 32 ≡ false) b word (not-true (nat_eq b 32) p.0) (tested word p.1)
 
 space32 : (n : ℕ) → n < 2 ^ 32 → NoSpace (decimal n)
 space32 n lt = decimal_space n (omega arith)

@@ -1,23 +1,11 @@
 -- Texts in quotes: what is read is the text that was quoted, and what was quoted is read again.
 use Rattle.std.proofs.Common.{◌≡◌, ℕ, Bool, true, false, cond, Some, None, List, [], ◌∷◌, ◌++◌, length, refl, sym, ap, ◌∙◌, append_assoc, append-nil}
 use Rattle.std.specs.Prelude.{nat_eq, flat_map, ◌||◌}
-use Rattle.std.proofs.lemmas.Bool.{eqb-true}
+use Rattle.std.proofs.lemmas.Bool.{eqb-true, or_from, or_parts}
 use Rattle.std.proofs.lemmas.List.{nil_from_length}
 use Rattle.wb_words.specs.Words.{is_special, text_after, text_in}
 use Rattle.wb_words.specs.Spelling.{escaped, quoted}
 use Rattle.wb_words.proofs.Parting.{chosen, some_is}
-
-neither : (a b : Bool) → (a || b) ≡ false → (a ≡ false) × (b ≡ false)
-neither true b e = absurd cc
-neither false b e = (refl, e)
-
-either_of : (a b : Bool) → a ≡ false → b ≡ false → (a || b) ≡ false
-either_of true b e f = absurd cc
-either_of false b e f = f
-
-or_true : (a b : Bool) → b ≡ true → (a || b) ≡ true
-or_true true b e = refl
-or_true false b e = e
 
 escaped_special : (b : ℕ) → is_special b ≡ true → escaped b ≡ 92 ∷ b ∷ []
 escaped_special b e = ap (λ (t : Bool). cond t (92 ∷ b ∷ []) (b ∷ [])) e
@@ -64,7 +52,7 @@ unquoted passed false (b ∷ bytes) text e = by (unquoted passed true bytes text
       let backslash : b ≡ 92 = eqb-true b 92 k in
       record { rest = rest.rest; is = rest.is; spelled = ap (λ c. c ∷ bytes) backslash ∙ rest.spelled }
   by slash later false h false k =
-      let plain : is_special b ≡ false = either_of (nat_eq b 34) (nat_eq b 92) h k in
+      let plain : is_special b ≡ false = or_from (nat_eq b 34) (nat_eq b 92) h k in
       one_more passed b bytes text false (sym (escaped_plain b plain)) (later ((chosen (nat_eq b 92) _ _ _ ((chosen (nat_eq b 34) _ _ _ e).second h)).second k))
 
 pub text_takes : (bytes text : List ℕ) → text_in bytes ≡ Some text → bytes ≡ quoted text
@@ -84,7 +72,7 @@ quoted_again passed (b ∷ text) =
   where
     by : (rest : List ℕ) (t : Bool) → is_special b ≡ t → text_after passed false (escaped b ++ rest) ≡ text_after (passed ++ b ∷ []) false rest
     by rest true h = ap (λ t. text_after passed false (t ++ rest)) (escaped_special b h) ∙ rw h refl
-    by rest false h = let n = neither (nat_eq b 34) (nat_eq b 92) h in ap (λ t. text_after passed false (t ++ rest)) (escaped_plain b h) ∙ rw (n.0, n.1) refl
+    by rest false h = let n = or_parts (nat_eq b 34) (nat_eq b 92) h in ap (λ t. text_after passed false (t ++ rest)) (escaped_plain b h) ∙ rw (n.0, n.1) refl
 
 pub text_again : (text : List ℕ) → text_in (quoted text) ≡ Some text
 text_again text = quoted_again [] text

@@ -21,10 +21,7 @@ fn drawn(place: u32, name: Name, time: u64, shape: Shape<'_>) -> Result<Drawop, 
 {
     match Drawop::new(name, time, shape) {
         Ok(drawop) => Ok(drawop),
-        Err(fault) => Err(WrongWord {
-            place,
-            fault: WordFault::Field(fault),
-        }),
+        Err(fault) => Err(WordFault::Field(fault).at(place)),
     }
 }
 
@@ -62,16 +59,10 @@ fn text_of(alloc: Global, place: u32, rest: Rest<'_>) -> Result<Vec<u8>, WordsFa
     ensures { MayGive (λ text. text.items) result (text_at place (words_left rest.entry)) }
 {
     match rest {
-        Rest::End => Err(WordsFault::Word(WrongWord {
-            place,
-            fault: WordFault::Missing,
-        })),
+        Rest::End => Err(WordsFault::Word(WordFault::Missing.at(place))),
         Rest::Words(bytes) => match text_in(alloc, bytes)? {
             Some(text) => Ok(text),
-            None => Err(WordsFault::Word(WrongWord {
-                place,
-                fault: WordFault::Text,
-            })),
+            None => Err(WordsFault::Word(WordFault::Text.at(place))),
         },
     }
 }
@@ -111,10 +102,7 @@ fn op_of(
     ensures { MayGive (λ d. d) result (op_at name time word.now (words_left rest.entry)) }
 {
     let Some(kind) = kind_in(word) else {
-        return Err(WordsFault::Word(WrongWord {
-            place: 6,
-            fault: WordFault::Operation,
-        }));
+        return Err(WordsFault::Word(WordFault::Operation.at(6)));
     };
     match kind {
         OpKind::Drawn(figure) => Ok(figure_of(figure, name, time, rest)?),

@@ -80,26 +80,17 @@ impl Worded for Mark {
     #[tactic(auto, unfolding(crate::specs::Reading::mark_at))]
     fn read(place: u32, before: Option<u32>, word: &[u8]) -> Result<Mark, WrongWord> {
         let Some(fields) = mark_in(word) else {
-            return Err(WrongWord {
-                place,
-                fault: WordFault::Mark,
-            });
+            return Err(WordFault::Mark.at(place));
         };
         match Mark::new(fields.source, fields.high) {
             Ok(mark) => {
                 if mark.is_above(before) {
                     Ok(mark)
                 } else {
-                    Err(WrongWord {
-                        place,
-                        fault: WordFault::Order,
-                    })
+                    Err(WordFault::Order.at(place))
                 }
             }
-            Err(fault) => Err(WrongWord {
-                place,
-                fault: WordFault::Field(fault),
-            }),
+            Err(fault) => Err(WordFault::Field(fault).at(place)),
         }
     }
 
@@ -126,18 +117,12 @@ impl Worded for Echo {
     #[tactic(auto, unfolding(crate::specs::Reading::echo_at))]
     fn read(place: u32, before: Option<u32>, word: &[u8]) -> Result<Echo, WrongWord> {
         let Some(echo) = echo_in(word) else {
-            return Err(WrongWord {
-                place,
-                fault: WordFault::Echo,
-            });
+            return Err(WordFault::Echo.at(place));
         };
         if echo.is_above(before) {
             Ok(echo)
         } else {
-            Err(WrongWord {
-                place,
-                fault: WordFault::Order,
-            })
+            Err(WordFault::Order.at(place))
         }
     }
 
@@ -172,10 +157,7 @@ pub(crate) fn entries_of<E: Worded>(
         }
         let here = place + entries.len() as u32;
         if entries.len() == MAX_ENTRIES {
-            return Err(WordsFault::Word(WrongWord {
-                place: here,
-                fault: WordFault::TooMany,
-            }));
+            return Err(WordsFault::Word(WordFault::TooMany.at(here)));
         }
         let entry = E::read(here, before, word)?;
         before = Some(entry.source());

@@ -71,6 +71,16 @@ pub enum WordsFault {
     Memory,
 }
 
+impl WordFault {
+    /// This fault, of the word at a place.
+    #[inline(always)]
+    pub(crate) fn at(self, place: u32) -> WrongWord
+        ensures { result ≡ record { place = place; fault = self } }
+    {
+        WrongWord { place, fault: self }
+    }
+}
+
 impl From<WrongWord> for WordsFault {
     ghost from_gives = { λ e f. f ≡ words_faults.Word e };
 

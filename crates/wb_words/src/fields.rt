@@ -21,10 +21,7 @@ fn number_of(place: u32, most: u64, rest: Rest<'_>) -> Result<(u64, Rest<'_>), W
     let (word, rest) = next_word(place, rest)?;
     match number_in(word, most) {
         Some(number) => Ok((number, rest)),
-        None => Err(WrongWord {
-            place,
-            fault: WordFault::Number,
-        }),
+        None => Err(WordFault::Number.at(place)),
     }
 }
 
@@ -77,10 +74,7 @@ pub(crate) fn page_of(place: u32, rest: Rest<'_>) -> Result<(PageId, Rest<'_>), 
     let (word, rest) = next_word(place, rest)?;
     match page_in(word) {
         Some(page) => Ok((page, rest)),
-        None => Err(WrongWord {
-            place,
-            fault: WordFault::Page,
-        }),
+        None => Err(WordFault::Page.at(place)),
     }
 }
 
@@ -92,10 +86,7 @@ pub(crate) fn glyph_of(place: u32, rest: Rest<'_>) -> Result<(u8, Rest<'_>), Wro
     let (word, rest) = next_word(place, rest)?;
     match word {
         [glyph] => Ok((*glyph, rest)),
-        _ => Err(WrongWord {
-            place,
-            fault: WordFault::Glyph,
-        }),
+        _ => Err(WordFault::Glyph.at(place)),
     }
 }
 
@@ -125,9 +116,6 @@ pub(crate) fn named(place: u32, fields: NameFields) -> Result<Name, WrongWord>
 {
     match Name::new(fields.source, fields.page, fields.seq) {
         Ok(name) => Ok(name),
-        Err(fault) => Err(WrongWord {
-            place,
-            fault: WordFault::Field(fault),
-        }),
+        Err(fault) => Err(WordFault::Field(fault).at(place)),
     }
 }

@@ -95,10 +95,7 @@ fn datagram_of(alloc: Global, word: &[u8], rest: Rest<'_>) -> Result<Datagram, W
     } else if word == b"page-state".as_slice() {
         page_state_of(alloc, rest)
     } else {
-        Err(WordsFault::Word(WrongWord {
-            place: 1,
-            fault: WordFault::Unknown,
-        }))
+        Err(WordsFault::Word(WordFault::Unknown.at(1)))
     }
 }
 

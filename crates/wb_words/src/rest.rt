@@ -45,10 +45,7 @@ pub(crate) fn next_word<'a>(place: u32, rest: Rest<'a>) -> Result<(&'a [u8], Res
 {
     match rest {
         Rest::Words(bytes) => Ok(first_word(bytes)),
-        Rest::End => Err(WrongWord {
-            place,
-            fault: WordFault::Missing,
-        }),
+        Rest::End => Err(WordFault::Missing.at(place)),
     }
 }
 
@@ -58,9 +55,6 @@ pub(crate) fn no_word(place: u32, rest: Rest<'_>) -> Result<(), WrongWord>
 {
     match rest {
         Rest::End => Ok(()),
-        Rest::Words(_) => Err(WrongWord {
-            place,
-            fault: WordFault::Extra,
-        }),
+        Rest::Words(_) => Err(WordFault::Extra.at(place)),
     }
 }

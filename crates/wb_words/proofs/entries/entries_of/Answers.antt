@@ -13,7 +13,7 @@ returns-then-len-eq-MAX_ENTRIES g c =
     let is = ap words_left c.in-Words.is ∙ c.first_word.ensures in
     let count : length c.loop-left.entries.items ≡ c.len.result = omega (arith, c.len.ensures, c.loop-left.entries.ok) in
     let many : 65535 ≤ length c.loop-left.entries.items = omega (arith, c.len-in-Words.ensures, c.loop-left.entries.ok) in
-    read_many g.E.Worded.entry_at g.E.Entry.source g.E.Worded.stops _ _ _ _ _ _ _ c.loop-left.invariant.read is (sym c.ends.ensures ∙ c.if-ends.false) many ∙ ap (λ (n : ℕ). wrong (c.args.place + n) TooMany) count
+    rw c.at.ensures (read_many g.E.Worded.entry_at g.E.Entry.source g.E.Worded.stops _ _ _ _ _ _ _ c.loop-left.invariant.read is (sym c.ends.ensures ∙ c.if-ends.false) many ∙ ap (λ (n : ℕ). wrong (c.args.place + n) TooMany) count)
 
 pub returns-in_err-entry : goal.returns-in_err-entry
 returns-in_err-entry g c =
