@@ -5,7 +5,7 @@ ghost use Rattle.wb_history.specs.Passes.{IsPassOf, IsSamePass};
 
 use std::alloc::Global;
 use wb_host::{Board, BoardFault, Desk, Reply};
-use wb_names::{Drawop, Name, PageId, Shape};
+use wb_names::{Drawop, Figure, Name, PageId, Shape, Stroke};
 
 pub(crate) const PAGE: PageId = PageId {
     creator: 7,
@@ -19,13 +19,16 @@ fn on_page(source: u32, seq: u32, shape: Shape) -> Option<Drawop> {
 
 /// The stroke of source 7 with this number and glyph.
 pub(crate) fn stroke(seq: u32, glyph: u8) -> Option<Drawop> {
-    let line = Shape::Line {
-        x0: 0,
-        y0: 1,
-        x1: 4,
-        y1: 1,
-        glyph,
-    };
+    let line = Shape::Drawn(
+        Figure::Line,
+        Stroke {
+            x0: 0,
+            y0: 1,
+            x1: 4,
+            y1: 1,
+            glyph,
+        },
+    );
     on_page(7, seq, line)
 }
 

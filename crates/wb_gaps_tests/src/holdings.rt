@@ -6,7 +6,7 @@ ghost use Rattle.std.specs.Prelude.{◌≤◌};
 use std::alloc::{AllocError, Global};
 use std::test::Fail;
 use wb_gaps::Holdings;
-use wb_names::{Drawop, FieldFault, Gap, Mark, Marks, Name, PageId, Shape};
+use wb_names::{Drawop, FieldFault, Figure, Gap, Mark, Marks, Name, PageId, Shape, Stroke};
 
 const PAGE: PageId = PageId {
     creator: 7,
@@ -62,13 +62,16 @@ fn marks(alloc: Global, pairs: &[(u32, u32)]) -> Result<Marks, Fail> {
 }
 
 fn dot(source: u32, page: PageId, seq: u32) -> Result<Drawop, FieldFault> {
-    let point = Shape::Line {
-        x0: 0,
-        y0: 0,
-        x1: 0,
-        y1: 0,
-        glyph: b'.',
-    };
+    let point = Shape::Drawn(
+        Figure::Line,
+        Stroke {
+            x0: 0,
+            y0: 0,
+            x1: 0,
+            y1: 0,
+            glyph: b'.',
+        },
+    );
     Drawop::new(Name::new(source, page, seq)?, 1, point)
 }
 

@@ -4,7 +4,7 @@
 use std::alloc::{AllocError, Global};
 use std::test::Fail;
 use wb_gaps::{MergeFault, gaps, merge_marks, pages, report};
-use wb_names::{Drawop, FieldFault, Gap, Mark, Marks, Name, PageId, Shape};
+use wb_names::{Drawop, FieldFault, Figure, Gap, Mark, Marks, Name, PageId, Shape, Stroke};
 
 const PAGE: PageId = PageId {
     creator: 7,
@@ -27,13 +27,16 @@ macro_rules! again {
 }
 
 fn dot(source: u32, page: PageId, seq: u32) -> Result<Drawop, FieldFault> {
-    let point = Shape::Line {
-        x0: 0,
-        y0: 0,
-        x1: 0,
-        y1: 0,
-        glyph: b'.',
-    };
+    let point = Shape::Drawn(
+        Figure::Line,
+        Stroke {
+            x0: 0,
+            y0: 0,
+            x1: 0,
+            y1: 0,
+            glyph: b'.',
+        },
+    );
     Drawop::new(Name::new(source, page, seq)?, 1, point)
 }
 

@@ -6,7 +6,7 @@ ghost use Rattle.std.specs.Prelude.{◌<◌, ◌≤◌, length};
 use std::alloc::Global;
 use std::test::Fail;
 use wb_gaps::{Holdings, gaps, pages, report};
-use wb_names::{Drawop, FieldFault, Mark, Marks, Name, PageId, Shape};
+use wb_names::{Drawop, FieldFault, Figure, Mark, Marks, Name, PageId, Shape, Stroke};
 
 const fn page(number: u32) -> PageId {
     PageId { creator: 7, number }
@@ -42,13 +42,16 @@ impl Draws {
 }
 
 fn dot(source: u32, page: PageId, seq: u32) -> Result<Drawop, FieldFault> {
-    let point = Shape::Line {
-        x0: 0,
-        y0: 0,
-        x1: 0,
-        y1: 0,
-        glyph: b'.',
-    };
+    let point = Shape::Drawn(
+        Figure::Line,
+        Stroke {
+            x0: 0,
+            y0: 0,
+            x1: 0,
+            y1: 0,
+            glyph: b'.',
+        },
+    );
     Drawop::new(Name::new(source, page, seq)?, 1, point)
 }
 

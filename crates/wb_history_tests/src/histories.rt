@@ -6,7 +6,7 @@ ghost use Rattle.wb_history.specs.Passes.{IsPassOf};
 use std::alloc::Global;
 use std::test::Fail;
 use wb_history::{History, Pass};
-use wb_names::{Drawop, FieldFault, Name, PageId, Shape};
+use wb_names::{Drawop, FieldFault, Figure, Name, PageId, Shape, Stroke};
 
 const PAGE: PageId = PageId {
     creator: 7,
@@ -14,13 +14,16 @@ const PAGE: PageId = PageId {
 };
 
 pub(crate) fn stroke(source: u32, seq: u32, glyph: u8) -> Result<Drawop, FieldFault> {
-    let line = Shape::Line {
-        x0: 0,
-        y0: 1,
-        x1: 4,
-        y1: 1,
-        glyph,
-    };
+    let line = Shape::Drawn(
+        Figure::Line,
+        Stroke {
+            x0: 0,
+            y0: 1,
+            x1: 4,
+            y1: 1,
+            glyph,
+        },
+    );
     Drawop::new(Name::new(source, PAGE, seq)?, 10, line)
 }
 

@@ -3,7 +3,7 @@
 use std::alloc::{AllocError, Global};
 use wb_codec::Datagram;
 use wb_host::KeepFault;
-use wb_names::{Drawop, Echo, Echoes, Mark, Marks, Name, PageId, Shape};
+use wb_names::{Drawop, Echo, Echoes, Figure, Mark, Marks, Name, PageId, Shape, Stroke};
 
 pub const PAGE: PageId = PageId {
     creator: 7,
@@ -28,13 +28,16 @@ pub fn named(seq: u32) -> Result<Name, KeepFault> {
 
 /// The drawop of a number.
 pub fn dot(seq: u32) -> Result<Drawop, KeepFault> {
-    let line = Shape::Line {
-        x0: 0,
-        y0: 0,
-        x1: 0,
-        y1: 0,
-        glyph: b'.',
-    };
+    let line = Shape::Drawn(
+        Figure::Line,
+        Stroke {
+            x0: 0,
+            y0: 0,
+            x1: 0,
+            y1: 0,
+            glyph: b'.',
+        },
+    );
     Drawop::new(named(seq)?, u64::from(seq), line).map_err(|_| KeepFault::Range)
 }
 

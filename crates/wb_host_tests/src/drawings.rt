@@ -1,6 +1,6 @@
 //! Drawops by letters, which the tests share.
 
-use wb_names::{Drawop, Name, PageId, Shape};
+use wb_names::{Change, Drawop, Figure, Name, PageId, Shape, Stroke, Target};
 
 pub(crate) const PAGE: PageId = PageId {
     creator: 7,
@@ -14,13 +14,16 @@ pub(crate) const SPARSE: PageId = PageId {
 };
 
 fn stroke(glyph: u8) -> Shape<'static> {
-    Shape::Line {
-        x0: 0,
-        y0: 1,
-        x1: 4,
-        y1: 1,
-        glyph,
-    }
+    Shape::Drawn(
+        Figure::Line,
+        Stroke {
+            x0: 0,
+            y0: 1,
+            x1: 4,
+            y1: 1,
+            glyph,
+        },
+    )
 }
 
 /// A drawop of the page with these numbers: source, number, time.
@@ -31,13 +34,16 @@ fn on_page(numbers: (u32, u32, u64), shape: Shape) -> Option<Drawop> {
 }
 
 pub(crate) fn dot(source: u32, page: PageId, seq: u32) -> Option<Drawop> {
-    let line = Shape::Line {
-        x0: 0,
-        y0: 0,
-        x1: 0,
-        y1: 0,
-        glyph: b'.',
-    };
+    let line = Shape::Drawn(
+        Figure::Line,
+        Stroke {
+            x0: 0,
+            y0: 0,
+            x1: 0,
+            y1: 0,
+            glyph: b'.',
+        },
+    );
     let name = Name::new(source, page, seq).ok()?;
     Drawop::new(name, u64::from(seq), line).ok()
 }
@@ -45,8 +51,8 @@ pub(crate) fn dot(source: u32, page: PageId, seq: u32) -> Option<Drawop> {
 /// `a` is a stroke, and `b` another with its name. `c` deletes it, `x` restores it later than that, and `z` is
 /// the last delete. `d` and `e` are words, and digits are dots where numbers are missing.
 pub(crate) fn drawop(letter: u8) -> Option<Drawop> {
-    let delete = Shape::Delete { source: 7, seq: 1 };
-    let restore = Shape::Restore { source: 7, seq: 1 };
+    let delete = Shape::Aimed(Change::Delete, Target { source: 7, seq: 1 });
+    let restore = Shape::Aimed(Change::Restore, Target { source: 7, seq: 1 });
     match letter {
         b'a' => on_page((7, 1, 10), stroke(b'*')),
         b'b' => on_page((7, 1, 10), stroke(b'#')),

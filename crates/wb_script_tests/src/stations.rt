@@ -5,7 +5,7 @@ use std::alloc::Global;
 use std::process::Abort;
 use std::test::Fail;
 use wb_lines::Output;
-use wb_names::{Drawop, Name, PageId, Shape, ToWrite};
+use wb_names::{Drawop, Figure, Name, PageId, Shape, Stroke, ToWrite};
 use wb_recovery::Tuning;
 use wb_script::{Acceptance, Station, batch_line, parse_line};
 
@@ -43,13 +43,16 @@ fn named(source: u32, seq: u32) -> Result<Name, Fail> {
 
 /// A drawop of a time.
 fn dot(source: u32, seq: u32, time: u64) -> Result<Drawop, Fail> {
-    let line = Shape::Line {
-        x0: 0,
-        y0: 0,
-        x1: 0,
-        y1: 0,
-        glyph: b'.',
-    };
+    let line = Shape::Drawn(
+        Figure::Line,
+        Stroke {
+            x0: 0,
+            y0: 0,
+            x1: 0,
+            y1: 0,
+            glyph: b'.',
+        },
+    );
     Ok(Drawop::new(named(source, seq)?, time, line)?)
 }
 
