@@ -7,7 +7,9 @@ use std::alloc::Global;
 use std::process::Abort;
 use std::test::Fail;
 use wb_codec::{Datagram, ReadFault, read, write};
-use wb_names::{Drawop, Echo, Echoes, Mark, Marks, Name, PageId, Shape};
+use wb_names::{
+    Change, Drawop, Echo, Echoes, Figure, Mark, Marks, Name, PageId, Shape, Stroke, Target,
+};
 
 /// A drawop of a page of member 7, and the bytes of its datagram.
 #[derive(Clone, Copy)]
@@ -26,13 +28,16 @@ static LINES: [Spelled; 11] = [
         number: 1,
         seq: 1,
         time: 10,
-        shape: Shape::Line {
-            x0: 0,
-            y0: 1,
-            x1: 4,
-            y1: 1,
-            glyph: b'*',
-        },
+        shape: Shape::Drawn(
+            Figure::Line,
+            Stroke {
+                x0: 0,
+                y0: 1,
+                x1: 4,
+                y1: 1,
+                glyph: b'*',
+            },
+        ),
         hex: "574201010000002200000007000000070000000100000001000000000000000a0100000001000400012a",
     },
     Spelled {
@@ -40,13 +45,16 @@ static LINES: [Spelled; 11] = [
         number: 1,
         seq: 1,
         time: 10,
-        shape: Shape::Line {
-            x0: 0,
-            y0: 1,
-            x1: 4,
-            y1: 1,
-            glyph: b'#',
-        },
+        shape: Shape::Drawn(
+            Figure::Line,
+            Stroke {
+                x0: 0,
+                y0: 1,
+                x1: 4,
+                y1: 1,
+                glyph: b'#',
+            },
+        ),
         hex: "574201010000002200000007000000070000000100000001000000000000000a01000000010004000123",
     },
     Spelled {
@@ -54,13 +62,16 @@ static LINES: [Spelled; 11] = [
         number: 2,
         seq: 1,
         time: 1,
-        shape: Shape::Line {
-            x0: 0,
-            y0: 0,
-            x1: 2,
-            y1: 1,
-            glyph: b'a',
-        },
+        shape: Shape::Drawn(
+            Figure::Line,
+            Stroke {
+                x0: 0,
+                y0: 0,
+                x1: 2,
+                y1: 1,
+                glyph: b'a',
+            },
+        ),
         hex: "574201010000002200000007000000070000000200000001000000000000000101000000000002000161",
     },
     Spelled {
@@ -68,13 +79,16 @@ static LINES: [Spelled; 11] = [
         number: 2,
         seq: 2,
         time: 2,
-        shape: Shape::Line {
-            x0: 2,
-            y0: 1,
-            x1: 0,
-            y1: 0,
-            glyph: b'b',
-        },
+        shape: Shape::Drawn(
+            Figure::Line,
+            Stroke {
+                x0: 2,
+                y0: 1,
+                x1: 0,
+                y1: 0,
+                glyph: b'b',
+            },
+        ),
         hex: "574201010000002200000007000000070000000200000002000000000000000201000200010000000062",
     },
     Spelled {
@@ -82,13 +96,16 @@ static LINES: [Spelled; 11] = [
         number: 2,
         seq: 3,
         time: 3,
-        shape: Shape::Line {
-            x0: 2,
-            y0: 0,
-            x1: 2,
-            y1: 0,
-            glyph: b'c',
-        },
+        shape: Shape::Drawn(
+            Figure::Line,
+            Stroke {
+                x0: 2,
+                y0: 0,
+                x1: 2,
+                y1: 0,
+                glyph: b'c',
+            },
+        ),
         hex: "574201010000002200000007000000070000000200000003000000000000000301000200000002000063",
     },
     Spelled {
@@ -96,13 +113,16 @@ static LINES: [Spelled; 11] = [
         number: 2,
         seq: 4,
         time: 4,
-        shape: Shape::Line {
-            x0: 10,
-            y0: 10,
-            x1: 20,
-            y1: 10,
-            glyph: b'd',
-        },
+        shape: Shape::Drawn(
+            Figure::Line,
+            Stroke {
+                x0: 10,
+                y0: 10,
+                x1: 20,
+                y1: 10,
+                glyph: b'd',
+            },
+        ),
         hex: "574201010000002200000007000000070000000200000004000000000000000401000a000a0014000a64",
     },
     Spelled {
@@ -110,13 +130,16 @@ static LINES: [Spelled; 11] = [
         number: 4,
         seq: 1,
         time: 1,
-        shape: Shape::Line {
-            x0: 0,
-            y0: 0,
-            x1: 0,
-            y1: 0,
-            glyph: b'.',
-        },
+        shape: Shape::Drawn(
+            Figure::Line,
+            Stroke {
+                x0: 0,
+                y0: 0,
+                x1: 0,
+                y1: 0,
+                glyph: b'.',
+            },
+        ),
         hex: "57420101000000220000000700000007000000040000000100000000000000010100000000000000002e",
     },
     Spelled {
@@ -124,13 +147,16 @@ static LINES: [Spelled; 11] = [
         number: 4,
         seq: 2,
         time: 2,
-        shape: Shape::Line {
-            x0: 0,
-            y0: 0,
-            x1: 0,
-            y1: 0,
-            glyph: b'.',
-        },
+        shape: Shape::Drawn(
+            Figure::Line,
+            Stroke {
+                x0: 0,
+                y0: 0,
+                x1: 0,
+                y1: 0,
+                glyph: b'.',
+            },
+        ),
         hex: "57420101000000220000000700000007000000040000000200000000000000020100000000000000002e",
     },
     Spelled {
@@ -138,13 +164,16 @@ static LINES: [Spelled; 11] = [
         number: 4,
         seq: 3,
         time: 3,
-        shape: Shape::Line {
-            x0: 0,
-            y0: 0,
-            x1: 0,
-            y1: 0,
-            glyph: b'.',
-        },
+        shape: Shape::Drawn(
+            Figure::Line,
+            Stroke {
+                x0: 0,
+                y0: 0,
+                x1: 0,
+                y1: 0,
+                glyph: b'.',
+            },
+        ),
         hex: "57420101000000220000000700000007000000040000000300000000000000030100000000000000002e",
     },
     Spelled {
@@ -152,13 +181,16 @@ static LINES: [Spelled; 11] = [
         number: 4,
         seq: 5,
         time: 5,
-        shape: Shape::Line {
-            x0: 0,
-            y0: 0,
-            x1: 0,
-            y1: 0,
-            glyph: b'.',
-        },
+        shape: Shape::Drawn(
+            Figure::Line,
+            Stroke {
+                x0: 0,
+                y0: 0,
+                x1: 0,
+                y1: 0,
+                glyph: b'.',
+            },
+        ),
         hex: "57420101000000220000000700000007000000040000000500000000000000050100000000000000002e",
     },
     Spelled {
@@ -166,13 +198,16 @@ static LINES: [Spelled; 11] = [
         number: 4,
         seq: 4_294_967_295,
         time: 1,
-        shape: Shape::Line {
-            x0: 0,
-            y0: 0,
-            x1: 0,
-            y1: 0,
-            glyph: b'.',
-        },
+        shape: Shape::Drawn(
+            Figure::Line,
+            Stroke {
+                x0: 0,
+                y0: 0,
+                x1: 0,
+                y1: 0,
+                glyph: b'.',
+            },
+        ),
         hex: "5742010100000022000000070000000700000004ffffffff00000000000000010100000000000000002e",
     },
 ];
@@ -183,7 +218,7 @@ static OTHER_DRAWOPS: [Spelled; 9] = [
         number: 1,
         seq: 2,
         time: 5,
-        shape: Shape::Delete { source: 7, seq: 1 },
+        shape: Shape::Aimed(Change::Delete, Target { source: 7, seq: 1 }),
         hex: "5742010100000021000000070000000700000001000000020000000000000005040000000700000001",
     },
     Spelled {
@@ -191,7 +226,7 @@ static OTHER_DRAWOPS: [Spelled; 9] = [
         number: 1,
         seq: 2,
         time: 20,
-        shape: Shape::Delete { source: 7, seq: 2 },
+        shape: Shape::Aimed(Change::Delete, Target { source: 7, seq: 2 }),
         hex: "5742010100000021000000080000000700000001000000020000000000000014040000000700000002",
     },
     Spelled {
@@ -199,7 +234,7 @@ static OTHER_DRAWOPS: [Spelled; 9] = [
         number: 1,
         seq: 3,
         time: 20,
-        shape: Shape::Delete { source: 9, seq: 9 },
+        shape: Shape::Aimed(Change::Delete, Target { source: 9, seq: 9 }),
         hex: "5742010100000021000000080000000700000001000000030000000000000014040000000900000009",
     },
     Spelled {
@@ -207,7 +242,7 @@ static OTHER_DRAWOPS: [Spelled; 9] = [
         number: 1,
         seq: 2,
         time: 6,
-        shape: Shape::Delete { source: 7, seq: 1 },
+        shape: Shape::Aimed(Change::Delete, Target { source: 7, seq: 1 }),
         hex: "5742010100000021000000090000000700000001000000020000000000000006040000000700000001",
     },
     Spelled {
@@ -215,7 +250,7 @@ static OTHER_DRAWOPS: [Spelled; 9] = [
         number: 1,
         seq: 4,
         time: 6,
-        shape: Shape::Restore { source: 7, seq: 1 },
+        shape: Shape::Aimed(Change::Restore, Target { source: 7, seq: 1 }),
         hex: "5742020100000021000000080000000700000001000000040000000000000006050000000700000001",
     },
     Spelled {
@@ -259,13 +294,16 @@ static OTHER_DRAWOPS: [Spelled; 9] = [
         number: 3,
         seq: 1,
         time: 1,
-        shape: Shape::Frame {
-            x0: 1,
-            y0: 0,
-            x1: 3,
-            y1: 2,
-            glyph: b'#',
-        },
+        shape: Shape::Drawn(
+            Figure::Frame,
+            Stroke {
+                x0: 1,
+                y0: 0,
+                x1: 3,
+                y1: 2,
+                glyph: b'#',
+            },
+        ),
         hex: "574201010000002200000007000000070000000300000001000000000000000102000100000003000223",
     },
 ];

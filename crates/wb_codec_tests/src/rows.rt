@@ -4,7 +4,7 @@
 use std::process::Abort;
 use std::test::Fail;
 use wb_codec::{from_row, to_row};
-use wb_names::{Drawop, Name, PageId, Shape};
+use wb_names::{Change, Drawop, Figure, Name, PageId, Shape, Stroke, Target};
 
 const PAGE: PageId = PageId {
     creator: 7,
@@ -22,13 +22,16 @@ fn is_recorded(rt: &impl Abort, drawop: &Drawop, words: &[u64; 12]) {
 
 #[test]
 fn line(rt: HostRuntime) -> Result<(), Fail> {
-    let shape = Shape::Line {
-        x0: 0,
-        y0: 1,
-        x1: 4,
-        y1: 1,
-        glyph: b'*',
-    };
+    let shape = Shape::Drawn(
+        Figure::Line,
+        Stroke {
+            x0: 0,
+            y0: 1,
+            x1: 4,
+            y1: 1,
+            glyph: b'*',
+        },
+    );
     let words = [
         0x0000_0007_0000_0001,
         0x0000_0007_0000_0001,
@@ -49,7 +52,7 @@ fn line(rt: HostRuntime) -> Result<(), Fail> {
 
 #[test]
 fn delete(rt: HostRuntime) -> Result<(), Fail> {
-    let shape = Shape::Delete { source: 7, seq: 1 };
+    let shape = Shape::Aimed(Change::Delete, Target { source: 7, seq: 1 });
     let words = [
         0x0000_0007_0000_0002,
         0x0000_0007_0000_0001,
@@ -70,7 +73,7 @@ fn delete(rt: HostRuntime) -> Result<(), Fail> {
 
 #[test]
 fn restore(rt: HostRuntime) -> Result<(), Fail> {
-    let shape = Shape::Restore { source: 7, seq: 1 };
+    let shape = Shape::Aimed(Change::Restore, Target { source: 7, seq: 1 });
     let words = [
         0x0000_0008_0000_0004,
         0x0000_0007_0000_0001,

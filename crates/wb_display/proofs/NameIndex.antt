@@ -9,7 +9,7 @@ use Rattle.wb_names.specs.Values.{NameValue, DrawopValue}
 use Rattle.wb_names.specs.History.{IsHistory}
 use Rattle.wb_names.specs.Orders.{same_page, same_name}
 use Rattle.wb_display.specs.Layer.{holds_name}
-use Rattle.wb_display.proofs.Holding.{names_more, named_twice}
+use Rattle.wb_display.proofs.Layers.{names_more, named_twice}
 
 -- the test that names derive
 abbrev pub alike : NameValue → NameValue → Bool

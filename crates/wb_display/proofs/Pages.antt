@@ -5,19 +5,19 @@ use Rattle.std.specs.List.{list_any}
 use Rattle.std.specs.Ordering.{is_lt}
 use Rattle.std.proofs.lemmas.List.{get_or_append_left, get_or_at}
 use Rattle.std.proofs.lemmas.List.Elements.{filter-append}
+use Rattle.std.proofs.lemmas.Bool.{and_parts, false_from_ne_true, not-true}
 use Rattle.wb_names.specs.Values.{DrawopValue}
 use Rattle.wb_names.specs.History.{IsHistory}
 use Rattle.wb_names.specs.Orders.{same_page, same_name, display_cmp}
 use Rattle.wb_names.specs.declared.name.PageId.{PageId}
 use Rattle.wb_names.proofs.Listings.{lists_same, Contains-filter, Contains-from_filter}
-use Rattle.wb_names.proofs.Orders.{and_both, same_page-is, same_name-is}
+use Rattle.wb_names.proofs.Orders.{same_page-is, same_name-is}
 use Rattle.wb_display.specs.Display.{is_drawing, is_delete, is_aimed_at, is_last_word, is_hidden_in, is_shown}
 use Rattle.wb_display.specs.Layer.{holds_name, is_news, held_with}
 use Rattle.wb_display.specs.Laws.{on_page, StandsAlone, HoldsItsPage, HoldsAHistory}
-use Rattle.wb_display.proofs.LaterWords.{false_unless}
-use Rattle.wb_display.proofs.Deciding.{display_total, false_from_not, list_any_nowhere}
+use Rattle.wb_display.proofs.Deciding.{display_total, list_any_nowhere}
 use Rattle.wb_display.proofs.Convergence.{list_any_agree}
-use Rattle.wb_display.proofs.Holding.{names_more}
+use Rattle.wb_display.proofs.Layers.{names_more}
 
 -- a test that only what is kept passes
 list_any-filter : (p q : DrawopValue → Bool) → ((x : DrawopValue) → p x ≡ true → q x ≡ true) → (xs : List DrawopValue) → list_any p (filter q xs) ≡ list_any p xs
@@ -25,19 +25,19 @@ list_any-filter p q within [] = refl
 list_any-filter p q within (x ∷ xs) = at (q x) refl (list_any-filter p q within xs) where
   at : (b : Bool) → q x ≡ b → list_any p (filter q xs) ≡ list_any p xs → list_any p (cond b (x ∷ filter q xs) (filter q xs)) ≡ (p x || list_any p xs)
   at true e rest = ap (λ (t : Bool). p x || t) rest
-  at false e rest = rest ∙ ap (λ (t : Bool). t || list_any p xs) (sym (false_unless (p x) (λ (t : p x ≡ true). let f : true ≡ false = sym (within x t) ∙ e in cc)))
+  at false e rest = rest ∙ ap (λ (t : Bool). t || list_any p xs) (sym (false_from_ne_true (p x) (λ (t : p x ≡ true). let f : true ≡ false = sym (within x t) ∙ e in cc)))
 
 module _ (history : List DrawopValue) (page : PageId) where
   -- what is aimed at a drawop of the page is of the page
   aimed_here : (d : DrawopValue) → d.name.page ≡ page → (f : DrawopValue) → is_aimed_at f d ≡ true → same_page f.name.page page ≡ true
-  aimed_here d on f aimed = sym (ap (same_page f.name.page) on) ∙ (and_both (same_page f.name.page d.name.page) _ aimed).0
+  aimed_here d on f aimed = sym (ap (same_page f.name.page) on) ∙ (and_parts (same_page f.name.page d.name.page) _ aimed).0
 
   hidden_alone : (d : DrawopValue) → d.name.page ≡ page → is_hidden_in (on_page page history) d ≡ is_hidden_in history d
   hidden_alone d on =
       list_any_agree (λ e. (is_delete e.op && is_aimed_at e d) && is_last_word (on_page page history) d e) (λ e. (is_delete e.op && is_aimed_at e d) && is_last_word history d e)
-      (λ e. ap (λ (b : Bool). (is_delete e.op && is_aimed_at e d) && not b) (list_any-filter (λ f. is_aimed_at f d && is_lt (display_cmp e f)) (λ f. same_page f.name.page page) (λ f t. aimed_here d on f (and_both (is_aimed_at f d) _ t).0) history))
+      (λ e. ap (λ (b : Bool). (is_delete e.op && is_aimed_at e d) && not b) (list_any-filter (λ f. is_aimed_at f d && is_lt (display_cmp e f)) (λ f. same_page f.name.page page) (λ f t. aimed_here d on f (and_parts (is_aimed_at f d) _ t).0) history))
       (on_page page history)
-      ∙ list_any-filter (λ e. (is_delete e.op && is_aimed_at e d) && is_last_word history d e) (λ f. same_page f.name.page page) (λ e t. aimed_here d on e (and_both (is_delete e.op) _ (and_both (is_delete e.op && is_aimed_at e d) _ t).0).1) history
+      ∙ list_any-filter (λ e. (is_delete e.op && is_aimed_at e d) && is_last_word history d e) (λ f. same_page f.name.page page) (λ e t. aimed_here d on e (and_parts (is_delete e.op) _ (and_parts (is_delete e.op && is_aimed_at e d) _ t).0).1) history
 
   shown_alone : (d : DrawopValue) → is_shown (on_page page history) page d ≡ is_shown history page d
   shown_alone d = at (same_page d.name.page page) refl where
@@ -50,7 +50,7 @@ module _ (history : List DrawopValue) (page : PageId) where
     at false e = off _ _ _ e ∙ sym (off _ _ _ e)
 
   of_page : (d : DrawopValue) → is_shown history page d ≡ true → same_page d.name.page page ≡ true
-  of_page d s = (and_both (same_page d.name.page page) _ (and_both (same_page d.name.page page && is_drawing d.op) _ s).0).0
+  of_page d s = (and_parts (same_page d.name.page page) _ (and_parts (same_page d.name.page page && is_drawing d.op) _ s).0).0
 
 pub stands_alone : StandsAlone
 stands_alone history page shown = (
@@ -64,7 +64,7 @@ stands_alone history page shown = (
 
 -- a later member's name is new to what stands before it
 new_name : (done : List DrawopValue) (d : DrawopValue) (rest : List DrawopValue) (page : PageId) → IsHistory (done ++ d ∷ rest) → holds_name (on_page page done) d.name ≡ false
-new_name done d rest page names = list_any_nowhere (λ e. same_name e.name d.name) (on_page page done) (λ e c. false_unless _ (λ (t : same_name e.name d.name ≡ true). clash e (Contains-from_filter (λ x. same_page x.name.page page) done e c).0 (same_name-is e.name d.name t))) where
+new_name done d rest page names = list_any_nowhere (λ e. same_name e.name d.name) (on_page page done) (λ e c. false_from_ne_true _ (λ (t : same_name e.name d.name ≡ true). clash e (Contains-from_filter (λ x. same_page x.name.page page) done e c).0 (same_name-is e.name d.name t))) where
   clash : (e : DrawopValue) → Contains done e → e.name ≡ d.name → ⊥
   clash e (k, h, is) same =
       names k (length done) e h (omega (arith, length-append done (d ∷ rest)))
@@ -94,7 +94,7 @@ names_kept : (page : PageId) (held puts : List DrawopValue) → IsHistory held �
 names_kept page held [] names = names
 names_kept page held (d ∷ puts) names = names_kept page (held_with page held d) puts (at (is_news page held d) refl) where
   at : (b : Bool) → is_news page held d ≡ b → IsHistory (cond b (held ++ d ∷ []) held)
-  at true e = names_more held d names (false_from_not _ (and_both (same_page d.name.page page) _ e).1)
+  at true e = names_more held d names (not-true _ (and_parts (same_page d.name.page page) _ e).1)
   at false e = names
 
 pub holds_a_history : HoldsAHistory

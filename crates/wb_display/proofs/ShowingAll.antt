@@ -3,11 +3,11 @@ use Rattle.std.proofs.Common.{◌≡◌, ℕ, ◌<◌, ◌≤◌, List, [], ◌�
 use Rattle.std.specs.Prelude.{Bool, true, false, cond, not, All, ◌&&◌, Contains, filter, IsPermutation, Result, Ok, Err, is_ok}
 use Rattle.std.specs.declared.cmp.Ordering.{Ordering}
 use Rattle.std.specs.declared.cmp.Ordering.TheVariants.{Less, Equal, Greater}
-use Rattle.std.specs.Cmp.{eq_by_cmp_equiv}
+use Rattle.std.specs.Cmp.{eq_by_cmp_equiv, Equal-is}
 use Rattle.std.specs.List.{dedup}
 use Rattle.std.specs.List.Sorted.{IsStrictlySortedBy, IsSorted}
 use Rattle.std.specs.Ordering.{eq_by_cmp, is_eq}
-use Rattle.std.proofs.lemmas.Bool.{cases_lt}
+use Rattle.std.proofs.lemmas.Bool.{cases_lt, and_parts, not-true, not_from_false, and_from}
 use Rattle.std.proofs.lemmas.List.{take_all, take-append-le}
 use Rattle.std.proofs.lemmas.List.Elements.{All-contains}
 use Rattle.std.proofs.lemmas.List.Folds.{list_any_none, list_any_at, Any-from_list_any}
@@ -17,9 +17,8 @@ use Rattle.wb_names.specs.Values.{DrawopValue}
 use Rattle.wb_names.specs.Orders.{display_cmp}
 use Rattle.wb_names.specs.Listing.{Lists}
 use Rattle.wb_names.proofs.Listings.{Contains-here, Contains-there, Contains-filter, Contains-from_filter}
-use Rattle.wb_names.proofs.Orders.{and_both}
 use Rattle.wb_display.specs.DisplayList.{IsPlaceOf, AreApart, Enters, ShowsOthers, TieOnce, ties_with}
-use Rattle.wb_display.proofs.Deciding.{display_total, and_true, not_false, false_from_not, list_any_here}
+use Rattle.wb_display.proofs.Deciding.{display_total, list_any_here}
 
 -- what a search finds is whether something ties
 pub placed_is : (list : List DrawopValue) (d : DrawopValue) (r : Result ℕ ℕ) → IsPlaceOf list d r → IsStrictlySortedBy display_cmp list → is_ok r ≡ ties_with list d
@@ -33,9 +32,9 @@ enters passes list touched sorted entering moved up is = rw is (record {
   rising = IsStrictlySortedBy-dedup display_total (λ x y. refl) sorted up;
   from = λ x c.
       let f = Contains-from_filter (λ x. passes x && not (ties_with list x)) touched x (Contains-permutation sorted _ x (IsPermutation-sym _ _ moved) (Contains-from_dedup (eq_by_cmp display_cmp) sorted x c)) in
-      let p = and_both (passes x) _ f.1 in
-      (f.0, p.0, false_from_not _ p.1);
-  all = λ x c p t. Any-dedup (eq_by_cmp_equiv display_total) sorted x (Contains-permutation _ sorted x moved (Contains-filter (λ x. passes x && not (ties_with list x)) touched x c (and_true _ _ p (not_false _ t))));
+      let p = and_parts (passes x) _ f.1 in
+      (f.0, p.0, not-true _ p.1);
+  all = λ x c p t. Any-dedup (eq_by_cmp_equiv display_total) sorted x (Contains-permutation _ sorted x moved (Contains-filter (λ x. passes x && not (ties_with list x)) touched x c (and_from _ _ p (not_from_false _ t))));
 })
 
 -- a test that all pass leaves the list
@@ -51,11 +50,6 @@ none_hidden passes list touched others all = filter_whole passes list (λ x c. a
   at : (x : DrawopValue) → Contains list x → (b : Bool) → passes x ≡ b → passes x ≡ true
   at x c true e = e
   at x c false e = others x c (λ t. let f : true ≡ false = sym (All-contains (λ y. passes y ≡ true) touched x all t) ∙ e in cc)
-
-equal_from : (r : Ordering) → is_eq r ≡ true → r ≡ Equal
-equal_from Less e = cc
-equal_from Equal e = refl
-equal_from Greater e = cc
 
 -- what is hidden has left, and what is shown has entered
 pub all_shown : (passes : DrawopValue → Bool) (old touched entering new : List DrawopValue)
@@ -75,13 +69,13 @@ all_shown passes old touched entering new once enter listed = record {
       let found = Any-from_list_any (λ y. is_eq (display_cmp y x)) (filter passes old) t in
       let y = found.1 in
       let cy : Contains (filter passes old) y = (found.0, found.2, found.3) in
-      let is : y ≡ x = once y x (inl (Contains-from_filter passes old y cy).0) (inr c) (equal_from _ found.4) in
+      let is : y ≡ x = once y x (inl (Contains-from_filter passes old y cy).0) (inr c) ((Equal-is _).0 found.4) in
       inl (subst (Contains (filter passes old)) is cy)
   fresh x c p false t =
       let found = enter.all x c p t in
       let y = found.1 in
       let cy : Contains entering y = (found.0, found.2, found.3) in
-      let is : x ≡ y = once x y (inr c) (inr (enter.from y cy).0) (equal_from _ found.4) in
+      let is : x ≡ y = once x y (inr c) (inr (enter.from y cy).0) ((Equal-is _).0 found.4) in
       inr (subst (Contains entering) (sym is) cy)
 
   from : (x : DrawopValue) → Contains old x ⊎ Contains touched x → passes x ≡ true → Contains (filter passes old) x ⊎ Contains entering x

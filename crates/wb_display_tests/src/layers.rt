@@ -4,7 +4,7 @@ use crate::samples::{in_order, line, make_samples, name, page, shown_of, text};
 use std::alloc::{AllocError, Global};
 use std::test::Fail;
 use wb_display::Layer;
-use wb_names::{Drawop, Name, Shape};
+use wb_names::{Change, Drawop, Name, Shape, Target};
 
 /// Drawops to put, and what is then shown.
 type Turn<'a> = (&'a [Drawop], &'a [Drawop]);
@@ -83,8 +83,8 @@ fn chance(number: u32) -> Result<Drawop, Fail> {
     let source = (word >> 8 & 0xffff) as u32 % 3;
     let seq = 1 + (word >> 16 & 0xffff) as u32 % 400;
     let shape = match word >> 40 & 3 {
-        0 => Shape::Delete { source, seq },
-        1 => Shape::Restore { source, seq },
+        0 => Shape::Aimed(Change::Delete, Target { source, seq }),
+        1 => Shape::Aimed(Change::Restore, Target { source, seq }),
         _ => Shape::Text {
             x: 0,
             y: 0,

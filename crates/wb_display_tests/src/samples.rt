@@ -3,7 +3,7 @@
 use std::alloc::Global;
 use std::test::Fail;
 use wb_display::{Canvas, is_history, order};
-use wb_names::{Drawop, FieldFault, Name, PageId, Shape};
+use wb_names::{Change, Drawop, FieldFault, Figure, Name, PageId, Shape, Stroke, Target};
 
 /// A page of creator 7.
 pub(crate) fn page(number: u32) -> PageId {
@@ -24,13 +24,16 @@ pub(crate) fn line(
     Drawop::new(
         name,
         time,
-        Shape::Line {
-            x0,
-            y0,
-            x1,
-            y1,
-            glyph,
-        },
+        Shape::Drawn(
+            Figure::Line,
+            Stroke {
+                x0,
+                y0,
+                x1,
+                y1,
+                glyph,
+            },
+        ),
     )
 }
 
@@ -43,13 +46,16 @@ pub(crate) fn frame(
     Drawop::new(
         name,
         1,
-        Shape::Frame {
-            x0,
-            y0,
-            x1,
-            y1,
-            glyph,
-        },
+        Shape::Drawn(
+            Figure::Frame,
+            Stroke {
+                x0,
+                y0,
+                x1,
+                y1,
+                glyph,
+            },
+        ),
     )
 }
 
@@ -63,11 +69,19 @@ pub(crate) fn text(
 }
 
 pub(crate) fn delete(name: Name, time: u64, source: u32, seq: u32) -> Result<Drawop, FieldFault> {
-    Drawop::new(name, time, Shape::Delete { source, seq })
+    Drawop::new(
+        name,
+        time,
+        Shape::Aimed(Change::Delete, Target { source, seq }),
+    )
 }
 
 pub(crate) fn restore(name: Name, time: u64, source: u32, seq: u32) -> Result<Drawop, FieldFault> {
-    Drawop::new(name, time, Shape::Restore { source, seq })
+    Drawop::new(
+        name,
+        time,
+        Shape::Aimed(Change::Restore, Target { source, seq }),
+    )
 }
 
 /// The drawops of the worked pages, all but the ones of page 7/4.

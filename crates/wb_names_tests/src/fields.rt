@@ -5,7 +5,8 @@ use std::process::Abort;
 use std::test::Fail;
 use std::thread;
 use wb_names::{
-    Drawop, Echo, Echoes, FieldFault, ListFault, Mark, Marks, Name, PageId, Shape, before,
+    Change, Drawop, Echo, Echoes, FieldFault, Figure, ListFault, Mark, Marks, Name, PageId, Shape,
+    Stroke, Target, before,
 };
 
 const PAGE: PageId = PageId {
@@ -18,23 +19,29 @@ fn name(source: u32, seq: u32) -> Result<Name, FieldFault> {
 }
 
 fn line(x0: u16, glyph: u8) -> Shape<'static> {
-    Shape::Line {
-        x0,
-        y0: 1,
-        x1: 4,
-        y1: 1,
-        glyph,
-    }
+    Shape::Drawn(
+        Figure::Line,
+        Stroke {
+            x0,
+            y0: 1,
+            x1: 4,
+            y1: 1,
+            glyph,
+        },
+    )
 }
 
 fn frame(x0: u16, glyph: u8) -> Shape<'static> {
-    Shape::Frame {
-        x0,
-        y0: 1,
-        x1: 4,
-        y1: 1,
-        glyph,
-    }
+    Shape::Drawn(
+        Figure::Frame,
+        Stroke {
+            x0,
+            y0: 1,
+            x1: 4,
+            y1: 1,
+            glyph,
+        },
+    )
 }
 
 fn text(x: u16, bytes: &[u8]) -> Shape<'_> {
@@ -93,24 +100,33 @@ fn texts_and_targets_are_refused_with_their_first_fault(rt: HostRuntime) -> Resu
             (text(0, b"\x1fa"), Some(FieldFault::TextByte)),
             (text(0, b" ~"), None),
             (
-                Shape::Delete { source: 7, seq: 0 },
+                Shape::Aimed(Change::Delete, Target { source: 7, seq: 0 }),
                 Some(FieldFault::TargetZero),
             ),
             (
-                Shape::Delete { source: 7, seq: 2 },
+                Shape::Aimed(Change::Delete, Target { source: 7, seq: 2 }),
                 Some(FieldFault::TargetSelf),
             ),
-            (Shape::Delete { source: 8, seq: 2 }, None),
-            (Shape::Delete { source: 7, seq: 1 }, None),
             (
-                Shape::Restore { source: 7, seq: 0 },
+                Shape::Aimed(Change::Delete, Target { source: 8, seq: 2 }),
+                None,
+            ),
+            (
+                Shape::Aimed(Change::Delete, Target { source: 7, seq: 1 }),
+                None,
+            ),
+            (
+                Shape::Aimed(Change::Restore, Target { source: 7, seq: 0 }),
                 Some(FieldFault::TargetZero),
             ),
             (
-                Shape::Restore { source: 7, seq: 2 },
+                Shape::Aimed(Change::Restore, Target { source: 7, seq: 2 }),
                 Some(FieldFault::TargetSelf),
             ),
-            (Shape::Restore { source: 7, seq: 3 }, None),
+            (
+                Shape::Aimed(Change::Restore, Target { source: 7, seq: 3 }),
+                None,
+            ),
         ],
     )
 }
@@ -142,14 +158,26 @@ fn texts_are_the_same_where_their_bytes_are(rt: HostRuntime) -> Result<(), Fail>
 #[test]
 fn a_delete_is_no_restore(rt: HostRuntime) -> Result<(), Fail> {
     let own = name(7, 2)?;
-    let hidden = Drawop::new(own, 5, Shape::Delete { source: 7, seq: 1 })?;
+    let hidden = Drawop::new(
+        own,
+        5,
+        Shape::Aimed(Change::Delete, Target { source: 7, seq: 1 }),
+    )?;
     assert_eq!(rt;
         hidden,
-        Drawop::new(own, 5, Shape::Delete { source: 7, seq: 1 })?
+        Drawop::new(
+            own,
+            5,
+            Shape::Aimed(Change::Delete, Target { source: 7, seq: 1 })
+        )?
     );
     assert_ne!(rt;
         hidden,
-        Drawop::new(own, 5, Shape::Restore { source: 7, seq: 1 })?
+        Drawop::new(
+            own,
+            5,
+            Shape::Aimed(Change::Restore, Target { source: 7, seq: 1 })
+        )?
     );
     assert_eq!(rt; hidden.time(), 5);
     assert_eq!(rt; hidden.name(), own);

@@ -1,5 +1,5 @@
 use Rattle.std.proofs.Common.{◌∙◌}
-use Rattle.wb_display.proofs.CanvasRows.{fed_columns, fed_feeds}
+use Rattle.wb_display.proofs.Overlaying.{fed_columns, fed_feeds}
 use Rattle.wb_display.proofs.canvas.clear.Goals as goal
 
 pub loop-y-preserved : goal.loop-y-preserved

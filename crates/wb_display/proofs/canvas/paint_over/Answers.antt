@@ -2,7 +2,7 @@ use Rattle.std.proofs.Common.{◌∙◌, ap, List}
 use Rattle.std.proofs.lemmas.List.{take_all}
 use Rattle.wb_names.specs.Values.{DrawopValue}
 use Rattle.wb_display.specs.Canvas.{canvas_text}
-use Rattle.wb_display.proofs.CanvasRows.{shown_text, shows_next}
+use Rattle.wb_display.proofs.Overlaying.{shown_text, shows_next}
 use Rattle.wb_display.proofs.canvas.paint_over.Goals as goal
 
 pub loop-drawop-preserved : goal.loop-drawop-preserved

@@ -1,4 +1,4 @@
-use Rattle.wb_display.proofs.LineSteps.{steps_by_one}
+use Rattle.wb_display.proofs.Lines.{steps_by_one}
 use Rattle.wb_display.proofs.laws.line_steps.Goals as goal
 
 pub returns : goal.returns

@@ -1,4 +1,4 @@
-use Rattle.wb_display.proofs.OlderRule.{older_rule}
+use Rattle.wb_display.proofs.Convergence.{older_rule}
 use Rattle.wb_display.proofs.laws.older_rule.Goals as goal
 
 pub returns : goal.returns

@@ -1,4 +1,4 @@
-use Rattle.wb_display.proofs.PutLaws.{put_shows}
+use Rattle.wb_display.proofs.Putting.{put_shows}
 use Rattle.wb_display.proofs.laws.put_shows.Goals as goal
 
 pub returns : goal.returns

@@ -1,8 +1,8 @@
 use Rattle.std.proofs.Common.{rules, ◌≡◌, ◌∙◌, ◌+◌, ◌++◌, [], ◌∷◌, true, false, sym, ap, arith, length, vec_len}
 use Rattle.wb_display.specs.Layer.{is_news}
 use Rattle.wb_display.specs.LayerFields.{held_of}
-use Rattle.wb_display.proofs.Layers.{touched_more, touched_alone}
-use Rattle.wb_display.proofs.PuttingAll.{step_held, room_left, held_more_puts, held_not_more, touched_none}
+use Rattle.wb_display.proofs.Layers.{touched_more, touched_alone, step_held, room_left, held_more_puts, held_not_more}
+use Rattle.wb_display.proofs.Putting.{touched_none}
 use Rattle.wb_display.proofs.layer.take_in_all.Goals as goal
 use Rattle.wb_display.proofs.layer.take_in_all.Goals.{then-is_news+in-Some, then-is_news+in_default, else-is_news}
 

@@ -1,4 +1,4 @@
-use Rattle.wb_display.proofs.LevelLines.{back_by_one}
+use Rattle.wb_display.proofs.Lines.{back_by_one}
 use Rattle.wb_display.proofs.line_points.along.Goals as goal
 
 pub returns-else-from-to : goal.returns-else-from-to

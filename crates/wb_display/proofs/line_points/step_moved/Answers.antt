@@ -1,5 +1,5 @@
 use Rattle.std.proofs.Common.{ℕ, ◌<◌, ◌≤◌, subst, arith}
-use Rattle.wb_display.proofs.LineSpan.{step_is, moves_before, moves_after, moves_within}
+use Rattle.wb_display.proofs.Lines.{step_is, moves_before, moves_after, moves_within}
 use Rattle.wb_display.proofs.line_points.step_moved.Goals as goal
 
 pub returns : goal.returns

@@ -1,5 +1,5 @@
 use Rattle.std.proofs.Common.{arith}
-use Rattle.wb_display.proofs.LineSpan.{lies_between, up_before, up_after, down_before, down_after}
+use Rattle.wb_display.proofs.Lines.{lies_between, up_before, up_after, down_before, down_after}
 use Rattle.wb_display.proofs.line_points.steps_inside.Goals as goal
 
 pub returns-then-from-end-clause-inside : goal.returns-then-from-end-clause-inside

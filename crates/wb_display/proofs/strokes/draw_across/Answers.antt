@@ -1,7 +1,6 @@
 use Rattle.std.proofs.Common.{◌+◌, ap, ◌∙◌, arith}
 use Rattle.wb_display.specs.Walking.{Progress}
-use Rattle.wb_display.proofs.LineSteps.{line_more}
-use Rattle.wb_display.proofs.LineInside.{at_step, before_end, same_steps, line_entered, line_done}
+use Rattle.wb_display.proofs.Lines.{line_more, at_step, before_end, same_steps, line_entered, line_done}
 use Rattle.wb_display.proofs.strokes.draw_across.Goals as goal
 
 pub put-requires-clause-row : goal.put-requires-clause-row

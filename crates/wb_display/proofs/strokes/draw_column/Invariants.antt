@@ -1,5 +1,5 @@
 use Rattle.wb_display.specs.Cells.{Overlays}
-use Rattle.wb_display.proofs.Spans.{column_upto}
+use Rattle.wb_display.proofs.Overlaying.{column_upto}
 use Rattle.wb_display.proofs.strokes.draw_column.Given as goal
 
 abbrev pub invariant-loop-y : goal.invariant-loop-y

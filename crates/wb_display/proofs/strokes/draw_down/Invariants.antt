@@ -1,7 +1,7 @@
 use Rattle.std.proofs.Common.{◌≡◌, ◌+◌}
 use Rattle.wb_display.specs.Canvas.{distance}
 use Rattle.wb_display.specs.Cells.{Overlays}
-use Rattle.wb_display.proofs.LineSteps.{line_upto}
+use Rattle.wb_display.proofs.Lines.{line_upto}
 use Rattle.wb_display.proofs.strokes.draw_down.Given as goal
 
 abbrev pub invariant-loop-k : goal.invariant-loop-k

@@ -1,4 +1,4 @@
-use Rattle.wb_display.proofs.Spans.{frame_drawn}
+use Rattle.wb_display.proofs.Overlaying.{frame_drawn}
 use Rattle.wb_display.proofs.strokes.draw_frame.Goals as goal
 
 pub returns : goal.returns

@@ -1,6 +1,5 @@
 use Rattle.std.proofs.Common.{arith}
-use Rattle.wb_display.proofs.LevelLines.{level_drawn}
-use Rattle.wb_display.proofs.LineInside.{line_missed}
+use Rattle.wb_display.proofs.Lines.{level_drawn, line_missed}
 use Rattle.wb_display.proofs.strokes.draw_line.Goals as goal
 
 pub returns-then-from-to : goal.returns-then-from-to

@@ -1,6 +1,6 @@
 use Rattle.std.proofs.Common.{◌≡◌, ◌+◌, arith}
 use Rattle.std.specs.Prelude.{max, min}
-use Rattle.wb_display.proofs.RowFilling.{row_filled}
+use Rattle.wb_display.proofs.Overlaying.{row_filled}
 use Rattle.wb_display.proofs.strokes.draw_row.Goals as goal
 
 pub returns : goal.returns

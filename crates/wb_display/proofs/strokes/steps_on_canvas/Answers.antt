@@ -1,4 +1,4 @@
-use Rattle.wb_display.proofs.LineInside.{both_inside}
+use Rattle.wb_display.proofs.Lines.{both_inside}
 use Rattle.wb_display.proofs.strokes.steps_on_canvas.Goals as goal
 
 pub returns : goal.returns

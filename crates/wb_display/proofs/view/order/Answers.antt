@@ -7,8 +7,7 @@ use Rattle.wb_names.specs.Orders.{display_cmp}
 use Rattle.wb_names.specs.Values.{DrawopValue}
 use Rattle.wb_names.proofs.Listings.{lists_from_sorted}
 use Rattle.wb_display.specs.Display.{is_shown}
-use Rattle.wb_display.proofs.Deciding.{display_total, shown_apart}
-use Rattle.wb_display.proofs.Views.{shown_here, picked, passed_over}
+use Rattle.wb_display.proofs.Deciding.{display_total, shown_apart, shown_here, picked, passed_over}
 use Rattle.wb_display.proofs.view.order.Goals as goal
 use Rattle.wb_display.proofs.view.order.Goals.{then-is_shown+in_ok-push, else-is_shown}
 

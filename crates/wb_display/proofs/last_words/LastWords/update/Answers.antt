@@ -4,7 +4,7 @@ use Rattle.wb_display.specs.LastWord.{aimed_target, later_word}
 use Rattle.wb_names.specs.Same.{same_target}
 use Rattle.wb_display.specs.LastWords.{word_on}
 use Rattle.wb_display.specs.declared.last_words.LastWord.{LastWord}
-use Rattle.wb_display.proofs.LaterWords.{update_nothing, update_word}
+use Rattle.wb_display.proofs.Deciding.{update_nothing, update_word}
 use Rattle.wb_display.proofs.last_words.LastWords.update.Goals as goal
 
 pub returns-in_default-clause-ok : goal.returns-in_default-clause-ok

@@ -1,6 +1,5 @@
 use Rattle.std.proofs.Common.{◌∙◌, sym}
-use Rattle.wb_display.proofs.Layers.{kept_with_room}
-use Rattle.wb_display.proofs.PuttingAll.{news_none, value_stays, ties_once, shows_others, kept_after}
+use Rattle.wb_display.proofs.Layers.{kept_with_room, news_none, value_stays, ties_once, shows_others, kept_after}
 use Rattle.wb_display.proofs.layer.Layer.put_all.Goals as goal
 
 pub returns-then-count-eq0-clause-ok : goal.returns-then-count-eq0-clause-ok

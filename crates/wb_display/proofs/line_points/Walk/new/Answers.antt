@@ -1,4 +1,4 @@
-use Rattle.wb_display.proofs.RunningError.{start}
+use Rattle.wb_display.proofs.Lines.{start}
 use Rattle.wb_display.proofs.line_points.Walk.new.Goals as goal
 
 pub invariant_of-result : goal.invariant_of-result

@@ -1,5 +1,5 @@
 use Rattle.std.proofs.Common.{◌∙◌, rules}
-use Rattle.wb_display.proofs.RunningError.{step_up, step_down, step_along}
+use Rattle.wb_display.proofs.Lines.{step_up, step_down, step_along}
 use Rattle.wb_display.proofs.line_points.Walk.step.Goals as goal
 
 pub invariant_of-self : goal.invariant_of-self
