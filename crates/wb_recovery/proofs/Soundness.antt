@@ -1,13 +1,14 @@
 -- How a recovery stays sound as the timers of a name are replaced.
-use Rattle.std.proofs.Common.{◌≡◌, ℕ, Bool, true, false, cond, refl, ap, ◌∙◌, sym, subst, List, Option, Some, None, ◌^◌, ◌<◌, true≢false, rules}
-use Rattle.std.specs.Prelude.{unwrap_or, IsSome}
+use Rattle.std.proofs.Common.{◌≡◌, ℕ, Bool, true, false, cond, refl, ap, ◌∙◌, sym, subst, List, Option, Some, None, ◌^◌, ◌<◌, rules}
+use Rattle.std.specs.Prelude.{unwrap_or}
 use Rattle.std.specs.BTreeMap.{BTreeMap, IsOrdered, get, is_at}
 use Rattle.wb_names.specs.Values.{NameValue}
 use Rattle.wb_names.specs.Orders.{same_name, name_cmp}
 use Rattle.wb_names.proofs.Orders.{same_name-is}
-use Rattle.wb_recovery.specs.Timing.{no_timers, ask_due, answer_due, is_standing, AreDelays, with_ask, with_answer}
+use Rattle.wb_recovery.specs.Timing.{no_timers, ask_due, answer_due, AreDelays, with_ask, with_answer}
 use Rattle.wb_recovery.specs.Alarms.{Keep, IsFirst, with_due}
 use Rattle.wb_recovery.specs.Values.{RecoveryValue, timers_at, timers_in, Replaces}
+use Rattle.wb_recovery.specs.Noticing.{without_ask}
 use Rattle.wb_recovery.specs.Sound.{IsSound}
 use Rattle.wb_recovery.specs.declared.tuning.Tuning.{Tuning}
 use Rattle.wb_recovery.specs.declared.timers.Timers.{Timers}
@@ -43,64 +44,50 @@ module _ (name : NameValue) (after : Timers) (f g : NameValue → Timers) (repla
     out true = p
     out false = q n
 
-  -- alarms of moments that stay
-  pub keep_unmoved : (due : Timers → Option ℕ) (alarms : Alarms) → due (f name) ≡ due after → Keep (λ n. due (f n)) alarms → Keep (λ n. due (g n)) alarms
-  keep_unmoved due alarms same keep = keep_alike _ _ alarms (λ n. from n (same_name name n) refl ∙ sym (ap due (replaced n))) keep where
-    from : (n : NameValue) (b : Bool) → same_name name n ≡ b → due (f n) ≡ due (cond b after (f n))
-    from n true e = ap (λ (m : NameValue). due (f m)) (sym (same_name-is name n e)) ∙ same
-    from n false e = refl
-
   pub keep_moved_to : (due : Timers → Option ℕ) (o : Option ℕ) (alarms : Alarms) → o ≡ due after → Keep (with_due (λ n. due (f n)) name o) alarms → Keep (λ n. due (g n)) alarms
   keep_moved_to due o alarms same keep = keep_alike _ _ alarms (λ n. ap (λ (p : Option ℕ). with_due (λ n. due (f n)) name p n) same ∙ dues_replaced due n) keep
+
+-- alarms of which one is put where it stands
+keep_here : (dues : NameValue → Option ℕ) (name : NameValue) (due : Option ℕ) (alarms : Alarms) → dues name ≡ due → Keep dues alarms → Keep (with_due dues name due) alarms
+keep_here dues name due alarms same keep = keep_alike _ _ alarms (λ n. from n (same_name name n) refl) keep where
+  from : (n : NameValue) (b : Bool) → same_name name n ≡ b → dues n ≡ cond b due (dues n)
+  from n true e = ap dues (sym (same_name-is name n e)) ∙ same
+  from n false e = refl
 
 -- what a write at one name leaves
 module _ (t : Tuning) (m : ℕ) (old new : BTreeMap NameValue Timers) (asks answers : Alarms) (s : IsSound t m old asks answers) (name : NameValue) (before : Timers) (is : before ≡ timers_at old.entries name) (ordered : IsOrdered name_cmp new) where
   abbrev pub Writes : Timers → Type 0
   Writes after = (q : NameValue) → get name_cmp new q ≡ cond (is_at (name_cmp name) q) (Some after) (get name_cmp old q)
 
-  pub sound_ask : (ask : AskTimer) (moved : Alarms) → Writes (with_ask before (Some ask)) → ask.delay < 2 ^ 24 → ((dues : NameValue → Option ℕ) → Keep dues asks → Keep (with_due dues name (Some ask.due)) moved) → moved.is_exact ≡ true → IsSound t m new moved answers
-  sound_ask ask moved w d k first =
-      let r = written old new name (with_ask before (Some ask)) w in
-      let same : answer_due (timers_at old.entries name) ≡ answer_due (with_ask before (Some ask)) = ap answer_due (sym is) in
-      let delays = subst AreDelays (sym is) (s.delays name) in
-      record {
-        tuning = s.tuning;
-        moment = s.moment;
-        ordered = ordered;
-        delays = all_replaced name (with_ask before (Some ask)) _ _ r AreDelays (d, delays.1) s.delays;
-        asks = keep_moved_to name (with_ask before (Some ask)) _ _ r ask_due (Some ask.due) moved refl (k _ s.asks);
-        answers = keep_unmoved name (with_ask before (Some ask)) _ _ r answer_due answers same s.answers;
-        first_ask = first;
-        first_answer = s.first_answer;
-      }
+  delays : AreDelays before
+  delays = subst AreDelays (sym is) (s.delays name)
 
-  pub sound_answer : (answer : AnswerTimer) (moved : Alarms) → Writes (with_answer before (Some answer)) → answer.delay < 2 ^ 24 → ((dues : NameValue → Option ℕ) → Keep dues answers → Keep (with_due dues name (Some answer.due)) moved) → moved.is_exact ≡ true → IsSound t m new asks moved
-  sound_answer answer moved w d k first =
-      let r = written old new name (with_answer before (Some answer)) w in
-      let same : ask_due (timers_at old.entries name) ≡ ask_due (with_answer before (Some answer)) = ap ask_due (sym is) in
-      let delays = subst AreDelays (sym is) (s.delays name) in
-      record {
-        tuning = s.tuning;
-        moment = s.moment;
-        ordered = ordered;
-        delays = all_replaced name (with_answer before (Some answer)) _ _ r AreDelays (delays.0, d) s.delays;
-        asks = keep_unmoved name (with_answer before (Some answer)) _ _ r ask_due asks same s.asks;
-        answers = keep_moved_to name (with_answer before (Some answer)) _ _ r answer_due (Some answer.due) moved refl (k _ s.answers);
-        first_ask = s.first_ask;
-        first_answer = first;
-      }
-
-  pub sound_end : (quiet : ℕ) (a b : Alarms) → ((n : NameValue) → timers_at new.entries n ≡ cond (same_name name n) (record { ask = None; answer = None; quiet = quiet }) (timers_at old.entries n)) → ((dues : NameValue → Option ℕ) → Keep dues asks → Keep (with_due dues name None) a) → ((dues : NameValue → Option ℕ) → Keep dues answers → Keep (with_due dues name None) b) → a.is_exact ≡ true → b.is_exact ≡ true → IsSound t m new a b
-  sound_end quiet a b r h k first_ask first_answer = record {
+  sound_written : (after : Timers) (a b : Alarms) → ((n : NameValue) → timers_at new.entries n ≡ cond (same_name name n) after (timers_at old.entries n)) → AreDelays after
+      → Keep (with_due (λ n. ask_due (timers_at old.entries n)) name (ask_due after)) a → Keep (with_due (λ n. answer_due (timers_at old.entries n)) name (answer_due after)) b → a.is_exact ≡ true → b.is_exact ≡ true → IsSound t m new a b
+  sound_written after a b r d h k first_ask first_answer = record {
     tuning = s.tuning;
     moment = s.moment;
     ordered = ordered;
-    delays = all_replaced name _ _ _ r AreDelays (ends quiet) s.delays;
-    asks = keep_moved_to name _ _ _ r ask_due None a refl (h _ s.asks);
-    answers = keep_moved_to name _ _ _ r answer_due None b refl (k _ s.answers);
+    delays = all_replaced name after _ _ r AreDelays d s.delays;
+    asks = keep_moved_to name after _ _ r ask_due (ask_due after) a refl h;
+    answers = keep_moved_to name after _ _ r answer_due (answer_due after) b refl k;
     first_ask = first_ask;
     first_answer = first_answer;
-  } where
+  }
+
+  pub sound_ask : (ask : AskTimer) (moved : Alarms) → Writes (with_ask before (Some ask)) → ask.delay < 2 ^ 24 → ((dues : NameValue → Option ℕ) → Keep dues asks → Keep (with_due dues name (Some ask.due)) moved) → moved.is_exact ≡ true → IsSound t m new moved answers
+  sound_ask ask moved w d k first = sound_written (with_ask before (Some ask)) moved answers (written old new name (with_ask before (Some ask)) w) (d, delays.1) (k _ s.asks) (keep_here _ name _ answers (ap answer_due (sym is)) s.answers) first s.first_answer
+
+  pub sound_answer : (answer : AnswerTimer) (moved : Alarms) → Writes (with_answer before (Some answer)) → answer.delay < 2 ^ 24 → ((dues : NameValue → Option ℕ) → Keep dues answers → Keep (with_due dues name (Some answer.due)) moved) → moved.is_exact ≡ true → IsSound t m new asks moved
+  sound_answer answer moved w d k first = sound_written (with_answer before (Some answer)) asks moved (written old new name (with_answer before (Some answer)) w) (delays.0, d) (keep_here _ name _ asks (ap ask_due (sym is)) s.asks) (k _ s.answers) s.first_ask first
+
+  -- without a request timer
+  pub sound_unset : (moved : Alarms) → ((n : NameValue) → timers_at new.entries n ≡ cond (same_name name n) (without_ask before) (timers_at old.entries n)) → ((dues : NameValue → Option ℕ) → Keep dues asks → Keep (with_due dues name None) moved) → moved.is_exact ≡ true → IsSound t m new moved answers
+  sound_unset moved r k first = sound_written (without_ask before) moved answers r (tt, delays.1) (k _ s.asks) (keep_here _ name _ answers (ap answer_due (sym is)) s.answers) first s.first_answer
+
+  -- without timers
+  pub sound_end : (quiet : ℕ) (a b : Alarms) → ((n : NameValue) → timers_at new.entries n ≡ cond (same_name name n) (record { ask = None; answer = None; quiet = quiet }) (timers_at old.entries n)) → ((dues : NameValue → Option ℕ) → Keep dues asks → Keep (with_due dues name None) a) → ((dues : NameValue → Option ℕ) → Keep dues answers → Keep (with_due dues name None) b) → a.is_exact ≡ true → b.is_exact ≡ true → IsSound t m new a b
+  sound_end quiet a b r h k first_ask first_answer = sound_written (record { ask = None; answer = None; quiet = quiet }) a b r (ends quiet) (h _ s.asks) (k _ s.answers) first_ask first_answer where
     ends : (q : ℕ) → AreDelays (record { ask = None; answer = None; quiet = q })
     ends q = search rules
 
@@ -125,14 +112,7 @@ keep_back dues name due alarms none keep = keep_alike _ _ alarms (λ n. from n (
   from n true e = sym none ∙ ap dues (same_name-is name n e)
   from n false e = refl
 
--- a name with a timer has a record
-pub has_record : (kept : BTreeMap NameValue Timers) (name : NameValue) → is_standing (timers_at kept.entries name) ≡ true → IsSome (get name_cmp kept name)
-has_record kept name = from (get name_cmp kept name) where
-  from : (o : Option Timers) → is_standing (unwrap_or o no_timers) ≡ true → IsSome o
-  from None h = absurd (true≢false (sym h))
-  from (Some t) h = refl
-
--- the same, told of the values
+-- a write, told of the values
 pub replaced_value : (old new : BTreeMap NameValue Timers) (name : NameValue) (after : Timers) (t : Tuning) (m : ℕ) (value : RecoveryValue) → record { tuning = t; moment = m; records = old.entries } ≡ value → ((n : NameValue) → timers_at new.entries n ≡ cond (same_name name n) after (timers_at old.entries n)) → Replaces value (record { tuning = t; moment = m; records = new.entries }) name after
 replaced_value old new name after t m value is w = record {
   tuning = ap (λ (v : RecoveryValue). v.tuning) is;

@@ -21,11 +21,11 @@ is_moment now = nat_lt now (2 ^ 48)
 abbrev pub is_delay : ℕ → Bool
 is_delay delay = nat_lt delay (2 ^ 24)
 
--- The first fault of a call that comes after the moment of the last one. A tick is handed no delay, and counts as one of delay 0.
-abbrev pub call_fault : ℕ → ℕ → ℕ → Option RecoveryFault
-call_fault last now delay = first_of (
+-- the first fault of a call that comes after the moment of the last one, by whether all its delays are in range
+abbrev pub call_fault : ℕ → ℕ → Bool → Option RecoveryFault
+call_fault last now in_range = first_of (
     fault_unless (nat_le last now) BackInTime
-    ∷ fault_unless (is_delay delay && is_moment now) Range
+    ∷ fault_unless (in_range && is_moment now) Range
     ∷ [])
 
 -- the result is the fault, or where there is none an answer, unless memory ran out

@@ -1,18 +1,15 @@
 -- Names that have come, told of before a tick.
-use Rattle.std.specs.Prelude.{◌≡◌, ℕ, ◌<◌, ◌^◌, Bool, true, not, ◌&&◌, nat_le, Option, List, [], ◌∷◌, map, if◌then◌else◌}
+use Rattle.std.specs.Prelude.{◌≡◌, ℕ, ◌<◌, ◌^◌, Bool, true, not, ◌&&◌, List, ◌∷◌, map, if◌then◌else◌}
 use Rattle.std.specs.List.{fold, list_all, list_any}
-use Rattle.wb_names.specs.Faults.{first_of, fault_unless}
 use Rattle.wb_names.specs.Values.{NameValue}
 use Rattle.wb_names.specs.Orders.{same_name, name_cmp}
 use Rattle.wb_names.specs.Listing.{Lists}
 use Rattle.wb_recovery.specs.Alarms.{among}
 use Rattle.wb_recovery.specs.Events.{Event, Got}
-use Rattle.wb_recovery.specs.Faults.{is_moment, is_delay}
+use Rattle.wb_recovery.specs.Faults.{is_delay}
 use Rattle.wb_recovery.specs.Timing.{got, is_ask_due, is_answer_due}
 use Rattle.wb_recovery.specs.Firing.{with_ask_fired, with_answer_fired}
 use Rattle.wb_recovery.specs.Values.{RecoveryValue, timers_in}
-use Rattle.wb_recovery.specs.declared.fault.RecoveryFault.{RecoveryFault}
-use Rattle.wb_recovery.specs.declared.fault.RecoveryFault.TheVariants.{BackInTime, Range}
 use Rattle.wb_recovery.specs.declared.received.Received.{Received}
 use Rattle.wb_recovery.specs.declared.plan.Plan.{Plan}
 use Rattle.wb_recovery.specs.declared.tuning.Tuning.{Tuning}
@@ -25,13 +22,6 @@ receipts now events received = fold (λ before c. Got c.name now c.delay ∷ bef
 -- the name has come
 abbrev pub is_received : List Received → NameValue → Bool
 is_received received n = list_any (λ c. same_name c.name n) received
-
--- the first fault of such a call
-abbrev pub receipts_fault : ℕ → ℕ → List Received → Option RecoveryFault
-receipts_fault last now received = first_of (
-    fault_unless (nat_le last now) BackInTime
-    ∷ fault_unless (list_all (λ c. is_delay c.delay) received && is_moment now) Range
-    ∷ [])
 
 -- the timers of a name, once these have come
 abbrev pub got_each : ℕ → NameValue → Timers → List Received → Timers

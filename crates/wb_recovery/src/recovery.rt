@@ -3,7 +3,7 @@ ghost use Rattle.std.specs.Prelude.{◌≡◌, ◌+◌, ◌*◌, ◌<◌, ◌≤
 ghost use Rattle.std.specs.List.Sorted.{IsStrictlySortedBy};
 ghost use Rattle.wb_names.specs.Values.{NameValue};
 ghost use Rattle.wb_names.specs.Orders.{same_name, name_cmp};
-ghost use Rattle.wb_recovery.specs.Faults.{call_fault, IsCheckedBy};
+ghost use Rattle.wb_recovery.specs.Faults.{is_delay, call_fault, IsCheckedBy};
 ghost use Rattle.wb_recovery.specs.Timing.{are_constants, is_standing, AreDelays, with_ask, with_answer};
 ghost use Rattle.wb_recovery.specs.Values.{record_in, timers_in, names_in, Replaces};
 ghost use Rattle.std.specs.Prelude.{Some as some, None as none};
@@ -84,11 +84,11 @@ impl Recovery {
         delay: u64,
         word: u64,
     ) -> Result<(), RecoveryFault>
-        ensures fault { IsCheckedBy (call_fault self.old.moment now delay) result }
+        ensures fault { IsCheckedBy (call_fault self.old.moment now (is_delay delay)) result }
         ensures ok { OnOk result (Accepts (Notice name now delay word) self.old self.new) }
         ensures err { OnErr result (self.new ≡ self.old) }
     {
-        self.check(now, delay)?;
+        self.check(now, delay < DELAY_LIMIT)?;
         self.start(Missed { name, delay, word }, now)?;
         self.moment = now;
         Ok(())
@@ -108,12 +108,12 @@ impl Recovery {
         delay: u64,
         word: u64,
     ) -> Result<(), RecoveryFault>
-        ensures fault { IsCheckedBy (call_fault self.old.moment now delay) result }
+        ensures fault { IsCheckedBy (call_fault self.old.moment now (is_delay delay)) result }
         ensures ok { OnOk result (Accepts (Asked name held now delay word) self.old self.new) }
         ensures moment { OnOk result (self.new.moment ≡ now) }
         ensures err { OnErr result (self.new ≡ self.old) }
     {
-        self.check(now, delay)?;
+        self.check(now, delay < DELAY_LIMIT)?;
         let before = self.timers(&name);
         if held {
             let answer = before.asked_for(self.tuning, now, delay, word);
@@ -131,12 +131,12 @@ impl Recovery {
     ///
     /// Refused with `BackInTime` or `Range`, in this order. It takes no memory.
     pub fn got(&mut self, name: Name, now: u64, delay: u64) -> Result<(), RecoveryFault>
-        ensures fault { MatchOption (call_fault self.old.moment now delay) (IsOk result) (λ fault. result ≡ Err fault) }
+        ensures fault { MatchOption (call_fault self.old.moment now (is_delay delay)) (IsOk result) (λ fault. result ≡ Err fault) }
         ensures ok { OnOk result (Accepts (Got name now delay) self.old self.new) }
         ensures moment { OnOk result (self.new.moment ≡ now) }
         ensures err { OnErr result (self.new ≡ self.old) }
     {
-        self.check(now, delay)?;
+        self.check(now, delay < DELAY_LIMIT)?;
         let before = self.timers(&name);
         if before.is_standing() {
             self.end(name, before, now + 3 * delay);
@@ -162,7 +162,7 @@ impl Recovery {
         words: &[u64],
     ) -> Result<Vec<Action>, RecoveryFault>
         requires { length (due_asks (names_in self.old) (timers_in self.old) now) ≤ length words.now }
-        ensures fault { IsCheckedBy (call_fault self.old.moment now 0) result }
+        ensures fault { IsCheckedBy (call_fault self.old.moment now true) result }
         ensures actions { IfOk result (λ actions. (constants : Constants) (events : List Event) → StandsFor constants events self.old → actions.items ≡ actions_of constants events now) }
         ensures ok { OnOk result (Accepts (Tick now words.now) self.old self.new) }
         ensures err { OnErr result (self.new ≡ self.old) }
@@ -242,17 +242,18 @@ impl Recovery {
         timers_of(&self.records, name)
     }
 
-    /// Refuses a moment below the last one, and then a moment or delay out of its range.
-    fn check(&self, now: u64, delay: u64) -> Result<(), RecoveryFault>
-        ensures fault { MatchOption (call_fault self.now.moment now delay) (IsOk result) (λ fault. result ≡ Err fault) }
+    /// Refuses a moment below the last one, and then a moment, or some delay of the call, out of its range.
+    fn check(&self, now: u64, in_range: bool) -> Result<(), RecoveryFault>
+        ensures fault { MatchOption (call_fault self.now.moment now in_range) (IsOk result) (λ fault. result ≡ Err fault) }
         ensures moment { OnOk result (now < 2 ^ 48) }
-        ensures delay { OnOk result (delay < 2 ^ 24) }
+        ensures delays { OnOk result (in_range ≡ true) }
         ensures tuning { IsTrue (are_constants self.now.tuning) }
+        ensures ordered { IsStrictlySortedBy name_cmp (names_in self.now) }
     {
         if now < self.moment {
             return Err(RecoveryFault::BackInTime);
         }
-        if now >= MOMENT_LIMIT || delay >= DELAY_LIMIT {
+        if now >= MOMENT_LIMIT || !in_range {
             return Err(RecoveryFault::Range);
         }
         Ok(())

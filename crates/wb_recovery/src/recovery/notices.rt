@@ -1,21 +1,21 @@
 //! Notices of many names, all or none.
 
-ghost use Rattle.std.specs.Prelude.{◌≤◌, ◌≡◌, ◌<◌, ◌^◌, ◌&&◌, List, true, is_none, if◌then◌else◌, length, IfOk, OnOk, OnErr, MatchOption, IsOk};
+ghost use Rattle.std.specs.Prelude.{◌≤◌, ◌≡◌, ◌<◌, ◌^◌, ◌&&◌, List, true, is_none, is_some, if◌then◌else◌, OnOk, OnErr, MatchOption, IsOk};
 ghost use Rattle.std.specs.Prelude.{Some as some};
 ghost use Rattle.std.specs.List.{list_all};
 ghost use Rattle.std.specs.List.Sorted.{IsStrictlySortedBy};
 ghost use Rattle.wb_names.specs.Values.{NameValue};
 ghost use Rattle.wb_names.specs.Orders.{same_name, name_cmp};
-ghost use Rattle.wb_recovery.specs.Faults.{is_delay, IsCheckedBy};
+ghost use Rattle.wb_recovery.specs.Faults.{is_delay, call_fault, IsCheckedBy};
 ghost use Rattle.wb_recovery.specs.Timing.{noticed};
-ghost use Rattle.wb_recovery.specs.Values.{RecoveryValue, record_in, timers_in, names_in, Replaces};
+ghost use Rattle.wb_recovery.specs.Values.{record_in, timers_in, names_in, Replaces};
 ghost use Rattle.wb_recovery.specs.Events.{Event};
 ghost use Rattle.wb_recovery.specs.Standing.{StandsFor};
-ghost use Rattle.wb_recovery.specs.Noticing.{notices, notices_fault, records_of, SetsOf, TakesBack};
+ghost use Rattle.wb_recovery.specs.Noticing.{notices, unset_at, taken_back};
 ghost use Rattle.wb_recovery.specs.declared.tuning.Tuning.{Tuning as Constants};
 
 use crate::fault::RecoveryFault;
-use crate::limits::{DELAY_LIMIT, MOMENT_LIMIT};
+use crate::limits::DELAY_LIMIT;
 use crate::missed::Missed;
 use crate::records::rewrite;
 use crate::recovery::Recovery;
@@ -35,16 +35,16 @@ impl Recovery {
         missed: &[Missed],
         now: u64,
     ) -> Result<(), RecoveryFault>
-        ensures fault { IsCheckedBy (notices_fault self.old.moment now missed.now) result }
+        ensures fault { IsCheckedBy (call_fault self.old.moment now (list_all (λ m. is_delay m.delay) missed.now)) result }
         ensures ok { OnOk result ((constants : Constants) (events : List Event) → StandsFor constants events self.old → StandsFor constants (notices now events missed.now) self.new) }
         ensures moment { OnOk result (self.new.moment ≤ now) }
         ensures err { OnErr result (self.new ≡ self.old) }
     {
-        self.check_all(missed, now)?;
-        let before = self.records_of(alloc, missed)?;
+        self.check(now, are_delays(missed))?;
+        let mut set = Vec::new(alloc);
         for one in missed {
-            if self.start(*one, now).is_err() {
-                self.take_back(missed, &before);
+            if self.start_noted(*one, now, &mut set).is_err() {
+                self.take_back(set);
                 return Err(RecoveryFault::Memory);
             }
         }
@@ -52,33 +52,33 @@ impl Recovery {
         Ok(())
     }
 
-    /// Refuses a moment below the last one, and then a moment or a delay out of its range.
-    fn check_all(&self, missed: &[Missed], now: u64) -> Result<(), RecoveryFault>
-        ensures fault { MatchOption (notices_fault self.now.moment now missed.now) (IsOk result) (λ fault. result ≡ Err fault) }
-        ensures moment { OnOk result (now < 2 ^ 48) }
-        ensures delays { OnOk result (list_all (λ m. is_delay m.delay) missed.now ≡ true) }
+    /// Sets the request timer of one name, unless one stands. Notes the name first, with whether it had
+    /// a record.
+    fn start_noted(
+        &mut self,
+        one: Missed,
+        now: u64,
+        set: &mut Vec<(Name, bool)>,
+    ) -> Result<(), AllocError>
+        requires moment { now < 2 ^ 48 }
+        requires delay { one.delay < 2 ^ 24 }
+        ensures ok { OnOk result (Replaces self.old self.new one.name (noticed self.old.tuning now one.delay one.word (timers_in self.old one.name))) }
+        ensures back { (n : NameValue) → taken_back n set.new.items (record_in self.new n) ≡ taken_back n set.old.items (record_in self.old n) }
+        ensures err { OnErr result (self.new ≡ self.old) }
+        ensures ordered { IsStrictlySortedBy name_cmp (names_in self.old) }
     {
-        if now < self.moment {
-            return Err(RecoveryFault::BackInTime);
+        if self.timers(&one.name).ask.is_some() {
+            return Ok(());
         }
-        if now >= MOMENT_LIMIT || !are_delays(missed) {
-            return Err(RecoveryFault::Range);
-        }
-        Ok(())
+        set.push((one.name, self.has_record(&one.name)))?;
+        self.start(one, now)
     }
 
-    /// The records of the names, as they are before any is noticed.
-    fn records_of(
-        &self,
-        alloc: Global,
-        missed: &[Missed],
-    ) -> Result<Vec<Option<Timers>>, AllocError>
-        ensures ordered { IsStrictlySortedBy name_cmp (names_in self.now) }
-        ensures records { IfOk result (λ records. records.items ≡ records_of self.now missed.now) }
+    /// Whether a name ever had a timer.
+    fn has_record(&self, name: &Name) -> bool
+        ensures { result ≡ is_some (record_in self.now name.now) }
     {
-        let records = &self.records;
-        let before = missed.iter().map(|one| records.get(&one.name).copied());
-        before.collect(alloc)
+        self.records.contains_key(name)
     }
 
     /// Sets the request timer of one name, unless one stands.
@@ -87,7 +87,6 @@ impl Recovery {
         requires delay { one.delay < 2 ^ 24 }
         ensures ok { OnOk result (Replaces self.old self.new one.name (noticed self.old.tuning now one.delay one.word (timers_in self.old one.name))) }
         ensures records { OnOk result ((n : NameValue) → record_in self.new n ≡ (if same_name one.name n && is_none (timers_in self.old one.name).ask then some (noticed self.old.tuning now one.delay one.word (timers_in self.old one.name)) else record_in self.old n)) }
-        ensures ordered { IsStrictlySortedBy name_cmp (names_in self.old) }
         ensures err { OnErr result (self.new ≡ self.old) }
     {
         let before = self.timers(&one.name);
@@ -95,39 +94,43 @@ impl Recovery {
         self.set_ask(one.name, before, ask)
     }
 
-    /// Takes the request timers away that were set since the names had these records.
-    fn take_back(&mut self, missed: &[Missed], before: &[Option<Timers>])
-        requires { length missed.now ≤ length before.now }
-        ensures back { (first : RecoveryValue) → before.now ≡ records_of first missed.now → SetsOf 0 (length missed.now) missed.now first self.old → SetsOf (length missed.now) (length missed.now) missed.now first self.new }
+    /// Takes the request timers of these names away, the last first.
+    fn take_back(&mut self, set: Vec<(Name, bool)>)
+        ensures back { (n : NameValue) → record_in self.new n ≡ taken_back n set.items (record_in self.old n) }
+        ensures tuning { self.new.tuning ≡ self.old.tuning }
+        ensures moment { self.new.moment ≡ self.old.moment }
         ensures ordered { IsStrictlySortedBy name_cmp (names_in self.old) → IsStrictlySortedBy name_cmp (names_in self.new) }
     {
-        for (count, one) in missed.iter().enumerate() {
-            self.unset_ask(one.name, before[count]);
+        let mut set = set;
+        while let Some(last) = set.pop() {
+            self.unset_ask(last.0, last.1);
         }
     }
 
-    /// Takes the request timer of a name away, if it was set since the name had this record. Where the
-    /// name had none, it has none again.
-    fn unset_ask(&mut self, name: Name, before: Option<Timers>)
-        ensures back { TakesBack name before self.old self.new }
+    /// Takes the request timer of a name away, where one stands, and where the name had no record the
+    /// record too.
+    fn unset_ask(&mut self, name: Name, had: bool)
+        ensures back { (n : NameValue) → record_in self.new n ≡ unset_at n (name, had) (record_in self.old n) }
+        ensures tuning { self.new.tuning ≡ self.old.tuning }
+        ensures moment { self.new.moment ≡ self.old.moment }
         ensures ordered { IsStrictlySortedBy name_cmp (names_in self.new) }
     {
         let timers = self.timers(&name);
-        let had = before.unwrap_or(Timers::NONE);
-        if had.ask.is_none() && timers.ask.is_some() {
-            self.asks.clear(name);
-            self.asks.renew();
-            if before.is_some() {
-                let after = Timers {
-                    ask: None,
-                    ..timers
-                };
-                rewrite(&mut self.records, name, after);
-            } else {
-                self.answers.clear(name);
-                self.answers.renew();
-                self.records.remove(&name);
-            }
+        if timers.ask.is_none() {
+            return;
+        }
+        self.asks.clear(name);
+        self.asks.renew();
+        if had {
+            let after = Timers {
+                ask: None,
+                ..timers
+            };
+            rewrite(&mut self.records, name, after);
+        } else {
+            self.answers.clear(name);
+            self.answers.renew();
+            self.records.remove(&name);
         }
     }
 }

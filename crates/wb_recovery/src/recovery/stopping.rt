@@ -1,24 +1,24 @@
 //! A tick before which some timers are stopped.
 
-ghost use Rattle.std.specs.Prelude.{◌≡◌, ◌<◌, ◌≤◌, ◌^◌, ◌∷◌, ℕ, Bool, List, true, filter, length, IfOk, OnOk, OnErr, MatchOption, IsOk};
+ghost use Rattle.std.specs.Prelude.{◌≡◌, ◌<◌, ◌≤◌, ◌^◌, ◌∷◌, ℕ, Bool, List, true, filter, length, IfOk, OnOk, OnErr};
 ghost use Rattle.std.specs.Fn.{FnReturnsAt};
 ghost use Rattle.std.specs.List.{list_all};
 ghost use Rattle.std.specs.BTreeSet.{contains};
 ghost use Rattle.wb_names.specs.Values.{NameValue};
 ghost use Rattle.wb_names.specs.Orders.{name_cmp};
-ghost use Rattle.wb_recovery.specs.Faults.{is_delay, IsCheckedBy};
+ghost use Rattle.wb_recovery.specs.Faults.{is_delay, call_fault, IsCheckedBy};
 ghost use Rattle.wb_recovery.specs.Values.{timers_in, names_in};
 ghost use Rattle.wb_recovery.specs.Events.{Event, Tick, asking, due_asks, actions_of};
 ghost use Rattle.wb_recovery.specs.Standing.{StandsFor};
 ghost use Rattle.wb_recovery.specs.Alarms.{Tells};
-ghost use Rattle.wb_recovery.specs.Stopping.{receipts, receipts_fault, is_received, EndsAll, FiresThese, IsPlan, IsPlanOf};
+ghost use Rattle.wb_recovery.specs.Stopping.{receipts, is_received, EndsAll, FiresThese, IsPlan, IsPlanOf};
 ghost use Rattle.wb_recovery.specs.declared.received.Received.{Received as AReceived};
 ghost use Rattle.wb_recovery.specs.declared.tuning.Tuning.{Tuning as Constants};
 
 use crate::action::Action;
 use crate::fault::RecoveryFault;
 use crate::firing::{actions, answer_all, ask_all, asked_after};
-use crate::limits::{DELAY_LIMIT, MOMENT_LIMIT};
+use crate::limits::DELAY_LIMIT;
 use crate::plan::Plan;
 use crate::received::Received;
 use crate::recovery::Recovery;
@@ -40,7 +40,7 @@ impl Recovery {
         words: &[u64],
     ) -> Result<Vec<Action>, RecoveryFault>
         requires { length (due_asks (names_in self.old) (timers_in self.old) now) ≤ length words.now }
-        ensures fault { IsCheckedBy (receipts_fault self.old.moment now received.now) result }
+        ensures fault { IsCheckedBy (call_fault self.old.moment now (list_all (λ c. is_delay c.delay) received.now)) result }
         ensures actions { IfOk result (λ actions. (constants : Constants) (events : List Event) → StandsFor constants events self.old → actions.items ≡ actions_of constants (receipts now events received.now) now) }
         ensures ok { OnOk result ((constants : Constants) (events : List Event) → StandsFor constants events self.old → StandsFor constants (Tick now words.now ∷ receipts now events received.now) self.new) }
         ensures moment { OnOk result (self.new.moment ≡ now) }
@@ -63,12 +63,12 @@ impl Recovery {
         words: &[u64],
     ) -> Result<Plan, RecoveryFault>
         requires { length (due_asks (names_in self.now) (timers_in self.now) now) ≤ length words.now }
-        ensures fault { IsCheckedBy (receipts_fault self.now.moment now received.now) result }
+        ensures fault { IsCheckedBy (call_fault self.now.moment now (list_all (λ c. is_delay c.delay) received.now)) result }
         ensures actions { IfOk result (λ plan. (constants : Constants) (events : List Event) → StandsFor constants events self.now → plan.actions.items ≡ actions_of constants (receipts now events received.now) now) }
         ensures moment { IfOk result (λ plan. plan.moment ≡ now) }
         ensures plan { IfOk result (IsPlanOf self.now received.now words.now) }
     {
-        self.check_received(received, now)?;
+        self.check(now, are_delays(received))?;
         let stopped = stopped_names(alloc, received)?;
         let asking = self.asks.names_until(alloc, now, &stopped)?;
         let answering = self.answers.names_until(alloc, now, &stopped)?;
@@ -108,21 +108,6 @@ impl Recovery {
         ensures { (p : NameValue → Bool) → Tells (FnReturnsAt F.Fn test) p → IfOk result (λ names. names.items ≡ filter p (asking (names_in self.now) (timers_in self.now))) }
     {
         self.asks.names_where(alloc, test)
-    }
-
-    /// Refuses a moment below the last one, and then a moment or a delay out of its range.
-    fn check_received(&self, received: &[Received], now: u64) -> Result<(), RecoveryFault>
-        ensures fault { MatchOption (receipts_fault self.now.moment now received.now) (IsOk result) (λ fault. result ≡ Err fault) }
-        ensures moment { OnOk result (now < 2 ^ 48) }
-        ensures delays { OnOk result (list_all (λ c. is_delay c.delay) received.now ≡ true) }
-    {
-        if now < self.moment {
-            return Err(RecoveryFault::BackInTime);
-        }
-        if now >= MOMENT_LIMIT || !are_delays(received) {
-            return Err(RecoveryFault::Range);
-        }
-        Ok(())
     }
 
     /// Fires the timers that a plan names. It takes no memory.

@@ -49,8 +49,8 @@ returns-clause-plan c =
     let fired = λ (names : List NameValue). with_ask_fired c.self.inside.tuning c.args.now c.args.words.now names (timers_in view) in
     subst (λ (v : RecoveryValue). IsPlanOf v c.args.received.now c.args.words.now plan) c.self.view_is
     (record {
-      moment = c.in_ok-check_received.ensures.moment;
-      delays = c.in_ok-check_received.ensures.delays;
+      moment = c.in_ok-check.ensures.moment;
+      delays = sym c.are_delays.ensures ∙ c.in_ok-check.ensures.delays;
       asking = asking_left c.args.now view c.args.received.now (contains name_cmp c.in_ok-stopped.stopped) c.in_ok-stopped.ensures c.in_ok-asking.asking.items (c.in_ok-asking.ensures _ c.self.invariant.asks);
       answering = answering_left c.args.now view c.args.received.now (contains name_cmp c.in_ok-stopped.stopped) c.in_ok-stopped.ensures c.in_ok-answering.answering.items (c.in_ok-answering.ensures _ c.self.invariant.answers);
       after = subst (λ (names : List NameValue). plan.after.items ≡ map (fired names) names) same c.in_ok-after.ensures;
