@@ -29,7 +29,7 @@ use Rattle.wb_history.specs.declared.cells.CellTable.{CellTable}
 use Rattle.wb_history.specs.Seats.{SitsAt, SameSeat}
 use Rattle.wb_history.proofs.Lists.{few}
 use Rattle.wb_history.specs.Cursors.{InOrder, Walked, Won, AtEnd, Answered, Refused}
-use Rattle.wb_history.specs.Passes.{HistoryValue, PassValue, IsPassOf, IsWhole, KeepsRows, AddsNothing, IsSound, IsCaughtUp}
+use Rattle.wb_history.specs.Passes.{HistoryValue, PassValue, IsPassOf, IsWhole, KeepsRows, AddsNothing, IsSound, IsCaughtUp, ReadsOn}
 use Rattle.wb_history.specs.Replies.{IsAdded, Claimed, NotClaimed, ClaimSteps, FaultSteps}
 use Rattle.wb_codec.specs.Ranges.{IsDrawop}
 use Rattle.wb_history.proofs.Words.{get_is, holds_not, none_before, history_is, pairs_are, all_are, contains_is}
@@ -195,6 +195,22 @@ fresh h i = let o = i.0 in (record { slots = o.slots; seen = o.seen; mine = o.mi
 
 brought_is : (h : Cursor) (more : List DrawopValue) (k : ℕ) (h' : Cursor) → Walked h more k h' → length h'.seen.items - length h.seen.items ≡ length more
 brought_is h more k h' w = let l = ap length w.seen in omega (arith, length-append h.seen.items more)
+
+-- the pass after its cursor has read on
+pub reads_on : {p : PassValue} (h : Cursor) (more : List DrawopValue) (k : ℕ) (h' : Cursor) → k ≤ 1 → view_of h ≡ p → IsHeld h → Walked (record h { steps = 0 }) more k h' → ReadsOn p (view_of h')
+reads_on h more k h' few is i w =
+    let begun = record h { steps = 0 } in
+    let made = w.made in
+    let steps = w.steps in
+    let b = brought_is begun more k h' w in
+    subst (λ (v : PassValue). ReadsOn v (view_of h')) is record {
+      same = (w.seat.0, w.cells);
+      sound = sound h' (walked_held begun more k h' (fresh h i) w).0;
+      grows = starts begun more k h' w;
+      nothing = adds_nothing begun more k h' (fresh h i).0 w;
+      steps = omega arith;
+      few_steps = omega arith;
+    }
 
 claim_steps : (h : Cursor) (d : DrawopValue) (extra : ℕ) (h' : Cursor) (c : Claim) → h.steps ≡ 0 → extra ≤ member_steps → Answered h d extra h' c → ClaimSteps (view_of h) (view_of h') c
 claim_steps h d extra h' (Added i) none few s = let w = s.1 in let t = w.steps in let at = w.at in let back : i - length h.seen.items ≡ length s.0 = omega arith in omega arith

@@ -15,7 +15,7 @@ use Rattle.wb_history.specs.Lists.{Once, longer, shorter}
 use Rattle.wb_history.specs.Cursors.{InOrder, United}
 use Rattle.wb_history.specs.Plays.{confirmed}
 use Rattle.wb_history.specs.Sharing.{IsJoined}
-use Rattle.wb_history.specs.Passes.{PassValue, IsSamePass, KeepsRows}
+use Rattle.wb_history.specs.Passes.{PassValue, IsTold, KeepsRows}
 use Rattle.wb_history.specs.Shown.{view_of}
 use Rattle.wb_history.specs.Views.{united, after_confirm}
 
@@ -116,5 +116,5 @@ pub keeps_own : (p q r : PassValue) → q.mine ≡ [] → q.free ≡ 0 → IsJoi
 keeps_own p q r no_place no_row j = (j.mine ∙ (ap (λ (l : List ℕ). p.mine ++ l) no_place ∙ append-nil p.mine), let f = j.free in omega arith)
 
 -- a pass that stays as it was
-pub unchanged : (p q : PassValue) → q ≡ p → IsSamePass p q × KeepsRows p q × IsPrefix p.seen q.seen × (q.steps ≡ p.steps)
-unchanged p q e = ((ap (λ (v : PassValue). v.table) e, ap (λ (v : PassValue). v.cells) e), (ap (λ (v : PassValue). v.mine) e, ap (λ (v : PassValue). v.free) e), ([], append-nil p.seen ∙ sym (ap (λ (v : PassValue). v.seen) e)), ap (λ (v : PassValue). v.steps) e)
+pub unchanged : (p q : PassValue) → q ≡ p → IsTold p q
+unchanged p q e = subst (IsTold p) (sym e) record { same = (refl, refl); rows = (refl, refl); grows = ([], append-nil p.seen); steps = refl }

@@ -1,9 +1,11 @@
 -- What a caller sees of a history and of its passes.
-use Rattle.std.specs.Prelude.{◌≡◌, ◌≢◌, ◌⊎◌, ℕ, ◌+◌, ◌<◌, ◌≤◌, List, length, All, AllPairs, Contains}
+use Rattle.std.specs.Prelude.{◌≡◌, ◌≢◌, ◌⊎◌, ℕ, ◌+◌, ◌-◌, ◌*◌, ◌<◌, ◌≤◌, List, [], length, All, AllPairs, Contains}
+use mathlib.Core.List.{IsPrefix}
 use Rattle.atomic_table.specs.Seated.{TableId}
 use Rattle.wb_names.specs.Values.{DrawopValue}
 use Rattle.wb_names.specs.History.{IsHistory}
 use Rattle.wb_codec.specs.Ranges.{IsDrawop}
+use Rattle.wb_history.specs.Sizes.{member_steps}
 
 -- a history: which table it is, and how many cells it has, which is also the number of its rows
 pub record HistoryValue : Type 0 where
@@ -61,3 +63,33 @@ pub record IsSound (p : PassValue) : Type 0 where
 -- fills all cells
 abbrev pub IsCaughtUp : PassValue → PassValue → Type 0
 IsCaughtUp p q = ((p.made < q.made) × (q.last_word ≡ length q.seen) × (q.last_found ≡ 0)) ⊎ (length q.seen ≡ q.cells)
+
+-- a history of so many cells, which has no member, and the pass that owns all its rows
+pub record IsOpened (cells : ℕ) (h : HistoryValue) (p : PassValue) : Type 0 where
+  pub pass : IsPassOf h p
+  pub sound : IsSound p
+  pub sized : (h.cells ≡ cells) × (p.cells ≡ cells)
+  pub seen : p.seen ≡ []
+  pub mine : p.mine ≡ []
+  pub free : p.free ≡ cells
+  pub steps : p.steps ≡ 0
+
+-- the pass may have been told of more, and is otherwise as it was
+pub record IsTold (p q : PassValue) : Type 0 where
+  pub same : IsSamePass p q
+  pub rows : KeepsRows p q
+  pub grows : IsPrefix p.seen q.seen
+  pub steps : q.steps ≡ p.steps
+
+-- how many members more the pass has seen
+abbrev pub brought : PassValue → PassValue → ℕ
+brought p q = length q.seen - length p.seen
+
+-- the pass may have read on, and is otherwise as it was; one that owns all rows learned of nothing
+pub record ReadsOn (p q : PassValue) : Type 0 where
+  pub same : IsSamePass p q
+  pub sound : IsSound q
+  pub grows : IsPrefix p.seen q.seen
+  pub nothing : AddsNothing p q
+  pub steps : q.made ≡ p.made + q.steps
+  pub few_steps : q.steps ≤ member_steps * brought p q + 1

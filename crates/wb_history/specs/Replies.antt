@@ -4,7 +4,7 @@ use Rattle.wb_names.specs.Values.{DrawopValue}
 use Rattle.wb_names.specs.History.{HoldsName, IsNewAt, IsAgainAt, IsClashAt}
 use Rattle.wb_names.specs.Arrivals.{Outcome, Fresh, Known, Clashed, Left}
 use Rattle.wb_history.specs.Sizes.{row_words, member_steps}
-use Rattle.wb_history.specs.Passes.{PassValue, IsWhole, AddsNothing, IsCaughtUp}
+use Rattle.wb_history.specs.Passes.{PassValue, IsWhole, AddsNothing, IsCaughtUp, brought}
 use Rattle.wb_history.specs.declared.claim.Claim.{Claim}
 use Rattle.wb_history.specs.declared.claim.Claim.TheVariants.{Added, Present, Clash}
 use Rattle.wb_history.specs.declared.claim.ClaimFault.{ClaimFault}
@@ -33,10 +33,6 @@ Becomes p d (Fresh i) q = IsAdded p d i q
 Becomes p d (Known i) q = IsAgainAt q.seen d i × AddsNothing p q
 Becomes p d (Clashed i) q = IsClashAt q.seen d i × AddsNothing p q
 Becomes p d Left q = HasNoRow p d q
-
--- how many members more the pass has seen
-abbrev pub brought : PassValue → PassValue → ℕ
-brought p q = length q.seen - length p.seen
 
 -- A member of others is read by one load of its cell, or a lost exchange, and a load of each word of its row. A drawop is added by a
 -- load that finds the end, a store of each word, and an exchange.

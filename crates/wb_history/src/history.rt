@@ -2,9 +2,8 @@
 ghost use Rattle.std.specs.Prelude.{◌≡◌, ◌≢◌, ◌+◌, ◌*◌, ◌<◌, ◌≤◌, ◌⊎◌, [], Err, IfOk, IsOk, MatchResult, length};
 ghost use mathlib.Core.List.{IsPrefix};
 ghost use Rattle.wb_names.specs.History.{HoldsName};
-ghost use Rattle.wb_history.specs.Sizes.{member_steps};
-ghost use Rattle.wb_history.specs.Passes.{IsPassOf, IsSamePass, IsSound, AddsNothing, IsCaughtUp};
-ghost use Rattle.wb_history.specs.Replies.{Claimed, NotClaimed, ClaimSteps, FaultSteps, brought};
+ghost use Rattle.wb_history.specs.Passes.{IsOpened, IsPassOf, IsSamePass, IsSound, IsCaughtUp, ReadsOn};
+ghost use Rattle.wb_history.specs.Replies.{Claimed, NotClaimed, ClaimSteps, FaultSteps};
 ghost use Rattle.wb_history.specs.declared.history.OpenFault.TheVariants as fault;
 
 use crate::cells::CellTable;
@@ -62,7 +61,7 @@ impl History {
     /// An empty history of so many cells, from 1 to 65,535, and as many rows; and the pass that
     /// owns all rows. There is room for as many drawops as there are cells.
     pub fn open(alloc: Global, cells: u32) -> Result<(History, Pass), OpenFault>
-        ensures opened { IfOk result (λ t. IsPassOf t.0 t.1 × (t.1.cells ≡ cells) × (t.1.seen ≡ []) × (t.1.mine ≡ []) × (t.1.free ≡ cells) × (t.1.steps ≡ 0) × (t.0.cells ≡ cells) × IsSound t.1) }
+        ensures opened { IfOk result (λ t. IsOpened cells t.0 t.1) }
         ensures refused { (cells ≡ 0) ⊎ (65535 < cells) → result ≡ Err fault.Cells }
         ensures admitted { 0 < cells → cells ≤ 65535 → result ≢ Err fault.Cells }
     {
@@ -113,14 +112,9 @@ impl History {
     /// the pass may have seen more.
     pub fn refresh(&self, pass: &mut Pass) -> Result<u32, AllocError>
         requires pass { IsPassOf self.now pass.old }
-        ensures same { IsSamePass pass.old pass.new }
+        ensures reads { ReadsOn pass.old pass.new }
         ensures cells { pass.new.cells ≡ self.now.cells }
-        ensures sound { IsSound pass.new }
-        ensures grows { IsPrefix pass.old.seen pass.new.seen }
-        ensures nothing { AddsNothing pass.old pass.new }
         ensures end { IfOk result (λ n. (n ≡ length pass.new.seen) × IsCaughtUp pass.old pass.new) }
-        ensures steps { pass.new.made ≡ pass.old.made + pass.new.steps }
-        ensures few_steps { pass.new.steps ≤ member_steps * brought pass.old pass.new + 1 }
     {
         pass.cursor.steps = 0;
         self.cells.catch_up(&mut pass.cursor)?;

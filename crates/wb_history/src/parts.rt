@@ -6,7 +6,7 @@ ghost use Rattle.wb_history.specs.Lists.{longer};
 ghost use Rattle.wb_history.specs.Members.{NamesOnce};
 ghost use Rattle.wb_history.specs.Seats.{SitsAt};
 ghost use Rattle.wb_history.specs.Sharing.{IsSplit, IsSplitFault, IsJoined};
-ghost use Rattle.wb_history.specs.Passes.{IsPassOf, IsSamePass, IsSound, KeepsRows};
+ghost use Rattle.wb_history.specs.Passes.{IsPassOf, IsSamePass, IsSound, IsTold, KeepsRows};
 ghost use Rattle.wb_history.specs.declared.parts.SplitFault.TheVariants as fault;
 
 use crate::cells::{CellTable, HistorySeat};
@@ -211,8 +211,8 @@ impl History {
     ) -> Result<(), AllocError>
         requires passes { IsPassOf self.now first.old × IsPassOf self.now second.old }
         ensures sound { IsSound first.new × IsSound second.new }
-        ensures first { IsSamePass first.old first.new × KeepsRows first.old first.new × IsPrefix first.old.seen first.new.seen × (first.new.steps ≡ first.old.steps) }
-        ensures second { IsSamePass second.old second.new × KeepsRows second.old second.new × IsPrefix second.old.seen second.new.seen × (second.new.steps ≡ second.old.steps) }
+        ensures first { IsTold first.old first.new }
+        ensures second { IsTold second.old second.new }
         ensures met { OnOk result ((first.new.seen ≡ second.new.seen) × (second.new.seen ≡ longer second.old.seen first.old.seen)) }
         ensures refused { OnErr result ((first.new ≡ first.old) × (second.new ≡ second.old)) }
     {

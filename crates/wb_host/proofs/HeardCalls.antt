@@ -1,12 +1,11 @@
 -- What a keeper stands for, once it has heard a datagram.
-use Rattle.std.proofs.Common.{◌≡◌, ℕ, ◌+◌, ◌≤◌, Bool, true, false, cond, Option, Some, None, List, [], ◌∷◌, length, refl, ap, ◌∙◌, sym, subst, arith, max, true≢false, eqb-true}
-use Rattle.std.specs.Prelude.{All, nat_eq, nat_le, nat_lt, not, unwrap_or, is_some, ◌||◌}
+use Rattle.std.proofs.Common.{◌≡◌, ℕ, ◌+◌, Bool, true, false, cond, Option, Some, None, List, [], ◌∷◌, length, refl, ap, ◌∙◌, sym, subst, arith, max, true≢false, eqb-true}
+use Rattle.std.specs.Prelude.{nat_eq, nat_le, nat_lt, not, unwrap_or, is_some, ◌||◌}
 use Rattle.std.specs.List.{find, list_any}
 use Rattle.std.specs.Option.{option_or}
 use Rattle.std.specs.Ordering.{nat_cmp, is_eq}
 use Rattle.std.specs.declared.cmp.Ordering.{Ordering}
 use Rattle.std.specs.declared.cmp.Ordering.TheVariants.{Less, Equal, Greater}
-use Rattle.std.proofs.lemmas.List.Elements.{All-cons, All-head, All-tail}
 use Rattle.std.specs.BTreeMap.{is_at, insert_entry}
 use Rattle.std.specs.Map.{lookup}
 use Rattle.std.proofs.lemmas.Bool.Decides.{nat_tests}
@@ -19,7 +18,7 @@ use Rattle.wb_codec.specs.declared.datagram.Datagram.{Datagram}
 use Rattle.wb_codec.specs.declared.datagram.Datagram.TheVariants.{Draw, Session, Request, AskPages, PageState}
 use Rattle.wb_names.specs.declared.echo.Echo.{Echo}
 use Rattle.wb_names.proofs.Orders.{nat_ties, page_ties, same_page-is}
-use Rattle.wb_gaps.specs.Joining.{greater, joined, joined_at}
+use Rattle.wb_gaps.specs.Joining.{joined}
 use Rattle.wb_gaps.proofs.HeldNumbers.{same_page-here}
 use Rattle.wb_gaps.proofs.JoinedMarks.{is_merge, joined_count, joins_read}
 use Rattle.wb_gaps.proofs.MergeLength.{merges_all_sources}
@@ -135,30 +134,6 @@ marks_put old page (Some merged) p = ap (λ (o : Option (List MarkValue)). unwra
   from true = refl
   from false = refl
 
-abbrev Positive : List MarkValue → Type 0
-Positive marks = All (λ m. 1 ≤ m.high) marks
-
-at_positive : (m : MarkValue) (ms : List MarkValue) → Positive (m ∷ ms) → ((ns : List MarkValue) → Positive ns → Positive (joined ms ns)) → (ns : List MarkValue) → Positive ns → Positive (joined_at m ms (joined ms) ns)
-at_positive m ms pm more [] pn = pm
-at_positive m ms pm more (n ∷ ns) pn = from (nat_lt m.source n.source) (nat_lt n.source m.source) (at_positive m ms pm more ns (tail n ns pn)) where
-  tail : (k : MarkValue) (ks : List MarkValue) → Positive (k ∷ ks) → Positive ks
-  tail k ks p = All-tail (λ (x : MarkValue). 1 ≤ x.high) k ks p
-
-  head : (k : MarkValue) (ks : List MarkValue) → Positive (k ∷ ks) → 1 ≤ k.high
-  head k ks p = All-head (λ (x : MarkValue). 1 ≤ x.high) k ks p
-
-  both : (k : MarkValue) (ks : List MarkValue) → 1 ≤ k.high → Positive ks → Positive (k ∷ ks)
-  both k ks p ps = All-cons (λ (x : MarkValue). 1 ≤ x.high) k ks p ps
-
-  from : (a b : Bool) → Positive (joined_at m ms (joined ms) ns) → Positive (cond a (m ∷ joined ms (n ∷ ns)) (cond b (n ∷ joined_at m ms (joined ms) ns) (greater m n ∷ joined ms ns)))
-  from true b rest = both m (joined ms (n ∷ ns)) (head m ms pm) (more (n ∷ ns) pn)
-  from false true rest = both n (joined_at m ms (joined ms) ns) (head n ns pn) rest
-  from false false rest = both (greater m n) (joined ms ns) (let h : 1 ≤ m.high = head m ms pm in omega arith) (more ns (tail n ns pn))
-
-joined_positive : (ms ns : List MarkValue) → Positive ms → Positive ns → Positive (joined ms ns)
-joined_positive [] ns pm pn = pn
-joined_positive (m ∷ ms) ns pm pn = at_positive m ms pm (λ ns pn. joined_positive ms ns (All-tail (λ (x : MarkValue). 1 ≤ x.high) m ms pm) pn) ns pn
-
 -- the marks are told for one page
 module _ (old : List (PageId × List MarkValue)) (page : PageId) (marks : List MarkValue) (merged : Option (List MarkValue)) (is : IsMerged (marks_at old page) marks merged) where
   pub marks_of_put : (p : PageId) (source : ℕ) → mark_of (marks_at (marks_with page merged old) p) source ≡ max (cond (same_page page p) (mark_of marks source) 0) (mark_of (marks_at old p) source)
@@ -173,11 +148,8 @@ module _ (old : List (PageId × List MarkValue)) (page : PageId) (marks : List M
       let turned : IsMerge marks (marks_at old page) (unwrap_or merged (marks_at old page)) = (is.merges.0, λ s. let m = is.merges.1 s in omega arith) in
       let all = merges_all_sources marks (marks_at old page) (unwrap_or merged (marks_at old page)) is.told_are is.heard_are turned in
       let few = is.merges.0.few in
-      record {
-        ascending = (joins_read marks (marks_at old page) marks (marks_at old page) (joined marks (marks_at old page)) refl refl is.told_are is.heard_are refl).rises;
-        positive = joined_positive marks (marks_at old page) is.told_are.positive is.heard_are.positive;
-        few = omega (arith, count.0);
-      }
+      let j = joins_read marks (marks_at old page) marks (marks_at old page) (joined marks (marks_at old page)) refl refl is.told_are is.heard_are refl in
+      record { ascending = j.rises; positive = j.positive is.told_are.positive is.heard_are.positive; few = omega (arith, count.0) }
 
   pub merged_put : (p : PageId) → marks_at (marks_with page merged old) p ≡ joined (cond (same_page page p) marks []) (marks_at old p)
   merged_put p = marks_put old page merged p ∙ from (same_page page p) refl where

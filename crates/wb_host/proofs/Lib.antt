@@ -1,4 +1,4 @@
-pub mod StandingLayers
+pub mod PageLayers
 pub mod KeptHoldings
 pub mod InOrder
 pub mod Agreement

@@ -49,6 +49,3 @@ pub record Step : Type 0 where
 abbrev pub IsLegalFrom : List DrawopValue → List Step → Type 0
 IsLegalFrom history [] = Unit {0}
 IsLegalFrom history (step ∷ steps) = IsAnswer history step.call step.answer × IsLegalFrom (after_call history step.call step.answer) steps
-
-abbrev pub IsLegalRun : List Step → Type 0
-IsLegalRun steps = IsLegalFrom [] steps

@@ -3,9 +3,9 @@ use Rattle.std.specs.Prelude.{◌≤◌, List, length, take}
 use Rattle.wb_names.specs.Values.{DrawopValue}
 use Rattle.wb_names.specs.declared.name.PageId.{PageId}
 use Rattle.wb_gaps.specs.Holdings.{HoldNamesOf}
-use Rattle.wb_host.specs.Layers.{AllStand}
+use Rattle.wb_host.specs.Layers.{AreLayersOf}
 use Rattle.wb_host.specs.declared.held.Held.{Held}
-use Rattle.wb_host.specs.declared.layers.Standing.{Standing}
+use Rattle.wb_host.specs.declared.layers.PageLayer.{PageLayer}
 
 -- the names of the first `taken` drawops of the list are held, and no others; there are no more ranges than drawops
 pub record HoldsFirst (list : List DrawopValue) (h : Held) : Type 0 where
@@ -14,6 +14,6 @@ pub record HoldsFirst (list : List DrawopValue) (h : Held) : Type 0 where
   pub within : h.taken ≤ length list
 
 -- layers and holdings are each right for a beginning of the list
-pub record AreKeptOf (list : List DrawopValue) (layers : List (PageId × Standing)) (held : Held) : Type 0 where
-  pub shown : AllStand list layers
+pub record AreKeptOf (list : List DrawopValue) (layers : List (PageId × PageLayer)) (held : Held) : Type 0 where
+  pub shown : AreLayersOf list layers
   pub holds : HoldsFirst list held

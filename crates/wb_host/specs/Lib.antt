@@ -4,7 +4,7 @@ pub mod Layers
 pub mod Held
 pub mod Board
 pub mod Desks
-pub mod Lending
+pub mod Borrows
 pub mod Runs
 pub mod Laws
 pub mod Keeper

@@ -3,8 +3,8 @@ use Rattle.std.specs.Prelude.{◌≤◌, List, take}
 use Rattle.wb_names.specs.Values.{DrawopValue}
 use Rattle.wb_names.specs.History.{IsNewAt, IsAgainAt, IsClashAt}
 use Rattle.wb_names.specs.Arrivals.{Outcome, Fresh, Known, Clashed, Left}
-use Rattle.wb_history.specs.Passes.{PassValue, AddsNothing}
-use Rattle.wb_history.specs.Replies.{Becomes, OutcomeSteps, most_steps, brought}
+use Rattle.wb_history.specs.Passes.{PassValue, AddsNothing, brought}
+use Rattle.wb_history.specs.Replies.{Becomes, OutcomeSteps, most_steps}
 use Rattle.wb_host.specs.declared.reply.Reply.{Reply}
 use Rattle.wb_host.specs.declared.reply.Reply.TheVariants.{New, Again, Clash}
 use Rattle.wb_host.specs.declared.reply.BoardFault.{BoardFault}

@@ -2,10 +2,8 @@
 ghost use Rattle.std.specs.Prelude.{◌≡◌, ◌≢◌, ◌+◌, ◌*◌, ◌<◌, ◌≤◌, ◌⊎◌, [], Err, IfOk, IfErr, IsOk, OnOk, OnErr, MatchResult, length};
 ghost use mathlib.Core.List.{IsPrefix};
 ghost use Rattle.wb_names.specs.History.{HoldsName};
-ghost use Rattle.wb_history.specs.Sizes.{member_steps};
 ghost use Rattle.wb_history.specs.Lists.{longer};
-ghost use Rattle.wb_history.specs.Passes.{IsPassOf, IsSamePass, IsSound, KeepsRows, AddsNothing, IsCaughtUp};
-ghost use Rattle.wb_history.specs.Replies.{brought};
+ghost use Rattle.wb_history.specs.Passes.{IsOpened, IsPassOf, IsSamePass, IsSound, IsTold, IsCaughtUp, ReadsOn};
 ghost use Rattle.wb_history.specs.Sharing.{IsSplit, IsSplitFault, IsJoined};
 ghost use Rattle.wb_history.specs.declared.history.OpenFault.TheVariants as opening;
 ghost use Rattle.wb_history.specs.declared.parts.SplitFault.TheVariants as splitting;
@@ -39,7 +37,7 @@ impl Board {
     ///
     /// Refused with `Cells`, just where the number is not from 1 to 65,535, or `Memory`.
     pub fn open(alloc: Global, cells: u32) -> Result<(Board, Desk), OpenFault>
-        ensures opened { IfOk result (λ t. IsPassOf t.0 t.1 × (t.1.cells ≡ cells) × (t.1.seen ≡ []) × (t.1.mine ≡ []) × (t.1.free ≡ cells) × (t.1.steps ≡ 0) × (t.0.cells ≡ cells) × IsSound t.1) }
+        ensures opened { IfOk result (λ t. IsOpened cells t.0 t.1) }
         ensures refused { (cells ≡ 0) ⊎ (65535 < cells) → result ≡ Err opening.Cells }
         ensures admitted { 0 < cells → cells ≤ 65535 → result ≢ Err opening.Cells }
     {
@@ -84,8 +82,8 @@ impl Board {
     pub fn meet(&self, alloc: Global, first: &mut Desk, second: &mut Desk) -> Result<(), AllocError>
         requires desks { IsPassOf self.now first.old × IsPassOf self.now second.old }
         ensures sound { IsSound first.new × IsSound second.new }
-        ensures first { IsSamePass first.old first.new × KeepsRows first.old first.new × IsPrefix first.old.seen first.new.seen × (first.new.steps ≡ first.old.steps) }
-        ensures second { IsSamePass second.old second.new × KeepsRows second.old second.new × IsPrefix second.old.seen second.new.seen × (second.new.steps ≡ second.old.steps) }
+        ensures first { IsTold first.old first.new }
+        ensures second { IsTold second.old second.new }
         ensures met { OnOk result ((first.new.seen ≡ second.new.seen) × (second.new.seen ≡ longer second.old.seen first.old.seen)) }
         ensures refused { OnErr result ((first.new ≡ first.old) × (second.new ≡ second.old)) }
     {
@@ -126,14 +124,9 @@ impl Board {
     /// Reads the history to its end. After a fault the desk may have seen more.
     pub(crate) fn refresh(&self, desk: &mut Desk) -> Result<(), AllocError>
         requires desk { IsPassOf self.now desk.old }
-        ensures same { IsSamePass desk.old desk.new }
+        ensures reads { ReadsOn desk.old desk.new }
         ensures cells { desk.new.cells ≡ self.now.cells }
-        ensures sound { IsSound desk.new }
-        ensures grows { IsPrefix desk.old.seen desk.new.seen }
-        ensures nothing { AddsNothing desk.old desk.new }
         ensures end { OnOk result (IsCaughtUp desk.old desk.new) }
-        ensures steps { desk.new.made ≡ desk.old.made + desk.new.steps }
-        ensures few_steps { desk.new.steps ≤ member_steps * brought desk.old desk.new + 1 }
     {
         self.history.refresh(&mut desk.pass)?;
         Ok(())

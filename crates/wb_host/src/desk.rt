@@ -15,7 +15,7 @@ ghost use Rattle.wb_host.specs.Missing.{is_unasked, names_in_gaps};
 use crate::board::Board;
 use crate::held::Held;
 use crate::keeper::Keeper;
-use crate::layers::{Layers, bring_up, lent};
+use crate::layers::{Layers, bring_up, shown_on};
 use indexmap::IndexMap;
 use std::alloc::{AllocError, Global};
 use std::marker::Model;
@@ -51,7 +51,7 @@ impl Model for Desk {
 impl Desk {
     ghost use Rattle.wb_host.specs.Board.{IsAnswer, AskView, Shown};
     ghost use Rattle.wb_host.specs.Desks.{ReadsOn};
-    ghost use Rattle.wb_host.specs.Lending.{EndsAs};
+    ghost use Rattle.wb_host.specs.Borrows.{EndsAs};
 
     /// The desk of a pass, on which no page was viewed.
     pub(crate) fn new(alloc: Global, pass: Pass) -> Desk
@@ -79,7 +79,7 @@ impl Desk {
     {
         board.refresh(self)?;
         bring_up(&mut self.layers, alloc, page, self.pass.list())?;
-        Ok(lent(&self.layers, page))
+        Ok(shown_on(&self.layers, page))
     }
 
     /// Which numbers of a page are missing, of what it has seen.
@@ -92,7 +92,7 @@ impl Desk {
         ensures same { self.new ≡ self.old }
         ensures gaps { IfOk result (λ gaps. AreGaps self.old.seen page marks.now gaps.items) }
     {
-        self.held.catch_up(self.pass.list())?;
+        self.held.catch_up(&self.pass)?;
         let gaps = self.held.holdings.gaps(alloc, page, marks)?;
         Ok(gaps)
     }
@@ -109,7 +109,7 @@ impl Desk {
         ensures same { self.new ≡ self.old }
         ensures names { IfOk result (λ names. (gaps : List Gap) × AreGaps self.old.seen page (marks_at keeper.now.marks page) gaps × (names.items ≡ take room (filter (is_unasked (timers_in keeper.now.recovery)) (names_in_gaps page gaps)))) }
     {
-        self.held.catch_up(self.pass.list())?;
+        self.held.catch_up(&self.pass)?;
         let gaps = self.held.holdings.missing(page, keeper.marks(page));
         keeper.unasked(alloc, page, gaps, room)
     }
@@ -119,7 +119,7 @@ impl Desk {
         ensures same { self.new ≡ self.old }
         ensures report { IfOk result (λ marks. IsReport self.old.seen page marks) }
     {
-        self.held.catch_up(self.pass.list())?;
+        self.held.catch_up(&self.pass)?;
         let marks = self.held.holdings.report(alloc, page)?;
         Ok(marks)
     }
@@ -129,7 +129,7 @@ impl Desk {
         ensures same { self.new ≡ self.old }
         ensures reports { IfOk result (λ reports. AreReports self.old.seen reports.items) }
     {
-        self.held.catch_up(self.pass.list())?;
+        self.held.catch_up(&self.pass)?;
         let reports = self.held.holdings.reports(alloc)?;
         Ok(reports)
     }
@@ -139,7 +139,7 @@ impl Desk {
         ensures same { self.new ≡ self.old }
         ensures pages { IfOk result (λ pages. ArePages self.old.seen pages.items) }
     {
-        self.held.catch_up(self.pass.list())?;
+        self.held.catch_up(&self.pass)?;
         let pages = self.held.holdings.pages(alloc)?;
         Ok(pages)
     }

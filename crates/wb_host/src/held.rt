@@ -1,11 +1,11 @@
 //! What a desk holds of its list, by page, source and number.
-ghost use Rattle.std.specs.Prelude.{◌≡◌, [], OnOk, length};
-ghost use Rattle.wb_names.specs.Values.{DrawopValue};
+ghost use Rattle.std.specs.Prelude.{◌≡◌, ◌≤◌, [], OnOk, length};
+ghost use Rattle.wb_gaps.specs.Holdings.{HoldNamesOf};
 ghost use Rattle.wb_host.specs.Held.{HoldsFirst};
 
 use std::alloc::{AllocError, Global};
 use wb_gaps::Holdings;
-use wb_names::Drawop;
+use wb_history::Pass;
 
 /// What is held of a beginning of the list, and how many drawops that is.
 #[derive(Drop)]
@@ -25,12 +25,14 @@ impl Held {
         }
     }
 
-    /// Takes in what came since. Where memory is refused, it holds what it has taken in.
-    pub(crate) fn catch_up(&mut self, list: &[Drawop]) -> Result<(), AllocError>
-        requires { HoldsFirst list.now self.old }
-        ensures holds { HoldsFirst list.now self.new }
-        ensures up { OnOk result (self.new.taken ≡ length list.now) }
+    /// Takes in what the pass has seen since. Where memory is refused, it holds what it has taken in.
+    pub(crate) fn catch_up(&mut self, pass: &Pass) -> Result<(), AllocError>
+        requires { HoldsFirst pass.now.seen self.old }
+        ensures holds { HoldsFirst pass.now.seen self.new }
+        ensures all { OnOk result (HoldNamesOf pass.now.seen self.new.holdings) }
+        ensures few { length self.new.holdings ≤ 65535 }
     {
+        let list = pass.list();
         for place in self.taken..list.len() {
             self.holdings.put(&list[place])?;
             self.taken = place + 1;

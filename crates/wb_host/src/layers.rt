@@ -2,8 +2,8 @@
 //! list.
 ghost use Rattle.std.specs.Prelude.{◌≡◌, [], OnOk, IsSome, Some, length};
 ghost use Rattle.wb_display.specs.Display.{IsView};
-ghost use Rattle.wb_host.specs.Layers.{StandsAt, AllStand, IsUpTo, layer_of};
-ghost use Rattle.wb_host.specs.declared.layers.Standing.{Standing as StandingValue};
+ghost use Rattle.wb_host.specs.Layers.{HasTakenIn, AreLayersOf, IsUpTo, layer_of};
+ghost use Rattle.wb_host.specs.declared.layers.PageLayer.{PageLayer as PageLayerValue};
 
 use indexmap::IndexMap;
 use std::alloc::{AllocError, Global};
@@ -12,20 +12,20 @@ use wb_names::{Drawop, PageId};
 
 /// A layer, and how many drawops of the list it has taken in.
 #[derive(Drop)]
-pub(crate) struct Standing {
+pub(crate) struct PageLayer {
     layer: Layer,
     taken: usize,
 }
 
 /// The layers by page.
-pub(crate) type Layers = IndexMap<PageId, Standing>;
+pub(crate) type Layers = IndexMap<PageId, PageLayer>;
 
-impl Standing {
+impl PageLayer {
     /// The layer of a page, which has taken in nothing.
-    fn new(alloc: Global, page: PageId) -> Standing
+    fn new(alloc: Global, page: PageId) -> PageLayer
         ensures { (result.layer ≡ record { page = page; held = [] }) × (result.taken ≡ 0) }
     {
-        Standing {
+        PageLayer {
             layer: Layer::new(alloc, page),
             taken: 0,
         }
@@ -33,9 +33,9 @@ impl Standing {
 
     /// Puts what came since, all at once, and nothing else. Where memory is refused nothing was put.
     fn catch_up(&mut self, list: &[Drawop]) -> Result<(), AllocError>
-        requires { StandsAt list.now self.old.layer.page self.old }
+        requires { HasTakenIn list.now self.old.layer.page self.old }
         ensures page { self.new.layer.page ≡ self.old.layer.page }
-        ensures stands { StandsAt list.now self.old.layer.page self.new }
+        ensures taken { HasTakenIn list.now self.old.layer.page self.new }
         ensures up { OnOk result (self.new.taken ≡ length list.now) }
     {
         self.layer.put_all(&list[self.taken..])?;
@@ -52,24 +52,24 @@ pub(crate) fn bring_up(
     page: PageId,
     list: &[Drawop],
 ) -> Result<(), AllocError>
-    requires { AllStand list.now layers.old.entries }
-    ensures stand { AllStand list.now layers.new.entries }
+    requires { AreLayersOf list.now layers.old.entries }
+    ensures layers { AreLayersOf list.now layers.new.entries }
     ensures up { OnOk result (IsUpTo list.now page layers.new.entries) }
 {
-    if let Some(standing) = layers.get_mut(&page) {
-        return standing.catch_up(list);
+    if let Some(page_layer) = layers.get_mut(&page) {
+        return page_layer.catch_up(list);
     }
     layers.reserve(1)?;
-    let mut standing = Standing::new(alloc, page);
-    standing.catch_up(list)?;
-    layers.insert(page, standing).unwrap();
+    let mut page_layer = PageLayer::new(alloc, page);
+    page_layer.catch_up(list)?;
+    layers.insert(page, page_layer).unwrap();
     Ok(())
 }
 
 /// What the layer of a page shows.
-pub(crate) fn lent(layers: &Layers, page: PageId) -> &[Drawop]
+pub(crate) fn shown_on(layers: &Layers, page: PageId) -> &[Drawop]
     requires { IsSome (layer_of layers.now.entries page) }
-    ensures { (s : StandingValue) → layer_of layers.now.entries page ≡ Some s → IsView s.layer.held s.layer.page result.now }
+    ensures { (s : PageLayerValue) → layer_of layers.now.entries page ≡ Some s → IsView s.layer.held s.layer.page result.now }
 {
     layers.get(&page).unwrap().layer.shown()
 }

@@ -25,4 +25,4 @@ pub returns-clause-opened : goal.returns-clause-opened
 returns-clause-opened c =
     let m = c.in-Ok-make.ensures in
     let cells = ap (λ (x : Me DrawopValue Knowledge). x.0.cells) m.2 in
-    (m.1, cells, c.new.ensures, c.new-2.ensures.items, (ap length c.in-Ok.ensures ∙ length-range_with_len 0 c.args.cells), refl, m.0, sound (record { seat = c.in-Ok-make.seat; seen = c.new.result; mine = c.new-2.result; free = c.in-Ok.free; steps = 0 }) (invariant_of-pass c).0)
+    record { pass = m.1; sized = (m.0, cells); seen = c.new.ensures; mine = c.new-2.ensures.items; free = ap length c.in-Ok.ensures ∙ length-range_with_len 0 c.args.cells; steps = refl; sound = sound (record { seat = c.in-Ok-make.seat; seen = c.new.result; mine = c.new-2.result; free = c.in-Ok.free; steps = 0 }) (invariant_of-pass c).0 }

@@ -19,4 +19,4 @@ returns-clause-answers c =
     let me = c.args.self.now.me in
     let datagram = c.args.datagram.now in
     let sent = c.in_ok-sent.sent.items in
-    subst (λ (q : PassValue). sent ≡ answers_to me q.seen datagram) (sym c.in_ok-sent.ensures.same) (only_sent me c.refresh-2.new.desk datagram sent c.refresh-2.ensures.sound c.in_ok-sent.ensures.sent)
+    subst (λ (q : PassValue). sent ≡ answers_to me q.seen datagram) (sym c.in_ok-sent.ensures.same) (only_sent me c.refresh-2.new.desk datagram sent c.refresh-2.ensures.reads.sound c.in_ok-sent.ensures.sent)
