@@ -1,6 +1,6 @@
 -- The last word on a drawop decides whether it is shown, and on one page the order of display tells drawops apart.
 use Rattle.std.proofs.Common.{◌≡◌, ℕ, List, [], ◌∷◌, ◌++◌, refl, ap, ◌∙◌, sym, subst, ⊎_elim, eqb-true, ◌<◌, ◌≤◌, length, get_or, arith, ◌+◌, take, append-nil}
-use Rattle.std.specs.Prelude.{Bool, true, false, cond, ◌&&◌, Contains, Option, Some, None, nat_eq, ◌≢◌, not, AllPairs, filter}
+use Rattle.std.specs.Prelude.{Bool, true, false, cond, ◌&&◌, Contains, Option, Some, None, ◌≢◌, not, AllPairs, filter}
 use Rattle.std.specs.declared.cmp.Ordering.{Ordering}
 use Rattle.std.specs.declared.cmp.Ordering.TheVariants.{Less, Equal, Greater}
 use Rattle.std.specs.Cmp.{IsTotalOrder, nat_cmp_total}

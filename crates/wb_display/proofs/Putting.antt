@@ -1,7 +1,7 @@
 -- What one more drawop changes of a view.
 use Rattle.std.proofs.Common.{◌≡◌, List, [], ◌∷◌, ◌++◌, refl, ap, ◌∙◌, sym, subst, ⊎_elim, append-nil, append_assoc, arith, ℕ, ◌<◌, length, get_or, length-append}
 use Rattle.std.proofs.lemmas.Bool.Decides.{nat_tests}
-use Rattle.std.specs.Prelude.{◌≢◌, ◌↔◌, Bool, true, false, ◌&&◌, Contains, Option, Some, None, unwrap_or, not, All}
+use Rattle.std.specs.Prelude.{◌≢◌, ◌↔◌, Bool, true, false, ◌&&◌, Contains, Option, Some, None, unwrap_or, All}
 use Rattle.std.specs.Ordering.{is_eq, is_lt}
 use Rattle.std.proofs.lemmas.List.Elements.{Contains-append_left, Contains-push, Contains-push_cases, All-contains}
 use Rattle.std.proofs.lemmas.Bool.{and_parts, and_right, both_ways, false_from_ne_true, and_from, not-false, not-true, not_from_false}

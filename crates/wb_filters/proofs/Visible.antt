@@ -4,7 +4,7 @@ use Rattle.std.specs.Prelude.{slice_index, All, map, flat_map, decimal, codes, n
 use Rattle.std.specs.Char.{digit_value}
 use Rattle.std.specs.List.{list_all}
 use Rattle.std.specs.Str.Parse.{AllDigits}
-use Rattle.std.proofs.lemmas.Bool.{leb-true}
+use Rattle.std.proofs.lemmas.Bool.{and_parts, leb-true}
 use Rattle.std.proofs.lemmas.Bool.Decides.{nat_tests}
 use Rattle.std.proofs.lemmas.List.Elements.{All-head, All-tail}
 use Rattle.hex.specs.Hex.{IsBytes, hex_digit_value, lower_digits, encode_with, encode_lower}
@@ -25,7 +25,7 @@ use Rattle.wb_codec.specs.Spelling.{spelling}
 use Rattle.wb_codec.proofs.Lawful.{lawful_stroke, lawful_text}
 use Rattle.wb_words.specs.Words.{words, joined, is_special}
 use Rattle.wb_words.specs.Spelling.{page_word, mark_word, echo_word, escaped, quoted, stroke_words, target_words, kind_word, field_words, op_words, name_words, spelled, tailed}
-use Rattle.wb_words.proofs.Numerals.{both, decimal_digits}
+use Rattle.wb_words.proofs.Numerals.{decimal_digits}
 use Rattle.wb_words.proofs.Appending.{joined_tailed, tailed_words}
 use Rattle.wb_lines.specs.Ahead.{NoLineFeed}
 use Rattle.wb_filters.specs.declared.carrier.Carrier.{Carrier}
@@ -84,7 +84,7 @@ encoded (b ∷ bytes) h =
 
 tested : (word : List ℕ) → list_all (nat_le 32) word ≡ true → AllSeen word
 tested [] e = tt
-tested (b ∷ word) e = let p = both (nat_le 32 b) (list_all (nat_le 32) word) e in (leb-true 32 b p.0, tested word p.1)
+tested (b ∷ word) e = let p = and_parts (nat_le 32 b) (list_all (nat_le 32) word) e in (leb-true 32 b p.0, tested word p.1)
 
 text_of : (word : List ℕ) → list_all (nat_le 32) word ≡ true → Visible word
 text_of word e = record { each = tested word e }
@@ -174,8 +174,8 @@ quotes text h = put 34 (flat_map escaped text ++ 34 ∷ []) (omega arith) (cat (
 printed : (text : List ℕ) → list_all is_printable text ≡ true → AllSeen text
 printed [] e = tt
 printed (b ∷ text) e =
-    let p = both (is_printable b) (list_all is_printable text) e in
-    let q = both (nat_le 32 b) (nat_le b 126) p.0 in
+    let p = and_parts (is_printable b) (list_all is_printable text) e in
+    let q = and_parts (nat_le 32 b) (nat_le b 126) p.0 in
     (leb-true 32 b q.0, printed text p.1)
 
 glyph_seen : (s : Stroke) → stroke_fault s ≡ None → 32 ≤ s.glyph

@@ -10,9 +10,7 @@ use Rattle.wb_names.specs.Kinds.{op_kind, kind_with-key, kind_with-is}
 use Rattle.wb_names.specs.declared.name.PageId.{PageId}
 use Rattle.wb_names.specs.declared.echo.Echo.{Echo}
 use Rattle.wb_names.specs.declared.fault.FieldFault.{FieldFault}
-use Rattle.wb_names.specs.declared.parts.Figure.{Figure}
 use Rattle.wb_names.specs.declared.parts.Stroke.{Stroke}
-use Rattle.wb_names.specs.declared.parts.Change.{Change}
 use Rattle.wb_names.specs.declared.parts.Target.{Target}
 use Rattle.wb_names.specs.declared.parts.OpKind.{OpKind}
 use Rattle.wb_names.specs.declared.parts.OpKind.TheVariants as kinds
@@ -27,10 +25,10 @@ use Rattle.wb_codec.proofs.Lawful.{IsStroke, lawful_stroke, lawful_text}
 use Rattle.wb_words.specs.declared.fault.WordFault.{WordFault}
 use Rattle.wb_words.specs.declared.fault.WordFault.TheVariants as faults
 use Rattle.wb_words.specs.declared.fault.WrongWord.{WrongWord}
-use Rattle.wb_words.specs.Words.{words, joined, most32, most64, number_in, page_in, glyph_in, text_in}
+use Rattle.wb_words.specs.Words.{words, joined, most32, most64, number_in, glyph_in, text_in}
 use Rattle.wb_words.specs.Spelling.{page_word, mark_word, echo_word, quoted, stroke_words, kind_word, field_words, op_words, name_words, word_list}
-use Rattle.wb_words.specs.Reading.{◌>>=◌, said, in_range, word_at, end_at, number_at, page_at, glyph_at, text_at, name_at, named, drawn, stroke_at, figure_at, written_at, change_at, kind_in, fields_at, op_at, drawop_at, mark_at, echo_at, is_echo, left_at, marks_at, echoes_at, draw_at, session_at, request_at, ask_pages_at, page_state_at, datagram_at, reading_of}
-use Rattle.wb_words.proofs.Numerals.{number_takes, number_again}
+use Rattle.wb_words.specs.Reading.{◌>>=◌, said, in_range, word_at, end_at, number_at, page_at, glyph_at, text_at, name_at, drawn, stroke_at, figure_at, written_at, change_at, kind_in, fields_at, op_at, drawop_at, mark_at, echo_at, is_echo, left_at, marks_at, echoes_at, draw_at, session_at, request_at, ask_pages_at, page_state_at, datagram_at, reading_of}
+use Rattle.wb_words.proofs.Numerals.{number_again}
 use Rattle.wb_words.proofs.Parting.{NoSpaces, words_joined, text_words}
 use Rattle.wb_words.proofs.TextLaws.{text_takes, text_again}
 use Rattle.wb_words.proofs.EntryLists.{Reads, found, gives, weaker, step, list_reads, entries_back, Stopped}

@@ -1,6 +1,6 @@
 -- Texts in quotes: what is read is the text that was quoted, and what was quoted is read again.
 use Rattle.std.proofs.Common.{◌≡◌, ℕ, Bool, true, false, cond, Some, None, List, [], ◌∷◌, ◌++◌, length, refl, sym, ap, ◌∙◌, append_assoc, append-nil}
-use Rattle.std.specs.Prelude.{nat_eq, flat_map, ◌||◌}
+use Rattle.std.specs.Prelude.{nat_eq, flat_map}
 use Rattle.std.proofs.lemmas.Bool.{eqb-true, or_from, or_parts}
 use Rattle.std.proofs.lemmas.List.{nil_from_length}
 use Rattle.wb_words.specs.Words.{is_special, text_after, text_in}

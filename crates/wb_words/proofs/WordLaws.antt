@@ -1,5 +1,5 @@
 -- What one word says is spelled so, and what is spelled so is read.
-use Rattle.std.proofs.Common.{◌≡◌, ℕ, ◌^◌, ◌<◌, ◌≤◌, Bool, true, false, Option, Some, None, List, [], ◌∷◌, ◌++◌, Ok, Result, refl, sym, ap, subst, ◌∙◌, arith}
+use Rattle.std.proofs.Common.{◌≡◌, ℕ, ◌^◌, ◌<◌, ◌≤◌, Bool, true, false, Option, Some, None, List, [], ◌∷◌, ◌++◌, Ok, Result, refl, ap, ◌∙◌, arith}
 use Rattle.std.specs.Prelude.{nat_eq, All, decimal, is_some, IfSome}
 use Rattle.std.proofs.lemmas.List.Elements.{All-cons, All-append}
 use Rattle.wb_names.specs.Values.{MarkValue}

@@ -1,7 +1,7 @@
 use Rattle.std.proofs.Common.{◌++◌, ◌∷◌, [], sym, ap, ◌∙◌}
 use Rattle.wb_names.specs.Kinds.{op_kind}
 use Rattle.wb_names.specs.declared.parts.Op.TheVariants.{Text}
-use Rattle.wb_words.specs.Spelling.{kind_word, stroke_words, field_words, op_words, quoted, tailed}
+use Rattle.wb_words.specs.Spelling.{kind_word, stroke_words, field_words, quoted, tailed}
 use Rattle.wb_words.proofs.Appending.{glued, stroke_text, text_text, ok_then}
 use Rattle.wb_words.proofs.writing.put_op.Goals as goal
 
