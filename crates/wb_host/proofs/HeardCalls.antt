@@ -21,11 +21,11 @@ use Rattle.wb_names.specs.declared.echo.Echo.{Echo}
 use Rattle.wb_names.proofs.Orders.{nat_ties, page_ties, same_page-is}
 use Rattle.wb_gaps.specs.Joining.{greater, joined, joined_at}
 use Rattle.wb_gaps.proofs.HeldNumbers.{same_page-here}
-use Rattle.wb_gaps.proofs.JoinedMarks.{is_merge, joined_count, joins_read}
+use Rattle.wb_gaps.proofs.JoinedMarks.{is_merge, joined_count, joins_read, positive_joined}
 use Rattle.wb_gaps.proofs.MergeLength.{merges_all_sources}
 use Rattle.wb_gaps.proofs.Rearranged.{one_merge}
 use Rattle.wb_recovery.specs.Events.{Event, Asked}
-use Rattle.wb_recovery.specs.Standing as timers
+use Rattle.wb_recovery.specs.Accepted as timers
 use Rattle.wb_recovery.specs.Values.{RecoveryValue}
 use Rattle.wb_recovery.specs.declared.tuning.Tuning.{Tuning}
 use Rattle.wb_host.specs.Keeper.{KeeperCall, Hear, newest, is_own, high_in, high_told, high_heard, delay_in, delay_told, delay_to, session_in, session_told, senders_of, remember, told_by, last_heard, distance_by, asked_by, events_of}
@@ -92,12 +92,6 @@ pub keeps_own_datagram : (old new : KeeperValue) (now : ℕ) (d : Datagram) (wor
 keeps_own_datagram old new now d word held e is = keeps_silent old new now d word held old.recovery (own_silent old.me now d word held e) is
     (λ t calls s. subst (λ (events : List Event). timers.StandsFor t events old.recovery) (own_events old.me (delay_to old.me calls) now d word held (events_of old.me calls) e) s.recovery)
 
-pub keeps_draw : (old new : KeeperValue) (now : ℕ) (d : DrawopValue) (word : ℕ) (held : Bool) → new ≡ record old { moment = now } → Keeps (Hear now (Draw d) word held) old new
-keeps_draw old new now d word held is = keeps_silent old new now (Draw d) word held old.recovery (record { delays = λ source. refl; sessions = refl; marks = λ page source. refl; merged = λ page. refl }) is (λ t calls s. s.recovery)
-
-pub keeps_ask_pages : (old new : KeeperValue) (now asker word : ℕ) (held : Bool) → nat_eq asker old.me ≡ false → new ≡ record old { moment = now } → Keeps (Hear now (AskPages asker) word held) old new
-keeps_ask_pages old new now asker word held e is = keeps_silent old new now (AskPages asker) word held old.recovery (other_silent old.me now (AskPages asker) word held e (λ source. refl) refl (λ page source. refl) (λ page. refl)) is (λ t calls s. s.recovery)
-
 -- a request is told to the timers
 pub keeps_request : (old new : KeeperValue) (now asker : ℕ) (name : NameValue) (word : ℕ) (held : Bool) (recovery : RecoveryValue) (delay : ℕ) → nat_eq asker old.me ≡ false → new ≡ record old { moment = now; recovery = recovery }
     → delay ≡ delay_at old.delays (cond held asker name.source) → timers.Accepts (Asked name held now delay word) old.recovery recovery → Keeps (Hear now (Request asker name) word held) old new
@@ -135,30 +129,6 @@ marks_put old page (Some merged) p = ap (λ (o : Option (List MarkValue)). unwra
   from true = refl
   from false = refl
 
-abbrev Positive : List MarkValue → Type 0
-Positive marks = All (λ m. 1 ≤ m.high) marks
-
-at_positive : (m : MarkValue) (ms : List MarkValue) → Positive (m ∷ ms) → ((ns : List MarkValue) → Positive ns → Positive (joined ms ns)) → (ns : List MarkValue) → Positive ns → Positive (joined_at m ms (joined ms) ns)
-at_positive m ms pm more [] pn = pm
-at_positive m ms pm more (n ∷ ns) pn = from (nat_lt m.source n.source) (nat_lt n.source m.source) (at_positive m ms pm more ns (tail n ns pn)) where
-  tail : (k : MarkValue) (ks : List MarkValue) → Positive (k ∷ ks) → Positive ks
-  tail k ks p = All-tail (λ (x : MarkValue). 1 ≤ x.high) k ks p
-
-  head : (k : MarkValue) (ks : List MarkValue) → Positive (k ∷ ks) → 1 ≤ k.high
-  head k ks p = All-head (λ (x : MarkValue). 1 ≤ x.high) k ks p
-
-  both : (k : MarkValue) (ks : List MarkValue) → 1 ≤ k.high → Positive ks → Positive (k ∷ ks)
-  both k ks p ps = All-cons (λ (x : MarkValue). 1 ≤ x.high) k ks p ps
-
-  from : (a b : Bool) → Positive (joined_at m ms (joined ms) ns) → Positive (cond a (m ∷ joined ms (n ∷ ns)) (cond b (n ∷ joined_at m ms (joined ms) ns) (greater m n ∷ joined ms ns)))
-  from true b rest = both m (joined ms (n ∷ ns)) (head m ms pm) (more (n ∷ ns) pn)
-  from false true rest = both n (joined_at m ms (joined ms) ns) (head n ns pn) rest
-  from false false rest = both (greater m n) (joined ms ns) (let h : 1 ≤ m.high = head m ms pm in omega arith) (more ns (tail n ns pn))
-
-joined_positive : (ms ns : List MarkValue) → Positive ms → Positive ns → Positive (joined ms ns)
-joined_positive [] ns pm pn = pn
-joined_positive (m ∷ ms) ns pm pn = at_positive m ms pm (λ ns pn. joined_positive ms ns (All-tail (λ (x : MarkValue). 1 ≤ x.high) m ms pm) pn) ns pn
-
 -- the marks are told for one page
 module _ (old : List (PageId × List MarkValue)) (page : PageId) (marks : List MarkValue) (merged : Option (List MarkValue)) (is : IsMerged (marks_at old page) marks merged) where
   pub marks_of_put : (p : PageId) (source : ℕ) → mark_of (marks_at (marks_with page merged old) p) source ≡ max (cond (same_page page p) (mark_of marks source) 0) (mark_of (marks_at old p) source)
@@ -175,7 +145,7 @@ module _ (old : List (PageId × List MarkValue)) (page : PageId) (marks : List M
       let few = is.merges.0.few in
       record {
         ascending = (joins_read marks (marks_at old page) marks (marks_at old page) (joined marks (marks_at old page)) refl refl is.told_are is.heard_are refl).rises;
-        positive = joined_positive marks (marks_at old page) is.told_are.positive is.heard_are.positive;
+        positive = positive_joined marks is.told_are.positive (marks_at old page) is.heard_are.positive;
         few = omega (arith, count.0);
       }
 
