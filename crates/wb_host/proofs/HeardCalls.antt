@@ -9,7 +9,7 @@ use Rattle.std.specs.declared.cmp.Ordering.TheVariants.{Less, Equal, Greater}
 use Rattle.std.specs.BTreeMap.{is_at, insert_entry}
 use Rattle.std.specs.Map.{lookup}
 use Rattle.std.proofs.lemmas.Bool.Decides.{nat_tests}
-use Rattle.wb_names.specs.Values.{NameValue, DrawopValue, MarkValue}
+use Rattle.wb_names.specs.Values.{NameValue, MarkValue}
 use Rattle.wb_names.specs.Orders.{page_cmp, same_page}
 use Rattle.wb_names.specs.Marks.{mark_of, IsMerge}
 use Rattle.wb_names.specs.Ascending.{AreMarks}
@@ -20,11 +20,11 @@ use Rattle.wb_names.specs.declared.echo.Echo.{Echo}
 use Rattle.wb_names.proofs.Orders.{nat_ties, page_ties, same_page-is}
 use Rattle.wb_gaps.specs.Joining.{joined}
 use Rattle.wb_gaps.proofs.HeldNumbers.{same_page-here}
-use Rattle.wb_gaps.proofs.JoinedMarks.{is_merge, joined_count, joins_read}
+use Rattle.wb_gaps.proofs.JoinedMarks.{is_merge, joined_count, joins_read, positive_joined}
 use Rattle.wb_gaps.proofs.MergeLength.{merges_all_sources}
 use Rattle.wb_gaps.proofs.Rearranged.{one_merge}
 use Rattle.wb_recovery.specs.Events.{Event, Asked}
-use Rattle.wb_recovery.specs.Standing as timers
+use Rattle.wb_recovery.specs.Accepted as timers
 use Rattle.wb_recovery.specs.Values.{RecoveryValue}
 use Rattle.wb_recovery.specs.declared.tuning.Tuning.{Tuning}
 use Rattle.wb_host.specs.Keeper.{KeeperCall, Hear, newest, is_own, high_in, high_told, high_heard, delay_in, delay_told, delay_to, session_in, session_told, senders_of, remember, told_by, last_heard, distance_by, asked_by, events_of}
@@ -90,12 +90,6 @@ own_events me delays now (PageState sender page marks) word held events e = refl
 pub keeps_own_datagram : (old new : KeeperValue) (now : ℕ) (d : Datagram) (word : ℕ) (held : Bool) → is_own old.me d ≡ true → new ≡ record old { moment = now } → Keeps (Hear now d word held) old new
 keeps_own_datagram old new now d word held e is = keeps_silent old new now d word held old.recovery (own_silent old.me now d word held e) is
     (λ t calls s. subst (λ (events : List Event). timers.StandsFor t events old.recovery) (own_events old.me (delay_to old.me calls) now d word held (events_of old.me calls) e) s.recovery)
-
-pub keeps_draw : (old new : KeeperValue) (now : ℕ) (d : DrawopValue) (word : ℕ) (held : Bool) → new ≡ record old { moment = now } → Keeps (Hear now (Draw d) word held) old new
-keeps_draw old new now d word held is = keeps_silent old new now (Draw d) word held old.recovery (record { delays = λ source. refl; sessions = refl; marks = λ page source. refl; merged = λ page. refl }) is (λ t calls s. s.recovery)
-
-pub keeps_ask_pages : (old new : KeeperValue) (now asker word : ℕ) (held : Bool) → nat_eq asker old.me ≡ false → new ≡ record old { moment = now } → Keeps (Hear now (AskPages asker) word held) old new
-keeps_ask_pages old new now asker word held e is = keeps_silent old new now (AskPages asker) word held old.recovery (other_silent old.me now (AskPages asker) word held e (λ source. refl) refl (λ page source. refl) (λ page. refl)) is (λ t calls s. s.recovery)
 
 -- a request is told to the timers
 pub keeps_request : (old new : KeeperValue) (now asker : ℕ) (name : NameValue) (word : ℕ) (held : Bool) (recovery : RecoveryValue) (delay : ℕ) → nat_eq asker old.me ≡ false → new ≡ record old { moment = now; recovery = recovery }

@@ -17,7 +17,7 @@ use Rattle.wb_recovery.proofs.NameOrder.{name_ties, name_decides}
 use Rattle.wb_names.proofs.Orders.{nat_ties, same_name-is}
 use Rattle.wb_recovery.specs.Values.{RecoveryValue}
 use Rattle.wb_recovery.specs.Events.{Event, Got}
-use Rattle.wb_recovery.specs.Standing as timers
+use Rattle.wb_recovery.specs.Accepted as timers
 use Rattle.wb_recovery.specs.Stopping.{receipts}
 use Rattle.wb_recovery.specs.declared.tuning.Tuning.{Tuning}
 use Rattle.wb_recovery.specs.declared.received.Received.{Received}

@@ -5,7 +5,7 @@ use Rattle.wb_names.specs.Values.{NameValue}
 use Rattle.wb_names.proofs.Listings.{Contains-cases, Contains-none}
 use Rattle.wb_recovery.specs.Timing.{no_timers, ask_due, answer_due, ask_moment, answer_moment, is_set_to, is_standing}
 use Rattle.wb_recovery.specs.Events.{Event, names_of, timers_of, is_due_at, IsNextDue}
-use Rattle.wb_recovery.specs.Standing.{StandsFor}
+use Rattle.wb_recovery.specs.Accepted.{StandsFor}
 use Rattle.wb_recovery.specs.Values.{RecoveryValue, timers_in}
 use Rattle.wb_recovery.specs.declared.timers.AskTimer.{AskTimer}
 use Rattle.wb_recovery.specs.declared.timers.AnswerTimer.{AnswerTimer}

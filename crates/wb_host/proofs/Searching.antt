@@ -14,9 +14,6 @@ module _ {X : Type 0} (key : X → ℕ) (s : ℕ) where
   index_rises : (a b : ℕ) → a ≤ b → ordering_index (nat_cmp a s) ≤ ordering_index (nat_cmp b s)
   index_rises a b le = grind (arith, nat_tests)
 
-  equal_at : (a : ℕ) → ordering_index (nat_cmp a s) ≡ 1 → a ≡ s
-  equal_at a e = grind (arith, nat_tests)
-
   none_found : (xs : List X) → ((k : ℕ) (d : X) → k < length xs → nat_eq (key (get_or xs k d)) s ≡ false) → find (λ x. nat_eq (key x) s) xs ≡ None
   none_found [] h = refl
   none_found (x ∷ xs) h = ap (λ (b : Bool). cond b (Some x) (find (λ x. nat_eq (key x) s) xs)) (h 0 x (omega arith)) ∙ none_found xs (λ k d lt. h (suc k) d (omega arith))

@@ -8,7 +8,7 @@ use Rattle.wb_names.specs.Orders.{page_cmp}
 use Rattle.wb_names.specs.Marks.{mark_of}
 use Rattle.wb_names.specs.declared.name.PageId.{PageId}
 use Rattle.wb_recovery.specs.Values.{RecoveryValue}
-use Rattle.wb_recovery.specs.Standing as timers
+use Rattle.wb_recovery.specs.Accepted as timers
 use Rattle.wb_recovery.specs.declared.tuning.Tuning.{Tuning}
 use Rattle.wb_host.specs.Keeper.{KeeperCall, moment_at, high_heard, delay_to, senders_of, last_heard, events_of}
 use Rattle.wb_host.specs.Hearing.{marks_heard}
@@ -49,7 +49,7 @@ abbrev pub Keeps : KeeperCall → KeeperValue → KeeperValue → Type 0
 Keeps call old new = (me : ℕ) (tuning : Tuning) (calls : List KeeperCall) → StandsFor me tuning calls old → StandsFor me tuning (call ∷ calls) new
 
 -- what holds of every keeper
-pub record IsSound (last : ℕ) (recovery : RecoveryValue) (delays : BTreeMap ℕ ℕ) (heard : BTreeMap ℕ Heard) (none : List MarkValue) : Type 0 where
+pub record IsWithinLimits (last : ℕ) (recovery : RecoveryValue) (delays : BTreeMap ℕ ℕ) (heard : BTreeMap ℕ Heard) (none : List MarkValue) : Type 0 where
   pub moment : last < 2 ^ 48
   pub before : recovery.moment ≤ last
   pub near : (source : ℕ) → delay_at delays.entries source < 2 ^ 24

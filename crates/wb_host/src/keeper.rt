@@ -64,13 +64,13 @@ pub struct Keeper {
 }
 
 impl Model for Keeper {
-    ghost use Rattle.wb_host.specs.Keeping.{KeeperValue, IsSound};
+    ghost use Rattle.wb_host.specs.Keeping.{KeeperValue, IsWithinLimits};
 
     ghost Value = { KeeperValue };
 
     ghost view = { λ k. record { me = k.me; moment = k.moment; recovery = k.recovery; delays = k.delays.entries; heard = k.heard.entries; marks = k.marks.entries } };
 
-    ghost invariant = { λ k. IsSound k.moment k.recovery k.delays k.heard k.none };
+    ghost invariant = { λ k. IsWithinLimits k.moment k.recovery k.delays k.heard k.none };
 }
 
 impl Keeper {

@@ -7,7 +7,7 @@ use Rattle.wb_names.proofs.Orders.{same_name-is}
 use Rattle.wb_recovery.specs.Values.{RecoveryValue, timers_at, timers_in, names_in, Replaces}
 use Rattle.wb_recovery.specs.Events.{Event, moment_of, timers_of}
 use Rattle.wb_recovery.specs.Timing.{is_standing, got}
-use Rattle.wb_recovery.specs.Standing.{Accepts}
+use Rattle.wb_recovery.specs.Accepted.{Accepts}
 use Rattle.wb_recovery.specs.declared.tuning.Tuning.{Tuning}
 use Rattle.wb_recovery.specs.declared.timers.Timers.{Timers}
 

@@ -10,14 +10,14 @@ use Rattle.wb_names.proofs.Listings.{lists_same}
 use Rattle.wb_recovery.specs.Timing.{ask_due, answer_due, ask_moment, answer_moment, is_ask_due, is_answer_due, is_set_to}
 use Rattle.wb_recovery.specs.Alarms.{is_until, CountsAll, CountsUntil, IsFirst}
 use Rattle.wb_recovery.specs.Values.{RecoveryValue, timers_in, names_in}
-use Rattle.wb_recovery.specs.Events.{asking, due_asks, due_answers, is_due_at, IsNextDue}
+use Rattle.wb_recovery.specs.Events.{asking, due_asks, is_due_at, IsNextDue}
 use Rattle.wb_recovery.specs.declared.timers.AskTimer.{AskTimer}
 use Rattle.wb_recovery.specs.declared.timers.AnswerTimer.{AnswerTimer}
 use Rattle.wb_recovery.specs.declared.timers.Timers.{Timers}
 use Rattle.wb_recovery.proofs.AlarmReads.{is_set_to-here, is_set_to-is}
 use Rattle.wb_recovery.proofs.NameLists.{listed_in}
 
-is_some_ask : (o : Option AskTimer) → is_some (ask_moment o) ≡ is_some o
+pub is_some_ask : (o : Option AskTimer) → is_some (ask_moment o) ≡ is_some o
 is_some_ask None = refl
 is_some_ask (Some a) = refl
 
@@ -35,9 +35,6 @@ module _ (value : RecoveryValue) (rises : IsStrictlySortedBy name_cmp (names_in 
 
   pub list_due_asks : (now : ℕ) → Lists name_cmp (λ n. is_until now (ask_due (timers_in value n)) ≡ true) (due_asks (names_in value) (timers_in value) now)
   list_due_asks now = lists_same name_total _ _ _ (λ n h. until_ask now (timers_in value n).ask ∙ h) (λ n h. sym (until_ask now (timers_in value n).ask) ∙ h) (listed_in (λ (s : Timers). is_ask_due now s.ask) refl value rises)
-
-  pub list_due_answers : (now : ℕ) → Lists name_cmp (λ n. is_until now (answer_due (timers_in value n)) ≡ true) (due_answers (names_in value) (timers_in value) now)
-  list_due_answers now = lists_same name_total _ _ _ (λ n h. until_answer now (timers_in value n).answer ∙ h) (λ n h. sym (until_answer now (timers_in value n).answer) ∙ h) (listed_in (λ (s : Timers). is_answer_due now s.answer) refl value rises)
 
   pub count_due : (now k : ℕ) → CountsUntil now (λ n. ask_due (timers_in value n)) k → k ≡ length (due_asks (names_in value) (timers_in value) now)
   count_due now k counts = counts _ (list_due_asks now)

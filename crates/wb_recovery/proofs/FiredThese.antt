@@ -11,7 +11,7 @@ use Rattle.wb_recovery.specs.Stopping.{with_asks_fired, with_these_fired}
 use Rattle.wb_recovery.specs.declared.tuning.Tuning.{Tuning}
 use Rattle.wb_recovery.specs.declared.timers.Timers.{Timers}
 use Rattle.wb_recovery.specs.declared.alarms.Alarms.{Alarms}
-use Rattle.wb_recovery.proofs.Soundness.{keep_alike}
+use Rattle.wb_recovery.proofs.Consistency.{keep_alike}
 
 -- the delays of timers that back off stay
 pub fired_delays : (t : Tuning) (now : ℕ) (words : List ℕ) (asking : List NameValue) (f : NameValue → Timers) → ((n : NameValue) → AreDelays (f n)) → (n : NameValue) → AreDelays (with_asks_fired t now words asking f n)

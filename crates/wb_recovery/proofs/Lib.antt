@@ -4,7 +4,7 @@ pub mod NameOrder
 pub mod AlarmMoves
 pub mod AlarmReads
 pub mod AlarmNames
-pub mod Soundness
+pub mod Consistency
 pub mod Accepting
 pub mod NameLists
 pub mod Counting

@@ -6,7 +6,7 @@ use Rattle.std.specs.List.{AllByRecursion}
 use Rattle.std.specs.List.Sorted.{IsStrictlySortedBy}
 use Rattle.std.specs.BTreeMap.{is_at}
 use Rattle.std.specs.Map.{lookup}
-use Rattle.std.specs.Ordering.{match_ordering, is_eq, ordering_reverse}
+use Rattle.std.specs.Ordering.{match_ordering, ordering_reverse}
 use Rattle.std.specs.declared.cmp.Ordering.{Ordering}
 use Rattle.std.specs.declared.cmp.Ordering.TheVariants.{Less, Equal, Greater}
 use Rattle.std.proofs.lemmas.List.Kept.{IsStrictlySortedBy-filter}
@@ -20,13 +20,10 @@ use Rattle.wb_names.proofs.Listings.{Contains-here, Contains-there, Contains-cas
 use Rattle.wb_recovery.specs.Timing.{no_timers, noticed, asked, got, ticked}
 use Rattle.wb_recovery.specs.Values.{RecoveryValue, timers_in, names_in}
 use Rattle.wb_recovery.specs.Events.{Event, Notice, Asked, Got, Tick, names_of, due_asks, word_for, timers_of}
-use Rattle.wb_recovery.specs.Standing.{StandsFor}
+use Rattle.wb_recovery.specs.Accepted.{StandsFor}
 use Rattle.wb_recovery.specs.declared.tuning.Tuning.{Tuning}
 use Rattle.wb_recovery.specs.declared.timers.Timers.{Timers}
-use Rattle.wb_recovery.proofs.NameOrder.{name_decides}
-
-equal_is : (m n : NameValue) → name_cmp m n ≡ Equal → m ≡ n
-equal_is m n e = (name_decides m n).0 (ap is_eq e)
+use Rattle.wb_recovery.proofs.NameOrder.{name_decides, equal_is}
 
 -- ---- a name put into a rising list
 insert_here : (k : NameValue) (ks : List NameValue) → Contains (insert_key name_cmp ks k) k

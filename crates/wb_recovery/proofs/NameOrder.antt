@@ -4,6 +4,7 @@ use Rattle.std.specs.Prelude.{nat_eq, ◌&&◌}
 use Rattle.std.specs.Bool.{Decides}
 use Rattle.std.specs.Cmp.{eq_by_cmp_equiv}
 use Rattle.std.specs.Ordering.{eq_by_cmp, is_eq, nat_cmp, ordering_then}
+use Rattle.std.specs.declared.cmp.Ordering.TheVariants.{Equal}
 use Rattle.wb_names.specs.Values.{NameValue}
 use Rattle.wb_names.specs.Orders.{name_cmp, page_cmp, same_name, same_page}
 use Rattle.wb_names.proofs.Orders.{name_total, same_name-is, then_is, nat_ties, page_ties}
@@ -23,3 +24,6 @@ name_ties m n =
 
 pub name_decides : (m n : NameValue) → Decides (eq_by_cmp name_cmp m n) (m ≡ n)
 name_decides m n = (λ e. same_name-is m n (name_ties m n ∙ e), λ e. subst (λ (k : NameValue). eq_by_cmp name_cmp m k ≡ true) e ((eq_by_cmp_equiv name_total).refl m))
+
+pub equal_is : (m n : NameValue) → name_cmp m n ≡ Equal → m ≡ n
+equal_is m n e = (name_decides m n).0 (ap is_eq e)

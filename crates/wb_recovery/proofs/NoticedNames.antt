@@ -1,17 +1,13 @@
 -- Notices of many names: a step of them, and how they are taken back.
-use Rattle.std.proofs.Common.{◌≡◌, ℕ, ◌+◌, ◌<◌, ◌^◌, Bool, true, false, cond, Option, Some, None, Result, Ok, Err, List, [], ◌∷◌, ◌++◌, length, get_or, take, refl, ap, ◌∙◌, sym, arith, true≢false}
+use Rattle.std.proofs.Common.{◌≡◌, ℕ, ◌+◌, ◌<◌, Bool, true, false, cond, Option, Some, None, Result, Ok, Err, List, [], ◌∷◌, ◌++◌, length, get_or, take, refl, ap, ◌∙◌, sym, arith, true≢false}
 use Rattle.std.specs.Prelude.{◌&&◌, is_none, is_some, unwrap_or, OnOk, OnErr}
-use Rattle.std.specs.List.{list_all}
 use Rattle.std.specs.List.Sorted.{IsStrictlySortedBy}
 use Rattle.std.specs.BTreeMap.{BTreeMap, get, is_at}
-use Rattle.std.proofs.lemmas.List.Folds.{list_all_at}
 use Rattle.std.proofs.lemmas.List.Sums.{fold_more}
-use Rattle.std.proofs.lemmas.Bool.Decides.{nat_tests}
 use Rattle.wb_names.specs.Values.{NameValue}
 use Rattle.wb_names.specs.Orders.{same_name, name_cmp}
 use Rattle.wb_names.proofs.Orders.{same_name-is}
 use Rattle.wb_recovery.specs.Timing.{no_timers, noticed, new_ask}
-use Rattle.wb_recovery.specs.Faults.{is_delay}
 use Rattle.wb_recovery.specs.Values.{RecoveryValue, record_at, record_in, timers_at, timers_in, names_in, Replaces}
 use Rattle.wb_recovery.specs.Events.{Event, Notice, moment_of, timers_of}
 use Rattle.wb_recovery.specs.Noticing.{notices, unset, unset_at, taken_back}
@@ -21,13 +17,6 @@ use Rattle.wb_recovery.specs.declared.timers.AskTimer.{AskTimer}
 use Rattle.wb_recovery.specs.declared.missed.Missed.{Missed}
 use Rattle.wb_recovery.proofs.NameOrder.{name_ties}
 use Rattle.wb_recovery.proofs.SameRecords.{same_records}
-
--- the delays pass the test one by one
-pub delay_at : (missed : List Missed) (i : ℕ) (m : Missed) → i < length missed → m ≡ get_or missed i m → list_all (λ (m : Missed). is_delay m.delay) missed ≡ true → m.delay < 2 ^ 24
-delay_at missed i m lt is h = from (is_delay m.delay) refl where
-  from : (b : Bool) → is_delay m.delay ≡ b → m.delay < 2 ^ 24
-  from true e = grind (arith, nat_tests)
-  from false e = absurd (true≢false (sym h ∙ list_all_at (λ (m : Missed). is_delay m.delay) missed i m lt (ap (λ (k : Missed). is_delay k.delay) (sym is) ∙ e)))
 
 -- one more notice
 pub notices_more : (now : ℕ) (events : List Event) (missed : List Missed) (i : ℕ) (m : Missed) → i < length missed → m ≡ get_or missed i m → notices now events (take (i + 1) missed) ≡ Notice m.name now m.delay m.word ∷ notices now events (take i missed)

@@ -19,10 +19,7 @@ use Rattle.wb_names.specs.Orders.{name_cmp}
 use Rattle.wb_names.proofs.Orders.{name_total}
 use Rattle.wb_recovery.specs.Values.{record_at}
 use Rattle.wb_recovery.specs.declared.timers.Timers.{Timers}
-use Rattle.wb_recovery.proofs.NameOrder.{name_decides}
-
-equal_is : (m n : NameValue) → name_cmp m n ≡ Equal → m ≡ n
-equal_is m n e = (name_decides m n).0 (ap is_eq e)
+use Rattle.wb_recovery.proofs.NameOrder.{equal_is}
 
 not_none : (v : Timers) → Some v ≡ None → ⊥
 not_none v e = cc

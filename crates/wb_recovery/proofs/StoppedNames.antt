@@ -1,24 +1,21 @@
 -- Names that have come: what becomes of their timers, and what then fires.
-use Rattle.std.proofs.Common.{◌≡◌, ℕ, ◌+◌, ◌*◌, ◌<◌, ◌≤◌, ◌^◌, Bool, true, false, cond, Option, Some, None, List, [], ◌∷◌, length, get_or, take, refl, ap, ◌∙◌, sym, arith, true≢false}
+use Rattle.std.proofs.Common.{◌≡◌, ℕ, ◌+◌, ◌*◌, ◌<◌, ◌≤◌, Bool, true, false, cond, Option, Some, None, List, [], ◌∷◌, length, get_or, take, refl, ap, ◌∙◌, sym, arith, true≢false}
 use Rattle.std.specs.Prelude.{◌||◌, ◌&&◌, not, filter, is_some}
-use Rattle.std.specs.List.{list_all}
 use Rattle.std.specs.List.Sorted.{IsStrictlySortedBy}
 use Rattle.std.specs.Ordering.{is_eq}
-use Rattle.std.proofs.lemmas.List.Folds.{list_any_more, list_all_at}
+use Rattle.std.proofs.lemmas.List.Folds.{list_any_more}
 use Rattle.std.proofs.lemmas.List.Sums.{fold_more}
 use Rattle.std.proofs.lemmas.List.Kept.{IsStrictlySortedBy-filter}
-use Rattle.std.proofs.lemmas.Bool.Decides.{nat_tests}
 use Rattle.wb_names.specs.Values.{NameValue}
 use Rattle.wb_names.specs.Orders.{same_name, name_cmp}
 use Rattle.wb_names.specs.Listing.{Lists}
 use Rattle.wb_names.proofs.Orders.{name_total, same_name-is, and_both}
 use Rattle.wb_names.proofs.Listings.{Contains-filter, Contains-from_filter, one_list, lists_same}
-use Rattle.wb_recovery.specs.Timing.{ask_moment, ask_due, answer_due, got, ticked, is_standing, is_ask_due, is_answer_due, quiet_after}
+use Rattle.wb_recovery.specs.Timing.{ask_due, answer_due, got, ticked, is_standing, is_ask_due, is_answer_due, quiet_after}
 use Rattle.wb_recovery.specs.Alarms.{among, is_until}
-use Rattle.wb_recovery.specs.Faults.{is_delay}
 use Rattle.wb_recovery.specs.Values.{RecoveryValue, timers_at, timers_in, names_in, Replaces}
 use Rattle.wb_recovery.specs.Events.{Event, Got, Tick, names_of, timers_of, asking, due_asks, due_answers, word_for}
-use Rattle.wb_recovery.specs.Standing.{StandsFor}
+use Rattle.wb_recovery.specs.Accepted.{StandsFor}
 use Rattle.wb_recovery.specs.Firing.{with_ask_fired, with_answer_fired}
 use Rattle.wb_recovery.specs.Stopping.{receipts, is_received, got_each, EndsAll, FiresThese, with_these_fired}
 use Rattle.wb_recovery.specs.declared.received.Received.{Received}
@@ -27,7 +24,7 @@ use Rattle.wb_recovery.specs.declared.timers.Timers.{Timers}
 use Rattle.wb_recovery.specs.declared.timers.AskTimer.{AskTimer}
 use Rattle.wb_recovery.specs.declared.timers.AnswerTimer.{AnswerTimer}
 use Rattle.wb_recovery.proofs.NameOrder.{name_ties}
-use Rattle.wb_recovery.proofs.Counting.{until_ask, until_answer}
+use Rattle.wb_recovery.proofs.Counting.{is_some_ask, until_ask, until_answer}
 use Rattle.wb_recovery.proofs.NameLists.{listed_of, listed_in}
 use Rattle.wb_recovery.proofs.DueNames.{among_listed}
 use Rattle.wb_recovery.proofs.FiredTimers.{ask_stays, answer_stays, quiet_stays}
@@ -44,12 +41,6 @@ set_more received i c n lt is old new had r = r ∙ ap (λ (b : Bool). cond b tr
   bits true false = refl
   bits false true = refl
   bits false false = refl
-
-pub received_delay : (received : List Received) (i : ℕ) (c : Received) → i < length received → c ≡ get_or received i c → list_all (λ (c : Received). is_delay c.delay) received ≡ true → c.delay < 2 ^ 24
-received_delay received i c lt is h = from (is_delay c.delay) refl where
-  from : (b : Bool) → is_delay c.delay ≡ b → c.delay < 2 ^ 24
-  from true e = grind (arith, nat_tests)
-  from false e = absurd (true≢false (sym h ∙ list_all_at (λ (c : Received). is_delay c.delay) received i c lt (ap (λ (k : Received). is_delay k.delay) (sym is) ∙ e)))
 
 pub got_more : (now : ℕ) (received : List Received) (i : ℕ) (c : Received) → i < length received → c ≡ get_or received i c → (f mid new : NameValue → Timers)
     → ((n : NameValue) → mid n ≡ got_each now n (f n) (take i received))
@@ -251,13 +242,9 @@ words_left now words value received xs rises l h =
     omega arith
 
 -- the names with a request timer, told of a recovery's alarms
-some_ask : (o : Option AskTimer) → is_some (ask_moment o) ≡ is_some o
-some_ask None = refl
-some_ask (Some a) = refl
-
 pub names_asking : (value : RecoveryValue) → IsStrictlySortedBy name_cmp (names_in value) → (p : NameValue → Bool) (xs : List NameValue) → Lists name_cmp (λ n. (p n && is_some (ask_due (timers_in value n))) ≡ true) xs → xs ≡ filter p (asking (names_in value) (timers_in value))
 names_asking value rises p xs l = one_list name_total _ _ _
     (lists_same name_total _ _ _ (λ n h. sym (same n) ∙ h) (λ n h. same n ∙ h) l)
     (listed_those p (λ n. is_some (timers_in value n).ask) (asking (names_in value) (timers_in value)) (listed_in (λ (s : Timers). is_some s.ask) refl value rises)) where
       same : (n : NameValue) → (p n && is_some (ask_due (timers_in value n))) ≡ (p n && is_some (timers_in value n).ask)
-      same n = ap (λ (b : Bool). p n && b) (some_ask (timers_in value n).ask)
+      same n = ap (λ (b : Bool). p n && b) (is_some_ask (timers_in value n).ask)

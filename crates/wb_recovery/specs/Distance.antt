@@ -3,6 +3,6 @@ use Rattle.std.specs.Prelude.{ℕ, ◌+◌, ◌-◌, ◌/◌, ◌^◌, ◌&&◌,
 
 -- half of the time on the way, where that is below 2^24 microseconds
 abbrev pub distance_of : ℕ → ℕ → ℕ → Option ℕ
-distance_of sent held come =
-    let delay = (come - sent - held) / 2 in
-    if nat_le (sent + held) come && nat_lt delay (2 ^ 24) then Some delay else None
+distance_of sent held now =
+    let delay = (now - sent - held) / 2 in
+    if nat_le (sent + held) now && nat_lt delay (2 ^ 24) then Some delay else None

@@ -4,8 +4,8 @@ pub mod Alarms
 pub mod Distance
 pub mod Events
 pub mod Values
-pub mod Sound
-pub mod Standing
+pub mod Consistent
+pub mod Accepted
 pub mod Firing
 pub mod Laws
 pub mod Noticing

@@ -8,7 +8,7 @@ ghost use Rattle.wb_recovery.specs.Timing.{are_constants, is_standing, AreDelays
 ghost use Rattle.wb_recovery.specs.Values.{record_in, timers_in, names_in, Replaces};
 ghost use Rattle.std.specs.Prelude.{Some as some, None as none};
 ghost use Rattle.wb_recovery.specs.Events.{Event, Notice, Asked, Got, Tick, names_of, timers_of, asking, due_asks, actions_of, IsNextDue};
-ghost use Rattle.wb_recovery.specs.Standing.{StandsFor, Accepts};
+ghost use Rattle.wb_recovery.specs.Accepted.{StandsFor, Accepts};
 ghost use Rattle.wb_recovery.specs.declared.tuning.Tuning.{Tuning as Constants};
 
 mod notices;
@@ -47,13 +47,13 @@ pub struct Recovery {
 
 impl Model for Recovery {
     ghost use Rattle.wb_recovery.specs.Values.{RecoveryValue};
-    ghost use Rattle.wb_recovery.specs.Sound.{IsSound};
+    ghost use Rattle.wb_recovery.specs.Consistent.{IsConsistent};
 
     ghost Value = { RecoveryValue };
 
     ghost view = { λ r. record { tuning = r.tuning; moment = r.moment; records = r.records.entries } };
 
-    ghost invariant = { λ r. IsSound r.tuning r.moment r.records r.asks r.answers };
+    ghost invariant = { λ r. IsConsistent r.tuning r.moment r.records r.asks r.answers };
 }
 
 impl Recovery {

@@ -5,13 +5,13 @@ ghost use Rattle.wb_recovery.specs.Distance.{distance_of};
 use crate::limits::DELAY_LIMIT;
 
 /// The delay to another member, in microseconds, from an echo of one's own session message: it was
-/// sent at `sent`, lay with the other member for `held`, and its echo came at `come`. It is half of
+/// sent at `sent`, lay with the other member for `held`, and its echo is heard at `now`. It is half of
 /// the time on the way. None where the times do not fit together, or the delay would not be below
 /// 2^24.
-pub fn distance(sent: u64, held: u64, come: u64) -> Option<u64>
-    ensures { result ≡ distance_of sent held come }
+pub fn distance(sent: u64, held: u64, now: u64) -> Option<u64>
+    ensures { result ≡ distance_of sent held now }
 {
     let left = sent.checked_add(held)?;
-    let delay = come.checked_sub(left)? / 2;
+    let delay = now.checked_sub(left)? / 2;
     (delay < DELAY_LIMIT).then_some(delay)
 }

@@ -3,7 +3,7 @@
 ghost use Rattle.std.specs.Prelude.{◌≡◌, ◌∷◌, List, filter, OnOk, OnErr, IsOk, MatchOption};
 ghost use Rattle.wb_names.specs.Values.{NameValue};
 ghost use Rattle.wb_recovery.specs.Events.{Event, Got};
-ghost use Rattle.wb_recovery.specs.Standing.{Accepts, StandsFor as TimersStandFor};
+ghost use Rattle.wb_recovery.specs.Accepted.{Accepts, StandsFor as TimersStandFor};
 ghost use Rattle.wb_recovery.specs.Stopping.{receipts};
 ghost use Rattle.wb_recovery.specs.declared.tuning.Tuning.{Tuning as Constants};
 ghost use Rattle.wb_host.specs.Keeper.{Arrive, received_of, holds};

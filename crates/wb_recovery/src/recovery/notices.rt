@@ -10,7 +10,7 @@ ghost use Rattle.wb_recovery.specs.Faults.{is_delay, call_fault, IsCheckedBy};
 ghost use Rattle.wb_recovery.specs.Timing.{noticed};
 ghost use Rattle.wb_recovery.specs.Values.{record_in, timers_in, names_in, Replaces};
 ghost use Rattle.wb_recovery.specs.Events.{Event};
-ghost use Rattle.wb_recovery.specs.Standing.{StandsFor};
+ghost use Rattle.wb_recovery.specs.Accepted.{StandsFor};
 ghost use Rattle.wb_recovery.specs.Noticing.{notices, unset_at, taken_back};
 ghost use Rattle.wb_recovery.specs.declared.tuning.Tuning.{Tuning as Constants};
 

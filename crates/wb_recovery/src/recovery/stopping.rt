@@ -9,7 +9,7 @@ ghost use Rattle.wb_names.specs.Orders.{name_cmp};
 ghost use Rattle.wb_recovery.specs.Faults.{is_delay, call_fault, IsCheckedBy};
 ghost use Rattle.wb_recovery.specs.Values.{timers_in, names_in};
 ghost use Rattle.wb_recovery.specs.Events.{Event, Tick, asking, due_asks, actions_of};
-ghost use Rattle.wb_recovery.specs.Standing.{StandsFor};
+ghost use Rattle.wb_recovery.specs.Accepted.{StandsFor};
 ghost use Rattle.wb_recovery.specs.Alarms.{Tells};
 ghost use Rattle.wb_recovery.specs.Stopping.{receipts, is_received, EndsAll, FiresThese, IsPlan, IsPlanOf};
 ghost use Rattle.wb_recovery.specs.declared.received.Received.{Received as AReceived};

@@ -6,7 +6,7 @@ use Rattle.wb_recovery.specs.Firing.{with_answer_fired}
 use Rattle.wb_recovery.specs.declared.timers.Timers.{Timers}
 use Rattle.wb_recovery.proofs.NameRows.{before_now, replaced_more, contains_here}
 use Rattle.wb_recovery.proofs.FiredTimers.{due_answer_stands, due_answer_ends}
-use Rattle.wb_recovery.proofs.Soundness.{all_replaced, keep_moved_to}
+use Rattle.wb_recovery.proofs.Consistency.{all_replaced, keep_moved_to}
 use Rattle.wb_recovery.proofs.firing.answer_all.Goals as goal
 
 pub rewrite-requires : goal.rewrite-requires

@@ -7,7 +7,7 @@ use Rattle.wb_recovery.specs.Values.{timers_at}
 use Rattle.wb_recovery.specs.declared.timers.Timers.{Timers}
 use Rattle.wb_recovery.proofs.NameRows.{before_now, replaced_more, contains_here}
 use Rattle.wb_recovery.proofs.FiredTimers.{asking_stands}
-use Rattle.wb_recovery.proofs.Soundness.{keep_moved_to}
+use Rattle.wb_recovery.proofs.Consistency.{keep_moved_to}
 use Rattle.wb_recovery.proofs.firing.ask_all.Goals as goal
 
 pub bounds-after-count : goal.bounds-after-count

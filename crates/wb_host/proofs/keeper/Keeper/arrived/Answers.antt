@@ -1,6 +1,6 @@
 use Rattle.std.proofs.Common.{◌∙◌, sym, ap, subst, refl, List}
 use Rattle.std.specs.Prelude.{filter}
-use Rattle.wb_recovery.specs.Standing as timers
+use Rattle.wb_recovery.specs.Accepted as timers
 use Rattle.wb_recovery.specs.Stopping.{receipts}
 use Rattle.wb_recovery.specs.declared.received.Received.{Received}
 use Rattle.wb_host.specs.Keeper.{Arrive, received_of, holds, events_of}

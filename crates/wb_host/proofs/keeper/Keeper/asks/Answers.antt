@@ -1,5 +1,5 @@
 use Rattle.std.proofs.Common.{sym, subst}
-use Rattle.wb_recovery.specs.Standing as timers
+use Rattle.wb_recovery.specs.Accepted as timers
 use Rattle.wb_host.specs.Keeper.{events_of}
 use Rattle.wb_host.specs.Keeping.{KeeperValue}
 use Rattle.wb_host.proofs.keeper.Keeper.asks.Goals as goal

@@ -2,7 +2,7 @@ use Rattle.std.proofs.Common.{◌∙◌, ap, sym, subst, List, filter, take}
 use Rattle.wb_names.specs.Values.{MarkValue}
 use Rattle.wb_gaps.specs.Gaps.{AreGaps}
 use Rattle.wb_history.specs.Passes.{PassValue}
-use Rattle.wb_recovery.specs.Standing as timers
+use Rattle.wb_recovery.specs.Accepted as timers
 use Rattle.wb_recovery.specs.Values.{timers_in}
 use Rattle.wb_host.specs.Keeper.{events_of}
 use Rattle.wb_host.specs.Keeping.{KeeperValue, marks_at}

@@ -1,7 +1,7 @@
 use Rattle.std.proofs.Common.{Bool, cond, ◌≡◌, ◌∙◌, ap, sym, subst}
 use Rattle.wb_recovery.proofs.Outcomes.{on_no_err}
 use Rattle.wb_recovery.specs.Events.{Asked}
-use Rattle.wb_recovery.specs.Standing as timers
+use Rattle.wb_recovery.specs.Accepted as timers
 use Rattle.wb_host.specs.Keeper.{holds}
 use Rattle.wb_host.specs.Keeping.{KeeperValue, delay_at}
 use Rattle.wb_host.proofs.HeardCalls.{keeps_request}

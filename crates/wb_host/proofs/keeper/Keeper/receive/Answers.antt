@@ -1,6 +1,6 @@
 use Rattle.std.proofs.Common.{ℕ, ◌∙◌, ap, subst}
 use Rattle.wb_recovery.specs.Events.{Got}
-use Rattle.wb_recovery.specs.Standing.{Accepts}
+use Rattle.wb_recovery.specs.Accepted.{Accepts}
 use Rattle.wb_host.specs.Keeping.{KeeperValue, delay_at}
 use Rattle.wb_host.proofs.keeper.Keeper.receive.Goals as goal
 

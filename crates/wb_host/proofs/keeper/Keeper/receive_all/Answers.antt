@@ -2,7 +2,7 @@ use Rattle.std.proofs.Common.{List, take, ◌+◌, arith, ap, sym, ◌∙◌, su
 use Rattle.std.specs.Prelude.{filter}
 use Rattle.std.proofs.lemmas.List.{take_all}
 use Rattle.wb_names.specs.Values.{NameValue}
-use Rattle.wb_recovery.specs.Standing as timers
+use Rattle.wb_recovery.specs.Accepted as timers
 use Rattle.wb_recovery.specs.Stopping.{receipts}
 use Rattle.wb_host.specs.Keeper.{received_of, holds}
 use Rattle.wb_host.specs.Keeping.{KeeperValue, delay_at}

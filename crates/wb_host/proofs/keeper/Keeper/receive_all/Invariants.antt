@@ -1,7 +1,7 @@
 use Rattle.std.proofs.Common.{◌≡◌, List, take}
 use Rattle.std.specs.Prelude.{filter}
 use Rattle.wb_recovery.specs.Events.{Event}
-use Rattle.wb_recovery.specs.Standing as timers
+use Rattle.wb_recovery.specs.Accepted as timers
 use Rattle.wb_recovery.specs.Stopping.{receipts}
 use Rattle.wb_recovery.specs.declared.tuning.Tuning.{Tuning}
 use Rattle.wb_host.specs.Keeper.{received_of, holds}

@@ -1,6 +1,6 @@
 use Rattle.std.proofs.Common.{ℕ, ◌∙◌, ◌∷◌, sym, ap, subst, refl, List}
 use Rattle.wb_recovery.specs.Events.{Tick, actions_of}
-use Rattle.wb_recovery.specs.Standing as timers
+use Rattle.wb_recovery.specs.Accepted as timers
 use Rattle.wb_recovery.specs.Stopping.{receipts, IsPlanOf}
 use Rattle.wb_recovery.specs.declared.received.Received.{Received}
 use Rattle.wb_host.specs.Keeper.{GoOn, events_of}

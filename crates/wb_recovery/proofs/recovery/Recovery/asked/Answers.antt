@@ -2,7 +2,7 @@ use Rattle.std.proofs.Common.{◌∙◌, sym, ap, refl, subst, Bool, true, false
 use Rattle.wb_recovery.specs.Timing.{asked}
 use Rattle.wb_recovery.specs.Values.{RecoveryValue}
 use Rattle.wb_recovery.specs.Events.{Asked}
-use Rattle.wb_recovery.specs.Standing.{Accepts}
+use Rattle.wb_recovery.specs.Accepted.{Accepts}
 use Rattle.wb_recovery.specs.declared.tuning.Tuning.{Tuning}
 use Rattle.wb_recovery.proofs.Accepting.{accepted}
 use Rattle.wb_recovery.proofs.recovery.Recovery.asked.Goals as goal

@@ -2,7 +2,7 @@ use Rattle.std.proofs.Common.{◌≡◌, ◌∙◌, sym, ap, subst, refl, length
 use Rattle.std.specs.Prelude.{is_some}
 use Rattle.wb_recovery.specs.Values.{RecoveryValue, timers_in, names_in}
 use Rattle.wb_recovery.specs.Events.{asking}
-use Rattle.wb_recovery.specs.Standing.{StandsFor}
+use Rattle.wb_recovery.specs.Accepted.{StandsFor}
 use Rattle.wb_recovery.specs.declared.timers.Timers.{Timers}
 use Rattle.wb_recovery.proofs.Counting.{count_asking}
 use Rattle.wb_recovery.proofs.NameLists.{listed_same}

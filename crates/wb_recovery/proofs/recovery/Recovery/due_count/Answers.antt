@@ -2,7 +2,7 @@ use Rattle.std.proofs.Common.{◌≡◌, ◌∙◌, sym, ap, subst, refl, length
 use Rattle.wb_recovery.specs.Timing.{is_ask_due}
 use Rattle.wb_recovery.specs.Values.{RecoveryValue, timers_in, names_in}
 use Rattle.wb_recovery.specs.Events.{due_asks}
-use Rattle.wb_recovery.specs.Standing.{StandsFor}
+use Rattle.wb_recovery.specs.Accepted.{StandsFor}
 use Rattle.wb_recovery.specs.declared.timers.Timers.{Timers}
 use Rattle.wb_recovery.proofs.Counting.{count_due}
 use Rattle.wb_recovery.proofs.NameLists.{listed_same}

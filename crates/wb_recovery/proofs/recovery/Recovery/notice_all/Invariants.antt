@@ -2,7 +2,7 @@ use Rattle.std.proofs.Common.{◌≡◌, List, take}
 use Rattle.wb_names.specs.Values.{NameValue}
 use Rattle.wb_recovery.specs.Values.{record_in, timers_in}
 use Rattle.wb_recovery.specs.Events.{Event, timers_of}
-use Rattle.wb_recovery.specs.Standing.{StandsFor}
+use Rattle.wb_recovery.specs.Accepted.{StandsFor}
 use Rattle.wb_recovery.specs.Noticing.{notices, taken_back}
 use Rattle.wb_recovery.specs.declared.tuning.Tuning.{Tuning}
 use Rattle.wb_recovery.proofs.recovery.Recovery.notice_all.Given as goal

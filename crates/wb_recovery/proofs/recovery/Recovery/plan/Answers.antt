@@ -8,7 +8,7 @@ use Rattle.wb_recovery.specs.Firing.{with_ask_fired}
 use Rattle.wb_recovery.specs.declared.plan.Plan.{Plan}
 use Rattle.wb_recovery.specs.Values.{RecoveryValue, names_in, timers_in}
 use Rattle.wb_recovery.specs.Events.{names_of, timers_of, due_asks}
-use Rattle.wb_recovery.specs.Standing.{StandsFor}
+use Rattle.wb_recovery.specs.Accepted.{StandsFor}
 use Rattle.wb_recovery.specs.Stopping.{receipts, IsPlanOf}
 use Rattle.wb_recovery.specs.declared.action.Action.{Action}
 use Rattle.wb_recovery.specs.declared.action.Action.TheVariants.{Ask, Answer}

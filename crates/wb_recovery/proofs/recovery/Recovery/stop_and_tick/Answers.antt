@@ -1,6 +1,6 @@
 use Rattle.std.proofs.Common.{ℕ, ◌∷◌, ◌∙◌, ap, subst}
 use Rattle.wb_recovery.specs.Events.{Tick}
-use Rattle.wb_recovery.specs.Standing.{StandsFor}
+use Rattle.wb_recovery.specs.Accepted.{StandsFor}
 use Rattle.wb_recovery.specs.Stopping.{receipts}
 use Rattle.wb_recovery.proofs.recovery.Recovery.stop_and_tick.Goals as goal
 

@@ -10,7 +10,7 @@ use Rattle.wb_recovery.specs.declared.tuning.Tuning.{Tuning}
 use Rattle.wb_recovery.specs.declared.timers.Timers.{Timers}
 use Rattle.wb_recovery.specs.declared.alarms.Alarms.{Alarms}
 
-pub record IsSound (constants : Tuning) (last : ℕ) (kept : BTreeMap NameValue Timers) (ask_alarms answer_alarms : Alarms) : Type 0 where
+pub record IsConsistent (constants : Tuning) (last : ℕ) (kept : BTreeMap NameValue Timers) (ask_alarms answer_alarms : Alarms) : Type 0 where
   pub tuning : IsTrue (are_constants constants)
   pub moment : last < 2 ^ 48
   pub ordered : IsOrdered name_cmp kept

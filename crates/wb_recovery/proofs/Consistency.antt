@@ -1,4 +1,4 @@
--- How a recovery stays sound as the timers of a name are replaced.
+-- How a recovery stays consistent as the timers of a name are replaced.
 use Rattle.std.proofs.Common.{◌≡◌, ℕ, Bool, true, false, cond, refl, ap, ◌∙◌, sym, subst, List, Option, Some, None, ◌^◌, ◌<◌, rules}
 use Rattle.std.specs.Prelude.{unwrap_or}
 use Rattle.std.specs.BTreeMap.{BTreeMap, IsOrdered, get, is_at}
@@ -9,7 +9,7 @@ use Rattle.wb_recovery.specs.Timing.{no_timers, ask_due, answer_due, AreDelays, 
 use Rattle.wb_recovery.specs.Alarms.{Keep, IsFirst, with_due}
 use Rattle.wb_recovery.specs.Values.{RecoveryValue, timers_at, timers_in, Replaces}
 use Rattle.wb_recovery.specs.Noticing.{without_ask}
-use Rattle.wb_recovery.specs.Sound.{IsSound}
+use Rattle.wb_recovery.specs.Consistent.{IsConsistent}
 use Rattle.wb_recovery.specs.declared.tuning.Tuning.{Tuning}
 use Rattle.wb_recovery.specs.declared.timers.Timers.{Timers}
 use Rattle.wb_recovery.specs.declared.timers.AskTimer.{AskTimer}
@@ -55,16 +55,16 @@ keep_here dues name due alarms same keep = keep_alike _ _ alarms (λ n. from n (
   from n false e = refl
 
 -- what a write at one name leaves
-module _ (t : Tuning) (m : ℕ) (old new : BTreeMap NameValue Timers) (asks answers : Alarms) (s : IsSound t m old asks answers) (name : NameValue) (before : Timers) (is : before ≡ timers_at old.entries name) (ordered : IsOrdered name_cmp new) where
+module _ (t : Tuning) (m : ℕ) (old new : BTreeMap NameValue Timers) (asks answers : Alarms) (s : IsConsistent t m old asks answers) (name : NameValue) (before : Timers) (is : before ≡ timers_at old.entries name) (ordered : IsOrdered name_cmp new) where
   abbrev pub Writes : Timers → Type 0
   Writes after = (q : NameValue) → get name_cmp new q ≡ cond (is_at (name_cmp name) q) (Some after) (get name_cmp old q)
 
   delays : AreDelays before
   delays = subst AreDelays (sym is) (s.delays name)
 
-  sound_written : (after : Timers) (a b : Alarms) → ((n : NameValue) → timers_at new.entries n ≡ cond (same_name name n) after (timers_at old.entries n)) → AreDelays after
-      → Keep (with_due (λ n. ask_due (timers_at old.entries n)) name (ask_due after)) a → Keep (with_due (λ n. answer_due (timers_at old.entries n)) name (answer_due after)) b → a.is_exact ≡ true → b.is_exact ≡ true → IsSound t m new a b
-  sound_written after a b r d h k first_ask first_answer = record {
+  consistent_written : (after : Timers) (a b : Alarms) → ((n : NameValue) → timers_at new.entries n ≡ cond (same_name name n) after (timers_at old.entries n)) → AreDelays after
+      → Keep (with_due (λ n. ask_due (timers_at old.entries n)) name (ask_due after)) a → Keep (with_due (λ n. answer_due (timers_at old.entries n)) name (answer_due after)) b → a.is_exact ≡ true → b.is_exact ≡ true → IsConsistent t m new a b
+  consistent_written after a b r d h k first_ask first_answer = record {
     tuning = s.tuning;
     moment = s.moment;
     ordered = ordered;
@@ -75,26 +75,26 @@ module _ (t : Tuning) (m : ℕ) (old new : BTreeMap NameValue Timers) (asks answ
     first_answer = first_answer;
   }
 
-  pub sound_ask : (ask : AskTimer) (moved : Alarms) → Writes (with_ask before (Some ask)) → ask.delay < 2 ^ 24 → ((dues : NameValue → Option ℕ) → Keep dues asks → Keep (with_due dues name (Some ask.due)) moved) → moved.is_exact ≡ true → IsSound t m new moved answers
-  sound_ask ask moved w d k first = sound_written (with_ask before (Some ask)) moved answers (written old new name (with_ask before (Some ask)) w) (d, delays.1) (k _ s.asks) (keep_here _ name _ answers (ap answer_due (sym is)) s.answers) first s.first_answer
+  pub consistent_ask : (ask : AskTimer) (moved : Alarms) → Writes (with_ask before (Some ask)) → ask.delay < 2 ^ 24 → ((dues : NameValue → Option ℕ) → Keep dues asks → Keep (with_due dues name (Some ask.due)) moved) → moved.is_exact ≡ true → IsConsistent t m new moved answers
+  consistent_ask ask moved w d k first = consistent_written (with_ask before (Some ask)) moved answers (written old new name (with_ask before (Some ask)) w) (d, delays.1) (k _ s.asks) (keep_here _ name _ answers (ap answer_due (sym is)) s.answers) first s.first_answer
 
-  pub sound_answer : (answer : AnswerTimer) (moved : Alarms) → Writes (with_answer before (Some answer)) → answer.delay < 2 ^ 24 → ((dues : NameValue → Option ℕ) → Keep dues answers → Keep (with_due dues name (Some answer.due)) moved) → moved.is_exact ≡ true → IsSound t m new asks moved
-  sound_answer answer moved w d k first = sound_written (with_answer before (Some answer)) asks moved (written old new name (with_answer before (Some answer)) w) (delays.0, d) (keep_here _ name _ asks (ap ask_due (sym is)) s.asks) (k _ s.answers) s.first_ask first
+  pub consistent_answer : (answer : AnswerTimer) (moved : Alarms) → Writes (with_answer before (Some answer)) → answer.delay < 2 ^ 24 → ((dues : NameValue → Option ℕ) → Keep dues answers → Keep (with_due dues name (Some answer.due)) moved) → moved.is_exact ≡ true → IsConsistent t m new asks moved
+  consistent_answer answer moved w d k first = consistent_written (with_answer before (Some answer)) asks moved (written old new name (with_answer before (Some answer)) w) (delays.0, d) (keep_here _ name _ asks (ap ask_due (sym is)) s.asks) (k _ s.answers) s.first_ask first
 
   -- without a request timer
-  pub sound_unset : (moved : Alarms) → ((n : NameValue) → timers_at new.entries n ≡ cond (same_name name n) (without_ask before) (timers_at old.entries n)) → ((dues : NameValue → Option ℕ) → Keep dues asks → Keep (with_due dues name None) moved) → moved.is_exact ≡ true → IsSound t m new moved answers
-  sound_unset moved r k first = sound_written (without_ask before) moved answers r (tt, delays.1) (k _ s.asks) (keep_here _ name _ answers (ap answer_due (sym is)) s.answers) first s.first_answer
+  pub consistent_unset : (moved : Alarms) → ((n : NameValue) → timers_at new.entries n ≡ cond (same_name name n) (without_ask before) (timers_at old.entries n)) → ((dues : NameValue → Option ℕ) → Keep dues asks → Keep (with_due dues name None) moved) → moved.is_exact ≡ true → IsConsistent t m new moved answers
+  consistent_unset moved r k first = consistent_written (without_ask before) moved answers r (tt, delays.1) (k _ s.asks) (keep_here _ name _ answers (ap answer_due (sym is)) s.answers) first s.first_answer
 
   -- without timers
-  pub sound_end : (quiet : ℕ) (a b : Alarms) → ((n : NameValue) → timers_at new.entries n ≡ cond (same_name name n) (record { ask = None; answer = None; quiet = quiet }) (timers_at old.entries n)) → ((dues : NameValue → Option ℕ) → Keep dues asks → Keep (with_due dues name None) a) → ((dues : NameValue → Option ℕ) → Keep dues answers → Keep (with_due dues name None) b) → a.is_exact ≡ true → b.is_exact ≡ true → IsSound t m new a b
-  sound_end quiet a b r h k first_ask first_answer = sound_written (record { ask = None; answer = None; quiet = quiet }) a b r (ends quiet) (h _ s.asks) (k _ s.answers) first_ask first_answer where
+  pub consistent_end : (quiet : ℕ) (a b : Alarms) → ((n : NameValue) → timers_at new.entries n ≡ cond (same_name name n) (record { ask = None; answer = None; quiet = quiet }) (timers_at old.entries n)) → ((dues : NameValue → Option ℕ) → Keep dues asks → Keep (with_due dues name None) a) → ((dues : NameValue → Option ℕ) → Keep dues answers → Keep (with_due dues name None) b) → a.is_exact ≡ true → b.is_exact ≡ true → IsConsistent t m new a b
+  consistent_end quiet a b r h k first_ask first_answer = consistent_written (record { ask = None; answer = None; quiet = quiet }) a b r (ends quiet) (h _ s.asks) (k _ s.answers) first_ask first_answer where
     ends : (q : ℕ) → AreDelays (record { ask = None; answer = None; quiet = q })
     ends q = search rules
 
 -- what could not be written leaves all as it was
-pub sound_again : (t : Tuning) (m : ℕ) (old new : BTreeMap NameValue Timers) (asks answers moved others : Alarms) → IsSound t m old asks answers → new.entries ≡ old.entries → IsOrdered name_cmp new
-    → Keep (λ n. ask_due (timers_at old.entries n)) moved → Keep (λ n. answer_due (timers_at old.entries n)) others → moved.is_exact ≡ true → others.is_exact ≡ true → IsSound t m new moved others
-sound_again t m old new asks answers moved others s same ordered k l first_ask first_answer = record {
+pub consistent_again : (t : Tuning) (m : ℕ) (old new : BTreeMap NameValue Timers) (asks answers moved others : Alarms) → IsConsistent t m old asks answers → new.entries ≡ old.entries → IsOrdered name_cmp new
+    → Keep (λ n. ask_due (timers_at old.entries n)) moved → Keep (λ n. answer_due (timers_at old.entries n)) others → moved.is_exact ≡ true → others.is_exact ≡ true → IsConsistent t m new moved others
+consistent_again t m old new asks answers moved others s same ordered k l first_ask first_answer = record {
   tuning = s.tuning;
   moment = s.moment;
   ordered = ordered;
