@@ -1,9 +1,8 @@
 -- Marks, and the drawops without one.
-use Rattle.std.proofs.Common.{◌≡◌, ◌≢◌, ◌⊎◌, ℕ, ◌+◌, ◌≤◌, ◌<◌, ◌==◌, ◌||◌, Bool, true, false, cond, List, [], ◌∷◌, ◌++◌, length, take, get_or, set, refl, ap, ap₂, sym, subst, ◌∙◌, arith, ⊎_elim, length-take, length-set, get_or-set_same, get_or-set_other, inl, inr}
+use Rattle.std.proofs.Common.{◌≡◌, ◌≢◌, ℕ, ◌+◌, ◌≤◌, ◌<◌, ◌==◌, ◌||◌, Bool, true, false, cond, List, [], ◌∷◌, ◌++◌, length, take, get_or, set, refl, ap, ap₂, sym, subst, ◌∙◌, arith, ⊎_elim, length-take, length-set, get_or-set_same, get_or-set_other}
 use Rattle.std.proofs.lemmas.List.{append-nil, take_more}
-use Rattle.std.proofs.lemmas.Bool.Decides.{nat_tests}
 use Rattle.wb_names.specs.Values.{DrawopValue}
-use Rattle.wb_names.specs.Arrivals.{Outcome, Fresh, Known, Clashed, Left, counts_of}
+use Rattle.wb_names.specs.Arrivals.{Outcome}
 use Rattle.wb_history.specs.Passes.{PassValue}
 use Rattle.wb_feed.specs.Accepts.{LosesAtMost, Accepts}
 use Rattle.wb_feed.specs.declared.batch.Batch.{Batch}

@@ -1,6 +1,6 @@
 -- What a batch told its callers was told at points of one history, so it is one run; and one thread takes the drawops in the order
 -- of that run.
-use Rattle.std.proofs.Common.{◌≡◌, ◌⊎◌, ℕ, suc, ◌+◌, ◌/◌, ◌≤◌, ◌<◌, ◌==◌, true, false, cond, List, [], ◌∷◌, ◌++◌, length, take, map, filter, refl, ap, sym, subst, ◌∙◌, inl, inr, arith, length-append, get_or}
+use Rattle.std.proofs.Common.{◌≡◌, ℕ, suc, ◌+◌, ◌≤◌, ◌<◌, ◌==◌, true, false, cond, List, [], ◌∷◌, ◌++◌, length, take, map, filter, refl, ap, sym, subst, ◌∙◌, inl, inr, arith, length-append, get_or}
 use Rattle.std.specs.Prelude.{nat_le, All, AllPairs}
 use Rattle.std.specs.List.Sorted.{IsPermutation}
 use Rattle.std.proofs.lemmas.List.{map-append, take-append-le}
@@ -10,7 +10,7 @@ use Rattle.std.proofs.lemmas.List.Sorted.{IsPermutation-refl, IsPermutation-sym,
 use mathlib.Core.List.{IsPrefix}
 use Rattle.wb_names.specs.Values.{DrawopValue}
 use Rattle.wb_names.specs.History.{IsNewAt, IsAgainAt, IsClashAt}
-use Rattle.wb_names.specs.Arrivals.{Outcome, Fresh, Known, Clashed, Left, Counts, counts, AreTaken, IsBatch}
+use Rattle.wb_names.specs.Arrivals.{Outcome, Fresh, Known, Clashed, Left, counts, AreTaken, IsBatch}
 use Rattle.wb_history.specs.Passes.{PassValue, IsSound, IsWhole}
 use Rattle.wb_host.specs.declared.reply.Reply.{Reply}
 use Rattle.wb_host.specs.declared.reply.Reply.TheVariants.{New, Again, Clash}
@@ -23,7 +23,7 @@ use Rattle.wb_feed.specs.declared.channel.Message.{Message}
 use Rattle.wb_feed.specs.Accepts.{Entry, Accepts, Runs, drawops, outcomes, tally}
 use Rattle.wb_feed.specs.Batches.{counts_in, IsInSomeOrder, IsShared}
 use Rattle.wb_feed.specs.Calls.{told, told_of, told_by, told_workers, told_working, told_in, BatchIsOneRun}
-use Rattle.wb_feed.specs.Served.{Spot, entries, Serves}
+use Rattle.wb_feed.specs.Served.{Spot, entries}
 use Rattle.wb_feed.specs.Workers.{Workers, nobody, worker, Work}
 use Rattle.wb_feed.proofs.Log.{is_taken, chosen, place, places, places-append, runs_leave, Gathers, gathers_none, gathers_run, moved_drawops, tally_moved, taken_tally}
 use Rattle.wb_feed.proofs.Members.{nothing}

@@ -1,8 +1,7 @@
 -- What one thread makes of drawops for which no cell is left, and of one list of drawops after another.
-use Rattle.std.proofs.Common.{◌≡◌, ℕ, ◌+◌, ◌≤◌, ◌<◌, List, [], ◌∷◌, ◌++◌, length, refl, ap, sym, ◌∙◌, subst, arith, length-append, append_assoc}
-use Rattle.std.proofs.lemmas.List.{append-nil}
+use Rattle.std.proofs.Common.{◌≡◌, ℕ, ◌+◌, ◌≤◌, ◌<◌, List, [], ◌∷◌, ◌++◌, length, refl, ap, ◌∙◌, subst, arith}
 use Rattle.wb_names.specs.Values.{DrawopValue}
-use Rattle.wb_names.specs.History.{IsHistory, HoldsName}
+use Rattle.wb_names.specs.History.{HoldsName}
 use Rattle.wb_names.specs.Arrivals.{Outcome, Fresh, Known, Clashed, Left, Counts, counts, counts_of, history_with, AreTaken, IsBatch}
 
 pub same_counts : {f f' g g' c c' l l' : ℕ} → f ≡ f' → g ≡ g' → c ≡ c' → l ≡ l' → counts f g c l ≡ counts f' g' c' l'

@@ -14,34 +14,38 @@ use Rattle.wb_feed.specs.Sent.{IsNext, IsSent, IsDrawn, DrawsOne}
 abbrev pub Stays : ChannelView → ChannelView → Type 0
 Stays h i = (i.parts ≡ h.parts) × (i.got ≡ h.got)
 
-pub drawn_none : (given : List DrawopValue) (most : ℕ) (was : List DrawopValue) → IsDrawn given most was given most was
-drawn_none given most was = record { more = []; next = sym (append-nil given); all = sym (append-nil was); few = omega arith }
+pub drawn_none : {A : Type 0} (gives : A → List DrawopValue → A → Type 0) (most : A → ℕ) (a : A) (was : List DrawopValue) → gives a [] a → IsDrawn gives most a was a was
+drawn_none gives most a was none = record { more = []; given = none; all = sym (append-nil was); few = omega arith }
 
-pub drawn_more : (given : List DrawopValue) (most : ℕ) (was given' : List DrawopValue) (most' : ℕ) (drawn given'' : List DrawopValue) (most'' : ℕ) (drawn' : List DrawopValue) (x : Message)
-    → IsDrawn given most was given' most' drawn → DrawsOne given' most' drawn given'' most'' drawn' x → IsDrawn given most was given'' most'' drawn'
-drawn_more given most was given' most' drawn given'' most'' drawn' x d s = record {
+-- what a source gives in parts
+abbrev pub GivesOn : {A : Type 0} → (A → List DrawopValue → A → Type 0) → Type 0
+GivesOn {A} gives = (a b c : A) (ds es : List DrawopValue) → gives a ds b → gives b es c → gives a (ds ++ es) c
+
+pub drawn_more : {A : Type 0} (gives : A → List DrawopValue → A → Type 0) (most : A → ℕ) (a : A) (was : List DrawopValue) (b : A) (drawn : List DrawopValue) (c : A) (drawn' : List DrawopValue) (x : Message) → GivesOn gives
+    → IsDrawn gives most a was b drawn → DrawsOne gives most b drawn c drawn' x → IsDrawn gives most a was c drawn'
+drawn_more gives most a was b drawn c drawn' x on d s = record {
   more = d.more ++ s.drawop ∷ [];
-  next = s.next ∙ (ap (λ l. l ++ s.drawop ∷ []) d.next ∙ append_assoc given d.more (s.drawop ∷ []));
+  given = on a b c d.more (s.drawop ∷ []) d.given s.given;
   all = s.all ∙ (ap (λ l. l ++ s.drawop ∷ []) d.all ∙ append_assoc was d.more (s.drawop ∷ []));
   few = omega (arith, d.few, s.nearer, ap length s.all, length-append drawn (s.drawop ∷ []));
 }
 
-pub drawn_end : (given : List DrawopValue) (most : ℕ) (was given' : List DrawopValue) (most' : ℕ) (drawn given'' : List DrawopValue) (most'' : ℕ) (drawn' : List DrawopValue)
-    → IsDrawn given most was given' most' drawn → given'' ≡ given' → most'' ≤ most' → drawn' ≡ drawn → IsDrawn given most was given'' most'' drawn'
-drawn_end given most was given' most' drawn given'' most'' drawn' d a b c = record { more = d.more; next = a ∙ d.next; all = c ∙ d.all; few = omega (arith, d.few, b, ap length c) }
+pub drawn_end : {A : Type 0} (gives : A → List DrawopValue → A → Type 0) (most : A → ℕ) (a : A) (was : List DrawopValue) (b : A) (drawn : List DrawopValue) (c : A) (drawn' : List DrawopValue) → GivesOn gives
+    → IsDrawn gives most a was b drawn → gives b [] c → most c ≤ most b → drawn' ≡ drawn → IsDrawn gives most a was c drawn'
+drawn_end gives most a was b drawn c drawn' on d none fewer same = record { more = d.more; given = subst (λ l. gives a l c) (append-nil d.more) (on a b c d.more [] d.given none); all = same ∙ d.all; few = omega (arith, d.few, fewer, ap length same) }
 
 -- the next message after those that were sent
-pub next_is : (old : List DrawopValue) (most : ℕ) (drawn rest : List DrawopValue) (most' : ℕ) (more : List DrawopValue) (h : ChannelView) (going : Bool) (x : Message) → IsSent h drawn going → DrawsOne old most drawn rest most' more x → going ≡ true → IsNext h.sent x
-next_is old most drawn rest most' more h going x s d g = subst (λ (m : Message). IsNext h.sent m) (sym d.is) (ap length (sym (s.all g)))
+pub next_is : {A : Type 0} (gives : A → List DrawopValue → A → Type 0) (most : A → ℕ) (a : A) (drawn : List DrawopValue) (b : A) (more : List DrawopValue) (h : ChannelView) (going : Bool) (x : Message) → IsSent h drawn going → DrawsOne gives most a drawn b more x → going ≡ true → IsNext h.sent x
+next_is gives most a drawn b more h going x s d g = subst (λ (m : Message). IsNext h.sent m) (sym d.is) (ap length (sym (s.all g)))
 
-pub sent_more : (old : List DrawopValue) (most : ℕ) (drawn rest : List DrawopValue) (most' : ℕ) (more : List DrawopValue) (h i : ChannelView) (going r : Bool) (x : Message) → IsSent h drawn going → DrawsOne old most drawn rest most' more x
+pub sent_more : {A : Type 0} (gives : A → List DrawopValue → A → Type 0) (most : A → ℕ) (a : A) (drawn : List DrawopValue) (b : A) (more : List DrawopValue) (h i : ChannelView) (going r : Bool) (x : Message) → IsSent h drawn going → DrawsOne gives most a drawn b more x
     → (r ≡ true → (going ≡ true) × (i ≡ sends h x)) → (r ≡ false → i ≡ h) → IsSent i more r
-sent_more old most drawn rest most' more h i going true x s d won shut =
+sent_more gives most a drawn b more h i going true x s d won shut =
     let t = won refl in
     let sent : i ≡ sends h (Take (length drawn) d.drawop) = t.1 ∙ ap (λ m. sends h m) d.is in
     let e : i.sent ≡ more = ap (λ (x : ChannelView). x.sent) sent ∙ (ap (λ l. l ++ d.drawop ∷ []) (s.all t.0) ∙ sym d.all) in
     record { sends = ap (λ (x : ChannelView). x.sends) sent ∙ s.sends; first = prefix_take i.sent more (subst (λ l. IsPrefix i.sent l) e (prefix_self i.sent)); all = λ _. e }
-sent_more old most drawn rest most' more h i going false x s d won shut =
+sent_more gives most a drawn b more h i going false x s d won shut =
     let e = shut refl in
     record {
       sends = ap (λ (x : ChannelView). x.sends) e ∙ s.sends;

@@ -2,7 +2,7 @@
 use Rattle.std.proofs.Common.{◌≡◌, ℕ, ◌+◌, ◌≤◌, ◌<◌, ◌^◌, Bool, true, false, true≢false, cond, List, [], ◌∷◌, ◌++◌, length, refl, ap, sym, subst, ◌∙◌, arith, append_assoc, ◌⊎◌, ⊎_elim}
 use Rattle.std.proofs.lemmas.List.{append-nil}
 use Rattle.wb_names.specs.Values.{DrawopValue}
-use Rattle.wb_names.specs.Arrivals.{Outcome, Fresh, Known, Clashed, Left, counts_of}
+use Rattle.wb_names.specs.Arrivals.{Outcome}
 use Rattle.wb_history.specs.Passes.{PassValue}
 use Rattle.wb_feed.specs.Accepts.{LosesAtMost, Accepts, drawops}
 use Rattle.wb_feed.proofs.Log.{one_kind, loses_is, loses_trans, runs_more, tally-append, tally_all}

@@ -65,38 +65,36 @@ several_kept rows n m p rest back q desk d j others (Err Memory) next s w l t =
 
 -- ---- the feeding
 
-pub fed_none : {A X : Type 0} (given : A → List DrawopValue) (most : A → ℕ) (ended : A → Bool) (follows : A → A → Type 0) (f g : Feeding) (a : A) (r : Result X WorkFault) → g.channel ≡ f.channel → g.drawn.items ≡ f.drawn.items → follows a a → OnOk r (ended a ≡ true)
-    → HasFed given most ended follows f a g a r
-fed_none given most ended follows f g a r channel drawn itself none = record {
+pub fed_none : {A X : Type 0} (gives : A → List DrawopValue → A → Type 0) (most : A → ℕ) (ended : A → Bool) (f g : Feeding) (a : A) (r : Result X WorkFault) → g.channel ≡ f.channel → g.drawn.items ≡ f.drawn.items → gives a [] a → OnOk r (ended a ≡ true)
+    → HasFed gives most ended f a g a r
+fed_none gives most ended f g a r channel drawn itself none = record {
   channel = channel;
-  drawn = subst (λ (l : List DrawopValue). IsDrawn (given a) (most a) f.drawn.items (given a) (most a) l) (sym drawn) (drawn_none (given a) (most a) f.drawn.items);
-  source = itself;
+  drawn = subst (λ (l : List DrawopValue). IsDrawn gives most a f.drawn.items a l) (sym drawn) (drawn_none gives most a f.drawn.items itself);
   ended = none;
   untouched = λ _. λ i. a;
 }
 
 -- the same, seen from where a pass was cut off until it was taken back
-fed_within : {A X Y : Type 0} (given : A → List DrawopValue) (most : A → ℕ) (ended : A → Bool) (follows : A → A → Type 0) (f f' g' g : Feeding) (v w : ChannelView) (a b : A) (o : Result X WorkFault) (r : Result Y WorkFault)
-    → IsWith f v f' → HasFed given most ended follows f' a g' b o → IsWith g' w g → OnOk r (ended b ≡ true) → (r ≡ Err Start → o ≡ Err Start) → HasFed given most ended follows f a g b r
-fed_within given most ended follows f f' g' g v w a b o r cut h back ok start = record {
+fed_within : {A X Y : Type 0} (gives : A → List DrawopValue → A → Type 0) (most : A → ℕ) (ended : A → Bool) (f f' g' g : Feeding) (v w : ChannelView) (a b : A) (o : Result X WorkFault) (r : Result Y WorkFault)
+    → IsWith f v f' → HasFed gives most ended f' a g' b o → IsWith g' w g → OnOk r (ended b ≡ true) → (r ≡ Err Start → o ≡ Err Start) → HasFed gives most ended f a g b r
+fed_within gives most ended f f' g' g v w a b o r cut h back ok start = record {
   channel = back.channel ∙ (h.channel ∙ cut.channel);
-  drawn = subst (λ (l : List DrawopValue). IsDrawn (given a) (most a) f.drawn.items (given b) (most b) l) (sym (ap (λ k. k.items) back.drawn)) (subst (λ (l : List DrawopValue). IsDrawn (given a) (most a) l (given b) (most b) g'.drawn.items) (ap (λ k. k.items) cut.drawn) h.drawn);
-  source = h.source;
+  drawn = subst (λ (l : List DrawopValue). IsDrawn gives most a f.drawn.items b l) (sym (ap (λ k. k.items) back.drawn)) (subst (λ (l : List DrawopValue). IsDrawn gives most a l b g'.drawn.items) (ap (λ k. k.items) cut.drawn) h.drawn);
   ended = ok;
   untouched = λ e. h.untouched (start e);
 }
 
-pub several_fed : {A : Type 0} (given : A → List DrawopValue) (most : A → ℕ) (ended : A → Bool) (follows : A → A → Type 0) (f f' g' g : Feeding) (v w : ChannelView) (a b : A) (p q : PassValue) (d : Done) (others r : Result Accepted WorkFault)
-    → IsWith f v f' → HasFed given most ended follows f' a g' b others → IsWith g' w g → TakesBack p d others q r → HasFed given most ended follows f a g b r
-several_fed given most ended follows f f' g' g v w a b p q d others (Ok all) cut h back t = fed_within given most ended follows f f' g' g v w a b others (Ok all) cut h back (subst (λ o. OnOk o (ended b ≡ true)) t.3 h.ended) (λ e. absurd (cc (e)))
-several_fed given most ended follows f f' g' g v w a b p q d others (Err Start) cut h back t = fed_within given most ended follows f f' g' g v w a b others (Err Start) cut h back tt (λ e. t.0)
-several_fed given most ended follows f f' g' g v w a b p q d others (Err Memory) cut h back t = fed_within given most ended follows f f' g' g v w a b others (Err Memory) cut h back tt (λ e. absurd (cc (e)))
+pub several_fed : {A : Type 0} (gives : A → List DrawopValue → A → Type 0) (most : A → ℕ) (ended : A → Bool) (f f' g' g : Feeding) (v w : ChannelView) (a b : A) (p q : PassValue) (d : Done) (others r : Result Accepted WorkFault)
+    → IsWith f v f' → HasFed gives most ended f' a g' b others → IsWith g' w g → TakesBack p d others q r → HasFed gives most ended f a g b r
+several_fed gives most ended f f' g' g v w a b p q d others (Ok all) cut h back t = fed_within gives most ended f f' g' g v w a b others (Ok all) cut h back (subst (λ o. OnOk o (ended b ≡ true)) t.3 h.ended) (λ e. absurd (cc (e)))
+several_fed gives most ended f f' g' g v w a b p q d others (Err Start) cut h back t = fed_within gives most ended f f' g' g v w a b others (Err Start) cut h back tt (λ e. t.0)
+several_fed gives most ended f f' g' g v w a b p q d others (Err Memory) cut h back t = fed_within gives most ended f f' g' g v w a b others (Err Memory) cut h back tt (λ e. absurd (cc (e)))
 
-pub one_fed : {A : Type 0} (given : A → List DrawopValue) (most : A → ℕ) (ended : A → Bool) (follows : A → A → Type 0) (f f' g' g : Feeding) (v w : ChannelView) (a b : A) (q : PassValue) (d : Done) (fed r : Result Accepted WorkFault)
-    → IsWith f v f' → HasFed given most ended follows f' a g' b fed → IsWith g' w g → ComesBack d fed q r → HasFed given most ended follows f a g b r
-one_fed given most ended follows f f' g' g v w a b q d fed (Ok all) cut h back t = fed_within given most ended follows f f' g' g v w a b fed (Ok all) cut h back (subst (λ o. OnOk o (ended b ≡ true)) t.4 h.ended) (λ e. absurd (cc (e)))
-one_fed given most ended follows f f' g' g v w a b q d fed (Err Start) cut h back t = fed_within given most ended follows f f' g' g v w a b fed (Err Start) cut h back tt (λ e. t.1)
-one_fed given most ended follows f f' g' g v w a b q d fed (Err Memory) cut h back t = fed_within given most ended follows f f' g' g v w a b fed (Err Memory) cut h back tt (λ e. absurd (cc (e)))
+pub one_fed : {A : Type 0} (gives : A → List DrawopValue → A → Type 0) (most : A → ℕ) (ended : A → Bool) (f f' g' g : Feeding) (v w : ChannelView) (a b : A) (q : PassValue) (d : Done) (fed r : Result Accepted WorkFault)
+    → IsWith f v f' → HasFed gives most ended f' a g' b fed → IsWith g' w g → ComesBack d fed q r → HasFed gives most ended f a g b r
+one_fed gives most ended f f' g' g v w a b q d fed (Ok all) cut h back t = fed_within gives most ended f f' g' g v w a b fed (Ok all) cut h back (subst (λ o. OnOk o (ended b ≡ true)) t.4 h.ended) (λ e. absurd (cc (e)))
+one_fed gives most ended f f' g' g v w a b q d fed (Err Start) cut h back t = fed_within gives most ended f f' g' g v w a b fed (Err Start) cut h back tt (λ e. t.1)
+one_fed gives most ended f f' g' g v w a b q d fed (Err Memory) cut h back t = fed_within gives most ended f f' g' g v w a b fed (Err Memory) cut h back tt (λ e. absurd (cc (e)))
 
 -- ---- what was done
 

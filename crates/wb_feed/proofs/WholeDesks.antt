@@ -1,10 +1,10 @@
 -- A desk that owns all rows: its places are those of its list, it stays so, and it leaves a drawop only where the list is full.
-use Rattle.std.proofs.Common.{◌≡◌, ℕ, ◌+◌, ◌≤◌, ◌<◌, List, [], ◌∷◌, length, ap, ◌∙◌, subst, arith, length-append}
+use Rattle.std.proofs.Common.{◌≡◌, ℕ, ◌+◌, ◌≤◌, List, [], ◌∷◌, length, ap, ◌∙◌, subst, arith, length-append}
 use Rattle.wb_names.specs.Values.{DrawopValue}
 use Rattle.wb_names.specs.History.{HoldsName}
 use Rattle.wb_names.specs.Arrivals.{Fresh, Known, Clashed, Left}
 use Rattle.wb_history.specs.Passes.{PassValue, IsSound, IsWhole}
-use Rattle.wb_feed.specs.Accepts.{Entry, drawops, tally, Runs}
+use Rattle.wb_feed.specs.Accepts.{Entry, drawops, Runs}
 use Rattle.wb_feed.specs.Channel.{once_below}
 use Rattle.wb_feed.specs.Served.{is_left}
 use Rattle.wb_feed.proofs.Prefixes.{prefix_whole}

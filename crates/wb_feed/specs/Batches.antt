@@ -44,12 +44,6 @@ pub record Takes (p : PassValue) (given : List DrawopValue) (workers : ℕ) (q :
   pub settled : IsWhole p → IsInSomeOrder p given q b
   pub in_order : workers ≡ 1 → IsWhole p → IsInOrder p given q b
 
--- the source had given some drawops, and has given more, which the batch took
-pub record TakesMore (p : PassValue) (given : List DrawopValue) (workers : ℕ) (q : PassValue) (given' : List DrawopValue) (b : Batch) : Type 0 where
-  pub more : List DrawopValue
-  pub next : given' ≡ given ++ more
-  pub takes : Takes p more workers q b
-
 -- the counts of what the workers accepted, and of what was taken again
 pub record IsTotal (a : Accepted) (t b : Batch) : Type 0 where
   pub fresh : b.fresh ≡ a.fresh + t.fresh
@@ -69,9 +63,3 @@ pub record IsShared (workers : ℕ) (p : PassValue) (given : List DrawopValue) (
   pub left_over : List Entry
   pub rest : Runs joined left_over q
   pub all : drawops left_over ≡ unmarked marks given
-
--- the same of what the source has given since
-pub record SharesMore (p : PassValue) (given : List DrawopValue) (workers : ℕ) (q : PassValue) (given' : List DrawopValue) : Type 0 where
-  pub more : List DrawopValue
-  pub next : given' ≡ given ++ more
-  pub shared : IsShared workers p more q

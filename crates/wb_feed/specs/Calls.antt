@@ -10,7 +10,7 @@ use Rattle.wb_host.specs.Board.{Accept, Replied}
 use Rattle.wb_host.specs.Runs.{Told, AreToldSince, IsOneRun, run_of}
 use Rattle.wb_feed.specs.declared.channel.Message.{Message}
 use Rattle.wb_feed.specs.Accepts.{Entry, Runs}
-use Rattle.wb_feed.specs.Served.{Spot, entries, Serves}
+use Rattle.wb_feed.specs.Served.{Spot, entries}
 use Rattle.wb_feed.specs.Workers.{Workers, nobody, worker, Work}
 use Rattle.wb_feed.specs.Batches.{IsShared}
 

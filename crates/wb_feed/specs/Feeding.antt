@@ -29,9 +29,8 @@ pub record IsReady (workers : ℕ) (f : Feeding) : Type 0 where
 
 -- The source a was fed from, is b since, and r was answered: a is as it was where no thread could be started, and b has ended where
 -- all went well. What a source is told by is its trait's
-pub record HasFed {A X : Type 0} (given : A → List DrawopValue) (most : A → ℕ) (has_ended : A → Bool) (follows : A → A → Type 0) (f : Feeding) (a : A) (g : Feeding) (b : A) (r : Result X WorkFault) : Type 0 where
+pub record HasFed {A X : Type 0} (gives : A → List DrawopValue → A → Type 0) (most : A → ℕ) (has_ended : A → Bool) (f : Feeding) (a : A) (g : Feeding) (b : A) (r : Result X WorkFault) : Type 0 where
   pub channel : g.channel ≡ f.channel
-  pub drawn : IsDrawn (given a) (most a) f.drawn.items (given b) (most b) g.drawn.items
-  pub source : follows a b
+  pub drawn : IsDrawn gives most a f.drawn.items b g.drawn.items
   pub ended : OnOk r (has_ended b ≡ true)
   pub untouched : r ≡ Err Start → b ≡ a

@@ -17,22 +17,23 @@ pub record IsSent (h : ChannelView) (drawn : List DrawopValue) (going : Bool) : 
   pub first : take (length h.sent) drawn ≡ h.sent
   pub all : going ≡ true → h.sent ≡ drawn
 
--- Some more were drawn: given and most are what the source had given and had to give at most, was what had been drawn
-pub record IsDrawn (given : List DrawopValue) (most : ℕ) (was : List DrawopValue) (given' : List DrawopValue) (most' : ℕ) (drawn : List DrawopValue) : Type 0 where
+-- Some more were drawn: the source a gave them and is b since, each has so many to give at most, and was is what had been drawn. What a
+-- source is told by is its trait's
+pub record IsDrawn {A : Type 0} (gives : A → List DrawopValue → A → Type 0) (most : A → ℕ) (a : A) (was : List DrawopValue) (b : A) (drawn : List DrawopValue) : Type 0 where
   pub more : List DrawopValue
-  pub next : given' ≡ given ++ more
+  pub given : gives a more b
   pub all : drawn ≡ was ++ more
-  pub few : length drawn + most' ≤ length was + most
+  pub few : length drawn + most b ≤ length was + most a
 
 -- one was drawn, and the message is that with its position
-pub record DrawsOne (given : List DrawopValue) (most : ℕ) (was : List DrawopValue) (given' : List DrawopValue) (most' : ℕ) (drawn : List DrawopValue) (message : Message) : Type 0 where
+pub record DrawsOne {A : Type 0} (gives : A → List DrawopValue → A → Type 0) (most : A → ℕ) (a : A) (was : List DrawopValue) (b : A) (drawn : List DrawopValue) (message : Message) : Type 0 where
   pub drawop : DrawopValue
-  pub next : given' ≡ given ++ drawop ∷ []
-  pub nearer : most' < most
+  pub given : gives a (drawop ∷ []) b
+  pub nearer : most b < most a
   pub all : drawn ≡ was ++ drawop ∷ []
   pub is : message ≡ Take (length was) drawop
 
-abbrev pub Draws : List DrawopValue → ℕ → List DrawopValue → List DrawopValue → ℕ → List DrawopValue → Bool → Result (Option Message) AllocError → Type 0
-Draws given most was given' most' drawn ended (Err e) = (given' ≡ given) × (most' ≤ most) × (drawn ≡ was)
-Draws given most was given' most' drawn ended (Ok None) = (given' ≡ given) × (most' ≤ most) × (drawn ≡ was) × (ended ≡ true)
-Draws given most was given' most' drawn ended (Ok (Some m)) = DrawsOne given most was given' most' drawn m
+abbrev pub Draws : {A : Type 0} → (A → List DrawopValue → A → Type 0) → (A → ℕ) → (A → Bool) → A → List DrawopValue → A → List DrawopValue → Result (Option Message) AllocError → Type 0
+Draws gives most has_ended a was b drawn (Err e) = (b ≡ a) × (drawn ≡ was)
+Draws gives most has_ended a was b drawn (Ok None) = gives a [] b × (most b ≤ most a) × (drawn ≡ was) × (has_ended b ≡ true)
+Draws gives most has_ended a was b drawn (Ok (Some m)) = DrawsOne gives most a was b drawn m

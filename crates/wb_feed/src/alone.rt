@@ -58,7 +58,7 @@ fn work_with<'s, 'e: 's, R: Threads + Wait + Sync, S: Arrivals, G: Gate + Sync>(
     requires ready { IsReady 1 feeding.old }
     requires few { S.most_to_come arrivals.old < 2 ^ 32 }
     ensures kept { LosesAtMost 0 desk result.0 }
-    ensures fed { HasFed S.given S.most_to_come S.has_ended S.follows feeding.old arrivals.old feeding.new arrivals.new result.1 }
+    ensures fed { HasFed S.gives S.most_to_come S.has_ended feeding.old arrivals.old feeding.new arrivals.new result.1 }
     ensures ok { IfOk result.1 (Worked (λ log gots. Serves desk log gots result.0) 1 (view feeding.old.pass) (view feeding.new.pass)) }
 {
     let theirs = feeding.cut();
@@ -113,7 +113,7 @@ pub(crate) fn run_one<'s, 'e: 's, R: Threads + Wait + Sync, S: Arrivals, G: Gate
     requires ready { IsReady 1 feeding.old }
     requires few { S.most_to_come arrivals.old < 2 ^ 32 }
     ensures kept { LosesAtMost 0 root.old root.new }
-    ensures fed { HasFed S.given S.most_to_come S.has_ended S.follows feeding.old arrivals.old feeding.new arrivals.new result }
+    ensures fed { HasFed S.gives S.most_to_come S.has_ended feeding.old arrivals.old feeding.new arrivals.new result }
     ensures ok { IfOk result (Worked (λ log gots. Serves root.old log gots root.new) 1 (view feeding.old.pass) (view feeding.new.pass)) }
 {
     let Ok((_, stand_in)) = Board::open(place.alloc, 1) else {

@@ -1,8 +1,8 @@
 //! A batch: the workers take what comes, and the desk takes again what none of them accepted.
-ghost use Rattle.std.specs.Prelude.{◌≡◌, ◌+◌, ◌<◌, ◌≤◌, ◌^◌, ◌⊎◌, ◌↔◌, true, [], Err, length, IfOk, OnOk};
-ghost use mathlib.Core.List.{IsPrefix};
+ghost use Rattle.std.specs.Prelude.{◌≡◌, ◌+◌, ◌<◌, ◌≤◌, ◌^◌, ◌⊎◌, ◌↔◌, true, List, [], Err, length, IfOk, OnOk};
 ghost use Rattle.crossbeam_channel.specs.Claims.{view};
 ghost use Rattle.crossbeam_channel.specs.Ends.{sends_on, receives_on};
+ghost use Rattle.wb_names.specs.Values.{DrawopValue};
 ghost use Rattle.wb_names.specs.Arrivals.{Outcome};
 ghost use Rattle.wb_history.specs.Passes.{IsPassOf};
 ghost use Rattle.wb_feed.specs.Accepts.{Keeps, LosesAtMost, Accepts};
@@ -10,7 +10,7 @@ ghost use Rattle.wb_feed.specs.Channel.{channel_view};
 ghost use Rattle.wb_feed.specs.Marks.{unmarked, Marks, Retakes, CountsOne};
 ghost use Rattle.wb_feed.specs.Feeding.{HasFed};
 ghost use Rattle.wb_feed.specs.Workers.{handed_out, most_lost};
-ghost use Rattle.wb_feed.specs.Batches.{Takes, TakesMore, IsShared, SharesMore, IsTotal};
+ghost use Rattle.wb_feed.specs.Batches.{Takes, IsShared, IsTotal};
 
 use crate::arrivals::Arrivals;
 use crate::channel::{ChannelView, EachOnce, Message};
@@ -60,6 +60,7 @@ const CAPACITY: usize = 64;
 /// of its own. One has the desk itself; of more each gets an equal part of the desk's free rows. A drawop
 /// that a worker had no row for is taken again with the desk once all are joined, in order of arrival, and
 /// `left` counts those that find no row there either. The gate is called round each accept of a worker.
+/// Answers the counts, and the drawops in the order in which they came.
 ///
 /// With a number of workers out of range nothing is taken. After `Start` nothing was drawn, and each row and
 /// place is kept. After `Memory` any part of the arrivals may have been taken; one worker then loses no row,
@@ -73,18 +74,18 @@ pub fn run_batch<R: Threads + Wait + Sync, S: Arrivals, G: Gate + Sync>(
     workers: u32,
     arrivals: &mut S,
     gate: &G,
-) -> Result<Batch, FeedFault>
+) -> Result<(Batch, Vec<Drawop>), FeedFault>
     requires desk { IsPassOf board.now desk.old }
     ensures kept { Keeps desk.old desk.new }
     ensures rows { LosesAtMost (handed_out workers desk.old.free) desk.old desk.new }
     ensures workers { (result ≡ Err FeedFault.Workers) ↔ ((workers ≡ 0) ⊎ (8 < workers)) }
     ensures untouched { (workers ≡ 0) ⊎ (8 < workers) → (desk.new ≡ desk.old) × (arrivals.new ≡ arrivals.old) }
     ensures started { result ≡ Err FeedFault.Start → (arrivals.new ≡ arrivals.old) × LosesAtMost 0 desk.old desk.new }
-    ensures taken { IfOk result (λ b. TakesMore desk.old (S.given arrivals.old) workers desk.new (S.given arrivals.new) b) }
-    ensures shared { OnOk result (SharesMore desk.old (S.given arrivals.old) workers desk.new (S.given arrivals.new)) }
-    ensures drawn { IsPrefix (S.given arrivals.old) (S.given arrivals.new) }
+    ensures drawn { (given : List DrawopValue) × S.gives arrivals.old given arrivals.new }
+    ensures given { IfOk result (λ r. S.gives arrivals.old r.1.items arrivals.new) }
+    ensures taken { IfOk result (λ r. Takes desk.old r.1.items workers desk.new r.0) }
+    ensures shared { IfOk result (λ r. IsShared workers desk.old r.1.items desk.new) }
     ensures ended { OnOk result (S.has_ended arrivals.new ≡ true) }
-    ensures source { S.follows arrivals.old arrivals.new }
 {
     if workers == 0 || workers > 8 {
         return Err(FeedFault::Workers);
@@ -106,7 +107,7 @@ pub fn run_batch<R: Threads + Wait + Sync, S: Arrivals, G: Gate + Sync>(
     };
     let mut feeding = Feeding::new(alloc, channel, pass);
     match take_batch(place, desk, &mut feeding, arrivals) {
-        Ok(batch) => Ok(batch),
+        Ok(batch) => Ok((batch, feeding.into_drawn())),
         Err(WorkFault::Start) => Err(FeedFault::Start),
         Err(WorkFault::Memory) => Err(FeedFault::Memory),
     }
@@ -125,7 +126,7 @@ fn take_batch<R: Threads + Wait + Sync, S: Arrivals, G: Gate + Sync>(
     requires first { (view feeding.old.pass ≡ channel_view 16 true [] []) × (feeding.old.drawn.items ≡ []) × (feeding.old.going ≡ true) }
     requires few { S.most_to_come arrivals.old < 2 ^ 32 }
     ensures kept { LosesAtMost (most_lost (handed_out place.entry.workers desk.old.free) result) desk.old desk.new }
-    ensures fed { HasFed S.given S.most_to_come S.has_ended S.follows feeding.old arrivals.old feeding.new arrivals.new result }
+    ensures fed { HasFed S.gives S.most_to_come S.has_ended feeding.old arrivals.old feeding.new arrivals.new result }
     ensures taken { IfOk result (λ b. Takes desk.old feeding.new.drawn.items place.entry.workers desk.new b) }
     ensures shared { OnOk result (IsShared place.entry.workers desk.old feeding.new.drawn.items desk.new) }
 {

@@ -51,14 +51,26 @@ impl Feeding {
         requires few { length self.old.drawn.items + S.most_to_come arrivals.old < 2 ^ 32 }
         ensures channel { self.new.channel ≡ self.old.channel }
         ensures same { ((view self.new.pass).parts ≡ (view self.old.pass).parts) × ((view self.new.pass).got ≡ (view self.old.pass).got) }
-        ensures drawn { IsDrawn (S.given arrivals.old) (S.most_to_come arrivals.old) self.old.drawn.items (S.given arrivals.new) (S.most_to_come arrivals.new) self.new.drawn.items }
+        ensures drawn { IsDrawn S.gives S.most_to_come arrivals.old self.old.drawn.items arrivals.new self.new.drawn.items }
         ensures ended { OnOk result (S.has_ended arrivals.new ≡ true) }
-        ensures source { S.follows arrivals.old arrivals.new }
     {
         while let Some(message) = draw_one(arrivals, &mut self.drawn)? {
             self.going = send_one(rt, &self.channel, &mut self.pass, self.going, message);
         }
         Ok(())
+    }
+
+    /// What was drawn.
+    pub(crate) fn into_drawn(self) -> Vec<Drawop>
+        ensures { result ≡ self.drawn }
+    {
+        let Feeding {
+            channel: _,
+            pass: _,
+            drawn,
+            going: _,
+        } = self;
+        drawn
     }
 
     /// Sends an end message for each of so many workers.
@@ -106,8 +118,7 @@ fn draw_one<S: Arrivals>(
     drawn: &mut Vec<Drawop>,
 ) -> Result<Option<Message>, AllocError>
     requires { length drawn.old.items + S.most_to_come arrivals.old < 2 ^ 32 }
-    ensures draws { Draws (S.given arrivals.old) (S.most_to_come arrivals.old) drawn.old.items (S.given arrivals.new) (S.most_to_come arrivals.new) drawn.new.items (S.has_ended arrivals.new) result }
-    ensures source { S.follows arrivals.old arrivals.new }
+    ensures { Draws S.gives S.most_to_come S.has_ended arrivals.old drawn.old.items arrivals.new drawn.new.items result }
 {
     drawn.reserve(1)?;
     let position = drawn.len() as u32;

@@ -54,7 +54,7 @@ pub(crate) fn feed_all<R: Wait, S: Arrivals, G>(
 ) -> Result<Accepted, WorkFault>
     requires ready { IsReady 0 feeding.old }
     requires few { S.most_to_come arrivals.old < 2 ^ 32 }
-    ensures fed { HasFed S.given S.most_to_come S.has_ended S.follows feeding.old arrivals.old feeding.new arrivals.new result }
+    ensures fed { HasFed S.gives S.most_to_come S.has_ended feeding.old arrivals.old feeding.new arrivals.new result }
     ensures same { ((view feeding.new.pass).parts ≡ (view feeding.old.pass).parts) × ((view feeding.new.pass).got ≡ (view feeding.old.pass).got) }
     ensures none { IfOk result (λ a. Tells a []) }
 {
@@ -119,7 +119,7 @@ fn run_several<'s, 'e: 's, R: Threads + Wait + Sync, S: Arrivals, G: Gate + Sync
     requires ready { IsReady left feeding.old }
     requires few { S.most_to_come arrivals.old < 2 ^ 32 }
     ensures kept { LosesAtMost (most_lost (rows * left) result) root.old root.new }
-    ensures fed { HasFed S.given S.most_to_come S.has_ended S.follows feeding.old arrivals.old feeding.new arrivals.new result }
+    ensures fed { HasFed S.gives S.most_to_come S.has_ended feeding.old arrivals.old feeding.new arrivals.new result }
     ensures ok { IfOk result (Worked (λ log gots. Workers rows left root.old log gots root.new) left (view feeding.old.pass) (view feeding.new.pass)) }
 {
     if left == 0 {
@@ -186,7 +186,7 @@ fn run_some<'s, 'e: 's, R: Threads + Wait + Sync, S: Arrivals, G: Gate + Sync>(
     requires ready { IsReady place.workers feeding.old }
     requires few { S.most_to_come arrivals.old < 2 ^ 32 }
     ensures kept { LosesAtMost (most_lost (handed_out place.entry.workers root.old.free) result) root.old root.new }
-    ensures fed { HasFed S.given S.most_to_come S.has_ended S.follows feeding.old arrivals.old feeding.new arrivals.new result }
+    ensures fed { HasFed S.gives S.most_to_come S.has_ended feeding.old arrivals.old feeding.new arrivals.new result }
     ensures ok { IfOk result (Worked (λ log gots. Work place.entry.workers root.old log gots root.new) place.entry.workers (view feeding.old.pass) (view feeding.new.pass)) }
 {
     if place.workers == 1 {
@@ -209,7 +209,7 @@ pub(crate) fn run_all<R: Threads + Wait + Sync, S: Arrivals, G: Gate + Sync>(
     requires ready { IsReady place.workers feeding.old }
     requires few { S.most_to_come arrivals.old < 2 ^ 32 }
     ensures kept { LosesAtMost (most_lost (handed_out place.entry.workers root.old.free) result) root.old root.new }
-    ensures fed { HasFed S.given S.most_to_come S.has_ended S.follows feeding.old arrivals.old feeding.new arrivals.new result }
+    ensures fed { HasFed S.gives S.most_to_come S.has_ended feeding.old arrivals.old feeding.new arrivals.new result }
     ensures ok { IfOk result (Worked (λ log gots. Work place.entry.workers root.old log gots root.new) place.entry.workers (view feeding.old.pass) (view feeding.new.pass)) }
 {
     let (root, feeding, arrivals, accepted) = thread::scope(
@@ -219,7 +219,7 @@ pub(crate) fn run_all<R: Threads + Wait + Sync, S: Arrivals, G: Gate + Sync>(
             requires { IsSync R.row × IsSync G.row × IsPassOf place.board.now root.now × ((0 < place.workers) × (place.workers ≤ 8)) × (receives_on place.end.now ≡ sends_on feeding.now.channel) × IsReady place.workers feeding.now × (S.most_to_come arrivals.now < 2 ^ 32) }
             ensures names { (result.0.ghost_name ≡ root.entry.ghost_name) × (result.1.ghost_name ≡ feeding.entry.ghost_name) × (result.2.ghost_name ≡ arrivals.entry.ghost_name) }
             ensures kept { LosesAtMost (most_lost (handed_out place.entry.workers root.entry.now.free) result.3) root.entry.now result.0.now }
-            ensures fed { HasFed S.given S.most_to_come S.has_ended S.follows feeding.entry.now arrivals.entry.now result.1.now result.2.now result.3 }
+            ensures fed { HasFed S.gives S.most_to_come S.has_ended feeding.entry.now arrivals.entry.now result.1.now result.2.now result.3 }
             ensures ok { IfOk result.3 (Worked (λ log gots. Work place.entry.workers root.entry.now log gots result.0.now) place.entry.workers (view feeding.entry.now.pass) (view result.1.now.pass)) }
         {
             let accepted = run_some(scope, place, root, feeding, arrivals);

@@ -14,6 +14,14 @@ use wb_names::Drawop;
 /// What a batch answers.
 pub(crate) type Answer = Result<Batch, FeedFault>;
 
+/// The counts alone.
+pub(crate) fn counted(taken: Result<(Batch, Vec<Drawop>), FeedFault>) -> Answer {
+    match taken {
+        Ok((batch, _)) => Ok(batch),
+        Err(fault) => Err(fault),
+    }
+}
+
 /// What the drawops, as a batch on a new board of so many cells, are answered, and the desk then. None where
 /// memory is refused before.
 pub(crate) fn take_all<R: Threads + Wait + Sync, G: Gate + Sync>(
@@ -26,8 +34,8 @@ pub(crate) fn take_all<R: Threads + Wait + Sync, G: Gate + Sync>(
 ) -> Option<(Answer, Desk)> {
     let mut source = Listed::new(drawops);
     let (board, mut desk) = Board::open(alloc, cells).ok()?;
-    let batch = run_batch(rt, alloc, &board, &mut desk, workers, &mut source, gate);
-    Some((batch, desk))
+    let taken = run_batch(rt, alloc, &board, &mut desk, workers, &mut source, gate);
+    Some((counted(taken), desk))
 }
 
 pub(crate) fn counts(fresh: u32, again: u32, clash: u32, left: u32) -> Answer {
@@ -168,9 +176,9 @@ fn is_accepted_inside_next<R: Threads + Wait + Sync>(rt: &R, alloc: Global) -> O
         call,
     };
     let (board, mut desk) = Board::open(alloc, 4).ok()?;
-    let batch = run_batch(rt, alloc, &board, &mut desk, 1, &mut source, &gate);
+    let taken = run_batch(rt, alloc, &board, &mut desk, 1, &mut source, &gate);
     let in_time = gate.call.begun.late() == 0 && gate.call.accepted.late() == 0;
-    Some(batch == counts(2, 0, 0, 0) && in_time)
+    Some(counted(taken) == counts(2, 0, 0, 0) && in_time)
 }
 
 #[test]

@@ -2,7 +2,7 @@
 
 ghost use Rattle.wb_history.specs.Passes.{IsPassOf};
 
-use crate::batches::counts;
+use crate::batches::{counted, counts};
 use crate::gates::{Meeting, OneFirst, TURNS};
 use crate::samples::{Answer, PAGE, accepts, are_letters, drawop, drawops, open_two};
 use crate::sources::Listed;
@@ -151,7 +151,7 @@ fn take_all<R: Threads + Wait + Sync>(
 ) -> Result<Batch, FeedFault>
     requires { IsPassOf board.now desk }
 {
-    run_batch(rt, alloc, board, &mut desk, workers, &mut source, gate)
+    counted(run_batch(rt, alloc, board, &mut desk, workers, &mut source, gate))
 }
 
 /// Whether a batch is taken by so many workers, who are all held after the first accept until a thread beside them

@@ -74,7 +74,7 @@ fn takes_all<R: Threads + Wait + Sync>(
     };
     let mut source = Listed::new(arrivals);
     match run_batch(rt, alloc, board, desk, workers, &mut source, &NoGate) {
-        Ok(batch) => Some(
+        Ok((batch, _)) => Some(
             batch.clash == 0
                 && batch.left == 0
                 && batch.fresh.saturating_add(batch.again) == ARRIVALS,

@@ -1,6 +1,8 @@
 //! Sources of arrivals.
 
-ghost use Rattle.std.specs.Prelude.{take, ◌-◌};
+ghost use Rattle.std.specs.Prelude.{◌≡◌, ◌++◌, take, ◌-◌};
+ghost use Rattle.std.proofs.Common.{sym, ap, ◌∙◌, append_assoc};
+ghost use Rattle.std.proofs.lemmas.List.{append-nil};
 
 use crate::gates::Inside;
 use std::alloc::Global;
@@ -30,17 +32,15 @@ impl Listed {
 }
 
 impl Arrivals for Listed {
-    ghost given = { λ s. take s.next s.all.items };
+    ghost gives = { λ a ds b. take b.next b.all.items ≡ take a.next a.all.items ++ ds };
 
     ghost has_ended = { λ s. s.ended };
 
     ghost most_to_come = { λ s. s.end - s.next };
 
-    ghost follows = { λ _ _. Unit {0} };
+    ghost gives_none = { λ s. sym (append-nil (take s.next s.all.items)) };
 
-    ghost follows_itself = { λ _. tt };
-
-    ghost follows_on = { λ _ _ _ _ _. tt };
+    ghost gives_on = { λ a b c ds es p q. q ∙ ap (λ l. l ++ es) p ∙ append_assoc (take a.next a.all.items) ds es };
 
     fn next(&mut self) -> Option<Drawop> {
         let at = self.next as usize;
@@ -67,17 +67,15 @@ pub(crate) struct Waits {
 }
 
 impl Arrivals for Waits {
-    ghost given = { λ s. take s.next s.all };
+    ghost gives = { λ a ds b. take b.next b.all ≡ take a.next a.all ++ ds };
 
     ghost has_ended = { λ s. s.ended };
 
     ghost most_to_come = { λ s. 2 - s.next };
 
-    ghost follows = { λ _ _. Unit {0} };
+    ghost gives_none = { λ s. sym (append-nil (take s.next s.all)) };
 
-    ghost follows_itself = { λ _. tt };
-
-    ghost follows_on = { λ _ _ _ _ _. tt };
+    ghost gives_on = { λ a b c ds es p q. q ∙ ap (λ l. l ++ es) p ∙ append_assoc (take a.next a.all) ds es };
 
     fn next(&mut self) -> Option<Drawop> {
         if self.next >= 2 {

@@ -1,13 +1,8 @@
 -- What an arrive line says.
-use Rattle.std.proofs.Common.{◌≡◌, ◌≤◌, ℕ, ◌%◌, List, Bool, true, false, Result, Ok, Err, refl, ap, sym, ◌∙◌, arith, length}
-use Rattle.std.specs.Prelude.{Some, None, IfErr, ◌&&◌, nat_eq}
-use Rattle.std.specs.List.{list_all}
+use Rattle.std.proofs.Common.{◌≡◌, ◌≤◌, ℕ, List, true, false, Result, Ok, Err, refl, ap, ◌∙◌, arith}
+use Rattle.std.specs.Prelude.{Some, IfErr}
 use Rattle.std.specs.Result.{result_ok}
-use Rattle.std.proofs.lemmas.Bool.{true≢false}
-use Rattle.std.proofs.lemmas.Bool.Decides.{nat_tests}
-use Rattle.std.proofs.lemmas.List.Sums.{AllPass-from_list_all, list_all-from_AllPass}
-use Rattle.hex.specs.Hex.{decode_of, is_hex_digit}
-use Rattle.hex.proofs.HexLemmas.{decode_of-ok, decode_of-digits}
+use Rattle.hex.specs.Hex.{decode_of}
 use Rattle.wb_codec.specs.Reading.{reading}
 use Rattle.wb_codec.specs.Grammar.{Spells}
 use Rattle.wb_codec.proofs.GrammarLaws.{reading_again}
@@ -15,7 +10,7 @@ use Rattle.wb_codec.specs.declared.datagram.Datagram.{Datagram}
 use Rattle.wb_codec.specs.declared.fault.ReadFault.{ReadFault}
 use Rattle.wb_script.specs.declared.fault.LineFault.TheVariants as faults
 use Rattle.wb_script.specs.Faults.{line_code}
-use Rattle.wb_lines.specs.Words.{is_hex, unhex}
+use Rattle.wb_lines.specs.Words.{is_hex}
 use Rattle.wb_lines.proofs.HexWords.{unhex-not_hex, unhex-hex}
 use Rattle.wb_script.specs.Parsing.{one_of, datagram, spelled}
 

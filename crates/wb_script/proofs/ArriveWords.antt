@@ -1,6 +1,6 @@
 -- A line that hands in an arrival has no carriage return at its end.
 use Rattle.std.proofs.Common.{◌≡◌, ℕ, ◌-◌, ◌^◌, ◌%◌, ◌⊎◌, Bool, true, false, cond, List, [], ◌∷◌, ◌++◌, length, Result, Ok, Err, inl, inr, refl, sym, ap, ◌∙◌, arith, length-append}
-use Rattle.std.specs.Prelude.{Option, Some, None, nat_eq, ◌&&◌, codes, if◌then◌else◌}
+use Rattle.std.specs.Prelude.{Option, Some, None, nat_eq, ◌&&◌, codes}
 use Rattle.std.specs.List.{list_all}
 use Rattle.std.specs.Str.{bytes_eq}
 use Rattle.std.specs.Str.Lines.{strip_carriage_return}
@@ -8,7 +8,7 @@ use Rattle.std.proofs.lemmas.Bool.Decides.{nat_tests}
 use Rattle.hex.specs.Hex.{is_hex_digit}
 use Rattle.wb_names.specs.Values.{DrawopValue}
 use Rattle.wb_names.specs.declared.name.PageId.{PageId}
-use Rattle.wb_lines.specs.Words.{words, words_after, is_hex, unhex}
+use Rattle.wb_lines.specs.Words.{words_after, is_hex, unhex}
 use Rattle.wb_lines.proofs.HexWords.{unhex-not_hex}
 use Rattle.wb_lines.proofs.StandingLines.{stripped}
 use Rattle.wb_codec.specs.declared.datagram.Datagram.{Datagram}

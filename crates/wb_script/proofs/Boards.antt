@@ -16,11 +16,11 @@ use Rattle.wb_host.specs.Board.{IsAnswer, AskGaps, AskReport, AskPages, AskView,
 use Rattle.wb_host.specs.Desks.{ReadsOn}
 use Rattle.wb_feed.specs.declared.batch.Batch.{Batch}
 use Rattle.wb_feed.specs.Accepts.{Keeps as DeskKeeps}
-use Rattle.wb_feed.specs.Batches.{counts_in, IsInOrder, TakesMore}
+use Rattle.wb_feed.specs.Batches.{counts_in, IsInOrder, Takes}
 use Rattle.wb_script.specs.Board.{Held, held_of, OwnsAll}
 use Rattle.wb_script.specs.Hosts.{board_after}
 use Rattle.wb_script.specs.Queries.{view_of}
-use Rattle.wb_script.specs.Stations.{TakesAll, TakesGiven}
+use Rattle.wb_script.specs.Stations.{TakesAll}
 use Rattle.wb_script.proofs.Queries.{only_view}
 
 kept : (b : HistoryValue) (p q : PassValue) → OwnsAll b p → IsSamePass p q → IsSound q → KeepsRows p q → OwnsAll b q
@@ -33,8 +33,8 @@ kept b p q owns same sound rows = record {
 -- ---- a batch
 
 -- a desk that took a batch still owns all rows
-pub owns_after : (b : HistoryValue) (p q : PassValue) (given given' : List DrawopValue) (workers : ℕ) (n : Batch) → OwnsAll b p → DeskKeeps p q → IsSound q → TakesMore p given workers q given' n → OwnsAll b q
-owns_after b p q given given' workers n owns keeps sound takes = record { from = keeps.same.0 ∙ owns.from; whole = takes.takes.whole owns.whole; sound = sound }
+pub owns_after : (b : HistoryValue) (p q : PassValue) (batch : List DrawopValue) (workers : ℕ) (n : Batch) → OwnsAll b p → DeskKeeps p q → IsSound q → Takes p batch workers q n → OwnsAll b q
+owns_after b p q batch workers n owns keeps sound takes = record { from = keeps.same.0 ∙ owns.from; whole = takes.whole owns.whole; sound = sound }
 
 -- one thread that takes it in this order
 in_order : (p q : PassValue) (h : Held) (workers : ℕ) (batch order : List DrawopValue) (n : Batch) → held_of p ≡ h → IsSound p → q.cells ≡ p.cells → IsPermutation batch order → (workers ≤ 1 → order ≡ batch) → IsInOrder p order q n → TakesAll h workers batch (held_of q) (counts_in n)
@@ -47,19 +47,19 @@ in_order p q h workers batch order n view sound cells moved alone taken =
       counts = r.1 ∙ ap (λ (k : Held). counts_of (outcomes_of k.cells k.drawops order)) view;
     }
 
--- what a batch leads to that was drawn from a source
-pub taken_given : (b : HistoryValue) (p q : PassValue) (h : Held) (workers : ℕ) (given given' : List DrawopValue) (n : Batch) → held_of p ≡ h → OwnsAll b p → 0 < workers
-    → DeskKeeps p q → TakesMore p given workers q given' n → TakesGiven h workers given given' (held_of q) (counts_in n)
-taken_given b p q h workers given given' n view owns some keeps takes = (takes.more, takes.next, at (nat_le workers 1) refl) where
-  at : (alone : Bool) → nat_le workers 1 ≡ alone → TakesAll h workers takes.more (held_of q) (counts_in n)
+-- what a batch leads to
+pub takes_all : (b : HistoryValue) (p q : PassValue) (h : Held) (workers : ℕ) (batch : List DrawopValue) (n : Batch) → held_of p ≡ h → OwnsAll b p → 0 < workers
+    → DeskKeeps p q → Takes p batch workers q n → TakesAll h workers batch (held_of q) (counts_in n)
+takes_all b p q h workers batch n view owns some keeps takes = at (nat_le workers 1) refl where
+  at : (alone : Bool) → nat_le workers 1 ≡ alone → TakesAll h workers batch (held_of q) (counts_in n)
   at true e =
       let low : workers ≤ 1 = grind (arith, nat_tests, e) in
       let one : workers ≡ 1 = omega (arith, low, some) in
-      in_order p q h workers takes.more takes.more n view owns.sound keeps.same.1 (IsPermutation-refl takes.more) (λ a. refl) (takes.takes.in_order one owns.whole)
+      in_order p q h workers batch batch n view owns.sound keeps.same.1 (IsPermutation-refl batch) (λ a. refl) (takes.in_order one owns.whole)
   at false e =
       let high : 1 < workers = grind (arith, nat_tests, e) in
-      let settled = takes.takes.settled owns.whole in
-      in_order p q h workers takes.more settled.order n view owns.sound keeps.same.1 settled.moved (λ a. absurd (omega (arith, a, high))) settled.taken
+      let settled = takes.settled owns.whole in
+      in_order p q h workers batch settled.order n view owns.sound keeps.same.1 settled.moved (λ a. absurd (omega (arith, a, high))) settled.taken
 
 -- a question: the desk still owns all rows, and holds the same
 pub read_on : (b : HistoryValue) (p q : PassValue) → OwnsAll b p → ReadsOn p q → OwnsAll b q

@@ -5,7 +5,6 @@ use Rattle.std.specs.Option.{is_some}
 use Rattle.std.proofs.lemmas.Bool.{false≢true, true≢false}
 use Rattle.std.proofs.lemmas.List.{append-nil}
 use Rattle.wb_names.specs.Values.{DrawopValue}
-use Rattle.wb_names.specs.Arrivals.{Counts}
 use Rattle.wb_feed.specs.Batches.{counts_in}
 use Rattle.wb_host.specs.Keeper.{Arrive, holds}
 use Rattle.wb_host.specs.Keeping.{KeeperValue, Keeps}
@@ -15,23 +14,19 @@ use Rattle.wb_script.specs.declared.taking.Drawn.{Drawn}
 use Rattle.wb_script.specs.declared.taking.Taken.{Taken}
 use Rattle.wb_script.specs.Answers.{batch_line}
 use Rattle.wb_lines.specs.Ahead.{Ahead}
-use Rattle.wb_script.specs.Board.{Held}
 use Rattle.wb_script.specs.Hosts.{Opened, opened, batch_text, names_of}
 use Rattle.wb_script.specs.Inside.Lines.{LinesValue}
 use Rattle.wb_script.specs.Script.{State, IsAlone, MayBeTaken, by_host, after_batch, closing_text, Finishes, is_stop, IsStop}
 use Rattle.wb_script.specs.Inside.Passing.{IsAhead, Passes, Stops}
-use Rattle.wb_script.specs.Stations.{StationValue, IsOpenAt, TakesAll, TakesGiven}
+use Rattle.wb_script.specs.Stations.{StationValue, IsOpenAt}
 use Rattle.wb_script.specs.Inside.Steps.{TakesBatch}
-use Rattle.wb_script.specs.Inside.Reading.{IsOpen, IsBatchEnd, with_waiting, DrawsValue, listed, batch_of, GetsTo, ReadsOn}
+use Rattle.wb_script.specs.Inside.Reading.{IsOpen, IsBatchEnd, with_waiting, DrawsValue, listed, GetsTo, ReadsOn}
 use Rattle.wb_script.specs.Inside.Taking.{GetsOver, IsDrawn, IsFault, TakesFrom, DrawsAll, GoesOn, TakesOn}
 use Rattle.wb_script.proofs.EarlyEnds.{early_end, finish_leads}
 use Rattle.wb_script.proofs.Outcomes.{Leads-then, Passes-then}
 use Rattle.wb_script.proofs.Steps.{taken}
 
--- ---- a batch whose source gave nothing before
-
-pub all_drawn : (b b' : Held) (workers : ℕ) (old new : List DrawopValue) (n : Counts) → old ≡ [] → TakesGiven b workers old new b' n → TakesAll b workers new b' n
-all_drawn b b' workers old new n none t = subst (λ (l : List DrawopValue). TakesAll b workers l b' n) (sym (t.1 ∙ ap (λ (l : List DrawopValue). l ++ t.0) none)) t.2
+-- ---- how it ended
 
 pub stop_is : (f : RunFault) → is_stop f ≡ true → IsStop f
 stop_is run_faults.Memory e = tt
@@ -47,7 +42,6 @@ err_of X e = Err e
 pub same_fault : {X : Type 0} (e f : RunFault) → err_of X e ≡ Err f → e ≡ f
 same_fault e f h = cc
 
--- how it ended
 pub ended_well : (over : Option (Result (Unit {0}) RunFault)) (fault : Option RunFault) (u : Unit {0}) → over ≡ Some (Ok u) → fault ≡ None → IsFault over fault
 ended_well over fault u e none = subst (λ (o : Option (Result (Unit {0}) RunFault)). IsFault o fault) (sym e) none
 
@@ -63,50 +57,42 @@ not_ended (Some o) none e = absurd cc
 
 -- ---- from how it ended, what was read
 
-not_short : (over : Option (Result (Unit {0}) RunFault)) (fault : Option RunFault) → IsFault over fault → over ≢ Some (Err run_faults.Memory)
-not_short None fault f = absurd f
-not_short (Some (Ok u)) fault f = λ e. cc
-not_short (Some (Err e)) fault f = λ is. let memory : e ≡ run_faults.Memory = cc in true≢false (ap is_stop (sym memory) ∙ f.1)
+first_drawn : (over : Option (Result (Unit {0}) RunFault)) (fault : Option RunFault) (s : State) (old : DrawsValue) (drawn : List DrawopValue) (new : DrawsValue) (given : List ℕ) → IsFault over fault → GetsTo over s old drawn new given → new.at.first ≡ None
+first_drawn None fault s old drawn new given f p = absurd f
+first_drawn (Some (Ok u)) fault s old drawn new given f p = p.0
+first_drawn (Some (Err e)) fault s old drawn new given f p = p.0
 
-first_drawn : (over : Option (Result (Unit {0}) RunFault)) (fault : Option RunFault) (s : State) (old new : DrawsValue) (given : List ℕ) → IsFault over fault → GetsTo over s old new given → new.at.first ≡ None
-first_drawn None fault s old new given f p = absurd f
-first_drawn (Some (Ok u)) fault s old new given f p = p.0
-first_drawn (Some (Err e)) fault s old new given f p = p.0
+-- Where none wait at its start, the first waits then, and at its end all that were drawn.
+gets_over : (over : Option (Result (Unit {0}) RunFault)) (fault : Option RunFault) (s : State) (old : DrawsValue) (drawn : List DrawopValue) (new : DrawsValue) (first : DrawopValue) (given : List ℕ) → old.at.first ≡ Some first → IsFault over fault
+    → GetsTo over (with_waiting s []) old drawn new given → GetsOver fault s old.at.lines first given new.at.lines new.failed drawn
+gets_over over fault s old drawn new first given is f p = on over f p where
+  end : drawn ++ listed new.at.first ≡ drawn
+  end = ap (λ (o : Option DrawopValue). drawn ++ listed o) (first_drawn over fault (with_waiting s []) old drawn new given f p) ∙ append-nil drawn
 
-at_first : (drawn : List DrawopValue) (first : Option DrawopValue) (d : DrawopValue) → drawn ≡ [] → first ≡ Some d → drawn ++ listed first ≡ d ∷ []
-at_first drawn first d none is = ap (λ (l : List DrawopValue). l ++ listed first) none ∙ ap listed is
+  on : (over : Option (Result (Unit {0}) RunFault)) → IsFault over fault → GetsTo over (with_waiting s []) old drawn new given → GetsOver fault s old.at.lines first given new.at.lines new.failed drawn
+  on None f p = absurd f
+  on (Some (Ok u)) f p =
+      subst (λ (x : Option RunFault). GetsOver x s old.at.lines first given new.at.lines new.failed drawn) (sym f)
+      (p.1, subst (λ (x : List DrawopValue × List DrawopValue). Passes old.at.lines.done (with_waiting s x.0) old.at.lines.ahead given [] new.at.lines.done (with_waiting s x.1) new.at.lines.ahead) (λ k. (listed (is k), end k)) p.2)
+  on (Some (Err e)) f p =
+      subst (λ (x : Option RunFault). GetsOver x s old.at.lines first given new.at.lines new.failed drawn) (sym f.0)
+      (f.1, subst (λ (x : List DrawopValue × List DrawopValue). Stops old.at.lines.done (with_waiting s x.0) old.at.lines.ahead given [] (with_waiting s x.1) new.at.lines.ahead new.failed e) (λ k. (listed (is k), end k)) p.1)
 
-at_last : (drawn : List DrawopValue) (first : Option DrawopValue) → first ≡ None → drawn ++ listed first ≡ drawn
-at_last drawn first none = ap (λ (o : Option DrawopValue). drawn ++ listed o) none ∙ append-nil drawn
+some_drawn : (old new : Option DrawopValue) (drawn : List DrawopValue) (first : DrawopValue) → old ≡ Some first → new ≡ None → length (listed old) ≤ length (drawn ++ listed new) → 0 < length drawn
+some_drawn old new drawn first start end kept =
+    omega (arith, kept, ap (λ (o : Option DrawopValue). length (listed o)) start, ap (λ (o : Option DrawopValue). length (drawn ++ listed o)) end, ap (λ (l : List DrawopValue). length l) (append-nil drawn))
 
-gets_over : (over : Option (Result (Unit {0}) RunFault)) (fault : Option RunFault) (s : State) (old new : DrawsValue) (first : DrawopValue) (given : List ℕ) → batch_of old.at ≡ first ∷ [] → batch_of new.at ≡ new.at.drawn → IsFault over fault → GetsTo over s old new given
-    → GetsOver fault s old.at.lines first given new.at.lines new.failed new.at.drawn
-gets_over None fault s old new first given start end f p = absurd f
-gets_over (Some (Ok u)) fault s old new first given start end f p =
-    let read : Passes old.at.lines.done (with_waiting s (first ∷ [])) old.at.lines.ahead given [] new.at.lines.done (with_waiting s (batch_of new.at)) new.at.lines.ahead =
-    subst (λ (l : List DrawopValue). Passes old.at.lines.done (with_waiting s l) old.at.lines.ahead given [] new.at.lines.done (with_waiting s (batch_of new.at)) new.at.lines.ahead) start p.2 in
-    subst (λ (x : Option RunFault). GetsOver x s old.at.lines first given new.at.lines new.failed new.at.drawn) (sym f)
-    (p.1, subst (λ (l : List DrawopValue). Passes old.at.lines.done (with_waiting s (first ∷ [])) old.at.lines.ahead given [] new.at.lines.done (with_waiting s l) new.at.lines.ahead) end read)
-gets_over (Some (Err e)) fault s old new first given start end f p =
-    let read : Stops old.at.lines.done (with_waiting s (first ∷ [])) old.at.lines.ahead given [] (with_waiting s (batch_of new.at)) new.at.lines.ahead new.failed e =
-    subst (λ (l : List DrawopValue). Stops old.at.lines.done (with_waiting s l) old.at.lines.ahead given [] (with_waiting s (batch_of new.at)) new.at.lines.ahead new.failed e) start p.1 in
-    subst (λ (x : Option RunFault). GetsOver x s old.at.lines first given new.at.lines new.failed new.at.drawn) (sym f.0)
-    (f.1, subst (λ (l : List DrawopValue). Stops old.at.lines.done (with_waiting s (first ∷ [])) old.at.lines.ahead given [] (with_waiting s l) new.at.lines.ahead new.failed e) end read)
-
-some_drawn : (old new drawn : List DrawopValue) (first : DrawopValue) → old ≡ first ∷ [] → new ≡ drawn → length old ≤ length new → 0 < length drawn
-some_drawn old new drawn first start end kept = omega (arith, kept, ap (λ (l : List DrawopValue). length l) start, ap (λ (l : List DrawopValue). length l) end)
-
-pub draws_all : (station : StationValue) (workers : ℕ) (old new : DrawsValue) (first : DrawopValue) (r : ReadsOn old new) (result : Result Drawn RunFault) → old.at.drawn ≡ [] → old.at.first ≡ Some first → TakesFrom station workers new.at.drawn new.over result
-    → DrawsAll station workers old.at.lines first r.given new.at.lines new.failed new.at.drawn result
-draws_all station workers old new first r (Ok d) none is t = (
-  t.0,
+pub draws_all : (station : StationValue) (workers : ℕ) (old new : DrawsValue) (first : DrawopValue) (drawn : List DrawopValue) (r : ReadsOn old drawn new) (result : Result Drawn RunFault) → old.at.first ≡ Some first → TakesFrom station workers drawn new.over result
+    → DrawsAll station workers old.at.lines first r.given new.at.lines new.failed result
+draws_all station workers old new first drawn r (Ok d) is t = (
+  t.1,
   λ s opened.
-      let p : GetsTo new.over s old new r.given = r.gets s opened in
-      let start : batch_of old.at ≡ first ∷ [] = at_first old.at.drawn old.at.first first none is in
-      let end : batch_of new.at ≡ new.at.drawn = at_last new.at.drawn new.at.first (first_drawn new.over d.fault s old new r.given t.1 p) in
-      (some_drawn (batch_of old.at) (batch_of new.at) new.at.drawn first start end (r.kept (not_short new.over d.fault t.1)), gets_over new.over d.fault s old new first r.given start end t.1 p),
+      let p : GetsTo new.over (with_waiting s []) old drawn new r.given = r.gets (with_waiting s []) opened in
+      let end : new.at.first ≡ None = first_drawn new.over d.fault (with_waiting s []) old drawn new r.given t.2 p in
+      subst (λ (l : List DrawopValue). (0 < length l) × GetsOver d.fault s old.at.lines first r.given new.at.lines new.failed l) (sym t.0)
+      (some_drawn old.at.first new.at.first drawn first is end r.kept, gets_over new.over d.fault s old drawn new first r.given is t.2 p),
 )
-draws_all station workers old new first r (Err f) none is t = t
+draws_all station workers old new first drawn r (Err f) is t = t
 
 -- ---- the batch is taken
 
@@ -139,16 +125,17 @@ closing_is : (o : Option Opened) (host : Opened) (order : List DrawopValue) → 
 closing_is o host order e = ap (λ (h : Option Opened). by_host {X = List ℕ} h [] (λ k. batch_text k.board order)) e
 
 -- what a station prints and tells its keeper of a batch that it has taken
-pub record IsTold (drawn : List DrawopValue) (d : Drawn) (station : StationValue) (written : List ℕ) : Type 0 where
+pub record IsTold (d : Drawn) (station : StationValue) (written : List ℕ) : Type 0 where
   pub text : written ≡ batch_line (counts_in d.batch)
   pub board : station.board ≡ d.station.board
   pub words : station.words ≡ d.station.words
-  pub keeper : Keeps (Arrive d.station.keeper.moment (filter (holds d.station.board.drawops) (names_of drawn))) d.station.keeper station.keeper
+  pub keeper : Keeps (Arrive d.station.keeper.moment (filter (holds d.station.board.drawops) (names_of d.drawops.items))) d.station.keeper station.keeper
 
 -- the station is at the host after the batch
-told_at : (old : StationValue) (workers : ℕ) (drawn : List DrawopValue) (d : Drawn) (station : StationValue) (written : List ℕ) (host : Opened) (is : IsDrawn old workers drawn d) → 0 < length drawn → IsTold drawn d station written → IsOpenAt old host
-    → TakesBatch host drawn is.taken.order station written
-told_at old workers drawn d station written host is some told at =
+told_at : (old : StationValue) (workers : ℕ) (d : Drawn) (station : StationValue) (written : List ℕ) (host : Opened) (is : IsDrawn old workers d) → 0 < length d.drawops.items → IsTold d station written → IsOpenAt old host
+    → TakesBatch host d.drawops.items is.taken.order station written
+told_at old workers d station written host is some told at =
+    let drawn = d.drawops.items in
     let keeps : Keeps (Arrive old.keeper.moment (filter (holds d.station.board.drawops) (names_of drawn))) old.keeper station.keeper =
     subst (λ (k : KeeperValue). Keeps (Arrive k.moment (filter (holds d.station.board.drawops) (names_of drawn))) k station.keeper) is.keeper told.keeper in
     let t = taken old.board d.station.board old.keeper station.keeper old.words drawn is.taken.order (names_of drawn) written (counts_in d.batch) host some (record { board = at.board; keeper = at.keeper; words = at.words }) refl is.taken.may.moved is.taken.counts is.taken.held told.text keeps in
@@ -157,12 +144,13 @@ told_at old workers drawn d station written host is some told at =
       text = t.text;
     }
 
-pub takes_on : (old : StationValue) (workers : ℕ) (drawn : List DrawopValue) (d : Drawn) (station : Taken) (written given : List ℕ) (lines lines' : LinesValue) (first : DrawopValue) (failed : Bool) (s : State) (host : Opened)
-    → s.host ≡ Some host → (IsAlone s.workers → workers ≤ 1) → IsOpenAt old host → IsDrawn old workers drawn d → IsTold drawn d station.station written → station.fault ≡ d.fault
-    → (IsOpen s.host → (0 < length drawn) × GetsOver d.fault s lines first given lines' failed drawn) → TakesOn s host lines first given written lines' failed station
-takes_on old workers drawn d station written given lines lines' first failed s host here few at is told same read =
+pub takes_on : (old : StationValue) (workers : ℕ) (d : Drawn) (station : Taken) (written given : List ℕ) (lines lines' : LinesValue) (first : DrawopValue) (failed : Bool) (s : State) (host : Opened)
+    → s.host ≡ Some host → (IsAlone s.workers → workers ≤ 1) → IsOpenAt old host → IsDrawn old workers d → IsTold d station.station written → station.fault ≡ d.fault
+    → (IsOpen s.host → (0 < length d.drawops.items) × GetsOver d.fault s lines first given lines' failed d.drawops.items) → TakesOn s host lines first given written lines' failed station
+takes_on old workers d station written given lines lines' first failed s host here few at is told same read =
+    let drawn = d.drawops.items in
     let opened : IsOpen s.host = subst IsOpen (sym here) tt in
-    let t = told_at old workers drawn d station.station written host is (read opened).0 told at in
+    let t = told_at old workers d station.station written host is (read opened).0 told at in
     let may : MayBeTaken s.workers drawn is.taken.order = record { moved = is.taken.may.moved; alone = λ a. is.taken.may.alone (few a) } in
     let text : closing_text (with_waiting s drawn) is.taken.order ≡ written = closing_is s.host host is.taken.order here ∙ sym t.text in
     let goes : GoesOn d.fault s lines first given (closing_text (with_waiting s drawn) is.taken.order) lines' failed (after_batch (with_waiting s drawn) is.taken.order) =

@@ -12,7 +12,7 @@ use Rattle.wb_script.specs.declared.fault.RunFault.TheVariants as run_faults
 use Rattle.wb_script.specs.Hosts.{Opened, present, names_of, board_after, calls_after}
 use Rattle.wb_script.specs.Reordering.{part_unless, part_at, other_than, onto_batch, AreRearranged}
 use Rattle.wb_lines.specs.Input.{InputLine, content, most_bytes}
-use Rattle.wb_script.specs.Script.{State, by_host, Part, Arrival, Nothing, End, part_in, part_step, Outcome, finish, proceed, most_lines, outcome_from, fault_at}
+use Rattle.wb_script.specs.Script.{State, by_host, Part, Arrival, Nothing, End, part_in, part_step, finish, proceed, most_lines, outcome_from, fault_at}
 use Rattle.wb_script.proofs.AlikeCalls.{TellAlike, arrive_alike}
 use Rattle.wb_script.proofs.AlikeHosts.{told}
 use Rattle.wb_script.proofs.Simulations.{course, course_is}

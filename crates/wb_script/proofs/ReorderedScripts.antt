@@ -1,6 +1,6 @@
 -- Lines that are reordered inside their batches, as a script: an arrival gets the end of the line whose place it takes.
 use Rattle.std.proofs.Common.{◌≡◌, ℕ, ◌+◌, Bool, true, false, cond, List, [], ◌∷◌, ◌++◌, length, map, inl, inr, ◌⊎◌, refl, sym, ap, ap₂, subst, ◌∙◌, arith, length-append}
-use Rattle.std.specs.Prelude.{Option, Some, None, IsPermutation, nat_le, nat_lt, All, ◌||◌, not}
+use Rattle.std.specs.Prelude.{Option, Some, None, nat_le, All}
 use Rattle.std.specs.Str.Lines.{strip_carriage_return}
 use Rattle.std.proofs.lemmas.Bool.Decides.{nat_tests}
 use Rattle.std.proofs.lemmas.List.Elements.{All-nil, All-cons, All-head, All-tail}
@@ -8,10 +8,10 @@ use Rattle.std.proofs.lemmas.List.Sorted.{All-permutation, IsPermutation-map}
 use Rattle.wb_names.specs.Values.{DrawopValue}
 use Rattle.wb_lines.specs.Ahead.{NoLineFeed}
 use Rattle.wb_lines.specs.Input.{InputLine, input_lines, content, most_bytes}
-use Rattle.wb_lines.proofs.StandingLines.{all_bytes, Stands, AreLines, reads, lines_again, stripped}
+use Rattle.wb_lines.proofs.StandingLines.{all_bytes, AreLines, reads, lines_again, stripped}
 use Rattle.wb_script.specs.declared.fault.RunFault.{RunFault}
 use Rattle.wb_script.specs.Parsing.{line_of}
-use Rattle.wb_script.specs.Reordering.{part_at, other_than, others_of, onto_batch, batches_with, batches_of, AreRearranged, IsReorderedBy, IsReordered, WorkersAreOneThread}
+use Rattle.wb_script.specs.Reordering.{part_at, other_than, others_of, batches_with, batches_of, AreRearranged, IsReorderedBy, WorkersAreOneThread}
 use Rattle.wb_script.specs.Script.{State, start, Outcome, Arrival, Nothing, End, Part, part_of, part_in, Step, goes, refused, step_of, before, proceed, outcome_from, fault_at}
 use Rattle.wb_script.specs.ScriptLaws.{EachEnds}
 use Rattle.wb_script.proofs.ArriveWords.{unreturned, some_bytes}

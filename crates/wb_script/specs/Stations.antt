@@ -1,5 +1,5 @@
 -- What a station holds, and how its board and its keeper get on.
-use Rattle.std.specs.Prelude.{◌≡◌, ℕ, List, [], ◌++◌, Option, Some, None, Result, Ok, Err, ◌⊎◌}
+use Rattle.std.specs.Prelude.{◌≡◌, ℕ, List, [], Option, Some, None, Result, Ok, Err, ◌⊎◌}
 use Rattle.wb_names.specs.Values.{DrawopValue}
 use Rattle.wb_names.specs.Arrivals.{Counts, counts_of, outcomes_of}
 use Rattle.rand_pcg.specs.Lcg.{Lcg}
@@ -36,10 +36,6 @@ pub record TakesAll (board : Held) (workers : ℕ) (batch : List DrawopValue) (a
   pub may : MayBeTaken (Some workers) batch order
   pub held : after ≡ board_after board order
   pub counts : counted ≡ counts_of (outcomes_of board.cells board.drawops order)
-
--- A board has taken what a source gave since by so many workers.
-abbrev pub TakesGiven : Held → ℕ → List DrawopValue → List DrawopValue → Held → Counts → Type 0
-TakesGiven board workers given given' after counted = (batch : List DrawopValue) × (given' ≡ given ++ batch) × TakesAll board workers batch after counted
 
 -- It does what a line is to do there, and prints its text; or it refuses the line of this number.
 abbrev pub DoesAct : {U : Type 0} → ℕ → Opened → StationValue → List ℕ → Result U RunFault → Act → Type 0

@@ -48,22 +48,16 @@ fn draw<R: Source, W: Sink>(
     source: &mut R,
     sink: &mut W,
     first: &mut Option<Drawop>,
-    drawn: &mut Vec<Drawop>,
 ) -> Result<Option<Drawop>, RunFault>
     ensures read { (given : List ℕ) × Pulls progress.old.lines.ahead progress.new.lines.ahead (R.left source.old) (R.left source.new) (R.has_failed source.old) (R.has_failed source.new) given
-        × DrawsTo (record { lines = progress.old.lines; drawn = drawn.old.items; first = first.old }) (record { lines = progress.new.lines; drawn = drawn.new.items; first = first.new }) given (R.has_failed source.new) result }
+        × DrawsTo (record { lines = progress.old.lines; first = first.old }) (record { lines = progress.new.lines; first = first.new }) given (R.has_failed source.new) result }
     ensures sends { Sends (W.taken sink.old) progress.old.output (W.taken sink.new) progress.new.output [] }
     ensures failed { result ≡ Err RunFault.Write → W.has_failed sink.new ≡ true }
 {
-    if let Some(drawop) = first.take() {
-        drawn.push(drawop)?;
-        return Ok(Some(drawop));
+    match first.take() {
+        Some(drawop) => Ok(Some(drawop)),
+        None => read_on(alloc, progress, source, sink),
     }
-    let Some(drawop) = read_on(alloc, progress, source, sink)? else {
-        return Ok(None);
-    };
-    drawn.push(drawop)?;
-    Ok(Some(drawop))
 }
 
 /// Draws the arrivals of a batch from a script: one whose line was taken before, and those of the lines that
@@ -74,8 +68,6 @@ pub struct Arriving<'a, R: Source, W: Sink> {
     pub progress: &'a mut Progress,
     pub source: &'a mut R,
     pub sink: &'a mut W,
-    /// The arrivals that were drawn.
-    pub drawn: &'a mut Vec<Drawop>,
     /// The first, while it was not drawn.
     pub first: Option<Drawop>,
     /// How the batch ended, once it has: a fault is why no more lines could be read.
@@ -84,20 +76,20 @@ pub struct Arriving<'a, R: Source, W: Sink> {
 
 impl<R: Source, W: Sink> Arrivals for Arriving<'_, R, W> {
     ghost use Rattle.std.specs.Prelude.{◌≡◌, refl};
-    ghost use Rattle.wb_script.specs.Inside.Reading.{Follows, most_of};
+    ghost use Rattle.wb_script.specs.Inside.Reading.{Gives, ReadsOn, most_of};
     ghost use Rattle.std.specs.Option.{is_some};
-    ghost use Rattle.std.proofs.Common.{◌∙◌};
+    ghost use Rattle.std.proofs.Common.{◌++◌, ◌∙◌, sym, subst, append_assoc};
+    ghost use Rattle.std.proofs.lemmas.List.{append-nil};
 
-    ghost given = { λ s. s.drawn.now.items };
+    ghost gives = { λ a ds b. (a.progress.ghost_name ≡ b.progress.ghost_name) × (a.source.ghost_name ≡ b.source.ghost_name) × (a.sink.ghost_name ≡ b.sink.ghost_name)
+        × Gives
+        (record { at = record { lines = a.progress.now.lines; first = a.first }; over = a.over; left = R.left a.source.now; failed = R.has_failed a.source.now; output = a.progress.now.output; taken = W.taken a.sink.now; stuck = W.has_failed a.sink.now })
+        ds
+        (record { at = record { lines = b.progress.now.lines; first = b.first }; over = b.over; left = R.left b.source.now; failed = R.has_failed b.source.now; output = b.progress.now.output; taken = W.taken b.sink.now; stuck = W.has_failed b.sink.now }) };
 
     ghost has_ended = { λ s. is_some s.over };
 
-    ghost most_to_come = { λ s. most_of (record { lines = s.progress.now.lines; drawn = s.drawn.now.items; first = s.first }) };
-
-    ghost follows = { λ a b. (a.progress.ghost_name ≡ b.progress.ghost_name) × (a.source.ghost_name ≡ b.source.ghost_name) × (a.sink.ghost_name ≡ b.sink.ghost_name) × (a.drawn.ghost_name ≡ b.drawn.ghost_name)
-        × Follows
-        (record { at = record { lines = a.progress.now.lines; drawn = a.drawn.now.items; first = a.first }; over = a.over; left = R.left a.source.now; failed = R.has_failed a.source.now; output = a.progress.now.output; taken = W.taken a.sink.now; stuck = W.has_failed a.sink.now })
-        (record { at = record { lines = b.progress.now.lines; drawn = b.drawn.now.items; first = b.first }; over = b.over; left = R.left b.source.now; failed = R.has_failed b.source.now; output = b.progress.now.output; taken = W.taken b.sink.now; stuck = W.has_failed b.sink.now }) };
+    ghost most_to_come = { λ s. most_of (record { lines = s.progress.now.lines; first = s.first }) };
 
     fn next(&mut self) -> Option<Drawop> {
         if self.over.is_some() {
@@ -109,7 +101,6 @@ impl<R: Source, W: Sink> Arrivals for Arriving<'_, R, W> {
             self.source,
             self.sink,
             &mut self.first,
-            self.drawn,
         ) {
             Ok(Some(drawop)) => Some(drawop),
             Ok(None) => {
@@ -127,7 +118,7 @@ impl<R: Source, W: Sink> Arrivals for Arriving<'_, R, W> {
         MAX_LINES - self.progress.lines.done() + u32::from(self.first.is_some())
     }
 
-    ghost follows_itself = { λ s. (refl, refl, refl, refl, λ start p. p) };
+    ghost gives_none = { λ s. (refl, refl, refl, λ start drawn p. subst (λ l. ReadsOn start l (record { at = record { lines = s.progress.now.lines; first = s.first }; over = s.over; left = R.left s.source.now; failed = R.has_failed s.source.now; output = s.progress.now.output; taken = W.taken s.sink.now; stuck = W.has_failed s.sink.now })) (sym (append-nil drawn)) p) };
 
-    ghost follows_on = { λ a b c p q. (p.0 ∙ q.0, p.1 ∙ q.1, p.2 ∙ q.2, p.3 ∙ q.3, λ start r. q.4 start (p.4 start r)) };
+    ghost gives_on = { λ a b c ds es p q. (p.0 ∙ q.0, p.1 ∙ q.1, p.2 ∙ q.2, λ start drawn r. subst (λ l. ReadsOn start l (record { at = record { lines = c.progress.now.lines; first = c.first }; over = c.over; left = R.left c.source.now; failed = R.has_failed c.source.now; output = c.progress.now.output; taken = W.taken c.sink.now; stuck = W.has_failed c.sink.now })) (append_assoc drawn ds es) (q.3 start (drawn ++ ds) (p.3 start drawn r))) };
 }

@@ -5,7 +5,8 @@ ghost use Rattle.wb_script.specs.Hosts.{Opened, opened_with, names_of, asked, ti
 ghost use Rattle.wb_script.specs.Parsing.{IsWithin};
 ghost use Rattle.wb_script.specs.Random.{after_words};
 ghost use Rattle.wb_script.specs.Script.{IsStop};
-ghost use Rattle.wb_script.specs.Stations.{IsOpenAt, TakesGiven, DoesAct};
+ghost use Rattle.wb_script.specs.Stations.{IsOpenAt, TakesAll, DoesAct};
+ghost use Rattle.wb_names.specs.Values.{DrawopValue};
 ghost use Rattle.wb_recovery.specs.Timing.{are_constants};
 ghost use Rattle.wb_feed.specs.Batches.{counts_in};
 ghost use Rattle.wb_host.specs.Keeper.{Arrive, holds};
@@ -81,7 +82,7 @@ impl Station {
         self.board.drawops().len() as u32
     }
 
-    /// Takes the arrivals of a source by so many workers. The keeper is not told yet. Where that is refused
+    /// Takes the arrivals of a source by so many workers, and answers them with their counts. The keeper is not told yet. Where that is refused
     /// the station is gone.
     pub fn take_arrivals<R: Threads + Wait + Sync, S: Arrivals, G: Gate + Sync>(
         self,
@@ -90,11 +91,12 @@ impl Station {
         workers: u32,
         arrivals: &mut S,
         gate: &G,
-    ) -> Result<(Station, Batch), RunFault>
+    ) -> Result<(Station, Batch, Vec<Drawop>), RunFault>
         requires workers { (0 < workers) × (workers ≤ 8) }
-        ensures taken { IfOk result (λ r. TakesGiven self.board workers (S.given arrivals.old) (S.given arrivals.new) r.0.board (counts_in r.1) × (r.0.keeper ≡ self.keeper) × (r.0.words ≡ self.words)) }
+        ensures drawn { (given : List DrawopValue) × S.gives arrivals.old given arrivals.new }
+        ensures given { IfOk result (λ r. S.gives arrivals.old r.2.items arrivals.new) }
+        ensures taken { IfOk result (λ r. TakesAll self.board workers r.2.items r.0.board (counts_in r.1) × (r.0.keeper ≡ self.keeper) × (r.0.words ≡ self.words)) }
         ensures ended { OnOk result (S.has_ended arrivals.new ≡ true) }
-        ensures follows { S.follows arrivals.old arrivals.new }
         ensures stopped { IfErr result IsStop }
         ensures unread { result ≢ Err RunFault.Read }
         ensures unwritten { result ≢ Err RunFault.Write }
@@ -104,13 +106,13 @@ impl Station {
             keeper,
             words,
         } = self;
-        let (board, batch) = board.take_arrivals(rt, alloc, workers, arrivals, gate)?;
+        let (board, batch, drawops) = board.take_arrivals(rt, alloc, workers, arrivals, gate)?;
         let station = Station {
             board,
             keeper,
             words,
         };
-        Ok((station, batch))
+        Ok((station, batch, drawops))
     }
 
     /// Prints the counts of a batch that was taken, and tells the keeper what arrived. Where that is refused

@@ -1,5 +1,6 @@
 //! A batch that is read from its script as workers take it.
 ghost use Rattle.std.specs.Prelude.{◌≡◌, ◌≢◌, ◌≤◌, ◌<◌, ℕ, [], List, None, Some, Err, true, IfOk};
+ghost use Rattle.wb_names.specs.Values.{DrawopValue};
 ghost use Rattle.wb_lines.specs.Output.{Sends};
 ghost use Rattle.wb_lines.specs.Ahead.{Pulls};
 ghost use Rattle.wb_script.specs.Hosts.{Opened};
@@ -17,11 +18,13 @@ use std::thread::Threads;
 use wb_feed::{Batch, Gate};
 use wb_names::{Drawop, Sink, Source};
 
-/// A station that has taken a batch, its counts, and why the script can't be read on, where it can't.
+/// A station that has taken a batch, its counts, its drawops as they came, and why the script can't be read on,
+/// where it can't.
 #[derive(Drop)]
 pub struct Drawn {
     pub station: Station,
     pub batch: Batch,
+    pub drawops: Vec<Drawop>,
     pub fault: Option<RunFault>,
 }
 
@@ -46,18 +49,18 @@ fn take_from<T: Threads + Wait + Sync, R: Source, W: Sink, G: Gate + Sync>(
     arriving: &mut Arriving<'_, R, W>,
 ) -> Result<Drawn, RunFault>
     requires workers { (0 < crew.workers) × (crew.workers ≤ 8) }
-    requires start { (arriving.old.over ≡ None) × (arriving.old.drawn.now.items ≡ []) }
+    requires start { arriving.old.over ≡ None }
     ensures names { (arriving.new.progress.ghost_name ≡ arriving.old.progress.ghost_name) × (arriving.new.source.ghost_name ≡ arriving.old.source.ghost_name)
-        × (arriving.new.sink.ghost_name ≡ arriving.old.sink.ghost_name) × (arriving.new.drawn.ghost_name ≡ arriving.old.drawn.ghost_name) }
-    ensures reads { ReadsOn (record { at = record { lines = arriving.old.progress.now.lines; drawn = arriving.old.drawn.now.items; first = arriving.old.first }; over = arriving.old.over; left = R.left arriving.old.source.now; failed = R.has_failed arriving.old.source.now; output = arriving.old.progress.now.output; taken = W.taken arriving.old.sink.now; stuck = W.has_failed arriving.old.sink.now })
-        (record { at = record { lines = arriving.new.progress.now.lines; drawn = arriving.new.drawn.now.items; first = arriving.new.first }; over = arriving.new.over; left = R.left arriving.new.source.now; failed = R.has_failed arriving.new.source.now; output = arriving.new.progress.now.output; taken = W.taken arriving.new.sink.now; stuck = W.has_failed arriving.new.sink.now }) }
-    ensures taken { TakesFrom crew.station crew.workers arriving.new.drawn.now.items arriving.new.over result }
+        × (arriving.new.sink.ghost_name ≡ arriving.old.sink.ghost_name) }
+    ensures reads { (drawn : List DrawopValue) × ReadsOn (record { at = record { lines = arriving.old.progress.now.lines; first = arriving.old.first }; over = arriving.old.over; left = R.left arriving.old.source.now; failed = R.has_failed arriving.old.source.now; output = arriving.old.progress.now.output; taken = W.taken arriving.old.sink.now; stuck = W.has_failed arriving.old.sink.now }) drawn
+        (record { at = record { lines = arriving.new.progress.now.lines; first = arriving.new.first }; over = arriving.new.over; left = R.left arriving.new.source.now; failed = R.has_failed arriving.new.source.now; output = arriving.new.progress.now.output; taken = W.taken arriving.new.sink.now; stuck = W.has_failed arriving.new.sink.now })
+        × TakesFrom crew.station crew.workers drawn arriving.new.over result }
     ensures failed { result ≡ Err RunFault.Write → W.has_failed arriving.new.sink.now ≡ true }
 {
     let Crew { station, workers } = crew;
     let taken = station.take_arrivals(place.rt, place.alloc, workers, arriving, place.gate);
     let over = arriving.over;
-    let (station, batch) = taken?;
+    let (station, batch, drawops) = taken?;
     let fault = match over {
         Some(Err(fault)) if is_stop(fault) => return Err(fault),
         Some(Err(fault)) => Some(fault),
@@ -66,6 +69,7 @@ fn take_from<T: Threads + Wait + Sync, R: Source, W: Sink, G: Gate + Sync>(
     Ok(Drawn {
         station,
         batch,
+        drawops,
         fault,
     })
 }
@@ -78,12 +82,10 @@ fn draw_batch<T: Threads + Wait + Sync, R: Source, W: Sink, G: Gate + Sync>(
     progress: &mut Progress,
     source: &mut R,
     sink: &mut W,
-    drawn: &mut Vec<Drawop>,
 ) -> Result<Drawn, RunFault>
     requires workers { (0 < crew.workers) × (crew.workers ≤ 8) }
-    requires none { drawn.old.items ≡ [] }
     ensures read { (given : List ℕ) × Pulls progress.old.lines.ahead progress.new.lines.ahead (R.left source.old) (R.left source.new) (R.has_failed source.old) (R.has_failed source.new) given
-        × (progress.old.lines.done ≤ progress.new.lines.done) × DrawsAll crew.station crew.workers progress.old.lines first given progress.new.lines (R.has_failed source.new) drawn.new.items result }
+        × (progress.old.lines.done ≤ progress.new.lines.done) × DrawsAll crew.station crew.workers progress.old.lines first given progress.new.lines (R.has_failed source.new) result }
     ensures sends { Sends (W.taken sink.old) progress.old.output (W.taken sink.new) progress.new.output [] }
     ensures failed { result ≡ Err RunFault.Write → W.has_failed sink.new ≡ true }
 {
@@ -92,7 +94,6 @@ fn draw_batch<T: Threads + Wait + Sync, R: Source, W: Sink, G: Gate + Sync>(
         progress,
         source,
         sink,
-        drawn,
         first: Some(first),
         over: None,
     };
@@ -117,12 +118,12 @@ pub fn take_batch<T: Threads + Wait + Sync, R: Source, W: Sink, G: Gate + Sync>(
     ensures kept { IfOk result (λ t. t.fault ≢ Some RunFault.Write) }
     ensures failed { result ≡ Err RunFault.Write → W.has_failed sink.new ≡ true }
 {
-    let mut drawn = Vec::new(place.alloc);
     let Drawn {
         station,
         batch,
+        drawops,
         fault,
-    } = draw_batch(place, crew, first, progress, source, sink, &mut drawn)?;
-    let station = station.print_batch(place.alloc, batch, &drawn, &mut progress.output)?;
+    } = draw_batch(place, crew, first, progress, source, sink)?;
+    let station = station.print_batch(place.alloc, batch, &drawops, &mut progress.output)?;
     Ok(Taken { station, fault })
 }

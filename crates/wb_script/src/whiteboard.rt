@@ -1,6 +1,7 @@
 //! The board of a script, with the desk that owns all of its rows.
-ghost use Rattle.std.specs.Prelude.{◌≡◌, ◌≢◌, ◌≤◌, ◌<◌, ◌∷◌, [], length, true, Err, IfOk, OnOk, IfErr};
+ghost use Rattle.std.specs.Prelude.{◌≡◌, ◌≢◌, ◌≤◌, ◌<◌, ◌∷◌, List, [], length, true, Err, IfOk, OnOk, IfErr};
 ghost use Rattle.wb_feed.specs.Batches.{counts_in};
+ghost use Rattle.wb_names.specs.Values.{DrawopValue};
 ghost use Rattle.wb_names.specs.Arrivals.{outcome_of};
 ghost use Rattle.wb_host.specs.Keeper.{holds};
 ghost use Rattle.wb_host.specs.Keeping.{marks_at};
@@ -10,7 +11,7 @@ ghost use Rattle.wb_script.specs.Driving.{acceptance_of};
 ghost use Rattle.wb_script.specs.Hosts.{board_after};
 ghost use Rattle.wb_script.specs.Queries.{view_of};
 ghost use Rattle.wb_script.specs.Script.{IsStop};
-ghost use Rattle.wb_script.specs.Stations.{TakesGiven};
+ghost use Rattle.wb_script.specs.Stations.{TakesAll};
 
 mod keeping;
 
@@ -142,7 +143,7 @@ impl Whiteboard {
     }
 
     /// Takes the arrivals of a source by so many workers, which call the gate round each accept, and counts
-    /// what became of them. The board holds then what one thread makes of them in some order, and one worker
+    /// what became of them. Answers them too, as they came. The board holds then what one thread makes of them in some order, and one worker
     /// takes them as they came. Where a thread or memory is refused, rows may be lost, so the board is gone.
     pub fn take_arrivals<R: Threads + Wait + Sync, S: Arrivals, G: Gate + Sync>(
         self,
@@ -151,11 +152,12 @@ impl Whiteboard {
         workers: u32,
         arrivals: &mut S,
         gate: &G,
-    ) -> Result<(Whiteboard, Batch), RunFault>
+    ) -> Result<(Whiteboard, Batch, Vec<Drawop>), RunFault>
         requires workers { (0 < workers) × (workers ≤ 8) }
-        ensures taken { IfOk result (λ r. TakesGiven self workers (S.given arrivals.old) (S.given arrivals.new) r.0 (counts_in r.1)) }
+        ensures drawn { (given : List DrawopValue) × S.gives arrivals.old given arrivals.new }
+        ensures given { IfOk result (λ r. S.gives arrivals.old r.2.items arrivals.new) }
+        ensures taken { IfOk result (λ r. TakesAll self workers r.2.items r.0 (counts_in r.1)) }
         ensures ended { OnOk result (S.has_ended arrivals.new ≡ true) }
-        ensures follows { S.follows arrivals.old arrivals.new }
         ensures stopped { IfErr result IsStop }
         ensures unread { result ≢ Err RunFault.Read }
         ensures unwritten { result ≢ Err RunFault.Write }
@@ -164,7 +166,7 @@ impl Whiteboard {
         let taken = run_batch(rt, alloc, &board, &mut desk, workers, arrivals, gate);
         let _sound = desk.rows_left();
         match taken {
-            Ok(batch) => Ok((Whiteboard { board, desk }, batch)),
+            Ok((batch, drawops)) => Ok((Whiteboard { board, desk }, batch, drawops)),
             Err(FeedFault::Start) => Err(RunFault::Start),
             Err(FeedFault::Memory) => Err(RunFault::Memory),
             Err(FeedFault::Workers) => unreachable!(),

@@ -18,8 +18,8 @@ GetsOver None s old first given new failed drawn = IsBatchEnd new × Passes old.
 GetsOver (Some f) s old first given new failed drawn = (is_stop f ≡ false) × Stops old.done (with_waiting s (first ∷ [])) old.ahead given [] (with_waiting s drawn) new.ahead failed f
 
 -- the batch that a station has taken
-pub record IsDrawn (station : StationValue) (workers : ℕ) (drawn : List DrawopValue) (d : Drawn) : Type 0 where
-  pub taken : TakesAll station.board workers drawn d.station.board (counts_in d.batch)
+pub record IsDrawn (station : StationValue) (workers : ℕ) (d : Drawn) : Type 0 where
+  pub taken : TakesAll station.board workers d.drawops.items d.station.board (counts_in d.batch)
   pub keeper : d.station.keeper ≡ station.keeper
   pub words : d.station.words ≡ station.words
 
@@ -30,12 +30,12 @@ IsFault (Some (Ok u)) fault = fault ≡ None
 IsFault (Some (Err e)) fault = (fault ≡ Some e) × (is_stop e ≡ false)
 
 abbrev pub TakesFrom : StationValue → ℕ → List DrawopValue → Option (Result (Unit {0}) RunFault) → Result Drawn RunFault → Type 0
-TakesFrom station workers drawn over (Ok d) = IsDrawn station workers drawn d × IsFault over d.fault
+TakesFrom station workers drawn over (Ok d) = (d.drawops.items ≡ drawn) × IsDrawn station workers d × IsFault over d.fault
 TakesFrom station workers drawn over (Err f) = IsStop f
 
-abbrev pub DrawsAll : StationValue → ℕ → LinesValue → DrawopValue → List ℕ → LinesValue → Bool → List DrawopValue → Result Drawn RunFault → Type 0
-DrawsAll station workers old first given new failed drawn (Ok d) = IsDrawn station workers drawn d × ((s : State) → IsOpen s.host → (0 < length drawn) × GetsOver d.fault s old first given new failed drawn)
-DrawsAll station workers old first given new failed drawn (Err f) = IsStop f
+abbrev pub DrawsAll : StationValue → ℕ → LinesValue → DrawopValue → List ℕ → LinesValue → Bool → Result Drawn RunFault → Type 0
+DrawsAll station workers old first given new failed (Ok d) = IsDrawn station workers d × ((s : State) → IsOpen s.host → (0 < length d.drawops.items) × GetsOver d.fault s old first given new failed d.drawops.items)
+DrawsAll station workers old first given new failed (Err f) = IsStop f
 
 -- The batch is taken and printed, in some order.
 abbrev pub GoesOn : Option RunFault → State → LinesValue → DrawopValue → List ℕ → List ℕ → LinesValue → Bool → State → Type 0

@@ -1,4 +1,4 @@
-use Rattle.std.proofs.Common.{[], Ok, Err}
+use Rattle.std.proofs.Common.{[], Ok}
 use Rattle.wb_script.specs.Script.{part_of}
 use Rattle.wb_lines.proofs.KnownBytes.{Sends-none, Sends-more}
 use Rattle.wb_script.proofs.RunOn.{takes_pulls, said_is, seen_runs, skips_on, refuses_on}

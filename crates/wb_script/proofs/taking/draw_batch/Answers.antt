@@ -5,7 +5,8 @@ use Rattle.wb_script.proofs.taking.draw_batch.Goals as goal
 
 pub returns-clause-read : goal.returns-clause-read
 returns-clause-read g c =
-    let r = c.take_from.ensures.reads in
-    let draws : DrawsAll c.args.crew.station c.args.crew.workers c.args.progress.now.lines c.args.first r.given c.take_from.new.arriving.progress.now.lines (g.R.Source.has_failed c.take_from.new.arriving.source.now) c.take_from.new.arriving.drawn.now.items c.take_from.result =
-    draws_all c.args.crew.station c.args.crew.workers (record { at = record { lines = c.args.progress.now.lines; drawn = c.args.drawn.now.items; first = Some c.args.first }; over = None; left = g.R.Source.left c.args.source.now; failed = g.R.Source.has_failed c.args.source.now; output = c.args.progress.now.output; taken = g.W.Sink.taken c.args.sink.now; stuck = g.W.Sink.has_failed c.args.sink.now }) (record { at = record { lines = c.take_from.new.arriving.progress.now.lines; drawn = c.take_from.new.arriving.drawn.now.items; first = c.take_from.new.arriving.first }; over = c.take_from.new.arriving.over; left = g.R.Source.left c.take_from.new.arriving.source.now; failed = g.R.Source.has_failed c.take_from.new.arriving.source.now; output = c.take_from.new.arriving.progress.now.output; taken = g.W.Sink.taken c.take_from.new.arriving.sink.now; stuck = g.W.Sink.has_failed c.take_from.new.arriving.sink.now }) c.args.first r c.take_from.result c.requires.none refl c.take_from.ensures.taken in
+    let reads = c.take_from.ensures.reads in
+    let r = reads.1 in
+    let draws : DrawsAll c.args.crew.station c.args.crew.workers c.args.progress.now.lines c.args.first r.given c.take_from.new.arriving.progress.now.lines (g.R.Source.has_failed c.take_from.new.arriving.source.now) c.take_from.result =
+    draws_all c.args.crew.station c.args.crew.workers (record { at = record { lines = c.args.progress.now.lines; first = Some c.args.first }; over = None; left = g.R.Source.left c.args.source.now; failed = g.R.Source.has_failed c.args.source.now; output = c.args.progress.now.output; taken = g.W.Sink.taken c.args.sink.now; stuck = g.W.Sink.has_failed c.args.sink.now }) (record { at = record { lines = c.take_from.new.arriving.progress.now.lines; first = c.take_from.new.arriving.first }; over = c.take_from.new.arriving.over; left = g.R.Source.left c.take_from.new.arriving.source.now; failed = g.R.Source.has_failed c.take_from.new.arriving.source.now; output = c.take_from.new.arriving.progress.now.output; taken = g.W.Sink.taken c.take_from.new.arriving.sink.now; stuck = g.W.Sink.has_failed c.take_from.new.arriving.sink.now }) c.args.first reads.0 r c.take_from.result refl reads.2 in
     (r.given, search (rules, r.pulls), search (rules, r.on), search (rules, draws))

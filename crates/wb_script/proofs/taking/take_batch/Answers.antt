@@ -15,9 +15,8 @@ returns-clause-read g c =
     let read = c.in_ok-station.ensures.read in
     let printed = c.in_ok-station-2.ensures.printed in
     let d = c.in_ok-station.field-0 in
-    let drawn = c.draw_batch.new.drawn.items in
     let text = batch_line (counts_in d.batch) in
-    let told : IsTold drawn d c.in_ok-station-2.station text = record {
+    let told : IsTold d c.in_ok-station-2.station text = record {
       text = refl;
       board = printed.1;
       words = printed.2;
@@ -29,10 +28,10 @@ returns-clause-read g c =
       Sends-then (g.W.Sink.taken c.args.sink.now) (g.W.Sink.taken c.draw_batch.new.sink) (g.W.Sink.taken c.draw_batch.new.sink) c.args.progress.now.output c.draw_batch.new.progress.output c.print_batch.new.output [] text c.in_ok-station.ensures.sends
           (Sends-more (g.W.Sink.taken c.draw_batch.new.sink) c.draw_batch.new.progress.output c.print_batch.new.output text printed.0),
       read.2,
-      λ s host here few at. takes_on c.args.crew.station c.args.crew.workers drawn d (record { station = c.in_ok-station-2.station; fault = d.fault }) text read.0 c.args.progress.now.lines c.draw_batch.new.progress.lines c.args.first (g.R.Source.has_failed c.draw_batch.new.source) s host here few at read.3.0 told refl (read.3.1 s),
+      λ s host here few at. takes_on c.args.crew.station c.args.crew.workers d (record { station = c.in_ok-station-2.station; fault = d.fault }) text read.0 c.args.progress.now.lines c.draw_batch.new.progress.lines c.args.first (g.R.Source.has_failed c.draw_batch.new.source) s host here few at read.3.0 told refl (read.3.1 s),
     )
 
 pub returns-clause-kept : goal.returns-clause-kept
 returns-clause-kept g c =
     let read = c.in_ok-station.ensures.read in
-    never_unwritten c.in_ok-station.field-0.fault c.args.progress.now.lines c.draw_batch.new.progress.lines c.args.first read.0 (g.R.Source.has_failed c.draw_batch.new.source) c.draw_batch.new.drawn.items read.3.1
+    never_unwritten c.in_ok-station.field-0.fault c.args.progress.now.lines c.draw_batch.new.progress.lines c.args.first read.0 (g.R.Source.has_failed c.draw_batch.new.source) c.in_ok-station.field-0.drawops.items read.3.1

@@ -1,49 +1,49 @@
-use Rattle.std.proofs.Common.{rules, ◌≡◌, None, Some, Ok, Err, sym, ap, ◌∙◌}
+use Rattle.std.proofs.Common.{rules, ◌≡◌, None, Some, Ok, Err, [], refl, sym, ap, ◌∙◌}
+use Rattle.std.proofs.lemmas.Result.{err_from_is_err_and}
 use Rattle.wb_script.specs.declared.fault.RunFault.{RunFault}
 use Rattle.wb_script.specs.declared.fault.RunFault.TheVariants as run_faults
-use Rattle.wb_feed.specs.Batches.{counts_in}
 use Rattle.wb_script.proofs.Following.{starts}
-use Rattle.wb_script.proofs.Drawing.{all_drawn, stop_is, ended_well, ended_badly, not_ended, same_fault}
+use Rattle.wb_script.proofs.Drawing.{stop_is, ended_well, ended_badly, not_ended, same_fault}
 use Rattle.wb_script.proofs.taking.take_from.Goals.{in-Some-Err-2, in-Some-Ok, in-Some-Ok-2}
 use Rattle.wb_script.proofs.taking.take_from.Goals as goal
 
 pub returns-in_err-station-clause-reads : goal.returns-in_err-station-clause-reads
-returns-in_err-station-clause-reads g c = c.take_arrivals-taken.ensures.follows.4 (record { at = record { lines = c.args.arriving.now.progress.now.lines; drawn = c.args.arriving.now.drawn.now.items; first = c.args.arriving.now.first }; over = c.args.arriving.now.over; left = g.R.Source.left c.args.arriving.now.source.now; failed = g.R.Source.has_failed c.args.arriving.now.source.now; output = c.args.arriving.now.progress.now.output; taken = g.W.Sink.taken c.args.arriving.now.sink.now; stuck = g.W.Sink.has_failed c.args.arriving.now.sink.now }) (starts (record { at = record { lines = c.args.arriving.now.progress.now.lines; drawn = c.args.arriving.now.drawn.now.items; first = c.args.arriving.now.first }; over = c.args.arriving.now.over; left = g.R.Source.left c.args.arriving.now.source.now; failed = g.R.Source.has_failed c.args.arriving.now.source.now; output = c.args.arriving.now.progress.now.output; taken = g.W.Sink.taken c.args.arriving.now.sink.now; stuck = g.W.Sink.has_failed c.args.arriving.now.sink.now }) c.requires.start.0)
+returns-in_err-station-clause-reads g c =
+    let p = err_from_is_err_and c.from_residual.result c.from_residual.ensures.1 in
+    let gives = c.take_arrivals-taken.ensures.drawn in
+    (gives.0, gives.1.3 (record { at = record { lines = c.args.arriving.now.progress.now.lines; first = c.args.arriving.now.first }; over = c.args.arriving.now.over; left = g.R.Source.left c.args.arriving.now.source.now; failed = g.R.Source.has_failed c.args.arriving.now.source.now; output = c.args.arriving.now.progress.now.output; taken = g.W.Sink.taken c.args.arriving.now.sink.now; stuck = g.W.Sink.has_failed c.args.arriving.now.sink.now }) [] (starts (record { at = record { lines = c.args.arriving.now.progress.now.lines; first = c.args.arriving.now.first }; over = c.args.arriving.now.over; left = g.R.Source.left c.args.arriving.now.source.now; failed = g.R.Source.has_failed c.args.arriving.now.source.now; output = c.args.arriving.now.progress.now.output; taken = g.W.Sink.taken c.args.arriving.now.sink.now; stuck = g.W.Sink.has_failed c.args.arriving.now.sink.now }) c.requires.start), rw (p.1, p.2) c.in_err-station.ensures.stopped)
 
 pub returns-in-Some-Err-clause-reads : goal.returns-in-Some-Err-clause-reads
-returns-in-Some-Err-clause-reads g c = c.take_arrivals-taken.ensures.follows.4 (record { at = record { lines = c.args.arriving.now.progress.now.lines; drawn = c.args.arriving.now.drawn.now.items; first = c.args.arriving.now.first }; over = c.args.arriving.now.over; left = g.R.Source.left c.args.arriving.now.source.now; failed = g.R.Source.has_failed c.args.arriving.now.source.now; output = c.args.arriving.now.progress.now.output; taken = g.W.Sink.taken c.args.arriving.now.sink.now; stuck = g.W.Sink.has_failed c.args.arriving.now.sink.now }) (starts (record { at = record { lines = c.args.arriving.now.progress.now.lines; drawn = c.args.arriving.now.drawn.now.items; first = c.args.arriving.now.first }; over = c.args.arriving.now.over; left = g.R.Source.left c.args.arriving.now.source.now; failed = g.R.Source.has_failed c.args.arriving.now.source.now; output = c.args.arriving.now.progress.now.output; taken = g.W.Sink.taken c.args.arriving.now.sink.now; stuck = g.W.Sink.has_failed c.args.arriving.now.sink.now }) c.requires.start.0)
-
-pub returns-clause-reads : goal.returns-clause-reads
-returns-clause-reads g c = c.take_arrivals-taken.ensures.follows.4 (record { at = record { lines = c.args.arriving.now.progress.now.lines; drawn = c.args.arriving.now.drawn.now.items; first = c.args.arriving.now.first }; over = c.args.arriving.now.over; left = g.R.Source.left c.args.arriving.now.source.now; failed = g.R.Source.has_failed c.args.arriving.now.source.now; output = c.args.arriving.now.progress.now.output; taken = g.W.Sink.taken c.args.arriving.now.sink.now; stuck = g.W.Sink.has_failed c.args.arriving.now.sink.now }) (starts (record { at = record { lines = c.args.arriving.now.progress.now.lines; drawn = c.args.arriving.now.drawn.now.items; first = c.args.arriving.now.first }; over = c.args.arriving.now.over; left = g.R.Source.left c.args.arriving.now.source.now; failed = g.R.Source.has_failed c.args.arriving.now.source.now; output = c.args.arriving.now.progress.now.output; taken = g.W.Sink.taken c.args.arriving.now.sink.now; stuck = g.W.Sink.has_failed c.args.arriving.now.sink.now }) c.requires.start.0)
+returns-in-Some-Err-clause-reads g c =
+    let gives = c.take_arrivals-taken.ensures.drawn in
+    (gives.0, gives.1.3 (record { at = record { lines = c.args.arriving.now.progress.now.lines; first = c.args.arriving.now.first }; over = c.args.arriving.now.over; left = g.R.Source.left c.args.arriving.now.source.now; failed = g.R.Source.has_failed c.args.arriving.now.source.now; output = c.args.arriving.now.progress.now.output; taken = g.W.Sink.taken c.args.arriving.now.sink.now; stuck = g.W.Sink.has_failed c.args.arriving.now.sink.now }) [] (starts (record { at = record { lines = c.args.arriving.now.progress.now.lines; first = c.args.arriving.now.first }; over = c.args.arriving.now.over; left = g.R.Source.left c.args.arriving.now.source.now; failed = g.R.Source.has_failed c.args.arriving.now.source.now; output = c.args.arriving.now.progress.now.output; taken = g.W.Sink.taken c.args.arriving.now.sink.now; stuck = g.W.Sink.has_failed c.args.arriving.now.sink.now }) c.requires.start), stop_is c.in-Some-Err.fault (sym c.is_stop.ensures ∙ c.if-is_stop.true))
 
 pub returns-in-Some-Err-clause-failed : goal.returns-in-Some-Err-clause-failed
 returns-in-Some-Err-clause-failed g c = λ e.
-    let reads = c.take_arrivals-taken.ensures.follows.4 (record { at = record { lines = c.args.arriving.now.progress.now.lines; drawn = c.args.arriving.now.drawn.now.items; first = c.args.arriving.now.first }; over = c.args.arriving.now.over; left = g.R.Source.left c.args.arriving.now.source.now; failed = g.R.Source.has_failed c.args.arriving.now.source.now; output = c.args.arriving.now.progress.now.output; taken = g.W.Sink.taken c.args.arriving.now.sink.now; stuck = g.W.Sink.has_failed c.args.arriving.now.sink.now }) (starts (record { at = record { lines = c.args.arriving.now.progress.now.lines; drawn = c.args.arriving.now.drawn.now.items; first = c.args.arriving.now.first }; over = c.args.arriving.now.over; left = g.R.Source.left c.args.arriving.now.source.now; failed = g.R.Source.has_failed c.args.arriving.now.source.now; output = c.args.arriving.now.progress.now.output; taken = g.W.Sink.taken c.args.arriving.now.sink.now; stuck = g.W.Sink.has_failed c.args.arriving.now.sink.now }) c.requires.start.0) in
+    let reads = c.take_arrivals-taken.ensures.drawn.1.3 (record { at = record { lines = c.args.arriving.now.progress.now.lines; first = c.args.arriving.now.first }; over = c.args.arriving.now.over; left = g.R.Source.left c.args.arriving.now.source.now; failed = g.R.Source.has_failed c.args.arriving.now.source.now; output = c.args.arriving.now.progress.now.output; taken = g.W.Sink.taken c.args.arriving.now.sink.now; stuck = g.W.Sink.has_failed c.args.arriving.now.sink.now }) [] (starts (record { at = record { lines = c.args.arriving.now.progress.now.lines; first = c.args.arriving.now.first }; over = c.args.arriving.now.over; left = g.R.Source.left c.args.arriving.now.source.now; failed = g.R.Source.has_failed c.args.arriving.now.source.now; output = c.args.arriving.now.progress.now.output; taken = g.W.Sink.taken c.args.arriving.now.sink.now; stuck = g.W.Sink.has_failed c.args.arriving.now.sink.now }) c.requires.start) in
     let ends : c.take_arrivals-taken.new.arrivals.over ≡ Some (Err c.in-Some-Err.fault) = search rules in
     reads.unwritten (ends ∙ ap (λ (f : RunFault). Some (Err f)) (same_fault c.in-Some-Err.fault run_faults.Write e))
 
-pub returns-in-Some-Err-clause-taken : goal.returns-in-Some-Err-clause-taken
-returns-in-Some-Err-clause-taken g c = stop_is c.in-Some-Err.fault (sym c.is_stop.ensures ∙ c.if-is_stop.true)
-
-pub returns-clause-taken : goal.returns-clause-taken
-returns-clause-taken g c =
+pub returns-clause-reads : goal.returns-clause-reads
+returns-clause-reads g c =
     let t = c.in_ok-station.ensures.taken in
     let ended = c.in_ok-station.ensures.ended in (
-      record {
-        taken = all_drawn c.args.crew.station.board c.in_ok-station.station.board c.args.crew.workers c.args.arriving.now.drawn.now.items c.take_arrivals-taken.new.arrivals.drawn.now.items (counts_in c.in_ok-station.batch) c.requires.start.1 t.0;
-        keeper = t.1;
-        words = t.2;
-      },
-      elim c.match-over.branch [
-        | in-Some-Err-2 w ↦
-            let ends : c.take_arrivals-taken.new.arrivals.over ≡ Some (Err w.in-Some-Err.fault) = search rules in
-            let again : c.take_arrivals-taken.new.arrivals.over ≡ Some (Err w.in-Some-Err-2.fault) = search rules in
-            ended_badly c.take_arrivals-taken.new.arrivals.over c.match-over.fault w.in-Some-Err.fault w.in-Some-Err-2.fault ends again w.fault-is (sym w.is_stop.ensures ∙ w.if-is_stop.false)
-        | in-Some-Ok w ↦
-            let ends : c.take_arrivals-taken.new.arrivals.over ≡ Some (Ok tt) = search rules in
-            ended_well c.take_arrivals-taken.new.arrivals.over c.match-over.fault tt ends w.fault-is
-        | in-Some-Ok-2 w ↦
-            let none : c.take_arrivals-taken.new.arrivals.over ≡ None = search rules in
-            not_ended c.take_arrivals-taken.new.arrivals.over none ended
-      ],
+      c.in_ok-station.drawops.items,
+      c.in_ok-station.ensures.given.3 (record { at = record { lines = c.args.arriving.now.progress.now.lines; first = c.args.arriving.now.first }; over = c.args.arriving.now.over; left = g.R.Source.left c.args.arriving.now.source.now; failed = g.R.Source.has_failed c.args.arriving.now.source.now; output = c.args.arriving.now.progress.now.output; taken = g.W.Sink.taken c.args.arriving.now.sink.now; stuck = g.W.Sink.has_failed c.args.arriving.now.sink.now }) [] (starts (record { at = record { lines = c.args.arriving.now.progress.now.lines; first = c.args.arriving.now.first }; over = c.args.arriving.now.over; left = g.R.Source.left c.args.arriving.now.source.now; failed = g.R.Source.has_failed c.args.arriving.now.source.now; output = c.args.arriving.now.progress.now.output; taken = g.W.Sink.taken c.args.arriving.now.sink.now; stuck = g.W.Sink.has_failed c.args.arriving.now.sink.now }) c.requires.start),
+      (
+        refl,
+        record { taken = t.0; keeper = t.1; words = t.2 },
+        elim c.match-over.branch [
+          | in-Some-Err-2 w ↦
+              let ends : c.take_arrivals-taken.new.arrivals.over ≡ Some (Err w.in-Some-Err.fault) = search rules in
+              let again : c.take_arrivals-taken.new.arrivals.over ≡ Some (Err w.in-Some-Err-2.fault) = search rules in
+              ended_badly c.take_arrivals-taken.new.arrivals.over c.match-over.fault w.in-Some-Err.fault w.in-Some-Err-2.fault ends again w.fault-is (sym w.is_stop.ensures ∙ w.if-is_stop.false)
+          | in-Some-Ok w ↦
+              let ends : c.take_arrivals-taken.new.arrivals.over ≡ Some (Ok tt) = search rules in
+              ended_well c.take_arrivals-taken.new.arrivals.over c.match-over.fault tt ends w.fault-is
+          | in-Some-Ok-2 w ↦
+              let none : c.take_arrivals-taken.new.arrivals.over ≡ None = search rules in
+              not_ended c.take_arrivals-taken.new.arrivals.over none ended
+        ],
+      ),
     )

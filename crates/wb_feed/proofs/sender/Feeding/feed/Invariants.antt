@@ -9,8 +9,7 @@ invariant-loop-message g l =
     record {
       channel : l.self.channel ≡ l.initial.self.channel;
       stays : Stays (view l.initial.self.pass) (view l.self.pass);
-      drawn : IsDrawn (g.S.Arrivals.given l.initial.arrivals) (g.S.Arrivals.most_to_come l.initial.arrivals) l.initial.self.drawn.items (g.S.Arrivals.given l.arrivals) (g.S.Arrivals.most_to_come l.arrivals) l.self.drawn.items;
-      source : g.S.Arrivals.follows l.initial.arrivals l.arrivals;
+      drawn : IsDrawn g.S.Arrivals.gives g.S.Arrivals.most_to_come l.initial.arrivals l.initial.self.drawn.items l.arrivals l.self.drawn.items;
     }
 
 abbrev pub decreases-loop-message : goal.decreases-loop-message
