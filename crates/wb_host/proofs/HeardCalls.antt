@@ -20,7 +20,7 @@ use Rattle.wb_names.specs.declared.echo.Echo.{Echo}
 use Rattle.wb_names.proofs.Orders.{nat_ties, page_ties, same_page-is}
 use Rattle.wb_gaps.specs.Joining.{joined}
 use Rattle.wb_gaps.proofs.HeldNumbers.{same_page-here}
-use Rattle.wb_gaps.proofs.JoinedMarks.{is_merge, joined_count, joins_read, positive_joined}
+use Rattle.wb_gaps.proofs.JoinedMarks.{is_merge, joined_count, joins_read}
 use Rattle.wb_gaps.proofs.MergeLength.{merges_all_sources}
 use Rattle.wb_gaps.proofs.Rearranged.{one_merge}
 use Rattle.wb_recovery.specs.Events.{Event, Asked}
