@@ -19,7 +19,7 @@ use Rattle.wb_script.specs.Driving.{acceptance_of, counts_with}
 use Rattle.wb_script.specs.Hosts.{Opened, host_after, batch_text, script_constants, Act, does, fails, act}
 use Rattle.wb_script.specs.Parsing.{line_of as script_line_of}
 use Rattle.wb_script.specs.Reordering.{part_unless, batches_with, batches_of}
-use Rattle.wb_script.specs.Script.{State as Board, start, closing_text, after_batch, Part, Arrival, part_of, Step, goes, refused, step_by, part_step, said_step, step_of, Outcome, prints, before, finish, proceed, most_lines, outcome_from, IsOutcome}
+use Rattle.wb_script.specs.Script.{State as Board, start, closing_text, after_batch, Part, Arrival, part_of, Step, goes, refused, step_by, part_step, said_step, step_of, Outcome, prints, before, finish, proceed, continue, most_lines, outcome_from, IsOutcome}
 use Rattle.wb_dialog.specs.declared.line.DriverLine.TheVariants.{Script}
 use Rattle.wb_dialog.specs.Dialog.{State, Answer, gives, answered, arrives, answer_to, answer_of, block, state_after, blocks_from, answered_lines, answer, due}
 use Rattle.wb_dialog.specs.RunLaws.{ArriveAlone, IsWithoutOks, blocks_of, IsRunOut, RunIsWithoutOks, RefusedIsWithoutOks}
@@ -181,7 +181,7 @@ module _ (cut : Bool) (n : ℕ) (s : Board) (line : InputLine) (lines : List Inp
 
   agrees_line : (within complete : Bool) → (nat_lt n most_lines && nat_le (length line.bytes) most_bytes) ≡ within → (line.ended || not cut) ≡ complete
       → Fits (length s.waiting) (batches_with (part_unless (cond within (cond complete None (Some run_faults.Read)) (Some run_faults.Endless)) line) (content line) batches)
-      → Agrees cut n s (line ∷ lines) (cond within (cond complete (proceed (n + 1) (step_of s s.waiting (content line)) rest) (finish s s.waiting (Err run_faults.Read))) (finish s s.waiting (Err run_faults.Endless)))
+      → Agrees cut n s (line ∷ lines) (continue (cond within (cond complete None (Some run_faults.Read)) (Some run_faults.Endless)) (n + 1) s (content line) rest)
   agrees_line true true few is fit =
       takes (script_line_of (content line)) refl (and_right (nat_lt n most_lines) (is_short line) few) (or_right (not (is_short line)) (line.ended || not cut) is) fit
   agrees_line true false few is fit =

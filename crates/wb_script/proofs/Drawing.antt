@@ -10,8 +10,8 @@ use Rattle.wb_host.specs.Keeper.{Arrive, holds}
 use Rattle.wb_host.specs.Keeping.{KeeperValue, Keeps}
 use Rattle.wb_script.specs.declared.fault.RunFault.{RunFault}
 use Rattle.wb_script.specs.declared.fault.RunFault.TheVariants as run_faults
-use Rattle.wb_script.specs.declared.taking.Drawn.{Drawn}
-use Rattle.wb_script.specs.declared.taking.Taken.{Taken}
+use Rattle.wb_script.specs.declared.taking.DrawnBatch.{DrawnBatch}
+use Rattle.wb_script.specs.declared.taking.PrintedBatch.{PrintedBatch}
 use Rattle.wb_script.specs.Answers.{batch_line}
 use Rattle.wb_lines.specs.Ahead.{Ahead}
 use Rattle.wb_script.specs.Hosts.{Opened, opened, batch_text, names_of}
@@ -82,7 +82,7 @@ some_drawn : (old new : Option DrawopValue) (drawn : List DrawopValue) (first : 
 some_drawn old new drawn first start end kept =
     omega (arith, kept, ap (λ (o : Option DrawopValue). length (listed o)) start, ap (λ (o : Option DrawopValue). length (drawn ++ listed o)) end, ap (λ (l : List DrawopValue). length l) (append-nil drawn))
 
-pub draws_all : (station : StationValue) (workers : ℕ) (old new : DrawsValue) (first : DrawopValue) (drawn : List DrawopValue) (r : ReadsOn old drawn new) (result : Result Drawn RunFault) → old.at.first ≡ Some first → TakesFrom station workers drawn new.over result
+pub draws_all : (station : StationValue) (workers : ℕ) (old new : DrawsValue) (first : DrawopValue) (drawn : List DrawopValue) (r : ReadsOn old drawn new) (result : Result DrawnBatch RunFault) → old.at.first ≡ Some first → TakesFrom station workers drawn new.over result
     → DrawsAll station workers old.at.lines first r.given new.at.lines new.failed result
 draws_all station workers old new first drawn r (Ok d) is t = (
   t.1,
@@ -125,14 +125,14 @@ closing_is : (o : Option Opened) (host : Opened) (order : List DrawopValue) → 
 closing_is o host order e = ap (λ (h : Option Opened). by_host {X = List ℕ} h [] (λ k. batch_text k.board order)) e
 
 -- what a station prints and tells its keeper of a batch that it has taken
-pub record IsTold (d : Drawn) (station : StationValue) (written : List ℕ) : Type 0 where
+pub record IsTold (d : DrawnBatch) (station : StationValue) (written : List ℕ) : Type 0 where
   pub text : written ≡ batch_line (counts_in d.batch)
   pub board : station.board ≡ d.station.board
   pub words : station.words ≡ d.station.words
   pub keeper : Keeps (Arrive d.station.keeper.moment (filter (holds d.station.board.drawops) (names_of d.drawops.items))) d.station.keeper station.keeper
 
 -- the station is at the host after the batch
-told_at : (old : StationValue) (workers : ℕ) (d : Drawn) (station : StationValue) (written : List ℕ) (host : Opened) (is : IsDrawn old workers d) → 0 < length d.drawops.items → IsTold d station written → IsOpenAt old host
+told_at : (old : StationValue) (workers : ℕ) (d : DrawnBatch) (station : StationValue) (written : List ℕ) (host : Opened) (is : IsDrawn old workers d) → 0 < length d.drawops.items → IsTold d station written → IsOpenAt old host
     → TakesBatch host d.drawops.items is.taken.order station written
 told_at old workers d station written host is some told at =
     let drawn = d.drawops.items in
@@ -144,7 +144,7 @@ told_at old workers d station written host is some told at =
       text = t.text;
     }
 
-pub takes_on : (old : StationValue) (workers : ℕ) (d : Drawn) (station : Taken) (written given : List ℕ) (lines lines' : LinesValue) (first : DrawopValue) (failed : Bool) (s : State) (host : Opened)
+pub takes_on : (old : StationValue) (workers : ℕ) (d : DrawnBatch) (station : PrintedBatch) (written given : List ℕ) (lines lines' : LinesValue) (first : DrawopValue) (failed : Bool) (s : State) (host : Opened)
     → s.host ≡ Some host → (IsAlone s.workers → workers ≤ 1) → IsOpenAt old host → IsDrawn old workers d → IsTold d station.station written → station.fault ≡ d.fault
     → (IsOpen s.host → (0 < length d.drawops.items) × GetsOver d.fault s lines first given lines' failed d.drawops.items) → TakesOn s host lines first given written lines' failed station
 takes_on old workers d station written given lines lines' first failed s host here few at is told same read =

@@ -13,12 +13,11 @@ use Rattle.wb_script.specs.Hosts.{Opened, opened, calls_after, host_after, batch
 use Rattle.wb_script.specs.Parsing.{line_of}
 use Rattle.wb_script.specs.Reordering.{part_unless, part_at, other_than, others_of, onto_batch, batches_with, batches_of, AreRearranged, EachReorderingIsOutcome}
 use Rattle.wb_lines.specs.Input.{InputLine, input_lines, content}
-use Rattle.wb_script.specs.Script.{State, MayBeTaken, Closing, Opens, Acts, Faulty, Part, Arrival, Nothing, End, part_of, part_in, Step, goes, refused, step_by, part_step, Outcome, before, finish, proceed, outcome_from, Finishes, Proceeds, fault_at, Continues, IsOutcomeFrom}
+use Rattle.wb_script.specs.Script.{State, MayBeTaken, Closing, Opens, Acts, Faulty, Part, Arrival, Nothing, End, part_of, part_in, Step, goes, refused, step_by, part_step, Outcome, before, finish, proceed, continue, outcome_from, Finishes, Proceeds, fault_at, Continues, IsOutcomeFrom}
 use Rattle.wb_script.proofs.AlikeCalls.{tell_same}
 use Rattle.wb_script.proofs.AlikeHosts.{told, ActsAlike, acts_alike}
 use Rattle.wb_script.proofs.Lifted.{lifted}
 use Rattle.wb_script.proofs.ReorderedLines.{onto_onto, Taken, drawops_in, no_fault, part_here, same_line, Arrives, arrived, first_same, others_same, line_course, alone, ToldAlike, state, finish_alike, after_alike}
-use Rattle.wb_script.proofs.Simulations.{course, course_is}
 
 -- ---- arrivals, by their contents
 
@@ -264,7 +263,7 @@ module _ (k : ℕ) (many : 2 ≤ k) (cut : Bool) where
         let moved = ended waiting ws vs (batches_of content cut (n + 1) lines) (batches_of content cut (n + 1) more) b.waits (both None line' ws vs more at same b.batches) in
         subst (λ (l : InputLine). Here (Some e) host waiting (outcome_from cut n u (l ∷ more))) (sym same)
         (finishes host waiting (drawops_in vs) calls (Err e) (outcome_from cut n u (line ∷ more)) moved
-        (course_is cut n u line more ∙ ap (λ (f : Option RunFault). course f (n + 1) u (content line) (λ t. outcome_from cut (n + 1) t more)) fault))
+        (ap (λ (f : Option RunFault). continue f (n + 1) u (content line) (λ t. outcome_from cut (n + 1) t more)) fault))
 
   comes_out : (n : ℕ) (lines : List InputLine) → ComesOut n lines
   comes_out n [] host waiting calls ws vs [] b =

@@ -9,7 +9,7 @@ use Rattle.wb_lines.specs.Ahead.{Ahead, Pulls}
 use Rattle.wb_lines.proofs.LineBytes.{Pulls-on}
 use Rattle.wb_script.specs.Script.{most_lines}
 use Rattle.wb_script.specs.Inside.Lines.{LinesValue, Fronts, IsSeen, IsFirst, Looks}
-use Rattle.wb_script.specs.Inside.SeenLines.{ahead_of, lines_value, IsSound}
+use Rattle.wb_script.specs.Inside.SeenLines.{ahead_of, lines_value, NextIsParsed}
 
 -- what a look has found, from what the reader did
 pub looked : (seen : Option Seen) (reader reader' : Ahead) (done : ℕ) (line line' : List ℕ) (old : LinesValue) (given : List ℕ) (left left' : Option (List ℕ)) (failed failed' : Bool) (result : Result Bool RunFault)
@@ -21,12 +21,12 @@ looked None reader reader' done line line' old given left left' failed failed' r
 looked (Some e) reader reader' done line line' old given left left' failed failed' result view none pulls looks = absurd cc
 
 -- fewer lines were taken than a script has at most
-pub few_of : (seen : Option Seen) (reader : Ahead) (done : ℕ) (line : List ℕ) → seen ≡ None → IsSound reader done line seen → done ≢ most_lines → done < most_lines
+pub few_of : (seen : Option Seen) (reader : Ahead) (done : ℕ) (line : List ℕ) → seen ≡ None → NextIsParsed reader done line seen → done ≢ most_lines → done < most_lines
 few_of None reader done line none sound other = omega (arith, sound, other)
 few_of (Some e) reader done line none sound other = absurd cc
 
 -- a line that was looked at before
-pub seen_again : (seen : Option Seen) (reader : Ahead) (done : ℕ) (line : List ℕ) (v : LinesValue) → lines_value reader done line seen ≡ v → is_some seen ≡ true → IsSound reader done line seen → IsSeen v.next × IsFirst v.next v.ahead
+pub seen_again : (seen : Option Seen) (reader : Ahead) (done : ℕ) (line : List ℕ) (v : LinesValue) → lines_value reader done line seen ≡ v → is_some seen ≡ true → NextIsParsed reader done line seen → IsSeen v.next × IsFirst v.next v.ahead
 seen_again None reader done line v view some sound = absurd (false≢true some)
 seen_again (Some seen) reader done line v view some sound = subst (λ (o : LinesValue). IsSeen o.next × IsFirst o.next o.ahead) view (tt, (reader, sound.1))
 

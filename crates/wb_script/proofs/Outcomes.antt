@@ -11,7 +11,7 @@ use Rattle.wb_script.specs.declared.fault.RunFault.TheVariants as run_faults
 use Rattle.wb_script.specs.declared.summary.Summary.{Summary}
 use Rattle.wb_lines.specs.Ahead.{Ahead, NoLineFeed, IsLine}
 use Rattle.wb_lines.specs.Input.{InputLine, input_lines, content, most_bytes, BeginsWith}
-use Rattle.wb_script.specs.Script.{State, MayBeTaken, InSomeOrder, Step, goes, refused, step_of, Outcome, prints, before, finish, proceed, most_lines, outcome_from, Finishes, Proceeds, fault_at, Continues, IsOutcomeFrom, IsStop}
+use Rattle.wb_script.specs.Script.{State, MayBeTaken, InSomeOrder, Step, goes, refused, step_of, Outcome, prints, before, finish, proceed, continue, most_lines, outcome_from, Finishes, Proceeds, fault_at, Continues, IsOutcomeFrom, IsStop}
 use Rattle.wb_script.specs.Inside.Steps.{HostValue, IsAt, IsLeftAt, DoesStep, MayDoStep}
 use Rattle.wb_lines.specs.Input.{MayFollow}
 use Rattle.wb_script.specs.Inside.Passing.{Leads, MayBegin, IsAhead, Passes, Stops, Ends}
@@ -63,18 +63,13 @@ proceeds : (number : ℕ) (Rest : State → Outcome → Type 0) (rest : State �
 proceeds number Rest rest (goes t text) all = (rest t, all t, refl)
 proceeds number Rest rest (refused t text e) all = (finish t t.waiting (Err (run_faults.Line number e)), finishes t (Err (run_faults.Line number e)), refl)
 
-continues : (within whole : Bool) (number : ℕ) (s : State) (bytes : List ℕ) (Rest : State → Outcome → Type 0) (rest : State → Outcome) → ((t : State) → Rest t (rest t))
-    → Continues (cond within (cond whole None (Some run_faults.Read)) (Some run_faults.Endless)) number s bytes Rest
-    (cond within (cond whole (proceed number (step_of s s.waiting bytes) rest) (finish s s.waiting (Err run_faults.Read))) (finish s s.waiting (Err run_faults.Endless)))
-continues true true number s bytes Rest rest all = (s.waiting, as_it_came s.workers s.waiting, proceeds number Rest rest (step_of s s.waiting bytes) all)
-continues true false number s bytes Rest rest all = finishes s (Err run_faults.Read)
-continues false whole number s bytes Rest rest all = finishes s (Err run_faults.Endless)
+continues : (fault : Option RunFault) (number : ℕ) (s : State) (bytes : List ℕ) (Rest : State → Outcome → Type 0) (rest : State → Outcome) → ((t : State) → Rest t (rest t)) → Continues fault number s bytes Rest (continue fault number s bytes rest)
+continues None number s bytes Rest rest all = (s.waiting, as_it_came s.workers s.waiting, proceeds number Rest rest (step_of s s.waiting bytes) all)
+continues (Some e) number s bytes Rest rest all = finishes s (Err e)
 
 pub one_thread : (cut : Bool) (n : ℕ) (s : State) (lines : List InputLine) → IsOutcomeFrom cut n s lines (outcome_from cut n s lines)
 one_thread cut n s [] = finishes s (cond cut (Err run_faults.Read) (Ok n))
-one_thread cut n s (line ∷ lines) =
-    continues (nat_lt n most_lines && nat_le (length line.bytes) most_bytes) (line.ended || not cut) (n + 1) s (content line)
-    (λ t next. IsOutcomeFrom cut (n + 1) t lines next) (λ t. outcome_from cut (n + 1) t lines) (λ t. one_thread cut (n + 1) t lines)
+one_thread cut n s (line ∷ lines) = continues (fault_at cut n line) (n + 1) s (content line) (λ t next. IsOutcomeFrom cut (n + 1) t lines next) (λ t. outcome_from cut (n + 1) t lines) (λ t. one_thread cut (n + 1) t lines)
 
 -- some outcome is ahead
 ahead : (cut : Bool) (n : ℕ) (s : State) (reader : Ahead) (pulled : List ℕ) → IsAhead cut n s reader pulled (outcome_from cut n s (input_lines (reader.bytes ++ pulled)))

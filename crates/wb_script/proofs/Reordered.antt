@@ -12,12 +12,11 @@ use Rattle.wb_script.specs.declared.fault.RunFault.TheVariants as run_faults
 use Rattle.wb_script.specs.Hosts.{Opened, opened, calls_after, host_after, batch_text, Act, does, fails, act}
 use Rattle.wb_script.specs.Reordering.{part_at, other_than, others_of, onto_batch, batches_with, batches_of, AreRearranged, IsReorderedBy}
 use Rattle.wb_lines.specs.Input.{InputLine, content}
-use Rattle.wb_script.specs.Script.{State, start, Closing, Opens, Acts, Faulty, Part, Arrival, Nothing, End, part_in, Step, goes, refused, step_by, part_step, Outcome, before, finish, proceed, most_lines, outcome_from, Finishes, Proceeds, fault_at, Continues, IsOutcomeFrom}
+use Rattle.wb_script.specs.Script.{State, start, Closing, Opens, Acts, Faulty, Part, Arrival, Nothing, End, part_in, Step, goes, refused, step_by, part_step, Outcome, before, finish, proceed, continue, most_lines, outcome_from, Finishes, Proceeds, fault_at, Continues, IsOutcomeFrom}
 use Rattle.wb_script.proofs.AlikeCalls.{TellAlike, tell_same}
 use Rattle.wb_script.proofs.AlikeHosts.{told, ActsAlike, acts_alike}
 use Rattle.wb_script.proofs.Lifted.{lifted}
 use Rattle.wb_script.proofs.ReorderedLines.{onto_same, onto_none, onto_onto, Taken, lines_in, drawops_in, no_fault, arrives_at, part_here, line_course, alone, ToldAlike, state, finish_alike, after_alike}
-use Rattle.wb_script.proofs.Simulations.{course, course_is}
 
 abbrev pub entire : InputLine → InputLine
 entire line = line
@@ -237,7 +236,7 @@ module _ (cut : Bool) (n : ℕ) where
   faulty : (line : InputLine) (lines : List InputLine) (s : State) (calls : List KeeperCall) (ws : List (Taken cut)) (o : Outcome) (e : RunFault) → fault_at cut n line ≡ Some e → s.waiting ≡ drawops_in ws
       → Finishes s (Err e) o → Found cut n s calls ws (line ∷ lines) o
   faulty line lines s calls ws o e is waits f =
-      ends s calls ws (line ∷ lines) o (Err e) waits f (λ t. course_is cut n t line lines ∙ ap (λ (f : Option RunFault). course f (n + 1) t (content line) (λ u. outcome_from cut (n + 1) u lines)) is)
+      ends s calls ws (line ∷ lines) o (Err e) waits f (λ t. ap (λ (f : Option RunFault). continue f (n + 1) t (content line) (λ u. outcome_from cut (n + 1) u lines)) is)
 
   continues : (line : InputLine) (lines : List InputLine) (rest : Finds cut (n + 1) lines) (fault : Option RunFault) (s : State) (calls : List KeeperCall) (ws : List (Taken cut)) (o : Outcome) → fault_at cut n line ≡ fault → s.waiting ≡ drawops_in ws → ToldAlike s.host calls
       → Continues fault (n + 1) s (content line) (λ t next. IsOutcomeFrom cut (n + 1) t lines next) o → Found cut n s calls ws (line ∷ lines) o

@@ -12,10 +12,9 @@ use Rattle.wb_script.specs.declared.fault.RunFault.TheVariants as run_faults
 use Rattle.wb_script.specs.Hosts.{Opened, present, names_of, board_after, calls_after}
 use Rattle.wb_script.specs.Reordering.{part_unless, part_at, other_than, onto_batch, AreRearranged}
 use Rattle.wb_lines.specs.Input.{InputLine, content, most_bytes}
-use Rattle.wb_script.specs.Script.{State, by_host, Part, Arrival, Nothing, End, part_in, part_step, finish, proceed, most_lines, outcome_from, fault_at}
+use Rattle.wb_script.specs.Script.{State, by_host, Part, Arrival, Nothing, End, part_in, part_step, finish, proceed, continue, most_lines, outcome_from, fault_at}
 use Rattle.wb_script.proofs.AlikeCalls.{TellAlike, arrive_alike}
 use Rattle.wb_script.proofs.AlikeHosts.{told}
-use Rattle.wb_script.proofs.Simulations.{course, course_is}
 
 -- ---- batches
 
@@ -106,8 +105,7 @@ others_same a b xs ys e = cc
 pub line_course : (cut : Bool) (n : ℕ) (s : State) (line : InputLine) (lines : List InputLine) (part : Part) → fault_at cut n line ≡ None → part_in line ≡ part
     → outcome_from cut n s (line ∷ lines) ≡ proceed (n + 1) (part_step s s.waiting part) (λ t. outcome_from cut (n + 1) t lines)
 line_course cut n s line lines part e g =
-    course_is cut n s line lines
-    ∙ ap (λ (f : Option RunFault). course f (n + 1) s (content line) (λ t. outcome_from cut (n + 1) t lines)) e
+    ap (λ (f : Option RunFault). continue f (n + 1) s (content line) (λ t. outcome_from cut (n + 1) t lines)) e
     ∙ ap (λ (r : Part). proceed (n + 1) (part_step s s.waiting r) (λ t. outcome_from cut (n + 1) t lines)) g
 
 -- ---- the state of one thread: the batches may have come in another order

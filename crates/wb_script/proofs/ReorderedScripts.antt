@@ -12,12 +12,11 @@ use Rattle.wb_lines.proofs.StandingLines.{all_bytes, AreLines, reads, lines_agai
 use Rattle.wb_script.specs.declared.fault.RunFault.{RunFault}
 use Rattle.wb_script.specs.Parsing.{line_of}
 use Rattle.wb_script.specs.Reordering.{part_at, other_than, others_of, batches_with, batches_of, AreRearranged, IsReorderedBy, WorkersAreOneThread}
-use Rattle.wb_script.specs.Script.{State, start, Outcome, Arrival, Nothing, End, Part, part_of, part_in, Step, goes, refused, step_of, before, proceed, outcome_from, fault_at}
+use Rattle.wb_script.specs.Script.{State, start, Outcome, Arrival, Nothing, End, Part, part_of, part_in, Step, goes, refused, step_of, before, proceed, continue, outcome_from, fault_at}
 use Rattle.wb_script.specs.ScriptLaws.{EachEnds}
 use Rattle.wb_script.proofs.ArriveWords.{unreturned, some_bytes}
 use Rattle.wb_script.proofs.Reordered.{entire, reorders}
 use Rattle.wb_script.proofs.ReorderedLines.{same_line, Arrives, arrived, first_same, others_same, no_fault, part_here}
-use Rattle.wb_script.proofs.Simulations.{course, course_is}
 
 -- a line in the place of another
 abbrev placed : InputLine → InputLine → InputLine
@@ -121,19 +120,17 @@ proceeds_same : (number : ℕ) (step : Step) (one other : State → Outcome) →
 proceeds_same number (goes t text) one other same = ap (before text) (same t)
 proceeds_same number (refused t text e) one other same = refl
 
-course_same : (f : Option RunFault) (number : ℕ) (s : State) (bytes : List ℕ) (one other : State → Outcome) → ((t : State) → one t ≡ other t) → course f number s bytes one ≡ course f number s bytes other
-course_same (Some e) number s bytes one other same = refl
-course_same None number s bytes one other same = proceeds_same number (step_of s s.waiting bytes) one other same
+continue_same : (f : Option RunFault) (number : ℕ) (s : State) (bytes : List ℕ) (one other : State → Outcome) → ((t : State) → one t ≡ other t) → continue f number s bytes one ≡ continue f number s bytes other
+continue_same (Some e) number s bytes one other same = refl
+continue_same None number s bytes one other same = proceeds_same number (step_of s s.waiting bytes) one other same
 
 outcome_stays : (cut : Bool) (n : ℕ) (s : State) (lines news : List InputLine) → ArePlaced cut n lines news → outcome_from cut n s lines ≡ outcome_from cut n s news
 outcome_stays cut n s [] [] p = refl
 outcome_stays cut n s [] (new ∷ news) p = absurd p
 outcome_stays cut n s (line ∷ lines) [] p = absurd p
 outcome_stays cut n s (line ∷ lines) (new ∷ news) p =
-    course_is cut n s line lines
-    ∙ ap₂ (λ (f : Option RunFault) (b : List ℕ). course f (n + 1) s b (λ t. outcome_from cut (n + 1) t lines)) (sym (fault_stays cut n line new p.0)) (sym (content_stays cut n line new p.0))
-    ∙ course_same (fault_at cut n new) (n + 1) s (content new) (λ t. outcome_from cut (n + 1) t lines) (λ t. outcome_from cut (n + 1) t news) (λ t. outcome_stays cut (n + 1) t lines news p.1)
-    ∙ sym (course_is cut n s new news)
+    ap₂ (λ (f : Option RunFault) (b : List ℕ). continue f (n + 1) s b (λ t. outcome_from cut (n + 1) t lines)) (sym (fault_stays cut n line new p.0)) (sym (content_stays cut n line new p.0))
+    ∙ continue_same (fault_at cut n new) (n + 1) s (content new) (λ t. outcome_from cut (n + 1) t lines) (λ t. outcome_from cut (n + 1) t news) (λ t. outcome_stays cut (n + 1) t lines news p.1)
 
 other_stays : (cut : Bool) (n : ℕ) (line new : InputLine) → IsPlaced cut n line new → other_than (part_at cut n new) new ≡ other_than (part_at cut n line) line
 other_stays cut n line new (inl e) = ap (λ (l : InputLine). other_than (part_at cut n l) l) e

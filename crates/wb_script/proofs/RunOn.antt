@@ -8,7 +8,7 @@ use Rattle.wb_script.specs.declared.fault.LineFault.TheVariants as faults
 use Rattle.wb_script.specs.declared.fault.RunFault.{RunFault}
 use Rattle.wb_script.specs.declared.fault.RunFault.TheVariants as run_faults
 use Rattle.wb_script.specs.declared.line.Line.{Line}
-use Rattle.wb_script.specs.declared.taking.Taken.{Taken}
+use Rattle.wb_script.specs.declared.taking.PrintedBatch.{PrintedBatch}
 use Rattle.wb_lines.specs.Ahead.{Ahead, IsLine, Pulls}
 use Rattle.wb_script.specs.Hosts.{Opened, host_after}
 use Rattle.wb_lines.specs.Input.{InputLine, content}
@@ -132,14 +132,14 @@ at_after s host batch order v k is same leads = record {
 }
 
 -- The batch that begins with it, and the rest of which is read on by so many workers.
-abbrev pub BatchOn : StationValue → ℕ → LinesValue → DrawopValue → List ℕ → List ℕ → LinesValue → Bool → Result Taken RunFault → Type 0
-BatchOn v crew mid d given written new failed result = (s : State) (host : Opened) → s.host ≡ Some host → (IsAlone s.workers → crew ≤ 1) → IsOpenAt v host → TakesBatchOn s host mid d given written new failed result
+abbrev pub BatchOn : StationValue → ℕ → LinesValue → DrawopValue → List ℕ → List ℕ → LinesValue → Bool → Result PrintedBatch RunFault → Type 0
+BatchOn v count mid d given written new failed result = (s : State) (host : Opened) → s.host ≡ Some host → (IsAlone s.workers → count ≤ 1) → IsOpenAt v host → TakesBatchOn s host mid d given written new failed result
 
-pub arrives_open : (next : Option InputLine) (ahead : Ahead) (done : ℕ) (mid new : LinesValue) (d : DrawopValue) (s : State) (old : HostValue) (v : StationValue) (k : Option ℕ) (crew : ℕ) (given written : List ℕ) (failed : Bool) (taken : Taken)
-    → IsPartOf (parts.Arrival d) next → TakesNext next ahead done mid → IsAt old s → old.station ≡ Some v → k ≡ old.workers → (IsAlone k → crew ≤ 1) → (mid.ahead.ended ≡ true → given ≡ []) → (mid.ahead.ended ≡ true → new.ahead.ended ≡ true)
-    → BatchOn v crew mid d given written new failed (Ok taken)
+pub arrives_open : (next : Option InputLine) (ahead : Ahead) (done : ℕ) (mid new : LinesValue) (d : DrawopValue) (s : State) (old : HostValue) (v : StationValue) (k : Option ℕ) (count : ℕ) (given written : List ℕ) (failed : Bool) (taken : PrintedBatch)
+    → IsPartOf (parts.Arrival d) next → TakesNext next ahead done mid → IsAt old s → old.station ≡ Some v → k ≡ old.workers → (IsAlone k → count ≤ 1) → (mid.ahead.ended ≡ true → given ≡ []) → (mid.ahead.ended ≡ true → new.ahead.ended ≡ true)
+    → BatchOn v count mid d given written new failed (Ok taken)
     → (t : State) × IsLeftAt (record { station = Some taken.station; workers = k }) (ending_of taken.fault) t × RunsOn done s ahead given written new.done t new.ahead failed (ending_of taken.fault)
-arrives_open next ahead done mid new d s old v k crew given written failed taken part t at station workers few none stays batch =
+arrives_open next ahead done mid new d s old v k count given written failed taken part t at station workers few none stays batch =
     let o = open_host s v (subst (λ (x : Option StationValue). MayBeOpenAt x s.host) station at.station) in
     let same : k ≡ s.workers = workers ∙ at.workers in
     let b = batch s o.0 o.1 (λ a. few (subst IsAlone (sym same) a)) o.2 in
@@ -151,11 +151,11 @@ arrives_open next ahead done mid new d s old v k crew given written failed taken
     )
 
 -- it could not be taken
-pub arrives_refused : (done : ℕ) (ahead : Ahead) (mid new : LinesValue) (d : DrawopValue) (s : State) (old host : HostValue) (v : StationValue) (k : Option ℕ) (crew : ℕ) (given written : List ℕ) (failed : Bool) (f : RunFault)
-    → IsAt old s → old.station ≡ Some v → k ≡ old.workers → (IsAlone k → crew ≤ 1)
-    → BatchOn v crew mid d given written new failed (Err f)
+pub arrives_refused : (done : ℕ) (ahead : Ahead) (mid new : LinesValue) (d : DrawopValue) (s : State) (old host : HostValue) (v : StationValue) (k : Option ℕ) (count : ℕ) (given written : List ℕ) (failed : Bool) (f : RunFault)
+    → IsAt old s → old.station ≡ Some v → k ≡ old.workers → (IsAlone k → count ≤ 1)
+    → BatchOn v count mid d given written new failed (Err f)
     → (t : State) × IsLeftAt {X = Unit {0}} host (Err f) t × RunsOn {U = Unit {0}} done s ahead given written new.done t new.ahead failed (Err f)
-arrives_refused done ahead mid new d s old host v k crew given written failed f at station workers few batch =
+arrives_refused done ahead mid new d s old host v k count given written failed f at station workers few batch =
     let o = open_host s v (subst (λ (x : Option StationValue). MayBeOpenAt x s.host) station at.station) in
     let same : k ≡ s.workers = workers ∙ at.workers in
     let b = batch s o.0 o.1 (λ a. few (subst IsAlone (sym same) a)) o.2 in

@@ -17,7 +17,7 @@ use Rattle.wb_script.specs.Hosts.{Opened, opened, Act, does, fails, act}
 use Rattle.wb_script.specs.Parsing.{line_of}
 use Rattle.wb_script.specs.Script.{Begins}
 use Rattle.wb_lines.specs.Input.{InputLine, onto_first, input_lines, content, most_bytes}
-use Rattle.wb_script.specs.Script.{State, start, closing_text, after_batch, Closing, Opens, Acts, Faulty, Part, Arrival, Nothing, End, part_of, part_in, Step, goes, refused, step_by, closing_step, part_step, step_of, Outcome, prints, before, answer, finish, proceed, most_lines, outcome_from, outcome}
+use Rattle.wb_script.specs.Script.{State, start, closing_text, after_batch, Closing, Opens, Acts, Faulty, Part, Arrival, Nothing, End, part_of, part_in, Step, goes, refused, step_by, closing_step, part_step, step_of, Outcome, prints, before, answer, finish, proceed, continue, most_lines, outcome_from, outcome}
 use Rattle.wb_script.specs.ScriptLaws.{EachEnds, waits_after, waits_at_end, text_of, RefusedStays, PrintedStays, SkippedPrintsNothing}
 use Rattle.wb_lines.proofs.InputLines.{input_lines-whole, whole_line, fits}
 use Rattle.wb_script.proofs.Outcomes.{before-nil, before-before, too_many, text_of as same_text, end_of}
@@ -186,9 +186,9 @@ text_proceed : (n m : ℕ) (step : Step) (a b : State → Outcome) → ((t : Sta
 text_proceed n m (goes t text) a b same = text_before text (a t) (b t) (same t)
 text_proceed n m (refused t text f) a b same = refl
 
-text_cond : (test : Bool) (o p r : Outcome) → text_of o ≡ text_of p → text_of (cond test o r) ≡ text_of (cond test p r)
-text_cond true o p r same = same
-text_cond false o p r same = refl
+text_continue : (fault : Option RunFault) (n m : ℕ) (s : State) (bytes : List ℕ) (a b : State → Outcome) → ((t : State) → text_of (a t) ≡ text_of (b t)) → text_of (continue fault n s bytes a) ≡ text_of (continue fault m s bytes b)
+text_continue None n m s bytes a b same = text_proceed n m (step_of s s.waiting bytes) a b same
+text_continue (Some e) n m s bytes a b same = refl
 
 few_enough : (n : ℕ) → n < most_lines → nat_lt n most_lines ≡ true
 few_enough n few = grind (arith, nat_tests)
@@ -199,9 +199,7 @@ text_later cut n s [] few = refl
 text_later cut n s (line ∷ lines) few =
     let later : nat_lt (n + 1) most_lines ≡ true = few_enough (n + 1) (omega arith) in
     let now : nat_lt n most_lines ≡ true = few_enough n (omega arith) in
-    let inside : text_of (proceed (n + 1 + 1) (step_of s s.waiting (content line)) (λ t. outcome_from cut (n + 1 + 1) t lines)) ≡ text_of (proceed (n + 1) (step_of s s.waiting (content line)) (λ t. outcome_from cut (n + 1) t lines)) =
-    text_proceed (n + 1 + 1) (n + 1) (step_of s s.waiting (content line)) (λ t. outcome_from cut (n + 1 + 1) t lines) (λ t. outcome_from cut (n + 1) t lines) (λ t. text_later cut (n + 1) t lines (omega arith)) in
-    rw (later, now) (text_cond (nat_le (length line.bytes) most_bytes) _ _ _ (text_cond (line.ended || not cut) _ _ _ inside))
+    rw (later, now) (text_continue _ (n + 1 + 1) (n + 1) s (content line) (λ t. outcome_from cut (n + 1 + 1) t lines) (λ t. outcome_from cut (n + 1) t lines) (λ t. text_later cut (n + 1) t lines (omega arith)))
 
 -- a skipped line, and then the others
 skips : (cut : Bool) (n : ℕ) (s : State) (line : List ℕ) (lines : List InputLine) → IsLine line → line_of (strip_carriage_return line) ≡ Ok Skip → n + length lines < most_lines

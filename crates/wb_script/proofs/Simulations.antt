@@ -1,12 +1,12 @@
 -- Two states that are alike before each line: each outcome from the one is what one thread prints from the other.
-use Rattle.std.proofs.Common.{◌≡◌, ℕ, ◌+◌, Bool, true, false, cond, List, [], ◌∷◌, length, Result, Ok, Err, refl, sym, ap, ◌∙◌}
-use Rattle.std.specs.Prelude.{Option, Some, None, nat_le, nat_lt, ◌&&◌, ◌||◌, not}
+use Rattle.std.proofs.Common.{◌≡◌, ℕ, ◌+◌, Bool, cond, List, [], ◌∷◌, Result, Ok, Err, refl, ap, ◌∙◌}
+use Rattle.std.specs.Prelude.{Option, Some, None}
 use Rattle.wb_names.specs.Values.{DrawopValue}
 use Rattle.wb_script.specs.declared.fault.LineFault.{LineFault}
 use Rattle.wb_script.specs.declared.fault.RunFault.{RunFault}
 use Rattle.wb_script.specs.declared.fault.RunFault.TheVariants as run_faults
-use Rattle.wb_lines.specs.Input.{InputLine, content, most_bytes}
-use Rattle.wb_script.specs.Script.{State, MayBeTaken, part_in, Step, goes, refused, part_step, step_of, Outcome, before, finish, proceed, most_lines, outcome_from, Finishes, Proceeds, fault_at, Continues, IsOutcomeFrom}
+use Rattle.wb_lines.specs.Input.{InputLine, content}
+use Rattle.wb_script.specs.Script.{State, MayBeTaken, part_in, Step, goes, refused, part_step, step_of, Outcome, before, finish, proceed, continue, outcome_from, Finishes, Proceeds, fault_at, Continues, IsOutcomeFrom}
 
 -- A script that ends here prints the same and answers the same, in whatever order the one takes its batch.
 abbrev pub EndsAlike : State → State → Type 0
@@ -36,28 +36,11 @@ proceeds number Alike Rest rest o (refused s text e) (refused t text' e') a on p
 proceeds number Alike Rest rest o (goes s text) (refused t text' e) a on p = absurd a
 proceeds number Alike Rest rest o (refused s text e) (goes t text') a on p = absurd a
 
--- ---- one line, by one thread
-
-abbrev pub course : Option RunFault → ℕ → State → List ℕ → (State → Outcome) → Outcome
-course None number s bytes rest = proceed number (step_of s s.waiting bytes) rest
-course (Some e) number s bytes rest = finish s s.waiting (Err e)
-
-pub course_is : (cut : Bool) (n : ℕ) (s : State) (line : InputLine) (lines : List InputLine) → outcome_from cut n s (line ∷ lines) ≡ course (fault_at cut n line) (n + 1) s (content line) (λ t. outcome_from cut (n + 1) t lines)
-course_is cut n s line lines = from (nat_lt n most_lines && nat_le (length line.bytes) most_bytes) (line.ended || not cut) where
-  rest : State → Outcome
-  rest t = outcome_from cut (n + 1) t lines
-
-  from : (within whole : Bool) → cond within (cond whole (proceed (n + 1) (step_of s s.waiting (content line)) rest) (finish s s.waiting (Err run_faults.Read))) (finish s s.waiting (Err run_faults.Endless))
-      ≡ course (cond within (cond whole None (Some run_faults.Read)) (Some run_faults.Endless)) (n + 1) s (content line) rest
-  from true true = refl
-  from true false = refl
-  from false whole = refl
-
 module _ (cut : Bool) (Alike : ℕ → List InputLine → State → State → Type 0) (all : Simulates cut Alike) where
   continues : (fault : Option RunFault) (n : ℕ) (s t : State) (line : InputLine) (lines : List InputLine) (o : Outcome) → Alike n (line ∷ lines) s t → fault_at cut n line ≡ fault
       → Continues fault (n + 1) s (content line) (λ t next. IsOutcomeFrom cut (n + 1) t lines next) o
       → ((u v : State) (next : Outcome) → Alike (n + 1) lines u v → IsOutcomeFrom cut (n + 1) u lines next → next ≡ outcome_from cut (n + 1) v lines)
-      → o ≡ course fault (n + 1) t (content line) (λ t. outcome_from cut (n + 1) t lines)
+      → o ≡ continue fault (n + 1) t (content line) (λ t. outcome_from cut (n + 1) t lines)
   continues None n s t line lines o a free c on =
       proceeds (n + 1) (Alike (n + 1) lines) (λ t next. IsOutcomeFrom cut (n + 1) t lines next) (λ t. outcome_from cut (n + 1) t lines) o (part_step s c.0 (part_in line)) (part_step t t.waiting (part_in line))
       (all.steps n line lines s t c.0 a free c.1) on c.2
@@ -65,4 +48,4 @@ module _ (cut : Bool) (Alike : ℕ → List InputLine → State → State → Ty
 
   pub simulated : (n : ℕ) (s t : State) (lines : List InputLine) (o : Outcome) → Alike n lines s t → IsOutcomeFrom cut n s lines o → o ≡ outcome_from cut n t lines
   simulated n s t [] o a f = finishes s t (cond cut (Err run_faults.Read) (Ok n)) o (all.ends n [] s t a) f
-  simulated n s t (line ∷ lines) o a c = continues (fault_at cut n line) n s t line lines o a refl c (λ u v next b h. simulated (n + 1) u v lines next b h) ∙ sym (course_is cut n t line lines)
+  simulated n s t (line ∷ lines) o a c = continues (fault_at cut n line) n s t line lines o a refl c (λ u v next b h. simulated (n + 1) u v lines next b h)

@@ -143,21 +143,28 @@ finish s order ending = closed s order (λ t text. prints text (answer t ending)
 abbrev pub most_lines : ℕ
 most_lines = 2 ^ 20
 
+-- a limit that a line passes, or that it is cut off
+abbrev pub fault_at : Bool → ℕ → InputLine → Option RunFault
+fault_at cut n line =
+    if nat_lt n most_lines && nat_le (length line.bytes) most_bytes
+    then (if line.ended || not cut then None else Some run_faults.Read)
+    else Some run_faults.Endless
+
 -- ---- by one thread, which takes each batch as it came
 
 abbrev pub proceed : ℕ → Step → (State → Outcome) → Outcome
 proceed number (goes t text) rest = before text (rest t)
 proceed number (refused t text e) rest = before text (finish t t.waiting (Err (run_faults.Line number e)))
 
+-- A line is taken, or the script ends with its fault.
+abbrev pub continue : Option RunFault → ℕ → State → List ℕ → (State → Outcome) → Outcome
+continue None number s bytes rest = proceed number (step_of s s.waiting bytes) rest
+continue (Some e) number s bytes rest = finish s s.waiting (Err e)
+
 -- From a state, after so many lines, the outcome of the lines that are left. Where the input is cut off, reading fails after them.
 abbrev pub outcome_from : Bool → ℕ → State → List InputLine → Outcome
 outcome_from cut n s [] = finish s s.waiting (if cut then Err run_faults.Read else Ok n)
-outcome_from cut n s (line ∷ lines) =
-    if nat_lt n most_lines && nat_le (length line.bytes) most_bytes
-    then (if line.ended || not cut
-    then proceed (n + 1) (step_of s s.waiting (content line)) (λ t. outcome_from cut (n + 1) t lines)
-    else finish s s.waiting (Err run_faults.Read))
-    else finish s s.waiting (Err run_faults.Endless)
+outcome_from cut n s (line ∷ lines) = continue (fault_at cut n line) (n + 1) s (content line) (λ t. outcome_from cut (n + 1) t lines)
 
 -- the outcome of an input, which is cut off where reading fails after it
 abbrev pub outcome : Option ℕ → Bool → List ℕ → Outcome
@@ -173,13 +180,6 @@ Finishes s ending o = InSomeOrder s (λ order. o ≡ finish s order ending)
 abbrev pub Proceeds : ℕ → (State → Outcome → Type 0) → Outcome → Step → Type 0
 Proceeds number Rest o (goes t text) = (next : Outcome) × Rest t next × (o ≡ before text next)
 Proceeds number Rest o (refused t text e) = (next : Outcome) × Finishes t (Err (run_faults.Line number e)) next × (o ≡ before text next)
-
--- a limit that a line passes, or that it is cut off
-abbrev pub fault_at : Bool → ℕ → InputLine → Option RunFault
-fault_at cut n line =
-    if nat_lt n most_lines && nat_le (length line.bytes) most_bytes
-    then (if line.ended || not cut then None else Some run_faults.Read)
-    else Some run_faults.Endless
 
 abbrev pub Continues : Option RunFault → ℕ → State → List ℕ → (State → Outcome → Type 0) → Outcome → Type 0
 Continues None number s bytes Rest o = InSomeOrder s (λ order. Proceeds number Rest o (step_of s order bytes))

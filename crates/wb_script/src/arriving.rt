@@ -63,7 +63,7 @@ fn draw<R: Source, W: Sink>(
 /// Draws the arrivals of a batch from a script: one whose line was taken before, and those of the lines that
 /// follow, up to one that is neither skipped nor an arrival.
 #[derive(Drop)]
-pub struct Arriving<'a, R: Source, W: Sink> {
+pub struct BatchSource<'a, R: Source, W: Sink> {
     pub alloc: Global,
     pub progress: &'a mut Progress,
     pub source: &'a mut R,
@@ -74,7 +74,7 @@ pub struct Arriving<'a, R: Source, W: Sink> {
     pub over: Option<Result<(), RunFault>>,
 }
 
-impl<R: Source, W: Sink> Arrivals for Arriving<'_, R, W> {
+impl<R: Source, W: Sink> Arrivals for BatchSource<'_, R, W> {
     ghost use Rattle.std.specs.Prelude.{◌≡◌, refl};
     ghost use Rattle.wb_script.specs.Inside.Reading.{Gives, ReadsOn, most_of};
     ghost use Rattle.std.specs.Option.{is_some};

@@ -12,9 +12,9 @@ ghost use Rattle.wb_script.specs.Inside.Steps.{IsAt, MayDoStep, Moves};
 use crate::fault::{LineFault, RunFault};
 use crate::line::Line;
 use crate::part::Part;
-use crate::progress::{Crew, Place, Progress};
+use crate::progress::{Place, Progress};
 use crate::station::Station;
-use crate::taking::{Taken, take_batch};
+use crate::taking::{PrintedBatch, take_batch};
 use std::alloc::Global;
 use std::marker::Model;
 use std::sync::Wait;
@@ -150,9 +150,10 @@ impl Host {
         let Some(station) = self.station.take() else {
             return Err(RunFault::Line(progress.lines.done(), LineFault::NoBoard));
         };
-        let workers = crew_of(self.workers);
-        let crew = Crew { station, workers };
-        let Taken { station, fault } = take_batch(place, crew, drawop, progress, source, sink)?;
+        let workers = worker_count(self.workers);
+        let PrintedBatch { station, fault } = take_batch(
+            place, station, workers, drawop, progress, source, sink,
+        )?;
         self.station = Some(station);
         match fault {
             None => Ok(()),
@@ -165,7 +166,7 @@ impl Host {
 const MOST_WORKERS: u32 = 8;
 
 /// By how many workers a batch is taken: one, until a number is known, and from 1 to 8 in any case.
-fn crew_of(workers: Option<u32>) -> u32
+fn worker_count(workers: Option<u32>) -> u32
     ensures range { (0 < result) × (result ≤ 8) }
     ensures alone { IsAlone workers → result ≤ 1 }
 {

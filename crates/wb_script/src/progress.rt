@@ -1,7 +1,6 @@
 //! How far a run has come, and where it is at work.
 
 use crate::script_lines::ScriptLines;
-use crate::station::Station;
 use std::alloc::Global;
 use wb_lines::Output;
 
@@ -19,11 +18,4 @@ pub struct Place<'a, T, G> {
     pub rt: &'a T,
     pub alloc: Global,
     pub gate: &'a G,
-}
-
-/// A station, and how many workers take a batch at it.
-#[derive(Drop)]
-pub struct Crew {
-    pub station: Station,
-    pub workers: u32,
 }

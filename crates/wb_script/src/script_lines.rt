@@ -56,11 +56,11 @@ impl Model for ScriptLines {
 
     ghost Value = { LinesValue };
 
-    ghost use Rattle.wb_script.specs.Inside.SeenLines.{lines_value, IsSound};
+    ghost use Rattle.wb_script.specs.Inside.SeenLines.{lines_value, NextIsParsed};
 
     ghost view = { λ l. lines_value l.reader l.done l.line.items l.seen };
 
-    ghost invariant = { λ l. IsSound l.reader l.done l.line.items l.seen };
+    ghost invariant = { λ l. NextIsParsed l.reader l.done l.line.items l.seen };
 }
 
 impl ScriptLines {

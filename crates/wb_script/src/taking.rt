@@ -9,9 +9,9 @@ ghost use Rattle.wb_script.specs.Stations.{IsOpenAt};
 ghost use Rattle.wb_script.specs.Inside.Reading.{ReadsOn};
 ghost use Rattle.wb_script.specs.Inside.Taking.{TakesFrom, DrawsAll, TakesBatchOn};
 
-use crate::arriving::Arriving;
+use crate::arriving::BatchSource;
 use crate::fault::RunFault;
-use crate::progress::{Crew, Place, Progress};
+use crate::progress::{Place, Progress};
 use crate::station::Station;
 use std::sync::Wait;
 use std::thread::Threads;
@@ -21,7 +21,7 @@ use wb_names::{Drawop, Sink, Source};
 /// A station that has taken a batch, its counts, its drawops as they came, and why the script can't be read on,
 /// where it can't.
 #[derive(Drop)]
-pub struct Drawn {
+pub struct DrawnBatch {
     pub station: Station,
     pub batch: Batch,
     pub drawops: Vec<Drawop>,
@@ -30,7 +30,7 @@ pub struct Drawn {
 
 /// A station whose batch was taken and printed, and why the script can't be read on, where it can't.
 #[derive(Drop)]
-pub struct Taken {
+pub struct PrintedBatch {
     pub station: Station,
     pub fault: Option<RunFault>,
 }
@@ -45,19 +45,19 @@ pub fn is_stop(fault: RunFault) -> bool
 /// Takes what a batch draws from its script, to its end.
 fn take_from<T: Threads + Wait + Sync, R: Source, W: Sink, G: Gate + Sync>(
     place: &Place<'_, T, G>,
-    crew: Crew,
-    arriving: &mut Arriving<'_, R, W>,
-) -> Result<Drawn, RunFault>
-    requires workers { (0 < crew.workers) × (crew.workers ≤ 8) }
+    station: Station,
+    workers: u32,
+    arriving: &mut BatchSource<'_, R, W>,
+) -> Result<DrawnBatch, RunFault>
+    requires workers { (0 < workers) × (workers ≤ 8) }
     requires start { arriving.old.over ≡ None }
     ensures names { (arriving.new.progress.ghost_name ≡ arriving.old.progress.ghost_name) × (arriving.new.source.ghost_name ≡ arriving.old.source.ghost_name)
         × (arriving.new.sink.ghost_name ≡ arriving.old.sink.ghost_name) }
     ensures reads { (drawn : List DrawopValue) × ReadsOn (record { at = record { lines = arriving.old.progress.now.lines; first = arriving.old.first }; over = arriving.old.over; left = R.left arriving.old.source.now; failed = R.has_failed arriving.old.source.now; output = arriving.old.progress.now.output; taken = W.taken arriving.old.sink.now; stuck = W.has_failed arriving.old.sink.now }) drawn
         (record { at = record { lines = arriving.new.progress.now.lines; first = arriving.new.first }; over = arriving.new.over; left = R.left arriving.new.source.now; failed = R.has_failed arriving.new.source.now; output = arriving.new.progress.now.output; taken = W.taken arriving.new.sink.now; stuck = W.has_failed arriving.new.sink.now })
-        × TakesFrom crew.station crew.workers drawn arriving.new.over result }
+        × TakesFrom station workers drawn arriving.new.over result }
     ensures failed { result ≡ Err RunFault.Write → W.has_failed arriving.new.sink.now ≡ true }
 {
-    let Crew { station, workers } = crew;
     let taken = station.take_arrivals(place.rt, place.alloc, workers, arriving, place.gate);
     let over = arriving.over;
     let (station, batch, drawops) = taken?;
@@ -66,7 +66,7 @@ fn take_from<T: Threads + Wait + Sync, R: Source, W: Sink, G: Gate + Sync>(
         Some(Err(fault)) => Some(fault),
         Some(Ok(())) | None => None,
     };
-    Ok(Drawn {
+    Ok(DrawnBatch {
         station,
         batch,
         drawops,
@@ -77,19 +77,20 @@ fn take_from<T: Threads + Wait + Sync, R: Source, W: Sink, G: Gate + Sync>(
 /// Takes a batch, whose first arrival was read before, and reads on to its end.
 fn draw_batch<T: Threads + Wait + Sync, R: Source, W: Sink, G: Gate + Sync>(
     place: &Place<'_, T, G>,
-    crew: Crew,
+    station: Station,
+    workers: u32,
     first: Drawop,
     progress: &mut Progress,
     source: &mut R,
     sink: &mut W,
-) -> Result<Drawn, RunFault>
-    requires workers { (0 < crew.workers) × (crew.workers ≤ 8) }
+) -> Result<DrawnBatch, RunFault>
+    requires workers { (0 < workers) × (workers ≤ 8) }
     ensures read { (given : List ℕ) × Pulls progress.old.lines.ahead progress.new.lines.ahead (R.left source.old) (R.left source.new) (R.has_failed source.old) (R.has_failed source.new) given
-        × (progress.old.lines.done ≤ progress.new.lines.done) × DrawsAll crew.station crew.workers progress.old.lines first given progress.new.lines (R.has_failed source.new) result }
+        × (progress.old.lines.done ≤ progress.new.lines.done) × DrawsAll station workers progress.old.lines first given progress.new.lines (R.has_failed source.new) result }
     ensures sends { Sends (W.taken sink.old) progress.old.output (W.taken sink.new) progress.new.output [] }
     ensures failed { result ≡ Err RunFault.Write → W.has_failed sink.new ≡ true }
 {
-    let mut arriving = Arriving {
+    let mut arriving = BatchSource {
         alloc: place.alloc,
         progress,
         source,
@@ -97,33 +98,34 @@ fn draw_batch<T: Threads + Wait + Sync, R: Source, W: Sink, G: Gate + Sync>(
         first: Some(first),
         over: None,
     };
-    take_from(place, crew, &mut arriving)
+    take_from(place, station, workers, &mut arriving)
 }
 
 /// Takes a batch, whose first arrival was read before, reads on to its end, and prints its counts.
 pub fn take_batch<T: Threads + Wait + Sync, R: Source, W: Sink, G: Gate + Sync>(
     place: &Place<'_, T, G>,
-    crew: Crew,
+    station: Station,
+    workers: u32,
     first: Drawop,
     progress: &mut Progress,
     source: &mut R,
     sink: &mut W,
-) -> Result<Taken, RunFault>
-    requires workers { (0 < crew.workers) × (crew.workers ≤ 8) }
+) -> Result<PrintedBatch, RunFault>
+    requires workers { (0 < workers) × (workers ≤ 8) }
     ensures read { (given : List ℕ) × (written : List ℕ)
         × Pulls progress.old.lines.ahead progress.new.lines.ahead (R.left source.old) (R.left source.new) (R.has_failed source.old) (R.has_failed source.new) given
         × Sends (W.taken sink.old) progress.old.output (W.taken sink.new) progress.new.output written
         × (progress.old.lines.done ≤ progress.new.lines.done)
-        × ((s : State) (host : Opened) → s.host ≡ Some host → (IsAlone s.workers → crew.workers ≤ 1) → IsOpenAt crew.station host → TakesBatchOn s host progress.old.lines first given written progress.new.lines (R.has_failed source.new) result) }
+        × ((s : State) (host : Opened) → s.host ≡ Some host → (IsAlone s.workers → workers ≤ 1) → IsOpenAt station host → TakesBatchOn s host progress.old.lines first given written progress.new.lines (R.has_failed source.new) result) }
     ensures kept { IfOk result (λ t. t.fault ≢ Some RunFault.Write) }
     ensures failed { result ≡ Err RunFault.Write → W.has_failed sink.new ≡ true }
 {
-    let Drawn {
+    let DrawnBatch {
         station,
         batch,
         drawops,
         fault,
-    } = draw_batch(place, crew, first, progress, source, sink)?;
+    } = draw_batch(place, station, workers, first, progress, source, sink)?;
     let station = station.print_batch(place.alloc, batch, &drawops, &mut progress.output)?;
-    Ok(Taken { station, fault })
+    Ok(PrintedBatch { station, fault })
 }

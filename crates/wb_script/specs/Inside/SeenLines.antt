@@ -17,7 +17,7 @@ lines_value reader done line None = record { done = done; ahead = reader; next =
 lines_value reader done line (Some seen) = record { done = done; ahead = ahead_of seen.ended reader line; next = Some (record { bytes = line; ended = seen.ended }) }
 
 -- A line that was looked at is one that may be taken, and was parsed.
-abbrev pub IsSound : Ahead → ℕ → List ℕ → Option Seen → Type 0
-IsSound reader done line None = done ≤ most_lines
-IsSound reader done line (Some seen) =
+abbrev pub NextIsParsed : Ahead → ℕ → List ℕ → Option Seen → Type 0
+NextIsParsed reader done line None = done ≤ most_lines
+NextIsParsed reader done line (Some seen) =
     (done < most_lines) × Fronts (ahead_of seen.ended reader line) (record { bytes = line; ended = seen.ended }) reader × (seen.said ≡ line_of (content (record { bytes = line; ended = seen.ended }))) × IfOk seen.said IsWithin

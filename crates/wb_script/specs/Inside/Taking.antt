@@ -3,8 +3,8 @@ use Rattle.std.specs.Prelude.{◌≡◌, ◌<◌, ℕ, length, List, [], ◌∷�
 use Rattle.wb_names.specs.Values.{DrawopValue}
 use Rattle.wb_feed.specs.Batches.{counts_in}
 use Rattle.wb_script.specs.declared.fault.RunFault.{RunFault}
-use Rattle.wb_script.specs.declared.taking.Drawn.{Drawn}
-use Rattle.wb_script.specs.declared.taking.Taken.{Taken}
+use Rattle.wb_script.specs.declared.taking.DrawnBatch.{DrawnBatch}
+use Rattle.wb_script.specs.declared.taking.PrintedBatch.{PrintedBatch}
 use Rattle.wb_script.specs.Hosts.{Opened, host_after}
 use Rattle.wb_script.specs.Script.{State, MayBeTaken, after_batch, is_stop, IsStop}
 use Rattle.wb_script.specs.Inside.Passing.{Passes, Stops}
@@ -18,7 +18,7 @@ GetsOver None s old first given new failed drawn = IsBatchEnd new × Passes old.
 GetsOver (Some f) s old first given new failed drawn = (is_stop f ≡ false) × Stops old.done (with_waiting s (first ∷ [])) old.ahead given [] (with_waiting s drawn) new.ahead failed f
 
 -- the batch that a station has taken
-pub record IsDrawn (station : StationValue) (workers : ℕ) (d : Drawn) : Type 0 where
+pub record IsDrawn (station : StationValue) (workers : ℕ) (d : DrawnBatch) : Type 0 where
   pub taken : TakesAll station.board workers d.drawops.items d.station.board (counts_in d.batch)
   pub keeper : d.station.keeper ≡ station.keeper
   pub words : d.station.words ≡ station.words
@@ -29,11 +29,11 @@ IsFault None fault = ⊥
 IsFault (Some (Ok u)) fault = fault ≡ None
 IsFault (Some (Err e)) fault = (fault ≡ Some e) × (is_stop e ≡ false)
 
-abbrev pub TakesFrom : StationValue → ℕ → List DrawopValue → Option (Result (Unit {0}) RunFault) → Result Drawn RunFault → Type 0
+abbrev pub TakesFrom : StationValue → ℕ → List DrawopValue → Option (Result (Unit {0}) RunFault) → Result DrawnBatch RunFault → Type 0
 TakesFrom station workers drawn over (Ok d) = (d.drawops.items ≡ drawn) × IsDrawn station workers d × IsFault over d.fault
 TakesFrom station workers drawn over (Err f) = IsStop f
 
-abbrev pub DrawsAll : StationValue → ℕ → LinesValue → DrawopValue → List ℕ → LinesValue → Bool → Result Drawn RunFault → Type 0
+abbrev pub DrawsAll : StationValue → ℕ → LinesValue → DrawopValue → List ℕ → LinesValue → Bool → Result DrawnBatch RunFault → Type 0
 DrawsAll station workers old first given new failed (Ok d) = IsDrawn station workers d × ((s : State) → IsOpen s.host → (0 < length d.drawops.items) × GetsOver d.fault s old first given new failed d.drawops.items)
 DrawsAll station workers old first given new failed (Err f) = IsStop f
 
@@ -42,13 +42,13 @@ abbrev pub GoesOn : Option RunFault → State → LinesValue → DrawopValue →
 GoesOn None s old first given written new failed t = Passes old.done (with_waiting s (first ∷ [])) old.ahead given written new.done t new.ahead
 GoesOn (Some f) s old first given written new failed t = (is_stop f ≡ false) × Stops old.done (with_waiting s (first ∷ [])) old.ahead given written t new.ahead failed f
 
-pub record TakesOn (s : State) (host : Opened) (old : LinesValue) (first : DrawopValue) (given written : List ℕ) (new : LinesValue) (failed : Bool) (taken : Taken) : Type 0 where
+pub record TakesOn (s : State) (host : Opened) (old : LinesValue) (first : DrawopValue) (given written : List ℕ) (new : LinesValue) (failed : Bool) (taken : PrintedBatch) : Type 0 where
   pub batch : List DrawopValue
   pub order : List DrawopValue
   pub may : MayBeTaken s.workers batch order
   pub leads : IsOpenAt taken.station (host_after host batch order)
   pub goes : GoesOn taken.fault s old first given written new failed (after_batch (with_waiting s batch) order)
 
-abbrev pub TakesBatchOn : State → Opened → LinesValue → DrawopValue → List ℕ → List ℕ → LinesValue → Bool → Result Taken RunFault → Type 0
+abbrev pub TakesBatchOn : State → Opened → LinesValue → DrawopValue → List ℕ → List ℕ → LinesValue → Bool → Result PrintedBatch RunFault → Type 0
 TakesBatchOn s host old first given written new failed (Ok taken) = TakesOn s host old first given written new failed taken
 TakesBatchOn s host old first given written new failed (Err f) = IsStop f × (written ≡ [])

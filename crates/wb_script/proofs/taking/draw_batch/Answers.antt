@@ -7,6 +7,6 @@ pub returns-clause-read : goal.returns-clause-read
 returns-clause-read g c =
     let reads = c.take_from.ensures.reads in
     let r = reads.1 in
-    let draws : DrawsAll c.args.crew.station c.args.crew.workers c.args.progress.now.lines c.args.first r.given c.take_from.new.arriving.progress.now.lines (g.R.Source.has_failed c.take_from.new.arriving.source.now) c.take_from.result =
-    draws_all c.args.crew.station c.args.crew.workers (record { at = record { lines = c.args.progress.now.lines; first = Some c.args.first }; over = None; left = g.R.Source.left c.args.source.now; failed = g.R.Source.has_failed c.args.source.now; output = c.args.progress.now.output; taken = g.W.Sink.taken c.args.sink.now; stuck = g.W.Sink.has_failed c.args.sink.now }) (record { at = record { lines = c.take_from.new.arriving.progress.now.lines; first = c.take_from.new.arriving.first }; over = c.take_from.new.arriving.over; left = g.R.Source.left c.take_from.new.arriving.source.now; failed = g.R.Source.has_failed c.take_from.new.arriving.source.now; output = c.take_from.new.arriving.progress.now.output; taken = g.W.Sink.taken c.take_from.new.arriving.sink.now; stuck = g.W.Sink.has_failed c.take_from.new.arriving.sink.now }) c.args.first reads.0 r c.take_from.result refl reads.2 in
+    let draws : DrawsAll c.args.station c.args.workers c.args.progress.now.lines c.args.first r.given c.take_from.new.arriving.progress.now.lines (g.R.Source.has_failed c.take_from.new.arriving.source.now) c.take_from.result =
+    draws_all c.args.station c.args.workers (record { at = record { lines = c.args.progress.now.lines; first = Some c.args.first }; over = None; left = g.R.Source.left c.args.source.now; failed = g.R.Source.has_failed c.args.source.now; output = c.args.progress.now.output; taken = g.W.Sink.taken c.args.sink.now; stuck = g.W.Sink.has_failed c.args.sink.now }) (record { at = record { lines = c.take_from.new.arriving.progress.now.lines; first = c.take_from.new.arriving.first }; over = c.take_from.new.arriving.over; left = g.R.Source.left c.take_from.new.arriving.source.now; failed = g.R.Source.has_failed c.take_from.new.arriving.source.now; output = c.take_from.new.arriving.progress.now.output; taken = g.W.Sink.taken c.take_from.new.arriving.sink.now; stuck = g.W.Sink.has_failed c.take_from.new.arriving.sink.now }) c.args.first reads.0 r c.take_from.result refl reads.2 in
     (r.given, search (rules, r.pulls), search (rules, r.on), search (rules, draws))

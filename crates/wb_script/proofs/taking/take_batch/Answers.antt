@@ -28,7 +28,7 @@ returns-clause-read g c =
       Sends-then (g.W.Sink.taken c.args.sink.now) (g.W.Sink.taken c.draw_batch.new.sink) (g.W.Sink.taken c.draw_batch.new.sink) c.args.progress.now.output c.draw_batch.new.progress.output c.print_batch.new.output [] text c.in_ok-station.ensures.sends
           (Sends-more (g.W.Sink.taken c.draw_batch.new.sink) c.draw_batch.new.progress.output c.print_batch.new.output text printed.0),
       read.2,
-      λ s host here few at. takes_on c.args.crew.station c.args.crew.workers d (record { station = c.in_ok-station-2.station; fault = d.fault }) text read.0 c.args.progress.now.lines c.draw_batch.new.progress.lines c.args.first (g.R.Source.has_failed c.draw_batch.new.source) s host here few at read.3.0 told refl (read.3.1 s),
+      λ s host here few at. takes_on c.args.station c.args.workers d (record { station = c.in_ok-station-2.station; fault = d.fault }) text read.0 c.args.progress.now.lines c.draw_batch.new.progress.lines c.args.first (g.R.Source.has_failed c.draw_batch.new.source) s host here few at read.3.0 told refl (read.3.1 s),
     )
 
 pub returns-clause-kept : goal.returns-clause-kept

@@ -32,7 +32,7 @@ returns-in_err-station-clause-text g c =
       t.1,
       Pulls-then c.args.progress.now.lines.ahead c.pass.new.self.ahead c.take_batch.new.progress.lines.ahead (g.R.Source.left c.args.source.now) (g.R.Source.left c.args.source.now) (g.R.Source.left c.take_batch.new.source) (g.R.Source.has_failed c.args.source.now) (g.R.Source.has_failed c.args.source.now) (g.R.Source.has_failed c.take_batch.new.source) [] t.0 (takes_pulls c.args.progress.now.lines.next c.args.progress.now.lines.ahead c.args.progress.now.lines.done c.pass.new.self (g.R.Source.left c.args.source.now) (g.R.Source.has_failed c.args.source.now) c.pass.ensures) t.2,
       t.3,
-      rw (p.1, p.2) (λ s at. arrives_refused c.args.progress.now.lines.done c.args.progress.now.lines.ahead c.pass.new.self c.take_batch.new.progress.lines c.args.drawop s c.args.self.now new c.in-Some.station c.self.inside.workers c.crew_of-workers.result t.0 t.1 (g.R.Source.has_failed c.take_batch.new.source) c.in_err-station.field-0.0 at stood same c.crew_of-workers.ensures.alone t.5),
+      rw (p.1, p.2) (λ s at. arrives_refused c.args.progress.now.lines.done c.args.progress.now.lines.ahead c.pass.new.self c.take_batch.new.progress.lines c.args.drawop s c.args.self.now new c.in-Some.station c.self.inside.workers c.worker_count-workers.result t.0 t.1 (g.R.Source.has_failed c.take_batch.new.source) c.in_err-station.field-0.0 at stood same c.worker_count-workers.ensures.alone t.5),
     )
 
 pub returns-clause-text : goal.returns-clause-text
@@ -48,7 +48,7 @@ returns-clause-text g c =
       t.1,
       Pulls-then c.args.progress.now.lines.ahead c.pass.new.self.ahead c.take_batch.new.progress.lines.ahead (g.R.Source.left c.args.source.now) (g.R.Source.left c.args.source.now) (g.R.Source.left c.take_batch.new.source) (g.R.Source.has_failed c.args.source.now) (g.R.Source.has_failed c.args.source.now) (g.R.Source.has_failed c.take_batch.new.source) [] t.0 (takes_pulls c.args.progress.now.lines.next c.args.progress.now.lines.ahead c.args.progress.now.lines.done c.pass.new.self (g.R.Source.left c.args.source.now) (g.R.Source.has_failed c.args.source.now) c.pass.ensures) t.2,
       t.3,
-      rw result_is (λ s at. arrives_open c.args.progress.now.lines.next c.args.progress.now.lines.ahead c.args.progress.now.lines.done c.pass.new.self c.take_batch.new.progress.lines c.args.drawop s c.args.self.now c.in-Some.station c.self.inside.workers c.crew_of-workers.result t.0 t.1 (g.R.Source.has_failed c.take_batch.new.source) c.in_ok-station.field-0 c.requires.part c.pass.ensures at stood same c.crew_of-workers.ensures.alone t.2.none_after_end t.2.end_stays t.5),
+      rw result_is (λ s at. arrives_open c.args.progress.now.lines.next c.args.progress.now.lines.ahead c.args.progress.now.lines.done c.pass.new.self c.take_batch.new.progress.lines c.args.drawop s c.args.self.now c.in-Some.station c.self.inside.workers c.worker_count-workers.result t.0 t.1 (g.R.Source.has_failed c.take_batch.new.source) c.in_ok-station.field-0 c.requires.part c.pass.ensures at stood same c.worker_count-workers.ensures.alone t.2.none_after_end t.2.end_stays t.5),
     )
 
 pub returns-clause-on : goal.returns-clause-on

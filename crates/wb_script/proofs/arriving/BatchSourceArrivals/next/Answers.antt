@@ -1,6 +1,6 @@
 use Rattle.std.proofs.Common.{rules, ◌≡◌, None, Some, Ok, Err, refl}
 use Rattle.wb_script.proofs.Following.{drawn_on, ended_on, fault_on}
-use Rattle.wb_script.proofs.arriving.ArrivingArrivals.next.Goals as goal
+use Rattle.wb_script.proofs.arriving.BatchSourceArrivals.next.Goals as goal
 
 pub returns-in-Ok-Some-clause-first : goal.returns-in-Ok-Some-clause-first
 returns-in-Ok-Some-clause-first g c =
