@@ -13,12 +13,17 @@ use Rattle.atomic_table.proofs.Lists.{at_set, set_here, at_longer, at_last}
 use Rattle.wb_history.specs.declared.knowledge.Knowledge.{Knowledge}
 use Rattle.wb_names.specs.Values.{DrawopValue}
 use mathlib.Core.List.{IsPrefix}
-use Rattle.wb_history.specs.Lists.{Has, Once}
-use Rattle.wb_history.specs.Members.{Lacks}
+use Rattle.wb_history.specs.Lists.{Once}
+use Rattle.wb_names.specs.History.{IsHistory, HoldsName}
+use Rattle.wb_names.specs.Arrivals.{Fresh}
+use Rattle.wb_names.proofs.Arrivals.{history_with-is}
+use Rattle.std.specs.Prelude.{Contains}
+use Rattle.std.proofs.lemmas.List.Elements.{All-push, Contains-append_left, Contains-push}
+use Rattle.wb_history.proofs.Words.{all_are, all_at, at_contained, history_is, one_place}
 use Rattle.wb_codec.specs.Rows.{row}
 use Rattle.wb_codec.specs.Ranges.{IsDrawop}
-use Rattle.wb_history.specs.Views.{OwnsAll, after_look, after_read, after_member, after_store, after_win, after_loss, after_confirm}
-use Rattle.wb_history.specs.Lawful.{address, Knows, Lawful, Sane}
+use Rattle.wb_history.specs.Views.{HasAllRows, after_look, after_read, after_member, after_store, after_win, after_loss, after_confirm}
+use Rattle.wb_history.specs.Lawful.{address, Knows, Lawful, IsConsistent}
 use Rattle.wb_history.specs.Plays.{Known, looked, read_word, read_last, stored_word, published, confirmed}
 use Rattle.wb_codec.proofs.RowLaws.{row_length}
 use Rattle.wb_history.proofs.Rows.{nothing_remembered}
@@ -93,7 +98,7 @@ module _ (cells : ℕ) (s : Board) (r : Lawful cells s) where
     at_one q zero a e = some-injective q a e
     at_one q (suc i) a e = absurd (some-ne-none a (sym e))
 
-    crowd : OwnsAll v → (p q : ℕ) → get_elem? r.rows p ≡ some q → r.owner q ≢ j → ⊥
+    crowd : HasAllRows v → (p q : ℕ) → get_elem? r.rows p ≡ some q → r.owner q ≢ j → ⊥
     crowd all p q at other =
         let count = few ((q ∷ []) ++ own_rows) cells (once_append (q ∷ []) own_rows (once_one q) own_once (λ i k a x y. let e = at_one q i a x in other (ap r.owner e ∙ (is_own k a y).1)))
         (λ i a e. ⊎_elim (λ h. subst (λ n. n < cells) (at_one q i a h) (r.filled p q at).0) (λ t. (is_own t.0 a t.2).0) (at_append (q ∷ []) own_rows i a e)) in
@@ -101,13 +106,13 @@ module _ (cells : ℕ) (s : Board) (r : Lawful cells s) where
         omega (arith, count, length-append v.free mine_rows, length-map v.mine (λ k. get_or r.rows k 0))
 
     -- a pass that has all rows owns each place
-    owns_places : OwnsAll v → (p q : ℕ) → get_elem? r.rows p ≡ some q → Has v.mine p
+    owns_places : HasAllRows v → (p q : ℕ) → get_elem? r.rows p ≡ some q → Contains v.mine p
     owns_places all p q at = dite (ℕ_discrete (r.owner q) j) (λ own. known.mine_all p q at own) (λ other. absurd (crowd all p q at other))
 
-    pub sane : Sane v
-    sane = record {
-      valid = λ p d e. r.valid p d (in_log p d e);
-      names_once = λ p q d e x y same. r.names_once p q d e (in_log p d x) (in_log q e y) same;
+    pub consistent : IsConsistent v
+    consistent = record {
+      valid = all_are IsDrawop v.seen (λ p d e. all_at IsDrawop r.log p d r.valid (in_log p d e));
+      names_once = history_is v.seen (λ p q d e x y same. one_place r.log p q d e r.names_once (in_log p d x) (in_log q e y) same);
       room = has_room;
       own = own_few;
       rows = λ i q e. let below = (known.free_is i q e).0 in let same = known.sized unspent in omega arith;
@@ -117,8 +122,8 @@ module _ (cells : ℕ) (s : Board) (r : Lawful cells s) where
     }
 
     -- of a pass that has all rows the next cell is free
-    next_is_free : OwnsAll v → length v.seen < cells → get_or s.words (length v.seen) 0 ≡ 0
-    next_is_free all inside = ⊎_elim (λ z. z) (λ t. let m = owns_places all (length v.seen) t.0 t.1 in let b = (known.mine_is m.0 (length v.seen) m.1).0 in absurd (omega arith)) (cell_holds (length v.seen) inside)
+    next_is_free : HasAllRows v → length v.seen < cells → get_or s.words (length v.seen) 0 ≡ 0
+    next_is_free all inside = ⊎_elim (λ z. z) (λ t. let m = at_contained v.mine (length v.seen) (owns_places all (length v.seen) t.0 t.1) in let b = (known.mine_is m.0 (length v.seen) m.1).0 in absurd (omega arith)) (cell_holds (length v.seen) inside)
 
   -- a step that changes no word
   unmoved : (i me : ℕ) (cs : List (ℕ × DrawopValue)) (w : Knowledge) → Knows cells s.words r.log r.rows r.owner me w → Lawful cells (stepped s i (get_or s.words i 0) me cs w keeps)
@@ -165,7 +170,7 @@ looks cells slots id m word is unspent inside s r _ at small =
         refl,
         ⊎_elim (λ z. omega arith) (λ t. let e = t.3 in let l = t.2 in omega arith) holds',
         (λ all. ap (λ n. get_or s.words n 0) is ∙ next_is_free cells s r id v known unspent all (omega arith)),
-        sane cells (stepped s word found id m.1 w keeps) next id w (next.each_pass id w at') unspent,
+        consistent cells (stepped s word found id m.1 w keeps) next id w (next.each_pass id w at') unspent,
       ),
     )
 
@@ -174,10 +179,10 @@ module _ (cells slots id : ℕ) (m : Known) (unspent : 0 < m.0.cells) (s : Board
   abbrev v : Knowledge
   v = m.0
 
-  unmoved_sane : (word : ℕ) (w : Knowledge) → 0 < w.cells → Knows cells s.words r.log r.rows r.owner id w → Sane w
-  unmoved_sane word w some_cells known =
+  unmoved_consistent : (word : ℕ) (w : Knowledge) → 0 < w.cells → Knows cells s.words r.log r.rows r.owner id w → IsConsistent w
+  unmoved_consistent word w some_cells known =
       let next = unmoved cells s r word id m.1 w known in
-      sane cells (stepped s word (get_or s.words word 0) id m.1 w keeps) next id w (next.each_pass id w (set_here s.views id w (at-lt s.views id m.0 at))) some_cells
+      consistent cells (stepped s word (get_or s.words word 0) id m.1 w keeps) next id w (next.each_pass id w (set_here s.views id w (at-lt s.views id m.0 at))) some_cells
 
 pub reads_word : (cells slots id : ℕ) (m : Known) (word : ℕ) → 0 < m.0.cells → 0 < m.0.looking → length m.0.read < row_words → word ≡ address cells (m.0.looking - 1) (length m.0.read) → Allows (Lawful cells) slots id m word (λ n. n) (read_word (step slots word 0 0 none) m)
 reads_word cells slots id m word unspent some_row short is s r _ at small =
@@ -196,7 +201,7 @@ reads_word cells slots id m word unspent some_row short is s r _ at small =
         stores = known.stores;
       };
     } in
-    (w, keeps, tt, unmoved cells s r word id m.1 w knows, (refl, refl, unmoved_sane cells slots id m unspent s r at word w unspent knows))
+    (w, keeps, tt, unmoved cells s r word id m.1 w knows, (refl, refl, unmoved_consistent cells slots id m unspent s r at word w unspent knows))
 
 pub reads_last : (cells slots id : ℕ) (m : Known) (word : ℕ) → 0 < m.0.cells → 0 < m.0.looking → length m.0.read + 1 ≡ row_words → word ≡ address cells (m.0.looking - 1) (length m.0.read) → Allows (Lawful cells) slots id m word (λ n. n) (read_last (step slots word 0 0 none) m)
 reads_last cells slots id m word unspent some_row long is s r _ at small =
@@ -229,8 +234,8 @@ reads_last cells slots id m word unspent some_row long is s r _ at small =
       unmoved cells s r word id m.1 w knows,
       (
         refl,
-        (d, same_list (row d) (v.read ++ found ∷ []) (let wide = row_length d in omega (arith, length-append v.read (found ∷ []))) read_so, r.valid (length v.seen) d member.1, refl),
-        unmoved_sane cells slots id m unspent s r at word w unspent knows,
+        (d, same_list (row d) (v.read ++ found ∷ []) (let wide = row_length d in omega (arith, length-append v.read (found ∷ []))) read_so, all_at IsDrawop r.log (length v.seen) d r.valid member.1, refl),
+        unmoved_consistent cells slots id m unspent s r at word w unspent knows,
       ),
     )
 
@@ -310,7 +315,7 @@ stores_word cells slots id m word n q unspent last short is s r _ at small =
       each_pass = seats (Knows cells after r.log r.rows r.owner) s.views id w knows (λ j u other e. others_after_store cells s r id q k mine.1 mine.2 short n j u other (r.each_pass j u e));
     } in
     let next' = subst (λ a. Lawful cells (stepped s a n id m.1 w keeps)) (sym is) next in
-    (w, keeps, tt, next', (refl, refl, sane cells (stepped s word n id m.1 w keeps) next' id w (next'.each_pass id w (set_here s.views id w (at-lt s.views id v at))) unspent))
+    (w, keeps, tt, next', (refl, refl, consistent cells (stepped s word n id m.1 w keeps) next' id w (next'.each_pass id w (set_here s.views id w (at-lt s.views id v at))) unspent))
 
 -- the exchange of the free cell after the history for a row in which the record of d stands
 module _ (cells : ℕ) (s : Board) (r : Lawful cells s) (id q : ℕ) (d : DrawopValue) (own : r.owner q ≡ id) (below : q < cells) (free : (p : ℕ) → get_elem? r.rows p ≡ some q → ⊥) (inside : length r.rows < cells) where
@@ -344,7 +349,7 @@ module _ (cells : ℕ) (s : Board) (r : Lawful cells s) (id q : ℕ) (d : Drawop
     };
   }
 
-wins : (cells slots id : ℕ) (m : Known) (d : DrawopValue) (q : ℕ) → 0 < m.0.cells → length m.0.seen < cells → get_elem? m.0.free (length m.0.free - 1) ≡ some q → m.0.stored ≡ row d → IsDrawop d → Lacks m.0.seen d.name
+wins : (cells slots id : ℕ) (m : Known) (d : DrawopValue) (q : ℕ) → 0 < m.0.cells → length m.0.seen < cells → get_elem? m.0.free (length m.0.free - 1) ≡ some q → m.0.stored ≡ row d → IsDrawop d → (HoldsName m.0.seen d.name → ⊥)
     → (s : Board) (r : Lawful cells s) → get_elem? s.views id ≡ some m.0 → get_or s.words (length m.0.seen) 0 ≡ 0
     → Lawful cells (stepped s (length m.0.seen) (suc q) id m.1 (after_win m.0 d (length m.0.seen)) keeps)
 wins cells slots id m d q unspent inside last stored_is valid_d lacks s r at found =
@@ -378,8 +383,8 @@ wins cells slots id m d q unspent inside last stored_is valid_d lacks s r at fou
             (at_end v.mine (length v.seen) i p e);
         mine_once = once_append v.mine (length v.seen ∷ []) known.mine_once (once_one (length v.seen)) (λ i k a x y. let b = (known.mine_is i a x).0 in let e = at_end [] (length v.seen) k a y in
             ⊎_elim (λ h. at_nothing k a h) (λ t. let same = t.1 in omega arith) e);
-        mine_all = λ p a x owned. ⊎_elim (λ old. let h = known.mine_all p a old owned in (h.0, at_longer v.mine (length v.seen ∷ []) h.0 p h.1))
-            (λ c. (length v.mine, subst (λ z. get_elem? (v.mine ++ length v.seen ∷ []) (length v.mine) ≡ some z) (at_end_of_rows ∙ sym c.0) (at_last' v.mine (length v.seen) (length v.mine) refl))) (at_end r.rows q p a x);
+        mine_all = λ p a x owned. ⊎_elim (λ old. Contains-append_left v.mine (length v.seen ∷ []) p (known.mine_all p a old owned))
+            (λ c. subst (Contains (v.mine ++ length v.seen ∷ [])) (at_end_of_rows ∙ sym c.0) (Contains-push v.mine (length v.seen))) (at_end r.rows q p a x);
       };
       remembers = nothing_remembered _ _ _ _ _;
     } in
@@ -399,11 +404,8 @@ wins cells slots id m d q unspent inside last stored_is valid_d lacks s r at fou
             (λ c. ⊎_elim (λ was. let c0 = c.0 in let lt = at-lt r.log p e was in absurd (omega arith))
             (λ t. subst (λ b. get_or s.words (address cells b l) 0 ≡ n) c.1 (known.stores l n q (subst (λ b. get_elem? b l ≡ some n) (ap row (sym t.1) ∙ sym stored_is) z) last).1) (at_end r.log d p e y))
             (at_end r.rows q p a x);
-        valid = λ p e x. ⊎_elim (λ old. r.valid p e old) (λ c. subst IsDrawop c.1 valid_d) (at_end r.log d p e x);
-        names_once = λ p k e f x y same. ⊎_elim
-            (λ a. ⊎_elim (λ b. r.names_once p k e f a b same) (λ b. absurd (lacks p e (subst (λ l. get_elem? l p ≡ some e) all_seen a) (same ∙ ap (λ (o : DrawopValue). o.name) (sym b.1)))) (at_end r.log d k f y))
-            (λ a. ⊎_elim (λ b. absurd (lacks k f (subst (λ l. get_elem? l k ≡ some f) all_seen b) (sym same ∙ ap (λ (o : DrawopValue). o.name) (sym a.1)))) (λ b. a.0 ∙ sym b.0) (at_end r.log d k f y))
-            (at_end r.log d p e x);
+        valid = All-push IsDrawop r.log d r.valid valid_d;
+        names_once = history_with-is (length r.log + 1) r.log d (Fresh (length r.log)) r.names_once ((refl, subst (λ (l : List DrawopValue). HoldsName l d.name → ⊥) (sym all_seen) lacks), omega arith);
       };
       seated = λ a. let b = r.seated a in omega (arith, length-set s.views id w);
       each_pass = seats (Knows cells words' log' rows' r.owner) s.views id w knows (λ j u other e. others_after_win cells s r id q d mine.1 mine.0 mine.2 inside' j u other (seen_under j u e) (r.each_pass j u e));
@@ -425,7 +427,7 @@ losing cells words log rows owner j v known word found holds = let base = lookin
 }
 
 pub publishes : (cells slots id : ℕ) (m : Known) (word new : ℕ) (d : DrawopValue) (q : ℕ) → word ≡ length m.0.seen → new ≡ q + 1 → 0 < m.0.cells → length m.0.seen < m.0.cells
-    → get_elem? m.0.free (length m.0.free - 1) ≡ some q → m.0.stored ≡ row d → IsDrawop d → Lacks m.0.seen d.name
+    → get_elem? m.0.free (length m.0.free - 1) ≡ some q → m.0.stored ≡ row d → IsDrawop d → (HoldsName m.0.seen d.name → ⊥)
     → Allows (Lawful cells) slots id m word (λ x. either (eqb x 0) new x) (published (step slots word 0 new (some d)) m)
 publishes cells slots id m word new d q is new_is unspent inside last stored_is valid_d lacks s r _ at small =
     let v = m.0 in
@@ -436,7 +438,7 @@ publishes cells slots id m word new d q is new_is unspent inside last stored_is 
     let here' : length v.seen < cells = omega arith in
     let holds = subst (λ n. (get_or s.words word 0 ≡ 0) ⊎ ((a : ℕ) × (get_elem? r.rows n ≡ some a) × (a < cells) × (get_or s.words word 0 ≡ suc a))) is (cell_holds cells s r word here) in
     let bound : x ≤ v.cells = ⊎_elim (λ z. omega arith) (λ t. let e = t.3 in let l = t.2 in omega arith) holds in
-    let alone : OwnsAll v → x ≡ 0 = λ all. ap (λ n. get_or s.words n 0) is ∙ next_is_free cells s r id v known unspent all here' in
+    let alone : HasAllRows v → x ≡ 0 = λ all. ap (λ n. get_or s.words n 0) is ∙ next_is_free cells s r id v known unspent all here' in
     dite (ℕ_discrete x 0)
     (λ hit.
     let w = after_win v d word in
@@ -455,14 +457,14 @@ publishes cells slots id m word new d q is new_is unspent inside last stored_is 
         (λ miss. absurd (miss hit)),
         bound,
         alone,
-        sane cells (stepped s word new id m.1 w keeps) won'' id w (won''.each_pass id w (set_here s.views id w (at-lt s.views id v at))) unspent,
+        consistent cells (stepped s word new id m.1 w keeps) won'' id w (won''.each_pass id w (set_here s.views id w (at-lt s.views id v at))) unspent,
       ),
     ))
     (λ miss.
     let w = after_loss v word x in
     let knows = losing cells s.words r.log r.rows r.owner id v known word x holds in
     let next = subst (λ b. Lawful cells (stepped s word (either b new x) id m.1 w keeps)) (sym (ne_eqb x 0 miss)) (unmoved cells s r word id m.1 w knows) in
-    (w, keeps, tt, next, (refl, (λ hit. absurd (miss hit)), (λ _. refl), bound, alone, unmoved_sane cells slots id m unspent s r at word w unspent knows)))
+    (w, keeps, tt, next, (refl, (λ hit. absurd (miss hit)), (λ _. refl), bound, alone, unmoved_consistent cells slots id m unspent s r at word w unspent knows)))
 
 pub confirms : (cells slots id : ℕ) (m : Known) (word : ℕ) → 0 < m.0.cells → Allows (Lawful cells) slots id m word (λ n. n) (confirmed (step slots word 0 0 none) m)
 confirms cells slots id m word unspent s r _ at small =
@@ -475,4 +477,4 @@ confirms cells slots id m word unspent s r _ at small =
       owns = known.owns;
       remembers = known.remembers;
     } in
-    (w, keeps, tt, unmoved cells s r word id m.1 w knows, (refl, refl, (λ h. both_start r.log v.seen v.told known.begins known.told_begins h), unmoved_sane cells slots id m unspent s r at word w unspent knows))
+    (w, keeps, tt, unmoved cells s r word id m.1 w knows, (refl, refl, (λ h. both_start r.log v.seen v.told known.begins known.told_begins h), unmoved_consistent cells slots id m unspent s r at word w unspent knows))

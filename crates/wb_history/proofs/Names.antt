@@ -14,8 +14,9 @@ use Rattle.atomic_table.proofs.Lists.{at_map}
 use Rattle.wb_names.specs.Values.{NameValue, DrawopValue}
 use Rattle.wb_names.specs.Orders.{same_page}
 use Rattle.wb_names.proofs.Orders.{same_name-is}
-use Rattle.wb_history.specs.Members.{Lacks, NamesOnce}
-use Rattle.wb_history.proofs.Lists.{at-lt, at_same, at_some, at_read, at_take}
+use Rattle.wb_names.specs.History.{HoldsName}
+use Rattle.wb_history.proofs.Lists.{at-lt, at_same, at_some, at_read}
+use Rattle.wb_history.proofs.Words.{member_named, named_at}
 
 abbrev names : List DrawopValue → List NameValue
 names l = map (λ d. d.name) l
@@ -53,25 +54,28 @@ module _ (n : NameValue) (l : List DrawopValue) where
       let is = alike-is n (get_or (names l) first n) (passes_at_first (alike n) (names l) n h) in
       ((omega arith), m.0, m.1, at_same (names l) first m.0.name (get_or (names l) first n) there read ∙ sym is)
 
-  lacks : length (names l) ≤ first → Lacks l n
-  lacks h p d at same =
-      let there = at_map (λ (e : DrawopValue). e.name) l p d at in
+  lacks : length (names l) ≤ first → HoldsName l n → ⊥
+  lacks h held =
+      let t = named_at l n held in
+      let p = t.0 in
+      let d = t.1 in
+      let there = at_map (λ (e : DrawopValue). e.name) l p d t.2 in
       let inside = at-lt (names l) p d.name there in
       let read = at_read (names l) p n inside in
       let is = at_same (names l) p d.name (get_or (names l) p n) there read in
       let fails = fails_before_first (alike n) (names l) p n (omega arith) in
-      apart (sym (subst (λ (m : NameValue). alike n m ≡ true) (sym same ∙ is) (alike_here n)) ∙ fails)
+      apart (sym (subst (λ (m : NameValue). alike n m ≡ true) (sym t.3 ∙ is) (alike_here n)) ∙ fails)
 
-  pub place_found : (keys : List NameValue) (r : Option ℕ) → keys ≡ names l → r ≡ position (alike n) keys → MatchOption r (Lacks l n) (Found l n)
+  pub place_found : (keys : List NameValue) (r : Option ℕ) → keys ≡ names l → r ≡ position (alike n) keys → MatchOption r (HoldsName l n → ⊥) (Found l n)
   place_found keys r indexed is =
       let told = is ∙ ap (position (alike n)) indexed in
       ⊎_elim
-      (λ lt. subst (λ (o : Option ℕ). MatchOption o (Lacks l n) (Found l n)) (cond_below first (length (names l)) (Some first) None lt ∙ sym told) (found lt))
-      (λ ge. subst (λ (o : Option ℕ). MatchOption o (Lacks l n) (Found l n)) (cond_above first (length (names l)) (Some first) None None ge refl ∙ sym told) (lacks ge))
+      (λ lt. subst (λ (o : Option ℕ). MatchOption o (HoldsName l n → ⊥) (Found l n)) (cond_below first (length (names l)) (Some first) None lt ∙ sym told) (found lt))
+      (λ ge. subst (λ (o : Option ℕ). MatchOption o (HoldsName l n → ⊥) (Found l n)) (cond_above first (length (names l)) (Some first) None None ge refl ∙ sym told) (lacks ge))
       (cases_lt first (length (names l)))
 
 -- a new name goes to the end of the index
-pub put_name : (l l' : List DrawopValue) (d : DrawopValue) (keys keys' : List NameValue) → Lacks l d.name → keys ≡ names l → l' ≡ l ++ d ∷ [] → keys' ≡ insert_key alike keys d.name → keys' ≡ names l'
+pub put_name : (l l' : List DrawopValue) (d : DrawopValue) (keys keys' : List NameValue) → (HoldsName l d.name → ⊥) → keys ≡ names l → l' ≡ l ++ d ∷ [] → keys' ≡ insert_key alike keys d.name → keys' ≡ names l'
 put_name l l' d keys keys' absent indexed put inserted =
     let none : list_any (alike d.name) (names l) ≡ false = list_any_none (alike d.name) (names l) (λ k e h. differs k e h) in
     inserted ∙ (ap (λ (ks : List NameValue). insert_key alike ks d.name) indexed
@@ -86,12 +90,8 @@ put_name l l' d keys keys' absent indexed put inserted =
         let long = length-map l (λ e. e.name) in
         let m = at_some l k (omega arith) in
         let there = at_map (λ (f : DrawopValue). f.name) l k m.0 m.1 in
-        absurd (absent k m.0 m.1 (at_same (names l) k m.0.name (get_or (names l) k e) there (at_read (names l) k e h) ∙ sym (alike-is d.name (get_or (names l) k e) same))))
+        absurd (absent (member_named l d.name k m.0 m.1 (at_same (names l) k m.0.name (get_or (names l) k e) there (at_read (names l) k e h) ∙ sym (alike-is d.name (get_or (names l) k e) same)))))
 
 -- the last names leave the index
 pub take_names : (n : ℕ) (l l' : List DrawopValue) (keys keys' : List NameValue) → keys ≡ names l → l' ≡ take n l → keys' ≡ take n keys → keys' ≡ names l'
 take_names n l l' keys keys' indexed taken cut = cut ∙ (ap (take n) indexed ∙ (take-map (λ (d : DrawopValue). d.name) n l ∙ sym (ap names taken)))
-
--- of a list with no name twice, the members before a place lack its member's name
-pub before_lacks : (l : List DrawopValue) (k : ℕ) (d : DrawopValue) → NamesOnce l → get_elem? l k ≡ some d → Lacks (take k l) d.name
-before_lacks l k d once at p e there same = let t = at_take k l p e there in let lt = t.0 in let is = once p k e d t.1 at same in absurd (omega arith)

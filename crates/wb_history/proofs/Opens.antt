@@ -34,8 +34,8 @@ opens cells words n zeros len size = record {
     unfilled = λ p _ _. ap (λ l. get_or l p 0) zeros ∙ get_or-replicate n p;
     rows_once = once_nothing;
     records = λ p q d e _ _ _ _. absurd (at_nothing p q e);
-    valid = λ p d e. absurd (at_nothing p d e);
-    names_once = λ p q d e x _ _. absurd (at_nothing p d x);
+    valid = λ k d below. absurd (omega arith);
+    names_once = λ i j d lt below. absurd (omega arith);
   };
   seated = λ _. omega arith;
   each_pass = one;

@@ -10,7 +10,8 @@ use Rattle.atomic_table.proofs.Lists.{at_set, at_longer}
 use Rattle.wb_history.specs.declared.knowledge.Knowledge.{Knowledge}
 use Rattle.wb_names.specs.Values.{DrawopValue}
 use mathlib.Core.List.{IsPrefix}
-use Rattle.wb_history.specs.Lists.{Has, longer, shorter}
+use Rattle.wb_history.specs.Lists.{longer, shorter}
+use Rattle.std.proofs.lemmas.List.Elements.{Contains-append_left, Contains-append_right}
 use Rattle.wb_history.specs.Views.{left_part, right_part, united, spent}
 use Rattle.wb_history.specs.Lawful.{Knows, Lawful}
 use Rattle.wb_history.proofs.Rows.{nothing_remembered}
@@ -24,7 +25,7 @@ given : List ℕ → ℕ → (ℕ → ℕ) → ℕ → ℕ
 given [] new owner r = owner r
 given (x ∷ xs) new owner r = cond (eqb r x) new (given xs new owner r)
 
-given_cases : (xs : List ℕ) (new : ℕ) (owner : ℕ → ℕ) (r : ℕ) → (Has xs r × (given xs new owner r ≡ new)) ⊎ (((i : ℕ) → get_elem? xs i ≡ some r → ⊥) × (given xs new owner r ≡ owner r))
+given_cases : (xs : List ℕ) (new : ℕ) (owner : ℕ → ℕ) (r : ℕ) → (((i : ℕ) × (get_elem? xs i ≡ some r)) × (given xs new owner r ≡ new)) ⊎ (((i : ℕ) → get_elem? xs i ≡ some r → ⊥) × (given xs new owner r ≡ owner r))
 unfolding given
 given_cases [] new owner r = inr ((λ i e. at_nothing i r e), refl)
 given_cases (x ∷ xs) new owner r = dite (ℕ_discrete r x)
@@ -43,10 +44,10 @@ splits cells id n v s r at =
     let gone = drop keep v.free in
     let new = length s.views in
     let owner' = given gone new r.owner in
-    let is_gone : (q : ℕ) → Has gone q → Has v.free q = λ q h. (keep + h.0, at_drop keep v.free h.0 q h.1) in
-    let not_published : (q : ℕ) → Has gone q → (p : ℕ) → get_elem? r.rows p ≡ some q → ⊥ = λ q h p e. let t = is_gone q h in (known.free_is t.0 q t.1).2 p e in
-    let row_same : (p q : ℕ) → get_elem? r.rows p ≡ some q → owner' q ≡ r.owner q = λ p q e. ⊎_elim (λ t. absurd (not_published q t.0 p e)) (λ t. t.1) (given_cases gone new r.owner q) in
-    let gone_own : (q : ℕ) → Has gone q → r.owner q ≡ id = λ q h. let t = is_gone q h in (known.free_is t.0 q t.1).1 in
+    let is_gone : (i q : ℕ) → get_elem? gone i ≡ some q → get_elem? v.free (keep + i) ≡ some q = λ i q h. at_drop keep v.free i q h in
+    let not_published : (i q : ℕ) → get_elem? gone i ≡ some q → (p : ℕ) → get_elem? r.rows p ≡ some q → ⊥ = λ i q h p e. (known.free_is (keep + i) q (is_gone i q h)).2 p e in
+    let row_same : (p q : ℕ) → get_elem? r.rows p ≡ some q → owner' q ≡ r.owner q = λ p q e. ⊎_elim (λ t. absurd (not_published t.0.0 q t.0.1 p e)) (λ t. t.1) (given_cases gone new r.owner q) in
+    let gone_own : (i q : ℕ) → get_elem? gone i ≡ some q → r.owner q ≡ id = λ i q h. (known.free_is (keep + i) q (is_gone i q h)).1 in
     let wide : length (set s.views id (left_part n v)) ≡ new = length-set s.views id (left_part n v) in
     let left : Knows cells s.words r.log r.rows owner' id (left_part n v) = record {
       sees = known.sees;
@@ -74,7 +75,7 @@ splits cells id n v s r at =
     let others : (j : ℕ) (u : Knowledge) → j ≢ id → Knows cells s.words r.log r.rows r.owner j u → Knows cells s.words r.log r.rows owner' j u = λ j u other k. record {
       sees = k.sees;
       owns = record {
-        free_is = λ i q e. let f = k.free_is i q e in (f.0, ⊎_elim (λ g. absurd (other (sym f.1 ∙ gone_own q g.0))) (λ g. g.1 ∙ f.1) (given_cases gone new r.owner q), f.2);
+        free_is = λ i q e. let f = k.free_is i q e in (f.0, ⊎_elim (λ g. absurd (other (sym f.1 ∙ gone_own g.0.0 q g.0.1))) (λ g. g.1 ∙ f.1) (given_cases gone new r.owner q), f.2);
         free_once = k.free_once;
         mine_is = λ i p e. let f = k.mine_is i p e in (f.0, λ q h. row_same p q h ∙ f.1 q h);
         mine_once = k.mine_once;
@@ -139,7 +140,7 @@ joins cells id v other w s r at apart at_other =
             (λ t. let f = known_w.mine_is t.0 p t.2 in let l = f.0 in ((omega arith), λ q x. now_own' q (f.1 q x))) (at_append v.mine w.mine i p e);
         mine_once = once_append v.mine w.mine known.mine_once known_w.mine_once (λ i k p x y.
             let f = known.mine_is i p x in let g = known_w.mine_is k p y in let l = f.0 in let here = there r.rows p (omega arith) in apart (sym (g.1 (get_or r.rows p 0) here) ∙ f.1 (get_or r.rows p 0) here));
-        mine_all = λ p q e owned. ⊎_elim (λ t. let h = known_w.mine_all p q e t.0 in (length v.mine + h.0, at_after v.mine w.mine h.0 p h.1)) (λ t. let h = known.mine_all p q e (sym t.1 ∙ owned) in (h.0, at_longer v.mine w.mine h.0 p h.1)) (cases q);
+        mine_all = λ p q e owned. ⊎_elim (λ t. Contains-append_right v.mine w.mine p (known_w.mine_all p q e t.0)) (λ t. Contains-append_left v.mine w.mine p (known.mine_all p q e (sym t.1 ∙ owned))) (cases q);
       };
       remembers = nothing_remembered _ _ _ _ _;
     } in

@@ -5,7 +5,7 @@ use Rattle.atomic_table.specs.Table.{Me}
 use Rattle.wb_names.specs.Values.{DrawopValue}
 use Rattle.wb_history.specs.declared.knowledge.Knowledge.{Knowledge}
 use Rattle.wb_history.specs.declared.cursor.Cursor.{Cursor}
-use Rattle.wb_history.specs.Lawful.{Sane}
+use Rattle.wb_history.specs.Lawful.{IsConsistent}
 use Rattle.wb_history.specs.Cursors.{InOrder}
 use Rattle.wb_history.specs.Views.{left_part, right_part}
 use Rattle.wb_history.proofs.Lists.{at_take, at_drop, at_nothing, once_nothing}
@@ -13,8 +13,8 @@ use Rattle.wb_history.proofs.Lists.{at_take, at_drop, at_nothing, once_nothing}
 take_few : (n : ℕ) (l : List ℕ) → length (take n l) ≤ length l
 take_few n l = omega (arith, length-take n l)
 
-sane_left : (n : ℕ) (v : Knowledge) → Sane v → Sane (left_part n v)
-sane_left n v s =
+consistent_left : (n : ℕ) (v : Knowledge) → IsConsistent v → IsConsistent (left_part n v)
+consistent_left n v s =
     let few = take_few (length v.free - n) v.free in
     let room = s.room in
     let own = s.own in record {
@@ -28,8 +28,8 @@ sane_left n v s =
       whole = λ all p below. s.whole (omega arith) p below;
     }
 
-sane_right : (n : ℕ) (v : Knowledge) → Sane v → Sane (right_part n v)
-sane_right n v s =
+consistent_right : (n : ℕ) (v : Knowledge) → IsConsistent v → IsConsistent (right_part n v)
+consistent_right n v s =
     let few = length-drop (length v.free - n) v.free in
     let room = s.room in
     let own = s.own in record {
@@ -49,7 +49,7 @@ left_order h h' n o slots is seen mine free = record {
   seen = ap (λ (v : Knowledge). v.seen) is ∙ (o.seen ∙ sym seen);
   mine = ap (λ (v : Knowledge). v.mine) is ∙ (o.mine ∙ sym mine);
   free = ap (λ (v : Knowledge). v.free) is ∙ (ap (λ (l : List ℕ). take (length l - n) l) o.free ∙ sym free);
-  sane = subst Sane (sym is) (sane_left n h.seat.me.0 o.sane);
+  consistent = subst IsConsistent (sym is) (consistent_left n h.seat.me.0 o.consistent);
 }
 
 pub right_order : (h h' : Cursor) (n : ℕ) → InOrder h → h'.seat.me ≡ (right_part n h.seat.me.0, []) → h'.seen.items ≡ h.seen.items → h'.mine.items ≡ [] → h'.free.items ≡ drop (length h.free.items - n) h.free.items → InOrder h'
@@ -58,5 +58,5 @@ right_order h h' n o is seen mine free = record {
   seen = ap (λ (m : Me DrawopValue Knowledge). m.0.seen) is ∙ (o.seen ∙ sym seen);
   mine = ap (λ (m : Me DrawopValue Knowledge). m.0.mine) is ∙ sym mine;
   free = ap (λ (m : Me DrawopValue Knowledge). m.0.free) is ∙ (ap (λ (l : List ℕ). drop (length l - n) l) o.free ∙ sym free);
-  sane = subst (λ (m : Me DrawopValue Knowledge). Sane m.0) (sym is) (sane_right n h.seat.me.0 o.sane);
+  consistent = subst (λ (m : Me DrawopValue Knowledge). IsConsistent m.0) (sym is) (consistent_right n h.seat.me.0 o.consistent);
 }

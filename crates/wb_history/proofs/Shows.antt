@@ -3,13 +3,13 @@ use Rattle.wb_history.specs.Sizes.{member_steps}
 use Rattle.std.proofs.Common.{◌≡◌, ℕ, ◌+◌, ◌-◌, ◌*◌, ◌<◌, ◌≤◌, List, [], ◌∷◌, ◌++◌, length, refl, sym, ap, ◌∙◌, subst, inl, inr, ⊎_elim, arith, length-append, length-take-le, append_assoc}
 use Rattle.std.proofs.lemmas.List.{append-nil}
 use Rattle.std.proofs.Common.{Result, Ok, Err, OnOk, OnErr, MatchResult}
-use Rattle.std.specs.Prelude.{replicate}
+use Rattle.std.specs.Prelude.{replicate, All, Contains}
 use Rattle.std.proofs.lemmas.List.{length-replicate}
 use Rattle.atomic_table.specs.Table.{Me, opening}
 use Rattle.std.specs.List.{range_with_len}
 use Rattle.wb_history.specs.Views.{whole_pass}
 use Rattle.wb_history.proofs.Opens.{opens}
-use Rattle.wb_history.proofs.Keeps.{sane}
+use Rattle.wb_history.proofs.Keeps.{consistent}
 use mathlib.Core.Option.{some}
 use lib.ListN.{get_elem?}
 use Rattle.atomic_table.proofs.Lists.{at_last}
@@ -21,10 +21,10 @@ use Rattle.wb_history.specs.declared.claim.Claim.TheVariants.{Added, Present, Cl
 use Rattle.wb_history.specs.declared.claim.ClaimFault.{ClaimFault}
 use Rattle.wb_history.specs.declared.claim.ClaimFault.TheVariants.{NoRow, Memory}
 use mathlib.Core.List.{IsPrefix}
-use Rattle.wb_history.specs.Lists.{Has, Once}
-use Rattle.wb_history.specs.Members.{AllValid, NamesOnce}
+use Rattle.wb_history.specs.Lists.{Once}
+use Rattle.wb_names.specs.History.{IsHistory}
 use Rattle.wb_history.specs.Indexed.{MembersValue}
-use Rattle.wb_history.specs.Lawful.{Sane}
+use Rattle.wb_history.specs.Lawful.{IsConsistent}
 use Rattle.wb_history.specs.declared.cells.CellTable.{CellTable}
 use Rattle.wb_history.specs.Seats.{SitsAt, SameSeat}
 use Rattle.wb_history.proofs.Lists.{few}
@@ -32,29 +32,29 @@ use Rattle.wb_history.specs.Cursors.{InOrder, Walked, Won, AtEnd, Answered, Refu
 use Rattle.wb_history.specs.Passes.{HistoryValue, PassValue, IsPassOf, IsWhole, KeepsRows, AddsNothing, IsSound, IsCaughtUp, ReadsOn}
 use Rattle.wb_history.specs.Replies.{IsAdded, Claimed, NotClaimed, ClaimSteps, FaultSteps}
 use Rattle.wb_codec.specs.Ranges.{IsDrawop}
-use Rattle.wb_history.proofs.Words.{get_is, holds_not, none_before, history_is, pairs_are, all_are, contains_is}
+use Rattle.wb_history.proofs.Words.{get_is, none_before, pairs_are, all_are}
 use Rattle.wb_history.specs.Shown.{history_of, view_of, IsHeld}
-use Rattle.wb_history.specs.Views.{OwnsAll}
+use Rattle.wb_history.specs.Views.{HasAllRows}
 
 -- what is seen of the parts of a pass is sound
 pub sound : (h : Cursor) → IsHeld h → IsSound (view_of h)
 sound h i =
     let o = i.0 in
-    let s = o.sane in
+    let s = o.consistent in
     let seen = ap length o.seen in
     let free = ap length o.free in
     let mine = ap length o.mine in
     let room = s.room in
     let own = s.own in record {
-      history = history_is h.seen.items (subst NamesOnce o.seen s.names_once);
-      lawful = all_are IsDrawop h.seen.items (λ i d e. subst AllValid o.seen s.valid i d e);
+      history = subst IsHistory o.seen s.names_once;
+      lawful = subst (All IsDrawop) o.seen s.valid;
       some_cells = i.2;
       few_cells = i.3;
       room = omega arith;
       rows = omega arith;
       own = all_are (λ i. i < length h.seen.items) h.mine.items (λ i k e. let l = s.mine_is i k (subst (λ (m : List ℕ). get_elem? m i ≡ some k) (sym o.mine) e) in omega arith);
       once = pairs_are h.mine.items (subst Once o.mine s.mine_once);
-      all = λ whole k below. contains_is h.mine.items k (subst (λ (m : List ℕ). Has m k) o.mine (s.whole (omega arith) k (omega arith)));
+      all = λ whole k below. subst (λ (m : List ℕ). Contains m k) o.mine (s.whole (omega arith) k (omega arith));
       as_many = λ whole. let once = few h.seat.me.0.mine (length h.seat.me.0.seen) s.mine_once s.mine_is in omega arith;
     }
 
@@ -67,7 +67,7 @@ on_ok (Err e) p = tt
 
 -- more room for the list is not seen
 pub roomier : (h : Cursor) (m : MembersValue) → m.items ≡ h.seen.items → IsHeld h → IsHeld (record h { seen = m })
-roomier h m same i = let o = i.0 in (record { slots = o.slots; seen = o.seen ∙ sym same; mine = o.mine; free = o.free; sane = o.sane }, i.1, i.2, i.3)
+roomier h m same i = let o = i.0 in (record { slots = o.slots; seen = o.seen ∙ sym same; mine = o.mine; free = o.free; consistent = o.consistent }, i.1, i.2, i.3)
 
 -- a pass is told what another has seen, or both stay as they were
 pub sound_told : {A E : Type 0} (p q : PassValue) (Teller : Type 0) (r : Result A E) → OnOk r (IsSound q) → OnErr r (Teller × (q ≡ p)) → IsSound p → IsSound q
@@ -88,7 +88,7 @@ sits t h is_q is_p i same =
 pub as_many_cells : {p : PassValue} {q : HistoryValue} (t : CellTable) (h : Cursor) → history_of t ≡ q → view_of h ≡ p → IsHeld h → IsPassOf q p → p.cells ≡ q.cells
 as_many_cells t h is_q is_p i same = sym (ap (λ (v : PassValue). v.cells) is_p) ∙ ((sits t h is_q is_p i same).1 ∙ ap (λ (v : HistoryValue). v.cells) is_q)
 
-owns : (h : Cursor) → InOrder h → IsWhole (view_of h) → OwnsAll h.seat.me.0
+owns : (h : Cursor) → InOrder h → IsWhole (view_of h) → HasAllRows h.seat.me.0
 owns h o all = let b = ap length o.free in let d = ap length o.mine in omega arith
 
 pub starts : (h : Cursor) (more : List DrawopValue) (k : ℕ) (h' : Cursor) → Walked h more k h' → IsPrefix h.seen.items h'.seen.items
@@ -113,7 +113,7 @@ added h more d i extra h' o w =
     let row = w.free in
     let last : length h'.seen.items ≡ i + 1 = omega arith in
     let at : get_elem? h'.seen.items i ≡ some d = subst (λ (l : List DrawopValue). get_elem? l i ≡ some d) (sym w.seen) (at_last (h.seen.items ++ more) d i (omega arith)) in record {
-      new = (sym (length-take-le i h'.seen.items (omega arith)), none_before h'.seen.items i d (subst NamesOnce w.order.seen w.order.sane.names_once) at);
+      new = (sym (length-take-le i h'.seen.items (omega arith)), none_before h'.seen.items i d (subst IsHistory w.order.seen w.order.consistent.names_once) at);
       member = get_is h'.seen.items i d at;
       last = last;
       later = omega arith;
@@ -124,8 +124,8 @@ added h more d i extra h' o w =
 
 shown_claim : (h : Cursor) (d : DrawopValue) (extra : ℕ) (h' : Cursor) (c : Claim) → InOrder h → Answered h d extra h' c → IsPrefix h.seen.items h'.seen.items × Claimed (view_of h) d (view_of h') c
 shown_claim h d extra h' (Added i) o s = ((s.0 ++ d ∷ [], sym (s.1.seen ∙ append_assoc h.seen.items s.0 (d ∷ []))), added h s.0 d i (extra + 1) h' o s.1)
-shown_claim h d extra h' (Present i) o s = (starts h s.0 extra h' s.1, (get_is h'.seen.items i d s.2, adds_nothing h s.0 extra h' o s.1))
-shown_claim h d extra h' (Clash i) o s = (starts h s.0 extra h' s.1, ((s.2.0, get_is h'.seen.items i s.2.0 s.2.1, s.2.2, s.2.3), adds_nothing h s.0 extra h' o s.1))
+shown_claim h d extra h' (Present i) o s = (starts h s.0 extra h' s.1, (s.2, adds_nothing h s.0 extra h' o s.1))
+shown_claim h d extra h' (Clash i) o s = (starts h s.0 extra h' s.1, (s.2, adds_nothing h s.0 extra h' o s.1))
 
 -- the parts of a pass after a call that reads or adds: they agree, and it has seen all that it had seen
 abbrev pub GoesOn : Cursor → Cursor → Type 0
@@ -157,7 +157,7 @@ end_starts cells h more h' o e = ⊎_elim (λ x. (starts h more 1 h' x.0, adds_n
 shown_fault : (cells : ℕ) (h : Cursor) (d : DrawopValue) (h' : Cursor) (f : ClaimFault) → InOrder h → h.seat.me.0.cells ≡ cells → Refused cells h d h' f → IsPrefix h.seen.items h'.seen.items × NotClaimed (view_of h) d (view_of h') f
 shown_fault cells h d h' NoRow o same r =
     let e = end_starts cells h r.0 h' o r.1 in
-    (e.0, record { none_left = e.1.0.1 ∙ ap length r.3; absent = holds_not h'.seen.items d.name r.2; end = caught_up cells h r.0 h' same r.1; kept = e.1 })
+    (e.0, record { none_left = e.1.0.1 ∙ ap length r.3; absent = r.2; end = caught_up cells h r.0 h' same r.1; kept = e.1 })
 shown_fault cells h d h' Memory o same r = (starts h r.0 r.1 h' r.3, adds_nothing h r.0 r.1 h' o r.3)
 
 -- what a claim with a cursor says of what is seen of the cursor
@@ -174,11 +174,11 @@ from_there p n d q (Ok (Clash i)) m = m
 from_there p n d q (Err NoRow) m = record { none_left = m.none_left; absent = m.absent; end = m.end; kept = m.kept }
 from_there p n d q (Err Memory) m = m
 
-pub first_sane : (cells : ℕ) → 0 < cells → Sane (whole_pass cells)
-first_sane cells h =
+pub first_consistent : (cells : ℕ) → 0 < cells → IsConsistent (whole_pass cells)
+first_consistent cells h =
     let n = cells * member_steps in
     let r = opens cells (replicate n 0) n refl (length-replicate n 0) refl in
-    sane cells (opening (replicate n 0) [] (whole_pass cells)) r 0 (whole_pass cells) (r.each_pass 0 (whole_pass cells) refl) h
+    consistent cells (opening (replicate n 0) [] (whole_pass cells)) r 0 (whole_pass cells) (r.each_pass 0 (whole_pass cells) refl) h
 
 pub first_order : (h : Cursor) (cells : ℕ) → 0 < cells → h.seat.me ≡ (whole_pass cells, []) → h.seen.items ≡ [] → h.mine.items ≡ [] → h.free.items ≡ range_with_len 0 cells → InOrder h
 first_order h cells some_cells me seen mine free = record {
@@ -186,12 +186,12 @@ first_order h cells some_cells me seen mine free = record {
   seen = ap (λ (m : Me DrawopValue Knowledge). m.0.seen) me ∙ sym seen;
   mine = ap (λ (m : Me DrawopValue Knowledge). m.0.mine) me ∙ sym mine;
   free = ap (λ (m : Me DrawopValue Knowledge). m.0.free) me ∙ sym free;
-  sane = subst (λ (m : Me DrawopValue Knowledge). Sane m.0) (sym me) (first_sane cells some_cells);
+  consistent = subst (λ (m : Me DrawopValue Knowledge). IsConsistent m.0) (sym me) (first_consistent cells some_cells);
 }
 
 -- the parts of a pass as a call begins, which counts its own steps
 pub fresh : (h : Cursor) → IsHeld h → IsHeld (record h { steps = 0 })
-fresh h i = let o = i.0 in (record { slots = o.slots; seen = o.seen; mine = o.mine; free = o.free; sane = o.sane }, i.1, i.2, i.3)
+fresh h i = let o = i.0 in (record { slots = o.slots; seen = o.seen; mine = o.mine; free = o.free; consistent = o.consistent }, i.1, i.2, i.3)
 
 brought_is : (h : Cursor) (more : List DrawopValue) (k : ℕ) (h' : Cursor) → Walked h more k h' → length h'.seen.items - length h.seen.items ≡ length more
 brought_is h more k h' w = let l = ap length w.seen in omega (arith, length-append h.seen.items more)

@@ -60,7 +60,7 @@ took_in h w h' u word found o slots is told table id seen mine free steps =
         seen = ap (λ (v : Knowledge). v.seen) after ∙ (ap (λ (l : List DrawopValue). longer l w.seen) o.seen ∙ sym seen);
         mine = ap (λ (v : Knowledge). v.mine) after ∙ (ap (λ (l : List ℕ). l ++ w.mine) o.mine ∙ sym mine);
         free = ap (λ (v : Knowledge). v.free) after ∙ (ap (λ (l : List ℕ). l ++ w.free) o.free ∙ sym free);
-        sane = told.3;
+        consistent = told.3;
       };
       seat = (table, id, told.0 ∙ slots);
       cells = ap (λ (v : Knowledge). v.cells) after;
@@ -102,7 +102,7 @@ joined p q h g h' is_p is_q o u = subst (λ (v : PassValue). IsJoined v q (view_
   second = subst (λ (l : List DrawopValue). IsPrefix l h'.seen.items) o.seen u.second;
   mine = mine;
   free = ap length u.free ∙ long;
-  apart = λ i a b. shared_none h.mine.items g.mine.items (subst Once (u.order.mine ∙ mine) u.order.sane.mine_once) i a b;
+  apart = λ i a b. shared_none h.mine.items g.mine.items (subst Once (u.order.mine ∙ mine) u.order.consistent.mine_once) i a b;
 })
   where
     mine : h'.mine.items ≡ h.mine.items ++ g.mine.items

@@ -5,13 +5,14 @@ use Rattle.std.proofs.lemmas.List.{append-nil}
 use Rattle.wb_names.specs.Values.{NameValue, DrawopValue}
 use Rattle.wb_history.specs.declared.cursor.Cursor.{Cursor}
 use Rattle.wb_history.specs.declared.cells.CellTable.{CellTable}
-use Rattle.wb_history.specs.Members.{Lacks, NamesOnce}
+use Rattle.wb_names.specs.History.{IsHistory, HoldsName}
 use Rattle.wb_history.specs.Cursors.{InOrder, Walked, AtEnd, FoundFree, Won, TellsNamesake, Answered}
 use Rattle.wb_history.specs.declared.claim.Claim.{Claim}
 use Rattle.wb_history.specs.declared.claim.Claim.TheVariants.{Added, Present, Clash}
 use Rattle.wb_history.specs.Seats.{SitsAt}
-use Rattle.wb_history.specs.Views.{OwnsAll}
+use Rattle.wb_history.specs.Views.{HasAllRows}
 use Rattle.wb_history.proofs.Lists.{at_end, at-lt}
+use Rattle.wb_history.proofs.Words.{member_named, named_at, one_place}
 use Rattle.atomic_table.proofs.Lists.{at_longer, at_last}
 
 pub stay : (h : Cursor) → InOrder h → Walked h [] 0 h
@@ -27,7 +28,7 @@ stay h o = record {
   steps = omega arith;
 }
 
-owns_still : (h : Cursor) (a : List DrawopValue) (k : ℕ) (h' : Cursor) → InOrder h → Walked h a k h' → OwnsAll h.seat.me.0 → OwnsAll h'.seat.me.0
+owns_still : (h : Cursor) (a : List DrawopValue) (k : ℕ) (h' : Cursor) → InOrder h → Walked h a k h' → HasAllRows h.seat.me.0 → HasAllRows h'.seat.me.0
 owns_still h a k h' o w all =
     let free = ap length (w.order.free ∙ (w.free ∙ sym o.free)) in let mine = ap length (w.order.mine ∙ (w.mine ∙ sym o.mine)) in let cells = w.cells in omega arith
 
@@ -80,13 +81,13 @@ sits_still t h a k h' s w = (w.seat.0 ∙ s.0, w.cells ∙ s.1)
 
 -- a cursor has not seen more than all cells
 pub seen_within : (t : CellTable) (h : Cursor) → InOrder h → SitsAt t h.seat → length h.seen.items + length h.free.items ≤ t.cells
-seen_within t h o s = let room = o.sane.room in let c = s.1 in let a = ap length o.seen in let b = ap length o.free in omega arith
+seen_within t h o s = let room = o.consistent.room in let c = s.1 in let a = ap length o.seen in let b = ap length o.free in omega arith
 
 pub few_steps : (h : Cursor) (a : List DrawopValue) (h' : Cursor) → h.steps ≡ 0 → Walked h a 0 h' → h'.steps ≤ member_steps * length h'.seen.items
 few_steps h a h' none w = let s = w.steps in let l = ap length w.seen in omega (arith, length-append h.seen.items a)
 
-pub lacks_more : (l : List DrawopValue) (d : DrawopValue) (name : NameValue) → Lacks l name → d.name ≢ name → Lacks (l ++ d ∷ []) name
-lacks_more l d name lacks other p e at same = ⊎_elim (λ old. lacks p e old same) (λ c. other (ap (λ (o : DrawopValue). o.name) c.1 ∙ same)) (at_end l d p e at)
+pub lacks_more : (l : List DrawopValue) (d : DrawopValue) (name : NameValue) → (HoldsName l name → ⊥) → d.name ≢ name → HoldsName (l ++ d ∷ []) name → ⊥
+lacks_more l d name lacks other held = let t = named_at (l ++ d ∷ []) name held in ⊎_elim (λ old. lacks (member_named l name t.0 t.1 old t.3)) (λ c. other (ap (λ (o : DrawopValue). o.name) c.1 ∙ t.3)) (at_end l d t.0 t.1 t.2)
 
 pub nearer : (t : CellTable) (h : Cursor) (d : DrawopValue) (h' : Cursor) → InOrder h → SitsAt t h.seat → Walked h (d ∷ []) 0 h' → t.cells - length h'.seen.items < t.cells - length h.seen.items
 nearer t h d h' o s w =
@@ -106,7 +107,8 @@ answer_on h a d j k h' h'' (Clash i) o v s = (a ++ s.0, walk_on h a s.0 j k h' h
 pub free_end : (t : CellTable) (h : Cursor) (more : List DrawopValue) (h' : Cursor) → SitsAt t h.seat → AtEnd t.cells h more h' → 0 < length h'.free.items → Walked h more 1 h' × FoundFree h'
 free_end t h more h' s e some_free = ⊎_elim (λ x. x) (λ x. let b = seen_within t h' x.0.order (sits_still t h more 0 h' s x.0) in let full = x.1 in absurd (omega arith)) e
 
--- of a list with no name twice, the members before the last lack its name
-pub new_name : (l : List DrawopValue) (d : DrawopValue) → NamesOnce (l ++ d ∷ []) → Lacks l d.name
-new_name l d once p e there same =
-    let is = once p (length l) e d (at_longer l (d ∷ []) p e there) (at_last l d (length l) refl) same in let lt = at-lt l p e there in absurd (omega arith)
+-- of a history, no member before the last has its name
+pub new_name : (l : List DrawopValue) (d : DrawopValue) → IsHistory (l ++ d ∷ []) → HoldsName l d.name → ⊥
+new_name l d once held =
+    let t = named_at l d.name held in
+    let is = one_place (l ++ d ∷ []) t.0 (length l) t.1 d once (at_longer l (d ∷ []) t.0 t.1 t.2) (at_last l d (length l) refl) t.3 in let lt = at-lt l t.0 t.1 t.2 in absurd (omega arith)

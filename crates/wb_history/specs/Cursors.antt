@@ -1,9 +1,8 @@
 -- What a clause says of a cursor.
 use Rattle.wb_history.specs.Sizes.{row_words, member_steps}
-use Rattle.std.specs.Prelude.{◌≡◌, ◌≢◌, ◌⊎◌, ℕ, ◌+◌, ◌*◌, ◌≤◌, List, [], ◌∷◌, ◌++◌, length, Option, Some, None}
-use mathlib.Core.Option.{some}
-use lib.ListN.{get_elem?}
+use Rattle.std.specs.Prelude.{◌≡◌, ◌⊎◌, ℕ, ◌+◌, ◌*◌, ◌≤◌, List, [], ◌∷◌, ◌++◌, length, Option, Some, None}
 use Rattle.wb_names.specs.Values.{DrawopValue}
+use Rattle.wb_names.specs.History.{HoldsName, IsAgainAt, IsClashAt}
 use Rattle.wb_history.specs.declared.knowledge.Knowledge.{Knowledge}
 use Rattle.wb_history.specs.declared.cursor.Cursor.{Cursor}
 use Rattle.wb_history.specs.declared.claim.Claim.{Claim}
@@ -12,10 +11,9 @@ use Rattle.wb_history.specs.declared.claim.ClaimFault.TheVariants.{NoRow, Memory
 use Rattle.wb_history.specs.declared.claim.Claim.TheVariants.{Added, Present, Clash}
 use mathlib.Core.List.{IsPrefix}
 use Rattle.wb_history.specs.Lists.{longer}
-use Rattle.wb_history.specs.Members.{Lacks}
-use Rattle.wb_history.specs.Lawful.{Sane}
+use Rattle.wb_history.specs.Lawful.{IsConsistent}
 use Rattle.wb_history.specs.Seats.{SameSeat}
-use Rattle.wb_history.specs.Views.{OwnsAll}
+use Rattle.wb_history.specs.Views.{HasAllRows}
 
 -- the lists are what the seat knows
 pub record InOrder (h : Cursor) : Type 0 where
@@ -23,7 +21,7 @@ pub record InOrder (h : Cursor) : Type 0 where
   pub seen : h.seat.me.0.seen ≡ h.seen.items
   pub mine : h.seat.me.0.mine ≡ h.mine.items
   pub free : h.seat.me.0.free ≡ h.free.items
-  pub sane : Sane h.seat.me.0
+  pub consistent : IsConsistent h.seat.me.0
 
 -- the cursor after it has read these members, and has made some more steps. A cursor with all rows reads none
 pub record Walked (h : Cursor) (more : List DrawopValue) (extra : ℕ) (h' : Cursor) : Type 0 where
@@ -33,7 +31,7 @@ pub record Walked (h : Cursor) (more : List DrawopValue) (extra : ℕ) (h' : Cur
   pub mine : h'.mine.items ≡ h.mine.items
   pub free : h'.free.items ≡ h.free.items
   pub seen : h'.seen.items ≡ h.seen.items ++ more
-  pub whole : OwnsAll h.seat.me.0 → more ≡ []
+  pub whole : HasAllRows h.seat.me.0 → more ≡ []
   pub made : h'.seat.me.0.made ≡ h.seat.me.0.made + member_steps * length more + extra
   pub steps : h'.steps ≡ h.steps + member_steps * length more + extra
 
@@ -48,11 +46,11 @@ AtEnd cells h more h' = (Walked h more 1 h' × FoundFree h') ⊎ (Walked h more 
 -- the list has the name of d: it has d, or another drawop of that name
 abbrev pub TellsNamesake : List DrawopValue → DrawopValue → Claim → Type 0
 TellsNamesake l d (Added i) = ⊥
-TellsNamesake l d (Present i) = get_elem? l i ≡ some d
-TellsNamesake l d (Clash i) = (e : DrawopValue) × (get_elem? l i ≡ some e) × (e.name ≡ d.name) × (e ≢ d)
+TellsNamesake l d (Present i) = IsAgainAt l d i
+TellsNamesake l d (Clash i) = IsClashAt l d i
 
 abbrev pub Sought : ℕ → Cursor → DrawopValue → Cursor → Option Claim → Type 0
-Sought cells h d h' None = (more : List DrawopValue) × AtEnd cells h more h' × Lacks h'.seen.items d.name
+Sought cells h d h' None = (more : List DrawopValue) × AtEnd cells h more h' × ¬ HoldsName h'.seen.items d.name
 Sought cells h d h' (Some c) = (more : List DrawopValue) × Walked h more 0 h' × TellsNamesake h'.seen.items d c
 
 -- the cursor after it has read these members and added d at a place
@@ -64,7 +62,7 @@ pub record Won (h : Cursor) (more : List DrawopValue) (d : DrawopValue) (place e
   pub mine : h'.mine.items ≡ h.mine.items ++ place ∷ []
   pub free : length h.free.items ≡ length h'.free.items + 1
   pub seen : h'.seen.items ≡ (h.seen.items ++ more) ++ d ∷ []
-  pub whole : OwnsAll h.seat.me.0 → more ≡ []
+  pub whole : HasAllRows h.seat.me.0 → more ≡ []
   pub made : h'.seat.me.0.made ≡ h.seat.me.0.made + member_steps * length more + extra
   pub steps : h'.steps ≡ h.steps + member_steps * length more + extra
 
@@ -76,7 +74,7 @@ Answered h d extra h' (Clash i) = (more : List DrawopValue) × Walked h more ext
 
 -- a claim of d was refused: the pass has no free row and has read to the end, where no member has the name; or memory ran out
 abbrev pub Refused : ℕ → Cursor → DrawopValue → Cursor → ClaimFault → Type 0
-Refused cells h d h' NoRow = (more : List DrawopValue) × AtEnd cells h more h' × Lacks h'.seen.items d.name × (h.free.items ≡ [])
+Refused cells h d h' NoRow = (more : List DrawopValue) × AtEnd cells h more h' × ¬ HoldsName h'.seen.items d.name × (h.free.items ≡ [])
 Refused cells h d h' Memory = (more : List DrawopValue) × (extra : ℕ) × (extra ≤ row_words + 2) × Walked h more extra h'
 
 -- the cursor after it took in what another seat knows

@@ -1,17 +1,18 @@
 -- The rule of the table. Words 0 to cells - 1 are the cells, and as many rows follow, each of row_words words. A cell holds 0 while
 -- it is free, and else a row number plus one.
 use Rattle.wb_history.specs.Sizes.{row_words}
-use Rattle.std.specs.Prelude.{◌≡◌, ℕ, suc, ◌+◌, ◌-◌, ◌*◌, ◌<◌, ◌≤◌, List, length, slice_index}
+use Rattle.std.specs.Prelude.{◌≡◌, ℕ, suc, ◌+◌, ◌-◌, ◌*◌, ◌<◌, ◌≤◌, List, length, slice_index, All, Contains}
 use mathlib.Core.Option.{some}
 use lib.ListN.{get_elem?}
 use Rattle.atomic_table.specs.Table.{State}
 use Rattle.wb_history.specs.declared.knowledge.Knowledge.{Knowledge}
 use Rattle.wb_names.specs.Values.{DrawopValue}
 use mathlib.Core.List.{IsPrefix}
-use Rattle.wb_history.specs.Lists.{Has, Once}
-use Rattle.wb_history.specs.Members.{AllValid, NamesOnce}
+use Rattle.wb_history.specs.Lists.{Once}
+use Rattle.wb_names.specs.History.{IsHistory}
+use Rattle.wb_codec.specs.Ranges.{IsDrawop}
 use Rattle.wb_codec.specs.Rows.{row}
-use Rattle.wb_history.specs.Views.{OwnsAll}
+use Rattle.wb_history.specs.Views.{HasAllRows}
 
 -- the word k of a row
 abbrev pub address : ℕ → ℕ → ℕ → ℕ
@@ -30,7 +31,7 @@ pub record Owns (cells : ℕ) (rows : List ℕ) (owner : ℕ → ℕ) (j seen : 
   pub free_once : Once free
   pub mine_is : (i p : ℕ) → get_elem? mine i ≡ some p → (p < seen) × ((r : ℕ) → get_elem? rows p ≡ some r → owner r ≡ j)
   pub mine_once : Once mine
-  pub mine_all : (p r : ℕ) → get_elem? rows p ≡ some r → owner r ≡ j → Has mine p
+  pub mine_all : (p r : ℕ) → get_elem? rows p ≡ some r → owner r ≡ j → Contains mine p
 
 -- what a pass remembers inside a call is so: the cell after those that it has seen, as it found it; what it has read of the row that
 -- this cell names; and what it has stored in its last free row
@@ -56,8 +57,8 @@ pub record HasHistory (cells : ℕ) (words : List ℕ) (log : List DrawopValue) 
   pub unfilled : (p : ℕ) → length rows ≤ p → p < cells → slice_index words p ≡ 0
   pub rows_once : Once rows
   pub records : (p r : ℕ) (d : DrawopValue) → get_elem? rows p ≡ some r → get_elem? log p ≡ some d → (k n : ℕ) → get_elem? (row d) k ≡ some n → slice_index words (address cells r k) ≡ n
-  pub valid : AllValid log
-  pub names_once : NamesOnce log
+  pub valid : All IsDrawop log
+  pub names_once : IsHistory log
 
 pub record Lawful (cells : ℕ) (s : State DrawopValue Knowledge) : Type 0 where
   pub log : List DrawopValue
@@ -68,13 +69,13 @@ pub record Lawful (cells : ℕ) (s : State DrawopValue Knowledge) : Type 0 where
   pub seated : (r : ℕ) → owner r < length s.views
   pub each_pass : (j : ℕ) (v : Knowledge) → get_elem? s.views j ≡ some v → Knows cells s.words log rows owner j v
 
--- What follows of one pass alone
-pub record Sane (v : Knowledge) : Type 0 where
-  pub valid : AllValid v.seen
-  pub names_once : NamesOnce v.seen
+-- what is so of what one pass knows, by itself
+pub record IsConsistent (v : Knowledge) : Type 0 where
+  pub valid : All IsDrawop v.seen
+  pub names_once : IsHistory v.seen
   pub room : length v.seen + length v.free ≤ v.cells
   pub own : length v.free + length v.mine ≤ v.cells
   pub rows : (i r : ℕ) → get_elem? v.free i ≡ some r → r < v.cells
   pub mine_is : (i p : ℕ) → get_elem? v.mine i ≡ some p → p < length v.seen
   pub mine_once : Once v.mine
-  pub whole : OwnsAll v → (p : ℕ) → p < length v.seen → Has v.mine p
+  pub whole : HasAllRows v → (p : ℕ) → p < length v.seen → Contains v.mine p

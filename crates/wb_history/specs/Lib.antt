@@ -1,7 +1,6 @@
 pub mod Lawful
 pub mod Lists
 pub mod Plays
-pub mod Members
 pub mod Indexed
 pub mod RowRanges
 pub mod Sizes

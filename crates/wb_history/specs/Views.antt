@@ -10,8 +10,8 @@ use Rattle.std.specs.List.{range_with_len}
 abbrev pub whole_pass : ℕ → Knowledge
 whole_pass cells = record { cells = cells; seen = []; told = []; mine = []; free = range_with_len 0 cells; looking = 0; read = []; stored = []; made = 0; last_word = 0; last_found = 0 }
 
-abbrev pub OwnsAll : Knowledge → Type 0
-OwnsAll v = length v.free + length v.mine ≡ v.cells
+abbrev pub HasAllRows : Knowledge → Type 0
+HasAllRows v = length v.free + length v.mine ≡ v.cells
 
 -- a load that only confirms what the pass knows
 abbrev pub after_confirm : Knowledge → ℕ → ℕ → Knowledge

@@ -6,7 +6,7 @@ ghost use mathlib.Core.Option.{some};
 ghost use lib.ListN.{get_elem?};
 ghost use Rattle.wb_names.specs.Values.{DrawopValue};
 ghost use Rattle.wb_history.specs.Cursors.{InOrder, Walked, Won, AtEnd, TellsNamesake, Answered, Refused};
-ghost use Rattle.wb_history.specs.Members.{Lacks};
+ghost use Rattle.wb_names.specs.History.{HoldsName};
 ghost use Rattle.wb_codec.specs.Rows.{row as record_of};
 ghost use Rattle.wb_codec.specs.Ranges.{IsDrawop};
 ghost use Rattle.wb_history.specs.Seats.{SitsAt};
@@ -33,7 +33,7 @@ impl CellTable {
         requires cursor { SitsAt self.now cursor.old.seat × InOrder cursor.old × (cursor.old.steps ≤ member_steps * length cursor.old.seen.items + member_steps) }
         requires row { get_elem? cursor.old.free.items (length cursor.old.free.items - 1) ≡ some row }
         requires stored { cursor.old.seat.me.0.stored ≡ record_of drawop.now }
-        requires new { IsDrawop drawop.now × Lacks cursor.old.seen.items drawop.now.name }
+        requires new { IsDrawop drawop.now × ¬ HoldsName cursor.old.seen.items drawop.now.name }
         ensures done { MatchResult result
             (λ o. MatchOption o (Won cursor.old [] drawop.now (length cursor.old.seen.items) 1 cursor.new) (λ d. Walked cursor.old (d ∷ []) 0 cursor.new × (cursor.new.seat.me.0.stored ≡ cursor.old.seat.me.0.stored)))
             (λ _. (cursor.new.steps ≤ cursor.old.steps + 1) × Walked cursor.old [] (cursor.new.steps - cursor.old.steps) cursor.new) }
@@ -59,7 +59,7 @@ impl CellTable {
         requires cursor { SitsAt self.now cursor.old.seat × InOrder cursor.old × (cursor.old.steps ≤ member_steps * length cursor.old.seen.items + member_steps) }
         requires row { get_elem? cursor.old.free.items (length cursor.old.free.items - 1) ≡ some row }
         requires stored { cursor.old.seat.me.0.stored ≡ record_of drawop.now }
-        requires new { IsDrawop drawop.now × Lacks cursor.old.seen.items drawop.now.name }
+        requires new { IsDrawop drawop.now × ¬ HoldsName cursor.old.seen.items drawop.now.name }
         ensures done { MatchResult result (Answered cursor.old drawop.now 0 cursor.new) (λ _. (more : List DrawopValue) × (extra : ℕ) × (extra ≤ 1) × Walked cursor.old more extra cursor.new) }
     {
         while let Some(member) = self.exchange(cursor, row, drawop)? {
@@ -91,7 +91,7 @@ impl CellTable {
         requires cursor { SitsAt self.now cursor.old.seat × InOrder cursor.old × (cursor.old.steps ≤ member_steps * length cursor.old.seen.items + 1) }
         requires row { get_elem? cursor.old.free.items (length cursor.old.free.items - 1) ≡ some row }
         requires stored { cursor.old.seat.me.0.stored ≡ [] }
-        requires new { Lacks cursor.old.seen.items drawop.now.name }
+        requires new { ¬ HoldsName cursor.old.seen.items drawop.now.name }
         ensures done { MatchResult result (Answered cursor.old drawop.now row_words cursor.new) (λ _. (more : List DrawopValue) × (extra : ℕ) × (extra ≤ member_steps) × Walked cursor.old more extra cursor.new) }
     {
         self.store(cursor, row, drawop);
@@ -108,7 +108,7 @@ impl CellTable {
     ) -> Result<Claim, ClaimFault>
         requires cursor { SitsAt self.now cursor.old.seat × InOrder cursor.old × (cursor.old.steps ≡ 0) }
         ensures done { MatchResult result (λ c. (extra : ℕ) × (extra ≤ member_steps) × Answered cursor.old drawop.now extra cursor.new c) (Refused self.now.cells cursor.old drawop.now cursor.new) }
-        ensures known { (Lacks cursor.old.seen.items drawop.now.name → ⊥) → IsOk result × (cursor.new ≡ cursor.old) }
+        ensures known { HoldsName cursor.old.seen.items drawop.now.name → IsOk result × (cursor.new ≡ cursor.old) }
     {
         if let Some(claim) = known(&cursor.seen, drawop) {
             return Ok(claim);
@@ -131,7 +131,7 @@ impl CellTable {
 /// The answer to a claim of a drawop whose name one of these members has.
 fn known(members: &Members, drawop: &Drawop) -> Option<Claim>
     requires { length members.now.items ≤ 65535 }
-    ensures { MatchOption result (Lacks members.now.items drawop.now.name) (λ c. TellsNamesake members.now.items drawop.now c) }
+    ensures { MatchOption result (¬ HoldsName members.now.items drawop.now.name) (λ c. TellsNamesake members.now.items drawop.now c) }
 {
     let place = members.place_of(&drawop.name())?;
     Some(answer(drawop, &members.as_slice()[place], place))

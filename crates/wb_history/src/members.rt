@@ -4,7 +4,7 @@ ghost use mathlib.Core.List.{IsPrefix};
 ghost use mathlib.Core.Option.{some};
 ghost use lib.ListN.{get_elem?};
 ghost use Rattle.wb_names.specs.Values.{DrawopValue};
-ghost use Rattle.wb_history.specs.Members.{Lacks, NamesOnce};
+ghost use Rattle.wb_names.specs.History.{IsHistory, HoldsName};
 
 use indexmap::IndexSet;
 use std::alloc::{AllocError, Global};
@@ -58,7 +58,7 @@ impl Members {
 
     /// The place of the member with this name.
     pub(crate) fn place_of(&self, name: &Name) -> Option<usize>
-        ensures { MatchOption result (Lacks self.now.items name.now) (λ i. (i < length self.now.items) × (d : DrawopValue) × (get_elem? self.now.items i ≡ some d) × (d.name ≡ name.now)) }
+        ensures { MatchOption result (¬ HoldsName self.now.items name.now) (λ i. (i < length self.now.items) × (d : DrawopValue) × (get_elem? self.now.items i ≡ some d) × (d.name ≡ name.now)) }
     {
         self.names.get_index_of(name)
     }
@@ -75,7 +75,7 @@ impl Members {
     /// Puts a member at the end.
     pub(crate) fn put(&mut self, drawop: &Drawop)
         requires room { 0 < self.old.room }
-        requires new { Lacks self.old.items drawop.now.name }
+        requires new { ¬ HoldsName self.old.items drawop.now.name }
         ensures items { self.new.items ≡ self.old.items ++ drawop.now ∷ [] }
         ensures room { self.old.room ≤ self.new.room + 1 }
     {
@@ -97,7 +97,7 @@ impl Members {
 
     /// Puts in what a longer list has more, for which there is room.
     pub(crate) fn extend_to(&mut self, longer: &[Drawop])
-        requires front { IsPrefix self.old.items longer.now × NamesOnce longer.now }
+        requires front { IsPrefix self.old.items longer.now × IsHistory longer.now }
         requires room { length longer.now ≤ length self.old.items + self.old.room }
         ensures { self.new.items ≡ longer.now }
     {

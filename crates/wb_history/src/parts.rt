@@ -3,7 +3,7 @@ ghost use Rattle.std.specs.Prelude.{◌≡◌, ◌+◌, ◌<◌, ◌≤◌, [], 
 ghost use mathlib.Core.List.{IsPrefix};
 ghost use Rattle.wb_history.specs.Cursors.{InOrder, United};
 ghost use Rattle.wb_history.specs.Lists.{longer};
-ghost use Rattle.wb_history.specs.Members.{NamesOnce};
+ghost use Rattle.wb_names.specs.History.{IsHistory};
 ghost use Rattle.wb_history.specs.Seats.{SitsAt};
 ghost use Rattle.wb_history.specs.Sharing.{IsSplit, IsSplitFault, IsJoined};
 ghost use Rattle.wb_history.specs.Passes.{IsPassOf, IsSamePass, IsSound, IsTold, KeepsRows};
@@ -147,7 +147,7 @@ impl CellTable {
     fn hear(&self, cursor: &mut Cursor, seat: HistorySeat, list: &[Drawop])
         requires cursor { SitsAt self.now cursor.old.seat × InOrder cursor.old }
         requires seat { SitsAt self.now seat × (seat.me.1 ≡ []) × (seat.me.0.mine ≡ []) × (seat.me.0.free ≡ []) }
-        requires list { (seat.me.0.seen ≡ list.now) × NamesOnce list.now }
+        requires list { (seat.me.0.seen ≡ list.now) × IsHistory list.now }
         requires room { (length cursor.old.seen.items ≤ length list.now) × (length list.now ≤ length cursor.old.seen.items + cursor.old.seen.room) }
         ensures { United cursor.old seat.me.0 cursor.new }
     {

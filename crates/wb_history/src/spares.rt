@@ -3,7 +3,7 @@
 ghost use Rattle.std.specs.Prelude.{◌≡◌, List, IfOk};
 ghost use mathlib.Core.List.{IsPrefix};
 ghost use Rattle.wb_names.specs.Values.{DrawopValue};
-ghost use Rattle.wb_history.specs.Members.{NamesOnce};
+ghost use Rattle.wb_names.specs.History.{IsHistory};
 ghost use Rattle.wb_history.specs.Indexed.{AreFronts};
 
 use crate::members::Members;
@@ -16,7 +16,7 @@ const MOST: usize = 8;
 /// is none. After a fault the spare is gone.
 pub(crate) fn another(spares: &mut Vec<Members>, seen: &Members) -> Result<Members, AllocError>
     requires spares { AreFronts spares.old.items seen.now.items }
-    requires once { NamesOnce seen.now.items }
+    requires once { IsHistory seen.now.items }
     ensures list { IfOk result (λ list. list.items ≡ seen.now.items) }
     ensures spares { AreFronts spares.new.items seen.now.items }
 {

@@ -5,9 +5,9 @@ ghost use Rattle.std.specs.Prelude.{◌≡◌, ◌≢◌, ℕ, ◌+◌, ◌-◌,
 ghost use mathlib.Core.Option.{some, none};
 ghost use lib.ListN.{get_elem?};
 ghost use Rattle.atomic_table.specs.Table.{step};
-ghost use Rattle.wb_history.specs.Lawful.{Sane};
+ghost use Rattle.wb_history.specs.Lawful.{IsConsistent};
 ghost use Rattle.wb_history.specs.Plays.{looked, published, confirmed};
-ghost use Rattle.wb_history.specs.Members.{Lacks};
+ghost use Rattle.wb_names.specs.History.{HoldsName};
 ghost use Rattle.wb_codec.specs.Rows.{row as record_of};
 ghost use Rattle.wb_codec.specs.Ranges.{IsDrawop};
 ghost use Rattle.wb_history.specs.Seats.{SitsAt, SameSeat};
@@ -44,7 +44,7 @@ impl CellTable {
         requires seat { SitsAt self.now seat.old }
         requires row { (row < self.now.cells) × (seat.old.me.0.looking ≡ row + 1) × (seat.old.me.0.read ≡ []) }
         ensures seat { SameSeat seat.old seat.new }
-        ensures member { IsMember seat.old.me.0 result seat.new.me.0 × IsDrawop result × Sane seat.new.me.0 }
+        ensures member { IsMember seat.old.me.0 result seat.new.me.0 × IsDrawop result × IsConsistent seat.new.me.0 }
     {
         let start = self.row_start(row);
         let mut words = [0u64; ROW_WORDS];
@@ -66,9 +66,9 @@ impl CellTable {
     pub(crate) fn store_row(&self, seat: &mut HistorySeat, row: usize, drawop: &Drawop)
         requires seat { SitsAt self.now seat.old }
         requires row { (row < self.now.cells) × (get_elem? seat.old.me.0.free (length seat.old.me.0.free - 1) ≡ some row) × (seat.old.me.0.stored ≡ []) }
-        requires sane { Sane seat.old.me.0 }
+        requires consistent { IsConsistent seat.old.me.0 }
         ensures seat { SameSeat seat.old seat.new }
-        ensures stored { IsStored seat.old.me.0 (record_of drawop.now) seat.new.me.0 × Sane seat.new.me.0 }
+        ensures stored { IsStored seat.old.me.0 (record_of drawop.now) seat.new.me.0 × IsConsistent seat.new.me.0 }
         ensures lawful { IsDrawop drawop.now }
     {
         let start = self.row_start(row);
@@ -93,7 +93,7 @@ impl CellTable {
         requires place { (place ≡ length seat.old.me.0.seen) × (place < self.now.cells) }
         requires row { get_elem? seat.old.me.0.free (length seat.old.me.0.free - 1) ≡ some row }
         requires stored { seat.old.me.0.stored ≡ record_of drawop.now }
-        requires new { IsDrawop drawop.now × Lacks seat.old.me.0.seen drawop.now.name }
+        requires new { IsDrawop drawop.now × ¬ HoldsName seat.old.me.0.seen drawop.now.name }
         ensures seat { SameSeat seat.old seat.new }
         ensures found { published (step 0 place 0 (row + 1) (some drawop.now)) seat.old.me result seat.new.me }
     {

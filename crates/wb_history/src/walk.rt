@@ -1,12 +1,10 @@
 //! How a cursor goes on along the history. A walk begins at the first cell that the cursor has not seen,
 //! so that it reads no filled cell twice.
 ghost use Rattle.wb_history.specs.Sizes.{row_words, member_steps};
-ghost use Rattle.std.specs.Prelude.{◌≡◌, ℕ, ◌+◌, ◌*◌, ◌<◌, ◌≤◌, List, [], ◌∷◌, ◌++◌, length, MatchOption, MatchResult, IsTrue, ◌↔◌};
-ghost use mathlib.Core.Option.{some};
-ghost use lib.ListN.{get_elem?};
+ghost use Rattle.std.specs.Prelude.{◌≡◌, ℕ, ◌+◌, ◌*◌, ◌<◌, ◌≤◌, List, [], ◌∷◌, ◌++◌, length, slice_get, Some, MatchOption, MatchResult, IsTrue, ◌↔◌};
 ghost use Rattle.wb_names.specs.Values.{DrawopValue};
 ghost use Rattle.wb_history.specs.Cursors.{InOrder, Walked, AtEnd, TellsNamesake, Sought};
-ghost use Rattle.wb_history.specs.Members.{Lacks};
+ghost use Rattle.wb_names.specs.History.{HoldsName};
 ghost use Rattle.wb_history.specs.Seats.{SitsAt, SameSeat};
 ghost use Rattle.wb_history.specs.Views.{IsMember};
 
@@ -28,7 +26,7 @@ pub(crate) fn is_namesake(member: &Drawop, drawop: &Drawop) -> bool
 /// The answer where the member at a place has the name of the drawop.
 pub(crate) fn answer(drawop: &Drawop, member: &Drawop, place: usize) -> Claim
     requires { (member.now.name ≡ drawop.now.name) × (place < 65536) }
-    ensures { (l : List DrawopValue) → get_elem? l place ≡ some member.now → TellsNamesake l drawop.now result }
+    ensures { (l : List DrawopValue) → slice_get l place ≡ Some member.now → TellsNamesake l drawop.now result }
 {
     if member == drawop {
         Claim::Present(place as u32)
@@ -89,7 +87,7 @@ impl CellTable {
         drawop: &Drawop,
     ) -> Result<Option<Claim>, AllocError>
         requires cursor { SitsAt self.now cursor.old.seat × InOrder cursor.old × (cursor.old.steps ≡ 0) }
-        requires new { Lacks cursor.old.seen.items drawop.now.name }
+        requires new { ¬ HoldsName cursor.old.seen.items drawop.now.name }
         ensures done { MatchResult result (Sought self.now.cells cursor.old drawop.now cursor.new) (λ _. (more : List DrawopValue) × Walked cursor.old more 1 cursor.new) }
     {
         while let Some(member) = self.next_member(cursor)? {

@@ -1,6 +1,7 @@
 use Rattle.std.proofs.Common.{ap, ◌∙◌, List, arith, get_or}
 use Rattle.wb_names.specs.Values.{DrawopValue}
 use Rattle.wb_history.proofs.Lists.{at_same}
+use Rattle.wb_history.proofs.Words.{get_is}
 use Rattle.atomic_table.proofs.Lists.{at_index}
 use Rattle.wb_history.proofs.claiming.known.Goals as goal
 
@@ -17,4 +18,4 @@ pub returns : goal.returns
 returns c =
     let f = c.in_ok-place.ensures in
     let d = c.index-as_slice-place.result in
-    c.answer.ensures c.args.members.now.items (at_index c.args.members.now.items c.in_ok-place.place d f.0 (c.index-as_slice-place.is ∙ ap (λ (l : List DrawopValue). get_or l c.in_ok-place.place d) c.as_slice.ensures))
+    c.answer.ensures c.args.members.now.items (get_is c.args.members.now.items c.in_ok-place.place _ (at_index c.args.members.now.items c.in_ok-place.place d f.0 (c.index-as_slice-place.is ∙ ap (λ (l : List DrawopValue). get_or l c.in_ok-place.place d) c.as_slice.ensures)))

@@ -11,6 +11,11 @@ returns-in-Some-clause-done c =
     let a = c.in-Some.ensures in
     (0, (omega arith), answered c.args.cursor.now c.args.drawop.now 0 c.args.cursor.now c.in-Some.claim [] (stay c.args.cursor.now c.requires.cursor.1) a)
 
+pub returns-in-Ok-Some-clause-done : goal.returns-in-Ok-Some-clause-done
+returns-in-Ok-Some-clause-done c =
+    let s = subst (λ (o : Option Claim). Sought c.args.self.now.cells c.args.cursor.now c.args.drawop.now c.seek.new.cursor o) c.in-Ok-Some.field-0-is c.in-Ok-Some.ensures.done in
+    (0, (omega arith), answered c.args.cursor.now c.args.drawop.now 0 c.seek.new.cursor c.in-Ok-Some.claim s.0 s.1 s.2)
+
 pub returns-in-Ok-clause-done : goal.returns-in-Ok-clause-done
 returns-in-Ok-clause-done c =
     let s = subst (λ (o : Option Claim). Sought c.args.self.now.cells c.args.cursor.now c.args.drawop.now c.seek.new.cursor o) c.in-Ok-None.field-0-is c.in-Ok-None.ensures.done in

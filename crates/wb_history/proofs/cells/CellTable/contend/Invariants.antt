@@ -1,12 +1,12 @@
 use Rattle.std.proofs.Common.{◌≡◌, List, length, ◌-◌}
 use Rattle.wb_names.specs.Values.{DrawopValue}
 use Rattle.wb_history.specs.Cursors.{Walked}
-use Rattle.wb_history.specs.Members.{Lacks}
+use Rattle.wb_names.specs.History.{HoldsName}
 use Rattle.wb_codec.specs.Rows.{row}
 use Rattle.wb_history.proofs.cells.CellTable.contend.Given as goal
 
 abbrev pub invariant-loop-member : goal.invariant-loop-member
-invariant-loop-member l = ((more : List DrawopValue) × Walked l.initial.cursor more 0 l.cursor) × (l.cursor.seat.me.0.stored ≡ row l.drawop) × Lacks l.cursor.seen.items l.drawop.name
+invariant-loop-member l = ((more : List DrawopValue) × Walked l.initial.cursor more 0 l.cursor) × (l.cursor.seat.me.0.stored ≡ row l.drawop) × (HoldsName l.cursor.seen.items l.drawop.name → ⊥)
 
 abbrev pub decreases-loop-member : goal.decreases-loop-member
 decreases-loop-member l = l.self.cells - length l.cursor.seen.items

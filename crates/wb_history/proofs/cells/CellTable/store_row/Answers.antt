@@ -19,7 +19,7 @@ store-requires c =
     (i.0.0 ∙ c.requires.seat.0, omega arith, stores_word _ _ _ _ _ _ c.args.row (omega arith) (last_free _ _ c.args.row s.free r.1) (omega arith) (omega arith))
 
 pub loop-i-init : goal.loop-i-init
-loop-i-init c = ((refl, refl, refl), store_none _ c.to_row-words.result c.requires.row.2, c.requires.sane)
+loop-i-init c = ((refl, refl, refl), store_none _ c.to_row-words.result c.requires.row.2, c.requires.consistent)
 
 pub loop-i-preserved : goal.loop-i-preserved
 loop-i-preserved c =

@@ -3,7 +3,6 @@ use mathlib.Core.List.{IsPrefix}
 use Rattle.wb_history.specs.Passes.{PassValue}
 use Rattle.wb_history.specs.Replies.{Claimed, NotClaimed, ClaimSteps, FaultSteps}
 use Rattle.wb_names.specs.History.{HoldsName}
-use Rattle.wb_history.proofs.Words.{holds}
 use Rattle.wb_history.proofs.Fronts.{fronts_on}
 use Rattle.wb_history.specs.Shown.{view_of}
 use Rattle.wb_history.proofs.Shows.{from_there, shown, shown_steps, fresh, sits, sound, held_after}
@@ -35,5 +34,5 @@ returns-clause-few_steps c =
 
 pub returns-clause-known : goal.returns-clause-known
 returns-clause-known c held =
-    let known = c.claim_with.ensures.known (holds c.pass.inside.cursor.seen.items c.args.drawop.now.name (subst (λ (p : PassValue). HoldsName p.seen c.args.drawop.now.name) (sym c.pass.view_is) held)) in
+    let known = c.claim_with.ensures.known (subst (λ (p : PassValue). HoldsName p.seen c.args.drawop.now.name) (sym c.pass.view_is) held) in
     (known.0, ap view_of known.1 ∙ ap (λ (p : PassValue). record p { steps = 0 }) c.pass.view_is)

@@ -4,7 +4,7 @@ use Rattle.wb_names.specs.Values.{DrawopValue}
 use Rattle.wb_names.specs.History.{HoldsName}
 use Rattle.wb_history.specs.Passes.{PassValue}
 use Rattle.wb_history.proofs.Shows.{sound}
-use Rattle.wb_history.proofs.Words.{get_is, holds_not}
+use Rattle.wb_history.proofs.Words.{get_is}
 use Rattle.wb_history.proofs.pass.Pass.place_of.Goals as goal
 
 pub overflow_cast-result : goal.overflow_cast-result
@@ -21,4 +21,4 @@ returns-in-Some c =
     subst (λ (p : PassValue). (x : DrawopValue) × (slice_get p.seen c.in-Some.place ≡ Some x) × (x.name ≡ c.args.name.now)) c.self.view_is (e.1, get_is c.self.inside.cursor.seen.items c.in-Some.place e.1 e.2, e.3)
 
 pub returns-in-None : goal.returns-in-None
-returns-in-None c = subst (λ (p : PassValue). HoldsName p.seen c.args.name.now → ⊥) c.self.view_is (holds_not c.self.inside.cursor.seen.items c.args.name.now c.in-None.ensures)
+returns-in-None c = subst (λ (p : PassValue). HoldsName p.seen c.args.name.now → ⊥) c.self.view_is c.in-None.ensures
