@@ -9,7 +9,7 @@ use mathlib.Core.List.{IsPrefix}
 use Rattle.wb_names.specs.Values.{DrawopValue}
 use Rattle.wb_names.specs.History.{HoldsName}
 use Rattle.wb_names.specs.Arrivals.{Fresh, Known, Clashed, Left, counts}
-use Rattle.wb_history.specs.Passes.{PassValue, IsSound}
+use Rattle.wb_host.specs.Desks.{PassValue, IsSound}
 use Rattle.wb_feed.specs.declared.channel.ChannelView.{ChannelView}
 use Rattle.wb_feed.specs.declared.worker.Accepted.{Accepted}
 use Rattle.wb_feed.specs.declared.channel.Message.{Message}

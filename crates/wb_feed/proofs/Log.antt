@@ -8,8 +8,7 @@ use mathlib.Core.List.{IsPrefix}
 use Rattle.wb_names.specs.Values.{DrawopValue}
 use Rattle.wb_names.specs.History.{IsAgainAt, IsClashAt}
 use Rattle.wb_names.specs.Arrivals.{Outcome, Fresh, Known, Clashed, Left, Counts, counts, counts_of}
-use Rattle.wb_history.specs.Passes.{PassValue, KeepsRows, AddsNothing, IsSound, IsWhole}
-use Rattle.wb_history.specs.Sharing.{IsSplit}
+use Rattle.wb_host.specs.Desks.{PassValue, KeepsRows, AddsNothing, IsSound, IsWhole, IsSplit}
 use Rattle.wb_host.specs.Replies.{Accepted, NotAccepted}
 use Rattle.wb_host.specs.declared.reply.Reply.{Reply}
 use Rattle.wb_host.specs.declared.reply.Reply.TheVariants as replied

@@ -3,7 +3,7 @@ use Rattle.std.proofs.Common.{◌≡◌, ◌≢◌, ℕ, ◌+◌, ◌≤◌, ◌
 use Rattle.std.proofs.lemmas.List.{append-nil, take_more}
 use Rattle.wb_names.specs.Values.{DrawopValue}
 use Rattle.wb_names.specs.Arrivals.{Outcome}
-use Rattle.wb_history.specs.Passes.{PassValue}
+use Rattle.wb_host.specs.Desks.{PassValue}
 use Rattle.wb_feed.specs.Accepts.{LosesAtMost, Accepts}
 use Rattle.wb_feed.specs.declared.batch.Batch.{Batch}
 use Rattle.wb_feed.proofs.Numbers.{test_apart, test_same, dec_same}

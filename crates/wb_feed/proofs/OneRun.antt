@@ -11,7 +11,7 @@ use mathlib.Core.List.{IsPrefix}
 use Rattle.wb_names.specs.Values.{DrawopValue}
 use Rattle.wb_names.specs.History.{IsNewAt, IsAgainAt, IsClashAt}
 use Rattle.wb_names.specs.Arrivals.{Outcome, Fresh, Known, Clashed, Left, counts, AreTaken, IsBatch}
-use Rattle.wb_history.specs.Passes.{PassValue, IsSound, IsWhole}
+use Rattle.wb_host.specs.Desks.{PassValue, IsSound, IsWhole}
 use Rattle.wb_host.specs.declared.reply.Reply.{Reply}
 use Rattle.wb_host.specs.declared.reply.Reply.TheVariants.{New, Again, Clash}
 use Rattle.wb_host.specs.Replies.{IsReply}

@@ -3,7 +3,7 @@ use Rattle.std.proofs.Common.{◌≡◌, ℕ, ◌+◌, ◌≤◌, ◌<◌, ◌^�
 use Rattle.std.proofs.lemmas.List.{append-nil}
 use Rattle.wb_names.specs.Values.{DrawopValue}
 use Rattle.wb_names.specs.Arrivals.{Outcome}
-use Rattle.wb_history.specs.Passes.{PassValue}
+use Rattle.wb_host.specs.Desks.{PassValue}
 use Rattle.wb_feed.specs.Accepts.{LosesAtMost, Accepts, drawops}
 use Rattle.wb_feed.proofs.Log.{one_kind, loses_is, loses_trans, runs_more, tally-append, tally_all}
 use Rattle.wb_feed.specs.declared.channel.Message.{Message}

@@ -4,8 +4,7 @@ use Rattle.std.specs.Prelude.{IfOk, OnOk}
 use Rattle.std.proofs.lemmas.List.{append-nil}
 use Rattle.crossbeam_channel.specs.Claims.{view}
 use Rattle.wb_names.specs.Values.{DrawopValue}
-use Rattle.wb_history.specs.Passes.{PassValue}
-use Rattle.wb_history.specs.Sharing.{IsSplit}
+use Rattle.wb_host.specs.Desks.{PassValue, IsSplit}
 use Rattle.wb_feed.specs.Accepts.{LosesAtMost}
 use Rattle.wb_feed.specs.declared.channel.ChannelView.{ChannelView}
 use Rattle.wb_feed.specs.declared.sender.Feeding.{Feeding}

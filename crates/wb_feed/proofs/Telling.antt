@@ -4,9 +4,7 @@ use Rattle.std.specs.Prelude.{MatchResult}
 use Rattle.std.proofs.lemmas.List.{append-nil}
 use mathlib.Core.List.{IsPrefix}
 use Rattle.wb_names.specs.Values.{DrawopValue}
-use Rattle.wb_history.specs.Passes.{PassValue}
-use Rattle.wb_history.specs.Lists.{longer}
-use Rattle.wb_history.specs.Sharing.{IsJoined}
+use Rattle.wb_host.specs.Desks.{PassValue, longer, IsJoined}
 use Rattle.wb_host.specs.Replies.{Accepted}
 use Rattle.wb_host.specs.declared.reply.Reply.{Reply}
 use Rattle.wb_host.specs.declared.reply.Reply.TheVariants.{New, Again, Clash}

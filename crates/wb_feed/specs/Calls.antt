@@ -3,7 +3,7 @@ use Rattle.std.specs.Prelude.{ℕ, List, [], ◌∷◌, ◌++◌, length}
 use mathlib.Core.Logic.{inl, inr}
 use Rattle.wb_names.specs.Values.{DrawopValue}
 use Rattle.wb_names.specs.Arrivals.{Fresh, Known, Clashed, Left}
-use Rattle.wb_history.specs.Passes.{PassValue, IsSound, IsWhole}
+use Rattle.wb_host.specs.Desks.{PassValue, IsSound, IsWhole}
 use Rattle.wb_host.specs.declared.reply.Reply.{Reply}
 use Rattle.wb_host.specs.declared.reply.Reply.TheVariants.{New, Again, Clash}
 use Rattle.wb_host.specs.Board.{Accept, Replied}

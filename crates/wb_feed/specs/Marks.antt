@@ -2,7 +2,7 @@
 use Rattle.std.specs.Prelude.{◌≡◌, ℕ, ◌+◌, ◌<◌, ◌==◌, ◌||◌, Bool, false, cond, List, [], ◌∷◌, length, slice_index_or}
 use Rattle.wb_names.specs.Values.{DrawopValue}
 use Rattle.wb_names.specs.Arrivals.{counts_of, Outcome}
-use Rattle.wb_history.specs.Passes.{PassValue}
+use Rattle.wb_host.specs.Desks.{PassValue}
 use Rattle.wb_feed.specs.Accepts.{Entry, Runs, drawops, tally}
 use Rattle.wb_feed.specs.declared.batch.Batch.{Batch}
 

@@ -3,10 +3,7 @@ use Rattle.std.specs.Prelude.{◌≡◌, ◌⊎◌, [], List, Result, Ok, Err}
 use mathlib.Core.List.{IsPrefix}
 use Rattle.wb_names.specs.Values.{DrawopValue}
 use Rattle.wb_names.specs.History.{IsAgainAt, IsClashAt}
-use Rattle.wb_history.specs.Lists.{longer}
-use Rattle.wb_history.specs.Passes.{PassValue, IsSamePass, KeepsRows, AddsNothing}
-use Rattle.wb_history.specs.Replies.{HasNoRow}
-use Rattle.wb_history.specs.Sharing.{IsJoined}
+use Rattle.wb_host.specs.Desks.{longer, PassValue, IsSamePass, KeepsRows, AddsNothing, HasNoRow, IsJoined}
 use Rattle.wb_host.specs.Replies.{Accepted}
 use Rattle.wb_host.specs.declared.reply.Reply.{Reply}
 use Rattle.wb_host.specs.declared.reply.Reply.TheVariants.{New, Again, Clash}

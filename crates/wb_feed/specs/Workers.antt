@@ -1,7 +1,6 @@
 -- Workers that each serve the channel.
 use Rattle.std.specs.Prelude.{◌≡◌, ◌⊎◌, ℕ, zero, suc, ◌+◌, ◌*◌, ◌/◌, ◌^◌, ◌<◌, ◌≤◌, false, if◌then◌else◌, nat_eq, List, [], ◌++◌, Result, Ok, Err}
-use Rattle.wb_history.specs.Passes.{PassValue, IsSamePass}
-use Rattle.wb_history.specs.Sharing.{IsSplit, IsJoined}
+use Rattle.wb_host.specs.Desks.{PassValue, IsSamePass, IsSplit, IsJoined}
 use Rattle.wb_feed.specs.declared.channel.Message.{Message}
 use Rattle.wb_feed.specs.declared.channel.ChannelView.{ChannelView}
 use Rattle.wb_feed.specs.declared.worker.Accepted.{Accepted}

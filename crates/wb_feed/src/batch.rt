@@ -4,7 +4,7 @@ ghost use Rattle.crossbeam_channel.specs.Claims.{view};
 ghost use Rattle.crossbeam_channel.specs.Ends.{sends_on, receives_on};
 ghost use Rattle.wb_names.specs.Values.{DrawopValue};
 ghost use Rattle.wb_names.specs.Arrivals.{Outcome};
-ghost use Rattle.wb_history.specs.Passes.{IsPassOf};
+ghost use Rattle.wb_host.specs.Desks.{IsPassOf};
 ghost use Rattle.wb_feed.specs.Accepts.{Keeps, LosesAtMost, Accepts};
 ghost use Rattle.wb_feed.specs.Channel.{channel_view};
 ghost use Rattle.wb_feed.specs.Marks.{unmarked, Marks, Retakes, CountsOne};

@@ -2,7 +2,7 @@
 ghost use Rattle.std.specs.Prelude.{◌≡◌, MatchResult, IfOk};
 ghost use Rattle.std.specs.Thread.{IsSync};
 ghost use Rattle.wb_names.specs.Values.{DrawopValue};
-ghost use Rattle.wb_history.specs.Passes.{IsPassOf};
+ghost use Rattle.wb_host.specs.Desks.{IsPassOf};
 ghost use Rattle.wb_feed.specs.Accepts.{Keeps};
 ghost use Rattle.wb_feed.specs.Relays.{Relayed, NotRelayed, TellsOf, NotTold, Hears};
 

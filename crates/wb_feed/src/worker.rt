@@ -3,7 +3,7 @@ ghost use Rattle.std.specs.Prelude.{◌≡◌, ◌+◌, ◌<◌, ◌^◌, ◌⊎
 ghost use Rattle.crossbeam_channel.specs.Claims.{view, IsSeatAt};
 ghost use Rattle.crossbeam_channel.specs.Ends.{receives_on};
 ghost use Rattle.wb_names.specs.Arrivals.{Outcome};
-ghost use Rattle.wb_history.specs.Passes.{IsPassOf};
+ghost use Rattle.wb_host.specs.Desks.{IsPassOf};
 ghost use Rattle.wb_feed.specs.declared.channel.Message.TheVariants.{Take, End};
 ghost use Rattle.wb_host.specs.Replies.{outcome};
 ghost use Rattle.wb_feed.specs.Accepts.{LosesAtMost, Accepts};

@@ -3,7 +3,7 @@ ghost use Rattle.std.specs.Prelude.{◌≡◌, ◌*◌, ◌<◌, ◌≤◌, ◌^
 ghost use Rattle.std.specs.Thread.{IsSync};
 ghost use Rattle.crossbeam_channel.specs.Claims.{view, IsSeatAt};
 ghost use Rattle.crossbeam_channel.specs.Ends.{sends_on, receives_on};
-ghost use Rattle.wb_history.specs.Passes.{IsPassOf};
+ghost use Rattle.wb_host.specs.Desks.{IsPassOf};
 ghost use Rattle.wb_feed.specs.Accepts.{LosesAtMost};
 ghost use Rattle.wb_feed.specs.Served.{Tells};
 ghost use Rattle.wb_feed.specs.Feeding.{IsReady, IsMerged, HasFed};

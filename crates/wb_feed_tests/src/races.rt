@@ -1,6 +1,6 @@
 //! Two threads on desks of one board.
 
-ghost use Rattle.wb_history.specs.Passes.{IsPassOf};
+ghost use Rattle.wb_host.specs.Desks.{IsPassOf};
 
 use crate::batches::{counted, counts};
 use crate::gates::{Meeting, OneFirst, TURNS};

@@ -1,7 +1,7 @@
 //! Batches and relays of which a growth or the start of a thread is refused, and those after them.
 
 ghost use Rattle.std.specs.Prelude.{IfSome};
-ghost use Rattle.wb_history.specs.Passes.{IsPassOf, IsSamePass};
+ghost use Rattle.wb_host.specs.Desks.{IsPassOf, IsSamePass};
 
 use crate::samples::{are_letters, drawop, open_two};
 use crate::sources::Listed;

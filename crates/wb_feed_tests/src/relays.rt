@@ -1,6 +1,6 @@
 //! Relays between two desks, and by two threads at once.
 
-ghost use Rattle.wb_history.specs.Passes.{IsPassOf, IsSamePass};
+ghost use Rattle.wb_host.specs.Desks.{IsPassOf, IsSamePass};
 
 use crate::gates::Meeting;
 use crate::samples::{accepts, are_letters, drawop, open_two, split_rows};

@@ -1,7 +1,7 @@
 //! The drawops and boards of the tests.
 
 ghost use Rattle.std.specs.Prelude.{IfSome};
-ghost use Rattle.wb_history.specs.Passes.{IsPassOf, IsSamePass};
+ghost use Rattle.wb_host.specs.Desks.{IsPassOf, IsSamePass};
 
 use std::alloc::Global;
 use wb_host::{Board, BoardFault, Desk, Reply};

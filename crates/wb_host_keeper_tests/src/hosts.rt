@@ -1,7 +1,7 @@
 //! A member with its board, as the tests call it.
 
 ghost use Rattle.std.specs.Prelude.{IfSome};
-ghost use Rattle.wb_history.specs.Passes.{IsPassOf, IsSamePass};
+ghost use Rattle.wb_host.specs.Desks.{IsPassOf, IsSamePass};
 
 use crate::calls::{Call, Given};
 use crate::samples::{PAGE, dot, named, names_of, session};

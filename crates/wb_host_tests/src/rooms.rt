@@ -1,7 +1,7 @@
 //! Two desks of one board, and steps of the one that is in use.
 
 ghost use Rattle.std.specs.Prelude.{IfSome};
-ghost use Rattle.wb_history.specs.Passes.{IsPassOf, IsSamePass};
+ghost use Rattle.wb_host.specs.Desks.{IsPassOf, IsSamePass};
 
 use crate::drawings::{SPARSE, are_letters, drawop};
 use std::alloc::Global;

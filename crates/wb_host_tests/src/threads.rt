@@ -1,6 +1,6 @@
 //! Two threads draw and view on desks of one board.
 
-ghost use Rattle.wb_history.specs.Passes.{IsPassOf, IsSamePass};
+ghost use Rattle.wb_host.specs.Desks.{IsPassOf, IsSamePass};
 
 use crate::drawings::{PAGE, dot};
 use crate::rooms::{open_board, split_rows};

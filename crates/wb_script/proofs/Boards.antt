@@ -7,13 +7,12 @@ use Rattle.wb_names.specs.Values.{DrawopValue, MarkValue}
 use Rattle.wb_names.specs.declared.name.PageId.{PageId}
 use Rattle.wb_names.specs.Arrivals.{counts_of, outcomes_of}
 use Rattle.wb_names.proofs.Arrivals.{batch_is}
-use Rattle.wb_history.specs.Passes.{HistoryValue, PassValue, IsSamePass, IsSound, KeepsRows}
+use Rattle.wb_host.specs.Desks.{HistoryValue, PassValue, IsSamePass, IsSound, KeepsRows, ReadsOn}
 use Rattle.wb_names.specs.declared.gap.Gap.{Gap}
 use Rattle.wb_gaps.specs.Answers.{gaps_of, report_of, pages_of}
 use Rattle.wb_gaps.proofs.MissingRanges.{only_gaps}
 use Rattle.wb_gaps.proofs.PageAnswers.{only_report, only_pages}
 use Rattle.wb_host.specs.Board.{IsAnswer, AskGaps, AskReport, AskPages, AskView, Gaps, Marks, Pages, Shown}
-use Rattle.wb_host.specs.Desks.{ReadsOn}
 use Rattle.wb_feed.specs.declared.batch.Batch.{Batch}
 use Rattle.wb_feed.specs.Accepts.{Keeps as DeskKeeps}
 use Rattle.wb_feed.specs.Batches.{counts_in, IsInOrder, Takes}

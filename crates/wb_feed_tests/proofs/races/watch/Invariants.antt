@@ -1,4 +1,4 @@
-use Rattle.wb_history.specs.Passes.{IsSamePass}
+use Rattle.wb_host.specs.Desks.{IsSamePass}
 use Rattle.wb_feed_tests.proofs.races.watch.Given as goal
 
 abbrev pub invariant-loop-turn : goal.invariant-loop-turn

@@ -1,4 +1,4 @@
-use Rattle.wb_history.specs.Passes.{IsSamePass}
+use Rattle.wb_host.specs.Desks.{IsSamePass}
 use Rattle.wb_host_tests.proofs.threads.draws_all.Given as goal
 
 abbrev pub invariant-loop-drawop : goal.invariant-loop-drawop
