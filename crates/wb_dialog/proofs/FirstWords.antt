@@ -6,7 +6,7 @@ use Rattle.std.proofs.lemmas.Slice.Eq.{bytes_eq-Decides}
 use Rattle.wb_lines.specs.Words.{words, words_after}
 use Rattle.wb_words.specs.Words.{parted_after}
 use Rattle.wb_words.proofs.Parting.{chosen, some_is}
-use Rattle.wb_script.specs.declared.line.Line.{Line}
+use Rattle.wb_script.specs.declared.command.Command.{Command}
 use Rattle.wb_script.specs.declared.fault.LineFault.{LineFault}
 use Rattle.wb_script.specs.declared.fault.LineFault.TheVariants as faults
 use Rattle.wb_script.specs.Parsing.{line_of_words, line_of, command, page_line}
@@ -49,12 +49,12 @@ unknown = record {
 }
 
 -- a line that a script takes has no such word in front
-pub begins_other : (opener word : List ℕ) (arguments : List (List ℕ)) (l : Line) → IsUnknown opener → line_of_words (word ∷ arguments) ≡ Ok l → bytes_eq word opener ≡ false
+pub begins_other : (opener word : List ℕ) (arguments : List (List ℕ)) (l : Command) → IsUnknown opener → line_of_words (word ∷ arguments) ≡ Ok l → bytes_eq word opener ≡ false
 begins_other opener word arguments l none e = at (bytes_eq word opener) refl where
   at : (t : Bool) → bytes_eq word opener ≡ t → bytes_eq word opener ≡ false
   at true same =
       let is : word ≡ opener = (bytes_eq-Decides word opener).0 same in
-      let bad : ◌≡◌ {A = Result Line LineFault} (Err faults.Unknown) (Ok l) = sym (none arguments) ∙ sym (ap (λ (w : List ℕ). line_of_words (w ∷ arguments)) is) ∙ e in
+      let bad : ◌≡◌ {A = Result Command LineFault} (Err faults.Unknown) (Ok l) = sym (none arguments) ∙ sym (ap (λ (w : List ℕ). line_of_words (w ∷ arguments)) is) ∙ e in
       absurd cc
   at false other = other
 
@@ -84,12 +84,12 @@ words_none begun (b ∷ bytes) e = by (words_none (begun ++ b ∷ []) bytes) (na
   by later false h = rw h (later ((chosen (nat_eq b 32) _ _ _ e).second h) ∙ ap (λ (w : List ℕ). first_and w []) (append_assoc begun (b ∷ []) bytes))
 
 -- Where a script takes a line, none of those words stands before its first space.
-pub opens_other : (opener line word : List ℕ) (more : List (List ℕ)) (l : Line) → IsUnknown opener → nat_eq (length opener) 0 ≡ false → words line ≡ first_and word more → line_of line ≡ Ok l → bytes_eq word opener ≡ false
+pub opens_other : (opener line word : List ℕ) (more : List (List ℕ)) (l : Command) → IsUnknown opener → nat_eq (length opener) 0 ≡ false → words line ≡ first_and word more → line_of line ≡ Ok l → bytes_eq word opener ≡ false
 opens_other opener line word more l none some first e = at (bytes_eq word opener) refl where
   at : (t : Bool) → bytes_eq word opener ≡ t → bytes_eq word opener ≡ false
   at true same =
       let is : word ≡ opener = (bytes_eq-Decides word opener).0 same in
       let begins : words line ≡ opener ∷ more = first ∙ ap (λ (w : List ℕ). first_and w more) is ∙ ap (λ (t : Bool). if t then more else opener ∷ more) some in
-      let bad : ◌≡◌ {A = Result Line LineFault} (Err faults.Unknown) (Ok l) = sym (none more) ∙ sym (ap line_of_words begins) ∙ e in
+      let bad : ◌≡◌ {A = Result Command LineFault} (Err faults.Unknown) (Ok l) = sym (none more) ∙ sym (ap line_of_words begins) ∙ e in
       absurd cc
   at false other = other

@@ -11,8 +11,8 @@ use Rattle.wb_lines.specs.Taking.{met, is_short, is_taken}
 use Rattle.wb_script.specs.declared.fault.LineFault.{LineFault}
 use Rattle.wb_script.specs.declared.fault.RunFault.{RunFault}
 use Rattle.wb_script.specs.declared.fault.RunFault.TheVariants as run_faults
-use Rattle.wb_script.specs.declared.line.Line.{Line}
-use Rattle.wb_script.specs.declared.line.Line.TheVariants as lines
+use Rattle.wb_script.specs.declared.command.Command.{Command}
+use Rattle.wb_script.specs.declared.command.Command.TheVariants as lines
 use Rattle.wb_script.specs.declared.summary.Summary.{Summary}
 use Rattle.wb_script.specs.Answers.{batch_line}
 use Rattle.wb_script.specs.Driving.{acceptance_of, counts_with}
@@ -62,7 +62,7 @@ acts_as k s (does next printed) host = (printed, refl, append-nil (closing s ++ 
 acts_as k s (fails e) host = append-nil (closing s)
 
 -- by the host, and the arrivals that wait
-line_as : (k : Option ℕ) (host : Option Opened) (waiting : List DrawopValue) (line : Line) → ((d : DrawopValue) → part_of (Ok line) ≡ Arrival d → waiting ≡ []) → DoesAs (board k host waiting) (answer_to script_constants (host_of (board k host waiting)) (Script line)) (said_step (board k host waiting) waiting (Ok line))
+line_as : (k : Option ℕ) (host : Option Opened) (waiting : List DrawopValue) (line : Command) → ((d : DrawopValue) → part_of (Ok line) ≡ Arrival d → waiting ≡ []) → DoesAs (board k host waiting) (answer_to script_constants (host_of (board k host waiting)) (Script line)) (said_step (board k host waiting) waiting (Ok line))
 line_as k None waiting lines.Skip none = ([], refl, refl)
 line_as k None waiting (lines.Board member cells workers seed) none = ([], refl, refl)
 line_as k None waiting (lines.Arrive d) none = refl
@@ -90,7 +90,7 @@ line_as k (Some host) waiting (lines.Report page) none = let next = host_after h
 line_as k (Some host) waiting lines.Pages none = let next = host_after host waiting waiting in acts_as k (board k (Some host) waiting) (act lines.Pages next) next
 
 -- what a host answers to a line that is not too long, and that a script takes
-answer_is : (s : State) (line : InputLine) (said : Line) → is_short line ≡ true → script_line_of (content line) ≡ Ok said → answer_of s (met line) ≡ answer_to s.tuning s.host (Script said)
+answer_is : (s : State) (line : InputLine) (said : Command) → is_short line ≡ true → script_line_of (content line) ≡ Ok said → answer_of s (met line) ≡ answer_to s.tuning s.host (Script said)
 answer_is s line said short is =
     ap (λ (t : Bool). answer_of s (if t then whole line else too_long)) short
     ∙ ap (answer s.tuning s.host) (script_lines_are_read (content line) said is)
@@ -169,7 +169,7 @@ neither false complete is off = absurd cc
 
 module _ (cut : Bool) (n : ℕ) (s : Board) (line : InputLine) (lines : List InputLine) (batches : Batches) (some : HasOne batches) (rest : Board → Outcome)
     (on : (t : Board) → Fits (length t.waiting) batches → Agrees cut (n + 1) t lines (rest t)) where
-  takes : (said : Result Line LineFault) → script_line_of (content line) ≡ said → is_short line ≡ true → is_taken cut line ≡ true → Fits (length s.waiting) (batches_with (Some (part_of said)) (content line) batches)
+  takes : (said : Result Command LineFault) → script_line_of (content line) ≡ said → is_short line ≡ true → is_taken cut line ≡ true → Fits (length s.waiting) (batches_with (Some (part_of said)) (content line) batches)
       → Agrees cut n s (line ∷ lines) (proceed (n + 1) (said_step s s.waiting said) rest)
   takes (Err e) is short taken fit = refused_here cut n s (after_batch s s.waiting) (line ∷ lines) (closing s) e (closing_again s)
   takes (Ok said) is short taken fit =

@@ -8,7 +8,7 @@ use Rattle.wb_words.specs.Words.{parted, words as parts_of}
 use Rattle.wb_words.specs.Reading.{reading, wrong, datagram_at}
 use Rattle.wb_words.proofs.Parting.{words_parted, words_whole}
 use Rattle.wb_words.proofs.SpellingLaws.{first_read}
-use Rattle.wb_script.specs.declared.line.Line.{Line}
+use Rattle.wb_script.specs.declared.command.Command.{Command}
 use Rattle.wb_script.specs.Parsing.{line_of as script_line_of, line_of_words as script_line_of_words}
 use Rattle.wb_dialog.specs.declared.line.DriverLine.TheVariants.{Script}
 use Rattle.wb_dialog.specs.Lines.{by_words, said_part, command, line_of_words, came_in, line_behind}
@@ -16,7 +16,7 @@ use Rattle.wb_dialog.specs.RunLaws.{ScriptLinesAreRead}
 use Rattle.wb_dialog.proofs.FirstWords.{IsUnknown, unknown, begins_other, first_and, words_split, words_none, opens_other}
 
 -- a line that is no driver's own
-as_script : (line word : List ℕ) (arguments : List (List ℕ)) (l : Line) → script_line_of line ≡ Ok l → script_line_of_words (word ∷ arguments) ≡ Ok l → command line word arguments ≡ Ok (Script l)
+as_script : (line word : List ℕ) (arguments : List (List ℕ)) (l : Command) → script_line_of line ≡ Ok l → script_line_of_words (word ∷ arguments) ≡ Ok l → command line word arguments ≡ Ok (Script l)
 unfolding command
 as_script line word arguments l e is =
     let other : (opener : List ℕ) → IsUnknown opener → bytes_eq word opener ≡ false = λ opener none. begins_other opener word arguments l none is in
@@ -30,14 +30,14 @@ as_script line word arguments l e is =
       other (codes "stop") unknown.stop,
     ) (ap (by_words Script) e)
 
-by_its_words : (line : List ℕ) (l : Line) → script_line_of line ≡ Ok l → line_of_words line (words line) ≡ Ok (Script l)
+by_its_words : (line : List ℕ) (l : Command) → script_line_of line ≡ Ok l → line_of_words line (words line) ≡ Ok (Script l)
 by_its_words line l e = at (words line) refl where
   at : (ws : List (List ℕ)) → words line ≡ ws → line_of_words line ws ≡ Ok (Script l)
   at [] is = ap (by_words Script) e
   at (word ∷ arguments) is = as_script line word arguments l e (ap script_line_of_words (sym is) ∙ e)
 
 -- what stands before the first space opens no datagram
-no_datagram : (line word : List ℕ) (more others : List (List ℕ)) (l : Line) → script_line_of line ≡ Ok l → words line ≡ first_and word more → datagram_at word others ≡ wrong 1 word_faults.Unknown
+no_datagram : (line word : List ℕ) (more others : List (List ℕ)) (l : Command) → script_line_of line ≡ Ok l → words line ≡ first_and word more → datagram_at word others ≡ wrong 1 word_faults.Unknown
 unfolding datagram_at
 no_datagram line word more others l e first =
     let other : (opener : List ℕ) → IsUnknown opener → nat_eq (length opener) 0 ≡ false → bytes_eq word opener ≡ false = λ opener none some. opens_other opener line word more l none some first e in
@@ -50,7 +50,7 @@ no_datagram line word more others l e first =
     ) refl
 
 -- It is no datagram in words, and so it is a script's.
-in_words : (line word : List ℕ) (more others : List (List ℕ)) (l : Line) → script_line_of line ≡ Ok l → words line ≡ first_and word more → parts_of line ≡ word ∷ others → came_in line (reading line) ≡ Ok (Script l)
+in_words : (line word : List ℕ) (more others : List (List ℕ)) (l : Command) → script_line_of line ≡ Ok l → words line ≡ first_and word more → parts_of line ≡ word ∷ others → came_in line (reading line) ≡ Ok (Script l)
 in_words line word more others l e first parts = ap (came_in line) (first_read line word others parts ∙ no_datagram line word more others l e first) ∙ by_its_words line l e
 
 pub script_lines_are_read : ScriptLinesAreRead

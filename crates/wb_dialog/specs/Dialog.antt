@@ -13,8 +13,8 @@ use Rattle.std.specs.declared.convert.Infallible.{Infallible}
 use Rattle.wb_lines.specs.Input.{InputLine, input_lines, content}
 use Rattle.wb_lines.specs.Handling.{Met, whole, too_long, Step, goes}
 use Rattle.wb_lines.specs.Taking.{met, is_taken}
-use Rattle.wb_script.specs.declared.line.Line.{Line}
-use Rattle.wb_script.specs.declared.line.Line.TheVariants as lines
+use Rattle.wb_script.specs.declared.command.Command.{Command}
+use Rattle.wb_script.specs.declared.command.Command.TheVariants as lines
 use Rattle.wb_script.specs.declared.fault.LineFault.{LineFault}
 use Rattle.wb_script.specs.declared.fault.LineFault.TheVariants as faults
 use Rattle.wb_script.specs.declared.acceptance.Acceptance.{Acceptance}
@@ -79,7 +79,7 @@ says v host = if nat_eq (speaker v) host.me then goes_out v host else refuses re
 -- ---- what a driver asks of a host
 
 -- what a line of a script does at an open host
-abbrev pub script_answer : Line → Opened → Answer
+abbrev pub script_answer : Command → Opened → Answer
 script_answer (lines.Arrive d) host = arrives d host
 script_answer (lines.Board member cells workers seed) host = refuses (refusals.Line faults.SecondBoard)
 script_answer line host = answered (act line host)
@@ -123,7 +123,7 @@ answer_at (Ask name) host = gives (Some (with_asked name host)) (ask_line (may_a
 answer_at (Stop name) host = gives (Some (with_stopped name host)) (stop_line (asks_for name host))
 
 -- What a line does before a board is open: one is opened, or the line is skipped.
-abbrev pub opening : Tuning → Line → Answer
+abbrev pub opening : Tuning → Command → Answer
 opening tuning (lines.Board member cells workers seed) = gives (Some (opened_with tuning member cells seed)) []
 opening tuning lines.Skip = gives None []
 opening tuning line = refuses (refusals.Line faults.NoBoard)

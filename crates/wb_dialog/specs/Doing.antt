@@ -6,17 +6,17 @@ use Rattle.wb_lines.specs.Input.{BeginsWith}
 use Rattle.wb_lines.specs.declared.fault.DriveFault.{DriveFault}
 use Rattle.wb_lines.specs.declared.fault.DriveFault.TheVariants as drive_faults
 use Rattle.wb_script.specs.Hosts.{Opened}
-use Rattle.wb_script.specs.Stations.{StationValue, IsOpenAt, MayBeOpenAt}
+use Rattle.wb_script.specs.Members.{MemberValue, IsOpenAt, MayBeOpenAt}
 use Rattle.wb_dialog.specs.declared.fault.Unanswered.{Unanswered}
 use Rattle.wb_dialog.specs.declared.fault.Unanswered.TheVariants as unanswered
 use Rattle.wb_dialog.specs.declared.fault.HostFault.{HostFault}
 use Rattle.wb_dialog.specs.declared.fault.HostFault.TheVariants as host_faults
 use Rattle.wb_dialog.specs.Dialog.{Answer, gives, refuses, block, State}
 
--- The constants of the timers, and the station, once it is open.
+-- The constants of the timers, and the member, once it is open.
 pub record DialogValue : Type 0 where
   pub tuning : Tuning
-  pub station : Option StationValue
+  pub member : Option MemberValue
 
 -- a text is printed, and then nothing is left to print of what an answer prints before its block is closed
 abbrev pub text_of : Answer → List ℕ
@@ -25,15 +25,15 @@ text_of (refuses e) = []
 
 -- From a host on, it does what a line is to do and prints its text; it refuses the line, and stays; or memory ran out
 -- within the text.
-abbrev pub DoesAnswer : {U : Type 0} → Option Opened → Option StationValue → List ℕ → Result U Unanswered → Answer → Type 0
+abbrev pub DoesAnswer : {U : Type 0} → Option Opened → Option MemberValue → List ℕ → Result U Unanswered → Answer → Type 0
 DoesAnswer s new written (Ok u) (gives t text) = MayBeOpenAt new t × (written ≡ text)
 DoesAnswer s new written (Ok u) (refuses e) = ⊥
 DoesAnswer s new written (Err (unanswered.Refused f)) (gives t text) = ⊥
 DoesAnswer s new written (Err (unanswered.Refused f)) (refuses e) = (f ≡ e) × MayBeOpenAt new s × (written ≡ [])
 DoesAnswer s new written (Err unanswered.Memory) a = BeginsWith (text_of a) written
 
--- The same at each host at which an open station was.
-abbrev pub DoesAt : {U : Type 0} → StationValue → StationValue → List ℕ → Result U Unanswered → (Opened → Answer) → Type 0
+-- The same at each host at which an open member was.
+abbrev pub DoesAt : {U : Type 0} → MemberValue → MemberValue → List ℕ → Result U Unanswered → (Opened → Answer) → Type 0
 DoesAt old new written result answer = (host : Opened) → IsOpenAt old host → DoesAnswer (Some host) (Some new) written result (answer host)
 
 -- It printed a text; or memory ran out, and it printed a front of it.
@@ -42,14 +42,14 @@ Prints written (Ok u) text = written ≡ text
 Prints written (Err e) text = BeginsWith text written
 
 -- It wrote a block, or memory ran out within it.
-abbrev pub Blocks : {U E : Type 0} → Option StationValue → List ℕ → Result U E → Option Opened → Answer → Type 0
+abbrev pub Blocks : {U E : Type 0} → Option MemberValue → List ℕ → Result U E → Option Opened → Answer → Type 0
 Blocks new written (Ok u) next a = MayBeOpenAt new next × (written ≡ block a)
 Blocks new written (Err e) next a = BeginsWith (block a) written
 
 -- A dialog has the constants of a state, and its host is at that of the state.
 pub record IsAt (d : DialogValue) (s : State) : Type 0 where
   pub tuning : s.tuning ≡ d.tuning
-  pub station : MayBeOpenAt d.station s.host
+  pub member : MayBeOpenAt d.member s.host
 
 -- why a host stopped, by why the driver of its lines did: no line stops one
 abbrev pub fault_of : DriveFault Infallible → HostFault

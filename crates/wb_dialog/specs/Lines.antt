@@ -8,8 +8,8 @@ use Rattle.wb_words.specs.Words.{parted}
 use Rattle.wb_words.specs.Reading.{reading as reading_words}
 use Rattle.wb_lines.specs.Words.{words}
 use Rattle.wb_codec.specs.declared.datagram.Datagram.TheVariants as datagrams
-use Rattle.wb_script.specs.declared.line.Line.{Line}
-use Rattle.wb_script.specs.declared.line.Line.TheVariants as lines
+use Rattle.wb_script.specs.declared.command.Command.{Command}
+use Rattle.wb_script.specs.declared.command.Command.TheVariants as lines
 use Rattle.wb_script.specs.declared.fault.LineFault.{LineFault}
 use Rattle.wb_script.specs.declared.fault.LineFault.TheVariants as faults
 use Rattle.wb_script.specs.declared.fault.ParseFault.{ParseFault}

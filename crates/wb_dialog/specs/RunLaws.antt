@@ -4,7 +4,7 @@ use Rattle.wb_lines.specs.Input.{InputLine, input_lines, content}
 use Rattle.wb_script.specs.declared.fault.LineFault.{LineFault}
 use Rattle.wb_script.specs.declared.fault.RunFault.{RunFault}
 use Rattle.wb_script.specs.declared.fault.RunFault.TheVariants as run_faults
-use Rattle.wb_script.specs.declared.line.Line.{Line}
+use Rattle.wb_script.specs.declared.command.Command.{Command}
 use Rattle.wb_script.specs.declared.summary.Summary.{Summary}
 use Rattle.wb_script.specs.Hosts.{script_constants}
 use Rattle.wb_script.specs.Parsing.{line_of as script_line_of}
@@ -16,7 +16,7 @@ use Rattle.wb_dialog.specs.Dialog.{blocks_from, unopened, answered_lines, ok_lin
 
 -- A line that a script takes is read the same by a host.
 abbrev pub ScriptLinesAreRead : Type 0
-ScriptLinesAreRead = (line : List ℕ) (read : Line) → script_line_of line ≡ Ok read → line_of line ≡ Ok (Script read)
+ScriptLinesAreRead = (line : List ℕ) (read : Command) → script_line_of line ≡ Ok read → line_of line ≡ Ok (Script read)
 
 -- Each arrival of an input is a batch of its own: between any two stands a line that ends a batch.
 abbrev pub ArriveAlone : Bool → List ℕ → Type 0

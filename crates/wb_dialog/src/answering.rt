@@ -1,8 +1,8 @@
-//! What the lines of a driver do at an open station.
+//! What the lines of a driver do at an open member.
 ghost use Rattle.std.specs.Prelude.{◌≡◌, ◌++◌, List, ℕ, OnOk, OnErr};
 ghost use Rattle.wb_script.specs.Driving.{next_number};
 ghost use Rattle.wb_script.specs.Hosts.{Opened, act};
-ghost use Rattle.wb_script.specs.Stations.{IsOpenAt};
+ghost use Rattle.wb_script.specs.Members.{IsOpenAt};
 ghost use Rattle.wb_script.specs.Parsing.{IsWithin as IsScriptWithin};
 ghost use Rattle.wb_dialog.specs.Lines.{IsWithin};
 ghost use Rattle.wb_script.specs.SentLines.{send_line};
@@ -16,19 +16,19 @@ use std::alloc::{AllocError, Global};
 use wb_codec::Datagram;
 use wb_lines::Output;
 use wb_names::{Drawop, Name, PageId};
-use wb_script::{Acceptance, Line, LineFault, RunFault, Station, batch_line, send_line};
+use wb_script::{Acceptance, Command, LineFault, Member, RunFault, batch_line, send_line};
 
 /// What a line of a script does here, but for arrivals and boards.
 fn act(
     alloc: Global,
-    station: &mut Station,
-    line: &Line,
+    member: &mut Member,
+    command: &Command,
     output: &mut Output,
 ) -> Result<(), Unanswered>
-    requires { IsScriptWithin line.now }
-    ensures text { (written : List ℕ) × (output.new ≡ output.old ++ written) × DoesAt station.old station.new written result (λ host. answered (act line.now host)) }
+    requires { IsScriptWithin command.now }
+    ensures text { (written : List ℕ) × (output.new ≡ output.old ++ written) × DoesAt member.old member.new written result (λ host. answered (act command.now host)) }
 {
-    match station.act(alloc, 0, line, output) {
+    match member.act(alloc, 0, command, output) {
         Ok(()) => Ok(()),
         Err(RunFault::Line(_, fault)) => Err(Unanswered::Refused(Refusal::Line(fault))),
         Err(_) => Err(Unanswered::Memory),
@@ -38,13 +38,13 @@ fn act(
 /// A drawop comes in.
 fn arrive(
     alloc: Global,
-    station: &mut Station,
+    member: &mut Member,
     drawop: &Drawop,
     output: &mut Output,
 ) -> Result<(), Unanswered>
-    ensures text { (written : List ℕ) × (output.new ≡ output.old ++ written) × DoesAt station.old station.new written result (λ host. arrives drawop.now host) }
+    ensures text { (written : List ℕ) × (output.new ≡ output.old ++ written) × DoesAt member.old member.new written result (λ host. arrives drawop.now host) }
 {
-    let became = station.accept(drawop)?;
+    let became = member.accept(drawop)?;
     count(alloc, became, output)?;
     Ok(())
 }
@@ -52,17 +52,17 @@ fn arrive(
 /// What a line of a script does here.
 fn script(
     alloc: Global,
-    station: &mut Station,
-    line: &Line,
+    member: &mut Member,
+    command: &Command,
     output: &mut Output,
 ) -> Result<(), Unanswered>
-    requires { IsScriptWithin line.now }
-    ensures text { (written : List ℕ) × (output.new ≡ output.old ++ written) × DoesAt station.old station.new written result (λ host. script_answer line.now host) }
+    requires { IsScriptWithin command.now }
+    ensures text { (written : List ℕ) × (output.new ≡ output.old ++ written) × DoesAt member.old member.new written result (λ host. script_answer command.now host) }
 {
-    match line {
-        Line::Arrive(drawop) => arrive(alloc, station, drawop, output),
-        Line::Board { .. } => Err(Unanswered::Refused(Refusal::Line(LineFault::SecondBoard))),
-        _ => act(alloc, station, line, output),
+    match command {
+        Command::Arrive(drawop) => arrive(alloc, member, drawop, output),
+        Command::Board { .. } => Err(Unanswered::Refused(Refusal::Line(LineFault::SecondBoard))),
+        _ => act(alloc, member, command, output),
     }
 }
 
@@ -100,13 +100,13 @@ fn count(alloc: Global, became: Acceptance, output: &mut Output) -> Result<(), A
 /// A drawop of ours is accepted, and goes out where it is new or was held already.
 fn publish(
     alloc: Global,
-    station: &mut Station,
+    member: &mut Member,
     drawop: &Drawop,
     output: &mut Output,
 ) -> Result<(), Unanswered>
-    ensures text { (written : List ℕ) × (output.new ≡ output.old ++ written) × DoesAt station.old station.new written result (λ host. goes_out (Datagram.Draw drawop.now) host) }
+    ensures text { (written : List ℕ) × (output.new ≡ output.old ++ written) × DoesAt member.old member.new written result (λ host. goes_out (Datagram.Draw drawop.now) host) }
 {
-    let became = station.accept(drawop)?;
+    let became = member.accept(drawop)?;
     match became {
         Acceptance::New => send(alloc, &Datagram::Draw(*drawop), output)?,
         Acceptance::Again => send(alloc, &Datagram::Draw(*drawop), output)?,
@@ -119,14 +119,14 @@ fn publish(
 /// A datagram of ours goes out. A drawop is accepted first.
 fn go_out(
     alloc: Global,
-    station: &mut Station,
+    member: &mut Member,
     datagram: &Datagram,
     output: &mut Output,
 ) -> Result<(), Unanswered>
-    ensures text { (written : List ℕ) × (output.new ≡ output.old ++ written) × DoesAt station.old station.new written result (λ host. goes_out datagram.now host) }
+    ensures text { (written : List ℕ) × (output.new ≡ output.old ++ written) × DoesAt member.old member.new written result (λ host. goes_out datagram.now host) }
 {
     if let Datagram::Draw(drawop) = datagram {
-        return publish(alloc, station, drawop, output);
+        return publish(alloc, member, drawop, output);
     }
     send(alloc, datagram, output)?;
     Ok(())
@@ -135,28 +135,23 @@ fn go_out(
 /// A datagram is to be said.
 fn say(
     alloc: Global,
-    station: &mut Station,
+    member: &mut Member,
     datagram: &Datagram,
     output: &mut Output,
 ) -> Result<(), Unanswered>
-    ensures text { (written : List ℕ) × (output.new ≡ output.old ++ written) × DoesAt station.old station.new written result (λ host. says datagram.now host) }
+    ensures text { (written : List ℕ) × (output.new ≡ output.old ++ written) × DoesAt member.old member.new written result (λ host. says datagram.now host) }
 {
-    if speaker(datagram) != station.me() {
+    if speaker(datagram) != member.me() {
         return Err(Unanswered::Refused(Refusal::Member));
     }
-    go_out(alloc, station, datagram, output)
+    go_out(alloc, member, datagram, output)
 }
 
 /// The number of our next drawop on a page is asked for.
-fn next(
-    alloc: Global,
-    station: &Station,
-    page: PageId,
-    output: &mut Output,
-) -> Result<(), Unanswered>
-    ensures text { (written : List ℕ) × (output.new ≡ output.old ++ written) × DoesAt station.now station.now written result (λ host. numbered host (next_number page host)) }
+fn next(alloc: Global, member: &Member, page: PageId, output: &mut Output) -> Result<(), Unanswered>
+    ensures text { (written : List ℕ) × (output.new ≡ output.old ++ written) × DoesAt member.now member.now written result (λ host. numbered host (next_number page host)) }
 {
-    let Some(number) = station.next_number(page) else {
+    let Some(number) = member.next_number(page) else {
         return Err(Unanswered::Refused(Refusal::Line(LineFault::TooMany)));
     };
     output.add(next_line(alloc, number)?.as_bytes())?;
@@ -166,22 +161,22 @@ fn next(
 /// The drawops that a page shows are asked for.
 fn view(
     alloc: Global,
-    station: &mut Station,
+    member: &mut Member,
     page: PageId,
     output: &mut Output,
 ) -> Result<(), Unanswered>
-    ensures text { (written : List ℕ) × (output.new ≡ output.old ++ written) × DoesAt station.old station.new written result (λ host. answer_at (DriverLine.View page) host) }
+    ensures text { (written : List ℕ) × (output.new ≡ output.old ++ written) × DoesAt member.old member.new written result (λ host. answer_at (DriverLine.View page) host) }
 {
-    let drawops = station.view(alloc, page)?;
+    let drawops = member.view(alloc, page)?;
     output.add(view_text(alloc, &drawops)?.as_slice())?;
     Ok(())
 }
 
 /// The pages that are known are asked for.
-fn known(alloc: Global, station: &mut Station, output: &mut Output) -> Result<(), Unanswered>
-    ensures text { (written : List ℕ) × (output.new ≡ output.old ++ written) × DoesAt station.old station.new written result (λ host. answer_at DriverLine.Known host) }
+fn known(alloc: Global, member: &mut Member, output: &mut Output) -> Result<(), Unanswered>
+    ensures text { (written : List ℕ) × (output.new ≡ output.old ++ written) × DoesAt member.old member.new written result (λ host. answer_at DriverLine.Known host) }
 {
-    let pages = station.known(alloc)?;
+    let pages = member.known(alloc)?;
     output.add(known_text(alloc, &pages)?.as_bytes())?;
     Ok(())
 }
@@ -189,43 +184,43 @@ fn known(alloc: Global, station: &mut Station, output: &mut Output) -> Result<()
 /// It begins to ask for a name.
 fn ask(
     alloc: Global,
-    station: &mut Station,
+    member: &mut Member,
     name: &Name,
     output: &mut Output,
 ) -> Result<(), Unanswered>
-    ensures text { (written : List ℕ) × (output.new ≡ output.old ++ written) × DoesAt station.old station.new written result (λ host. answer_at (DriverLine.Ask name.now) host) }
+    ensures text { (written : List ℕ) × (output.new ≡ output.old ++ written) × DoesAt member.old member.new written result (λ host. answer_at (DriverLine.Ask name.now) host) }
 {
-    let begun = station.ask(alloc, name)?;
+    let begun = member.ask(alloc, name)?;
     output.add(ask_line(begun))?;
     Ok(())
 }
 
 /// It gives up asking for a name.
-fn stop(station: &mut Station, name: &Name, output: &mut Output) -> Result<(), Unanswered>
-    ensures text { (written : List ℕ) × (output.new ≡ output.old ++ written) × DoesAt station.old station.new written result (λ host. answer_at (DriverLine.Stop name.now) host) }
+fn stop(member: &mut Member, name: &Name, output: &mut Output) -> Result<(), Unanswered>
+    ensures text { (written : List ℕ) × (output.new ≡ output.old ++ written) × DoesAt member.old member.new written result (λ host. answer_at (DriverLine.Stop name.now) host) }
 {
-    let asked = station.stop(name);
+    let asked = member.stop(name);
     output.add(stop_line(asked))?;
     Ok(())
 }
 
-/// What a line does at an open station: it prints, or it is refused, and then the station stays as it is.
+/// What a line does at an open member: it prints, or it is refused, and then the member stays as it is.
 pub(crate) fn answer(
     alloc: Global,
-    station: &mut Station,
+    member: &mut Member,
     line: &DriverLine,
     output: &mut Output,
 ) -> Result<(), Unanswered>
     requires { IsWithin line.now }
-    ensures text { (written : List ℕ) × (output.new ≡ output.old ++ written) × DoesAt station.old station.new written result (λ host. answer_at line.now host) }
+    ensures text { (written : List ℕ) × (output.new ≡ output.old ++ written) × DoesAt member.old member.new written result (λ host. answer_at line.now host) }
 {
     match line {
-        DriverLine::Script(line) => script(alloc, station, line, output),
-        DriverLine::Say(datagram) => say(alloc, station, datagram, output),
-        DriverLine::Next(page) => next(alloc, station, *page, output),
-        DriverLine::View(page) => view(alloc, station, *page, output),
-        DriverLine::Known => known(alloc, station, output),
-        DriverLine::Ask(name) => ask(alloc, station, name, output),
-        DriverLine::Stop(name) => stop(station, name, output),
+        DriverLine::Script(line) => script(alloc, member, line, output),
+        DriverLine::Say(datagram) => say(alloc, member, datagram, output),
+        DriverLine::Next(page) => next(alloc, member, *page, output),
+        DriverLine::View(page) => view(alloc, member, *page, output),
+        DriverLine::Known => known(alloc, member, output),
+        DriverLine::Ask(name) => ask(alloc, member, name, output),
+        DriverLine::Stop(name) => stop(member, name, output),
     }
 }

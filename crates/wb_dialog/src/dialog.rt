@@ -2,7 +2,7 @@
 ghost use Rattle.std.specs.Prelude.{◌≡◌, ◌++◌, List, [], ℕ, None, Option, Err, true};
 ghost use Rattle.wb_recovery.specs.Timing.{are_constants};
 ghost use Rattle.wb_script.specs.Hosts.{Opened};
-ghost use Rattle.wb_script.specs.Stations.{MayBeOpenAt};
+ghost use Rattle.wb_script.specs.Members.{MayBeOpenAt};
 ghost use Rattle.wb_dialog.specs.Lines.{IsWithin, line_of};
 ghost use Rattle.wb_dialog.specs.Dialog.{answer_first, answer_to, answer, after, due, ok_line};
 ghost use Rattle.wb_dialog.specs.Doing.{DoesAnswer, Prints, Blocks};
@@ -17,14 +17,14 @@ use std::convert::Infallible;
 use std::marker::Model;
 use wb_lines::{Handler, Output, Stop, without_end};
 use wb_recovery::Tuning;
-use wb_script::{Line, LineFault, Station};
+use wb_script::{Command, LineFault, Member};
 
 /// A host that answers the lines of a driver, one at a time. What its keeper holds stands for the calls that it
 /// accepted, so the contracts speak of each host at which it may be.
 #[derive(Drop)]
 pub struct Dialog {
     tuning: Tuning,
-    station: Option<Station>,
+    member: Option<Member>,
 }
 
 impl Model for Dialog {
@@ -34,7 +34,7 @@ impl Model for Dialog {
 
     ghost Value = { DialogValue };
 
-    ghost view = { λ d. record { tuning = d.tuning; station = d.station } };
+    ghost view = { λ d. record { tuning = d.tuning; member = d.member } };
 
     ghost invariant = { λ d. are_constants d.tuning ≡ true };
 }
@@ -43,20 +43,20 @@ impl Dialog {
     /// No board is open. The timers of the one that will be have these constants, each from 1 to 16.
     pub fn new(tuning: Tuning) -> Self
         requires { are_constants tuning ≡ true }
-        ensures { result ≡ record { tuning = tuning; station = None } }
+        ensures { result ≡ record { tuning = tuning; member = None } }
     {
         Dialog {
             tuning,
-            station: None,
+            member: None,
         }
     }
 
     /// The next moment at which a timer is due, in microseconds. None where no timer stands.
     fn next_due(&self) -> Option<u64>
-        ensures { (s : Option Opened) → MayBeOpenAt self.now.station s → result ≡ due s }
+        ensures { (s : Option Opened) → MayBeOpenAt self.now.member s → result ≡ due s }
     {
-        match &self.station {
-            Some(station) => station.next_due(),
+        match &self.member {
+            Some(member) => member.next_due(),
             None => None,
         }
     }
@@ -64,21 +64,21 @@ impl Dialog {
     /// What a line does before a board is open.
     fn begin(&mut self, alloc: Global, line: &DriverLine) -> Result<(), Unanswered>
         requires line { IsWithin line.now }
-        requires closed { self.old.station ≡ None }
-        ensures does { DoesAnswer None self.new.station [] result (answer_first self.old.tuning line.now) }
+        requires closed { self.old.member ≡ None }
+        ensures does { DoesAnswer None self.new.member [] result (answer_first self.old.tuning line.now) }
         ensures tuning { self.new.tuning ≡ self.old.tuning }
     {
         match line {
-            DriverLine::Script(Line::Skip) => Ok(()),
+            DriverLine::Script(Command::Skip) => Ok(()),
             DriverLine::Script(
-                Line::Board {
+                Command::Board {
                     member,
                     cells,
                     seed,
                     ..
                 },
             ) => {
-                self.station = Some(Station::open(alloc, *member, *cells, *seed, self.tuning)?);
+                self.member = Some(Member::open(alloc, *member, *cells, *seed, self.tuning)?);
                 Ok(())
             }
             _ => Err(Unanswered::Refused(Refusal::Line(LineFault::NoBoard))),
@@ -93,18 +93,18 @@ impl Dialog {
         output: &mut Output,
     ) -> Result<(), Unanswered>
         requires { IsWithin line.now }
-        ensures text { (written : List ℕ) × (output.new ≡ output.old ++ written) × ((s : Option Opened) → MayBeOpenAt self.old.station s → DoesAnswer s self.new.station written result (answer_to self.old.tuning s line.now)) }
+        ensures text { (written : List ℕ) × (output.new ≡ output.old ++ written) × ((s : Option Opened) → MayBeOpenAt self.old.member s → DoesAnswer s self.new.member written result (answer_to self.old.tuning s line.now)) }
         ensures tuning { self.new.tuning ≡ self.old.tuning }
     {
-        match &mut self.station {
-            Some(station) => answer(alloc, station, line, output),
+        match &mut self.member {
+            Some(member) => answer(alloc, member, line, output),
             None => self.begin(alloc, line),
         }
     }
 
     /// Reads a line, which stands without its end, and does what it says.
     fn take(&mut self, alloc: Global, content: &[u8], output: &mut Output) -> Result<(), Unanswered>
-        ensures text { (written : List ℕ) × (output.new ≡ output.old ++ written) × ((s : Option Opened) → MayBeOpenAt self.old.station s → DoesAnswer s self.new.station written result (answer self.old.tuning s (line_of content.now))) }
+        ensures text { (written : List ℕ) × (output.new ≡ output.old ++ written) × ((s : Option Opened) → MayBeOpenAt self.old.member s → DoesAnswer s self.new.member written result (answer self.old.tuning s (line_of content.now))) }
         ensures tuning { self.new.tuning ≡ self.old.tuning }
     {
         let line = read_line(alloc, content)?;
@@ -113,7 +113,7 @@ impl Dialog {
 
     /// Closes the block of a line that was taken.
     fn close(&self, alloc: Global, output: &mut Output) -> Result<(), AllocError>
-        ensures { (written : List ℕ) × (output.new ≡ output.old ++ written) × ((s : Option Opened) → MayBeOpenAt self.now.station s → Prints written result (ok_line (due s))) }
+        ensures { (written : List ℕ) × (output.new ≡ output.old ++ written) × ((s : Option Opened) → MayBeOpenAt self.now.member s → Prints written result (ok_line (due s))) }
     {
         let text = ok_line(alloc, self.next_due())?;
         output.add(text.as_bytes())
@@ -128,7 +128,7 @@ impl Dialog {
         content: &[u8],
         output: &mut Output,
     ) -> Result<(), AllocError>
-        ensures text { (written : List ℕ) × (output.new ≡ output.old ++ written) × ((s : Option Opened) → MayBeOpenAt self.old.station s → (let a = answer self.old.tuning s (line_of content.now) in Blocks self.new.station written result (after s a) a)) }
+        ensures text { (written : List ℕ) × (output.new ≡ output.old ++ written) × ((s : Option Opened) → MayBeOpenAt self.old.member s → (let a = answer self.old.tuning s (line_of content.now) in Blocks self.new.member written result (after s a) a)) }
         ensures tuning { self.new.tuning ≡ self.old.tuning }
     {
         match self.take(alloc, content, output) {
@@ -146,7 +146,7 @@ impl Dialog {
         output: &mut Output,
     ) -> Result<(), AllocError>
         ensures same { self.new ≡ self.old }
-        ensures text { (written : List ℕ) × (output.new ≡ output.old ++ written) × ((s : Option Opened) → MayBeOpenAt self.old.station s → (let a = answer self.old.tuning s (Err refusal) in Blocks self.new.station written result (after s a) a)) }
+        ensures text { (written : List ℕ) × (output.new ≡ output.old ++ written) × ((s : Option Opened) → MayBeOpenAt self.old.member s → (let a = answer self.old.tuning s (Err refusal) in Blocks self.new.member written result (after s a) a)) }
     {
         let text = refused_line(alloc, refusal)?;
         output.add(text.as_bytes())

@@ -1,13 +1,13 @@
 //! The lines of a driver.
 use wb_codec::Datagram;
 use wb_names::{Name, PageId};
-use wb_script::Line;
+use wb_script::Command;
 
 /// A line of a driver, with its words as fields.
 #[derive(Debug, Drop)]
 pub enum DriverLine {
     /// A line of a script, or one that hands in a datagram: `datagram HEX`, or a datagram in words.
-    Script(Line),
+    Script(Command),
     /// `say WORDS`: a datagram of ours is to go out.
     Say(Datagram),
     /// `next C N` asks for the number of our next drawop on a page.

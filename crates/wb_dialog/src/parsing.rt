@@ -14,7 +14,7 @@ use wb_codec::Datagram;
 use wb_lines::next_word;
 use wb_names::{Name, PageId};
 use wb_script::{
-    Line, LineFault, ParseFault, datagram, four_words, no_words, page, parse_line, u32_word,
+    Command, LineFault, ParseFault, datagram, four_words, no_words, page, parse_line, u32_word,
 };
 use wb_words::{WordsFault, parted, read_words};
 
@@ -67,8 +67,8 @@ fn handed_in(datagram: Datagram) -> DriverLine
     ensures within { IsWithin result }
 {
     match datagram {
-        Datagram::Draw(drawop) => DriverLine::Script(Line::Arrive(drawop)),
-        heard => DriverLine::Script(Line::Hear(heard)),
+        Datagram::Draw(drawop) => DriverLine::Script(Command::Arrive(drawop)),
+        heard => DriverLine::Script(Command::Hear(heard)),
     }
 }
 

@@ -70,41 +70,41 @@ alone n p q log gots (inr x) one = absurd (omega (arith, x.0, one))
 abbrev pub AllWorked : ℕ → PassValue → PassValue → ChannelView → ChannelView → Accepted → Type 0
 AllWorked n p q g h a = Worked (λ log gots. Work n p log gots q) n g h a
 
--- what the workers accepted, as drawops, and what is not marked are the drawops drawn
-pub record Whole (drawn : List DrawopValue) (ms : List Bool) (log : List Spot) (gots : List Message) : Type 0 where
-  pub moved : IsPermutation drawn (drawops (chosen is_taken (entries log)) ++ unmarked ms drawn)
+-- what the workers accepted, as drawops, and what is not marked are the drawops arrived
+pub record Whole (arrived : List DrawopValue) (ms : List Bool) (log : List Spot) (gots : List Message) : Type 0 where
+  pub moved : IsPermutation arrived (drawops (chosen is_taken (entries log)) ++ unmarked ms arrived)
   pub low : ℕ
-  pub most : low ≤ length drawn
+  pub most : low ≤ length arrived
   pub once : (p : ℕ) → spots p gots ≡ once_below p low
-  pub right : OffersRight drawn (offered log)
-  pub marks : Marks (accepted_at log) (length drawn) ms
+  pub right : OffersRight arrived (offered log)
+  pub marks : Marks (accepted_at log) (length arrived) ms
 
-pub whole_from : (n : ℕ) (p q : PassValue) (g h : ChannelView) (a : Accepted) (drawn : List DrawopValue) (ms : List Bool) (c : AllWorked n p q g h a) → g.got ≡ [] → IsComplete h → IsPrefix h.sent drawn
-    → Marks a.positions.items (length drawn) ms → Whole drawn ms c.log c.gots
-whole_from n p q g h a drawn ms c none all sent m =
+pub whole_from : (n : ℕ) (p q : PassValue) (g h : ChannelView) (a : Accepted) (arrived : List DrawopValue) (ms : List Bool) (c : AllWorked n p q g h a) → g.got ≡ [] → IsComplete h → IsPrefix h.sent arrived
+    → Marks a.positions.items (length arrived) ms → Whole arrived ms c.log c.gots
+whole_from n p q g h a arrived ms c none all sent m =
     let work = gained n p q c.log c.gots c.did in
     let got : h.got ≡ c.gots = c.got ∙ ap (λ l. l ++ c.gots) none in
     let right : AreRight h.sent c.gots = subst (λ l. AreRight h.sent l) got all.right in
-    let most : (i : ℕ) → times i a.positions.items ≤ once_below i (length drawn) =
-    λ i. omega (arith, ap (times i) c.tells.positions, work.once i, ap (λ l. spots i l) got, all.once i, once_rises i all.low (length drawn) (omega (arith, all.most, prefix_length h.sent drawn sent))) in
-    let e : map (λ i. get_or drawn i nothing) a.positions.items ≡ drawops (chosen is_taken (entries c.log)) =
-    ap (map (λ i. get_or drawn i nothing)) c.tells.positions ∙ sym (taken_at drawn c.log (work.offers h.sent drawn sent right)) in
+    let most : (i : ℕ) → times i a.positions.items ≤ once_below i (length arrived) =
+    λ i. omega (arith, ap (times i) c.tells.positions, work.once i, ap (λ l. spots i l) got, all.once i, once_rises i all.low (length arrived) (omega (arith, all.most, prefix_length h.sent arrived sent))) in
+    let e : map (λ i. get_or arrived i nothing) a.positions.items ≡ drawops (chosen is_taken (entries c.log)) =
+    ap (map (λ i. get_or arrived i nothing)) c.tells.positions ∙ sym (taken_at arrived c.log (work.offers h.sent arrived sent right)) in
     record {
-      moved = subst (λ l. IsPermutation drawn (l ++ unmarked ms drawn)) e (places_and_rest drawn a.positions.items ms m most);
+      moved = subst (λ l. IsPermutation arrived (l ++ unmarked ms arrived)) e (places_and_rest arrived a.positions.items ms m most);
       low = all.low;
-      most = omega (arith, all.most, prefix_length h.sent drawn sent);
+      most = omega (arith, all.most, prefix_length h.sent arrived sent);
       once = λ i. sym (ap (λ l. spots i l) got) ∙ all.once i;
-      right = work.offers h.sent drawn sent right;
-      marks = subst (λ l. Marks l (length drawn) ms) c.tells.positions m;
+      right = work.offers h.sent arrived sent right;
+      marks = subst (λ l. Marks l (length arrived) ms) c.tells.positions m;
     }
 
 -- how the workers shared them
-abbrev pub shares : (n : ℕ) (p q r : PassValue) (g h : ChannelView) (a : Accepted) (drawn : List DrawopValue) (ms : List Bool) (t : Batch) (c : AllWorked n p q g h a) → Whole drawn ms c.log c.gots → Retakes q (unmarked ms drawn) r t → IsShared n p drawn r
-shares n p q r g h a drawn ms t c whole m = record { log = c.log; gots = c.gots; joined = q; work = c.did; marks = ms; marked = whole.marks; left_over = m.log; rest = m.runs; all = m.all }
+abbrev pub shares : (n : ℕ) (p q r : PassValue) (g h : ChannelView) (a : Accepted) (arrived : List DrawopValue) (ms : List Bool) (t : Batch) (c : AllWorked n p q g h a) → Whole arrived ms c.log c.gots → Retakes q (unmarked ms arrived) r t → IsShared n p arrived r
+shares n p q r g h a arrived ms t c whole m = record { log = c.log; gots = c.gots; joined = q; work = c.did; marks = ms; marked = whole.marks; left_over = m.log; rest = m.runs; all = m.all }
 
-pub takes_all : (n : ℕ) (p q r : PassValue) (g h : ChannelView) (a : Accepted) (drawn : List DrawopValue) (ms : List Bool) (t b : Batch) (c : AllWorked n p q g h a) → Whole drawn ms c.log c.gots
-    → IsSound p → IsSound q → IsSound r → Retakes q (unmarked ms drawn) r t → IsTotal a t b → Takes p drawn n r b
-takes_all n p q r g h a drawn ms t b c whole sp sq sr m e =
+pub takes_all : (n : ℕ) (p q r : PassValue) (g h : ChannelView) (a : Accepted) (arrived : List DrawopValue) (ms : List Bool) (t b : Batch) (c : AllWorked n p q g h a) → Whole arrived ms c.log c.gots
+    → IsSound p → IsSound q → IsSound r → Retakes q (unmarked ms arrived) r t → IsTotal a t b → Takes p arrived n r b
+takes_all n p q r g h a arrived ms t b c whole sp sq sr m e =
     let work = gained n p q c.log c.gots c.did in
     let log = entries c.log in
     let more = m.log in
@@ -119,12 +119,12 @@ takes_all n p q r g h a drawn ms t b c whole sp sq sr m e =
     let left' : length lefts ≡ b.left = sym (left_many more) ∙ left in
     let taken = drawops (chosen is_taken log) in
     let retaken = drawops (chosen is_taken more) in
-    let rest : IsPermutation (unmarked ms drawn) (retaken ++ lefts) = subst (λ l. IsPermutation l (retaken ++ lefts)) m.all (taken_or_left more) in
-    let both : IsPermutation drawn ((taken ++ retaken) ++ lefts) = subst (λ l. IsPermutation drawn l) (sym (append_assoc taken retaken lefts))
-    (IsPermutation-trans drawn (taken ++ unmarked ms drawn) (taken ++ (retaken ++ lefts)) whole.moved (IsPermutation-append_right taken (unmarked ms drawn) (retaken ++ lefts) rest)) in
+    let rest : IsPermutation (unmarked ms arrived) (retaken ++ lefts) = subst (λ l. IsPermutation l (retaken ++ lefts)) m.all (taken_or_left more) in
+    let both : IsPermutation arrived ((taken ++ retaken) ++ lefts) = subst (λ l. IsPermutation arrived l) (sym (append_assoc taken retaken lefts))
+    (IsPermutation-trans arrived (taken ++ unmarked ms arrived) (taken ++ (retaken ++ lefts)) whole.moved (IsPermutation-append_right taken (unmarked ms arrived) (retaken ++ lefts) rest)) in
     let in_all : drawops (chosen is_taken all) ≡ taken ++ retaken = ap drawops (filter-append (λ (e : Entry). is_taken e.1) log more) ∙ drawops-append (chosen is_taken log) (chosen is_taken more) in
-    let moved : IsPermutation drawn (drawops (chosen is_taken all) ++ lefts) = subst (λ l. IsPermutation drawn (l ++ lefts)) (sym in_all) both in
-    let many = length_permutation drawn (drawops (chosen is_taken all) ++ lefts) moved in
+    let moved : IsPermutation arrived (drawops (chosen is_taken all) ++ lefts) = subst (λ l. IsPermutation arrived (l ++ lefts)) (sym in_all) both in
+    let many = length_permutation arrived (drawops (chosen is_taken all) ++ lefts) moved in
     let none : 0 < length lefts → r.free ≡ 0 = λ some. runs_empty q r more m.runs (omega (arith, left_many more)) in
     record {
       counted = omega (arith, many, length-append (drawops (chosen is_taken all)) lefts, taken_many all, left', fresh, again, clash);
@@ -132,20 +132,20 @@ takes_all n p q r g h a drawn ms t b c whole sp sq sr m e =
       named = record { held = drawops (chosen is_taken all); others = lefts; moved = moved; names = taken_names r.seen all gs.told; few = left' };
       full = λ some. none (omega (arith, left'));
       whole = stays_whole p r all gs;
-      settled = λ w. in_some_order one_run n p drawn r (shares n p q r g h a drawn ms t c whole m) lefts b sp w sr moved (left_lacks q r more sr (stays_whole p r all gs w) m.runs) none (fresh, again, clash, left');
+      settled = λ w. in_some_order one_run n p arrived r (shares n p q r g h a arrived ms t c whole m) lefts b sp w sr moved (left_lacks q r more sr (stays_whole p r all gs w) m.runs) none (fresh, again, clash, left');
       in_order = λ is w.
-          counted_as p.cells p.seen r.seen drawn (counts (tally all).fresh (tally all).again (tally all).clash (tally more).left) (counts_in b) (same_counts fresh again clash left)
-          (in_given_order whole.low p q r c.log c.gots more drawn ms sp w sq sr (alone n p q c.log c.gots c.did is) m.runs m.all whole.most whole.once whole.right whole.marks);
+          counted_as p.cells p.seen r.seen arrived (counts (tally all).fresh (tally all).again (tally all).clash (tally more).left) (counts_in b) (same_counts fresh again clash left)
+          (in_given_order whole.low p q r c.log c.gots more arrived ms sp w sq sr (alone n p q c.log c.gots c.did is) m.runs m.all whole.most whole.once whole.right whole.marks);
     }
 
-pub total_few : (n : ℕ) (p q r : PassValue) (g h : ChannelView) (a : Accepted) (drawn : List DrawopValue) (ms : List Bool) (t : Batch) (c : AllWorked n p q g h a) → Whole drawn ms c.log c.gots → Retakes q (unmarked ms drawn) r t
-    → (((a.fresh + t.fresh) + (a.again + t.again)) + (a.clash + t.clash)) + t.left ≤ length drawn
-total_few n p q r g h a drawn ms t c whole m =
+pub total_few : (n : ℕ) (p q r : PassValue) (g h : ChannelView) (a : Accepted) (arrived : List DrawopValue) (ms : List Bool) (t : Batch) (c : AllWorked n p q g h a) → Whole arrived ms c.log c.gots → Retakes q (unmarked ms arrived) r t
+    → (((a.fresh + t.fresh) + (a.again + t.again)) + (a.clash + t.clash)) + t.left ≤ length arrived
+total_few n p q r g h a arrived ms t c whole m =
     let taken = drawops (chosen is_taken (entries c.log)) in
     omega (
       arith,
-      length_permutation drawn (taken ++ unmarked ms drawn) whole.moved,
-      length-append taken (unmarked ms drawn),
+      length_permutation arrived (taken ++ unmarked ms arrived) whole.moved,
+      length-append taken (unmarked ms arrived),
       taken_many (entries c.log),
       ap length m.all,
       tally_all m.log,

@@ -1,4 +1,4 @@
--- The drawops that workers accepted and those taken again are the drawops drawn.
+-- The drawops that workers accepted and those taken again are the drawops arrived.
 use Rattle.std.proofs.Common.{◌≡◌, ℕ, zero, suc, ◌+◌, ◌≤◌, ◌<◌, ◌==◌, ◌||◌, Bool, true, false, true≢false, cond, List, [], ◌∷◌, ◌++◌, length, map, get_or, Some, slice_get, refl, ap, ap₂, sym, subst, ◌∙◌, arith, ⊎_elim, append_assoc, length-append}
 use Rattle.std.proofs.lemmas.List.{map-append}
 use Rattle.std.proofs.lemmas.Bool.{cases_lt}

@@ -14,12 +14,12 @@ use Rattle.wb_feed.specs.declared.workers.WorkFault.{WorkFault}
 use Rattle.wb_feed.specs.declared.workers.WorkFault.TheVariants.{Start, Memory}
 use Rattle.wb_feed.specs.Channel.{channel_view}
 use Rattle.wb_feed.specs.Served.{entries, accepted_at, Spot, Serves, Tells, Served}
-use Rattle.wb_feed.specs.Sent.{IsDrawn}
+use Rattle.wb_feed.specs.Sent.{HasArrived}
 use Rattle.wb_feed.specs.Feeding.{IsWith, IsMerged, HasFed}
 use Rattle.wb_feed.specs.Workers.{IsBack, Workers, nobody, worker, Worked, IsSum, most_lost, TakesBack, ComesBack}
 use Rattle.wb_feed.proofs.Log.{loses_more, loses_trans, split_keeps, split_mine, keeps_trans, tally-append}
 use Rattle.wb_feed.proofs.Prefixes.{prefix_is, prefix_trans}
-use Rattle.wb_feed.proofs.Sending.{drawn_none}
+use Rattle.wb_feed.proofs.Sending.{arrived_none}
 use Rattle.wb_feed.proofs.Serving.{entries-append, accepted-append}
 
 -- ---- the rows
@@ -64,11 +64,11 @@ several_kept rows n m p rest back q desk d j others (Err Memory) next s w l t =
 
 -- ---- the feeding
 
-pub fed_none : {A X : Type 0} (gives : A → List DrawopValue → A → Type 0) (most : A → ℕ) (ended : A → Bool) (f g : Feeding) (a : A) (r : Result X WorkFault) → g.channel ≡ f.channel → g.drawn.items ≡ f.drawn.items → gives a [] a → OnOk r (ended a ≡ true)
+pub fed_none : {A X : Type 0} (gives : A → List DrawopValue → A → Type 0) (most : A → ℕ) (ended : A → Bool) (f g : Feeding) (a : A) (r : Result X WorkFault) → g.channel ≡ f.channel → g.arrived.items ≡ f.arrived.items → gives a [] a → OnOk r (ended a ≡ true)
     → HasFed gives most ended f a g a r
-fed_none gives most ended f g a r channel drawn itself none = record {
+fed_none gives most ended f g a r channel arrived itself none = record {
   channel = channel;
-  drawn = subst (λ (l : List DrawopValue). IsDrawn gives most a f.drawn.items a l) (sym drawn) (drawn_none gives most a f.drawn.items itself);
+  arrived = subst (λ (l : List DrawopValue). HasArrived gives most a f.arrived.items a l) (sym arrived) (arrived_none gives most a f.arrived.items itself);
   ended = none;
   untouched = λ _. λ i. a;
 }
@@ -78,7 +78,7 @@ fed_within : {A X Y : Type 0} (gives : A → List DrawopValue → A → Type 0) 
     → IsWith f v f' → HasFed gives most ended f' a g' b o → IsWith g' w g → OnOk r (ended b ≡ true) → (r ≡ Err Start → o ≡ Err Start) → HasFed gives most ended f a g b r
 fed_within gives most ended f f' g' g v w a b o r cut h back ok start = record {
   channel = back.channel ∙ (h.channel ∙ cut.channel);
-  drawn = subst (λ (l : List DrawopValue). IsDrawn gives most a f.drawn.items b l) (sym (ap (λ k. k.items) back.drawn)) (subst (λ (l : List DrawopValue). IsDrawn gives most a l b g'.drawn.items) (ap (λ k. k.items) cut.drawn) h.drawn);
+  arrived = subst (λ (l : List DrawopValue). HasArrived gives most a f.arrived.items b l) (sym (ap (λ k. k.items) back.arrived)) (subst (λ (l : List DrawopValue). HasArrived gives most a l b g'.arrived.items) (ap (λ k. k.items) cut.arrived) h.arrived);
   ended = ok;
   untouched = λ e. h.untouched (start e);
 }

@@ -7,12 +7,12 @@ use Rattle.wb_feed.specs.declared.sender.Feeding.{Feeding}
 use Rattle.wb_feed.specs.declared.workers.WorkFault.{WorkFault}
 use Rattle.wb_feed.specs.declared.workers.WorkFault.TheVariants.{Start}
 use Rattle.wb_feed.specs.Channel.{channel_view}
-use Rattle.wb_feed.specs.Sent.{IsDrawn}
+use Rattle.wb_feed.specs.Sent.{HasArrived}
 
 -- the same, but that the pass knows v
 pub record IsWith (f : Feeding) (v : ChannelView) (g : Feeding) : Type 0 where
   pub channel : g.channel ≡ f.channel
-  pub drawn : g.drawn ≡ f.drawn
+  pub arrived : g.arrived ≡ f.arrived
   pub going : g.going ≡ f.going
   pub view : view g.pass ≡ v
 
@@ -20,17 +20,17 @@ pub record IsWith (f : Feeding) (v : ChannelView) (g : Feeding) : Type 0 where
 abbrev pub IsMerged : Feeding → ChannelView → Feeding → Type 0
 IsMerged f w g = let v = view f.pass in IsWith f (channel_view (v.parts + w.parts) v.sends v.sent (v.got ++ w.got)) g
 
--- nothing was drawn or sent, and more than so many passes may be cut off
+-- nothing came or was sent, and more than so many passes may be cut off
 pub record IsReady (workers : ℕ) (f : Feeding) : Type 0 where
   pub parts : workers < (view f.pass).parts
   pub sent : (view f.pass).sent ≡ []
-  pub drawn : f.drawn.items ≡ []
+  pub arrived : f.arrived.items ≡ []
   pub going : f.going ≡ true
 
 -- The source a was fed from, is b since, and r was answered: a is as it was where no thread could be started, and b has ended where
 -- all went well. What a source is told by is its trait's
 pub record HasFed {A X : Type 0} (gives : A → List DrawopValue → A → Type 0) (most : A → ℕ) (has_ended : A → Bool) (f : Feeding) (a : A) (g : Feeding) (b : A) (r : Result X WorkFault) : Type 0 where
   pub channel : g.channel ≡ f.channel
-  pub drawn : IsDrawn gives most a f.drawn.items b g.drawn.items
+  pub arrived : HasArrived gives most a f.arrived.items b g.arrived.items
   pub ended : OnOk r (has_ended b ≡ true)
   pub untouched : r ≡ Err Start → b ≡ a

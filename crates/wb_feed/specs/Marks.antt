@@ -1,4 +1,4 @@
--- Which of the drawops drawn were accepted, and what is taken again of the others.
+-- Which of the drawops arrived were accepted, and what is taken again of the others.
 use Rattle.std.specs.Prelude.{◌≡◌, ℕ, ◌+◌, ◌<◌, ◌==◌, ◌||◌, Bool, false, cond, List, [], ◌∷◌, length, slice_index_or}
 use Rattle.wb_names.specs.Values.{DrawopValue}
 use Rattle.wb_names.specs.Arrivals.{counts_of, Outcome}

@@ -3,7 +3,7 @@ ghost use Rattle.std.specs.Prelude.{◌≡◌, ℕ, ◌<◌, ◌≤◌, [], ◌�
 
 use wb_names::Drawop;
 
-/// A source of drawops. It may end before all that it has to give are drawn.
+/// A source of drawops. It may end before all that it has to give is taken.
 pub trait Arrivals {
     ghost use Rattle.wb_names.specs.Values.{DrawopValue};
 

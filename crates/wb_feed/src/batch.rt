@@ -62,7 +62,7 @@ const CAPACITY: usize = 64;
 /// `left` counts those that find no row there either. The gate is called round each accept of a worker.
 /// Answers the counts, and the drawops in the order in which they came.
 ///
-/// With a number of workers out of range nothing is taken. After `Start` nothing was drawn, and each row and
+/// With a number of workers out of range nothing is taken. After `Start` nothing was taken, and each row and
 /// place is kept. After `Memory` any part of the arrivals may have been taken; one worker then loses no row,
 /// and of more, a worker's desk whose join was refused is dropped with its rows, and all others are joined
 /// back.
@@ -81,7 +81,7 @@ pub fn run_batch<R: Threads + Wait + Sync, S: Arrivals, G: Gate + Sync>(
     ensures workers { (result ≡ Err FeedFault.Workers) ↔ ((workers ≡ 0) ⊎ (8 < workers)) }
     ensures untouched { (workers ≡ 0) ⊎ (8 < workers) → (desk.new ≡ desk.old) × (arrivals.new ≡ arrivals.old) }
     ensures started { result ≡ Err FeedFault.Start → (arrivals.new ≡ arrivals.old) × LosesAtMost 0 desk.old desk.new }
-    ensures drawn { (given : List DrawopValue) × S.gives arrivals.old given arrivals.new }
+    ensures arrived { (given : List DrawopValue) × S.gives arrivals.old given arrivals.new }
     ensures given { IfOk result (λ r. S.gives arrivals.old r.1.items arrivals.new) }
     ensures taken { IfOk result (λ r. Takes desk.old r.1.items workers desk.new r.0) }
     ensures shared { IfOk result (λ r. IsShared workers desk.old r.1.items desk.new) }
@@ -107,7 +107,7 @@ pub fn run_batch<R: Threads + Wait + Sync, S: Arrivals, G: Gate + Sync>(
     };
     let mut feeding = Feeding::new(alloc, channel, pass);
     match take_batch(place, desk, &mut feeding, arrivals) {
-        Ok(batch) => Ok((batch, feeding.into_drawn())),
+        Ok(batch) => Ok((batch, feeding.into_arrived())),
         Err(WorkFault::Start) => Err(FeedFault::Start),
         Err(WorkFault::Memory) => Err(FeedFault::Memory),
     }
@@ -123,19 +123,19 @@ fn take_batch<R: Threads + Wait + Sync, S: Arrivals, G: Gate + Sync>(
     requires desk { IsPassOf place.board.now desk.old }
     requires workers { (0 < place.workers) × (place.workers ≤ 8) }
     requires channel { receives_on place.end.now ≡ sends_on feeding.old.channel }
-    requires first { (view feeding.old.pass ≡ channel_view 16 true [] []) × (feeding.old.drawn.items ≡ []) × (feeding.old.going ≡ true) }
+    requires first { (view feeding.old.pass ≡ channel_view 16 true [] []) × (feeding.old.arrived.items ≡ []) × (feeding.old.going ≡ true) }
     requires few { S.most_to_come arrivals.old < 2 ^ 32 }
     ensures kept { LosesAtMost (most_lost (handed_out place.entry.workers desk.old.free) result) desk.old desk.new }
     ensures fed { HasFed S.gives S.most_to_come S.has_ended feeding.old arrivals.old feeding.new arrivals.new result }
-    ensures taken { IfOk result (λ b. Takes desk.old feeding.new.drawn.items place.entry.workers desk.new b) }
-    ensures shared { OnOk result (IsShared place.entry.workers desk.old feeding.new.drawn.items desk.new) }
+    ensures taken { IfOk result (λ b. Takes desk.old feeding.new.arrived.items place.entry.workers desk.new b) }
+    ensures shared { OnOk result (IsShared place.entry.workers desk.old feeding.new.arrived.items desk.new) }
 {
     // The number of its rows says, for the proof alone, that a desk is sound: here, once the workers are back, and at the end.
     let _sound = desk.rows_left();
     let accepted = run_all(place, desk, feeding, arrivals)?;
     let _sound_joined = desk.rows_left();
     feeding.learn_all();
-    let count = feeding.drawn.len();
+    let count = feeding.arrived.len();
     let Ok(marks) = mark(place.alloc, accepted.positions.as_slice(), count) else {
         return Err(WorkFault::Memory);
     };
@@ -143,7 +143,7 @@ fn take_batch<R: Threads + Wait + Sync, S: Arrivals, G: Gate + Sync>(
         place.board,
         desk,
         marks.as_slice(),
-        feeding.drawn.as_slice(),
+        feeding.arrived.as_slice(),
     ) else {
         return Err(WorkFault::Memory);
     };
@@ -171,12 +171,12 @@ fn take_rest(
     board: &Board,
     desk: &mut Desk,
     marks: &[bool],
-    drawn: &[Drawop],
+    arrived: &[Drawop],
 ) -> Result<Batch, AllocError>
     requires desk { IsPassOf board.now desk.old }
-    requires few { length drawn.now < 2 ^ 32 }
-    requires marks { length marks.now ≡ length drawn.now }
-    ensures ok { IfOk result (λ b. Retakes desk.old (unmarked marks.now drawn.now) desk.new b) }
+    requires few { length arrived.now < 2 ^ 32 }
+    requires marks { length marks.now ≡ length arrived.now }
+    ensures ok { IfOk result (λ b. Retakes desk.old (unmarked marks.now arrived.now) desk.new b) }
     ensures kept { LosesAtMost 0 desk.old desk.new }
 {
     let mut batch = Batch {
@@ -185,7 +185,7 @@ fn take_rest(
         clash: 0,
         left: 0,
     };
-    for (i, drawop) in drawn.iter().enumerate() {
+    for (i, drawop) in arrived.iter().enumerate() {
         if marks[i] {
             continue;
         }

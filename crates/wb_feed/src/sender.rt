@@ -1,9 +1,9 @@
-//! The sender's part: arrivals are drawn one at a time, and sent as they are drawn.
+//! The sender's part: arrivals are arrived one at a time, and sent as they are arrived.
 ghost use Rattle.std.specs.Prelude.{◌≡◌, ◌+◌, ◌-◌, ◌<◌, ◌^◌, true, false, [], OnOk, length};
 ghost use Rattle.crossbeam_channel.specs.Claims.{view, IsSeatAt};
 ghost use Rattle.crossbeam_channel.specs.Ends.{sends_on};
 ghost use Rattle.wb_feed.specs.Channel.{channel_view, sends, IsComplete};
-ghost use Rattle.wb_feed.specs.Sent.{IsNext, IsSent, Draws, IsDrawn};
+ghost use Rattle.wb_feed.specs.Sent.{IsNext, IsSent, NextArrives, HasArrived};
 
 use crate::arrivals::Arrivals;
 use crate::channel::{ChannelPass, ChannelSender, Cut, Message, Sends, Whole};
@@ -11,72 +11,72 @@ use std::alloc::{AllocError, Global};
 use std::sync::Wait;
 use wb_names::Drawop;
 
-/// How far a batch has got: the channel and what is known of it, and what was drawn so far.
+/// How far a batch has got: the channel and what is known of it, and what came so far.
 #[derive(Drop)]
 pub(crate) struct Feeding {
     pub(crate) channel: ChannelSender,
     pub(crate) pass: ChannelPass,
-    pub(crate) drawn: Vec<Drawop>,
+    pub(crate) arrived: Vec<Drawop>,
     /// Whether the channel is open: no message was handed back.
     pub(crate) going: bool,
     ghost seat: { IsSeatAt (sends_on channel) pass },
-    ghost sent: { IsSent (view pass) drawn.items going },
+    ghost sent: { IsSent (view pass) arrived.items going },
 }
 
 impl Feeding {
     ghost use Rattle.wb_feed.specs.Feeding.{IsWith, IsMerged};
 
-    /// Nothing was drawn yet. It takes no memory.
+    /// Nothing came yet. It takes no memory.
     pub(crate) fn new(alloc: Global, channel: ChannelSender, pass: ChannelPass) -> Feeding
         requires seat { IsSeatAt (sends_on channel) pass }
         requires first { view pass ≡ channel_view 16 true [] [] }
         ensures channel { result.channel ≡ channel }
         ensures pass { result.pass ≡ pass }
-        ensures open { (result.drawn.items ≡ []) × (result.going ≡ true) }
+        ensures open { (result.arrived.items ≡ []) × (result.going ≡ true) }
     {
         Feeding {
             channel,
             pass,
-            drawn: Vec::new(alloc),
+            arrived: Vec::new(alloc),
             going: true,
         }
     }
 
-    /// Draws and sends all arrivals. After the first message that is handed back it sends none.
+    /// NextArrives and sends all arrivals. After the first message that is handed back it sends none.
     pub(crate) fn feed<R: Wait, S: Arrivals>(
         &mut self,
         rt: &R,
         arrivals: &mut S,
     ) -> Result<(), AllocError>
-        requires few { length self.old.drawn.items + S.most_to_come arrivals.old < 2 ^ 32 }
+        requires few { length self.old.arrived.items + S.most_to_come arrivals.old < 2 ^ 32 }
         ensures channel { self.new.channel ≡ self.old.channel }
         ensures same { ((view self.new.pass).parts ≡ (view self.old.pass).parts) × ((view self.new.pass).got ≡ (view self.old.pass).got) }
-        ensures drawn { IsDrawn S.gives S.most_to_come arrivals.old self.old.drawn.items arrivals.new self.new.drawn.items }
+        ensures arrived { HasArrived S.gives S.most_to_come arrivals.old self.old.arrived.items arrivals.new self.new.arrived.items }
         ensures ended { OnOk result (S.has_ended arrivals.new ≡ true) }
     {
-        while let Some(message) = draw_one(arrivals, &mut self.drawn)? {
+        while let Some(message) = next_message(arrivals, &mut self.arrived)? {
             self.going = send_one(rt, &self.channel, &mut self.pass, self.going, message);
         }
         Ok(())
     }
 
-    /// What was drawn.
-    pub(crate) fn into_drawn(self) -> Vec<Drawop>
-        ensures { result ≡ self.drawn }
+    /// What came.
+    pub(crate) fn into_arrived(self) -> Vec<Drawop>
+        ensures { result ≡ self.arrived }
     {
         let Feeding {
             channel: _,
             pass: _,
-            drawn,
+            arrived,
             going: _,
         } = self;
-        drawn
+        arrived
     }
 
     /// Sends an end message for each of so many workers.
     pub(crate) fn end_all<R: Wait>(&mut self, rt: &R, workers: u32)
         ensures channel { self.new.channel ≡ self.old.channel }
-        ensures drawn { self.new.drawn ≡ self.old.drawn }
+        ensures arrived { self.new.arrived ≡ self.old.arrived }
         ensures pass { view self.new.pass ≡ view self.old.pass }
     {
         for _ in 0..workers {
@@ -112,20 +112,20 @@ impl Feeding {
     }
 }
 
-/// Draws one arrival, once there is room for it, and answers the message that it becomes.
-fn draw_one<S: Arrivals>(
+/// NextArrives one arrival, once there is room for it, and answers the message that it becomes.
+fn next_message<S: Arrivals>(
     arrivals: &mut S,
-    drawn: &mut Vec<Drawop>,
+    arrived: &mut Vec<Drawop>,
 ) -> Result<Option<Message>, AllocError>
-    requires { length drawn.old.items + S.most_to_come arrivals.old < 2 ^ 32 }
-    ensures { Draws S.gives S.most_to_come S.has_ended arrivals.old drawn.old.items arrivals.new drawn.new.items result }
+    requires { length arrived.old.items + S.most_to_come arrivals.old < 2 ^ 32 }
+    ensures { NextArrives S.gives S.most_to_come S.has_ended arrivals.old arrived.old.items arrivals.new arrived.new.items result }
 {
-    drawn.reserve(1)?;
-    let position = drawn.len() as u32;
+    arrived.reserve(1)?;
+    let position = arrived.len() as u32;
     let Some(drawop) = arrivals.next() else {
         return Ok(None);
     };
-    drawn.push_reserved(drawop);
+    arrived.push_reserved(drawop);
     Ok(Some(Message::Take(position, drawop)))
 }
 

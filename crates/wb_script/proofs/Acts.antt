@@ -26,23 +26,23 @@ use Rattle.wb_script.specs.Script.{StopsWithin}
 use Rattle.wb_script.specs.Hosts.{Opened, present, calling, Act, does, fails, asked, events, due_count, stopped, sent_by, ticked, wanted_of, looked}
 use Rattle.wb_script.specs.Random.{words_of, after_words}
 use Rattle.wb_script.specs.SentLines.{sends_text, look_line}
-use Rattle.wb_script.specs.Stations.{IsOpenAt, StationValue, DoesAct}
+use Rattle.wb_script.specs.Members.{IsOpenAt, MemberValue, DoesAct}
 use Rattle.wb_script.proofs.Steps.{at_once}
 
-abbrev pub station : Held → KeeperValue → Lcg → StationValue
-station b k g = record { board = b; keeper = k; words = g }
+abbrev pub member : Held → KeeperValue → Lcg → MemberValue
+member b k g = record { board = b; keeper = k; words = g }
 
 -- the history that a board and a host hold
-pub same_history : (b : Held) (k : KeeperValue) (g : Lcg) (host : Opened) → IsOpenAt (station b k g) host → b.drawops ≡ host.board.drawops
+pub same_history : (b : Held) (k : KeeperValue) (g : Lcg) (host : Opened) → IsOpenAt (member b k g) host → b.drawops ≡ host.board.drawops
 same_history b k g host at = ap (λ (h : Held). h.drawops) at.board
 
 -- want of memory before anything was printed
-pub act_at_once : (number : ℕ) (host : Opened) (new : StationValue) (a : Act) → DoesAct {U = Unit {0}} number host new [] (Err run_faults.Memory) a
+pub act_at_once : (number : ℕ) (host : Opened) (new : MemberValue) (a : Act) → DoesAct {U = Unit {0}} number host new [] (Err run_faults.Memory) a
 act_at_once number host new (does next text) = at_once text
 act_at_once number host new (fails e) = inl (at_once [])
 
 -- a call was accepted
-pub called : (b : Held) (k k' : KeeperValue) (g g' : Lcg) (host : Opened) (call call' : KeeperCall) (count : ℕ) → IsOpenAt (station b k g) host → Keeps call k k' → call ≡ call' → g' ≡ after_words g count → IsOpenAt (station b k' g') (calling call' count host)
+pub called : (b : Held) (k k' : KeeperValue) (g g' : Lcg) (host : Opened) (call call' : KeeperCall) (count : ℕ) → IsOpenAt (member b k g) host → Keeps call k k' → call ≡ call' → g' ≡ after_words g count → IsOpenAt (member b k' g') (calling call' count host)
 called b k k' g g' host call call' count at keeps e words = record {
   board = at.board;
   keeper = subst (λ (c : KeeperCall). StandsFor host.me host.constants (c ∷ host.calls) k') e (keeps host.me host.constants host.calls at.keeper);
@@ -58,7 +58,7 @@ same_answer one other history (queries.Report page) same = refl
 same_answer one other history queries.Pages same = refl
 
 pub asked_done : (r : Result (Unit {0}) RunFault) (b b' : Held) (k : KeeperValue) (g : Lcg) (query : Query) (old new : List ℕ) → b' ≡ b → OnOk r (new ≡ old ++ answer_text (marks_at k.marks) b.drawops query) → IfErr r (λ e. (e ≡ run_faults.Memory) × (new ≡ old))
-    → (x : List ℕ) × (new ≡ old ++ x) × ((host : Opened) → IsOpenAt (station b k g) host → (number : ℕ) → DoesAct number host (station b' k g) x r (asked query host))
+    → (x : List ℕ) × (new ≡ old ++ x) × ((host : Opened) → IsOpenAt (member b k g) host → (number : ℕ) → DoesAct number host (member b' k g) x r (asked query host))
 asked_done (Ok u) b b' k g query old new same ok err = (
   answer_text (marks_at k.marks) b.drawops query,
   ok,
@@ -76,22 +76,22 @@ asked_done (Err f) b b' k g query old new same ok err = (
 
 -- ---- time goes on
 
-pub tick_early : (number : ℕ) (v : StationValue) (host : Opened) (now : ℕ) → IsOpenAt v host → now < v.keeper.moment → DoesAct {U = Unit {0}} number host v [] (Err (run_faults.Line number faults.BackInTime)) (ticked now host)
+pub tick_early : (number : ℕ) (v : MemberValue) (host : Opened) (now : ℕ) → IsOpenAt v host → now < v.keeper.moment → DoesAct {U = Unit {0}} number host v [] (Err (run_faults.Line number faults.BackInTime)) (ticked now host)
 tick_early number v host now at early =
     let same = at.keeper.moment in
     let test : nat_lt now (present host) ≡ true = grind (arith, nat_tests, same, early) in
     rw test (inr (refl, at, refl))
 
-pub tick_done : (number : ℕ) (b : Held) (k k' : KeeperValue) (g g' : Lcg) (host : Opened) (now count : ℕ) (words text : List ℕ) (sent : List Datagram) → IsOpenAt (station b k g) host → k.moment ≤ now
+pub tick_done : (number : ℕ) (b : Held) (k k' : KeeperValue) (g g' : Lcg) (host : Opened) (now count : ℕ) (words text : List ℕ) (sent : List Datagram) → IsOpenAt (member b k g) host → k.moment ≤ now
     → count ≡ due_count now host → stopped_in host.board.drawops k.recovery ≡ stopped host → words ≡ words_of g count → g' ≡ after_words g count
     → sent ≡ sends_for host.me b.drawops (actions_of host.constants (receipts now (events host) (received_of (delay_to host.me host.calls) (stopped_in b.drawops k.recovery))) now) → Keeps (GoOn now words (stopped_in b.drawops k.recovery)) k k' → text ≡ sends_text sent
-    → DoesAct {U = Unit {0}} number host (station b k' g') text (Ok tt) (ticked now host)
-tick_done number b k k' g g' host now count words text sent at late due stop drawn left told keeps printed =
+    → DoesAct {U = Unit {0}} number host (member b k' g') text (Ok tt) (ticked now host)
+tick_done number b k k' g g' host now count words text sent at late due stop random left told keeps printed =
     let same = at.keeper.moment in
     let test : nat_lt now (present host) ≡ false = grind (arith, nat_tests, same, late) in
     let ds = same_history b k g host at in
     let halted : stopped_in b.drawops k.recovery ≡ stopped host = ap (λ (l : List DrawopValue). stopped_in l k.recovery) ds ∙ stop in
-    let ws : words ≡ words_of host.random (due_count now host) = drawn ∙ ap (words_of g) due ∙ ap (λ (x : Lcg). words_of x (due_count now host)) at.words in
+    let ws : words ≡ words_of host.random (due_count now host) = random ∙ ap (words_of g) due ∙ ap (λ (x : Lcg). words_of x (due_count now host)) at.words in
     let call : GoOn now words (stopped_in b.drawops k.recovery) ≡ GoOn now (words_of host.random (due_count now host)) (stopped host) =
     ap (λ (w : List ℕ). GoOn now w (stopped_in b.drawops k.recovery)) ws ∙ ap (GoOn now (words_of host.random (due_count now host))) halted in
     let is : sent ≡ sent_by now host = told
@@ -101,14 +101,14 @@ tick_done number b k k' g g' host now count words text sent at late due stop dra
 
 -- ---- a look at a page
 
-pub look_done : (number : ℕ) (b : Held) (k k' : KeeperValue) (g g' : Lcg) (host : Opened) (page : PageId) (names : List NameValue) (words text : List ℕ) (now : ℕ) → IsOpenAt (station b k g) host
+pub look_done : (number : ℕ) (b : Held) (k k' : KeeperValue) (g g' : Lcg) (host : Opened) (page : PageId) (names : List NameValue) (words text : List ℕ) (now : ℕ) → IsOpenAt (member b k g) host
     → names ≡ names_wanted host.constants (events host) b.drawops page (marks_heard host.me host.calls page) → words ≡ words_of g (length names) → g' ≡ after_words g (length names) → now ≡ k.moment → Keeps (Miss now names words) k k' → text ≡ look_line (length names)
-    → DoesAct {U = Unit {0}} number host (station b k' g') text (Ok tt) (looked page host)
-look_done number b k k' g g' host page names words text now at told drawn left moment keeps printed =
+    → DoesAct {U = Unit {0}} number host (member b k' g') text (Ok tt) (looked page host)
+look_done number b k k' g g' host page names words text now at told random left moment keeps printed =
     let ds = same_history b k g host at in
     let want : names ≡ wanted_of page host = told ∙ ap (λ (l : List DrawopValue). names_wanted host.constants (events host) l page (marks_heard host.me host.calls page)) ds in
     let count : length names ≡ length (wanted_of page host) = ap (λ (l : List NameValue). length l) want in
-    let ws : words ≡ words_of host.random (length (wanted_of page host)) = drawn ∙ ap (words_of g) count ∙ ap (λ (x : Lcg). words_of x (length (wanted_of page host))) at.words in
+    let ws : words ≡ words_of host.random (length (wanted_of page host)) = random ∙ ap (words_of g) count ∙ ap (λ (x : Lcg). words_of x (length (wanted_of page host))) at.words in
     let call : Miss now names words ≡ Miss (present host) (wanted_of page host) (words_of host.random (length (wanted_of page host))) =
     ap (λ (m : ℕ). Miss m names words) (moment ∙ at.keeper.moment) ∙ ap (λ (l : List NameValue). Miss (present host) l words) want ∙ ap (Miss (present host) (wanted_of page host)) ws in
     (called b k k' g g' host (Miss now names words) (Miss (present host) (wanted_of page host) (words_of host.random (length (wanted_of page host)))) (length (wanted_of page host)) at keeps call (left ∙ ap (after_words g) count), printed ∙ ap look_line count)

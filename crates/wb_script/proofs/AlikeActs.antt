@@ -17,8 +17,8 @@ use Rattle.wb_host.specs.Sessions.{echoes_of}
 use Rattle.wb_host.specs.Missing.{wanted, names_in_gaps}
 use Rattle.wb_host.specs.Ticks.{sends_for}
 use Rattle.wb_script.specs.declared.fault.LineFault.TheVariants as faults
-use Rattle.wb_script.specs.declared.line.Line.{Line}
-use Rattle.wb_script.specs.declared.line.Line.TheVariants.{Skip, Board, Arrive, Hear as HearLine, Distance, Tick, Look, Session, Show, Gaps, Report, Pages}
+use Rattle.wb_script.specs.declared.command.Command.{Command}
+use Rattle.wb_script.specs.declared.command.Command.TheVariants.{Skip, Board, Arrive, Hear as HearLine, Distance, Tick, Look, Session, Show, Gaps, Report, Pages}
 use Rattle.wb_script.specs.declared.query.Query.{Query}
 use Rattle.wb_script.specs.declared.query.Query.TheVariants as queries
 use Rattle.wb_script.specs.Hosts.{Opened, present, calling, Act, does, fails, events, due_count, stopped, sent_by, ticked, wanted_of, looked, words_for, word_at, heard, asked, reported, act}
@@ -106,7 +106,7 @@ session_alike page host drawops a = (
   ap (λ (marks : List MarkValue). sends_text (SessionMessage host.me (present host) page marks (echoes_of host.me host.calls (present host)) ∷ [])) (report_alike host.board.drawops drawops page a),
 )
 
-pub act_alike : (line : Line) (host : Opened) (drawops : List DrawopValue) → AreAlike host.board.drawops drawops → DoAlike host drawops (act line host) (act line (holding host drawops))
+pub act_alike : (line : Command) (host : Opened) (drawops : List DrawopValue) → AreAlike host.board.drawops drawops → DoAlike host drawops (act line host) (act line (holding host drawops))
 act_alike (Show page width height) host drawops a = asked_alike (queries.Canvas page width height) host drawops a
 act_alike (Gaps page) host drawops a = asked_alike (queries.Gaps page) host drawops a
 act_alike (Report page) host drawops a = asked_alike (queries.Report page) host drawops a

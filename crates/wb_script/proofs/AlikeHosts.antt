@@ -22,8 +22,8 @@ use Rattle.wb_host.specs.Sessions.{echo_cmp, echo_to, echoes_of, message_of}
 use Rattle.wb_host.specs.Ticks.{sends_for}
 use Rattle.wb_host.specs.declared.keeper.Heard.{Heard}
 use Rattle.wb_script.specs.declared.fault.LineFault.TheVariants as faults
-use Rattle.wb_script.specs.declared.line.Line.{Line}
-use Rattle.wb_script.specs.declared.line.Line.TheVariants as lines
+use Rattle.wb_script.specs.declared.command.Command.{Command}
+use Rattle.wb_script.specs.declared.command.Command.TheVariants as lines
 use Rattle.wb_script.specs.declared.query.Query.{Query}
 use Rattle.wb_script.specs.declared.query.Query.TheVariants as queries
 use Rattle.wb_script.specs.Answers.{answer_text}
@@ -140,7 +140,7 @@ module _ (host : Opened) (calls : List KeeperCall) (alike : TellAlike host.me ho
   stays_alike : ActsAlike (does host []) (does other [])
   stays_alike = (calls, refl, alike, refl)
 
-  pub acts_alike : (line : Line) → ActsAlike (act line host) (act line other)
+  pub acts_alike : (line : Command) → ActsAlike (act line host) (act line other)
   acts_alike (lines.Show page width height) = asks_alike (queries.Canvas page width height)
   acts_alike (lines.Gaps page) = asks_alike (queries.Gaps page)
   acts_alike (lines.Report page) = asks_alike (queries.Report page)

@@ -8,7 +8,7 @@ use Rattle.wb_names.specs.Arrivals.{history_after}
 use Rattle.wb_names.proofs.Listings.{Contains-here, Contains-none}
 use Rattle.wb_script.specs.declared.fault.RunFault.{RunFault}
 use Rattle.wb_script.specs.declared.summary.Summary.{Summary}
-use Rattle.wb_script.specs.declared.line.Line.{Line}
+use Rattle.wb_script.specs.declared.command.Command.{Command}
 use Rattle.wb_script.specs.Board.{Held}
 use Rattle.wb_script.specs.Hosts.{Opened, opened, host_after, batch_text, Act, does, fails, act}
 use Rattle.wb_script.specs.Laws.{NoneClash, HasCells}
@@ -76,7 +76,7 @@ module _ (cells : ℕ) (all : List DrawopValue) (clash : NoneClash all) (room : 
   act_done later k j text text' one other (does next printed) (fails e) h same d = absurd d
   act_done later k j text text' one other (fails e) (does next printed) h same d = absurd d
 
-  line_done : (later : ℕ) (k j : Option ℕ) (text text' : List ℕ) (line : Line) (one other : Opened) → HostsAlike cells all one other → text ≡ text' → StepsAlike cells all later (step_by k text (act line one) one) (step_by j text' (act line other) other)
+  line_done : (later : ℕ) (k j : Option ℕ) (text text' : List ℕ) (line : Command) (one other : Opened) → HostsAlike cells all one other → text ≡ text' → StepsAlike cells all later (step_by k text (act line one) one) (step_by j text' (act line other) other)
   line_done later k j text text' line one other h same =
       act_done later k j text text' one other (act line one) (act line other) h same
       (subst (λ (o : Opened). DoAlike one other.board.drawops (act line one) (act line o)) (sym h.same) (act_alike line one other.board.drawops h.held))

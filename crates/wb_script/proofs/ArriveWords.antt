@@ -16,8 +16,8 @@ use Rattle.wb_codec.specs.declared.datagram.Datagram.TheVariants as datagrams
 use Rattle.wb_codec.specs.Reading.{reading}
 use Rattle.wb_script.specs.declared.fault.LineFault.{LineFault}
 use Rattle.wb_script.specs.declared.fault.LineFault.TheVariants as faults
-use Rattle.wb_script.specs.declared.line.Line.{Line}
-use Rattle.wb_script.specs.declared.line.Line.TheVariants.{Arrive, Skip, Board, Hear, Distance, Tick, Look, Session, Show, Gaps, Report, Pages}
+use Rattle.wb_script.specs.declared.command.Command.{Command}
+use Rattle.wb_script.specs.declared.command.Command.TheVariants.{Arrive, Skip, Board, Hear, Distance, Tick, Look, Session, Show, Gaps, Report, Pages}
 use Rattle.wb_script.specs.Parsing.{◌>>=◌, or_fault, number, none_of, one_of, two_of, four_of, page, spelled, datagram, board, arrived, heard, arrive, hear, show, distance, tick, pages, page_line, command, begins_comment, line_of_words, line_of}
 use Rattle.wb_script.specs.Script.{Arrival, part_of}
 
@@ -57,10 +57,10 @@ no_digits w bytes e =
 -- ---- the words of a line that hands in an arrival
 
 -- no line of this kind hands one in
-abbrev Never : Result Line LineFault → Type 0
+abbrev Never : Result Command LineFault → Type 0
 Never said = (d : DrawopValue) → said ≡ Ok (Arrive d) → ⊥
 
-never_then : {A : Type 0} → (r : Result A LineFault) (f : A → Result Line LineFault) → ((x : A) → Never (f x)) → Never (r >>= f)
+never_then : {A : Type 0} → (r : Result A LineFault) (f : A → Result Command LineFault) → ((x : A) → Never (f x)) → Never (r >>= f)
 never_then (Ok x) f never = never x
 never_then (Err e) f never = λ d h. absurd cc
 
@@ -120,7 +120,7 @@ pages_never = λ d h. absurd cc
 never_pages : (ws : List (List ℕ)) → Never (pages ws)
 never_pages ws = never_then (or_fault faults.Words (none_of ws)) (λ nothing. Ok Pages) (λ nothing. pages_never)
 
-page_never : (ws : List (List ℕ)) (line : PageId → Line) → ((p : PageId) → Never (Ok (line p))) → Never (page ws >>= (λ p. Ok (line p)))
+page_never : (ws : List (List ℕ)) (line : PageId → Command) → ((p : PageId) → Never (Ok (line p))) → Never (page ws >>= (λ p. Ok (line p)))
 page_never ws line never = never_then (page ws) (λ p. Ok (line p)) never
 
 look_never : (p : PageId) → Never (Ok (Look p))
@@ -207,7 +207,7 @@ no_arrival (word ∷ a ∷ front) w d e =
       rest_is : (x y : List ℕ) (xs : List (List ℕ)) → x ∷ xs ≡ y ∷ [] → xs ≡ []
       rest_is x y xs e = cc
 
-said_arrival : (said : Result Line LineFault) (d : DrawopValue) → part_of said ≡ Arrival d → said ≡ Ok (Arrive d)
+said_arrival : (said : Result Command LineFault) (d : DrawopValue) → part_of said ≡ Arrival d → said ≡ Ok (Arrive d)
 said_arrival (Ok (Arrive e)) d p = let same : e ≡ d = cc in ap (λ (x : DrawopValue). Ok (Arrive x)) same
 said_arrival (Ok Skip) d p = absurd cc
 said_arrival (Ok (Board member cells workers seed)) d p = absurd cc

@@ -19,7 +19,7 @@ use Rattle.wb_feed.specs.Batches.{counts_in, IsInOrder, Takes}
 use Rattle.wb_script.specs.Board.{Held, held_of, OwnsAll}
 use Rattle.wb_script.specs.Hosts.{board_after}
 use Rattle.wb_script.specs.Queries.{view_of}
-use Rattle.wb_script.specs.Stations.{TakesAll}
+use Rattle.wb_script.specs.Members.{TakesAll}
 use Rattle.wb_script.proofs.Queries.{only_view}
 
 kept : (b : HistoryValue) (p q : PassValue) → OwnsAll b p → IsSamePass p q → IsSound q → KeepsRows p q → OwnsAll b q

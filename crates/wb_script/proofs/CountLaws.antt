@@ -10,7 +10,7 @@ use Rattle.wb_lines.specs.Taking.{most_passed}
 use Rattle.wb_lines.specs.Driving.{Outcome, writes, rules_of, before, stop, proceed, outcome_from}
 use Rattle.wb_script.specs.declared.fault.LineFault.{LineFault}
 use Rattle.wb_script.specs.declared.fault.RunFault.{RunFault}
-use Rattle.wb_script.specs.declared.line.Line.{Line}
+use Rattle.wb_script.specs.declared.command.Command.{Command}
 use Rattle.wb_script.specs.Parsing.{line_of}
 use Rattle.wb_script.specs.Script.{most_lines}
 use Rattle.wb_script.specs.Checking.{parsed_step, check_step, answer_at_end, CountsLines}
@@ -26,7 +26,7 @@ IsParsed line = IsOk (line_of (content line))
 abbrev Does : Type 0
 Does = Met → Step (Unit {0}) LineFault
 
-record Parses (does : Does) (line : InputLine) (said : Result Line LineFault) : Type 0 where
+record Parses (does : Does) (line : InputLine) (said : Result Command LineFault) : Type 0 where
   on_whole : does (whole line) ≡ parsed_step said
   on_long : does too_long ≡ ends []
 
@@ -44,13 +44,13 @@ taken_on false false = refl
 pub answer_before : (text : List ℕ) (o : Outcome LineFault) → answer_at_end (before text o) ≡ answer_at_end o
 answer_before text (writes rest end) = refl
 
-record GoesOn (few short : Bool) (said : Result Line LineFault) (rest : Outcome LineFault) (m : ℕ) : Type 0 where
+record GoesOn (few short : Bool) (said : Result Command LineFault) (rest : Outcome LineFault) (m : ℕ) : Type 0 where
   is_few : few ≡ true
   is_short : short ≡ true
   parses : IsOk said
   on : answer_at_end rest ≡ Ok m
 
-goes_on : (few short passed : Bool) (number : ℕ) (does : Does) (line : InputLine) (said : Result Line LineFault) (rest : Outcome LineFault) (m : ℕ)
+goes_on : (few short passed : Bool) (number : ℕ) (does : Does) (line : InputLine) (said : Result Command LineFault) (rest : Outcome LineFault) (m : ℕ)
     → Parses does line said → answer_at_end (course few short passed number does line rest) ≡ Ok m → GoesOn few short said rest m
 goes_on false short passed number does line said rest m p e = absurd cc
 goes_on true false passed number does line said rest m p e = absurd (let h = rw p.on_long at e in cc)
@@ -60,7 +60,7 @@ goes_on true true true number does line (Ok parsed) rest m p e =
 goes_on true true false number does line (Ok parsed) rest m p e = absurd (let h = rw (taken_on line.ended true, p.on_whole) at e in cc)
 goes_on true true passed number does line (Err f) rest m p e = absurd (let h = rw (taken_on line.ended true, p.on_whole) at e in cc)
 
-passes : (few short passed : Bool) (number : ℕ) (does : Does) (line : InputLine) (said : Result Line LineFault) (rest : Outcome LineFault)
+passes : (few short passed : Bool) (number : ℕ) (does : Does) (line : InputLine) (said : Result Command LineFault) (rest : Outcome LineFault)
     → Parses does line said → few ≡ true → short ≡ true → passed ≡ true → IsOk said → answer_at_end (course few short passed number does line rest) ≡ answer_at_end rest
 passes true true true number does line (Ok parsed) rest p few short passed parses = rw (taken_on line.ended true, p.on_whole) (answer_before [] rest)
 passes true true true number does line (Err f) rest p few short passed parses = absurd cc

@@ -14,8 +14,8 @@ use Rattle.wb_script.specs.declared.fault.LineFault.{LineFault}
 use Rattle.wb_script.specs.declared.fault.LineFault.TheVariants as faults
 use Rattle.wb_script.specs.declared.fault.RunFault.{RunFault}
 use Rattle.wb_script.specs.declared.fault.RunFault.TheVariants as run_faults
-use Rattle.wb_script.specs.declared.line.Line.{Line}
-use Rattle.wb_script.specs.declared.line.Line.TheVariants.{Skip, Board, Arrive, Hear, Distance, Tick, Look, Session, Show, Gaps, Report, Pages}
+use Rattle.wb_script.specs.declared.command.Command.{Command}
+use Rattle.wb_script.specs.declared.command.Command.TheVariants.{Skip, Board, Arrive, Hear, Distance, Tick, Look, Session, Show, Gaps, Report, Pages}
 use Rattle.wb_script.specs.declared.summary.Summary.{Summary}
 use Rattle.wb_host.specs.Keeper.{SetDelay, Hear, Miss, GoOn, Report as Reported, is_own}
 use Rattle.wb_host.specs.Hearing.{marks_heard, has_room, answers_to, asks_for_held}
@@ -64,7 +64,7 @@ leads_on host waiting ds h = subst (Leads host waiting) (sym (append-nil ds)) h
 same_host : (host next : Opened) (text printed : List ℕ) → does host text ≡ does next printed → host ≡ next
 same_host host next text printed e = cc
 
-pub act_board : (line : Line) (host next : Opened) (printed : List ℕ) → act line host ≡ does next printed → next.board ≡ host.board
+pub act_board : (line : Command) (host next : Opened) (printed : List ℕ) → act line host ≡ does next printed → next.board ≡ host.board
 act_board Skip host next printed e = ap (λ (h : Opened). h.board) (sym (same_host host next _ printed e))
 act_board (Arrive d) host next printed e = ap (λ (h : Opened). h.board) (sym (same_host host next _ printed e))
 act_board (Board member cells workers seed) host next printed e = ap (λ (h : Opened). h.board) (sym (same_host host next _ printed e))
@@ -85,7 +85,7 @@ act_board (Look page) host next printed e = ap (λ (h : Opened). h.board) (sym (
 act_board (Session page) host next printed e = ap (λ (h : Opened). h.board) (sym (same_host (calling (Reported (present host)) 0 host) next _ printed e))
 
 -- the same board, once a batch was taken
-act_kept : (k : Option ℕ) (first host : Opened) (waiting ds : List DrawopValue) (line : Line) (text : List ℕ) (t : State) (y : List ℕ) → Leads (Some first) waiting ds → host.board ≡ board_after first.board waiting
+act_kept : (k : Option ℕ) (first host : Opened) (waiting ds : List DrawopValue) (line : Command) (text : List ℕ) (t : State) (y : List ℕ) → Leads (Some first) waiting ds → host.board ≡ board_after first.board waiting
     → (a : Act) → act line host ≡ a → step_by k text a host ≡ goes t y → Kept (Some first) ds (End (Acts line)) t
 act_kept k first host waiting ds line text t y h is (fails f) acted e = absurd cc
 act_kept k first host waiting ds line text t y h is (does next printed) acted e =
@@ -195,7 +195,7 @@ shown_at : (n : ℕ) (s : State) (ds : List DrawopValue) (question : List ℕ) (
 shown_at n s ds question page width height text sum false f said h e = absurd (no_fault s text sum run_faults.Endless (sym (too_many false n s (whole_line question) [] f) ∙ e))
 shown_at n s ds question page width height text sum true f said h e =
     shown_on n s.workers s.host s.waiting ds page width height text sum h
-    (sym (one_line false n s (whole_line question) [] refl f ∙ ap (λ (l : Result Line LineFault). proceed (n + 1) (part_step s s.waiting (part_of l)) (λ t. outcome_from false (n + 1) t [])) said) ∙ e)
+    (sym (one_line false n s (whole_line question) [] refl f ∙ ap (λ (l : Result Command LineFault). proceed (n + 1) (part_step s s.waiting (part_of l)) (λ t. outcome_from false (n + 1) t [])) said) ∙ e)
 
 later_end : (written u text canvas : List ℕ) → text ≡ written ++ u → EndsWith u canvas → EndsWith text canvas
 later_end written u text canvas e (front, is) = (written ++ front, e ∙ ap (λ (t : List ℕ). written ++ t) is ∙ sym (append_assoc written front canvas))

@@ -21,8 +21,8 @@ use Rattle.wb_script.specs.Board.{Held}
 use Rattle.wb_script.specs.Hosts.{Opened, present, words_for, word_at, heard}
 use Rattle.wb_script.specs.Random.{after_words}
 use Rattle.wb_script.specs.SentLines.{sends_text}
-use Rattle.wb_script.specs.Stations.{IsOpenAt, DoesAct}
-use Rattle.wb_script.proofs.Acts.{station, same_history, called}
+use Rattle.wb_script.specs.Members.{IsOpenAt, DoesAct}
+use Rattle.wb_script.proofs.Acts.{member, same_history, called}
 
 -- ---- room for marks
 
@@ -33,7 +33,7 @@ same_room one other (Draw d) same = refl
 same_room one other (Request asker name) same = refl
 same_room one other (AskPages asker) same = refl
 
--- a datagram that tells no marks has room, and draws what it draws
+-- a datagram that tells no marks has room, and takes the words that it takes
 no_words : (me : ℕ) (h : PageId → List MarkValue) (v : Datagram) → is_own me v || has_room h v ≡ false → words_for v ≡ 0
 no_words me h (Session sender sent page marks echoes) e = refl
 no_words me h (PageState sender page marks) e = refl
@@ -63,7 +63,7 @@ no_room false soon room r is e f k = absurd cc
 record Same (k : KeeperValue) (host : Opened) (v : Datagram) : Type 0 where
   room : is_own k.me v || has_room (marks_at k.marks) v ≡ is_own host.me v || has_room (marks_heard host.me host.calls) v
 
-same_tests : (b : Held) (k : KeeperValue) (g : Lcg) (host : Opened) (v : Datagram) → IsOpenAt (station b k g) host → Same k host v
+same_tests : (b : Held) (k : KeeperValue) (g : Lcg) (host : Opened) (v : Datagram) → IsOpenAt (member b k g) host → Same k host v
 same_tests b k g host v at = record {
   room = ap (λ (me : ℕ). is_own me v || has_room (marks_at k.marks) v) at.keeper.me_is ∙ ap (λ (t : Bool). is_own host.me v || t) (same_room (marks_at k.marks) (marks_heard host.me host.calls) v at.keeper.merged);
 }
@@ -73,10 +73,10 @@ moment_tests m early = (grind (arith, nat_tests), grind (arith, nat_tests))
 
 -- ---- what a host that heard a datagram does
 
-pub hear_done : {X : Type 0} (x : X) (number : ℕ) (b : Held) (k k' : KeeperValue) (g g' : Lcg) (host : Opened) (v : Datagram) (word : ℕ) (sent : List Datagram) (text : List ℕ) → IsOpenAt (station b k g) host → k.moment < 2 ^ 48
+pub hear_done : {X : Type 0} (x : X) (number : ℕ) (b : Held) (k k' : KeeperValue) (g g' : Lcg) (host : Opened) (v : Datagram) (word : ℕ) (sent : List Datagram) (text : List ℕ) → IsOpenAt (member b k g) host → k.moment < 2 ^ 48
     → IsKeptBy (hear_fault k.me k.moment (marks_at k.marks) k.moment v) (Ok x) → word ≡ word_at v g → g' ≡ after_words g (words_for v) → sent ≡ answers_to k.me b.drawops v → Keeps (Hear k.moment v word (asks_for_held b.drawops v)) k k' → text ≡ sends_text sent
-    → DoesAct {U = Unit {0}} number host (station b k' g') text (Ok tt) (heard v host)
-hear_done x number b k k' g g' host v word sent text at early kept drawn left told keeps printed =
+    → DoesAct {U = Unit {0}} number host (member b k' g') text (Ok tt) (heard v host)
+hear_done x number b k k' g g' host v word sent text at early kept words left told keeps printed =
     let tests = moment_tests k.moment early in
     let room : is_own host.me v || has_room (marks_heard host.me host.calls) v ≡ true =
     sym (same_tests b k g host v at).room ∙ room_left (nat_le k.moment k.moment) (nat_lt k.moment (2 ^ 48)) (is_own k.me v || has_room (marks_at k.marks) v) x tests.0 tests.1 kept in
@@ -85,13 +85,13 @@ hear_done x number b k k' g g' host v word sent text at early kept drawn left to
     told ∙ ap (λ (me : ℕ). answers_to me b.drawops v) at.keeper.me_is ∙ ap (λ (l : List DrawopValue). answers_to host.me l v) ds in
     let call : Hear k.moment v word (asks_for_held b.drawops v) ≡ Hear (present host) v (word_at v host.random) (asks_for_held host.board.drawops v) =
     ap (λ (m : ℕ). Hear m v word (asks_for_held b.drawops v)) at.keeper.moment
-    ∙ ap (λ (n : ℕ). Hear (present host) v n (asks_for_held b.drawops v)) (drawn ∙ ap (word_at v) at.words)
+    ∙ ap (λ (n : ℕ). Hear (present host) v n (asks_for_held b.drawops v)) (words ∙ ap (word_at v) at.words)
     ∙ ap (λ (l : List DrawopValue). Hear (present host) v (word_at v host.random) (asks_for_held l v)) ds in
     rw room (called b k k' g g' host (Hear k.moment v word (asks_for_held b.drawops v)) (Hear (present host) v (word_at v host.random) (asks_for_held host.board.drawops v)) (words_for v) at keeps call left, printed ∙ ap sends_text is)
 
-pub hear_refused : {X : Type 0} (r : Result X KeepFault) (number : ℕ) (b : Held) (k : KeeperValue) (g g' : Lcg) (host : Opened) (v : Datagram) → IsOpenAt (station b k g) host → k.moment < 2 ^ 48 → r ≡ Err keeping.TooMany
+pub hear_refused : {X : Type 0} (r : Result X KeepFault) (number : ℕ) (b : Held) (k : KeeperValue) (g g' : Lcg) (host : Opened) (v : Datagram) → IsOpenAt (member b k g) host → k.moment < 2 ^ 48 → r ≡ Err keeping.TooMany
     → IsKeptBy (hear_fault k.me k.moment (marks_at k.marks) k.moment v) r → g' ≡ after_words g (words_for v)
-    → DoesAct {U = Unit {0}} number host (station b k g') [] (Err (run_faults.Line number faults.TooMany)) (heard v host)
+    → DoesAct {U = Unit {0}} number host (member b k g') [] (Err (run_faults.Line number faults.TooMany)) (heard v host)
 hear_refused r number b k g g' host v at early fault kept left =
     let tests = moment_tests k.moment early in
     let full : is_own host.me v || has_room (marks_heard host.me host.calls) v ≡ false =

@@ -6,7 +6,7 @@ pub mod Looking
 pub mod ReadLines
 pub mod Following
 pub mod EarlyEnds
-pub mod Drawing
+pub mod TakingArrivals
 pub mod RunOn
 pub mod Endings
 pub mod Queries
@@ -38,5 +38,5 @@ pub mod AlikeActs
 pub mod AlikeBatches
 pub mod AlikeLines
 pub mod AlikeOutcomes
-pub mod DrawnWords
+pub mod SeedWords
 pub mod SentDigits

@@ -11,7 +11,7 @@ use Rattle.wb_host.specs.Keeper.{high_heard}
 use Rattle.wb_host.proofs.HeardNumbers.{marks_are_greatest}
 use Rattle.wb_script.specs.Driving.{IsUnreached, last_number, next_number}
 use Rattle.wb_script.specs.Hosts.{Opened}
-use Rattle.wb_script.specs.Stations.{StationValue, IsOpenAt}
+use Rattle.wb_script.specs.Members.{MemberValue, IsOpenAt}
 
 max_left : (a b : ℕ) → a ≤ max a b
 max_left a b = omega arith
@@ -38,8 +38,8 @@ module _ (page : PageId) (host : Opened) (marks : mark_of (marks_heard host.me h
     from true e = let is : last_number page host + 1 ≡ number = cc in above number (omega (arith, is))
     from false e = absurd cc
 
--- so where a station gives it
-pub by_number : (result : Option ℕ) (v : StationValue) (page : PageId) → ((host : Opened) → IsOpenAt v host → result ≡ next_number page host) → IfSome result (λ (number : ℕ). (host : Opened) → IsOpenAt v host → IsUnreached page host number)
+-- so where a member gives it
+pub by_number : (result : Option ℕ) (v : MemberValue) (page : PageId) → ((host : Opened) → IsOpenAt v host → result ≡ next_number page host) → IfSome result (λ (number : ℕ). (host : Opened) → IsOpenAt v host → IsUnreached page host number)
 by_number None v page same = tt
 by_number (Some number) v page same = λ host at.
     let marks = ap (λ (l : List MarkValue). mark_of l host.me) (sym (at.keeper.merged page)) ∙ at.keeper.marks page host.me in

@@ -14,8 +14,8 @@ use Rattle.wb_script.specs.Board.{Held, held_of}
 use Rattle.wb_script.specs.Driving.{acceptance_of, acceptance, accepted}
 use Rattle.wb_script.specs.declared.acceptance.Acceptance.{Acceptance}
 use Rattle.wb_script.specs.Hosts.{Opened, present, board_after, names_of}
-use Rattle.wb_script.specs.Stations.{IsOpenAt}
-use Rattle.wb_script.proofs.Acts.{station}
+use Rattle.wb_script.specs.Members.{IsOpenAt}
+use Rattle.wb_script.proofs.Acts.{member}
 
 take_front : (xs ys : List DrawopValue) (n : ℕ) → n ≡ length xs → take n (xs ++ ys) ≡ xs
 take_front xs ys n e = ap (λ (k : ℕ). take k (xs ++ ys)) e ∙ take-append_seam xs ys
@@ -52,8 +52,8 @@ held p q h d o view sound whole cells b =
     ∙ ap (λ (k : Held). board_after k (d ∷ [])) view
 
 -- the keeper was told of it
-pub told : (b b' : Held) (k k' : KeeperValue) (g : Lcg) (host : Opened) (d : DrawopValue) (name : NameValue) (a : Acceptance) → IsOpenAt (station b k g) host → name ≡ d.name → a ≡ acceptance_of (outcome_of b.cells b.drawops d) → b' ≡ board_after b (d ∷ [])
-    → Keeps (Arrive k.moment (filter (holds b'.drawops) (name ∷ []))) k k' → (a ≡ acceptance d host) × IsOpenAt (station b' k' g) (accepted d host)
+pub told : (b b' : Held) (k k' : KeeperValue) (g : Lcg) (host : Opened) (d : DrawopValue) (name : NameValue) (a : Acceptance) → IsOpenAt (member b k g) host → name ≡ d.name → a ≡ acceptance_of (outcome_of b.cells b.drawops d) → b' ≡ board_after b (d ∷ [])
+    → Keeps (Arrive k.moment (filter (holds b'.drawops) (name ∷ []))) k k' → (a ≡ acceptance d host) × IsOpenAt (member b' k' g) (accepted d host)
 told b b' k k' g host d name a at named is after keeps =
     let board : b' ≡ board_after host.board (d ∷ []) = after ∙ ap (λ (h : Held). board_after h (d ∷ [])) at.board in
     let call : Arrive k.moment (filter (holds b'.drawops) (name ∷ [])) ≡ Arrive (present host) (filter (holds (board_after host.board (d ∷ [])).drawops) (names_of (d ∷ []))) =

@@ -7,7 +7,7 @@ use Rattle.wb_script.specs.declared.fault.LineFault.{LineFault}
 use Rattle.wb_script.specs.declared.fault.LineFault.TheVariants as faults
 use Rattle.wb_script.specs.declared.fault.RunFault.{RunFault}
 use Rattle.wb_script.specs.declared.fault.RunFault.TheVariants as run_faults
-use Rattle.wb_script.specs.declared.line.Line.{Line}
+use Rattle.wb_script.specs.declared.command.Command.{Command}
 use Rattle.wb_script.specs.declared.taking.PrintedBatch.{PrintedBatch}
 use Rattle.wb_lines.specs.Ahead.{Ahead, IsLine, Pulls}
 use Rattle.wb_script.specs.Hosts.{Opened, host_after}
@@ -17,7 +17,7 @@ use Rattle.wb_script.specs.Script.{State, IsAlone, Part, Arrival, Nothing, End, 
 use Rattle.wb_script.specs.Inside.Parts.{IsPartOf}
 use Rattle.wb_script.specs.Inside.Passing.{Passes, Stops, Ends, RunsOn}
 use Rattle.wb_script.specs.Inside.Lines.{LinesValue, EndsWith, Fronts, Says, TakesNext}
-use Rattle.wb_script.specs.Stations.{StationValue, IsOpenAt, MayBeOpenAt}
+use Rattle.wb_script.specs.Members.{MemberValue, IsOpenAt, MayBeOpenAt}
 use Rattle.wb_script.specs.Inside.Steps.{HostValue, IsAt, IsLeftAt, DoesStep, MayDoStep}
 use Rattle.wb_script.specs.Inside.Reading.{IsOpen, with_waiting}
 use Rattle.wb_script.specs.Inside.Taking.{GoesOn, TakesBatchOn}
@@ -39,7 +39,7 @@ arrival_is : (next : Option InputLine) (d : DrawopValue) → IsPartOf (parts.Arr
 arrival_is None d part = absurd part
 arrival_is (Some line) d part = part
 
-pub said_is : (next : Option InputLine) (said : Result Line LineFault) → Says next said → PartIs next (part_of said)
+pub said_is : (next : Option InputLine) (said : Result Command LineFault) → Says next said → PartIs next (part_of said)
 said_is None said is = absurd is
 said_is (Some line) said is = ap part_of is
 
@@ -86,12 +86,12 @@ refuses_on next ahead done new e s host failed said t at =
 -- ---- an arrival
 
 -- no board is open
-pub arrives_nowhere : (next : Option InputLine) (ahead : Ahead) (done : ℕ) (new : LinesValue) (d : DrawopValue) (s : State) (old host : HostValue) (failed : Bool) → IsPartOf (parts.Arrival d) next → TakesNext next ahead done new → IsAt old s → old.station ≡ None → host.station ≡ None → host.workers ≡ old.workers
+pub arrives_nowhere : (next : Option InputLine) (ahead : Ahead) (done : ℕ) (new : LinesValue) (d : DrawopValue) (s : State) (old host : HostValue) (failed : Bool) → IsPartOf (parts.Arrival d) next → TakesNext next ahead done new → IsAt old s → old.member ≡ None → host.member ≡ None → host.workers ≡ old.workers
     → (t : State) × IsLeftAt {X = Unit {0}} host (Err (run_faults.Line new.done faults.NoBoard)) t × RunsOn {U = Unit {0}} done s ahead [] [] new.done t new.ahead failed (Err (run_faults.Line new.done faults.NoBoard))
 arrives_nowhere next ahead done new d s old host failed part t at closed none same =
-    seen_runs next ahead done new (Arrival d) s host [] failed (Err (run_faults.Line new.done faults.NoBoard)) (arrival_is next d part) t (s.waiting, as_it_came s.workers s.waiting, go s.host (subst (λ (v : Option StationValue). MayBeOpenAt v s.host) closed at.station)) where
+    seen_runs next ahead done new (Arrival d) s host [] failed (Err (run_faults.Line new.done faults.NoBoard)) (arrival_is next d part) t (s.waiting, as_it_came s.workers s.waiting, go s.host (subst (λ (v : Option MemberValue). MayBeOpenAt v s.host) closed at.member)) where
       here : IsAt host s
-      here = record { station = subst (λ (v : Option StationValue). MayBeOpenAt v s.host) (closed ∙ sym none) at.station; workers = same ∙ at.workers; waiting = at.waiting }
+      here = record { member = subst (λ (v : Option MemberValue). MayBeOpenAt v s.host) (closed ∙ sym none) at.member; workers = same ∙ at.workers; waiting = at.waiting }
 
       go : (o : Option Opened) → MayBeOpenAt None o → DoesStep {U = Unit {0}} new.done host [] (Err (run_faults.Line new.done faults.NoBoard)) (by_host o (refused s [] faults.NoBoard) (λ h. goes (with_waiting s (s.waiting ++ d ∷ [])) []))
       go None is = inr (refl, here, refl)
@@ -118,45 +118,45 @@ left_at : (host : HostValue) (fault : Option RunFault) (t : State) → IsAt host
 left_at host None t at = at
 left_at host (Some f) t at = λ going. at
 
-open_host : (s : State) (v : StationValue) → MayBeOpenAt (Some v) s.host → (host : Opened) × (s.host ≡ Some host) × IsOpenAt v host
+open_host : (s : State) (v : MemberValue) → MayBeOpenAt (Some v) s.host → (host : Opened) × (s.host ≡ Some host) × IsOpenAt v host
 open_host s v o = go s.host o refl where
   go : (x : Option Opened) → MayBeOpenAt (Some v) x → s.host ≡ x → (host : Opened) × (s.host ≡ Some host) × IsOpenAt v host
   go None is e = absurd is
   go (Some host) is e = (host, e, is)
 
-at_after : (s : State) (host : Opened) (batch order : List DrawopValue) (v : StationValue) (k : Option ℕ) → s.host ≡ Some host → k ≡ s.workers → IsOpenAt v (host_after host batch order) → IsAt (record { station = Some v; workers = k }) (after_batch (with_waiting s batch) order)
+at_after : (s : State) (host : Opened) (batch order : List DrawopValue) (v : MemberValue) (k : Option ℕ) → s.host ≡ Some host → k ≡ s.workers → IsOpenAt v (host_after host batch order) → IsAt (record { member = Some v; workers = k }) (after_batch (with_waiting s batch) order)
 at_after s host batch order v k is same leads = record {
-  station = subst (λ (o : Option Opened). MayBeOpenAt (Some v) (by_host {X = Option Opened} o None (λ h. Some (host_after h batch order)))) (sym is) leads;
+  member = subst (λ (o : Option Opened). MayBeOpenAt (Some v) (by_host {X = Option Opened} o None (λ h. Some (host_after h batch order)))) (sym is) leads;
   workers = same;
   waiting = refl;
 }
 
 -- The batch that begins with it, and the rest of which is read on by so many workers.
-abbrev pub BatchOn : StationValue → ℕ → LinesValue → DrawopValue → List ℕ → List ℕ → LinesValue → Bool → Result PrintedBatch RunFault → Type 0
+abbrev pub BatchOn : MemberValue → ℕ → LinesValue → DrawopValue → List ℕ → List ℕ → LinesValue → Bool → Result PrintedBatch RunFault → Type 0
 BatchOn v count mid d given written new failed result = (s : State) (host : Opened) → s.host ≡ Some host → (IsAlone s.workers → count ≤ 1) → IsOpenAt v host → TakesBatchOn s host mid d given written new failed result
 
-pub arrives_open : (next : Option InputLine) (ahead : Ahead) (done : ℕ) (mid new : LinesValue) (d : DrawopValue) (s : State) (old : HostValue) (v : StationValue) (k : Option ℕ) (count : ℕ) (given written : List ℕ) (failed : Bool) (taken : PrintedBatch)
-    → IsPartOf (parts.Arrival d) next → TakesNext next ahead done mid → IsAt old s → old.station ≡ Some v → k ≡ old.workers → (IsAlone k → count ≤ 1) → (mid.ahead.ended ≡ true → given ≡ []) → (mid.ahead.ended ≡ true → new.ahead.ended ≡ true)
+pub arrives_open : (next : Option InputLine) (ahead : Ahead) (done : ℕ) (mid new : LinesValue) (d : DrawopValue) (s : State) (old : HostValue) (v : MemberValue) (k : Option ℕ) (count : ℕ) (given written : List ℕ) (failed : Bool) (taken : PrintedBatch)
+    → IsPartOf (parts.Arrival d) next → TakesNext next ahead done mid → IsAt old s → old.member ≡ Some v → k ≡ old.workers → (IsAlone k → count ≤ 1) → (mid.ahead.ended ≡ true → given ≡ []) → (mid.ahead.ended ≡ true → new.ahead.ended ≡ true)
     → BatchOn v count mid d given written new failed (Ok taken)
-    → (t : State) × IsLeftAt (record { station = Some taken.station; workers = k }) (ending_of taken.fault) t × RunsOn done s ahead given written new.done t new.ahead failed (ending_of taken.fault)
-arrives_open next ahead done mid new d s old v k count given written failed taken part t at station workers few none stays batch =
-    let o = open_host s v (subst (λ (x : Option StationValue). MayBeOpenAt x s.host) station at.station) in
+    → (t : State) × IsLeftAt (record { member = Some taken.member; workers = k }) (ending_of taken.fault) t × RunsOn done s ahead given written new.done t new.ahead failed (ending_of taken.fault)
+arrives_open next ahead done mid new d s old v k count given written failed taken part t at member workers few none stays batch =
+    let o = open_host s v (subst (λ (x : Option MemberValue). MayBeOpenAt x s.host) member at.member) in
     let same : k ≡ s.workers = workers ∙ at.workers in
     let b = batch s o.0 o.1 (λ a. few (subst IsAlone (sym same) a)) o.2 in
     let opened : IsOpen s.host = subst IsOpen (sym o.1) tt in
     let after : State = after_batch (with_waiting s b.batch) b.order in (
       after,
-      left_at (record { station = Some taken.station; workers = k }) taken.fault after (at_after s o.0 b.batch b.order taken.station k o.1 same b.leads),
+      left_at (record { member = Some taken.member; workers = k }) taken.fault after (at_after s o.0 b.batch b.order taken.member k o.1 same b.leads),
       goes_over taken.fault done s after ahead mid new d given written failed none stays (begins next ahead done mid d s opened at.waiting part t) b.goes,
     )
 
 -- it could not be taken
-pub arrives_refused : (done : ℕ) (ahead : Ahead) (mid new : LinesValue) (d : DrawopValue) (s : State) (old host : HostValue) (v : StationValue) (k : Option ℕ) (count : ℕ) (given written : List ℕ) (failed : Bool) (f : RunFault)
-    → IsAt old s → old.station ≡ Some v → k ≡ old.workers → (IsAlone k → count ≤ 1)
+pub arrives_refused : (done : ℕ) (ahead : Ahead) (mid new : LinesValue) (d : DrawopValue) (s : State) (old host : HostValue) (v : MemberValue) (k : Option ℕ) (count : ℕ) (given written : List ℕ) (failed : Bool) (f : RunFault)
+    → IsAt old s → old.member ≡ Some v → k ≡ old.workers → (IsAlone k → count ≤ 1)
     → BatchOn v count mid d given written new failed (Err f)
     → (t : State) × IsLeftAt {X = Unit {0}} host (Err f) t × RunsOn {U = Unit {0}} done s ahead given written new.done t new.ahead failed (Err f)
-arrives_refused done ahead mid new d s old host v k count given written failed f at station workers few batch =
-    let o = open_host s v (subst (λ (x : Option StationValue). MayBeOpenAt x s.host) station at.station) in
+arrives_refused done ahead mid new d s old host v k count given written failed f at member workers few batch =
+    let o = open_host s v (subst (λ (x : Option MemberValue). MayBeOpenAt x s.host) member at.member) in
     let same : k ≡ s.workers = workers ∙ at.workers in
     let b = batch s o.0 o.1 (λ a. few (subst IsAlone (sym same) a)) o.2 in
     (s, never_left host s f b.0, subst (λ (w : List ℕ). Stops done s ahead given w s new.ahead failed f) (sym b.1) (stops_at_once done s s ahead new.ahead given failed f b.0))

@@ -9,8 +9,8 @@ use Rattle.std.specs.Prelude.{unwrap_or}
 use Rattle.wb_script.specs.declared.fault.LineFault.{LineFault}
 use Rattle.wb_script.specs.declared.fault.RunFault.{RunFault}
 use Rattle.wb_script.specs.declared.fault.RunFault.TheVariants as run_faults
-use Rattle.wb_script.specs.declared.line.Line.{Line}
-use Rattle.wb_script.specs.declared.line.Line.TheVariants.{Skip}
+use Rattle.wb_script.specs.declared.command.Command.{Command}
+use Rattle.wb_script.specs.declared.command.Command.TheVariants.{Skip}
 use Rattle.wb_script.specs.declared.summary.Summary.{Summary}
 use Rattle.wb_lines.specs.Ahead.{IsLine}
 use Rattle.wb_script.specs.Hosts.{Opened, opened, Act, does, fails, act}
@@ -208,7 +208,7 @@ skips cut n s line lines is skip few =
     let first : outcome_from cut n s (whole_line line ∷ lines) ≡ proceed (n + 1) (step_of s s.waiting (strip_carriage_return line)) (λ t. outcome_from cut (n + 1) t lines) =
     one_line cut n s (whole_line line) lines refl (fits most_lines n line (omega arith) is.short) in
     let none : proceed (n + 1) (step_of s s.waiting (strip_carriage_return line)) (λ t. outcome_from cut (n + 1) t lines) ≡ outcome_from cut (n + 1) s lines =
-    ap (λ (said : Result Line LineFault). proceed (n + 1) (part_step s s.waiting (part_of said)) (λ t. outcome_from cut (n + 1) t lines)) skip ∙ before-nil (outcome_from cut (n + 1) s lines) in
+    ap (λ (said : Result Command LineFault). proceed (n + 1) (part_step s s.waiting (part_of said)) (λ t. outcome_from cut (n + 1) t lines)) skip ∙ before-nil (outcome_from cut (n + 1) s lines) in
     ap text_of (first ∙ none) ∙ text_later cut n s lines few
 
 pub skipped_prints_nothing : SkippedPrintsNothing

@@ -12,13 +12,13 @@ use Rattle.wb_host.specs.Keeping.{KeeperValue, StandsFor, Keeps}
 use Rattle.wb_script.specs.declared.fault.LineFault.TheVariants as faults
 use Rattle.wb_script.specs.declared.fault.RunFault.{RunFault}
 use Rattle.wb_script.specs.declared.fault.RunFault.TheVariants as run_faults
-use Rattle.wb_script.specs.declared.line.Line.{Line}
+use Rattle.wb_script.specs.declared.command.Command.{Command}
 use Rattle.wb_script.specs.declared.summary.Summary.{Summary}
 use Rattle.wb_script.specs.Board.{Held}
 use Rattle.wb_script.specs.Answers.{batch_line}
 use Rattle.wb_script.specs.Hosts.{Opened, opened, present, board_after, names_of, host_after, batch_text, Act, does, fails, act}
 use Rattle.wb_script.specs.Script.{State, InSomeOrder, Opens, Acts, goes, refused, by_host, closing_text, after_batch, step_by, closing_step, held_count, Outcome, finish, Finishes, is_stop, StopsWithin}
-use Rattle.wb_script.specs.Stations.{StationValue, IsOpenAt, MayBeOpenAt, DoesAct}
+use Rattle.wb_script.specs.Members.{MemberValue, IsOpenAt, MayBeOpenAt, DoesAct}
 use Rattle.wb_script.specs.Inside.Steps.{HostValue, IsAt, TakesBatch, DoesStep, IsLeftAt}
 use Rattle.wb_script.specs.Inside.Passing.{Settles, Closes, ClosesAfter}
 use Rattle.wb_script.proofs.Outcomes.{as_it_came}
@@ -39,24 +39,24 @@ stops_after text written f d = (d.0, (d.1.0, sym (append-nil text) ∙ ap (λ (x
 -- ---- what follows the end of a batch
 
 -- no board is open
-pub acts_nowhere : (number : ℕ) (k : Option ℕ) (t : State) (text : List ℕ) (line : Line) → IsAt (record { station = None; workers = k }) t → DoesStep {U = Unit {0}} number (record { station = None; workers = k }) text (Err (run_faults.Line number faults.NoBoard)) (closing_step t text (Acts line))
-acts_nowhere number k t text line is = at t.host is.station where
-  at : (host : Option Opened) → MayBeOpenAt None host → DoesStep {U = Unit {0}} number (record { station = None; workers = k }) text (Err (run_faults.Line number faults.NoBoard)) (by_host host (refused t text faults.NoBoard) (λ host. step_by t.workers text (act line host) host))
+pub acts_nowhere : (number : ℕ) (k : Option ℕ) (t : State) (text : List ℕ) (line : Command) → IsAt (record { member = None; workers = k }) t → DoesStep {U = Unit {0}} number (record { member = None; workers = k }) text (Err (run_faults.Line number faults.NoBoard)) (closing_step t text (Acts line))
+acts_nowhere number k t text line is = at t.host is.member where
+  at : (host : Option Opened) → MayBeOpenAt None host → DoesStep {U = Unit {0}} number (record { member = None; workers = k }) text (Err (run_faults.Line number faults.NoBoard)) (by_host host (refused t text faults.NoBoard) (λ host. step_by t.workers text (act line host) host))
   at None o = inr (refl, is, refl)
   at (Some host) o = absurd o
 
 -- the line was done
-act_done : (number : ℕ) (k j : Option ℕ) (host : Opened) (w : StationValue) (text b : List ℕ) (r : Result (Unit {0}) RunFault) (a : Act) → k ≡ j → DoesAct number host w b r a → DoesStep number (record { station = Some w; workers = k }) (text ++ b) r (step_by j text a host)
-act_done number k j host w text b (Ok u) (does next printed) same d = (record { station = d.0; workers = same; waiting = refl }, ap (λ (x : List ℕ). text ++ x) d.1)
+act_done : (number : ℕ) (k j : Option ℕ) (host : Opened) (w : MemberValue) (text b : List ℕ) (r : Result (Unit {0}) RunFault) (a : Act) → k ≡ j → DoesAct number host w b r a → DoesStep number (record { member = Some w; workers = k }) (text ++ b) r (step_by j text a host)
+act_done number k j host w text b (Ok u) (does next printed) same d = (record { member = d.0; workers = same; waiting = refl }, ap (λ (x : List ℕ). text ++ x) d.1)
 act_done number k j host w text b (Ok u) (fails e) same d = absurd d
 act_done number k j host w text b (Err f) (does next printed) same d = stops_behind text printed b f d
 act_done number k j host w text b (Err f) (fails e) same (inl d) = inl (stops_after text b f d)
-act_done number k j host w text b (Err f) (fails e) same (inr d) = inr (d.0, record { station = d.1; workers = same; waiting = refl }, ap (λ (x : List ℕ). text ++ x) d.2 ∙ append-nil text)
+act_done number k j host w text b (Err f) (fails e) same (inr d) = inr (d.0, record { member = d.1; workers = same; waiting = refl }, ap (λ (x : List ℕ). text ++ x) d.2 ∙ append-nil text)
 
-pub acts_done : (number : ℕ) (t : State) (k : Option ℕ) (v w : StationValue) (text b : List ℕ) (line : Line) (r : Result (Unit {0}) RunFault) → IsAt (record { station = Some v; workers = k }) t
-    → ((host : Opened) → IsOpenAt v host → DoesAct number host w b r (act line host)) → DoesStep number (record { station = Some w; workers = k }) (text ++ b) r (closing_step t text (Acts line))
-acts_done number t k v w text b line r is d = at t.host is.station where
-  at : (host : Option Opened) → MayBeOpenAt (Some v) host → DoesStep number (record { station = Some w; workers = k }) (text ++ b) r (by_host host (refused t text faults.NoBoard) (λ host. step_by t.workers text (act line host) host))
+pub acts_done : (number : ℕ) (t : State) (k : Option ℕ) (v w : MemberValue) (text b : List ℕ) (line : Command) (r : Result (Unit {0}) RunFault) → IsAt (record { member = Some v; workers = k }) t
+    → ((host : Opened) → IsOpenAt v host → DoesAct number host w b r (act line host)) → DoesStep number (record { member = Some w; workers = k }) (text ++ b) r (closing_step t text (Acts line))
+acts_done number t k v w text b line r is d = at t.host is.member where
+  at : (host : Option Opened) → MayBeOpenAt (Some v) host → DoesStep number (record { member = Some w; workers = k }) (text ++ b) r (by_host host (refused t text faults.NoBoard) (λ host. step_by t.workers text (act line host) host))
   at None o = absurd o
   at (Some host) o = act_done number k t.workers host w text b r (act line host) is.workers (d host o)
 
@@ -67,30 +67,30 @@ pub record EndsEmpty (h : HostValue) (s : State) (order : List DrawopValue) : Ty
   pub leads : IsAt h (after_batch s order)
   pub text : [] ≡ closing_text s order
 
-pub ends_nowhere : (number : ℕ) (s : State) (order : List DrawopValue) (mid : HostValue) (v : Option StationValue) (k : Option ℕ) (line : Line) → record { station = v; workers = k } ≡ mid → v ≡ None → EndsEmpty mid s order
-    → DoesStep {U = Unit {0}} number (record { station = v; workers = k }) [] (Err (run_faults.Line number faults.NoBoard)) (closing_step (after_batch s order) (closing_text s order) (Acts line))
+pub ends_nowhere : (number : ℕ) (s : State) (order : List DrawopValue) (mid : HostValue) (v : Option MemberValue) (k : Option ℕ) (line : Command) → record { member = v; workers = k } ≡ mid → v ≡ None → EndsEmpty mid s order
+    → DoesStep {U = Unit {0}} number (record { member = v; workers = k }) [] (Err (run_faults.Line number faults.NoBoard)) (closing_step (after_batch s order) (closing_text s order) (Acts line))
 ends_nowhere number s order mid (Some v) k line view none ends = absurd cc
 ends_nowhere number s order mid None k line view none ends =
-    subst (λ (x : List ℕ). DoesStep {U = Unit {0}} number (record { station = None; workers = k }) x (Err (run_faults.Line number faults.NoBoard)) (closing_step (after_batch s order) (closing_text s order) (Acts line))) (sym ends.text)
+    subst (λ (x : List ℕ). DoesStep {U = Unit {0}} number (record { member = None; workers = k }) x (Err (run_faults.Line number faults.NoBoard)) (closing_step (after_batch s order) (closing_text s order) (Acts line))) (sym ends.text)
     (acts_nowhere number k (after_batch s order) (closing_text s order) line (subst (λ (h : HostValue). IsAt h (after_batch s order)) (sym view) ends.leads))
 
-pub ends_then : (number : ℕ) (s : State) (order : List DrawopValue) (mid : HostValue) (o : Option StationValue) (v w : StationValue) (k : Option ℕ) (b : List ℕ) (line : Line) (r : Result (Unit {0}) RunFault) → record { station = o; workers = k } ≡ mid → o ≡ Some v → EndsEmpty mid s order
-    → ((host : Opened) → IsOpenAt v host → DoesAct number host w b r (act line host)) → DoesStep number (record { station = Some w; workers = k }) b r (closing_step (after_batch s order) (closing_text s order) (Acts line))
+pub ends_then : (number : ℕ) (s : State) (order : List DrawopValue) (mid : HostValue) (o : Option MemberValue) (v w : MemberValue) (k : Option ℕ) (b : List ℕ) (line : Command) (r : Result (Unit {0}) RunFault) → record { member = o; workers = k } ≡ mid → o ≡ Some v → EndsEmpty mid s order
+    → ((host : Opened) → IsOpenAt v host → DoesAct number host w b r (act line host)) → DoesStep number (record { member = Some w; workers = k }) b r (closing_step (after_batch s order) (closing_text s order) (Acts line))
 ends_then number s order mid o v w k b line r view some ends d =
-    let there : IsAt (record { station = o; workers = k }) (after_batch s order) = subst (λ (h : HostValue). IsAt h (after_batch s order)) (sym view) ends.leads in
-    let known : IsAt (record { station = Some v; workers = k }) (after_batch s order) = subst (λ (p : Option StationValue). IsAt (record { station = p; workers = k }) (after_batch s order)) some there in
-    subst (λ (x : List ℕ). DoesStep number (record { station = Some w; workers = k }) (x ++ b) r (closing_step (after_batch s order) (closing_text s order) (Acts line))) (sym ends.text)
+    let there : IsAt (record { member = o; workers = k }) (after_batch s order) = subst (λ (h : HostValue). IsAt h (after_batch s order)) (sym view) ends.leads in
+    let known : IsAt (record { member = Some v; workers = k }) (after_batch s order) = subst (λ (p : Option MemberValue). IsAt (record { member = p; workers = k }) (after_batch s order)) some there in
+    subst (λ (x : List ℕ). DoesStep number (record { member = Some w; workers = k }) (x ++ b) r (closing_step (after_batch s order) (closing_text s order) (Acts line))) (sym ends.text)
     (acts_done number (after_batch s order) k v w (closing_text s order) b line r known d)
 
 -- a board is opened
-pub opens : (number : ℕ) (old new : HostValue) (s : State) (order : List DrawopValue) (v : StationValue) (member cells workers seed : ℕ) → EndsEmpty old s order → old.station ≡ None → new.station ≡ Some v → new.workers ≡ Some (unwrap_or old.workers workers) → IsOpenAt v (opened member cells seed)
+pub opens : (number : ℕ) (old new : HostValue) (s : State) (order : List DrawopValue) (v : MemberValue) (member cells workers seed : ℕ) → EndsEmpty old s order → old.member ≡ None → new.member ≡ Some v → new.workers ≡ Some (unwrap_or old.workers workers) → IsOpenAt v (opened member cells seed)
     → DoesStep {U = Unit {0}} number new [] (Ok tt) (closing_step (after_batch s order) (closing_text s order) (Opens member cells workers seed))
-opens number old new s order v member cells workers seed ends closed open_now known is = go (after_batch s order).host (subst (λ (x : Option StationValue). MayBeOpenAt x (after_batch s order).host) closed ends.leads.station) where
+opens number old new s order v member cells workers seed ends closed open_now known is = go (after_batch s order).host (subst (λ (x : Option MemberValue). MayBeOpenAt x (after_batch s order).host) closed ends.leads.member) where
   go : (host : Option Opened) → MayBeOpenAt None host
       → DoesStep {U = Unit {0}} number new [] (Ok tt) (by_host host (goes (record { host = Some (opened member cells seed); workers = Some (unwrap_or s.workers workers); waiting = [] }) (closing_text s order)) (λ host. refused (after_batch s order) (closing_text s order) faults.SecondBoard))
   go None o = (
     record {
-      station = subst (λ (x : Option StationValue). MayBeOpenAt x (Some (opened member cells seed))) (sym open_now) is;
+      member = subst (λ (x : Option MemberValue). MayBeOpenAt x (Some (opened member cells seed))) (sym open_now) is;
       workers = known ∙ ap (λ (k : Option ℕ). Some (unwrap_or k workers)) ends.leads.workers;
       waiting = refl;
     },
@@ -99,9 +99,9 @@ opens number old new s order v member cells workers seed ends closed open_now kn
   go (Some host) o = absurd o
 
 -- one is open already
-pub opens_twice : (number : ℕ) (old : HostValue) (s : State) (order : List DrawopValue) (v : StationValue) (member cells workers seed : ℕ) → EndsEmpty old s order → old.station ≡ Some v
+pub opens_twice : (number : ℕ) (old : HostValue) (s : State) (order : List DrawopValue) (v : MemberValue) (member cells workers seed : ℕ) → EndsEmpty old s order → old.member ≡ Some v
     → DoesStep {U = Unit {0}} number old [] (Err (run_faults.Line number faults.SecondBoard)) (closing_step (after_batch s order) (closing_text s order) (Opens member cells workers seed))
-opens_twice number old s order v member cells workers seed ends open_now = go (after_batch s order).host (subst (λ (x : Option StationValue). MayBeOpenAt x (after_batch s order).host) open_now ends.leads.station) where
+opens_twice number old s order v member cells workers seed ends open_now = go (after_batch s order).host (subst (λ (x : Option MemberValue). MayBeOpenAt x (after_batch s order).host) open_now ends.leads.member) where
   go : (host : Option Opened) → MayBeOpenAt (Some v) host
       → DoesStep {U = Unit {0}} number old [] (Err (run_faults.Line number faults.SecondBoard)) (by_host host (goes (record { host = Some (opened member cells seed); workers = Some (unwrap_or s.workers workers); waiting = [] }) (closing_text s order)) (λ host. refused (after_batch s order) (closing_text s order) faults.SecondBoard))
   go None o = absurd o
@@ -110,11 +110,11 @@ opens_twice number old s order v member cells workers seed ends open_now = go (a
 -- ---- the end of a batch, and of a run
 
 -- of a batch without arrivals
-empty_station : (v : Option StationValue) (host : Option Opened) → MayBeOpenAt v host → MayBeOpenAt v (by_host host None (λ host. Some (host_after host [] [])))
-empty_station None None o = o
-empty_station None (Some host) o = absurd o
-empty_station (Some v) None o = absurd o
-empty_station (Some v) (Some host) o = record { board = o.board; keeper = o.keeper; words = o.words }
+empty_member : (v : Option MemberValue) (host : Option Opened) → MayBeOpenAt v host → MayBeOpenAt v (by_host host None (λ host. Some (host_after host [] [])))
+empty_member None None o = o
+empty_member None (Some host) o = absurd o
+empty_member (Some v) None o = absurd o
+empty_member (Some v) (Some host) o = record { board = o.board; keeper = o.keeper; words = o.words }
 
 empty_text : (host : Option Opened) → [] ≡ by_host host [] (λ host. batch_text host.board [])
 empty_text None = refl
@@ -126,7 +126,7 @@ after_waiting s waiting order = record { host = by_host s.host None (λ host. So
 
 pub ends_empty : (h : HostValue) (s : State) → IsAt h s → InSomeOrder s (EndsEmpty h s)
 ends_empty h s at =
-    let there : IsAt h (after_waiting s [] []) = record { station = empty_station h.station s.host at.station; workers = at.workers; waiting = refl } in (
+    let there : IsAt h (after_waiting s [] []) = record { member = empty_member h.member s.host at.member; workers = at.workers; waiting = refl } in (
       s.waiting,
       as_it_came s.workers s.waiting,
       record {

@@ -8,12 +8,12 @@ use Rattle.wb_lines.specs.Driving.{Outcome, writes, rules_of, outcome}
 use Rattle.wb_script.specs.declared.fault.LineFault.{LineFault}
 use Rattle.wb_script.specs.declared.fault.RunFault.{RunFault}
 use Rattle.wb_script.specs.declared.fault.RunFault.TheVariants as run_faults
-use Rattle.wb_script.specs.declared.line.Line.{Line}
+use Rattle.wb_script.specs.declared.command.Command.{Command}
 use Rattle.wb_script.specs.Parsing.{line_of}
 use Rattle.wb_script.specs.Script.{most_lines}
 
 -- A line that parses is passed over, and another stops the check. Nothing is remembered or printed.
-abbrev pub parsed_step : Result Line LineFault → Step (Unit {0}) LineFault
+abbrev pub parsed_step : Result Command LineFault → Step (Unit {0}) LineFault
 parsed_step (Ok line) = goes [] tt
 parsed_step (Err e) = stops [] e
 

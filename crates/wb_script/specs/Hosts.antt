@@ -15,8 +15,8 @@ use Rattle.wb_host.specs.Sessions.{message_of}
 use Rattle.wb_host.specs.Ticks.{sent_by_tick, stopped_after}
 use Rattle.wb_script.specs.declared.fault.LineFault.{LineFault}
 use Rattle.wb_script.specs.declared.fault.LineFault.TheVariants as faults
-use Rattle.wb_script.specs.declared.line.Line.{Line}
-use Rattle.wb_script.specs.declared.line.Line.TheVariants as lines
+use Rattle.wb_script.specs.declared.command.Command.{Command}
+use Rattle.wb_script.specs.declared.command.Command.TheVariants as lines
 use Rattle.wb_script.specs.declared.query.Query.{Query}
 use Rattle.wb_script.specs.declared.query.Query.TheVariants as queries
 use Rattle.wb_script.specs.Board.{Held}
@@ -76,7 +76,7 @@ pub data Act : Type 0 where
   does : Opened → List ℕ → Act
   fails : LineFault → Act
 
--- once the keeper accepted a call, for which so many random words were drawn
+-- once the keeper accepted a call, for which so many random words were taken
 abbrev pub calling : KeeperCall → ℕ → Opened → Opened
 calling call words host = record { me = host.me; constants = host.constants; board = host.board; calls = call ∷ host.calls; random = after_words host.random words }
 
@@ -101,7 +101,7 @@ stopped host = stopped_after host.me host.constants host.calls host.board.drawop
 abbrev pub sent_by : ℕ → Opened → List Datagram
 sent_by now host = sent_by_tick host.me host.constants host.calls host.board.drawops now
 
--- Time goes on to a moment. A random word is drawn for each request timer that is due.
+-- Time goes on to a moment. A random word is taken for each request timer that is due.
 abbrev pub ticked : ℕ → Opened → Act
 ticked now host =
     if nat_lt now (present host) then fails faults.BackInTime
@@ -115,7 +115,7 @@ wanted_of page host = names_wanted host.constants (events host) host.board.drawo
 abbrev pub looked : PageId → Opened → Act
 looked page host = does (calling (Miss (present host) (wanted_of page host) (words_of host.random (length (wanted_of page host)))) (length (wanted_of page host)) host) (look_line (length (wanted_of page host)))
 
--- A request draws a random word, and no other datagram does.
+-- A request takes a random word, and no other datagram does.
 abbrev pub words_for : Datagram → ℕ
 words_for (Request asker name) = 1
 words_for (Draw d) = 0
@@ -142,7 +142,7 @@ abbrev pub reported : PageId → Opened → Act
 reported page host = does (calling (Report (present host)) 0 host) (sends_text (message_of host.me host.calls (present host) host.board.drawops page ∷ []))
 
 -- What a line does here. One that is skipped, that opens a board or that hands in an arrival does nothing here.
-abbrev pub act : Line → Opened → Act
+abbrev pub act : Command → Opened → Act
 act (lines.Show page width height) host = asked (queries.Canvas page width height) host
 act (lines.Gaps page) host = asked (queries.Gaps page) host
 act (lines.Report page) host = asked (queries.Report page) host

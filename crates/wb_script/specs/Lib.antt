@@ -7,7 +7,7 @@ pub mod Random
 pub mod SentLines
 pub mod Hosts
 pub mod Script
-pub mod Stations
+pub mod Members
 pub mod Driving
 pub mod Laws
 pub mod ScriptLaws

@@ -12,8 +12,8 @@ use Rattle.wb_script.specs.declared.fault.ParseFault.{ParseFault}
 use Rattle.wb_script.specs.declared.fault.ParseFault.TheVariants as parse_faults
 use Rattle.wb_display.specs.Canvas.{is_canvas_size}
 use Rattle.wb_script.specs.Faults.{line_code}
-use Rattle.wb_script.specs.declared.line.Line.{Line}
-use Rattle.wb_script.specs.declared.line.Line.TheVariants.{Skip, Board, Arrive, Hear, Distance, Tick, Look, Session, Show, Gaps, Report, Pages}
+use Rattle.wb_script.specs.declared.command.Command.{Command}
+use Rattle.wb_script.specs.declared.command.Command.TheVariants.{Skip, Board, Arrive, Hear, Distance, Tick, Look, Session, Show, Gaps, Report, Pages}
 use Rattle.wb_lines.specs.Words.{words, number_of, unhex}
 
 infixl 10 ◌>>=◌
@@ -54,7 +54,7 @@ four_of (a ∷ b ∷ c ∷ d ∷ []) = Some (a, b, c, d)
 four_of (a ∷ b ∷ c ∷ d ∷ e ∷ more) = None
 
 -- the member, the cells, the workers and the seed of a board
-unfoldable pub board : List (List ℕ) → Result Line LineFault
+unfoldable pub board : List (List ℕ) → Result Command LineFault
 board arguments = do
   words' ← or_fault faults.Words (four_of arguments)
   member ← number 0 (2 ^ 32 - 1) words'.0
@@ -64,7 +64,7 @@ board arguments = do
   Ok (Board member cells workers seed)
 
 -- the page, the width and the height of a canvas
-unfoldable pub show : List (List ℕ) → Result Line LineFault
+unfoldable pub show : List (List ℕ) → Result Command LineFault
 show arguments = do
   words' ← or_fault faults.Words (four_of arguments)
   creator ← number 0 (2 ^ 32 - 1) words'.0
@@ -74,7 +74,7 @@ show arguments = do
   Ok (Show (record { creator = creator; number = number' }) width height)
 
 -- a source, and a delay below 2^24 microseconds
-unfoldable pub distance : List (List ℕ) → Result Line LineFault
+unfoldable pub distance : List (List ℕ) → Result Command LineFault
 distance arguments = do
   words' ← or_fault faults.Words (two_of arguments)
   source ← number 0 (2 ^ 32 - 1) words'.0
@@ -82,7 +82,7 @@ distance arguments = do
   Ok (Distance source micros)
 
 -- a moment below 2^48 microseconds
-unfoldable pub tick : List (List ℕ) → Result Line LineFault
+unfoldable pub tick : List (List ℕ) → Result Command LineFault
 tick arguments = do
   word ← or_fault faults.Words (one_of arguments)
   moment ← number 0 (2 ^ 48 - 1) word
@@ -96,7 +96,7 @@ page arguments = do
   number' ← number 0 (2 ^ 32 - 1) words'.1
   Ok (record { creator = creator; number = number' })
 
-abbrev pub pages : List (List ℕ) → Result Line LineFault
+abbrev pub pages : List (List ℕ) → Result Command LineFault
 pages arguments = or_fault faults.Words (none_of arguments) >>= λ nothing. Ok Pages
 
 -- the datagram that bytes spell
@@ -112,28 +112,28 @@ datagram arguments = do
   spelled (reading bytes)
 
 -- drawops arrive, and every other datagram is heard
-abbrev pub arrived : Datagram → Result Line LineFault
+abbrev pub arrived : Datagram → Result Command LineFault
 arrived (datagrams.Draw d) = Ok (Arrive d)
 arrived (datagrams.Session sender sent page marks echoes) = Err faults.Kind
 arrived (datagrams.Request asker name) = Err faults.Kind
 arrived (datagrams.AskPages asker) = Err faults.Kind
 arrived (datagrams.PageState sender page marks) = Err faults.Kind
 
-abbrev pub heard : Datagram → Result Line LineFault
+abbrev pub heard : Datagram → Result Command LineFault
 heard (datagrams.Draw d) = Err faults.Kind
 heard (datagrams.Session sender sent page marks echoes) = Ok (Hear (datagrams.Session sender sent page marks echoes))
 heard (datagrams.Request asker name) = Ok (Hear (datagrams.Request asker name))
 heard (datagrams.AskPages asker) = Ok (Hear (datagrams.AskPages asker))
 heard (datagrams.PageState sender page marks) = Ok (Hear (datagrams.PageState sender page marks))
 
-abbrev pub arrive : List (List ℕ) → Result Line LineFault
+abbrev pub arrive : List (List ℕ) → Result Command LineFault
 arrive arguments = datagram arguments >>= arrived
 
-abbrev pub hear : List (List ℕ) → Result Line LineFault
+abbrev pub hear : List (List ℕ) → Result Command LineFault
 hear arguments = datagram arguments >>= heard
 
 -- the line of a page with this first word
-unfoldable pub page_line : List ℕ → List (List ℕ) → Result Line LineFault
+unfoldable pub page_line : List ℕ → List (List ℕ) → Result Command LineFault
 page_line word arguments =
     if bytes_eq word (codes "look") then page arguments >>= (λ p. Ok (Look p))
     else (if bytes_eq word (codes "session") then page arguments >>= (λ p. Ok (Session p))
@@ -142,7 +142,7 @@ page_line word arguments =
     else Err faults.Unknown)))
 
 -- the line with this first word and these further ones
-unfoldable pub command : List ℕ → List (List ℕ) → Result Line LineFault
+unfoldable pub command : List ℕ → List (List ℕ) → Result Command LineFault
 command word arguments =
     if bytes_eq word (codes "board") then board arguments
     else (if bytes_eq word (codes "arrive") then arrive arguments
@@ -158,17 +158,17 @@ abbrev pub begins_comment : List ℕ → Bool
 begins_comment [] = false
 begins_comment (b ∷ bs) = nat_eq b 35
 
-abbrev pub line_of_words : List (List ℕ) → Result Line LineFault
+abbrev pub line_of_words : List (List ℕ) → Result Command LineFault
 line_of_words [] = Ok Skip
 line_of_words (word ∷ arguments) = if begins_comment word then Ok Skip else command word arguments
 
 -- the line, which stands without its end
-abbrev pub line_of : List ℕ → Result Line LineFault
+abbrev pub line_of : List ℕ → Result Command LineFault
 line_of bytes = line_of_words (words bytes)
 
 -- What a line carries is in its range: a board has 1 to 65,535 cells, a canvas is not too large, moments are microseconds below
 -- 2^48, and delays below 2^24.
-abbrev pub IsWithin : Line → Type 0
+abbrev pub IsWithin : Command → Type 0
 IsWithin (Board member cells workers seed) = (0 < cells) × (cells ≤ 65535)
 IsWithin (Show page width height) = is_canvas_size width height ≡ true
 IsWithin Skip = Unit {0}
@@ -183,7 +183,7 @@ IsWithin (Report page) = Unit {0}
 IsWithin Pages = Unit {0}
 
 -- A line that carries a datagram, for which memory is taken.
-abbrev pub CarriesDatagram : Line → Type 0
+abbrev pub CarriesDatagram : Command → Type 0
 CarriesDatagram (Arrive d) = Unit {0}
 CarriesDatagram (Hear v) = Unit {0}
 CarriesDatagram Skip = ⊥
@@ -204,7 +204,7 @@ Parses (Err (parse_faults.Line e)) said = said ≡ Err e
 Parses (Err parse_faults.Memory) said = IfErr said (λ e. 5 ≤ line_code e)
 
 -- What parsing answers to a line. Memory runs out only for one that carries a datagram, or whose fault comes after its digits.
-abbrev pub ParsesLine : Result Line ParseFault → Result Line LineFault → Type 0
+abbrev pub ParsesLine : Result Command ParseFault → Result Command LineFault → Type 0
 ParsesLine (Ok line) said = said ≡ Ok line
 ParsesLine (Err (parse_faults.Line e)) said = said ≡ Err e
 ParsesLine (Err parse_faults.Memory) said = MatchResult said CarriesDatagram (λ e. 5 ≤ line_code e)

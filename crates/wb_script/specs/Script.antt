@@ -7,8 +7,8 @@ use Rattle.wb_script.specs.declared.fault.LineFault.TheVariants as faults
 use Rattle.wb_script.specs.declared.fault.RunFault.{RunFault}
 use Rattle.wb_script.specs.declared.fault.RunFault.TheVariants as run_faults
 use Rattle.wb_script.specs.declared.summary.Summary.{Summary}
-use Rattle.wb_script.specs.declared.line.Line.{Line}
-use Rattle.wb_script.specs.declared.line.Line.TheVariants.{Skip, Board, Arrive, Hear, Distance, Tick, Look, Session, Show, Gaps, Report, Pages}
+use Rattle.wb_script.specs.declared.command.Command.{Command}
+use Rattle.wb_script.specs.declared.command.Command.TheVariants.{Skip, Board, Arrive, Hear, Distance, Tick, Look, Session, Show, Gaps, Report, Pages}
 use Rattle.wb_lines.specs.Input.{InputLine, input_lines, content, most_bytes, BeginsWith}
 use Rattle.wb_script.specs.Hosts.{Opened, opened, host_after, batch_text, Act, does, fails, act}
 use Rattle.wb_script.specs.Parsing.{line_of}
@@ -60,7 +60,7 @@ closed s order rest = rest (after_batch s order) (closing_text s order)
 -- What ends the batch before it: a board that is opened, a line that a host acts on, or one with a fault.
 pub data Closing : Type 0 where
   Opens : ℕ → ℕ → ℕ → ℕ → Closing
-  Acts : Line → Closing
+  Acts : Command → Closing
   Faulty : LineFault → Closing
 
 -- An arrival joins the batch, a skipped line leaves it as it is, and each other line ends it first.
@@ -69,7 +69,7 @@ pub data Part : Type 0 where
   Nothing : Part
   End : Closing → Part
 
-abbrev pub part_of : Result Line LineFault → Part
+abbrev pub part_of : Result Command LineFault → Part
 part_of (Ok Skip) = Nothing
 part_of (Ok (Arrive d)) = Arrival d
 part_of (Ok (Board member cells workers seed)) = End (Opens member cells workers seed)
@@ -112,7 +112,7 @@ part_step s order (Arrival d) = by_host s.host (refused s [] faults.NoBoard) (λ
 part_step s order Nothing = goes s []
 part_step s order (End c) = closed s order (λ t text. closing_step t text c)
 
-abbrev pub said_step : State → List DrawopValue → Result Line LineFault → Step
+abbrev pub said_step : State → List DrawopValue → Result Command LineFault → Step
 said_step s order said = part_step s order (part_of said)
 
 abbrev pub step_of : State → List DrawopValue → List ℕ → Step

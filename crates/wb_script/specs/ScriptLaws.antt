@@ -4,7 +4,7 @@ use Rattle.std.specs.Str.Lines.{strip_carriage_return}
 use Rattle.wb_names.specs.Values.{DrawopValue}
 use Rattle.wb_names.specs.Arrivals.{Counts, counts_of, outcomes_of, history_after}
 use Rattle.wb_script.specs.declared.fault.RunFault.{RunFault}
-use Rattle.wb_script.specs.declared.line.Line.TheVariants.{Skip}
+use Rattle.wb_script.specs.declared.command.Command.TheVariants.{Skip}
 use Rattle.wb_script.specs.declared.summary.Summary.{Summary}
 use Rattle.wb_lines.specs.Ahead.{IsLine}
 use Rattle.wb_script.specs.Parsing.{line_of}

@@ -1,8 +1,8 @@
-//! The arrivals of a batch, as workers draw them: the script is read on as they do.
+//! The arrivals of a batch, as workers take them: the script is read on as they do.
 ghost use Rattle.std.specs.Prelude.{◌≡◌, ℕ, [], List, Err, true};
 ghost use Rattle.wb_lines.specs.Output.{Sends};
 ghost use Rattle.wb_lines.specs.Ahead.{Pulls};
-ghost use Rattle.wb_script.specs.Inside.Reading.{ReadsTo, DrawsTo};
+ghost use Rattle.wb_script.specs.Inside.Reading.{ReadsTo, ArrivesTo};
 
 use crate::fault::RunFault;
 use crate::part::Part;
@@ -41,8 +41,8 @@ fn read_on<R: Source, W: Sink>(
     Ok(None)
 }
 
-/// Draws the first arrival of a batch, where it was not drawn yet, and else that of a line that follows.
-fn draw<R: Source, W: Sink>(
+/// The first arrival of a batch, where it was not taken yet, and else that of a line that follows.
+fn next_arrival<R: Source, W: Sink>(
     alloc: Global,
     progress: &mut Progress,
     source: &mut R,
@@ -50,7 +50,7 @@ fn draw<R: Source, W: Sink>(
     first: &mut Option<Drawop>,
 ) -> Result<Option<Drawop>, RunFault>
     ensures read { (given : List ℕ) × Pulls progress.old.lines.ahead progress.new.lines.ahead (R.left source.old) (R.left source.new) (R.has_failed source.old) (R.has_failed source.new) given
-        × DrawsTo (record { lines = progress.old.lines; first = first.old }) (record { lines = progress.new.lines; first = first.new }) given (R.has_failed source.new) result }
+        × ArrivesTo (record { lines = progress.old.lines; first = first.old }) (record { lines = progress.new.lines; first = first.new }) given (R.has_failed source.new) result }
     ensures sends { Sends (W.taken sink.old) progress.old.output (W.taken sink.new) progress.new.output [] }
     ensures failed { result ≡ Err RunFault.Write → W.has_failed sink.new ≡ true }
 {
@@ -60,7 +60,7 @@ fn draw<R: Source, W: Sink>(
     }
 }
 
-/// Draws the arrivals of a batch from a script: one whose line was taken before, and those of the lines that
+/// The arrivals of a batch, read from a script: one whose line was taken before, and those of the lines that
 /// follow, up to one that is neither skipped nor an arrival.
 #[derive(Drop)]
 pub struct BatchSource<'a, R: Source, W: Sink> {
@@ -68,7 +68,7 @@ pub struct BatchSource<'a, R: Source, W: Sink> {
     pub progress: &'a mut Progress,
     pub source: &'a mut R,
     pub sink: &'a mut W,
-    /// The first, while it was not drawn.
+    /// The first, while it was not taken.
     pub first: Option<Drawop>,
     /// How the batch ended, once it has: a fault is why no more lines could be read.
     pub over: Option<Result<(), RunFault>>,
@@ -95,7 +95,7 @@ impl<R: Source, W: Sink> Arrivals for BatchSource<'_, R, W> {
         if self.over.is_some() {
             return None;
         }
-        match draw(
+        match next_arrival(
             self.alloc,
             self.progress,
             self.source,
@@ -118,7 +118,7 @@ impl<R: Source, W: Sink> Arrivals for BatchSource<'_, R, W> {
         MAX_LINES - self.progress.lines.done() + u32::from(self.first.is_some())
     }
 
-    ghost gives_none = { λ s. (refl, refl, refl, λ start drawn p. subst (λ l. ReadsOn start l (record { at = record { lines = s.progress.now.lines; first = s.first }; over = s.over; left = R.left s.source.now; failed = R.has_failed s.source.now; output = s.progress.now.output; taken = W.taken s.sink.now; stuck = W.has_failed s.sink.now })) (sym (append-nil drawn)) p) };
+    ghost gives_none = { λ s. (refl, refl, refl, λ start arrived p. subst (λ l. ReadsOn start l (record { at = record { lines = s.progress.now.lines; first = s.first }; over = s.over; left = R.left s.source.now; failed = R.has_failed s.source.now; output = s.progress.now.output; taken = W.taken s.sink.now; stuck = W.has_failed s.sink.now })) (sym (append-nil arrived)) p) };
 
-    ghost gives_on = { λ a b c ds es p q. (p.0 ∙ q.0, p.1 ∙ q.1, p.2 ∙ q.2, λ start drawn r. subst (λ l. ReadsOn start l (record { at = record { lines = c.progress.now.lines; first = c.first }; over = c.over; left = R.left c.source.now; failed = R.has_failed c.source.now; output = c.progress.now.output; taken = W.taken c.sink.now; stuck = W.has_failed c.sink.now })) (append_assoc drawn ds es) (q.3 start (drawn ++ ds) (p.3 start drawn r))) };
+    ghost gives_on = { λ a b c ds es p q. (p.0 ∙ q.0, p.1 ∙ q.1, p.2 ∙ q.2, λ start arrived r. subst (λ l. ReadsOn start l (record { at = record { lines = c.progress.now.lines; first = c.first }; over = c.over; left = R.left c.source.now; failed = R.has_failed c.source.now; output = c.progress.now.output; taken = W.taken c.sink.now; stuck = W.has_failed c.sink.now })) (append_assoc arrived ds es) (q.3 start (arrived ++ ds) (p.3 start arrived r))) };
 }

@@ -9,11 +9,11 @@ ghost use Rattle.wb_script.specs.Inside.Passing.{RunsOn};
 ghost use Rattle.wb_script.specs.Script.{State, IsAlone, Acts, End, part_of, held_count, part_step, said_step, most_lines};
 ghost use Rattle.wb_script.specs.Inside.Steps.{IsAt, MayDoStep, Moves};
 
+use crate::command::Command;
 use crate::fault::{LineFault, RunFault};
-use crate::line::Line;
+use crate::member::Member;
 use crate::part::Part;
 use crate::progress::{Place, Progress};
-use crate::station::Station;
 use crate::taking::{PrintedBatch, take_batch};
 use std::alloc::Global;
 use std::marker::Model;
@@ -31,7 +31,7 @@ use wb_recovery::Tuning;
 /// a script at which the host may be, and say at which it is afterwards.
 #[derive(Drop)]
 pub struct Host {
-    station: Option<Station>,
+    member: Option<Member>,
     workers: Option<u32>,
 }
 
@@ -40,16 +40,16 @@ impl Model for Host {
 
     ghost Value = { HostValue };
 
-    ghost view = { λ h. record { station = h.station; workers = h.workers } };
+    ghost view = { λ h. record { member = h.member; workers = h.workers } };
 }
 
 impl Host {
     /// No board is open. The number of workers, where there is one, goes before that of the board.
     pub fn new(workers: Option<u32>) -> Self
-        ensures { result ≡ record { station = None; workers = workers } }
+        ensures { result ≡ record { member = None; workers = workers } }
     {
         Host {
-            station: None,
+            member: None,
             workers,
         }
     }
@@ -58,9 +58,9 @@ impl Host {
     pub fn held(&self) -> u32
         ensures { (s : State) → IsAt self.now s → result ≡ held_count s }
     {
-        match &self.station {
+        match &self.member {
             None => 0,
-            Some(station) => station.held(),
+            Some(member) => member.held(),
         }
     }
 
@@ -74,13 +74,13 @@ impl Host {
         seed: u64,
     ) -> Result<(), RunFault>
         requires { (0 < cells) × (cells ≤ 65535) }
-        ensures step { (s : State) → IsAt self.old s → MayDoStep s number self.new [] result (λ order. said_step s order (Ok (Line.Board member cells workers seed))) }
+        ensures step { (s : State) → IsAt self.old s → MayDoStep s number self.new [] result (λ order. said_step s order (Ok (Command.Board member cells workers seed))) }
         ensures unwritten { result ≢ Err RunFault.Write }
     {
-        if self.station.is_some() {
+        if self.member.is_some() {
             return Err(RunFault::Line(number, LineFault::SecondBoard));
         }
-        self.station = Some(Station::open(alloc, member, cells, seed, Tuning::default())?);
+        self.member = Some(Member::open(alloc, member, cells, seed, Tuning::default())?);
         self.workers = Some(self.workers.unwrap_or(workers));
         Ok(())
     }
@@ -90,16 +90,16 @@ impl Host {
         &mut self,
         alloc: Global,
         number: u32,
-        line: &Line,
+        command: &Command,
         output: &mut Output,
     ) -> Result<(), RunFault>
-        requires { IsWithin line.now }
-        ensures text { (written : List ℕ) × (output.new ≡ output.old ++ written) × ((s : State) → IsAt self.old s → MayDoStep s number self.new written result (λ order. part_step s order (End (Acts line.now)))) }
+        requires { IsWithin command.now }
+        ensures text { (written : List ℕ) × (output.new ≡ output.old ++ written) × ((s : State) → IsAt self.old s → MayDoStep s number self.new written result (λ order. part_step s order (End (Acts command.now)))) }
         ensures unwritten { result ≢ Err RunFault.Write }
     {
-        match &mut self.station {
+        match &mut self.member {
             None => Err(RunFault::Line(number, LineFault::NoBoard)),
-            Some(station) => station.act(alloc, number, line, output),
+            Some(member) => member.act(alloc, number, command, output),
         }
     }
 
@@ -108,22 +108,22 @@ impl Host {
         &mut self,
         alloc: Global,
         number: u32,
-        line: &Line,
+        command: &Command,
         output: &mut Output,
     ) -> Result<(), RunFault>
-        requires line { IsWithin line.now }
-        requires other { EndsBatchAt (part_of (Ok line.now)) }
-        ensures text { (written : List ℕ) × (output.new ≡ output.old ++ written) × ((s : State) → IsAt self.old s → MayDoStep s number self.new written result (λ order. said_step s order (Ok line.now))) }
+        requires command { IsWithin command.now }
+        requires other { EndsBatchAt (part_of (Ok command.now)) }
+        ensures text { (written : List ℕ) × (output.new ≡ output.old ++ written) × ((s : State) → IsAt self.old s → MayDoStep s number self.new written result (λ order. said_step s order (Ok command.now))) }
         ensures unwritten { result ≢ Err RunFault.Write }
     {
-        match line {
-            Line::Board {
+        match command {
+            Command::Board {
                 member,
                 cells,
                 workers,
                 seed,
             } => self.open_board(alloc, number, *member, *cells, *workers, *seed),
-            _ => self.act(alloc, number, line, output),
+            _ => self.act(alloc, number, command, output),
         }
     }
 
@@ -147,14 +147,14 @@ impl Host {
         ensures failed { result ≡ Err RunFault.Write → W.has_failed sink.new ≡ true }
     {
         progress.lines.pass();
-        let Some(station) = self.station.take() else {
+        let Some(member) = self.member.take() else {
             return Err(RunFault::Line(progress.lines.done(), LineFault::NoBoard));
         };
         let workers = worker_count(self.workers);
-        let PrintedBatch { station, fault } = take_batch(
-            place, station, workers, drawop, progress, source, sink,
+        let PrintedBatch { member, fault } = take_batch(
+            place, member, workers, drawop, progress, source, sink,
         )?;
-        self.station = Some(station);
+        self.member = Some(member);
         match fault {
             None => Ok(()),
             Some(fault) => Err(fault),

@@ -91,8 +91,8 @@ pub fn workers_are_free()
     ensures workers { WorkersAreFree }
 {}
 
-/// Words that are drawn in two parts are those that are drawn at once, and each has 64 bits: what a
-/// script has drawn is the first so many words of its seed, however it drew them.
+/// Words that are taken in two parts are those that are taken at once, and each has 64 bits: what a
+/// script has taken is the first so many words of its seed, however it took them.
 pub fn words_follow_words()
     ensures words { WordsFollowWords }
     ensures rest { StepsFollowSteps }

@@ -4,8 +4,8 @@ ghost use Rattle.std.specs.Option.{option_map};
 ghost use Rattle.wb_lines.specs.Words.{words};
 ghost use Rattle.wb_script.specs.Parsing.{Parses, ParsesLine, IsWithin, number, none_of, one_of, two_of, four_of, board, show, distance, tick, page, pages, page_line, datagram, arrive, hear, command, begins_comment, line_of};
 
+use crate::command::Command;
 use crate::fault::{LineFault, ParseFault};
-use crate::line::Line;
 use std::alloc::Global;
 use wb_codec::{Datagram, ReadFault, read};
 use wb_lines::{next_word, number, unhex};
@@ -85,7 +85,7 @@ pub fn u32_word(word: &[u8], low: u32, high: u32) -> Result<u32, LineFault>
 }
 
 #[tactic(auto, unfolding(crate::specs::Parsing::board))]
-fn board(rest: &[u8]) -> Result<Line, LineFault>
+fn board(rest: &[u8]) -> Result<Command, LineFault>
     ensures line { result ≡ board (words rest.now) }
     ensures within { IfOk result IsWithin }
 {
@@ -94,7 +94,7 @@ fn board(rest: &[u8]) -> Result<Line, LineFault>
     let cells = u32_word(cells, 1, MAX_CELLS)?;
     let workers = u32_word(workers, 1, MAX_WORKERS)?;
     let seed = number_word(seed, 0, u64::MAX)?;
-    Ok(Line::Board {
+    Ok(Command::Board {
         member,
         cells,
         workers,
@@ -103,7 +103,7 @@ fn board(rest: &[u8]) -> Result<Line, LineFault>
 }
 
 #[tactic(auto, unfolding(crate::specs::Parsing::show))]
-fn show(rest: &[u8]) -> Result<Line, LineFault>
+fn show(rest: &[u8]) -> Result<Command, LineFault>
     ensures line { result ≡ show (words rest.now) }
     ensures within { IfOk result IsWithin }
 {
@@ -113,7 +113,7 @@ fn show(rest: &[u8]) -> Result<Line, LineFault>
     let width = u32_word(width, 1, MAX_WIDTH)?;
     let height = u32_word(height, 1, MAX_HEIGHT)?;
     let page = PageId { creator, number };
-    Ok(Line::Show {
+    Ok(Command::Show {
         page,
         width,
         height,
@@ -121,24 +121,24 @@ fn show(rest: &[u8]) -> Result<Line, LineFault>
 }
 
 #[tactic(auto, unfolding(crate::specs::Parsing::distance))]
-fn distance(rest: &[u8]) -> Result<Line, LineFault>
+fn distance(rest: &[u8]) -> Result<Command, LineFault>
     ensures line { result ≡ distance (words rest.now) }
     ensures within { IfOk result IsWithin }
 {
     let (source, micros) = two_words(rest).ok_or(LineFault::Words)?;
     let source = u32_word(source, 0, u32::MAX)?;
     let micros = number_word(micros, 0, MAX_DELAY)?;
-    Ok(Line::Distance { source, micros })
+    Ok(Command::Distance { source, micros })
 }
 
 #[tactic(auto, unfolding(crate::specs::Parsing::tick))]
-fn tick(rest: &[u8]) -> Result<Line, LineFault>
+fn tick(rest: &[u8]) -> Result<Command, LineFault>
     ensures line { result ≡ tick (words rest.now) }
     ensures within { IfOk result IsWithin }
 {
     let word = one_word(rest).ok_or(LineFault::Words)?;
     let moment = number_word(word, 0, MAX_MOMENT)?;
-    Ok(Line::Tick { moment })
+    Ok(Command::Tick { moment })
 }
 
 /// The page of the only two words, its creator and its number. The first fault is `Words` or `Number`.
@@ -152,12 +152,12 @@ pub fn page(rest: &[u8]) -> Result<PageId, LineFault>
     Ok(PageId { creator, number })
 }
 
-fn pages(rest: &[u8]) -> Result<Line, LineFault>
+fn pages(rest: &[u8]) -> Result<Command, LineFault>
     ensures line { result ≡ pages (words rest.now) }
     ensures within { IfOk result IsWithin }
 {
     no_words(rest).ok_or(LineFault::Words)?;
-    Ok(Line::Pages)
+    Ok(Command::Pages)
 }
 
 /// The datagram whose bytes the only word spells in hexadecimal. The first fault is `Words`, `Hex` or `Datagram`.
@@ -176,46 +176,46 @@ pub fn datagram(alloc: Global, rest: &[u8]) -> Result<Datagram, ParseFault>
     }
 }
 
-fn arrive(alloc: Global, rest: &[u8]) -> Result<Line, ParseFault>
+fn arrive(alloc: Global, rest: &[u8]) -> Result<Command, ParseFault>
     ensures line { ParsesLine result (arrive (words rest.now)) }
     ensures within { IfOk result IsWithin }
 {
     match datagram(alloc, rest)? {
-        Datagram::Draw(drawop) => Ok(Line::Arrive(drawop)),
+        Datagram::Draw(drawop) => Ok(Command::Arrive(drawop)),
         _ => Err(ParseFault::Line(LineFault::Kind)),
     }
 }
 
-fn hear(alloc: Global, rest: &[u8]) -> Result<Line, ParseFault>
+fn hear(alloc: Global, rest: &[u8]) -> Result<Command, ParseFault>
     ensures line { ParsesLine result (hear (words rest.now)) }
     ensures within { IfOk result IsWithin }
 {
     match datagram(alloc, rest)? {
         Datagram::Draw(_) => Err(ParseFault::Line(LineFault::Kind)),
-        heard => Ok(Line::Hear(heard)),
+        heard => Ok(Command::Hear(heard)),
     }
 }
 
 #[tactic(auto, unfolding(crate::specs::Parsing::page_line))]
-fn page_line(word: &[u8], rest: &[u8]) -> Result<Line, LineFault>
+fn page_line(word: &[u8], rest: &[u8]) -> Result<Command, LineFault>
     ensures line { result ≡ page_line word.now (words rest.now) }
     ensures within { IfOk result IsWithin }
 {
     if word == b"look".as_slice() {
-        Ok(Line::Look(page(rest)?))
+        Ok(Command::Look(page(rest)?))
     } else if word == b"session".as_slice() {
-        Ok(Line::Session(page(rest)?))
+        Ok(Command::Session(page(rest)?))
     } else if word == b"gaps".as_slice() {
-        Ok(Line::Gaps(page(rest)?))
+        Ok(Command::Gaps(page(rest)?))
     } else if word == b"report".as_slice() {
-        Ok(Line::Report(page(rest)?))
+        Ok(Command::Report(page(rest)?))
     } else {
         Err(LineFault::Unknown)
     }
 }
 
 #[tactic(auto, unfolding(crate::specs::Parsing::command))]
-fn command(alloc: Global, word: &[u8], rest: &[u8]) -> Result<Line, ParseFault>
+fn command(alloc: Global, word: &[u8], rest: &[u8]) -> Result<Command, ParseFault>
     ensures line { ParsesLine result (command word.now (words rest.now)) }
     ensures within { IfOk result IsWithin }
 {
@@ -250,15 +250,15 @@ fn begins_comment(word: &[u8]) -> bool
 /// The line that the bytes say, which stand without their end; or its first fault: `Unknown`,
 /// `Words`, `Number`, `Hex`, `Datagram` or `Kind`, in this order. Memory can run out only in a line
 /// that carries a datagram, and only once its hexadecimal digits are checked.
-pub fn parse_line(alloc: Global, bytes: &[u8]) -> Result<Line, ParseFault>
+pub fn parse_line(alloc: Global, bytes: &[u8]) -> Result<Command, ParseFault>
     ensures line { ParsesLine result (line_of bytes.now) }
     ensures within { IfOk result IsWithin }
 {
     match next_word(bytes) {
-        None => Ok(Line::Skip),
+        None => Ok(Command::Skip),
         Some((word, rest)) => {
             if begins_comment(word) {
-                return Ok(Line::Skip);
+                return Ok(Command::Skip);
             }
             command(alloc, word, rest)
         }

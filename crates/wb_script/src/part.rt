@@ -2,8 +2,8 @@
 ghost use Rattle.wb_script.specs.Inside.Parts.{IsPart};
 ghost use Rattle.wb_script.specs.Script.{part_of};
 
+use crate::command::Command;
 use crate::fault::LineFault;
-use crate::line::Line;
 use wb_names::Drawop;
 
 /// What a line is to the batch before it.
@@ -16,13 +16,13 @@ pub enum Part {
 }
 
 /// What a line that says this is to a batch.
-pub fn part_of(said: &Result<Line, LineFault>) -> Part
+pub fn part_of(said: &Result<Command, LineFault>) -> Part
     ensures { IsPart result (part_of said.now) }
 {
     match said {
-        Ok(line) => match line {
-            Line::Skip => Part::Skipped,
-            Line::Arrive(drawop) => Part::Arrival(*drawop),
+        Ok(command) => match command {
+            Command::Skip => Part::Skipped,
+            Command::Arrive(drawop) => Part::Arrival(*drawop),
             _ => Part::Other,
         },
         Err(_) => Part::Other,

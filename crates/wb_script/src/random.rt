@@ -7,10 +7,10 @@ use rand_pcg::Lcg64Xsh32;
 use std::alloc::{AllocError, Global};
 use std::marker::Model;
 
-/// The stream of the generator that a script draws its words from.
+/// The stream of the generator that a script takes its words from.
 const STREAM: u64 = 54;
 
-/// The words that a script has not drawn yet. They are those of one generator, from its seed on.
+/// The words that a script has not taken yet. They are those of one generator, from its seed on.
 #[derive(Drop)]
 pub struct RandomWords {
     generator: Lcg64Xsh32,
@@ -35,7 +35,7 @@ impl RandomWords {
         }
     }
 
-    /// Draws the next word.
+    /// Takes the next word.
     pub fn next(&mut self) -> u64
         ensures word { result ≡ word_of self.old }
         ensures rest { self.new ≡ after_word self.old }
@@ -43,7 +43,7 @@ impl RandomWords {
         next_u64_via_u32(&mut self.generator)
     }
 
-    /// Draws the next so many words. Without memory none is drawn.
+    /// Takes the next so many words. Without memory none is taken.
     pub fn take(&mut self, alloc: Global, count: usize) -> Result<Vec<u64>, AllocError>
         ensures words { IfOk result (λ words. words.items ≡ words_of self.old count) }
         ensures length { IfOk result (λ words. length words.items ≡ count) }

@@ -47,10 +47,10 @@ fn run_seen<T: Threads + Wait + Sync, R: Source, W: Sink, G: Gate + Sync>(
             Ok(())
         }
         Part::Other => match progress.lines.take() {
-            Ok(line) => host.take_line(
+            Ok(command) => host.take_line(
                 place.alloc,
                 progress.lines.done(),
-                &line,
+                &command,
                 &mut progress.output,
             ),
             Err(fault) => Err(RunFault::Line(progress.lines.done(), fault)),

@@ -8,8 +8,8 @@ ghost use Rattle.wb_script.specs.Parsing.{line_of, IsWithin};
 ghost use Rattle.wb_script.specs.Inside.Lines.{IsSeen, Says, Looks, Takes};
 ghost use Rattle.wb_script.specs.Inside.Parts.{IsPartOf};
 
+use crate::command::Command;
 use crate::fault::{LineFault, ParseFault, RunFault};
-use crate::line::Line;
 use crate::parsing::parse_line;
 use crate::part::{Part, part_of};
 use std::alloc::{AllocError, Global};
@@ -24,11 +24,11 @@ pub const MAX_LINES: u32 = 1 << 20;
 #[derive(Drop)]
 struct Seen {
     ended: bool,
-    said: Result<Line, LineFault>,
+    said: Result<Command, LineFault>,
 }
 
 /// What a line says, of which a line feed may be the end.
-fn said(alloc: Global, line: &[u8], ended: bool) -> Result<Result<Line, LineFault>, AllocError>
+fn said(alloc: Global, line: &[u8], ended: bool) -> Result<Result<Command, LineFault>, AllocError>
     ensures line { IfOk result (λ said. said ≡ line_of (content (record { bytes = line.now; ended = ended }))) }
     ensures within { IfOk result (λ said. IfOk said IsWithin) }
 {
@@ -153,7 +153,7 @@ impl ScriptLines {
     }
 
     /// Takes the line that was looked at. Answers what it says.
-    pub fn take(&mut self) -> Result<Line, LineFault>
+    pub fn take(&mut self) -> Result<Command, LineFault>
         requires { IsSeen self.old.next }
         ensures taken { Takes self.old self.new }
         ensures said { Says self.old.next result }

@@ -5,33 +5,33 @@ ghost use Rattle.wb_lines.specs.Output.{Sends};
 ghost use Rattle.wb_lines.specs.Ahead.{Pulls};
 ghost use Rattle.wb_script.specs.Hosts.{Opened};
 ghost use Rattle.wb_script.specs.Script.{State, IsAlone, is_stop};
-ghost use Rattle.wb_script.specs.Stations.{IsOpenAt};
+ghost use Rattle.wb_script.specs.Members.{IsOpenAt};
 ghost use Rattle.wb_script.specs.Inside.Reading.{ReadsOn};
-ghost use Rattle.wb_script.specs.Inside.Taking.{TakesFrom, DrawsAll, TakesBatchOn};
+ghost use Rattle.wb_script.specs.Inside.Taking.{TakesFrom, TakesArrivals, TakesBatchOn};
 
 use crate::arriving::BatchSource;
 use crate::fault::RunFault;
+use crate::member::Member;
 use crate::progress::{Place, Progress};
-use crate::station::Station;
 use std::sync::Wait;
 use std::thread::Threads;
 use wb_feed::{Batch, Gate};
 use wb_names::{Drawop, Sink, Source};
 
-/// A station that has taken a batch, its counts, its drawops as they came, and why the script can't be read on,
+/// A member that has taken a batch, its counts, its drawops as they came, and why the script can't be read on,
 /// where it can't.
 #[derive(Drop)]
-pub struct DrawnBatch {
-    pub station: Station,
+pub struct TakenBatch {
+    pub member: Member,
     pub batch: Batch,
     pub drawops: Vec<Drawop>,
     pub fault: Option<RunFault>,
 }
 
-/// A station whose batch was taken and printed, and why the script can't be read on, where it can't.
+/// A member whose batch was taken and printed, and why the script can't be read on, where it can't.
 #[derive(Drop)]
 pub struct PrintedBatch {
-    pub station: Station,
+    pub member: Member,
     pub fault: Option<RunFault>,
 }
 
@@ -42,32 +42,32 @@ pub fn is_stop(fault: RunFault) -> bool
     matches!(&fault, RunFault::Memory | RunFault::Write | RunFault::Start)
 }
 
-/// Takes what a batch draws from its script, to its end.
+/// Takes the arrivals of a batch from its script, to its end.
 fn take_from<T: Threads + Wait + Sync, R: Source, W: Sink, G: Gate + Sync>(
     place: &Place<'_, T, G>,
-    station: Station,
+    member: Member,
     workers: u32,
     arriving: &mut BatchSource<'_, R, W>,
-) -> Result<DrawnBatch, RunFault>
+) -> Result<TakenBatch, RunFault>
     requires workers { (0 < workers) × (workers ≤ 8) }
     requires start { arriving.old.over ≡ None }
     ensures names { (arriving.new.progress.ghost_name ≡ arriving.old.progress.ghost_name) × (arriving.new.source.ghost_name ≡ arriving.old.source.ghost_name)
         × (arriving.new.sink.ghost_name ≡ arriving.old.sink.ghost_name) }
-    ensures reads { (drawn : List DrawopValue) × ReadsOn (record { at = record { lines = arriving.old.progress.now.lines; first = arriving.old.first }; over = arriving.old.over; left = R.left arriving.old.source.now; failed = R.has_failed arriving.old.source.now; output = arriving.old.progress.now.output; taken = W.taken arriving.old.sink.now; stuck = W.has_failed arriving.old.sink.now }) drawn
+    ensures reads { (arrived : List DrawopValue) × ReadsOn (record { at = record { lines = arriving.old.progress.now.lines; first = arriving.old.first }; over = arriving.old.over; left = R.left arriving.old.source.now; failed = R.has_failed arriving.old.source.now; output = arriving.old.progress.now.output; taken = W.taken arriving.old.sink.now; stuck = W.has_failed arriving.old.sink.now }) arrived
         (record { at = record { lines = arriving.new.progress.now.lines; first = arriving.new.first }; over = arriving.new.over; left = R.left arriving.new.source.now; failed = R.has_failed arriving.new.source.now; output = arriving.new.progress.now.output; taken = W.taken arriving.new.sink.now; stuck = W.has_failed arriving.new.sink.now })
-        × TakesFrom station workers drawn arriving.new.over result }
+        × TakesFrom member workers arrived arriving.new.over result }
     ensures failed { result ≡ Err RunFault.Write → W.has_failed arriving.new.sink.now ≡ true }
 {
-    let taken = station.take_arrivals(place.rt, place.alloc, workers, arriving, place.gate);
+    let taken = member.take_arrivals(place.rt, place.alloc, workers, arriving, place.gate);
     let over = arriving.over;
-    let (station, batch, drawops) = taken?;
+    let (member, batch, drawops) = taken?;
     let fault = match over {
         Some(Err(fault)) if is_stop(fault) => return Err(fault),
         Some(Err(fault)) => Some(fault),
         Some(Ok(())) | None => None,
     };
-    Ok(DrawnBatch {
-        station,
+    Ok(TakenBatch {
+        member,
         batch,
         drawops,
         fault,
@@ -75,18 +75,18 @@ fn take_from<T: Threads + Wait + Sync, R: Source, W: Sink, G: Gate + Sync>(
 }
 
 /// Takes a batch, whose first arrival was read before, and reads on to its end.
-fn draw_batch<T: Threads + Wait + Sync, R: Source, W: Sink, G: Gate + Sync>(
+fn take_arrivals<T: Threads + Wait + Sync, R: Source, W: Sink, G: Gate + Sync>(
     place: &Place<'_, T, G>,
-    station: Station,
+    member: Member,
     workers: u32,
     first: Drawop,
     progress: &mut Progress,
     source: &mut R,
     sink: &mut W,
-) -> Result<DrawnBatch, RunFault>
+) -> Result<TakenBatch, RunFault>
     requires workers { (0 < workers) × (workers ≤ 8) }
     ensures read { (given : List ℕ) × Pulls progress.old.lines.ahead progress.new.lines.ahead (R.left source.old) (R.left source.new) (R.has_failed source.old) (R.has_failed source.new) given
-        × (progress.old.lines.done ≤ progress.new.lines.done) × DrawsAll station workers progress.old.lines first given progress.new.lines (R.has_failed source.new) result }
+        × (progress.old.lines.done ≤ progress.new.lines.done) × TakesArrivals member workers progress.old.lines first given progress.new.lines (R.has_failed source.new) result }
     ensures sends { Sends (W.taken sink.old) progress.old.output (W.taken sink.new) progress.new.output [] }
     ensures failed { result ≡ Err RunFault.Write → W.has_failed sink.new ≡ true }
 {
@@ -98,13 +98,13 @@ fn draw_batch<T: Threads + Wait + Sync, R: Source, W: Sink, G: Gate + Sync>(
         first: Some(first),
         over: None,
     };
-    take_from(place, station, workers, &mut arriving)
+    take_from(place, member, workers, &mut arriving)
 }
 
 /// Takes a batch, whose first arrival was read before, reads on to its end, and prints its counts.
 pub fn take_batch<T: Threads + Wait + Sync, R: Source, W: Sink, G: Gate + Sync>(
     place: &Place<'_, T, G>,
-    station: Station,
+    member: Member,
     workers: u32,
     first: Drawop,
     progress: &mut Progress,
@@ -116,16 +116,16 @@ pub fn take_batch<T: Threads + Wait + Sync, R: Source, W: Sink, G: Gate + Sync>(
         × Pulls progress.old.lines.ahead progress.new.lines.ahead (R.left source.old) (R.left source.new) (R.has_failed source.old) (R.has_failed source.new) given
         × Sends (W.taken sink.old) progress.old.output (W.taken sink.new) progress.new.output written
         × (progress.old.lines.done ≤ progress.new.lines.done)
-        × ((s : State) (host : Opened) → s.host ≡ Some host → (IsAlone s.workers → workers ≤ 1) → IsOpenAt station host → TakesBatchOn s host progress.old.lines first given written progress.new.lines (R.has_failed source.new) result) }
+        × ((s : State) (host : Opened) → s.host ≡ Some host → (IsAlone s.workers → workers ≤ 1) → IsOpenAt member host → TakesBatchOn s host progress.old.lines first given written progress.new.lines (R.has_failed source.new) result) }
     ensures kept { IfOk result (λ t. t.fault ≢ Some RunFault.Write) }
     ensures failed { result ≡ Err RunFault.Write → W.has_failed sink.new ≡ true }
 {
-    let DrawnBatch {
-        station,
+    let TakenBatch {
+        member,
         batch,
         drawops,
         fault,
-    } = draw_batch(place, station, workers, first, progress, source, sink)?;
-    let station = station.print_batch(place.alloc, batch, &drawops, &mut progress.output)?;
-    Ok(PrintedBatch { station, fault })
+    } = take_arrivals(place, member, workers, first, progress, source, sink)?;
+    let member = member.print_batch(place.alloc, batch, &drawops, &mut progress.output)?;
+    Ok(PrintedBatch { member, fault })
 }

@@ -11,7 +11,7 @@ ghost use Rattle.wb_script.specs.Driving.{acceptance_of};
 ghost use Rattle.wb_script.specs.Hosts.{board_after};
 ghost use Rattle.wb_script.specs.Queries.{view_of};
 ghost use Rattle.wb_script.specs.Script.{IsStop};
-ghost use Rattle.wb_script.specs.Stations.{TakesAll};
+ghost use Rattle.wb_script.specs.Members.{TakesAll};
 
 mod keeping;
 
@@ -154,7 +154,7 @@ impl Whiteboard {
         gate: &G,
     ) -> Result<(Whiteboard, Batch, Vec<Drawop>), RunFault>
         requires workers { (0 < workers) × (workers ≤ 8) }
-        ensures drawn { (given : List DrawopValue) × S.gives arrivals.old given arrivals.new }
+        ensures arrived { (given : List DrawopValue) × S.gives arrivals.old given arrivals.new }
         ensures given { IfOk result (λ r. S.gives arrivals.old r.2.items arrivals.new) }
         ensures taken { IfOk result (λ r. TakesAll self workers r.2.items r.0 (counts_in r.1)) }
         ensures ended { OnOk result (S.has_ended arrivals.new ≡ true) }

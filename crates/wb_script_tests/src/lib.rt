@@ -1,5 +1,5 @@
 //! Tests of wb_script over its public calls: whole scripts with values from outside, ends that fail in
-//! mid-stream or are fed slowly, limits, workers, want of memory, and a station as a driver holds it.
+//! mid-stream or are fed slowly, limits, workers, want of memory, and a member as a driver holds it.
 #![tactic(auto)]
 
 #[cfg(test)]
@@ -15,13 +15,13 @@ mod keeping;
 #[cfg(test)]
 mod limits;
 #[cfg(test)]
+mod members;
+#[cfg(test)]
 mod memory;
 #[cfg(test)]
 mod refused;
 #[cfg(test)]
 mod scripts;
-#[cfg(test)]
-mod stations;
 #[cfg(test)]
 mod watched;
 #[cfg(test)]

@@ -7,7 +7,9 @@ use std::test::Fail;
 use std::thread::Threads;
 use wb_codec::ReadFault;
 use wb_names::{FromRead, ToWrite};
-use wb_script::{Line, LineFault, NoGate, ParseFault, RunFault, Summary, check, parse_line, run};
+use wb_script::{
+    Command, LineFault, NoGate, ParseFault, RunFault, Summary, check, parse_line, run,
+};
 
 const BOARD: &str = "board 1 16 1 42\n";
 
@@ -166,7 +168,7 @@ fn each_line_parses_with_its_words(rt: HostRuntime) -> Result<(), Fail> {
     assert!(rt;
         matches!(
             parse_line(rt.alloc(), A.trim_end().as_bytes()),
-            Ok(Line::Arrive(_))
+            Ok(Command::Arrive(_))
         )
     );
     let heard = parse_line(rt.alloc(), ASKED.as_bytes())?;

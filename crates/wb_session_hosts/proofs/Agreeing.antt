@@ -10,7 +10,7 @@ use Rattle.wb_gaps.proofs.PageAnswers.{report_of_page}
 use Rattle.wb_host.specs.Hearing.{marks_heard}
 use Rattle.wb_script.specs.Answers.{gaps_text}
 use Rattle.wb_script.specs.Hosts.{Opened}
-use Rattle.wb_script.specs.declared.line.Line.TheVariants as lines
+use Rattle.wb_script.specs.declared.command.Command.TheVariants as lines
 use Rattle.wb_session.specs.Session.{Event, Group, IsDistinct, IsSession}
 use Rattle.wb_session_scripts.proofs.Shows.{shows_agree}
 use Rattle.wb_dialog.specs.declared.fault.Refusal.{Refusal}

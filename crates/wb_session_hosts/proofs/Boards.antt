@@ -5,8 +5,8 @@ use Rattle.std.specs.Option.{option_or}
 use Rattle.wb_recovery.specs.declared.tuning.Tuning.{Tuning}
 use Rattle.wb_lines.specs.Taking.{met}
 use Rattle.wb_script.specs.Hosts.{Opened}
-use Rattle.wb_script.specs.declared.line.Line.{Line}
-use Rattle.wb_script.specs.declared.line.Line.TheVariants as lines
+use Rattle.wb_script.specs.declared.command.Command.{Command}
+use Rattle.wb_script.specs.declared.command.Command.TheVariants as lines
 use Rattle.wb_session.specs.Session.{Group, IsDistinct}
 use Rattle.wb_dialog.specs.Dialog.{after, answer, answer_first}
 use Rattle.wb_dialog.specs.declared.fault.Refusal.{Refusal}
@@ -27,7 +27,7 @@ pub record IsSmall (board : Board) : Type 0 where
 
 said_small : (said : Result DriverLine Refusal) → IfOk said Fits → IfSome (board_in said) IsSmall
 said_small (Ok (Script line)) fit = script line fit where
-  script : (line : Line) → Fits (Script line) → IfSome (board_in (Ok (Script line))) IsSmall
+  script : (line : Command) → Fits (Script line) → IfSome (board_in (Ok (Script line))) IsSmall
   script (lines.Board member cells workers seed) fit = record { member = fit.0; cells = fit.1 }
   script line fit = tt
 said_small (Ok line) fit = tt
@@ -80,7 +80,7 @@ unnamed constants [] i e = refl
 unnamed constants (l ∷ older) i e = from (unnamed constants older i) (nat_eq l.place i) e where
   none_said : (said : Result DriverLine Refusal) → after None (answer (constants i) None said) ≡ None → board_in said ≡ None
   none_said (Ok (Script line)) g = script line g where
-    script : (line : Line) → after None (answer_first (constants i) (Script line)) ≡ None → board_in (Ok (Script line)) ≡ None
+    script : (line : Command) → after None (answer_first (constants i) (Script line)) ≡ None → board_in (Ok (Script line)) ≡ None
     script (lines.Board member cells workers seed) g = absurd cc
     script line g = refl
   none_said (Ok line) g = refl
@@ -118,7 +118,7 @@ module _ (group : Group) (whole : List LineAt) (boards : HasBoards group whole) 
   first_by i (Some host) said names = tt
   first_by i None (Err e) names = tt
   first_by i None (Ok line) names = line_first line (names refl) where
-    script_first : (line : Line) → ((board : Board) → board_in (Ok (Script line)) ≡ Some board → board_at whole i ≡ Some board) → IsFirst group i (Script line)
+    script_first : (line : Command) → ((board : Board) → board_in (Ok (Script line)) ≡ Some board → board_at whole i ≡ Some board) → IsFirst group i (Script line)
     script_first (lines.Board member cells workers seed) named =
         let board : Board = record { member = member; cells = cells } in
         boards i board (named board refl)

@@ -13,8 +13,8 @@ use Rattle.wb_script.specs.Hosts.{Opened}
 use Rattle.wb_script.specs.Parsing.{datagram}
 use Rattle.wb_script.specs.SentLines.{digits_of, send_line}
 use Rattle.wb_script.specs.declared.fault.LineFault.{LineFault}
-use Rattle.wb_script.specs.declared.line.Line.{Line}
-use Rattle.wb_script.specs.declared.line.Line.TheVariants as lines
+use Rattle.wb_script.specs.declared.command.Command.{Command}
+use Rattle.wb_script.specs.declared.command.Command.TheVariants as lines
 use Rattle.wb_script.proofs.SentDigits.{datagram_read}
 use Rattle.wb_dialog.specs.Lines.{handed_in}
 use Rattle.wb_dialog.specs.declared.fault.Refusal.{Refusal}
@@ -48,7 +48,7 @@ bytes_tell_datagrams constants lines' line v e c = came_out constants lines' v (
 -- ---- one sense in which a datagram came out, and another
 
 module _ (P Q : Datagram → Type 0) (more : (v : Datagram) → IsDatagram v → P v → Q v) where
-  script_more : (host : Opened) (line : Line) → scripts.Fits line → IsHonestAt P host (Script line) → IsHonestAt Q host (Script line)
+  script_more : (host : Opened) (line : Command) → scripts.Fits line → IsHonestAt P host (Script line) → IsHonestAt Q host (Script line)
   script_more host (lines.Arrive d) fit fair = more (datagrams.Draw d) fit fair
   script_more host (lines.Hear v) fit fair = more v fit fair
   script_more host line fit fair = fair

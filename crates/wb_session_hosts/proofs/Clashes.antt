@@ -12,7 +12,7 @@ use Rattle.wb_script.specs.Hosts.{Opened}
 use Rattle.wb_script.specs.SentLines.{send_line}
 use Rattle.wb_script.specs.declared.acceptance.Acceptance.{Acceptance}
 use Rattle.wb_script.specs.declared.acceptance.Acceptance.TheVariants as became
-use Rattle.wb_script.specs.declared.line.Line.TheVariants as lines
+use Rattle.wb_script.specs.declared.command.Command.TheVariants as lines
 use Rattle.wb_session.specs.Session.{Member, Group, IsDistinct, member, IsDrawn}
 use Rattle.wb_session.proofs.Drawn.{holds_name, drawn_is_once, held_is_drawn, sent_is_drawn}
 use Rattle.wb_dialog.specs.declared.fault.Refusal.{Refusal}

@@ -14,8 +14,8 @@ use Rattle.wb_script.specs.Hosts.{Opened, Act, does, fails, act, calling, due_co
 use Rattle.wb_script.specs.Random.{word_of, words_of}
 use Rattle.wb_script.specs.declared.acceptance.Acceptance.{Acceptance}
 use Rattle.wb_script.specs.declared.acceptance.Acceptance.TheVariants as became
-use Rattle.wb_script.specs.declared.line.Line.{Line}
-use Rattle.wb_script.specs.declared.line.Line.TheVariants as lines
+use Rattle.wb_script.specs.declared.command.Command.{Command}
+use Rattle.wb_script.specs.declared.command.Command.TheVariants as lines
 use Rattle.wb_session.specs.Session.{Takes}
 use Rattle.wb_session.proofs.Members.{held_after, fits_after}
 use Rattle.wb_session_scripts.specs.Hosts.{act_of, member_of, sends_any}
@@ -83,7 +83,7 @@ module _ (host : Opened) (f : Fits host) where
 
   -- ---- what a line makes of it
 
-  script_fits : (line : Line) → scripts.Fits line → AnswerFits (answer_at (Script line) host)
+  script_fits : (line : Command) → scripts.Fits line → AnswerFits (answer_at (Script line) host)
   script_fits (lines.Arrive d) fit = given (accepted d host) (accepts d fit)
   script_fits (lines.Board member cells workers seed) fit = tt
   script_fits (lines.Hear v) fit = either (is_own host.me v || has_room (marks_heard host.me host.calls) v) _ _ (given _ (called (Hear (present host) v (word_at v host.random) (asks_for_held host.board.drawops v)) (words_for v) (moment, fit))) tt
@@ -131,13 +131,13 @@ module _ (host : Opened) (f : Fits host) where
 
   -- ---- what a line sends
 
-  act_sends : (line : Line) → scripts.Fits line → All IsDatagram (sends_any (act_of line host) (member_of [] host))
+  act_sends : (line : Command) → scripts.Fits line → All IsDatagram (sends_any (act_of line host) (member_of [] host))
   act_sends (lines.Hear v) fit = answers_fit host.board.drawops f.board few_held host.me f.me v
   act_sends (lines.Tick now) fit = tick_fits host.me host.constants host.calls host.board.drawops now f.me f.calls f.board
   act_sends (lines.Session page) fit = one _ (message_fits host.me host.calls f.calls (present host) moment host.board.drawops f.board few_held f.me page fit)
   act_sends line fit = All-nil IsDatagram
 
-  script_sends : (line : Line) (did : Act) → scripts.Fits line → All IsDatagram (sends_by_act line host did)
+  script_sends : (line : Command) (did : Act) → scripts.Fits line → All IsDatagram (sends_by_act line host did)
   script_sends line (does next text) fit = act_sends line fit
   script_sends line (fails e) fit = All-nil IsDatagram
 
@@ -165,7 +165,7 @@ module _ (host : Opened) (f : Fits host) where
 
 first_fits : (tuning : Tuning) (line : DriverLine) → drivers.Fits line → IfSome (after None (answer_first tuning line)) Fits
 first_fits tuning (Script line) fit = script line fit where
-  script : (line : Line) → scripts.Fits line → IfSome (after None (answer_first tuning (Script line))) Fits
+  script : (line : Command) → scripts.Fits line → IfSome (after None (answer_first tuning (Script line))) Fits
   script (lines.Board member cells workers seed) fit = record { me = fit.0; cells = fit.1; few = omega arith; board = All-nil IsDrawop; calls = All-nil calls.Fits }
   script line fit = tt
 first_fits tuning line fit = tt

@@ -18,8 +18,8 @@ use Rattle.wb_lines.specs.Words.{is_digit, number_after, number_of, unhex}
 use Rattle.wb_script.specs.Parsing.{◌>>=◌, or_fault, number, one_of, two_of, four_of, none_of, board, show, distance, tick, page, pages, spelled, datagram, arrived, heard, arrive, hear, page_line, command, begins_comment, line_of_words}
 use Rattle.wb_script.specs.declared.fault.LineFault.{LineFault}
 use Rattle.wb_script.specs.declared.fault.LineFault.TheVariants as faults
-use Rattle.wb_script.specs.declared.line.Line.{Line}
-use Rattle.wb_script.specs.declared.line.Line.TheVariants as lines
+use Rattle.wb_script.specs.declared.command.Command.{Command}
+use Rattle.wb_script.specs.declared.command.Command.TheVariants as lines
 
 -- ---- steps
 
@@ -126,7 +126,7 @@ datagram_digits arguments =
 -- ---- lines
 
 -- a datagram that a line of a script carries has a property, and all else that it carries is in range
-abbrev pub Carries : (Datagram → Type 0) → Line → Type 0
+abbrev pub Carries : (Datagram → Type 0) → Command → Type 0
 Carries P (lines.Board member cells workers seed) = (member < 2 ^ 32) × (cells ≤ 65535)
 Carries P (lines.Arrive d) = P (datagrams.Draw d)
 Carries P (lines.Hear v) = P v
@@ -136,11 +136,11 @@ Carries P (lines.Session page) = IsPage page
 Carries P line = Unit {0}
 
 -- what it carries is in range
-abbrev pub Fits : Line → Type 0
+abbrev pub Fits : Command → Type 0
 Fits line = Carries IsDatagram line
 
 module _ (P : Datagram → Type 0) where
-  abbrev Has : Line → Type 0
+  abbrev Has : Command → Type 0
   Has line = Carries P line
 
   board_fits : (arguments : List (List ℕ)) → IfOk (board arguments) Has

@@ -11,8 +11,8 @@ use Rattle.wb_script.specs.Hosts as scripts
 use Rattle.wb_script.specs.SentLines.{send_line, sends_text}
 use Rattle.wb_script.specs.declared.acceptance.Acceptance.{Acceptance}
 use Rattle.wb_script.specs.declared.acceptance.Acceptance.TheVariants as became
-use Rattle.wb_script.specs.declared.line.Line.{Line}
-use Rattle.wb_script.specs.declared.line.Line.TheVariants as lines
+use Rattle.wb_script.specs.declared.command.Command.{Command}
+use Rattle.wb_script.specs.declared.command.Command.TheVariants as lines
 use Rattle.wb_session_scripts.specs.Hosts.{said}
 use Rattle.wb_session_scripts.proofs.Acts.{lines_are_acts}
 use Rattle.wb_dialog.specs.declared.fault.Refusal.TheVariants as refusals
@@ -26,11 +26,11 @@ same_text : (s t : Option Opened) (a b : List ℕ) → gives s a ≡ gives t b �
 same_text s t a b e = cc
 
 module _ (host : Opened) (next : Option Opened) (text : List ℕ) where
-  by_act : (line : Line) (did : scripts.Act) → act line host ≡ did → answered did ≡ gives next text → text ≡ sends_text (sends_by_act line host did) ++ said line host
+  by_act : (line : Command) (did : scripts.Act) → act line host ≡ did → answered did ≡ gives next text → text ≡ sends_text (sends_by_act line host did) ++ said line host
   by_act line (fails e) f given = absurd cc
   by_act line (does h printed) f given = sym (same_text (Some h) next printed text given) ∙ (lines_are_acts [] line host h printed f).text
 
-  script : (line : Line) → answer_at (Script line) host ≡ gives next text → text ≡ sends_text (sends_at (Script line) host) ++ told_at (Script line) host
+  script : (line : Command) → answer_at (Script line) host ≡ gives next text → text ≡ sends_text (sends_at (Script line) host) ++ told_at (Script line) host
   script (lines.Arrive d) given = sym (same_text _ next (batch_of (acceptance d host)) text given)
   script (lines.Board member cells workers seed) given = absurd cc
   script lines.Skip given = by_act lines.Skip (act lines.Skip host) refl given

@@ -20,8 +20,8 @@ use Rattle.wb_script.specs.Random.{word_of}
 use Rattle.wb_script.specs.SentLines.{send_line}
 use Rattle.wb_script.specs.declared.acceptance.Acceptance.{Acceptance}
 use Rattle.wb_script.specs.declared.acceptance.Acceptance.TheVariants as became
-use Rattle.wb_script.specs.declared.line.Line.{Line}
-use Rattle.wb_script.specs.declared.line.Line.TheVariants as lines
+use Rattle.wb_script.specs.declared.command.Command.{Command}
+use Rattle.wb_script.specs.declared.command.Command.TheVariants as lines
 use Rattle.wb_session.specs.Session.{Member, Act, Draws, Takes, Misses, GivesUp, AsksForPages, next_drawop, holding, after, sends, ComesFrom, Event, Group, IsDistinct, member, newcomer, IsSession}
 use Rattle.wb_session.specs.Session as members
 use Rattle.wb_session.proofs.Drawn.{held_is_drawn}
@@ -47,11 +47,11 @@ abbrev pub listed : Option Act → List Act
 listed None = []
 listed (Some a) = a ∷ []
 
-abbrev pub acts_by_act : Line → Opened → scripts.Act → List Act
+abbrev pub acts_by_act : Command → Opened → scripts.Act → List Act
 acts_by_act line host (does next text) = listed (act_of line host)
 acts_by_act line host (fails e) = []
 
-abbrev pub acts_script : Line → Opened → List Act
+abbrev pub acts_script : Command → Opened → List Act
 acts_script (lines.Arrive d) host = Takes (present host) (d ∷ []) (d ∷ []) ∷ []
 acts_script line host = acts_by_act line host (act line host)
 
@@ -146,13 +146,13 @@ module _ (group : Group) (is : IsDistinct group) (i : ℕ) (events : List Event)
   }
   any said (Some a) next e none comes = one said a next (sends a (member_of [] host)) e none comes (λ v c. subst (λ (l : List Datagram). Contains l v) (same_sends a none) c)
 
-  by_act : (said : DrawopValue → Type 0) (line : Line) (did : scripts.Act) → act line host ≡ did → DrawsNone (act_of line host) → ComesAny (act_of line host) → Does (acts_by_act line host did) (dialog.after (Some host) (answered did)) (sends_by_act line host did) said
+  by_act : (said : DrawopValue → Type 0) (line : Command) (did : scripts.Act) → act line host ≡ did → DrawsNone (act_of line host) → ComesAny (act_of line host) → Does (acts_by_act line host did) (dialog.after (Some host) (answered did)) (sends_by_act line host did) said
   by_act said line (fails e) f none comes = idle said
   by_act said line (does next text) f none comes = any said (act_of line host) next (lines_are_acts drawn line host next text f).member none comes
 
   -- ---- a line of a script
 
-  script : (said : DrawopValue → Type 0) (line : Line) → IsHonestAt (Contains (members.sent group events)) host (Script line) → Does (acts_at (Script line) host) (dialog.after (Some host) (answer_at (Script line) host)) (sends_at (Script line) host) said
+  script : (said : DrawopValue → Type 0) (line : Command) → IsHonestAt (Contains (members.sent group events)) host (Script line) → Does (acts_at (Script line) host) (dialog.after (Some host) (answer_at (Script line) host)) (sends_at (Script line) host) said
   script said lines.Skip fair = by_act said lines.Skip (act lines.Skip host) refl tt tt
   script said (lines.Board number cells workers seed) fair = idle said
   script said (lines.Arrive d) fair = one said (Takes (present host) (d ∷ []) (d ∷ [])) (accepted d host) [] refl (λ n x h. h) (All-cons (λ x. Contains (members.sent group events) (datagrams.Draw x)) d [] fair (All-nil (λ x. Contains (members.sent group events) (datagrams.Draw x)))) (λ v c. none_out v c)
@@ -322,7 +322,7 @@ module _ (group : Group) (i : ℕ) (events : List Event) (s : IsSession group ev
   opened_board : (number cells workers seed : ℕ) → number ≡ group.number i → cells ≡ group.cells i → IsAt group i (Some (opened_with (group.constants i) number cells seed)) m
   opened_board number cells workers seed one two = ([], here ∙ sym (ap (λ (n : ℕ). member_of [] (opened_with (group.constants i) n cells seed)) one ∙ ap (λ (c : ℕ). member_of [] (opened_with (group.constants i) (group.number i) c seed)) two), λ x c. absurd (Contains-none x c))
 
-  first_script : (line : Line) → IsFirst group i (Script line) → Turns group i events m [] (dialog.after None (dialog.answer_first (group.constants i) (Script line))) [] said
+  first_script : (line : Command) → IsFirst group i (Script line) → Turns group i events m [] (dialog.after None (dialog.answer_first (group.constants i) (Script line))) [] said
   first_script (lines.Board number cells workers seed) fair = nothing (Some (opened_with (group.constants i) number cells seed)) (opened_board number cells workers seed fair.0 fair.1)
   first_script line fair = nothing None here
 

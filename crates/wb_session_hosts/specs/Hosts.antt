@@ -13,8 +13,8 @@ use Rattle.wb_script.specs.Hosts.{Opened, Act, does, fails, act}
 use Rattle.wb_script.specs.SentLines.{send_line}
 use Rattle.wb_script.specs.declared.acceptance.Acceptance.{Acceptance}
 use Rattle.wb_script.specs.declared.acceptance.Acceptance.TheVariants as became
-use Rattle.wb_script.specs.declared.line.Line.{Line}
-use Rattle.wb_script.specs.declared.line.Line.TheVariants as lines
+use Rattle.wb_script.specs.declared.command.Command.{Command}
+use Rattle.wb_script.specs.declared.command.Command.TheVariants as lines
 use Rattle.wb_session.specs.Session.{Group}
 use Rattle.wb_session_scripts.specs.Hosts.{act_of, member_of, said, sends_any}
 use Rattle.wb_dialog.specs.declared.fault.Refusal.{Refusal}
@@ -58,7 +58,7 @@ blocks_at constants (e ∷ older) i = if nat_eq e.place i then blocks_at constan
 -- ---- what a line sends
 
 -- the line of a script, which leads to this; a refused line sends nothing
-abbrev pub sends_by_act : Line → Opened → Act → List Datagram
+abbrev pub sends_by_act : Command → Opened → Act → List Datagram
 sends_by_act line host (does next text) = sends_any (act_of line host) (member_of [] host)
 sends_by_act line host (fails e) = []
 
@@ -97,7 +97,7 @@ abbrev pub told_said : Datagram → Opened → List ℕ
 told_said (Draw d) host = told_unsent (acceptance d host)
 told_said v host = []
 
-abbrev pub told_script : Line → Opened → List ℕ
+abbrev pub told_script : Command → Opened → List ℕ
 told_script (lines.Arrive d) host = batch_of (acceptance d host)
 told_script line host = said line host
 

@@ -16,7 +16,7 @@ use Rattle.wb_script.specs.Answers.{gaps_text}
 use Rattle.wb_script.specs.Hosts.{Opened}
 use Rattle.wb_script.specs.SentLines.{send_line, sends_text}
 use Rattle.wb_script.specs.declared.acceptance.Acceptance.TheVariants as became
-use Rattle.wb_script.specs.declared.line.Line.TheVariants as lines
+use Rattle.wb_script.specs.declared.command.Command.TheVariants as lines
 use Rattle.wb_session.specs.Session.{Event, Group, IsDistinct, member, newcomer, IsSession}
 use Rattle.wb_session.specs.Session as members
 use Rattle.wb_session_scripts.specs.Hosts.{IsMember}

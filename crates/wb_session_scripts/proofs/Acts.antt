@@ -12,8 +12,8 @@ use Rattle.wb_script.specs.Driving.{may_ask}
 use Rattle.wb_script.specs.Random.{word_of, words_of}
 use Rattle.wb_script.specs.SentLines.{sends_text, look_line}
 use Rattle.wb_script.specs.declared.fault.LineFault.TheVariants as faults
-use Rattle.wb_script.specs.declared.line.Line.{Line}
-use Rattle.wb_script.specs.declared.line.Line.TheVariants.{Skip, Board, Arrive, Hear as Heard, Distance, Tick, Look, Session, Show, Gaps, Report, Pages}
+use Rattle.wb_script.specs.declared.command.Command.{Command}
+use Rattle.wb_script.specs.declared.command.Command.TheVariants.{Skip, Board, Arrive, Hear as Heard, Distance, Tick, Look, Session, Show, Gaps, Report, Pages}
 use Rattle.wb_script.specs.declared.query.Query.TheVariants as queries
 use Rattle.wb_session.specs.Session.{Member, Misses}
 use Rattle.wb_session_scripts.specs.Hosts.{answered, member_of, after_any, OpenedIsNewcomer, BatchesAreActs, GivingUpIsAnAct, AskingIsAnAct, IsDone, LinesAreActs}
@@ -44,10 +44,10 @@ same_text host next text printed e = cc
 
 module _ (drawn : List DrawopValue) (host next : Opened) (printed : List ℕ) where
   -- it did this
-  done : (line : Line) (did : Opened) (text : List ℕ) → IsDone drawn line host did text → does did text ≡ does next printed → IsDone drawn line host next printed
+  done : (line : Command) (did : Opened) (text : List ℕ) → IsDone drawn line host did text → does did text ≡ does next printed → IsDone drawn line host next printed
   done line did text is e = subst (λ (h : Opened). IsDone drawn line host h printed) (same_host did next text printed e) (subst (IsDone drawn line host did) (same_text did next text printed e) is)
 
-  pub line_is_act : (line : Line) → act line host ≡ does next printed → IsDone drawn line host next printed
+  pub line_is_act : (line : Command) → act line host ≡ does next printed → IsDone drawn line host next printed
   line_is_act Skip e = done Skip host [] (record { member = refl; text = refl }) e
   line_is_act (Arrive d) e = done (Arrive d) host [] (record { member = refl; text = refl }) e
   line_is_act (Board member cells workers seed) e = done (Board member cells workers seed) host [] (record { member = refl; text = refl }) e

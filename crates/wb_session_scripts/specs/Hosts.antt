@@ -11,8 +11,8 @@ use Rattle.wb_script.specs.Hosts.{Opened, opened_with, present, host_after, does
 use Rattle.wb_script.specs.Driving.{may_ask, with_asked, with_stopped}
 use Rattle.wb_script.specs.Random.{word_of, words_of}
 use Rattle.wb_script.specs.SentLines.{sends_text, look_line}
-use Rattle.wb_script.specs.declared.line.Line.{Line}
-use Rattle.wb_script.specs.declared.line.Line.TheVariants as lines
+use Rattle.wb_script.specs.declared.command.Command.{Command}
+use Rattle.wb_script.specs.declared.command.Command.TheVariants as lines
 use Rattle.wb_script.specs.declared.query.Query.{Query}
 use Rattle.wb_script.specs.declared.query.Query.TheVariants as queries
 use Rattle.wb_session.specs.Session.{Member, Act, Takes, Hears, SetsDelay, Misses, GivesUp, Ticks, Reports, after, sends, Event, Group, IsDistinct, member, newcomer, IsSession, LacksNothing}
@@ -22,7 +22,7 @@ abbrev pub member_of : List DrawopValue → Opened → Member
 member_of drawn host = record { number = host.me; cells = host.board.cells; constants = host.constants; drawn = drawn; held = host.board.drawops; calls = host.calls }
 
 -- The act of a line, once its batch has ended. A question and a skipped line are none, nor are the line of the board and an arrival, which only joins a batch.
-abbrev pub act_of : Line → Opened → Option Act
+abbrev pub act_of : Command → Opened → Option Act
 act_of (lines.Hear v) host = Some (Hears (present host) v (word_at v host.random))
 act_of (lines.Distance source micros) host = Some (SetsDelay source micros)
 act_of (lines.Tick moment) host = Some (Ticks moment (words_of host.random (due_count moment host)))
@@ -42,7 +42,7 @@ abbrev pub answered : Query → Opened → List ℕ
 answered query host = answer_text (marks_heard host.me host.calls) host.board.drawops query
 
 -- what a line prints beside what is sent
-abbrev pub said : Line → Opened → List ℕ
+abbrev pub said : Command → Opened → List ℕ
 said (lines.Look page) host = look_line (length (wanted_of page host))
 said (lines.Show page width height) host = answered (queries.Canvas page width height) host
 said (lines.Gaps page) host = answered (queries.Gaps page) host
@@ -71,13 +71,13 @@ abbrev pub AskingIsAnAct : Type 0
 AskingIsAnAct = (drawn : List DrawopValue) (host : Opened) (name : NameValue) → member_of drawn (with_asked name host) ≡ after_any (asks_any name host) (member_of drawn host)
 
 -- the host has done what the member does by the act, and has printed what it sends
-pub record IsDone (drawn : List DrawopValue) (line : Line) (host next : Opened) (printed : List ℕ) : Type 0 where
+pub record IsDone (drawn : List DrawopValue) (line : Command) (host next : Opened) (printed : List ℕ) : Type 0 where
   pub member : member_of drawn next ≡ after_any (act_of line host) (member_of drawn host)
   pub text : printed ≡ sends_text (sends_any (act_of line host) (member_of drawn host)) ++ said line host
 
 -- A line that is not refused is its act.
 abbrev pub LinesAreActs : Type 0
-LinesAreActs = (drawn : List DrawopValue) (line : Line) (host next : Opened) (printed : List ℕ) → act line host ≡ does next printed → IsDone drawn line host next printed
+LinesAreActs = (drawn : List DrawopValue) (line : Command) (host next : Opened) (printed : List ℕ) → act line host ≡ does next printed → IsDone drawn line host next printed
 
 -- a host is the member at a place after some events
 abbrev pub IsMember : Group → List Event → ℕ → Opened → Type 0

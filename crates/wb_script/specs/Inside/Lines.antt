@@ -2,7 +2,7 @@
 use Rattle.std.specs.Prelude.{◌≡◌, ◌≢◌, ◌<◌, ◌+◌, ℕ, List, [], ◌∷◌, ◌++◌, Bool, true, false, Option, Some, None, Result, Ok, Err}
 use Rattle.wb_script.specs.declared.fault.LineFault.{LineFault}
 use Rattle.wb_script.specs.declared.fault.RunFault.{RunFault}
-use Rattle.wb_script.specs.declared.line.Line.{Line}
+use Rattle.wb_script.specs.declared.command.Command.{Command}
 use Rattle.wb_lines.specs.Ahead.{Ahead, IsLine}
 use Rattle.wb_script.specs.Parsing.{line_of}
 use Rattle.wb_lines.specs.Input.{InputLine, content}
@@ -36,7 +36,7 @@ IsFirst None ahead = ⊥
 IsFirst (Some line) ahead = (rest : Ahead) × Fronts ahead line rest
 
 -- what it says
-abbrev pub Says : Option InputLine → Result Line LineFault → Type 0
+abbrev pub Says : Option InputLine → Result Command LineFault → Type 0
 Says None parsed = ⊥
 Says (Some line) parsed = line_of (content line) ≡ parsed
 

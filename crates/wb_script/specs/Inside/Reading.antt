@@ -41,10 +41,10 @@ ReadsTo old new given failed (Ok None) =
 ReadsTo old new given failed (Err e) =
     (old.done ≤ new.done) × ((s : State) → IsOpen s.host → Stops old.done s old.ahead given [] s new.ahead failed e)
 
--- ---- what a batch draws
+-- ---- the arrivals of a batch
 
--- The lines of the script, and the first arrival, while it was not drawn.
-pub record DrawnValue : Type 0 where
+-- The lines of the script, and the first arrival, while it was not taken.
+pub record BatchPlace : Type 0 where
   pub lines : LinesValue
   pub first : Option DrawopValue
 
@@ -52,31 +52,31 @@ abbrev pub listed : Option DrawopValue → List DrawopValue
 listed None = []
 listed (Some d) = d ∷ []
 
--- so many can still be drawn at most
-abbrev pub most_of : DrawnValue → ℕ
+-- so many can still come at most
+abbrev pub most_of : BatchPlace → ℕ
 most_of v = (most_lines - v.lines.done) + length (listed v.first)
 
--- The script was read on and these were drawn: they wait, and so does the first, where it was not drawn.
-abbrev pub GetsOn : State → DrawnValue → List DrawopValue → DrawnValue → List ℕ → Type 0
-GetsOn s old drawn new given = Passes old.lines.done (with_more s (listed old.first)) old.lines.ahead given [] new.lines.done (with_more s (drawn ++ listed new.first)) new.lines.ahead
+-- The script was read on and these came: they wait, and so does the first, where it was not taken.
+abbrev pub GetsOn : State → BatchPlace → List DrawopValue → BatchPlace → List ℕ → Type 0
+GetsOn s old arrived new given = Passes old.lines.done (with_more s (listed old.first)) old.lines.ahead given [] new.lines.done (with_more s (arrived ++ listed new.first)) new.lines.ahead
 
 -- It can be read no more.
-abbrev pub GetsStuck : State → DrawnValue → List DrawopValue → DrawnValue → List ℕ → Bool → RunFault → Type 0
-GetsStuck s old drawn new given failed e = Stops old.lines.done (with_more s (listed old.first)) old.lines.ahead given [] (with_more s (drawn ++ listed new.first)) new.lines.ahead failed e
+abbrev pub GetsStuck : State → BatchPlace → List DrawopValue → BatchPlace → List ℕ → Bool → RunFault → Type 0
+GetsStuck s old arrived new given failed e = Stops old.lines.done (with_more s (listed old.first)) old.lines.ahead given [] (with_more s (arrived ++ listed new.first)) new.lines.ahead failed e
 
--- What a draw comes to: an arrival, the end of the batch, or a fault.
-abbrev pub DrawsBy : DrawnValue → DrawnValue → List ℕ → Bool → Result (Option DrawopValue) RunFault → Type 0
-DrawsBy old new given failed (Ok (Some d)) = (most_of new < most_of old) × ((s : State) → IsOpen s.host → GetsOn s old (d ∷ []) new given)
-DrawsBy old new given failed (Ok None) = (most_of new ≤ most_of old) × (old.first ≡ None) × (new.first ≡ None) × IsBatchEnd new.lines × ((s : State) → IsOpen s.host → GetsOn s old [] new given)
-DrawsBy old new given failed (Err e) = (most_of new ≤ most_of old) × (old.first ≡ None) × (new.first ≡ None) × ((s : State) → IsOpen s.host → GetsStuck s old [] new given failed e)
+-- What the next arrival comes to: an arrival, the end of the batch, or a fault.
+abbrev pub ArrivesBy : BatchPlace → BatchPlace → List ℕ → Bool → Result (Option DrawopValue) RunFault → Type 0
+ArrivesBy old new given failed (Ok (Some d)) = (most_of new < most_of old) × ((s : State) → IsOpen s.host → GetsOn s old (d ∷ []) new given)
+ArrivesBy old new given failed (Ok None) = (most_of new ≤ most_of old) × (old.first ≡ None) × (new.first ≡ None) × IsBatchEnd new.lines × ((s : State) → IsOpen s.host → GetsOn s old [] new given)
+ArrivesBy old new given failed (Err e) = (most_of new ≤ most_of old) × (old.first ≡ None) × (new.first ≡ None) × ((s : State) → IsOpen s.host → GetsStuck s old [] new given failed e)
 
-abbrev pub DrawsTo : DrawnValue → DrawnValue → List ℕ → Bool → Result (Option DrawopValue) RunFault → Type 0
-DrawsTo old new given failed result = (old.lines.done ≤ new.lines.done) × DrawsBy old new given failed result
+abbrev pub ArrivesTo : BatchPlace → BatchPlace → List ℕ → Bool → Result (Option DrawopValue) RunFault → Type 0
+ArrivesTo old new given failed result = (old.lines.done ≤ new.lines.done) × ArrivesBy old new given failed result
 
 -- With it: how the batch ended, once it has; what the source has left, and whether it failed; what waits to be written, what the sink
 -- has taken, and whether it failed.
-pub record DrawsValue : Type 0 where
-  pub at : DrawnValue
+pub record BatchReading : Type 0 where
+  pub at : BatchPlace
   pub over : Option (Result (Unit {0}) RunFault)
   pub left : Option (List ℕ)
   pub failed : Bool
@@ -84,22 +84,22 @@ pub record DrawsValue : Type 0 where
   pub taken : Option (List ℕ)
   pub stuck : Bool
 
--- How far the script was read: as far as it was drawn, to the end of the batch, or to a fault.
-abbrev pub GetsTo : Option (Result (Unit {0}) RunFault) → State → DrawsValue → List DrawopValue → DrawsValue → List ℕ → Type 0
-GetsTo None s old drawn new given = GetsOn s old.at drawn new.at given
-GetsTo (Some (Ok u)) s old drawn new given = (new.at.first ≡ None) × IsBatchEnd new.at.lines × GetsOn s old.at drawn new.at given
-GetsTo (Some (Err e)) s old drawn new given = (new.at.first ≡ None) × GetsStuck s old.at drawn new.at given new.failed e
+-- How far the script was read: as far as arrivals were taken, to the end of the batch, or to a fault.
+abbrev pub GetsTo : Option (Result (Unit {0}) RunFault) → State → BatchReading → List DrawopValue → BatchReading → List ℕ → Type 0
+GetsTo None s old arrived new given = GetsOn s old.at arrived new.at given
+GetsTo (Some (Ok u)) s old arrived new given = (new.at.first ≡ None) × IsBatchEnd new.at.lines × GetsOn s old.at arrived new.at given
+GetsTo (Some (Err e)) s old arrived new given = (new.at.first ≡ None) × GetsStuck s old.at arrived new.at given new.failed e
 
--- The script was read on, and these were drawn. The first is not lost.
-pub record ReadsOn (old : DrawsValue) (drawn : List DrawopValue) (new : DrawsValue) : Type 0 where
+-- The script was read on, and these came. The first is not lost.
+pub record ReadsOn (old : BatchReading) (arrived : List DrawopValue) (new : BatchReading) : Type 0 where
   pub given : List ℕ
   pub pulls : Pulls old.at.lines.ahead new.at.lines.ahead old.left new.left old.failed new.failed given
   pub sends : Sends old.taken old.output new.taken new.output []
   pub on : old.at.lines.done ≤ new.at.lines.done
-  pub kept : length (listed old.at.first) ≤ length (drawn ++ listed new.at.first)
-  pub gets : (s : State) → IsOpen s.host → GetsTo new.over s old drawn new given
+  pub kept : length (listed old.at.first) ≤ length (arrived ++ listed new.at.first)
+  pub gets : (s : State) → IsOpen s.host → GetsTo new.over s old arrived new given
   pub unwritten : new.over ≡ Some (Err run_faults.Write) → new.stuck ≡ true
 
--- These are drawn next: whatever led to the one leads on to the other.
-abbrev pub Gives : DrawsValue → List DrawopValue → DrawsValue → Type 0
-Gives old next new = (start : DrawsValue) (drawn : List DrawopValue) → ReadsOn start drawn old → ReadsOn start (drawn ++ next) new
+-- These come next: whatever led to the one leads on to the other.
+abbrev pub Gives : BatchReading → List DrawopValue → BatchReading → Type 0
+Gives old next new = (start : BatchReading) (arrived : List DrawopValue) → ReadsOn start arrived old → ReadsOn start (arrived ++ next) new

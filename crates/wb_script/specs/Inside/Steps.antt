@@ -5,20 +5,20 @@ use Rattle.wb_script.specs.declared.fault.RunFault.{RunFault}
 use Rattle.wb_script.specs.declared.fault.RunFault.TheVariants as run_faults
 use Rattle.wb_script.specs.Hosts.{Opened, host_after, batch_text}
 use Rattle.wb_script.specs.Script.{State, InSomeOrder, Step, goes, refused, is_stop, StopsWithin}
-use Rattle.wb_script.specs.Stations.{StationValue, IsOpenAt, MayBeOpenAt}
+use Rattle.wb_script.specs.Members.{MemberValue, IsOpenAt, MayBeOpenAt}
 
 pub record HostValue : Type 0 where
-  pub station : Option StationValue
+  pub member : Option MemberValue
   pub workers : Option ℕ
 
 -- A host is at a state at which no arrivals wait: a batch is taken whole.
 pub record IsAt (h : HostValue) (s : State) : Type 0 where
-  pub station : MayBeOpenAt h.station s.host
+  pub member : MayBeOpenAt h.member s.host
   pub workers : h.workers ≡ s.workers
   pub waiting : s.waiting ≡ []
 
--- A station that was at this host has taken a batch, in this order, and printed a text.
-pub record TakesBatch (host : Opened) (batch order : List DrawopValue) (new : StationValue) (written : List ℕ) : Type 0 where
+-- A member that was at this host has taken a batch, in this order, and printed a text.
+pub record TakesBatch (host : Opened) (batch order : List DrawopValue) (new : MemberValue) (written : List ℕ) : Type 0 where
   pub leads : IsOpenAt new (host_after host batch order)
   pub text : written ≡ batch_text host.board order
 

@@ -3,25 +3,25 @@ use Rattle.std.specs.Prelude.{◌≡◌, ◌<◌, ℕ, length, List, [], ◌∷�
 use Rattle.wb_names.specs.Values.{DrawopValue}
 use Rattle.wb_feed.specs.Batches.{counts_in}
 use Rattle.wb_script.specs.declared.fault.RunFault.{RunFault}
-use Rattle.wb_script.specs.declared.taking.DrawnBatch.{DrawnBatch}
+use Rattle.wb_script.specs.declared.taking.TakenBatch.{TakenBatch}
 use Rattle.wb_script.specs.declared.taking.PrintedBatch.{PrintedBatch}
 use Rattle.wb_script.specs.Hosts.{Opened, host_after}
 use Rattle.wb_script.specs.Script.{State, MayBeTaken, after_batch, is_stop, IsStop}
 use Rattle.wb_script.specs.Inside.Passing.{Passes, Stops}
-use Rattle.wb_script.specs.Stations.{StationValue, IsOpenAt, TakesAll}
+use Rattle.wb_script.specs.Members.{MemberValue, IsOpenAt, TakesAll}
 use Rattle.wb_script.specs.Inside.Lines.{LinesValue}
 use Rattle.wb_script.specs.Inside.Reading.{IsOpen, with_waiting, IsBatchEnd}
 
--- The first arrival waited: these were drawn, and the script was read on to the end of the batch, or to a fault.
+-- The first arrival waited: these came, and the script was read on to the end of the batch, or to a fault.
 abbrev pub GetsOver : Option RunFault → State → LinesValue → DrawopValue → List ℕ → LinesValue → Bool → List DrawopValue → Type 0
-GetsOver None s old first given new failed drawn = IsBatchEnd new × Passes old.done (with_waiting s (first ∷ [])) old.ahead given [] new.done (with_waiting s drawn) new.ahead
-GetsOver (Some f) s old first given new failed drawn = (is_stop f ≡ false) × Stops old.done (with_waiting s (first ∷ [])) old.ahead given [] (with_waiting s drawn) new.ahead failed f
+GetsOver None s old first given new failed arrived = IsBatchEnd new × Passes old.done (with_waiting s (first ∷ [])) old.ahead given [] new.done (with_waiting s arrived) new.ahead
+GetsOver (Some f) s old first given new failed arrived = (is_stop f ≡ false) × Stops old.done (with_waiting s (first ∷ [])) old.ahead given [] (with_waiting s arrived) new.ahead failed f
 
--- the batch that a station has taken
-pub record IsDrawn (station : StationValue) (workers : ℕ) (d : DrawnBatch) : Type 0 where
-  pub taken : TakesAll station.board workers d.drawops.items d.station.board (counts_in d.batch)
-  pub keeper : d.station.keeper ≡ station.keeper
-  pub words : d.station.words ≡ station.words
+-- the batch that a member has taken
+pub record IsTaken (member : MemberValue) (workers : ℕ) (d : TakenBatch) : Type 0 where
+  pub taken : TakesAll member.board workers d.drawops.items d.member.board (counts_in d.batch)
+  pub keeper : d.member.keeper ≡ member.keeper
+  pub words : d.member.words ≡ member.words
 
 -- why the script can't be read on, where it can't
 abbrev pub IsFault : Option (Result (Unit {0}) RunFault) → Option RunFault → Type 0
@@ -29,13 +29,13 @@ IsFault None fault = ⊥
 IsFault (Some (Ok u)) fault = fault ≡ None
 IsFault (Some (Err e)) fault = (fault ≡ Some e) × (is_stop e ≡ false)
 
-abbrev pub TakesFrom : StationValue → ℕ → List DrawopValue → Option (Result (Unit {0}) RunFault) → Result DrawnBatch RunFault → Type 0
-TakesFrom station workers drawn over (Ok d) = (d.drawops.items ≡ drawn) × IsDrawn station workers d × IsFault over d.fault
-TakesFrom station workers drawn over (Err f) = IsStop f
+abbrev pub TakesFrom : MemberValue → ℕ → List DrawopValue → Option (Result (Unit {0}) RunFault) → Result TakenBatch RunFault → Type 0
+TakesFrom member workers arrived over (Ok d) = (d.drawops.items ≡ arrived) × IsTaken member workers d × IsFault over d.fault
+TakesFrom member workers arrived over (Err f) = IsStop f
 
-abbrev pub DrawsAll : StationValue → ℕ → LinesValue → DrawopValue → List ℕ → LinesValue → Bool → Result DrawnBatch RunFault → Type 0
-DrawsAll station workers old first given new failed (Ok d) = IsDrawn station workers d × ((s : State) → IsOpen s.host → (0 < length d.drawops.items) × GetsOver d.fault s old first given new failed d.drawops.items)
-DrawsAll station workers old first given new failed (Err f) = IsStop f
+abbrev pub TakesArrivals : MemberValue → ℕ → LinesValue → DrawopValue → List ℕ → LinesValue → Bool → Result TakenBatch RunFault → Type 0
+TakesArrivals member workers old first given new failed (Ok d) = IsTaken member workers d × ((s : State) → IsOpen s.host → (0 < length d.drawops.items) × GetsOver d.fault s old first given new failed d.drawops.items)
+TakesArrivals member workers old first given new failed (Err f) = IsStop f
 
 -- The batch is taken and printed, in some order.
 abbrev pub GoesOn : Option RunFault → State → LinesValue → DrawopValue → List ℕ → List ℕ → LinesValue → Bool → State → Type 0
@@ -46,7 +46,7 @@ pub record TakesOn (s : State) (host : Opened) (old : LinesValue) (first : Drawo
   pub batch : List DrawopValue
   pub order : List DrawopValue
   pub may : MayBeTaken s.workers batch order
-  pub leads : IsOpenAt taken.station (host_after host batch order)
+  pub leads : IsOpenAt taken.member (host_after host batch order)
   pub goes : GoesOn taken.fault s old first given written new failed (after_batch (with_waiting s batch) order)
 
 abbrev pub TakesBatchOn : State → Opened → LinesValue → DrawopValue → List ℕ → List ℕ → LinesValue → Bool → Result PrintedBatch RunFault → Type 0

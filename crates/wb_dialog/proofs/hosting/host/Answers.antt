@@ -9,7 +9,7 @@ use Rattle.wb_dialog.proofs.hosting.host.Goals as goal
 pub returns-in-Ok-clause-text : goal.returns-in-Ok-clause-text
 returns-in-Ok-clause-text g c =
     let l = c.in-Ok.ensures.lines in
-    let at = subst (λ (d : DialogValue). IsAt d (unopened c.args.tuning)) (sym c.new-dialog.ensures) (record { tuning = refl; station = tt }) in (
+    let at = subst (λ (d : DialogValue). IsAt d (unopened c.args.tuning)) (sym c.new-dialog.ensures) (record { tuning = refl; member = tt }) in (
       l.0,
       l.1,
       l.2,
@@ -20,13 +20,13 @@ returns-in-Ok-clause-text g c =
 pub returns-in-Ok-clause-whole : goal.returns-in-Ok-clause-whole
 returns-in-Ok-clause-whole g c =
     let l = c.in-Ok.ensures.lines in
-    let at = subst (λ (d : DialogValue). IsAt d (unopened c.args.tuning)) (sym c.new-dialog.ensures) (record { tuning = refl; station = tt }) in
+    let at = subst (λ (d : DialogValue). IsAt d (unopened c.args.tuning)) (sym c.new-dialog.ensures) (record { tuning = refl; member = tt }) in
     (hosts_transcript c.args.tuning 18446744073709551615 (g.R.Source.has_failed c.drive.new.source) l.0 l.1 (Ok c.in-Ok.field-0) (l.4 (unopened c.args.tuning) at)).1
 
 pub returns-clause-text : goal.returns-clause-text
 returns-clause-text g c =
     let l = c.in-Err.ensures.lines in
-    let at = subst (λ (d : DialogValue). IsAt d (unopened c.args.tuning)) (sym c.new-dialog.ensures) (record { tuning = refl; station = tt }) in (
+    let at = subst (λ (d : DialogValue). IsAt d (unopened c.args.tuning)) (sym c.new-dialog.ensures) (record { tuning = refl; member = tt }) in (
       l.0,
       l.1,
       l.2,

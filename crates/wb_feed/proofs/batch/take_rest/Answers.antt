@@ -18,7 +18,7 @@ loop-i-preserved-then-marks-i c =
 pub loop-i-preserved : goal.loop-i-preserved
 loop-i-preserved c =
     let free : get_or c.args.marks.now c.loop-i.i false ≡ false = search rules in
-    rest_more _ _ _ _ _ _ _ _ c.index-drawn-i.result c.loop-i-test.true c.requires.marks free c.index-drawn-i.is c.loop-i.invariant c.in_ok-take_one.ensures.ok
+    rest_more _ _ _ _ _ _ _ _ c.index-arrived-i.result c.loop-i-test.true c.requires.marks free c.index-arrived-i.is c.loop-i.invariant c.in_ok-take_one.ensures.ok
 
 pub take_one-requires-clause-desk : goal.take_one-requires-clause-desk
 take_one-requires-clause-desk c = (rest_keeps _ _ _ _ _ _ c.loop-i.invariant).kept.same.0 ∙ c.requires.desk

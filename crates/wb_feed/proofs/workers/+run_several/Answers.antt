@@ -41,7 +41,7 @@ returns-in-Err-clause-kept g t c =
 pub returns-in-Err-clause-fed : goal.returns-in-Err-clause-fed
 returns-in-Err-clause-fed g t c =
     several_fed _ _ _ _ _ _ _ _ _ _ _ _ _ c.work.result (Err Start) _ c.cut-theirs.ensures.left
-    (fed_none _ _ _ _ _ _ _ c.end_all-in-Err.ensures.channel (ap (λ d. d.items) c.end_all-in-Err.ensures.drawn) (g.met.S.Arrivals.gives_none _) tt)
+    (fed_none _ _ _ _ _ _ _ c.end_all-in-Err.ensures.channel (ap (λ d. d.items) c.end_all-in-Err.ensures.arrived) (g.met.S.Arrivals.gives_none _) tt)
     c.take_back-in-Err.ensures.pass c.take_back-in-Err.ensures.back
 
 pub returns-in-Err-clause-ok : goal.returns-in-Err-clause-ok

@@ -1,4 +1,4 @@
-use Rattle.wb_script.proofs.DrawnWords.{words_of-add, after_words-add, word_of-fits}
+use Rattle.wb_script.proofs.SeedWords.{words_of-add, after_words-add, word_of-fits}
 use Rattle.wb_script.proofs.laws.words_follow_words.Goals as goal
 
 pub returns-clause-words : goal.returns-clause-words

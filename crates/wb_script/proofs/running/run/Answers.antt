@@ -22,7 +22,7 @@ returns-clause-script g c =
     let lines = rw (c.in_ok-lines.ensures, c.new-host.ensures, c.new-output.ensures) at c.run_lines-ending.ensures.text in
     let end = c.close.ensures.text in
     let ending = c.run_lines-ending.new in
-    let last = lines.4 (start c.args.workers) (record { station = tt; workers = refl; waiting = refl }) in
+    let last = lines.4 (start c.args.workers) (record { member = tt; workers = refl; waiting = refl }) in
     let sends = Sends-then (g.W.Sink.taken c.args.sink.now) (g.W.Sink.taken ending.sink) (g.W.Sink.taken c.close.new.sink) [] ending.progress.output c.close.new.output lines.1 end.0 lines.3 end.1 in
     let input = input_from ending.progress.lines.ahead (g.R.Source.left c.args.source.now) (g.R.Source.left ending.source) (g.R.Source.has_failed c.args.source.now) (g.R.Source.has_failed ending.source) lines.0 lines.2 in (
       lines.0 ++ input.more,
@@ -38,5 +38,5 @@ returns-clause-write g c = c.close.ensures.failed c.run_lines-ending.ensures.fai
 pub returns-clause-read : goal.returns-clause-read
 returns-clause-read g c = λ e.
     let lines = rw c.new-host.ensures at c.run_lines-ending.ensures.text in
-    let last = lines.4 (start c.args.workers) (record { station = tt; workers = refl; waiting = refl }) in
+    let last = lines.4 (start c.args.workers) (record { member = tt; workers = refl; waiting = refl }) in
     read_failed (start c.args.workers) last.0 c.in_ok-lines.lines.ahead c.run_lines-ending.new.progress.lines.ahead lines.0 lines.1 (g.R.Source.has_failed c.run_lines-ending.new.source) c.run_lines-ending.result last.2 (c.close.ensures.read e)

@@ -10,7 +10,7 @@ returns-in-Ok-clause-text c =
     let closed = c.close.ensures in (
       did.0 ++ closed.0,
       closed.1 ∙ ap (λ (x : List ℕ). x ++ closed.0) did.1 ∙ append_assoc c.args.output.now did.0 closed.0,
-      λ s at. Blocks-closed s c.take.new.self.station did.0 closed.0 c.in-Ok.field-0 c.close.result (answer c.args.self.now.tuning s (line_of c.args.content.now)) (did.2 s at) closed.2,
+      λ s at. Blocks-closed s c.take.new.self.member did.0 closed.0 c.in-Ok.field-0 c.close.result (answer c.args.self.now.tuning s (line_of c.args.content.now)) (did.2 s at) closed.2,
     )
 
 pub returns-in-Err-Refused-clause-text : goal.returns-in-Err-Refused-clause-text
@@ -19,7 +19,7 @@ returns-in-Err-Refused-clause-text c =
     let refused = c.refuse.ensures.text in (
       did.0 ++ refused.0,
       refused.1 ∙ ap (λ (x : List ℕ). x ++ refused.0) did.1 ∙ append_assoc c.args.output.now did.0 refused.0,
-      λ s at. Blocks-refused s c.take.new.self.station c.refuse.new.self.station did.0 refused.0 c.in-Err-Refused.refusal c.refuse.result (answer c.args.self.now.tuning s (line_of c.args.content.now)) (did.2 s at) (λ now. refused.2 s now),
+      λ s at. Blocks-refused s c.take.new.self.member c.refuse.new.self.member did.0 refused.0 c.in-Err-Refused.refusal c.refuse.result (answer c.args.self.now.tuning s (line_of c.args.content.now)) (did.2 s at) (λ now. refused.2 s now),
     )
 
 pub returns-in-Err-Memory-clause-text : goal.returns-in-Err-Memory-clause-text

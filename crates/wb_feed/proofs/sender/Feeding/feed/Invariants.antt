@@ -1,6 +1,6 @@
 use Rattle.std.proofs.Common.{◌≡◌}
 use Rattle.crossbeam_channel.specs.Claims.{view}
-use Rattle.wb_feed.specs.Sent.{IsDrawn}
+use Rattle.wb_feed.specs.Sent.{HasArrived}
 use Rattle.wb_feed.proofs.Sending.{Stays}
 use Rattle.wb_feed.proofs.sender.Feeding.feed.Given as goal
 
@@ -9,7 +9,7 @@ invariant-loop-message g l =
     record {
       channel : l.self.channel ≡ l.initial.self.channel;
       stays : Stays (view l.initial.self.pass) (view l.self.pass);
-      drawn : IsDrawn g.S.Arrivals.gives g.S.Arrivals.most_to_come l.initial.arrivals l.initial.self.drawn.items l.arrivals l.self.drawn.items;
+      arrived : HasArrived g.S.Arrivals.gives g.S.Arrivals.most_to_come l.initial.arrivals l.initial.self.arrived.items l.arrivals l.self.arrived.items;
     }
 
 abbrev pub decreases-loop-message : goal.decreases-loop-message

@@ -1,12 +1,12 @@
 use Rattle.std.proofs.Common.{rules, ◌≡◌, None, Some, Ok, Err, refl}
-use Rattle.wb_script.proofs.Following.{drawn_on, ended_on, fault_on}
+use Rattle.wb_script.proofs.Following.{arrived_on, ended_on, fault_on}
 use Rattle.wb_script.proofs.arriving.BatchSourceArrivals.next.Goals as goal
 
 pub returns-in-Ok-Some-clause-first : goal.returns-in-Ok-Some-clause-first
 returns-in-Ok-Some-clause-first g c =
     let going : c.args.self.now.over ≡ None = search rules in
     let one = rw c.in-Ok-Some.field-0-is at c.in-Ok-Some.ensures.read in
-    (refl, refl, refl, drawn_on (record { at = record { lines = c.args.self.now.progress.now.lines; first = c.args.self.now.first }; over = c.args.self.now.over; left = g.R.Source.left c.args.self.now.source.now; failed = g.R.Source.has_failed c.args.self.now.source.now; output = c.args.self.now.progress.now.output; taken = g.W.Sink.taken c.args.self.now.sink.now; stuck = g.W.Sink.has_failed c.args.self.now.sink.now }) (record { at = record { lines = c.draw.new.progress.lines; first = c.draw.new.first }; over = c.args.self.now.over; left = g.R.Source.left c.draw.new.source; failed = g.R.Source.has_failed c.draw.new.source; output = c.draw.new.progress.output; taken = g.W.Sink.taken c.draw.new.sink; stuck = g.W.Sink.has_failed c.draw.new.sink }) one.0 c.in-Ok-Some.drawop going going one.1 c.in-Ok-Some.ensures.sends one.2)
+    (refl, refl, refl, arrived_on (record { at = record { lines = c.args.self.now.progress.now.lines; first = c.args.self.now.first }; over = c.args.self.now.over; left = g.R.Source.left c.args.self.now.source.now; failed = g.R.Source.has_failed c.args.self.now.source.now; output = c.args.self.now.progress.now.output; taken = g.W.Sink.taken c.args.self.now.sink.now; stuck = g.W.Sink.has_failed c.args.self.now.sink.now }) (record { at = record { lines = c.draw.new.progress.lines; first = c.draw.new.first }; over = c.args.self.now.over; left = g.R.Source.left c.draw.new.source; failed = g.R.Source.has_failed c.draw.new.source; output = c.draw.new.progress.output; taken = g.W.Sink.taken c.draw.new.sink; stuck = g.W.Sink.has_failed c.draw.new.sink }) one.0 c.in-Ok-Some.drawop going going one.1 c.in-Ok-Some.ensures.sends one.2)
 
 pub returns-in-Ok-None-clause-rest : goal.returns-in-Ok-None-clause-rest
 returns-in-Ok-None-clause-rest g c =

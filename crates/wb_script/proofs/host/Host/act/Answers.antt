@@ -10,13 +10,13 @@ returns-clause-text c = elim c.match-self.branch [
       rw (w.output-is, w.result-is, w.self-inside-is) (
         [],
         sym (append-nil c.args.output.now),
-        λ s at. let e = ends_empty c.args.self.now s at in (e.0, e.1, ends_nowhere c.args.number s e.0 c.args.self.now c.self.inside.station c.self.inside.workers c.args.line.now c.self.view_is w.in-None.is e.2),
+        λ s at. let e = ends_empty c.args.self.now s at in (e.0, e.1, ends_nowhere c.args.number s e.0 c.args.self.now c.self.inside.member c.self.inside.workers c.args.command.now c.self.view_is w.in-None.is e.2),
       )
   | in-Some w ↦
       let b = w.act.ensures.text in
       rw (w.output-is, w.result-is, w.self-inside-is) (
         b.0,
         b.1,
-        λ s at. let e = ends_empty c.args.self.now s at in (e.0, e.1, ends_then c.args.number s e.0 c.args.self.now c.self.inside.station w.in-Some.station w.act.new.self c.self.inside.workers b.0 c.args.line.now w.act.result c.self.view_is w.in-Some.is e.2 b.2),
+        λ s at. let e = ends_empty c.args.self.now s at in (e.0, e.1, ends_then c.args.number s e.0 c.args.self.now c.self.inside.member w.in-Some.member w.act.new.self c.self.inside.workers b.0 c.args.command.now w.act.result c.self.view_is w.in-Some.is e.2 b.2),
       )
 ]

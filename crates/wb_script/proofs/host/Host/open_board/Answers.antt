@@ -2,17 +2,17 @@ use Rattle.std.proofs.Common.{rules, ◌≡◌, None, Some, refl, sym, ap, ◌�
 use Rattle.std.specs.Prelude.{unwrap_or}
 use Rattle.wb_script.specs.Hosts.{opened}
 use Rattle.wb_script.specs.Inside.Steps.{HostValue}
-use Rattle.wb_script.specs.Stations.{IsOpenAt}
+use Rattle.wb_script.specs.Members.{IsOpenAt}
 use Rattle.wb_script.proofs.Steps.{ends_empty, opens}
 use Rattle.wb_script.proofs.host.Host.open_board.Goals as goal
 
 pub returns-clause-step : goal.returns-clause-step
 returns-clause-step c =
-    let none : c.self.inside.station ≡ None = search rules in
-    let closed : c.args.self.now.station ≡ None = ap (λ (h : HostValue). h.station) (sym c.self.view_is) ∙ none in
+    let none : c.self.inside.member ≡ None = search rules in
+    let closed : c.args.self.now.member ≡ None = ap (λ (h : HostValue). h.member) (sym c.self.view_is) ∙ none in
     let value : c.unwrap_or.result ≡ unwrap_or c.self.inside.workers c.args.workers = search rules in
     let known : Some c.unwrap_or.result ≡ Some (unwrap_or c.args.self.now.workers c.args.workers) = ap Some (value ∙ ap (λ (h : HostValue). unwrap_or h.workers c.args.workers) c.self.view_is) in
     let open_now : IsOpenAt c.in_ok-open.field-0 (opened c.args.member c.args.cells c.args.seed) = search rules in
     λ s at.
     let e = ends_empty c.args.self.now s at in
-    (e.0, e.1, opens c.args.number c.args.self.now (record { station = Some c.in_ok-open.field-0; workers = Some c.unwrap_or.result }) s e.0 c.in_ok-open.field-0 c.args.member c.args.cells c.args.workers c.args.seed e.2 closed refl known open_now)
+    (e.0, e.1, opens c.args.number c.args.self.now (record { member = Some c.in_ok-open.field-0; workers = Some c.unwrap_or.result }) s e.0 c.in_ok-open.field-0 c.args.member c.args.cells c.args.workers c.args.seed e.2 closed refl known open_now)

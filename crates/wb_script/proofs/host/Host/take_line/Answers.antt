@@ -1,14 +1,14 @@
 use Rattle.std.proofs.Common.{◌≡◌, ℕ, [], Ok, refl, sym, subst}
 use Rattle.std.proofs.lemmas.List.{append-nil}
-use Rattle.wb_script.specs.declared.line.Line.{Line}
-use Rattle.wb_script.specs.declared.line.Line.TheVariants.{Skip, Board, Arrive, Hear, Distance, Tick, Look, Session, Show, Gaps, Report, Pages}
+use Rattle.wb_script.specs.declared.command.Command.{Command}
+use Rattle.wb_script.specs.declared.command.Command.TheVariants.{Skip, Board, Arrive, Hear, Distance, Tick, Look, Session, Show, Gaps, Report, Pages}
 use Rattle.wb_script.specs.Inside.Parts.{EndsBatchAt}
 use Rattle.wb_script.specs.Script.{Acts, Part, End, part_of, part_step}
 use Rattle.wb_script.specs.Inside.Steps.{DoesStep}
 use Rattle.wb_script.proofs.host.Host.take_line.Goals as goal
 
 -- A line that ends its batch, and opens no board, acts at the board.
-acts_then : (line : Line) → EndsBatchAt (part_of (Ok line)) → ((member cells workers seed : ℕ) → line ≡ Board member cells workers seed → ⊥) → part_of (Ok line) ≡ End (Acts line)
+acts_then : (line : Command) → EndsBatchAt (part_of (Ok line)) → ((member cells workers seed : ℕ) → line ≡ Board member cells workers seed → ⊥) → part_of (Ok line) ≡ End (Acts line)
 acts_then Skip ends other = absurd ends
 acts_then (Arrive d) ends other = absurd ends
 acts_then (Board member cells workers seed) ends other = absurd (other member cells workers seed refl)
@@ -34,7 +34,7 @@ returns-in_default c =
         t.1,
         λ s at.
             let d = t.2 s at in
-            (d.0, d.1, subst (λ (part : Part). DoesStep {U = Unit {0}} c.args.number c.act.new.self t.0 c.act.result (part_step s d.0 part)) (sym (acts_then c.args.line.now c.requires.other c.in_default.not-Board)) d.2),
+            (d.0, d.1, subst (λ (part : Part). DoesStep {U = Unit {0}} c.args.number c.act.new.self t.0 c.act.result (part_step s d.0 part)) (sym (acts_then c.args.command.now c.requires.other c.in_default.not-Board)) d.2),
       );
       unwritten = c.act.ensures.unwritten;
     }

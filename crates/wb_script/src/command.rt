@@ -1,0 +1,46 @@
+//! The lines of a script, with their words as fields.
+use wb_codec::Datagram;
+use wb_names::{Drawop, PageId};
+
+/// A line of a script, with its words as fields.
+#[derive(Debug, Drop)]
+pub enum Command {
+    /// No words, or a comment.
+    Skip,
+    /// `board SELF CELLS WORKERS SEED` opens the board.
+    Board {
+        member: u32,
+        cells: u32,
+        workers: u32,
+        seed: u64,
+    },
+    /// `arrive HEX` hands a drawop to the present batch.
+    Arrive(Drawop),
+    /// `hear HEX` hands in any other datagram, at the present moment.
+    Hear(Datagram),
+    /// `distance S MICROS` sets the delay to a source, in microseconds.
+    Distance {
+        source: u32,
+        micros: u64,
+    },
+    /// `tick MICROS` makes this the present moment, in microseconds.
+    Tick {
+        moment: u64,
+    },
+    /// `look C N` asks for what is missing of a page.
+    Look(PageId),
+    /// `session C N` prints the session message of a page.
+    Session(PageId),
+    /// `show C N W H` prints the canvas of a page, so many cells wide and high.
+    Show {
+        page: PageId,
+        width: u32,
+        height: u32,
+    },
+    /// `gaps C N` prints the missing ranges of a page.
+    Gaps(PageId),
+    /// `report C N` prints the report of a page.
+    Report(PageId),
+    /// `pages` prints the pages of the board.
+    Pages,
+}
