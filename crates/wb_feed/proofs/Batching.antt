@@ -21,7 +21,7 @@ use Rattle.wb_feed.specs.Channel.{once_below, IsComplete, AreRight, spots}
 use Rattle.wb_feed.specs.Marks.{unmarked, Marks, Retakes}
 use Rattle.wb_feed.specs.Served.{Spot, is_left, entries, accepted_at, offered, Serves}
 use Rattle.wb_host.proofs.InOrder.{one_run}
-use Rattle.wb_feed.proofs.Log.{is_taken, chosen, taken_or_left, drawops-append, tally-append, tally_all, left_many, Told, Gathers, gathers_none, gathers_run, runs_empty}
+use Rattle.wb_feed.proofs.Log.{is_taken, chosen, taken_or_left, drawops-append, tally-append, tally_all, left_many, AreAnswered, Gathers, gathers_none, gathers_run, runs_empty}
 use Rattle.wb_feed.proofs.Members.{nothing, at_named}
 use Rattle.wb_feed.proofs.Numbers.{times}
 use Rattle.wb_feed.proofs.OneThread.{counted_as, same_counts}
@@ -39,7 +39,7 @@ taken_many ((d, Known i) ∷ es) = omega (arith, taken_many es)
 taken_many ((d, Clashed i) ∷ es) = omega (arith, taken_many es)
 
 -- the names of what was taken are held
-taken_names : (h : List DrawopValue) (log : List Entry) → Told h log → All (λ d. HoldsName h d.name) (drawops (chosen is_taken log))
+taken_names : (h : List DrawopValue) (log : List Entry) → AreAnswered h log → All (λ d. HoldsName h d.name) (drawops (chosen is_taken log))
 taken_names h [] t = All-nil (λ (d : DrawopValue). HoldsName h d.name)
 taken_names h ((d, Left) ∷ es) t = taken_names h es t.1
 taken_names h ((d, Fresh i) ∷ es) t = All-cons (λ (d : DrawopValue). HoldsName h d.name) d (drawops (chosen is_taken es)) (at_named h i d d t.0 refl) (taken_names h es t.1)
@@ -66,7 +66,7 @@ alone : (n : ℕ) (p q : PassValue) (log : List Spot) (gots : List Message) → 
 alone n p q log gots (inl x) one = x.1
 alone n p q log gots (inr x) one = absurd (omega (arith, x.0, one))
 
--- the same, with what n workers told of it
+-- the same, with what n workers answered of it
 abbrev pub AllWorked : ℕ → PassValue → PassValue → ChannelView → ChannelView → Accepted → Type 0
 AllWorked n p q g h a = Worked (λ log gots. Work n p log gots q) n g h a
 
@@ -129,7 +129,7 @@ takes_all n p q r g h a arrived ms t b c whole sp sq sr m e =
     record {
       counted = omega (arith, many, length-append (drawops (chosen is_taken all)) lefts, taken_many all, left', fresh, again, clash);
       rows = omega (arith, gs.free, fresh);
-      named = record { held = drawops (chosen is_taken all); others = lefts; moved = moved; names = taken_names r.seen all gs.told; few = left' };
+      named = record { held = drawops (chosen is_taken all); others = lefts; moved = moved; names = taken_names r.seen all gs.answered; few = left' };
       full = λ some. none (omega (arith, left'));
       whole = stays_whole p r all gs;
       settled = λ w. in_some_order one_run n p arrived r (shares n p q r g h a arrived ms t c whole m) lefts b sp w sr moved (left_lacks q r more sr (stays_whole p r all gs w) m.runs) none (fresh, again, clash, left');

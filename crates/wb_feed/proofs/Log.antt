@@ -48,9 +48,9 @@ Says h d (Known i) = IsAgainAt h d i
 Says h d (Clashed i) = IsClashAt h d i
 Says h d Left = Unit {0}
 
-abbrev pub Told : List DrawopValue → List Entry → Type 0
-Told h [] = Unit {0}
-Told h (e ∷ es) = Says h e.0 e.1 × Told h es
+abbrev pub AreAnswered : List DrawopValue → List Entry → Type 0
+AreAnswered h [] = Unit {0}
+AreAnswered h (e ∷ es) = Says h e.0 e.1 × AreAnswered h es
 
 pub record Sum (m n s : Counts) : Type 0 where
   pub fresh : s.fresh ≡ m.fresh + n.fresh
@@ -142,13 +142,13 @@ says_longer g h d (Known i) p s = prefix_get g h i d p s
 says_longer g h d (Clashed i) p s = (s.0, prefix_get g h i s.0 p s.1, s.2, s.3)
 says_longer g h d Left p s = tt
 
-pub told_longer : (g h : List DrawopValue) (es : List Entry) → IsPrefix g h → Told g es → Told h es
-told_longer g h [] p t = tt
-told_longer g h (e ∷ es) p t = (says_longer g h e.0 e.1 p t.0, told_longer g h es p t.1)
+pub answered_longer : (g h : List DrawopValue) (es : List Entry) → IsPrefix g h → AreAnswered g es → AreAnswered h es
+answered_longer g h [] p t = tt
+answered_longer g h (e ∷ es) p t = (says_longer g h e.0 e.1 p t.0, answered_longer g h es p t.1)
 
-pub told_append : (h : List DrawopValue) (xs ys : List Entry) → Told h xs → Told h ys → Told h (xs ++ ys)
-told_append h [] ys s t = t
-told_append h (x ∷ xs) ys s t = (s.0, told_append h xs ys s.1 t)
+pub answered_append : (h : List DrawopValue) (xs ys : List Entry) → AreAnswered h xs → AreAnswered h ys → AreAnswered h (xs ++ ys)
+answered_append h [] ys s t = t
+answered_append h (x ∷ xs) ys s t = (s.0, answered_append h xs ys s.1 t)
 
 -- a run and one accept more
 pub runs_more : (p q r : PassValue) (es : List Entry) (d : DrawopValue) (o : Outcome) → Runs p es q → Accepts q d o r → Runs p (es ++ (d, o) ∷ []) r
@@ -160,7 +160,7 @@ pub record Leaves (p : PassValue) (es : List Entry) (q : PassValue) : Type 0 whe
   pub kept : Keeps p q
   pub mine : q.mine ≡ p.mine ++ places es
   pub free : q.free + (tally es).fresh ≡ p.free
-  pub told : Told q.seen es
+  pub answered : AreAnswered q.seen es
 
 -- an outcome that gained nothing
 leaves_rows : (p q : PassValue) (d : DrawopValue) (o : Outcome) → place o ≡ [] → (tally ((d, o) ∷ [])).fresh ≡ 0 → Keeps p q → AddsNothing p q → Says q.seen d o → Leaves p ((d, o) ∷ []) q
@@ -168,11 +168,11 @@ leaves_rows p q d o none zero k a says = record {
   kept = k;
   mine = a.0.0 ∙ sym (ap (λ l. p.mine ++ (l ++ [])) none ∙ append-nil p.mine);
   free = omega (arith, a.0.1, zero);
-  told = (says, tt);
+  answered = (says, tt);
 }
 
 pub accept_leaves : (p q : PassValue) (d : DrawopValue) (o : Outcome) → Accepts p d o q → Leaves p ((d, o) ∷ []) q
-accept_leaves p q d (Fresh i) a = record { kept = a.kept; mine = a.becomes.gains; free = a.becomes.row; told = (a.becomes.member, tt) }
+accept_leaves p q d (Fresh i) a = record { kept = a.kept; mine = a.becomes.gains; free = a.becomes.row; answered = (a.becomes.member, tt) }
 accept_leaves p q d (Known i) a = leaves_rows p q d (Known i) refl refl a.kept a.becomes.1 a.becomes.0
 accept_leaves p q d (Clashed i) a = leaves_rows p q d (Clashed i) refl refl a.kept a.becomes.1 a.becomes.0
 accept_leaves p q d Left a = leaves_rows p q d Left refl refl a.kept a.becomes.kept tt
@@ -191,7 +191,7 @@ runs_leave p q [] r = record {
   kept = keeps_is p q r;
   mine = ap (λ (x : PassValue). x.mine) r ∙ sym (append-nil p.mine);
   free = omega (arith, ap (λ (x : PassValue). x.free) r);
-  told = tt;
+  answered = tt;
 }
 runs_leave p q (e ∷ es) r =
     let a = accept_leaves p r.0 e.0 e.1 r.1 in
@@ -201,7 +201,7 @@ runs_leave p q (e ∷ es) r =
       kept = keeps_trans p r.0 q a.kept b.kept;
       mine = b.mine ∙ (ap (λ l. l ++ places es) (a.mine ∙ ap (λ l. p.mine ++ l) (append-nil (place e.1))) ∙ append_assoc p.mine (place e.1) (places es));
       free = omega (arith, a.free, b.free, s.fresh);
-      told = (says_longer r.0.seen q.seen e.0 e.1 b.kept.seen a.told.0, b.told);
+      answered = (says_longer r.0.seen q.seen e.0 e.1 b.kept.seen a.answered.0, b.answered);
     }
 
 -- no row is lost by the accepts of one desk
@@ -253,10 +253,10 @@ pub record Gathers (p : PassValue) (log : List Entry) (q : PassValue) : Type 0 w
   pub mine : (i : ℕ) → times i q.mine ≡ times i p.mine + times i (places log)
   pub many : length q.mine ≡ length p.mine + (tally log).fresh
   pub free : q.free + (tally log).fresh ≡ p.free
-  pub told : Told q.seen log
+  pub answered : AreAnswered q.seen log
 
 pub gathers_none : (p : PassValue) → Gathers p [] p
-gathers_none p = record { kept = keeps_self p; mine = λ i. omega arith; many = omega arith; free = omega arith; told = tt }
+gathers_none p = record { kept = keeps_self p; mine = λ i. omega arith; many = omega arith; free = omega arith; answered = tt }
 
 -- a split keeps all but the rows
 pub split_keeps : (p rest desk : PassValue) (n : ℕ) → IsSplit p n rest desk → Keeps p rest
@@ -281,7 +281,7 @@ gathers_level p rest back q desk done n es others s r g b =
       mine = λ i. ap (times i) mine ∙ omega (arith, times-append i back.mine (places es), g.mine i, ap (times i) (split_mine p rest desk n s), times-append i (places es) (places others), ap (times i) (places-append es others));
       many = omega (arith, ap length mine, length-append back.mine (places es), places_many es, g.many, ap length (split_mine p rest desk n s), sum.fresh);
       free = omega (arith, j.free, l.free, s.rows, s.free, g.free, sum.fresh);
-      told = told_append q.seen es others (told_longer done.seen q.seen es j.second l.told) (told_longer back.seen q.seen others j.first g.told);
+      answered = answered_append q.seen es others (answered_longer done.seen q.seen es j.second l.answered) (answered_longer back.seen q.seen others j.first g.answered);
     }
 
 -- the desk takes more itself
@@ -294,7 +294,7 @@ gathers_run p q r log es g run =
       mine = λ i. ap (times i) l.mine ∙ omega (arith, times-append i q.mine (places es), g.mine i, times-append i (places log) (places es), ap (times i) (places-append log es));
       many = omega (arith, ap length l.mine, length-append q.mine (places es), places_many es, g.many, sum.fresh);
       free = omega (arith, l.free, g.free, sum.fresh);
-      told = told_append r.seen log es (told_longer q.seen r.seen log l.kept.seen g.told) l.told;
+      answered = answered_append r.seen log es (answered_longer q.seen r.seen log l.kept.seen g.answered) l.answered;
     }
 
 -- after one refusal for want of a row there is none

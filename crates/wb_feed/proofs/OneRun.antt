@@ -1,4 +1,4 @@
--- What a batch told its callers was told at points of one history, so it is one run; and one thread takes the drawops in the order
+-- What a batch answered its callers was answered at points of one history, so it is one run; and one thread takes the drawops in the order
 -- of that run.
 use Rattle.std.proofs.Common.{◌≡◌, ℕ, suc, ◌+◌, ◌≤◌, ◌<◌, ◌==◌, true, false, cond, List, [], ◌∷◌, ◌++◌, length, take, map, filter, refl, ap, sym, subst, ◌∙◌, inl, inr, arith, length-append, get_or}
 use Rattle.std.specs.Prelude.{nat_le, All, AllPairs}
@@ -17,12 +17,12 @@ use Rattle.wb_host.specs.declared.reply.Reply.TheVariants.{New, Again, Clash}
 use Rattle.wb_host.specs.Replies.{IsReply}
 use Rattle.wb_host.specs.Board.{Call, Accept, Answer, Replied, Step, IsAnswer, after_call, IsLegalFrom}
 use Rattle.wb_host.specs.Replies.{outcome}
-use Rattle.wb_host.specs.Runs.{Told, AreToldSince, Precedes, IsToldSince, is_new_at, rank, placed, in_order, end_of, IsOneRun, OneRun, run_of}
+use Rattle.wb_host.specs.Runs.{Answered, AreAnsweredSince, Precedes, IsAnsweredSince, is_new_at, rank, placed, in_order, end_of, IsOneRun, OneRun, run_of}
 use Rattle.wb_feed.specs.declared.batch.Batch.{Batch}
 use Rattle.wb_feed.specs.declared.channel.Message.{Message}
 use Rattle.wb_feed.specs.Accepts.{Entry, Accepts, Runs, drawops, outcomes, tally}
 use Rattle.wb_feed.specs.Batches.{counts_in, IsInSomeOrder, IsShared}
-use Rattle.wb_feed.specs.Calls.{told, told_of, told_by, told_workers, told_working, told_in, BatchIsOneRun}
+use Rattle.wb_feed.specs.Calls.{answered, answered_of, answered_by, answered_workers, answered_working, answered_in, BatchIsOneRun}
 use Rattle.wb_feed.specs.Served.{Spot, entries}
 use Rattle.wb_feed.specs.Workers.{Workers, nobody, worker, Work}
 use Rattle.wb_feed.proofs.Log.{is_taken, chosen, place, places, places-append, runs_leave, Gathers, gathers_none, gathers_run, moved_drawops, tally_moved, taken_tally}
@@ -36,110 +36,110 @@ use Rattle.wb_feed.proofs.WholeDesks.{whole_mine, stays_whole}
 
 -- ---- each reply is the answer at its point
 
--- a reply to an accept of such a caller, told at a point from k on
-record IsOne (h : List DrawopValue) (k : ℕ) (By : ℕ → Type 0) (t : Told) : Type 0 where
-  since : IsToldSince h k t
+-- a reply to an accept of such a caller, answered at a point from k on
+record IsOne (h : List DrawopValue) (k : ℕ) (By : ℕ → Type 0) (t : Answered) : Type 0 where
+  since : IsAnsweredSince h k t
   by : By t.step.caller
   drawop : DrawopValue
   reply : Reply
   call : t.step.call ≡ Accept drawop
   answer : t.step.answer ≡ Replied reply
 
-single : (P : Told → Type 0) (t : Told) → P t → All P (t ∷ [])
+single : (P : Answered → Type 0) (t : Answered) → P t → All P (t ∷ [])
 single P t p = All-cons P t [] p (All-nil P)
 
 take_within : (g h : List DrawopValue) (i : ℕ) → IsPrefix g h → i ≤ length g → take i h ≡ take i g
 take_within g h i p le = ap (λ (l : List DrawopValue). take i l) (sym p.1) ∙ take-append-le i g p.0 le
 
-one_told : (h : List DrawopValue) (k caller : ℕ) (e : Entry) (p r : PassValue) → Accepts p e.0 e.1 r → k ≤ length p.seen → IsPrefix r.seen h → All (IsOne h k (λ c. c ≡ caller)) (told_of caller e (length r.seen))
-one_told h k caller (d, Fresh i) p r a le g =
+one_answered : (h : List DrawopValue) (k caller : ℕ) (e : Entry) (p r : PassValue) → Accepts p e.0 e.1 r → k ≤ length p.seen → IsPrefix r.seen h → All (IsOne h k (λ c. c ≡ caller)) (answered_of caller e (length r.seen))
+one_answered h k caller (d, Fresh i) p r a le g =
     let b = a.becomes in
     let answer = subst (λ (l : List DrawopValue). IsNewAt l d i) (sym (take_within r.seen h i g (omega (arith, b.last)))) b.new in
-    let since : IsToldSince h k (told caller d (New i) i) = record { since = omega (arith, le, b.later); within = omega (arith, b.last, prefix_length r.seen h g); answer = answer; member = prefix_get r.seen h i d g b.member } in
-    single (IsOne h k (λ c. c ≡ caller)) (told caller d (New i) i) (record { since = since; by = refl; drawop = d; reply = New i; call = refl; answer = refl })
-one_told h k caller (d, Known i) p r a le g =
+    let since : IsAnsweredSince h k (answered caller d (New i) i) = record { since = omega (arith, le, b.later); within = omega (arith, b.last, prefix_length r.seen h g); answer = answer; member = prefix_get r.seen h i d g b.member } in
+    single (IsOne h k (λ c. c ≡ caller)) (answered caller d (New i) i) (record { since = since; by = refl; drawop = d; reply = New i; call = refl; answer = refl })
+one_answered h k caller (d, Known i) p r a le g =
     let n = length r.seen in
     let answer = subst (λ (l : List DrawopValue). IsAgainAt l d i) (sym (prefix_take r.seen h g)) a.becomes.0 in
-    let since : IsToldSince h k (told caller d (Again i) n) = record { since = omega (arith, le, prefix_length p.seen r.seen a.kept.seen); within = prefix_length r.seen h g; answer = answer; member = tt } in
-    single (IsOne h k (λ c. c ≡ caller)) (told caller d (Again i) n) (record { since = since; by = refl; drawop = d; reply = Again i; call = refl; answer = refl })
-one_told h k caller (d, Clashed i) p r a le g =
+    let since : IsAnsweredSince h k (answered caller d (Again i) n) = record { since = omega (arith, le, prefix_length p.seen r.seen a.kept.seen); within = prefix_length r.seen h g; answer = answer; member = tt } in
+    single (IsOne h k (λ c. c ≡ caller)) (answered caller d (Again i) n) (record { since = since; by = refl; drawop = d; reply = Again i; call = refl; answer = refl })
+one_answered h k caller (d, Clashed i) p r a le g =
     let n = length r.seen in
     let answer = subst (λ (l : List DrawopValue). IsClashAt l d i) (sym (prefix_take r.seen h g)) a.becomes.0 in
-    let since : IsToldSince h k (told caller d (Clash i) n) = record { since = omega (arith, le, prefix_length p.seen r.seen a.kept.seen); within = prefix_length r.seen h g; answer = answer; member = tt } in
-    single (IsOne h k (λ c. c ≡ caller)) (told caller d (Clash i) n) (record { since = since; by = refl; drawop = d; reply = Clash i; call = refl; answer = refl })
-one_told h k caller (d, Left) p r a le g = All-nil (IsOne h k (λ c. c ≡ caller))
+    let since : IsAnsweredSince h k (answered caller d (Clash i) n) = record { since = omega (arith, le, prefix_length p.seen r.seen a.kept.seen); within = prefix_length r.seen h g; answer = answer; member = tt } in
+    single (IsOne h k (λ c. c ≡ caller)) (answered caller d (Clash i) n) (record { since = since; by = refl; drawop = d; reply = Clash i; call = refl; answer = refl })
+one_answered h k caller (d, Left) p r a le g = All-nil (IsOne h k (λ c. c ≡ caller))
 
-desk_told : (h : List DrawopValue) (k caller : ℕ) (p : PassValue) (es : List Entry) (q : PassValue) (run : Runs p es q) → k ≤ length p.seen → IsPrefix q.seen h → All (IsOne h k (λ c. c ≡ caller)) (told_by caller p es q run)
-desk_told h k caller p [] q run le g = All-nil (IsOne h k (λ c. c ≡ caller))
-desk_told h k caller p (e ∷ es) q run le g =
+desk_answered : (h : List DrawopValue) (k caller : ℕ) (p : PassValue) (es : List Entry) (q : PassValue) (run : Runs p es q) → k ≤ length p.seen → IsPrefix q.seen h → All (IsOne h k (λ c. c ≡ caller)) (answered_by caller p es q run)
+desk_answered h k caller p [] q run le g = All-nil (IsOne h k (λ c. c ≡ caller))
+desk_answered h k caller p (e ∷ es) q run le g =
     let r = run.0 in
     let l = runs_leave r q es run.2 in
-    All-append (IsOne h k (λ c. c ≡ caller)) (told_of caller e (length r.seen)) (told_by caller r es q run.2) (one_told h k caller e p r run.1 le (prefix_trans r.seen q.seen h l.kept.seen g))
-    (desk_told h k caller r es q run.2 (omega (arith, le, prefix_length p.seen r.seen run.1.kept.seen)) g)
+    All-append (IsOne h k (λ c. c ≡ caller)) (answered_of caller e (length r.seen)) (answered_by caller r es q run.2) (one_answered h k caller e p r run.1 le (prefix_trans r.seen q.seen h l.kept.seen g))
+    (desk_answered h k caller r es q run.2 (omega (arith, le, prefix_length p.seen r.seen run.1.kept.seen)) g)
 
-by_others : (h : List DrawopValue) (k : ℕ) (P Q : ℕ → Type 0) (ts : List Told) → ((c : ℕ) → P c → Q c) → All (IsOne h k P) ts → All (IsOne h k Q) ts
+by_others : (h : List DrawopValue) (k : ℕ) (P Q : ℕ → Type 0) (ts : List Answered) → ((c : ℕ) → P c → Q c) → All (IsOne h k P) ts → All (IsOne h k Q) ts
 by_others h k P Q ts f all i d below =
     let one = all i d below in
     record { since = one.since; by = f (get_or ts i d).step.caller one.by; drawop = one.drawop; reply = one.reply; call = one.call; answer = one.answer }
 
-workers_told : {rows n : ℕ} {p q : PassValue} {log : List Spot} {gots : List Message} → (h : List DrawopValue) (k : ℕ) (w : Workers rows n p log gots q) → k ≤ length p.seen → IsPrefix q.seen h → All (IsOne h k (λ c. c < n)) (told_workers w)
-workers_told h k nobody le g = All-nil (IsOne h k (λ c. c < 0))
-workers_told h k (worker {n = n} {p = p} {rest = rest} {back = back} {q = q} {desk = desk} {done = done} log others got gots split serves w b) le g =
-    let mine = desk_told h k n desk (entries log) done serves.runs (omega (arith, le, ap length split.seen)) (prefix_trans done.seen q.seen h b.joined.second g) in
-    let theirs = workers_told h k w (omega (arith, le, ap (λ (x : PassValue). length x.seen) split.rest)) (prefix_trans back.seen q.seen h b.joined.first g) in
-    All-append (IsOne h k (λ c. c < suc n)) (told_by n desk (entries log) done serves.runs) (told_workers w)
-    (by_others h k (λ c. c ≡ n) (λ c. c < suc n) (told_by n desk (entries log) done serves.runs) (λ c e. omega (arith, e)) mine)
-    (by_others h k (λ c. c < n) (λ c. c < suc n) (told_workers w) (λ c l. omega (arith, l)) theirs)
+workers_answered : {rows n : ℕ} {p q : PassValue} {log : List Spot} {gots : List Message} → (h : List DrawopValue) (k : ℕ) (w : Workers rows n p log gots q) → k ≤ length p.seen → IsPrefix q.seen h → All (IsOne h k (λ c. c < n)) (answered_workers w)
+workers_answered h k nobody le g = All-nil (IsOne h k (λ c. c < 0))
+workers_answered h k (worker {n = n} {p = p} {rest = rest} {back = back} {q = q} {desk = desk} {done = done} log others got gots split serves w b) le g =
+    let mine = desk_answered h k n desk (entries log) done serves.runs (omega (arith, le, ap length split.seen)) (prefix_trans done.seen q.seen h b.joined.second g) in
+    let theirs = workers_answered h k w (omega (arith, le, ap (λ (x : PassValue). length x.seen) split.rest)) (prefix_trans back.seen q.seen h b.joined.first g) in
+    All-append (IsOne h k (λ c. c < suc n)) (answered_by n desk (entries log) done serves.runs) (answered_workers w)
+    (by_others h k (λ c. c ≡ n) (λ c. c < suc n) (answered_by n desk (entries log) done serves.runs) (λ c e. omega (arith, e)) mine)
+    (by_others h k (λ c. c < n) (λ c. c < suc n) (answered_workers w) (λ c l. omega (arith, l)) theirs)
 
 -- ---- each caller's replies stand in their order
 
-abbrev InTurn : Told → Told → Type 0
+abbrev InTurn : Answered → Answered → Type 0
 InTurn t u = t.step.caller ≡ u.step.caller → Precedes t u
 
 no_pairs : AllPairs InTurn []
 no_pairs i j d lt within = absurd (omega arith)
 
-append_pairs : (xs ys : List Told) → AllPairs InTurn xs → AllPairs InTurn ys → ((i k : ℕ) (d : Told) → i < length xs → k < length ys → InTurn (get_or xs i d) (get_or ys k d)) → AllPairs InTurn (xs ++ ys)
+append_pairs : (xs ys : List Answered) → AllPairs InTurn xs → AllPairs InTurn ys → ((i k : ℕ) (d : Answered) → i < length xs → k < length ys → InTurn (get_or xs i d) (get_or ys k d)) → AllPairs InTurn (xs ++ ys)
 append_pairs [] ys first second across = second
 append_pairs (x ∷ xs) ys first second across =
     AllPairs-cons InTurn x (xs ++ ys)
     (All-append (InTurn x) xs ys (λ k d h. first 0 (suc k) d (omega arith) (omega arith)) (λ k d h. across 0 k d (omega arith) h))
     (append_pairs xs ys (λ i j d lt h. first (suc i) (suc j) d (omega arith) (omega arith)) second (λ i k d l h. across (suc i) k d (omega arith) h))
 
--- one accept before those that were told later
-one_in_turn : (h : List DrawopValue) (caller : ℕ) (e : Entry) (p r : PassValue) (ts : List Told) → Accepts p e.0 e.1 r → All (IsOne h (length r.seen) (λ c. c ≡ caller)) ts → AllPairs InTurn ts
-    → AllPairs InTurn (told_of caller e (length r.seen) ++ ts)
+-- one accept before those that were answered later
+one_in_turn : (h : List DrawopValue) (caller : ℕ) (e : Entry) (p r : PassValue) (ts : List Answered) → Accepts p e.0 e.1 r → All (IsOne h (length r.seen) (λ c. c ≡ caller)) ts → AllPairs InTurn ts
+    → AllPairs InTurn (answered_of caller e (length r.seen) ++ ts)
 one_in_turn h caller (d, Fresh i) p r ts a later pairs =
     AllPairs-cons InTurn _ ts (λ k x below same. let since = (later k x below).since.since in (omega (arith, since, a.becomes.last), λ new. omega (arith, since, a.becomes.last))) pairs
 one_in_turn h caller (d, Known i) p r ts a later pairs = AllPairs-cons InTurn _ ts (λ k x below same. ((later k x below).since.since, λ new. absurd (cc new))) pairs
 one_in_turn h caller (d, Clashed i) p r ts a later pairs = AllPairs-cons InTurn _ ts (λ k x below same. ((later k x below).since.since, λ new. absurd (cc new))) pairs
 one_in_turn h caller (d, Left) p r ts a later pairs = pairs
 
-desk_in_turn : (caller : ℕ) (p : PassValue) (es : List Entry) (q : PassValue) (run : Runs p es q) → AllPairs InTurn (told_by caller p es q run)
+desk_in_turn : (caller : ℕ) (p : PassValue) (es : List Entry) (q : PassValue) (run : Runs p es q) → AllPairs InTurn (answered_by caller p es q run)
 desk_in_turn caller p [] q run = no_pairs
 desk_in_turn caller p (e ∷ es) q run =
-    one_in_turn q.seen caller e p run.0 (told_by caller run.0 es q run.2) run.1 (desk_told q.seen (length run.0.seen) caller run.0 es q run.2 (omega arith) (prefix_self q.seen)) (desk_in_turn caller run.0 es q run.2)
+    one_in_turn q.seen caller e p run.0 (answered_by caller run.0 es q run.2) run.1 (desk_answered q.seen (length run.0.seen) caller run.0 es q run.2 (omega arith) (prefix_self q.seen)) (desk_in_turn caller run.0 es q run.2)
 
--- what callers of lower numbers were told, and then what the caller n was
-apart_pairs : (n : ℕ) (h : List DrawopValue) (k : ℕ) (xs ys : List Told) → AllPairs InTurn xs → AllPairs InTurn ys → All (IsOne h k (λ c. c < n)) xs → All (IsOne h k (λ c. c ≡ n)) ys → AllPairs InTurn (xs ++ ys) × AllPairs InTurn (ys ++ xs)
+-- what callers of lower numbers were answered, and then what the caller n was
+apart_pairs : (n : ℕ) (h : List DrawopValue) (k : ℕ) (xs ys : List Answered) → AllPairs InTurn xs → AllPairs InTurn ys → All (IsOne h k (λ c. c < n)) xs → All (IsOne h k (λ c. c ≡ n)) ys → AllPairs InTurn (xs ++ ys) × AllPairs InTurn (ys ++ xs)
 apart_pairs n h k xs ys first second lower here = (
   append_pairs xs ys first second (λ i j d l m same. absurd (omega (arith, (lower i d l).by, (here j d m).by, same))),
   append_pairs ys xs second first (λ i j d l m same. absurd (omega (arith, (lower j d m).by, (here i d l).by, same))),
 )
 
-workers_in_turn : {rows n : ℕ} {p q : PassValue} {log : List Spot} {gots : List Message} → (w : Workers rows n p log gots q) → AllPairs InTurn (told_workers w)
+workers_in_turn : {rows n : ℕ} {p q : PassValue} {log : List Spot} {gots : List Message} → (w : Workers rows n p log gots q) → AllPairs InTurn (answered_workers w)
 workers_in_turn nobody = no_pairs
 workers_in_turn (worker {n = n} {rest = rest} {back = back} {q = q} {desk = desk} {done = done} log others got gots split serves w b) =
-    let mine = desk_told q.seen 0 n desk (entries log) done serves.runs (omega arith) b.joined.second in
-    (apart_pairs n q.seen 0 (told_workers w) (told_by n desk (entries log) done serves.runs) (workers_in_turn w) (desk_in_turn n desk (entries log) done serves.runs) (workers_told q.seen 0 w (omega arith) b.joined.first) mine).1
+    let mine = desk_answered q.seen 0 n desk (entries log) done serves.runs (omega arith) b.joined.second in
+    (apart_pairs n q.seen 0 (answered_workers w) (answered_by n desk (entries log) done serves.runs) (workers_in_turn w) (desk_in_turn n desk (entries log) done serves.runs) (workers_answered q.seen 0 w (omega arith) b.joined.first) mine).1
 
--- ---- each place was gained once, and what was told are the entries that were taken
+-- ---- each place was gained once, and what was answered are the entries that were taken
 
-many_append : (i : ℕ) (xs ys : List Told) → length (filter (is_new_at i) (xs ++ ys)) ≡ length (filter (is_new_at i) xs) + length (filter (is_new_at i) ys)
+many_append : (i : ℕ) (xs ys : List Answered) → length (filter (is_new_at i) (xs ++ ys)) ≡ length (filter (is_new_at i) xs) + length (filter (is_new_at i) ys)
 many_append i xs ys = ap length (filter-append (is_new_at i) xs ys) ∙ length-append (filter (is_new_at i) xs) (filter (is_new_at i) ys)
 
-one_many : (i caller : ℕ) (e : Entry) (seen : ℕ) → length (filter (is_new_at i) (told_of caller e seen)) ≡ times i (place e.1)
-one_many i caller (d, Fresh j) seen = elim (j == i) as (λ b. length (cond b (told_of caller (d, Fresh j) seen) []) ≡ cond b 1 0 + 0) [ true ↦ refl | false ↦ refl ]
+one_many : (i caller : ℕ) (e : Entry) (seen : ℕ) → length (filter (is_new_at i) (answered_of caller e seen)) ≡ times i (place e.1)
+one_many i caller (d, Fresh j) seen = elim (j == i) as (λ b. length (cond b (answered_of caller (d, Fresh j) seen) []) ≡ cond b 1 0 + 0) [ true ↦ refl | false ↦ refl ]
 one_many i caller (d, Known j) seen = refl
 one_many i caller (d, Clashed j) seen = refl
 one_many i caller (d, Left) seen = refl
@@ -152,69 +152,69 @@ abbrev outcome_in : Answer → Outcome
 outcome_in (Replied reply) = outcome reply
 outcome_in answer = Left
 
-abbrev entry : Told → Entry
+abbrev entry : Answered → Entry
 entry t = (drawop_in t.step.call, outcome_in t.step.answer)
 
--- the members among what was told are the places of these entries, and the replies are those to what was taken
-record Answers (es : List Entry) (ts : List Told) : Type 0 where
+-- the members among what was answered are the places of these entries, and the replies are those to what was taken
+record Answers (es : List Entry) (ts : List Answered) : Type 0 where
   many : (i : ℕ) → length (filter (is_new_at i) ts) ≡ times i (places es)
   taken : map entry ts ≡ chosen is_taken es
 
-answers_append : (es fs : List Entry) (ts us : List Told) → Answers es ts → Answers fs us → Answers (es ++ fs) (ts ++ us)
+answers_append : (es fs : List Entry) (ts us : List Answered) → Answers es ts → Answers fs us → Answers (es ++ fs) (ts ++ us)
 answers_append es fs ts us a b = record {
   many = λ i. omega (arith, many_append i ts us, a.many i, b.many i, times-append i (places es) (places fs), ap (times i) (places-append es fs));
   taken = map-append entry ts us ∙ (ap (λ l. l ++ map entry us) a.taken ∙ (ap (λ l. chosen is_taken es ++ l) b.taken ∙ sym (filter-append (λ (e : Entry). is_taken e.1) es fs)));
 }
 
-one_answers : (caller : ℕ) (e : Entry) (seen : ℕ) → Answers (e ∷ []) (told_of caller e seen)
+one_answers : (caller : ℕ) (e : Entry) (seen : ℕ) → Answers (e ∷ []) (answered_of caller e seen)
 one_answers caller (d, Fresh j) seen = record { many = λ i. omega (arith, one_many i caller (d, Fresh j) seen); taken = refl }
 one_answers caller (d, Known j) seen = record { many = λ i. refl; taken = refl }
 one_answers caller (d, Clashed j) seen = record { many = λ i. refl; taken = refl }
 one_answers caller (d, Left) seen = record { many = λ i. refl; taken = refl }
 
-desk_answers : (caller : ℕ) (p : PassValue) (es : List Entry) (q : PassValue) (run : Runs p es q) → Answers es (told_by caller p es q run)
+desk_answers : (caller : ℕ) (p : PassValue) (es : List Entry) (q : PassValue) (run : Runs p es q) → Answers es (answered_by caller p es q run)
 desk_answers caller p [] q run = record { many = λ i. refl; taken = refl }
-desk_answers caller p (e ∷ es) q run = answers_append (e ∷ []) es (told_of caller e (length run.0.seen)) (told_by caller run.0 es q run.2) (one_answers caller e (length run.0.seen)) (desk_answers caller run.0 es q run.2)
+desk_answers caller p (e ∷ es) q run = answers_append (e ∷ []) es (answered_of caller e (length run.0.seen)) (answered_by caller run.0 es q run.2) (one_answers caller e (length run.0.seen)) (desk_answers caller run.0 es q run.2)
 
-workers_answer : {rows n : ℕ} {p q : PassValue} {log : List Spot} {gots : List Message} → (w : Workers rows n p log gots q) → Answers (entries log) (told_workers w)
+workers_answer : {rows n : ℕ} {p q : PassValue} {log : List Spot} {gots : List Message} → (w : Workers rows n p log gots q) → Answers (entries log) (answered_workers w)
 workers_answer nobody = record { many = λ i. refl; taken = refl }
 workers_answer (worker {n = n} {desk = desk} {done = done} log others got gots split serves w b) =
-    let mine = told_by n desk (entries log) done serves.runs in
-    subst (λ es. Answers es (mine ++ told_workers w)) (sym (entries-append log others)) (answers_append (entries log) (entries others) mine (told_workers w) (desk_answers n desk (entries log) done serves.runs) (workers_answer w))
+    let mine = answered_by n desk (entries log) done serves.runs in
+    subst (λ es. Answers es (mine ++ answered_workers w)) (sym (entries-append log others)) (answers_append (entries log) (entries others) mine (answered_workers w) (desk_answers n desk (entries log) done serves.runs) (workers_answer w))
 
 -- ---- the workers, and the batch
 
--- what was told of these entries, by callers below n, on the way from the desk p to the desk q
-record IsToldSo (n : ℕ) (p : PassValue) (es : List Entry) (q : PassValue) (ts : List Told) : Type 0 where
-  told : (h : List DrawopValue) → IsPrefix q.seen h → All (IsOne h (length p.seen) (λ c. c < n)) ts
+-- what was answered of these entries, by callers below n, on the way from the desk p to the desk q
+record IsAnsweredSo (n : ℕ) (p : PassValue) (es : List Entry) (q : PassValue) (ts : List Answered) : Type 0 where
+  answered : (h : List DrawopValue) → IsPrefix q.seen h → All (IsOne h (length p.seen) (λ c. c < n)) ts
   turns : AllPairs InTurn ts
   answers : Answers es ts
   gathers : Gathers p es q
 
-told_so : (n : ℕ) (p : PassValue) (log : List Spot) (gots : List Message) (q : PassValue) (w : Work n p log gots q) → IsToldSo n p (entries log) q (told_working n p log gots q w)
-told_so n p log gots q (inl alone) =
+answered_so : (n : ℕ) (p : PassValue) (log : List Spot) (gots : List Message) (q : PassValue) (w : Work n p log gots q) → IsAnsweredSo n p (entries log) q (answered_working n p log gots q w)
+answered_so n p log gots q (inl alone) =
     let es = entries log in
     let run : Runs p es q = alone.1.runs in record {
-      told = λ h g. by_others h (length p.seen) (λ c. c ≡ 0) (λ c. c < n) (told_by 0 p es q run) (λ c e. omega (arith, e, alone.0)) (desk_told h (length p.seen) 0 p es q run (omega arith) g);
+      answered = λ h g. by_others h (length p.seen) (λ c. c ≡ 0) (λ c. c < n) (answered_by 0 p es q run) (λ c e. omega (arith, e, alone.0)) (desk_answered h (length p.seen) 0 p es q run (omega arith) g);
       turns = desk_in_turn 0 p es q run;
       answers = desk_answers 0 p es q run;
       gathers = gathers_run p p q [] es (gathers_none p) run;
     }
-told_so n p log gots q (inr several) = record { told = λ h g. workers_told h (length p.seen) several.1 (omega arith) g; turns = workers_in_turn several.1; answers = workers_answer several.1; gathers = workers_gather several.1 }
+answered_so n p log gots q (inr several) = record { answered = λ h g. workers_answered h (length p.seen) several.1 (omega arith) g; turns = workers_in_turn several.1; answers = workers_answer several.1; gathers = workers_gather several.1 }
 
 abbrev all_of : (n : ℕ) (p : PassValue) (given : List DrawopValue) (q : PassValue) → IsShared n p given q → List Entry
 all_of n p given q s = entries s.log ++ s.left_over
 
-batch_told : (n : ℕ) (p : PassValue) (given : List DrawopValue) (q : PassValue) (s : IsShared n p given q) → IsToldSo (suc n) p (all_of n p given q s) q (told_in n p given q s)
-batch_told n p given q s =
-    let so = told_so n p s.log s.gots s.joined s.work in
-    let by_workers = told_working n p s.log s.gots s.joined s.work in
-    let by_desk = told_by n s.joined s.left_over q s.rest in
+batch_answered : (n : ℕ) (p : PassValue) (given : List DrawopValue) (q : PassValue) (s : IsShared n p given q) → IsAnsweredSo (suc n) p (all_of n p given q s) q (answered_in n p given q s)
+batch_answered n p given q s =
+    let so = answered_so n p s.log s.gots s.joined s.work in
+    let by_workers = answered_working n p s.log s.gots s.joined s.work in
+    let by_desk = answered_by n s.joined s.left_over q s.rest in
     let k = length p.seen in
     let on = (runs_leave s.joined q s.left_over s.rest).kept.seen in
-    let theirs = λ (h : List DrawopValue) (g : IsPrefix q.seen h). so.told h (prefix_trans s.joined.seen q.seen h on g) in
-    let own = λ (h : List DrawopValue) (g : IsPrefix q.seen h). desk_told h k n s.joined s.left_over q s.rest (prefix_length p.seen s.joined.seen so.gathers.kept.seen) g in record {
-      told = λ h g. All-append (IsOne h k (λ c. c < suc n)) by_workers by_desk (by_others h k (λ c. c < n) (λ c. c < suc n) by_workers (λ c l. omega (arith, l)) (theirs h g)) (by_others h k (λ c. c ≡ n) (λ c. c < suc n) by_desk (λ c e. omega (arith, e)) (own h g));
+    let theirs = λ (h : List DrawopValue) (g : IsPrefix q.seen h). so.answered h (prefix_trans s.joined.seen q.seen h on g) in
+    let own = λ (h : List DrawopValue) (g : IsPrefix q.seen h). desk_answered h k n s.joined s.left_over q s.rest (prefix_length p.seen s.joined.seen so.gathers.kept.seen) g in record {
+      answered = λ h g. All-append (IsOne h k (λ c. c < suc n)) by_workers by_desk (by_others h k (λ c. c < n) (λ c. c < suc n) by_workers (λ c l. omega (arith, l)) (theirs h g)) (by_others h k (λ c. c ≡ n) (λ c. c < suc n) by_desk (λ c e. omega (arith, e)) (own h g));
       turns = (apart_pairs n q.seen k by_workers by_desk so.turns (desk_in_turn n s.joined s.left_over q s.rest) (theirs q.seen (prefix_self q.seen)) (own q.seen (prefix_self q.seen))).0;
       answers = answers_append (entries s.log) s.left_over by_workers by_desk so.answers (desk_answers n s.joined s.left_over q s.rest);
       gathers = gathers_run p s.joined q (entries s.log) s.left_over so.gathers s.rest;
@@ -222,17 +222,17 @@ batch_told n p given q s =
 
 pub batch_is_one_run : OneRun → BatchIsOneRun
 batch_is_one_run law n p given q sp wp sq s =
-    let t = batch_told n p given q s in
+    let t = batch_answered n p given q s in
     let old = whole_mine p sp wp in
     let new = whole_mine q sq (stays_whole p q (all_of n p given q s) t.gathers wp) in
     let k = length p.seen in
-    let each = t.told q.seen (prefix_self q.seen) in
-    let told : AreToldSince q.seen k (told_in n p given q s) = record {
+    let each = t.answered q.seen (prefix_self q.seen) in
+    let answered : AreAnsweredSince q.seen k (answered_in n p given q s) = record {
       each = λ i d below. (each i d below).since;
       once = λ i from below. omega (arith, t.answers.many i, t.gathers.mine i, old.each i, new.each i, once_past i k from, once_under i (length q.seen) below);
       ordered = t.turns;
     } in
-    (told, law q.seen k (told_in n p given q s) (prefix_length p.seen q.seen t.gathers.kept.seen) told)
+    (answered, law q.seen k (answered_in n p given q s) (prefix_length p.seen q.seen t.gathers.kept.seen) answered)
 
 -- ---- one thread takes the drawops in the order of the run
 
@@ -250,7 +250,7 @@ one_taken cells h end d (New i) es a le rest = ((a, omega (arith, le, length-app
 one_taken cells h end d (Again i) es a le rest = (a, rest)
 one_taken cells h end d (Clash i) es a le rest = (a, rest)
 
-legal_taken : (cells : ℕ) (h : List DrawopValue) (k : ℕ) (By : ℕ → Type 0) (g : List DrawopValue) (ts : List Told) → All (IsOne g k By) ts → IsLegalFrom h (map (λ t. t.step) ts) → length (end_of h (map (λ t. t.step) ts)) ≤ cells
+legal_taken : (cells : ℕ) (h : List DrawopValue) (k : ℕ) (By : ℕ → Type 0) (g : List DrawopValue) (ts : List Answered) → All (IsOne g k By) ts → IsLegalFrom h (map (λ t. t.step) ts) → length (end_of h (map (λ t. t.step) ts)) ≤ cells
     → AreTaken cells h (drawops (map entry ts)) (outcomes (map entry ts)) (end_of h (map (λ t. t.step) ts))
 legal_taken cells h k By g [] all legal le = refl
 legal_taken cells h k By g (t ∷ ts) all legal le =
@@ -264,12 +264,12 @@ legal_taken cells h k By g (t ∷ ts) all legal le =
     let here : Takes (Accept one.drawop) (Replied one.reply) = one_taken cells h end one.drawop one.reply (map entry ts) in
     subst (λ (x : Call × Answer). Takes x.0 x.1) (λ i. (sym one.call i, sym one.answer i)) here legal.0 room rest
 
-placed_moves : (t : Told) (us : List Told) → IsPermutation (t ∷ us) (placed t us)
+placed_moves : (t : Answered) (us : List Answered) → IsPermutation (t ∷ us) (placed t us)
 placed_moves t [] = IsPermutation-refl (t ∷ [])
 placed_moves t (u ∷ us) = elim (nat_le (rank t) (rank u)) as (λ b. IsPermutation (t ∷ u ∷ us) (cond b (t ∷ u ∷ us) (u ∷ placed t us)))
     [ true ↦ IsPermutation-refl (t ∷ u ∷ us) | false ↦ IsPermutation-trans (t ∷ u ∷ us) (u ∷ t ∷ us) (u ∷ placed t us) (IsPermutation-sym (u ∷ t ∷ us) (t ∷ u ∷ us) (IsPermutation-middle (u ∷ []) t us)) (IsPermutation-cons u (t ∷ us) (placed t us) (placed_moves t us)) ]
 
-in_order_moves : (ts : List Told) → IsPermutation ts (in_order ts)
+in_order_moves : (ts : List Answered) → IsPermutation ts (in_order ts)
 in_order_moves [] = IsPermutation-refl []
 in_order_moves (t ∷ ts) = IsPermutation-trans (t ∷ ts) (t ∷ in_order ts) (in_order (t ∷ ts)) (IsPermutation-cons t ts (in_order ts) (in_order_moves ts)) (placed_moves t (in_order ts))
 
@@ -279,12 +279,12 @@ pub in_some_order : OneRun → (n : ℕ) (p : PassValue) (given : List DrawopVal
     → ((tally (all_of n p given q s)).fresh ≡ b.fresh) × ((tally (all_of n p given q s)).again ≡ b.again) × ((tally (all_of n p given q s)).clash ≡ b.clash) × (length lefts ≡ b.left) → IsInSomeOrder p given q b
 in_some_order law n p given q s lefts b sp wp sq moved lack none same =
     let all = all_of n p given q s in
-    let ts = told_in n p given q s in
-    let t = batch_told n p given q s in
+    let ts = answered_in n p given q s in
+    let t = batch_answered n p given q s in
     let run : IsOneRun q.seen (length p.seen) ts (run_of ts) = (batch_is_one_run law n p given q sp wp sq s).1 in
     let new = whole_mine q sq (stays_whole p q all t.gathers wp) in
     let held = map entry (in_order ts) in
-    let each = All-permutation (IsOne q.seen (length p.seen) (λ c. c < suc n)) ts (in_order ts) (in_order_moves ts) (t.told q.seen (prefix_self q.seen)) in
+    let each = All-permutation (IsOne q.seen (length p.seen) (λ c. c < suc n)) ts (in_order ts) (in_order_moves ts) (t.answered q.seen (prefix_self q.seen)) in
     let start : take (length p.seen) q.seen ≡ p.seen = prefix_take p.seen q.seen t.gathers.kept.seen in
     let room : length (end_of (take (length p.seen) q.seen) (run_of ts)) ≤ p.cells = omega (arith, ap length run.end, sq.room, t.gathers.kept.same.1) in
     let from_there = subst (λ (l : List DrawopValue). AreTaken p.cells (take (length p.seen) q.seen) (drawops held) (outcomes held) l) run.end (legal_taken p.cells (take (length p.seen) q.seen) (length p.seen) (λ c. c < suc n) q.seen (in_order ts) each run.legal room) in

@@ -8,7 +8,7 @@ use Rattle.wb_host.specs.Desks.{PassValue, IsSound, IsWhole}
 use Rattle.wb_feed.specs.Accepts.{Entry, drawops, outcomes, tally, Runs}
 use Rattle.wb_feed.proofs.Prefixes.{prefix_whole, prefix_trans, prefix_length}
 use Rattle.wb_feed.proofs.Numbers.{times, test_apart, test_same, bool_cases}
-use Rattle.wb_feed.proofs.Log.{chosen, Told, runs_leave, leaves_whole, runs_sound, runs_empty, tally-append, left_many}
+use Rattle.wb_feed.proofs.Log.{chosen, AreAnswered, runs_leave, leaves_whole, runs_sound, runs_empty, tally-append, left_many}
 use Rattle.wb_feed.proofs.WholeDesks.{left_lacks}
 use Rattle.wb_feed.proofs.OneThread.{Lacks, both_batches, counted_as, same_counts, plus, zero_plus}
 use Rattle.wb_feed.proofs.InOrder.{in_order}
@@ -150,7 +150,7 @@ record AllLeft (es : List Entry) : Type 0 where
   again : (tally es).again ≡ 0
   clash : (tally es).clash ≡ 0
 
-all_left : (h : List DrawopValue) (es : List Entry) → Told h es → Lacks h (drawops es) → AllLeft es
+all_left : (h : List DrawopValue) (es : List Entry) → AreAnswered h es → Lacks h (drawops es) → AllLeft es
 all_left h [] t k = record { left = refl; fresh = refl; again = refl; clash = refl }
 all_left h ((d, Left) ∷ es) t k = let r = all_left h es t.1 k.1 in record { left = omega (arith, r.left); fresh = r.fresh; again = r.again; clash = r.clash }
 all_left h ((d, Fresh i) ∷ es) t k = absurd (k.0 (at_named h i d d t.0 refl))
@@ -174,7 +174,7 @@ first_part w y z es (h ∷ a) b e r q lack full =
     let m = runs_leave y z b q in
     let same : w.seen ≡ y.seen = prefix_whole w.seen y.seen l.kept.seen (omega (arith, prefix_length y.seen z.seen m.kept.seen, ap length is)) in
     let lack' : Lacks y.seen (drawops (h ∷ a)) = subst (λ (k : List DrawopValue × List DrawopValue). Lacks k.0 k.1) (λ i. (same i, sym e i)) lack in
-    let c = all_left y.seen (h ∷ a) l.told lack' in
+    let c = all_left y.seen (h ∷ a) l.answered lack' in
     record { seen = same; fresh = c.fresh; again = c.again; clash = c.clash; left = c.left ∙ (ap length e ∙ sym (left_many es)) }
 
 -- After the worker the desk w takes what is not marked, in order: first what the worker left, then what it never received

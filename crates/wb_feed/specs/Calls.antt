@@ -1,4 +1,4 @@
--- What a batch told its callers: each of its workers is one, and so is the desk, which takes what they left.
+-- What a batch answered its callers: each of its workers is one, and so is the desk, which takes what they left.
 use Rattle.std.specs.Prelude.{ℕ, List, [], ◌∷◌, ◌++◌, length}
 use mathlib.Core.Logic.{inl, inr}
 use Rattle.wb_names.specs.Values.{DrawopValue}
@@ -7,7 +7,7 @@ use Rattle.wb_host.specs.Desks.{PassValue, IsSound, IsWhole}
 use Rattle.wb_host.specs.declared.reply.Reply.{Reply}
 use Rattle.wb_host.specs.declared.reply.Reply.TheVariants.{New, Again, Clash}
 use Rattle.wb_host.specs.Board.{Accept, Replied}
-use Rattle.wb_host.specs.Runs.{Told, AreToldSince, IsOneRun, run_of}
+use Rattle.wb_host.specs.Runs.{Answered, AreAnsweredSince, IsOneRun, run_of}
 use Rattle.wb_feed.specs.declared.channel.Message.{Message}
 use Rattle.wb_feed.specs.Accepts.{Entry, Runs}
 use Rattle.wb_feed.specs.Served.{Spot, entries}
@@ -15,35 +15,35 @@ use Rattle.wb_feed.specs.Workers.{Workers, nobody, worker, Work}
 use Rattle.wb_feed.specs.Batches.{IsShared}
 
 -- the caller was given this reply to d where the history had so many members
-abbrev pub told : ℕ → DrawopValue → Reply → ℕ → Told
-told caller d reply point = record { step = record { caller = caller; call = Accept d; answer = Replied reply }; point = point }
+abbrev pub answered : ℕ → DrawopValue → Reply → ℕ → Answered
+answered caller d reply point = record { step = record { caller = caller; call = Accept d; answer = Replied reply }; point = point }
 
--- one accept: a new drawop where it became a member, another where the desk had then seen so many. Of what was left nothing is told
-abbrev pub told_of : ℕ → Entry → ℕ → List Told
-told_of caller (d, Fresh i) seen = told caller d (New i) i ∷ []
-told_of caller (d, Known i) seen = told caller d (Again i) seen ∷ []
-told_of caller (d, Clashed i) seen = told caller d (Clash i) seen ∷ []
-told_of caller (d, Left) seen = []
+-- one accept: a new drawop where it became a member, another where the desk had then seen so many. Of what was left nothing is answered
+abbrev pub answered_of : ℕ → Entry → ℕ → List Answered
+answered_of caller (d, Fresh i) seen = answered caller d (New i) i ∷ []
+answered_of caller (d, Known i) seen = answered caller d (Again i) seen ∷ []
+answered_of caller (d, Clashed i) seen = answered caller d (Clash i) seen ∷ []
+answered_of caller (d, Left) seen = []
 
 -- the accepts of one desk, in their order
-abbrev pub told_by : (caller : ℕ) (p : PassValue) (es : List Entry) (q : PassValue) → Runs p es q → List Told
-told_by caller p [] q run = []
-told_by caller p (e ∷ es) q run = told_of caller e (length run.0.seen) ++ told_by caller run.0 es q run.2
+abbrev pub answered_by : (caller : ℕ) (p : PassValue) (es : List Entry) (q : PassValue) → Runs p es q → List Answered
+answered_by caller p [] q run = []
+answered_by caller p (e ∷ es) q run = answered_of caller e (length run.0.seen) ++ answered_by caller run.0 es q run.2
 
 -- the number of a worker is how many were started after it
-abbrev pub told_workers : {rows n : ℕ} {p q : PassValue} {log : List Spot} {gots : List Message} → Workers rows n p log gots q → List Told
-told_workers nobody = []
-told_workers (worker {n = n} {desk = desk} {done = done} log others got gots split serves rest back) = told_by n desk (entries log) done serves.runs ++ told_workers rest
+abbrev pub answered_workers : {rows n : ℕ} {p q : PassValue} {log : List Spot} {gots : List Message} → Workers rows n p log gots q → List Answered
+answered_workers nobody = []
+answered_workers (worker {n = n} {desk = desk} {done = done} log others got gots split serves rest back) = answered_by n desk (entries log) done serves.runs ++ answered_workers rest
 
-abbrev pub told_working : (n : ℕ) (p : PassValue) (log : List Spot) (gots : List Message) (q : PassValue) → Work n p log gots q → List Told
-told_working n p log gots q (inl alone) = told_by 0 p (entries log) q alone.1.runs
-told_working n p log gots q (inr several) = told_workers several.1
+abbrev pub answered_working : (n : ℕ) (p : PassValue) (log : List Spot) (gots : List Message) (q : PassValue) → Work n p log gots q → List Answered
+answered_working n p log gots q (inl alone) = answered_by 0 p (entries log) q alone.1.runs
+answered_working n p log gots q (inr several) = answered_workers several.1
 
 -- the whole batch of n workers, in which the desk has the number n
-abbrev pub told_in : (n : ℕ) (p : PassValue) (given : List DrawopValue) (q : PassValue) → IsShared n p given q → List Told
-told_in n p given q s = told_working n p s.log s.gots s.joined s.work ++ told_by n s.joined s.left_over q s.rest
+abbrev pub answered_in : (n : ℕ) (p : PassValue) (given : List DrawopValue) (q : PassValue) → IsShared n p given q → List Answered
+answered_in n p given q s = answered_working n p s.log s.gots s.joined s.work ++ answered_by n s.joined s.left_over q s.rest
 
--- what a batch on a desk that owns all rows told is one run of a whiteboard of one thread, from the list before it to the list after it
+-- what a batch on a desk that owns all rows answered is one run of a whiteboard of one thread, from the list before it to the list after it
 abbrev pub BatchIsOneRun : Type 0
 BatchIsOneRun = (n : ℕ) (p : PassValue) (given : List DrawopValue) (q : PassValue) → IsSound p → IsWhole p → IsSound q → (s : IsShared n p given q)
-    → AreToldSince q.seen (length p.seen) (told_in n p given q s) × IsOneRun q.seen (length p.seen) (told_in n p given q s) (run_of (told_in n p given q s))
+    → AreAnsweredSince q.seen (length p.seen) (answered_in n p given q s) × IsOneRun q.seen (length p.seen) (answered_in n p given q s) (run_of (answered_in n p given q s))

@@ -216,14 +216,14 @@ module _ (m : BTreeMap Start ℕ) (at : Start) where
         let place : e ≡ start at.page at.source e.first = start_parts e.page at.page e.source at.source e.first e.first p s refl in
         (p, s, up_to_is at.page at.source e.first at.first (subst (λ (k : Start). is_gt (start_cmp k at) ≡ false) place here.0.1), subst (λ (k : Start). get start_cmp m k ≡ Some l) place here.1, λ first last h le. from_is at.page at.source e.first first (subst (λ (k : Start). is_lt (start_cmp k (start at.page at.source first)) ≡ false) place (top (start at.page at.source first) (tt, up_to at.page at.source first at.first le) (some_there _ last h))))
 
-pub page_told : (p q : PageId) → not (same_page p q) ≡ false → p ≡ q
-page_told p q h = same_page-is p q (from (same_page p q) h) where
+pub same_pages : (p q : PageId) → not (same_page p q) ≡ false → p ≡ q
+same_pages p q h = same_page-is p q (from (same_page p q) h) where
   from : (b : Bool) → not b ≡ false → b ≡ true
   from true g = refl
   from false g = absurd (true≢false g)
 
-pub page_untold : (p q : PageId) → not (same_page p q) ≡ true → p ≡ q → ⊥
-page_untold p q h is = from (same_page p q) h (subst (λ (w : PageId). same_page p w ≡ true) is (page_tested p)) where
+pub other_pages : (p q : PageId) → not (same_page p q) ≡ true → p ≡ q → ⊥
+other_pages p q h is = from (same_page p q) h (subst (λ (w : PageId). same_page p w ≡ true) is (page_tested p)) where
   from : (b : Bool) → not b ≡ true → b ≡ true → ⊥
   from true g f = true≢false (sym g)
   from false g f = true≢false (sym f)

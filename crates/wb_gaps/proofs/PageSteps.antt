@@ -126,14 +126,14 @@ pages_step e es order = skip e.0.page es (order_tail e es order) (order_head e e
 
 -- after the last page: the pages that were found and those that come are all pages, and what is left has the entries that come
 pub record At (entries : List (Start × ℕ)) (last : Option PageId) (pages : List PageId) (rest : List (Start × ℕ)) : Type 0 where
-  told : pages ++ pages_in (filter (is_later last) entries) ≡ pages_in entries
+  so_far : pages ++ pages_in (filter (is_later last) entries) ≡ pages_in entries
   left : filter (is_later last) rest ≡ filter (is_later last) entries
   order : AllPairs InOrder rest
   from : All (NotBefore last) rest
 
 pub begins : (entries rest : List (Start × ℕ)) → rest ≡ entries → AllPairs InOrder entries → At entries None [] rest
 begins entries rest is order = record {
-  told = ap pages_in (filter_whole (is_later None) entries (λ k d lt. refl));
+  so_far = ap pages_in (filter_whole (is_later None) entries (λ k d lt. refl));
   left = ap (filter (is_later None)) is;
   order = subst (AllPairs InOrder) (sym is) order;
   from = λ k d lt. tt;
@@ -157,7 +157,7 @@ pushes entries last pages e rest at other =
     let coming : filter (is_later last) entries ≡ e ∷ rest = sym at.left ∙ later_all last e rest other from at.order in
     let left : filter (is_past e.0.page) rest ≡ mine = sym (past_rest e rest) ∙ ap (filter (is_past e.0.page)) (sym coming) ∙ filter_narrow (is_later last) (is_past e.0.page) (later_past last e other from) entries in
     record {
-      told = append_assoc pages (e.0.page ∷ []) (pages_in mine) ∙ sym (ap (λ (ps : List PageId). pages ++ ps) (ap pages_in coming ∙ pages_step e rest at.order ∙ ap (λ (es : List (Start × ℕ)). e.0.page ∷ pages_in es) left)) ∙ at.told;
+      so_far = append_assoc pages (e.0.page ∷ []) (pages_in mine) ∙ sym (ap (λ (ps : List PageId). pages ++ ps) (ap pages_in coming ∙ pages_step e rest at.order ∙ ap (λ (es : List (Start × ℕ)). e.0.page ∷ pages_in es) left)) ∙ at.so_far;
       left = left;
       order = order_tail e rest at.order;
       from = order_head e rest at.order;
@@ -175,7 +175,7 @@ passes_by entries (Some p) pages e rest next order at same is =
     let size = ap length fewer in
     let few = few_in (is_past e.0.page) rest in (
       record {
-        told = at.told;
+        so_far = at.so_far;
         left = kept;
         order = subst (AllPairs InOrder) (sym coming) (AllPairs-filter InOrder (is_past p) entries order);
         from = subst (All (NotBefore (Some p))) (sym coming) (All-weaker (λ (f : Start × ℕ). is_past p f ≡ true) (NotBefore (Some p)) (λ f t. not_after p f.0.page (lt_is _ t)) (filter (is_past p) entries) (filter_passes (is_past p) entries));
@@ -186,7 +186,7 @@ passes_by entries (Some p) pages e rest next order at same is =
 pub ends : (entries : List (Start × ℕ)) (last : Option PageId) (pages : List PageId) (rest : List (Start × ℕ)) → rest ≡ [] → At entries last pages rest → pages ≡ pages_in entries
 ends entries last pages rest none at =
     let nothing : filter (is_later last) entries ≡ [] = sym at.left ∙ ap (filter (is_later last)) none in
-    sym (append-nil pages) ∙ sym (ap (λ (es : List (Start × ℕ)). pages ++ pages_in es) nothing) ∙ at.told
+    sym (append-nil pages) ∙ sym (ap (λ (es : List (Start × ℕ)). pages ++ pages_in es) nothing) ∙ at.so_far
 
 -- ---- the entries that are read
 

@@ -15,7 +15,7 @@ use Rattle.wb_names.specs.declared.name.PageId.{PageId}
 use Rattle.wb_names.proofs.Listings.{Contains-here, Contains-there, Contains-cases, Contains-none}
 use Rattle.wb_gaps.specs.Gaps.{Covers, IsApart, AreGaps}
 use Rattle.wb_gaps.specs.Runs.{AreRuns, AreRunsOf, InRuns, IsBelow}
-use Rattle.wb_gaps.specs.Walk.{gap_of, spans, spans_at, told, walk_of}
+use Rattle.wb_gaps.specs.Walk.{gap_of, spans, spans_at, done_of, walk_of}
 use Rattle.wb_gaps.specs.declared.run.Run.{Run}
 use Rattle.wb_gaps.specs.declared.walk.Span.{Span}
 use Rattle.wb_gaps.proofs.GreatestNumbers.{first_counted, first_filled, later_all, later_runs, number_cases, number_here, number_none, number_there, same_or_not}
@@ -103,13 +103,13 @@ all_span B source done last gaps first rest =
 abbrev Reached : List Run → ℕ → ℕ → Type 0
 Reached runs s n = (m : ℕ) × (n ≤ m) × InRuns runs s m
 
--- the number is not told, is known of, and lies in no run
+-- the number is not done, is known of, and lies in no run
 record Lacks (at done : ℕ) (marks : List MarkValue) (runs : List Run) (s n : ℕ) : Type 0 where
-  untold : told at done s < n
+  not_done : done_of at done s < n
   known : (n ≤ mark_of marks s) ⊎ Reached runs s n
   free : ¬ InRuns runs s n
 
--- of a later source, or of this one and above its numbers that are told
+-- of a later source, or of this one and above its numbers that are done
 abbrev IsBeyond : ℕ → ℕ → ℕ → ℕ → Type 0
 IsBeyond at done source first = (at < source) ⊎ ((at ≡ source) × (done < first))
 
@@ -125,23 +125,23 @@ record Finds (at done : ℕ) (marks : List MarkValue) (runs : List Run) (gaps : 
   beyond : All (λ g. IsBeyond at done g.source g.first) gaps
   later : (b : ℕ) → Above b marks → All (λ r. b < r.source) runs → All (λ g. b < g.source) gaps
 
-told_here : (at done s : ℕ) → at ≡ s → told at done s ≡ done
-told_here at done s e = grind (arith, nat_tests)
+done_here : (at done s : ℕ) → at ≡ s → done_of at done s ≡ done
+done_here at done s e = grind (arith, nat_tests)
 
-told_there : (at done s : ℕ) → at ≢ s → told at done s ≡ 0
-told_there at done s e = grind (arith, nat_tests)
+done_there : (at done s : ℕ) → at ≢ s → done_of at done s ≡ 0
+done_there at done s e = grind (arith, nat_tests)
 
--- where what is told of a source ends, seen from beyond
-told_below : (at done s first : ℕ) → 1 ≤ first → IsBeyond at done s first → told at done s < first
-told_below at done s first pos beyond = ⊎_elim
-    (λ (lt : at < s). let t = told_there at done s (omega arith) in omega arith)
-    (λ (p : (at ≡ s) × (done < first)). let t = told_here at done s p.0 in let lt = p.1 in omega arith)
+-- where what is done of a source ends, seen from beyond
+done_below : (at done s first : ℕ) → 1 ≤ first → IsBeyond at done s first → done_of at done s < first
+done_below at done s first pos beyond = ⊎_elim
+    (λ (lt : at < s). let t = done_there at done s (omega arith) in omega arith)
+    (λ (p : (at ≡ s) × (done < first)). let t = done_here at done s p.0 in let lt = p.1 in omega arith)
     beyond
 
--- after what is told
-told_next : (at done s : ℕ) → at ≤ s → IsBeyond at done s (told at done s + 1)
-told_next at done s le = ⊎_elim
-    (λ (e : at ≡ s). let t = told_here at done s e in inr (e, omega arith))
+-- after what is done
+done_next : (at done s : ℕ) → at ≤ s → IsBeyond at done s (done_of at done s + 1)
+done_next at done s le = ⊎_elim
+    (λ (e : at ≡ s). let t = done_here at done s e in inr (e, omega arith))
     (λ (n : at ≢ s). inl (omega arith))
     (same_or_not at s)
 
@@ -189,12 +189,12 @@ module _ (at done : ℕ) (x : Run) (xs : List Run) (marks : List MarkValue) (com
     runs_come = All-weaker (IsBelow x) (λ (r : Run). IsBeyond x.source x.last r.source r.first) (λ r b. b.order) xs (later_all x xs runs);
   }
 
-  lacks_before : (s n : ℕ) → InSpan x.source (told at done x.source) (x.first - 1) s n → Lacks at done marks (x ∷ xs) s n
+  lacks_before : (s n : ℕ) → InSpan x.source (done_of at done x.source) (x.first - 1) s n → Lacks at done marks (x ∷ xs) s n
   lacks_before s n i =
       let own : x.source ≡ s = sym i.0 in
       let high = i.2 in
       record {
-        untold = subst (λ (k : ℕ). told at done k < n) own i.1;
+        not_done = subst (λ (k : ℕ). done_of at done k < n) own i.1;
         known = inr (x.last, omega (arith, pos, full), number_here x xs s x.last own full (omega arith));
         free = λ h. ⊎_elim
             (λ (p : (x.source ≡ s) × (x.first ≤ n) × (n ≤ x.last)). let low = p.1 in let w : ⊥ = omega (arith, pos) in w)
@@ -202,34 +202,34 @@ module _ (at done : ℕ) (x : Run) (xs : List Run) (marks : List MarkValue) (com
             (number_cases x xs s n h);
       }
 
-  untold_after : (s n : ℕ) → Lacks x.source x.last marks xs s n → told at done s < n
-  untold_after s n l = ⊎_elim
+  not_done_after : (s n : ℕ) → Lacks x.source x.last marks xs s n → done_of at done s < n
+  not_done_after s n l = ⊎_elim
       (λ (own : x.source ≡ s).
-      let a = told_here x.source x.last s own in
-      let b = told_below at done x.source x.first pos starts in
-      let low = l.untold in
-      let lt : told at done x.source < n = omega (arith, full) in
-      subst (λ (k : ℕ). told at done k < n) own lt)
+      let a = done_here x.source x.last s own in
+      let b = done_below at done x.source x.first pos starts in
+      let low = l.not_done in
+      let lt : done_of at done x.source < n = omega (arith, full) in
+      subst (λ (k : ℕ). done_of at done k < n) own lt)
       (λ (other : x.source ≢ s).
-      let a = told_there x.source x.last s other in
-      let low = l.untold in
+      let a = done_there x.source x.last s other in
+      let low = l.not_done in
       ⊎_elim
       (λ (e : at ≡ s).
       let before : s < x.source = ⊎_elim (λ (lt : at < x.source). omega arith) (λ (p : (at ≡ x.source) × (done < x.first)). let same = p.0 in absurd (other (sym same ∙ e))) starts in
       let none : mark_of marks s ≡ 0 = none_from s x.source marks from before in
       absurd (⊎_elim (λ (le : n ≤ mark_of marks s). let w : ⊥ = omega arith in w) (λ (r : Reached xs s n). none_before s x xs runs before r.0 r.2) l.known))
-      (λ (e : at ≢ s). let b = told_there at done s e in omega arith)
+      (λ (e : at ≢ s). let b = done_there at done s e in omega arith)
       (same_or_not at s))
       (same_or_not x.source s)
 
   lacks_after : (s n : ℕ) → Lacks x.source x.last marks xs s n → Lacks at done marks (x ∷ xs) s n
   lacks_after s n l = record {
-    untold = untold_after s n l;
+    not_done = not_done_after s n l;
     known = ⊎_elim (λ (le : n ≤ mark_of marks s). inl le) (λ (r : Reached xs s n). inr (r.0, r.1, number_there x xs s r.0 r.2)) l.known;
     free = λ h. ⊎_elim
         (λ (p : (x.source ≡ s) × (x.first ≤ n) × (n ≤ x.last)).
-        let a = told_here x.source x.last s p.0 in
-        let low = l.untold in
+        let a = done_here x.source x.last s p.0 in
+        let low = l.not_done in
         let high = p.2 in
         let w : ⊥ = omega arith in w)
         (λ (c : InRuns xs s n). l.free c)
@@ -239,13 +239,13 @@ module _ (at done : ℕ) (x : Run) (xs : List Run) (marks : List MarkValue) (com
   free_after : (s n : ℕ) → Lacks at done marks (x ∷ xs) s n → InRuns xs s n → ⊥
   free_after s n l h = l.free (number_there x xs s n h)
 
-  run_own : (s n : ℕ) → x.source ≡ s → Lacks at done marks (x ∷ xs) s n → InSpan x.source (told at done x.source) (x.first - 1) s n ⊎ Lacks x.source x.last marks xs s n
+  run_own : (s n : ℕ) → x.source ≡ s → Lacks at done marks (x ∷ xs) s n → InSpan x.source (done_of at done x.source) (x.first - 1) s n ⊎ Lacks x.source x.last marks xs s n
   run_own s n own l = ⊎_elim
-      (λ (lt : n < x.first). inl (sym own, subst (λ (k : ℕ). told at done k < n) (sym own) l.untold, omega arith))
+      (λ (lt : n < x.first). inl (sym own, subst (λ (k : ℕ). done_of at done k < n) (sym own) l.not_done, omega arith))
       (λ (ge : x.first ≤ n).
       let above : x.last < n = ⊎_elim (λ (lt : x.last < n). lt) (λ (le : n ≤ x.last). absurd (l.free (number_here x xs s n own ge le))) (cases_lt x.last n) in
       inr (record {
-        untold = let a = told_here x.source x.last s own in omega arith;
+        not_done = let a = done_here x.source x.last s own in omega arith;
         known = ⊎_elim
             (λ (le : n ≤ mark_of marks s). inl le)
             (λ (r : Reached (x ∷ xs) s n). ⊎_elim
@@ -259,7 +259,7 @@ module _ (at done : ℕ) (x : Run) (xs : List Run) (marks : List MarkValue) (com
 
   run_other : (s n : ℕ) → x.source ≢ s → Lacks at done marks (x ∷ xs) s n → Lacks x.source x.last marks xs s n
   run_other s n other l = record {
-    untold = let a = told_there x.source x.last s other in let low = l.untold in omega arith;
+    not_done = let a = done_there x.source x.last s other in let low = l.not_done in omega arith;
     known = ⊎_elim
         (λ (le : n ≤ mark_of marks s). inl le)
         (λ (r : Reached (x ∷ xs) s n). ⊎_elim
@@ -270,10 +270,10 @@ module _ (at done : ℕ) (x : Run) (xs : List Run) (marks : List MarkValue) (com
     free = free_after s n l;
   }
 
-  run_splits : (s n : ℕ) → Lacks at done marks (x ∷ xs) s n ↔ (InSpan x.source (told at done x.source) (x.first - 1) s n ⊎ Lacks x.source x.last marks xs s n)
+  run_splits : (s n : ℕ) → Lacks at done marks (x ∷ xs) s n ↔ (InSpan x.source (done_of at done x.source) (x.first - 1) s n ⊎ Lacks x.source x.last marks xs s n)
   run_splits s n = (
     λ l. ⊎_elim (λ (own : x.source ≡ s). run_own s n own l) (λ (other : x.source ≢ s). inr (run_other s n other l)) (same_or_not x.source s),
-    λ e. ⊎_elim (λ (i : InSpan x.source (told at done x.source) (x.first - 1) s n). lacks_before s n i) (λ (l : Lacks x.source x.last marks xs s n). lacks_after s n l) e,
+    λ e. ⊎_elim (λ (i : InSpan x.source (done_of at done x.source) (x.first - 1) s n). lacks_before s n i) (λ (l : Lacks x.source x.last marks xs s n). lacks_after s n l) e,
   )
 
   run_beyond : (source first : ℕ) → IsBeyond x.source x.last source first → IsBeyond at done source first
@@ -288,17 +288,17 @@ module _ (at done : ℕ) (x : Run) (xs : List Run) (marks : List MarkValue) (com
   at_or_before : at ≤ x.source
   at_or_before = ⊎_elim (λ (lt : at < x.source). omega arith) (λ (q : (at ≡ x.source) × (done < x.first)). let e = q.0 in omega arith) starts
 
-  finds_run : (gaps : List Gap) → Finds x.source x.last marks xs gaps → Finds at done marks (x ∷ xs) (gap_of (span x.source (told at done x.source) (x.first - 1)) ++ gaps)
+  finds_run : (gaps : List Gap) → Finds x.source x.last marks xs gaps → Finds at done marks (x ∷ xs) (gap_of (span x.source (done_of at done x.source) (x.first - 1)) ++ gaps)
   finds_run gaps f = record {
-    hold = hold_span x.source (told at done x.source) (x.first - 1) gaps (Lacks at done marks (x ∷ xs)) (Lacks x.source x.last marks xs) f.hold
+    hold = hold_span x.source (done_of at done x.source) (x.first - 1) gaps (Lacks at done marks (x ∷ xs)) (Lacks x.source x.last marks xs) f.hold
         (All-weaker (λ (g : Gap). IsBeyond x.source x.last g.source g.first) (IsAfter x.source (x.first - 1))
         (λ g b. ⊎_elim (λ (l : x.source < g.source). inl l) (λ (p : (x.source ≡ g.source) × (x.last < g.first)). let over = p.1 in inr (p.0, omega (arith, pos, full))) b)
         gaps f.beyond)
         run_splits;
-    beyond = all_span (λ (g : Gap). IsBeyond at done g.source g.first) x.source (told at done x.source) (x.first - 1) gaps
-        (told_next at done x.source at_or_before)
+    beyond = all_span (λ (g : Gap). IsBeyond at done g.source g.first) x.source (done_of at done x.source) (x.first - 1) gaps
+        (done_next at done x.source at_or_before)
         (All-weaker (λ (g : Gap). IsBeyond x.source x.last g.source g.first) (λ (g : Gap). IsBeyond at done g.source g.first) (λ g b. run_beyond g.source g.first b) gaps f.beyond);
-    later = λ b above over. all_span (λ (g : Gap). b < g.source) x.source (told at done x.source) (x.first - 1) gaps
+    later = λ b above over. all_span (λ (g : Gap). b < g.source) x.source (done_of at done x.source) (x.first - 1) gaps
         (All-head (λ (r : Run). b < r.source) x xs over)
         (f.later b above (All-tail (λ (r : Run). b < r.source) x xs over));
   }
@@ -314,23 +314,23 @@ module _ (at done : ℕ) (m : MarkValue) (ms : List MarkValue) (xs : List Run) (
     runs_come = comes.runs_come;
   }
 
-  lacks_up_to : (s n : ℕ) → InSpan m.source (told at done m.source) m.high s n → Lacks at done (m ∷ ms) xs s n
+  lacks_up_to : (s n : ℕ) → InSpan m.source (done_of at done m.source) m.high s n → Lacks at done (m ∷ ms) xs s n
   lacks_up_to s n i =
       let own : m.source ≡ s = sym i.0 in
       record {
-        untold = subst (λ (k : ℕ). told at done k < n) own i.1;
+        not_done = subst (λ (k : ℕ). done_of at done k < n) own i.1;
         known = inl (subst (λ (k : ℕ). n ≤ k) (sym (here m ms s own)) i.2);
         free = λ h. none_under m.source xs over n (subst (λ (k : ℕ). InRuns xs k n) (sym own) h);
       }
 
   lacks_beside : (s n : ℕ) → Lacks at done ms xs s n → Lacks at done (m ∷ ms) xs s n
   lacks_beside s n l = record {
-    untold = l.untold;
+    not_done = l.not_done;
     known = ⊎_elim
         (λ (le : n ≤ mark_of ms s). ⊎_elim
         (λ (own : m.source ≡ s).
         let none : mark_of ms s ≡ 0 = none_above ms s (subst (λ (k : ℕ). Above k ms) own (rest_above m ms comes.rising)) in
-        let low = l.untold in
+        let low = l.not_done in
         absurd (omega arith))
         (λ (other : m.source ≢ s). inl (subst (λ (k : ℕ). n ≤ k) (sym (there m ms s other)) le))
         (same_or_not m.source s))
@@ -339,35 +339,35 @@ module _ (at done : ℕ) (m : MarkValue) (ms : List MarkValue) (xs : List Run) (
     free = l.free;
   }
 
-  mark_splits : (s n : ℕ) → Lacks at done (m ∷ ms) xs s n ↔ (InSpan m.source (told at done m.source) m.high s n ⊎ Lacks at done ms xs s n)
+  mark_splits : (s n : ℕ) → Lacks at done (m ∷ ms) xs s n ↔ (InSpan m.source (done_of at done m.source) m.high s n ⊎ Lacks at done ms xs s n)
   mark_splits s n = (
     λ l. ⊎_elim
         (λ (own : m.source ≡ s). inl (
           sym own,
-          subst (λ (k : ℕ). told at done k < n) (sym own) l.untold,
+          subst (λ (k : ℕ). done_of at done k < n) (sym own) l.not_done,
           ⊎_elim
               (λ (le : n ≤ mark_of (m ∷ ms) s). subst (λ (k : ℕ). n ≤ k) (here m ms s own) le)
               (λ (r : Reached xs s n). absurd (none_under m.source xs over r.0 (subst (λ (k : ℕ). InRuns xs k r.0) (sym own) r.2)))
               l.known,
         ))
         (λ (other : m.source ≢ s). inr (record {
-          untold = l.untold;
+          not_done = l.not_done;
           known = ⊎_elim (λ (le : n ≤ mark_of (m ∷ ms) s). inl (subst (λ (k : ℕ). n ≤ k) (there m ms s other) le)) (λ (r : Reached xs s n). inr r) l.known;
           free = l.free;
         }))
         (same_or_not m.source s),
-    λ e. ⊎_elim (λ (i : InSpan m.source (told at done m.source) m.high s n). lacks_up_to s n i) (λ (l : Lacks at done ms xs s n). lacks_beside s n l) e,
+    λ e. ⊎_elim (λ (i : InSpan m.source (done_of at done m.source) m.high s n). lacks_up_to s n i) (λ (l : Lacks at done ms xs s n). lacks_beside s n l) e,
   )
 
-  finds_mark : (gaps : List Gap) → Finds at done ms xs gaps → Finds at done (m ∷ ms) xs (gap_of (span m.source (told at done m.source) m.high) ++ gaps)
+  finds_mark : (gaps : List Gap) → Finds at done ms xs gaps → Finds at done (m ∷ ms) xs (gap_of (span m.source (done_of at done m.source) m.high) ++ gaps)
   finds_mark gaps f = record {
-    hold = hold_span m.source (told at done m.source) m.high gaps (Lacks at done (m ∷ ms) xs) (Lacks at done ms xs) f.hold
+    hold = hold_span m.source (done_of at done m.source) m.high gaps (Lacks at done (m ∷ ms) xs) (Lacks at done ms xs) f.hold
         (All-weaker (λ (g : Gap). m.source < g.source) (IsAfter m.source m.high) (λ g lt. inl lt) gaps (f.later m.source (rest_above m ms comes.rising) over))
         mark_splits;
-    beyond = all_span (λ (g : Gap). IsBeyond at done g.source g.first) m.source (told at done m.source) m.high gaps
-        (told_next at done m.source (All-head (λ (k : MarkValue). at ≤ k.source) m ms comes.marks_come))
+    beyond = all_span (λ (g : Gap). IsBeyond at done g.source g.first) m.source (done_of at done m.source) m.high gaps
+        (done_next at done m.source (All-head (λ (k : MarkValue). at ≤ k.source) m ms comes.marks_come))
         f.beyond;
-    later = λ b above later. all_span (λ (g : Gap). b < g.source) m.source (told at done m.source) m.high gaps
+    later = λ b above later. all_span (λ (g : Gap). b < g.source) m.source (done_of at done m.source) m.high gaps
         (All-head (λ (k : MarkValue). b < k.source) m ms above)
         (f.later b (All-tail (λ (k : MarkValue). b < k.source) m ms above) later);
   }
@@ -389,7 +389,7 @@ finds_nothing at done = record {
   hold = record {
     filled = All-nil _;
     apart = λ i j d ij h. absurd (omega arith);
-    covers = λ s n. (λ c. absurd (Contains-none c.0 c.1), λ l. absurd (⊎_elim (λ (le : n ≤ 0). let low = l.untold in let w : ⊥ = omega arith in w) (λ (r : Reached [] s n). number_none s r.0 r.2) l.known));
+    covers = λ s n. (λ c. absurd (Contains-none c.0 c.1), λ l. absurd (⊎_elim (λ (le : n ≤ 0). let low = l.not_done in let w : ⊥ = omega arith in w) (λ (r : Reached [] s n). number_none s r.0 r.2) l.known));
   };
   beyond = All-nil _;
   later = λ b above over. All-nil _;
@@ -407,7 +407,7 @@ finds_at : (x : Run) (xs : List Run) → ((at done : ℕ) (marks : List MarkValu
     → (at done : ℕ) (marks : List MarkValue) → Comes at done marks (x ∷ xs) → Finds at done marks (x ∷ xs) (flat_map gap_of (spans_at x (spans xs) at done marks))
 finds_at x xs rest at done [] comes = finds_run at done x xs [] comes (All-nil _) (found xs x.source x.last []) (rest x.source x.last [] (run_comes at done x xs [] comes (All-nil _)))
 finds_at x xs rest at done (m ∷ ms) comes =
-    elim (nat_lt m.source x.source) as (λ b. nat_lt m.source x.source ≡ b → Finds at done (m ∷ ms) (x ∷ xs) (flat_map gap_of (cond b (span m.source (told at done m.source) m.high ∷ spans_at x (spans xs) at done ms) (span x.source (told at done x.source) (x.first - 1) ∷ spans xs x.source x.last (m ∷ ms))))) [
+    elim (nat_lt m.source x.source) as (λ b. nat_lt m.source x.source ≡ b → Finds at done (m ∷ ms) (x ∷ xs) (flat_map gap_of (cond b (span m.source (done_of at done m.source) m.high ∷ spans_at x (spans xs) at done ms) (span x.source (done_of at done x.source) (x.first - 1) ∷ spans xs x.source x.last (m ∷ ms))))) [
       | true ↦ λ e.
           let lt : m.source < x.source = grind (arith, nat_tests) in
           let over = all_over m.source x xs comes.lawful lt in
@@ -422,7 +422,7 @@ finds_all : (runs : List Run) (at done : ℕ) (marks : List MarkValue) → Comes
 finds_all [] at done marks comes = finds_marks at done marks comes
 finds_all (x ∷ xs) at done marks comes = finds_at x xs (finds_all xs) at done marks comes
 
--- from the beginning every number is untold, and those of the runs are those that are held
+-- from the beginning every number is not_done, and those of the runs are those that are held
 pub are_gaps : (history : List DrawopValue) (page : PageId) (runs : List Run) (marks : List MarkValue) → AreRunsOf history page runs → AreMarks marks → AreGaps history page marks (walk_of runs marks)
 are_gaps history page runs marks of lawful =
     let first = All-weaker (λ (r : Run). 1 ≤ r.first) (λ (r : Run). IsBeyond 0 0 r.source r.first) (λ r low. begins r low) runs of.lawful.counted in
@@ -433,7 +433,7 @@ are_gaps history page runs marks of lawful =
       missing = λ s n. (
         (λ c.
             let l = (f.hold.covers s n).0 c in
-            let low = l.untold in
+            let low = l.not_done in
             let counted : 1 ≤ n = omega arith in
             record {
               counted = counted;
@@ -443,19 +443,19 @@ are_gaps history page runs marks of lawful =
         (λ i.
             let counted = i.counted in
             (f.hold.covers s n).1 (record {
-              untold = let t = nothing_told s in omega arith;
+              not_done = let t = nothing_done s in omega arith;
               known = ⊎_elim (λ (r : (m : ℕ) × (n ≤ m) × IsHeld history page s m). inr (r.0, r.1, (of.held s r.0).1 r.2)) (λ (le : n ≤ mark_of marks s). inl le) ((known_is_reached history page marks s n counted).0 i.below);
               free = λ h. i.not_held ((of.held s n).0 h);
             })),
       );
     } where
-      nothing_told : (s : ℕ) → told 0 0 s ≡ 0
-      nothing_told s = ⊎_elim (λ (e : 0 ≡ s). told_here 0 0 s e) (λ (e : 0 ≢ s). told_there 0 0 s e) (same_or_not 0 s)
+      nothing_done : (s : ℕ) → done_of 0 0 s ≡ 0
+      nothing_done s = ⊎_elim (λ (e : 0 ≡ s). done_here 0 0 s e) (λ (e : 0 ≢ s). done_there 0 0 s e) (same_or_not 0 s)
 
       begins : (r : Run) → 1 ≤ r.first → IsBeyond 0 0 r.source r.first
       begins r low = ⊎_elim (λ (e : 0 ≡ r.source). inr (e, omega arith)) (λ (e : 0 ≢ r.source). inl (omega arith)) (same_or_not 0 r.source)
 
 -- the same, of what was read
 pub are_gaps_read : (history : List DrawopValue) (page : PageId) (runs read : List Run) (marks heard : List MarkValue) (gaps : List Gap) → AreRunsOf history page runs → AreMarks marks → read ≡ runs → heard ≡ marks → gaps ≡ walk_of read heard → AreGaps history page marks gaps
-are_gaps_read history page runs read marks heard gaps of lawful same told found =
-    subst (AreGaps history page marks) (sym (found ∙ ap (λ (rs : List Run). walk_of rs heard) same ∙ ap (walk_of runs) told)) (are_gaps history page runs marks of lawful)
+are_gaps_read history page runs read marks heard gaps of lawful same walked found =
+    subst (AreGaps history page marks) (sym (found ∙ ap (λ (rs : List Run). walk_of rs heard) same ∙ ap (walk_of runs) done_of)) (are_gaps history page runs marks of lawful)

@@ -8,17 +8,17 @@ use Rattle.wb_gaps.specs.declared.run.Run.{Run}
 use Rattle.wb_gaps.specs.declared.walk.Span.{Span}
 use Rattle.wb_gaps.specs.declared.walk.Walk.{Walk}
 
--- up to which number a source is told, where this source is told up to `done` and no greater one at all
-abbrev pub told : ℕ → ℕ → ℕ → ℕ
-told at done source = if nat_eq source at then done else 0
+-- up to which number a source is done, where this source is done up to `done` and no greater one at all
+abbrev pub done_of : ℕ → ℕ → ℕ → ℕ
+done_of at done source = if nat_eq source at then done else 0
 
 -- the numbers of a run's source before it
 abbrev pub before_run : ℕ → ℕ → Run → Span
-before_run at done r = record { source = r.source; done = told at done r.source; last = r.first - 1 }
+before_run at done r = record { source = r.source; done = done_of at done r.source; last = r.first - 1 }
 
 -- the numbers of a mark's source up to it
 abbrev pub up_to_mark : ℕ → ℕ → MarkValue → Span
-up_to_mark at done m = record { source = m.source; done = told at done m.source; last = m.high }
+up_to_mark at done m = record { source = m.source; done = done_of at done m.source; last = m.high }
 
 -- the first of these marks is of a source below this one
 abbrev pub mark_below : ℕ → List MarkValue → Bool

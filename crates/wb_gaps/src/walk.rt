@@ -1,7 +1,7 @@
 //! The walk over the runs of a page and marks of it together, which finds the numbers that are missing.
 
 ghost use Rattle.std.specs.Prelude.{◌≡◌, [], ◌∷◌, MatchOption};
-ghost use Rattle.wb_gaps.specs.Walk.{gaps_left, mark_below, spans_left, told, up_to_mark, walk_of};
+ghost use Rattle.wb_gaps.specs.Walk.{gaps_left, mark_below, spans_left, done_of, up_to_mark, walk_of};
 ghost use Rattle.wb_names.specs.Values.{MarkValue};
 ghost use Rattle.wb_gaps.specs.Runs.{runs_left};
 
@@ -74,7 +74,7 @@ impl<'a> Walk<'a> {
         // numbers begin at 1, so the one before a run is at least 0
         let span = Span {
             source: run.source,
-            done: self.told(run.source),
+            done: self.done_of(run.source),
             last: run.first.saturating_sub(1),
         };
         self.run = self.runs.next();
@@ -93,9 +93,9 @@ impl<'a> Walk<'a> {
         }
     }
 
-    /// Up to which number the walk has told a source.
-    fn told(&self, source: u32) -> u32
-        ensures { result ≡ told self.now.source self.now.done source }
+    /// Up to which number the walk has done a source.
+    fn done_of(&self, source: u32) -> u32
+        ensures { result ≡ done_of self.now.source self.now.done source }
     {
         if source == self.source { self.done } else { 0 }
     }
@@ -111,7 +111,7 @@ impl<'a> Walk<'a> {
         self.marks = later;
         Some(Span {
             source: mark.source(),
-            done: self.told(mark.source()),
+            done: self.done_of(mark.source()),
             last: mark.high(),
         })
     }

@@ -9,7 +9,7 @@ use Rattle.std.proofs.lemmas.Bool.Decides.{nat_tests}
 use Rattle.std.proofs.lemmas.List.{take_all, length-append, length-take-le, take-append-le}
 use Rattle.std.proofs.lemmas.Map.Views.{Contains-from_any, list_any-from_Contains}
 use Rattle.wb_names.proofs.Listings.{Contains-there, Contains-cases, Contains-here, Contains-none}
-use Rattle.wb_host.specs.Keeper.{KeeperCall, session_told, remember, senders_of, told_by, newest, last_heard}
+use Rattle.wb_host.specs.Keeper.{KeeperCall, session_heard, remember, senders_of, heard_by, newest, last_heard}
 use Rattle.wb_host.specs.KeeperLaws.{all_senders, by_first, first_senders, IsLatest, FirstSendersAreEchoed}
 use Rattle.wb_host.specs.declared.keeper.Heard.{Heard}
 
@@ -87,7 +87,7 @@ module _ (n : ℕ) where
 
 remembered : (me : ℕ) (calls : List KeeperCall) → Same 65535 (senders_of me calls) (by_first (all_senders me calls))
 remembered me [] = record { any = λ x. refl; len = refl }
-remembered me (call ∷ calls) = from (session_told me call) (remembered me calls) where
+remembered me (call ∷ calls) = from (session_heard me call) (remembered me calls) where
   from : (o : Option (ℕ × Heard)) → Same 65535 (senders_of me calls) (by_first (all_senders me calls))
       → Same 65535 (remember o (senders_of me calls)) (by_first (cons_option (option_map (λ (told : ℕ × Heard). told.0) o) (all_senders me calls)))
   from None same = same
@@ -95,42 +95,42 @@ remembered me (call ∷ calls) = from (session_told me call) (remembered me call
 
 -- ---- the last that a sender sent
 abbrev last_of : ℕ → List KeeperCall → ℕ → Option Heard
-last_of me calls source = newest (λ call. told_by source (session_told me call)) calls
+last_of me calls source = newest (λ call. heard_by source (session_heard me call)) calls
 
-told_is : (source : ℕ) (o : Option (ℕ × Heard)) (h : Heard) → told_by source o ≡ Some h → o ≡ Some (source, h)
-told_is source None h e = cc
-told_is source (Some (s, g)) h e = from (nat_eq s source) refl e where
+heard_is : (source : ℕ) (o : Option (ℕ × Heard)) (h : Heard) → heard_by source o ≡ Some h → o ≡ Some (source, h)
+heard_is source None h e = cc
+heard_is source (Some (s, g)) h e = from (nat_eq s source) refl e where
   from : (b : Bool) → nat_eq s source ≡ b → cond b (Some g) None ≡ Some h → (let o : Option (ℕ × Heard) = Some (s, g) in o ≡ Some (source, h))
   from true p q = let r : s ≡ source = eqb-true s source p in cc
   from false p q = cc
 
-told_at : (source : ℕ) (h : Heard) → told_by source (Some (source, h)) ≡ Some h
-told_at source h = ap (λ (b : Bool). cond b (Some h) None) (nat_eq_equiv.refl source)
+heard_at_once : (source : ℕ) (h : Heard) → heard_by source (Some (source, h)) ≡ Some h
+heard_at_once source h = ap (λ (b : Bool). cond b (Some h) None) (nat_eq_equiv.refl source)
 
 latest_from : (me : ℕ) (calls : List KeeperCall) (source : ℕ) (h : Heard) → last_of me calls source ≡ Some h → IsLatest me calls source h
 latest_from me [] source h e = cc
-latest_from me (call ∷ calls) source h e = from (latest_from me calls source h) (told_by source (session_told me call)) refl e where
-  from : (last_of me calls source ≡ Some h → IsLatest me calls source h) → (o : Option Heard) → told_by source (session_told me call) ≡ o → option_or o (last_of me calls source) ≡ Some h → IsLatest me (call ∷ calls) source h
+latest_from me (call ∷ calls) source h e = from (latest_from me calls source h) (heard_by source (session_heard me call)) refl e where
+  from : (last_of me calls source ≡ Some h → IsLatest me calls source h) → (o : Option Heard) → heard_by source (session_heard me call) ≡ o → option_or o (last_of me calls source) ≡ Some h → IsLatest me (call ∷ calls) source h
   from rest None p q = let r = rest q in record {
     newer = call ∷ r.newer;
     call = r.call;
     older = r.older;
     split = ap (λ (cs : List KeeperCall). call ∷ cs) r.split;
     told = r.told;
-    last = λ c m. ⊎_elim (λ (is : call ≡ c). ap (λ (k : KeeperCall). told_by source (session_told me k)) (sym is) ∙ p) (λ (m : Contains r.newer c). r.last c m) (Contains-cases call c r.newer m);
+    last = λ c m. ⊎_elim (λ (is : call ≡ c). ap (λ (k : KeeperCall). heard_by source (session_heard me k)) (sym is) ∙ p) (λ (m : Contains r.newer c). r.last c m) (Contains-cases call c r.newer m);
   }
   from rest (Some g) p q = record {
     newer = [];
     call = call;
     older = calls;
     split = refl;
-    told = told_is source (session_told me call) h (p ∙ q);
+    told = heard_is source (session_heard me call) h (p ∙ q);
     last = λ c m. absurd (Contains-none c m);
   }
 
-latest_to : (me : ℕ) (newer : List KeeperCall) (call : KeeperCall) (older : List KeeperCall) (source : ℕ) (h : Heard) → session_told me call ≡ Some (source, h)
-    → ((c : KeeperCall) → Contains newer c → told_by source (session_told me c) ≡ None) → last_of me (newer ++ call ∷ older) source ≡ Some h
-latest_to me [] call older source h told last = ap (λ o. option_or (told_by source o) (last_of me older source)) told ∙ ap (λ (o : Option Heard). option_or o (last_of me older source)) (told_at source h)
+latest_to : (me : ℕ) (newer : List KeeperCall) (call : KeeperCall) (older : List KeeperCall) (source : ℕ) (h : Heard) → session_heard me call ≡ Some (source, h)
+    → ((c : KeeperCall) → Contains newer c → heard_by source (session_heard me c) ≡ None) → last_of me (newer ++ call ∷ older) source ≡ Some h
+latest_to me [] call older source h told last = ap (λ o. option_or (heard_by source o) (last_of me older source)) told ∙ ap (λ (o : Option Heard). option_or o (last_of me older source)) (heard_at_once source h)
 latest_to me (c ∷ newer) call older source h told last =
     ap (λ (o : Option Heard). option_or o (last_of me (newer ++ call ∷ older) source)) (last c (Contains-here c newer))
     ∙ latest_to me newer call older source h told (λ k m. last k (Contains-there c k newer m))

@@ -27,8 +27,8 @@ use Rattle.wb_recovery.specs.Events.{Event, Asked}
 use Rattle.wb_recovery.specs.Accepted as timers
 use Rattle.wb_recovery.specs.Values.{RecoveryValue}
 use Rattle.wb_recovery.specs.declared.tuning.Tuning.{Tuning}
-use Rattle.wb_host.specs.Keeper.{KeeperCall, Hear, newest, is_own, high_in, high_told, high_heard, delay_in, delay_told, delay_to, session_in, session_told, senders_of, remember, told_by, last_heard, distance_by, asked_by, events_of}
-use Rattle.wb_host.specs.Hearing.{marks_in, marks_told, marks_heard}
+use Rattle.wb_host.specs.Keeper.{KeeperCall, Hear, newest, is_own, high_in, high_reported, high_heard, delay_in, delay_given, delay_to, session_in, session_heard, senders_of, remember, heard_by, last_heard, distance_by, asked_by, events_of}
+use Rattle.wb_host.specs.Hearing.{marks_in, marks_reported, marks_heard}
 use Rattle.wb_host.specs.Keeping.{KeeperValue, StandsFor, Keeps, delay_at, heard_at, marks_at}
 use Rattle.wb_host.specs.declared.keeper.Heard.{Heard}
 use Rattle.wb_host.specs.TakingIn.{count_with, delays_with, has_place, heard_with, marks_with, IsMerged}
@@ -42,10 +42,10 @@ keeps_own call old new k me t calls s = subst (λ (m : ℕ). StandsFor m t (call
 -- ---- calls that tell this member nothing
 
 pub record IsSilent (me : ℕ) (call : KeeperCall) : Type 0 where
-  pub delays : (source : ℕ) → delay_told me source call ≡ None
-  pub sessions : session_told me call ≡ None
-  pub marks : (page : PageId) (source : ℕ) → high_told me page source call ≡ 0
-  pub merged : (page : PageId) → marks_told me page call ≡ []
+  pub delays : (source : ℕ) → delay_given me source call ≡ None
+  pub sessions : session_heard me call ≡ None
+  pub marks : (page : PageId) (source : ℕ) → high_reported me page source call ≡ 0
+  pub merged : (page : PageId) → marks_reported me page call ≡ []
 
 module _ (me now : ℕ) (d : Datagram) (word : ℕ) (held : Bool) where
   own_silent : is_own me d ≡ true → IsSilent me (Hear now d word held)
@@ -71,9 +71,9 @@ keeps_silent old new now d word held recovery silent is stands = keeps_own (Hear
   me_is = refl;
   moment = refl;
   recovery = stands t calls s;
-  delays = λ source. s.delays source ∙ sym (ap (λ (o : Option ℕ). unwrap_or (option_or o (newest (delay_told old.me source) calls)) 100000) (silent.delays source));
+  delays = λ source. s.delays source ∙ sym (ap (λ (o : Option ℕ). unwrap_or (option_or o (newest (delay_given old.me source) calls)) 100000) (silent.delays source));
   heard = λ source. s.heard source ∙ sym (
-      ap (λ o. cond (list_any (nat_eq source) (remember o (senders_of old.me calls))) (option_or (told_by source o) (newest (λ c. told_by source (session_told old.me c)) calls)) None) silent.sessions);
+      ap (λ o. cond (list_any (nat_eq source) (remember o (senders_of old.me calls))) (option_or (heard_by source o) (newest (λ c. heard_by source (session_heard old.me c)) calls)) None) silent.sessions);
   senders = s.senders ∙ sym (ap (λ o. length (remember o (senders_of old.me calls))) silent.sessions);
   marks = λ page source. s.marks page source ∙ sym (ap (λ (n : ℕ). max n (high_heard old.me calls page source)) (silent.marks page source) ∙ max_none _);
   merged = λ page. s.merged page ∙ sym (ap (λ (ms : List MarkValue). joined ms (marks_heard old.me calls page)) (silent.merged page));
@@ -159,8 +159,8 @@ keeps_state old new now sender page marks merged word held e is merges = keeps_o
   me_is = refl;
   moment = refl;
   recovery = s.recovery;
-  delays = λ source. s.delays source ∙ sym (ap (λ (b : Bool). unwrap_or (option_or (cond b None None) (newest (delay_told old.me source) calls)) 100000) e);
-  heard = λ source. s.heard source ∙ sym (ap (λ (b : Bool). cond (list_any (nat_eq source) (remember (cond b None None) (senders_of old.me calls))) (option_or (told_by source (cond b None None)) (newest (λ c. told_by source (session_told old.me c)) calls)) None) e);
+  delays = λ source. s.delays source ∙ sym (ap (λ (b : Bool). unwrap_or (option_or (cond b None None) (newest (delay_given old.me source) calls)) 100000) e);
+  heard = λ source. s.heard source ∙ sym (ap (λ (b : Bool). cond (list_any (nat_eq source) (remember (cond b None None) (senders_of old.me calls))) (option_or (heard_by source (cond b None None)) (newest (λ c. heard_by source (session_heard old.me c)) calls)) None) e);
   senders = s.senders ∙ sym (ap (λ (b : Bool). length (remember (cond b None None) (senders_of old.me calls))) e);
   marks = λ p source. marks_of_put old.marks page marks merged merges p source ∙ ap (λ (n : ℕ). max (cond (same_page page p) (mark_of marks source) 0) n) (s.marks p source) ∙ sym (ap (λ (b : Bool). max (cond b 0 (cond (same_page page p) (mark_of marks source) 0)) (high_heard old.me calls p source)) e);
   merged = λ p. merged_put old.marks page marks merged merges p ∙ ap (λ (ms : List MarkValue). joined (cond (same_page page p) marks []) ms) (s.merged p) ∙ sym (ap (λ (b : Bool). joined (cond b [] (cond (same_page page p) marks [])) (marks_heard old.me calls p)) e);
@@ -178,28 +178,28 @@ eq_turned a b c e = turned a b ∙ e where
   turned : (a b : ℕ) → nat_eq b a ≡ nat_eq a b
   turned a b = grind (arith, nat_tests)
 
-abbrev told_last : ℕ → List KeeperCall → ℕ → Option Heard
-told_last me calls source = newest (λ call. told_by source (session_told me call)) calls
+abbrev heard_last : ℕ → List KeeperCall → ℕ → Option Heard
+heard_last me calls source = newest (λ call. heard_by source (session_heard me call)) calls
 
-told_before : (me : ℕ) (calls : List KeeperCall) (s : ℕ) → list_any (nat_eq s) (senders_of me calls) ≡ true → is_some (told_last me calls s) ≡ true
-told_before me [] s e = absurd (true≢false (sym e))
-told_before me (call ∷ calls) s e = from (told_before me calls s) (session_told me call) e where
-  from : (list_any (nat_eq s) (senders_of me calls) ≡ true → is_some (told_last me calls s) ≡ true) → (o : Option (ℕ × Heard)) → list_any (nat_eq s) (remember o (senders_of me calls)) ≡ true → is_some (option_or (told_by s o) (told_last me calls s)) ≡ true
+heard_before : (me : ℕ) (calls : List KeeperCall) (s : ℕ) → list_any (nat_eq s) (senders_of me calls) ≡ true → is_some (heard_last me calls s) ≡ true
+heard_before me [] s e = absurd (true≢false (sym e))
+heard_before me (call ∷ calls) s e = from (heard_before me calls s) (session_heard me call) e where
+  from : (list_any (nat_eq s) (senders_of me calls) ≡ true → is_some (heard_last me calls s) ≡ true) → (o : Option (ℕ × Heard)) → list_any (nat_eq s) (remember o (senders_of me calls)) ≡ true → is_some (option_or (heard_by s o) (heard_last me calls s)) ≡ true
   from rest None f = rest f
   from rest (Some told) f = by (nat_eq told.0 s) refl where
     none : nat_eq told.0 s ≡ false → (c : Bool) → list_any (nat_eq s) (cond c (senders_of me calls) (told.0 ∷ senders_of me calls)) ≡ true → list_any (nat_eq s) (senders_of me calls) ≡ true
     none g true h = h
     none g false h = sym (ap (λ (b : Bool). b || list_any (nat_eq s) (senders_of me calls)) (eq_turned told.0 s false g)) ∙ h
 
-    by : (b : Bool) → nat_eq told.0 s ≡ b → is_some (option_or (cond b (Some told.1) None) (told_last me calls s)) ≡ true
+    by : (b : Bool) → nat_eq told.0 s ≡ b → is_some (option_or (cond b (Some told.1) None) (heard_last me calls s)) ≡ true
     by true g = refl
     by false g = rest (none g (list_any (nat_eq told.0) (senders_of me calls) || nat_le 65535 (length (senders_of me calls))) f)
 
 module _ (me : ℕ) (calls : List KeeperCall) (old : List (ℕ × Heard)) (sender : ℕ) (h : Heard) (agrees : (s : ℕ) → heard_at old s ≡ last_heard me calls s) (count : length old ≡ length (senders_of me calls)) where
   known : (s : ℕ) → is_some (heard_at old s) ≡ list_any (nat_eq s) (senders_of me calls)
   known s = ap is_some (agrees s) ∙ from (list_any (nat_eq s) (senders_of me calls)) refl where
-    from : (b : Bool) → list_any (nat_eq s) (senders_of me calls) ≡ b → is_some (cond b (told_last me calls s) None) ≡ b
-    from true e = told_before me calls s e
+    from : (b : Bool) → list_any (nat_eq s) (senders_of me calls) ≡ b → is_some (cond b (heard_last me calls s) None) ≡ b
+    from true e = heard_before me calls s e
     from false e = refl
 
   pub count_put : count_with sender old ≡ length (remember (Some (sender, h)) (senders_of me calls))
@@ -216,17 +216,17 @@ module _ (me : ℕ) (calls : List KeeperCall) (old : List (ℕ × Heard)) (sende
     room : (n : ℕ) → nat_lt n 65535 ≡ not (nat_le 65535 n)
     room n = grind (arith, nat_tests)
 
-  pub heard_put : (s : ℕ) → heard_at (heard_with sender h old) s ≡ cond (list_any (nat_eq s) (remember (Some (sender, h)) (senders_of me calls))) (option_or (cond (nat_eq sender s) (Some h) None) (told_last me calls s)) None
+  pub heard_put : (s : ℕ) → heard_at (heard_with sender h old) s ≡ cond (list_any (nat_eq s) (remember (Some (sender, h)) (senders_of me calls))) (option_or (cond (nat_eq sender s) (Some h) None) (heard_last me calls s)) None
   heard_put s = ap (λ (b : Bool). heard_at (cond b (insert_entry nat_cmp old sender h) old) s) placed ∙ from (list_any (nat_eq sender) (senders_of me calls)) (nat_le 65535 (length (senders_of me calls))) (nat_eq sender s) refl refl where
     from : (seen full b : Bool) → list_any (nat_eq sender) (senders_of me calls) ≡ seen → nat_eq sender s ≡ b
-        → heard_at (cond (seen || not full) (insert_entry nat_cmp old sender h) old) s ≡ cond (list_any (nat_eq s) (cond (seen || full) (senders_of me calls) (sender ∷ senders_of me calls))) (option_or (cond b (Some h) None) (told_last me calls s)) None
+        → heard_at (cond (seen || not full) (insert_entry nat_cmp old sender h) old) s ≡ cond (list_any (nat_eq s) (cond (seen || full) (senders_of me calls) (sender ∷ senders_of me calls))) (option_or (cond b (Some h) None) (heard_last me calls s)) None
     from true full true e f = put_at s ∙ ap (λ (b : Bool). cond b (Some h) (heard_at old s)) f ∙ sym (ap (λ (b : Bool). cond b (Some h) None) (ap (λ (n : ℕ). list_any (nat_eq n) (senders_of me calls)) (sym (eqb-true sender s f)) ∙ e))
     from true full false e f = put_at s ∙ ap (λ (b : Bool). cond b (Some h) (heard_at old s)) f ∙ agrees s
     from false false true e f = put_at s ∙ ap (λ (b : Bool). cond b (Some h) (heard_at old s)) f ∙ sym (ap (λ (b : Bool). cond (b || list_any (nat_eq s) (senders_of me calls)) (Some h) None) (eq_turned sender s true f))
-    from false false false e f = put_at s ∙ ap (λ (b : Bool). cond b (Some h) (heard_at old s)) f ∙ agrees s ∙ sym (ap (λ (b : Bool). cond (b || list_any (nat_eq s) (senders_of me calls)) (told_last me calls s) None) (eq_turned sender s false f))
+    from false false false e f = put_at s ∙ ap (λ (b : Bool). cond b (Some h) (heard_at old s)) f ∙ agrees s ∙ sym (ap (λ (b : Bool). cond (b || list_any (nat_eq s) (senders_of me calls)) (heard_last me calls s) None) (eq_turned sender s false f))
     from false true true e f =
         let gone : list_any (nat_eq s) (senders_of me calls) ≡ false = ap (λ (n : ℕ). list_any (nat_eq n) (senders_of me calls)) (sym (eqb-true sender s f)) ∙ e in
-        agrees s ∙ ap (λ (b : Bool). cond b (told_last me calls s) None) gone ∙ sym (ap (λ (b : Bool). cond b (Some h) None) gone)
+        agrees s ∙ ap (λ (b : Bool). cond b (heard_last me calls s) None) gone ∙ sym (ap (λ (b : Bool). cond b (Some h) None) gone)
     from false true false e f = agrees s
 
 -- the delay that was told
@@ -250,11 +250,11 @@ keeps_session old new now sender sent page marks merged echoes delay word held e
   me_is = refl;
   moment = refl;
   recovery = s.recovery;
-  delays = λ source. delay_put old.delays sender delay (newest (delay_told old.me source) calls) source (s.delays source)
-      ∙ ap (λ (o : Option ℕ). unwrap_or (option_or (cond (nat_eq sender source) o None) (newest (delay_told old.me source) calls)) 100000) told
-      ∙ sym (ap (λ (b : Bool). unwrap_or (option_or (cond b None (cond (nat_eq sender source) (distance_by now (find (λ e. nat_eq e.source old.me) echoes)) None)) (newest (delay_told old.me source) calls)) 100000) e);
+  delays = λ source. delay_put old.delays sender delay (newest (delay_given old.me source) calls) source (s.delays source)
+      ∙ ap (λ (o : Option ℕ). unwrap_or (option_or (cond (nat_eq sender source) o None) (newest (delay_given old.me source) calls)) 100000) told
+      ∙ sym (ap (λ (b : Bool). unwrap_or (option_or (cond b None (cond (nat_eq sender source) (distance_by now (find (λ e. nat_eq e.source old.me) echoes)) None)) (newest (delay_given old.me source) calls)) 100000) e);
   heard = λ source. heard_put old.me calls old.heard sender (record { sent = sent; at = now }) s.heard s.senders source
-      ∙ sym (ap (λ (b : Bool). cond (list_any (nat_eq source) (remember (cond b None (Some (sender, record { sent = sent; at = now }))) (senders_of old.me calls))) (option_or (told_by source (cond b None (Some (sender, record { sent = sent; at = now })))) (told_last old.me calls source)) None) e);
+      ∙ sym (ap (λ (b : Bool). cond (list_any (nat_eq source) (remember (cond b None (Some (sender, record { sent = sent; at = now }))) (senders_of old.me calls))) (option_or (heard_by source (cond b None (Some (sender, record { sent = sent; at = now })))) (heard_last old.me calls source)) None) e);
   senders = sym (ap (λ (v : KeeperValue). length v.heard) is) ∙ counted ∙ count_put old.me calls old.heard sender (record { sent = sent; at = now }) s.heard s.senders
       ∙ sym (ap (λ (b : Bool). length (remember (cond b None (Some (sender, record { sent = sent; at = now }))) (senders_of old.me calls))) e);
   marks = λ p source. marks_of_put old.marks page marks merged merges p source ∙ ap (λ (n : ℕ). max (cond (same_page page p) (mark_of marks source) 0) n) (s.marks p source) ∙ sym (ap (λ (b : Bool). max (cond b 0 (cond (same_page page p) (mark_of marks source) 0)) (high_heard old.me calls p source)) e);

@@ -1,4 +1,4 @@
--- The numbers that others told, and what comes from oneself.
+-- The numbers that others reported, and what comes from oneself.
 use Rattle.std.proofs.Common.{◌≡◌, ℕ, ◌<◌, ◌≤◌, Bool, true, false, cond, List, [], ◌∷◌, Option, None, refl, ap, ◌∙◌, sym, subst, arith, ◌⊎◌, inl, inr, ⊎_elim}
 use Rattle.std.specs.Prelude.{max, Contains, nat_eq, unwrap_or}
 use Rattle.std.specs.List.{list_any}
@@ -9,13 +9,13 @@ use Rattle.wb_names.proofs.Listings.{Contains-here, Contains-there, Contains-cas
 use Rattle.wb_codec.specs.declared.datagram.Datagram.{Datagram}
 use Rattle.wb_codec.specs.declared.datagram.Datagram.TheVariants.{Draw, Session, Request, AskPages, PageState}
 use Rattle.wb_recovery.specs.Events.{Event, Asked}
-use Rattle.wb_host.specs.Keeper.{KeeperCall, SetDelay, Hear, Arrive, Miss, GoOn, Report, GiveUp, newest, moment_at, is_own, high_in, high_told, high_heard, delay_in, delay_to, delay_told, session_in, session_told, remember, senders_of, told_by, asked_by, events_of}
-use Rattle.wb_host.specs.KeeperLaws.{IsTold, MarksAreGreatest, OnlyMoves, OwnOnlyMoves, DrawopsOnlyMove}
+use Rattle.wb_host.specs.Keeper.{KeeperCall, SetDelay, Hear, Arrive, Miss, GoOn, Report, GiveUp, newest, moment_at, is_own, high_in, high_reported, high_heard, delay_in, delay_to, delay_given, session_in, session_heard, remember, senders_of, heard_by, asked_by, events_of}
+use Rattle.wb_host.specs.KeeperLaws.{IsReported, MarksAreGreatest, OnlyMoves, OwnOnlyMoves, DrawopsOnlyMove}
 use Rattle.wb_host.proofs.KeptCalls.{max_none}
 
 module _ (me : ℕ) (page : PageId) (source : ℕ) where
   -- what one call tells
-  told_here : (call : KeeperCall) (calls : List KeeperCall) → (high_told me page source call ≡ 0) ⊎ IsTold me (call ∷ calls) page source (high_told me page source call)
+  told_here : (call : KeeperCall) (calls : List KeeperCall) → (high_reported me page source call ≡ 0) ⊎ IsReported me (call ∷ calls) page source (high_reported me page source call)
   told_here (SetDelay s micros) calls = inl refl
   told_here (Arrive now held) calls = inl refl
   told_here (Miss now names words) calls = inl refl
@@ -23,18 +23,18 @@ module _ (me : ℕ) (page : PageId) (source : ℕ) where
   told_here (Report now) calls = inl refl
   told_here (GiveUp now name asked) calls = inl refl
   told_here (Hear now datagram word held) calls = from (is_own me datagram) refl where
-    from : (b : Bool) → is_own me datagram ≡ b → (cond b 0 (high_in page source datagram) ≡ 0) ⊎ IsTold me (Hear now datagram word held ∷ calls) page source (cond b 0 (high_in page source datagram))
+    from : (b : Bool) → is_own me datagram ≡ b → (cond b 0 (high_in page source datagram) ≡ 0) ⊎ IsReported me (Hear now datagram word held ∷ calls) page source (cond b 0 (high_in page source datagram))
     from true e = inl refl
     from false e = inr (now, word, datagram, held, Contains-here _ calls, e, refl)
 
-  told_more : (call : KeeperCall) (calls : List KeeperCall) (high : ℕ) → IsTold me calls page source high → IsTold me (call ∷ calls) page source high
+  told_more : (call : KeeperCall) (calls : List KeeperCall) (high : ℕ) → IsReported me calls page source high → IsReported me (call ∷ calls) page source high
   told_more call calls high (now, word, datagram, held, c, e, is) = (now, word, datagram, held, Contains-there call _ calls c, e, is)
 
   told_most : (calls : List KeeperCall) (now word : ℕ) (datagram : Datagram) (held : Bool) → Contains calls (Hear now datagram word held) → is_own me datagram ≡ false → high_in page source datagram ≤ high_heard me calls page source
   told_most [] now word datagram held c e = absurd (Contains-none _ c)
   told_most (call ∷ calls) now word datagram held c e = ⊎_elim
       (λ (is : call ≡ Hear now datagram word held).
-      let told : high_told me page source call ≡ high_in page source datagram = ap (high_told me page source) is ∙ ap (λ (b : Bool). cond b 0 (high_in page source datagram)) e in
+      let reported : high_reported me page source call ≡ high_in page source datagram = ap (high_reported me page source) is ∙ ap (λ (b : Bool). cond b 0 (high_in page source datagram)) e in
       omega arith)
       (λ (d : Contains calls (Hear now datagram word held)). let le = told_most calls now word datagram held d e in omega arith)
       (Contains-cases call _ calls c)
@@ -42,31 +42,31 @@ module _ (me : ℕ) (page : PageId) (source : ℕ) where
   max_either : (a b : ℕ) → (max a b ≡ a) ⊎ (max a b ≡ b)
   max_either a b = ⊎_elim (λ (lt : a < b). inr (omega arith)) (λ (le : b ≤ a). inl (omega arith)) (cases_lt a b)
 
-  told : (calls : List KeeperCall) → (high_heard me calls page source ≡ 0) ⊎ IsTold me calls page source (high_heard me calls page source)
-  told [] = inl refl
-  told (call ∷ calls) = ⊎_elim
-      (λ (e : max (high_told me page source call) (high_heard me calls page source) ≡ high_told me page source call). ⊎_elim
-      (λ (z : high_told me page source call ≡ 0). inl (e ∙ z))
-      (λ (t : IsTold me (call ∷ calls) page source (high_told me page source call)). inr (subst (IsTold me (call ∷ calls) page source) (sym e) t))
+  reported : (calls : List KeeperCall) → (high_heard me calls page source ≡ 0) ⊎ IsReported me calls page source (high_heard me calls page source)
+  reported [] = inl refl
+  reported (call ∷ calls) = ⊎_elim
+      (λ (e : max (high_reported me page source call) (high_heard me calls page source) ≡ high_reported me page source call). ⊎_elim
+      (λ (z : high_reported me page source call ≡ 0). inl (e ∙ z))
+      (λ (t : IsReported me (call ∷ calls) page source (high_reported me page source call)). inr (subst (IsReported me (call ∷ calls) page source) (sym e) t))
       (told_here call calls))
-      (λ (e : max (high_told me page source call) (high_heard me calls page source) ≡ high_heard me calls page source). ⊎_elim
+      (λ (e : max (high_reported me page source call) (high_heard me calls page source) ≡ high_heard me calls page source). ⊎_elim
       (λ (z : high_heard me calls page source ≡ 0). inl (e ∙ z))
-      (λ (t : IsTold me calls page source (high_heard me calls page source)). inr (subst (IsTold me (call ∷ calls) page source) (sym e) (told_more call calls _ t)))
-      (told calls))
-      (max_either (high_told me page source call) (high_heard me calls page source))
+      (λ (t : IsReported me calls page source (high_heard me calls page source)). inr (subst (IsReported me (call ∷ calls) page source) (sym e) (told_more call calls _ t)))
+      (reported calls))
+      (max_either (high_reported me page source call) (high_heard me calls page source))
 
 pub marks_are_greatest : MarksAreGreatest
 marks_are_greatest me calls page source = record {
-  told = told me page source calls;
+  reported = reported me page source calls;
   greatest = λ other h. subst (λ (n : ℕ). n ≤ high_heard me calls page source) h.6 (told_most me page source calls h.0 h.1 h.2 h.3 h.4 h.5);
 }
 
 -- ---- a call that tells this member nothing
 module _ (me now : ℕ) (call : KeeperCall) (calls : List KeeperCall)
     (moment : moment_at (call ∷ calls) ≡ now)
-    (marks : (page : PageId) (source : ℕ) → high_told me page source call ≡ 0)
-    (delays : (source : ℕ) → delay_told me source call ≡ None)
-    (session : session_told me call ≡ None)
+    (marks : (page : PageId) (source : ℕ) → high_reported me page source call ≡ 0)
+    (delays : (source : ℕ) → delay_given me source call ≡ None)
+    (session : session_heard me call ≡ None)
     (events : events_of me (call ∷ calls) ≡ events_of me calls) where
   same_senders : senders_of me (call ∷ calls) ≡ senders_of me calls
   same_senders = ap (λ o. remember o (senders_of me calls)) session
@@ -75,10 +75,10 @@ module _ (me now : ℕ) (call : KeeperCall) (calls : List KeeperCall)
   only_moves = record {
     moment = moment;
     marks = λ page source. ap (λ (n : ℕ). max n (high_heard me calls page source)) (marks page source) ∙ max_none _;
-    delays = λ source. ap (λ (o : Option ℕ). unwrap_or (option_or o (newest (delay_told me source) calls)) 100000) (delays source);
+    delays = λ source. ap (λ (o : Option ℕ). unwrap_or (option_or o (newest (delay_given me source) calls)) 100000) (delays source);
     senders = same_senders;
-    heard = λ source. ap (λ (senders : List ℕ). cond (list_any (nat_eq source) senders) (option_or (told_by source (session_told me call)) (newest (λ c. told_by source (session_told me c)) calls)) None) same_senders
-        ∙ ap (λ o. cond (list_any (nat_eq source) (senders_of me calls)) (option_or (told_by source o) (newest (λ c. told_by source (session_told me c)) calls)) None) session;
+    heard = λ source. ap (λ (senders : List ℕ). cond (list_any (nat_eq source) senders) (option_or (heard_by source (session_heard me call)) (newest (λ c. heard_by source (session_heard me c)) calls)) None) same_senders
+        ∙ ap (λ o. cond (list_any (nat_eq source) (senders_of me calls)) (option_or (heard_by source o) (newest (λ c. heard_by source (session_heard me c)) calls)) None) session;
     events = events;
   }
 

@@ -22,8 +22,8 @@ use Rattle.wb_recovery.specs.Stopping.{receipts}
 use Rattle.wb_recovery.specs.declared.tuning.Tuning.{Tuning}
 use Rattle.wb_recovery.specs.declared.received.Received.{Received}
 use Rattle.wb_recovery.specs.declared.missed.Missed.{Missed}
-use Rattle.wb_host.specs.Keeper.{KeeperCall, SetDelay, newest, moment_at, high_told, high_heard, delay_told, delay_to, session_told, senders_of, remember, told_by, last_heard, received_of, missed_of, events_of, holds}
-use Rattle.wb_host.specs.Hearing.{marks_told, marks_heard}
+use Rattle.wb_host.specs.Keeper.{KeeperCall, SetDelay, newest, moment_at, high_reported, high_heard, delay_given, delay_to, session_heard, senders_of, remember, heard_by, last_heard, received_of, missed_of, events_of, holds}
+use Rattle.wb_host.specs.Hearing.{marks_reported, marks_heard}
 use Rattle.wb_host.specs.Keeping.{KeeperValue, StandsFor, Keeps, delay_at}
 
 -- ---- calls that tell nothing of others
@@ -32,22 +32,22 @@ pub max_none : (n : ℕ) → max 0 n ≡ n
 max_none n = omega arith
 
 pub record IsInward (call : KeeperCall) : Type 0 where
-  pub delays : (me source : ℕ) → delay_told me source call ≡ None
-  pub sessions : (me : ℕ) → session_told me call ≡ None
-  pub marks : (me : ℕ) (page : PageId) (source : ℕ) → high_told me page source call ≡ 0
-  pub merged : (me : ℕ) (page : PageId) → marks_told me page call ≡ []
+  pub delays : (me source : ℕ) → delay_given me source call ≡ None
+  pub sessions : (me : ℕ) → session_heard me call ≡ None
+  pub marks : (me : ℕ) (page : PageId) (source : ℕ) → high_reported me page source call ≡ 0
+  pub merged : (me : ℕ) (page : PageId) → marks_reported me page call ≡ []
 
 module _ (call : KeeperCall) (is : IsInward call) (me : ℕ) (calls : List KeeperCall) where
   pub same_delay : (source : ℕ) → delay_to me (call ∷ calls) source ≡ delay_to me calls source
-  same_delay source = ap (λ (o : Option ℕ). unwrap_or (option_or o (newest (delay_told me source) calls)) 100000) (is.delays me source)
+  same_delay source = ap (λ (o : Option ℕ). unwrap_or (option_or o (newest (delay_given me source) calls)) 100000) (is.delays me source)
 
   pub same_senders : senders_of me (call ∷ calls) ≡ senders_of me calls
   same_senders = ap (λ o. remember o (senders_of me calls)) (is.sessions me)
 
   pub same_heard : (source : ℕ) → last_heard me (call ∷ calls) source ≡ last_heard me calls source
   same_heard source =
-      ap (λ (senders : List ℕ). cond (list_any (nat_eq source) senders) (option_or (told_by source (session_told me call)) (newest (λ c. told_by source (session_told me c)) calls)) None) same_senders
-      ∙ ap (λ o. cond (list_any (nat_eq source) (senders_of me calls)) (option_or (told_by source o) (newest (λ c. told_by source (session_told me c)) calls)) None) (is.sessions me)
+      ap (λ (senders : List ℕ). cond (list_any (nat_eq source) senders) (option_or (heard_by source (session_heard me call)) (newest (λ c. heard_by source (session_heard me c)) calls)) None) same_senders
+      ∙ ap (λ o. cond (list_any (nat_eq source) (senders_of me calls)) (option_or (heard_by source o) (newest (λ c. heard_by source (session_heard me c)) calls)) None) (is.sessions me)
 
   pub same_marks : (page : PageId) (source : ℕ) → high_heard me (call ∷ calls) page source ≡ high_heard me calls page source
   same_marks page source = ap (λ (n : ℕ). max n (high_heard me calls page source)) (is.marks me page source) ∙ max_none _
@@ -81,7 +81,7 @@ keeps_delay source micros old new delays is r me t calls s = subst (StandsFor me
   marks = λ page q. s.marks page q ∙ sym (max_none _);
   merged = s.merged;
 }) where
-  from : (q : ℕ) (b : Bool) → unwrap_or (cond b (Some micros) (lookup (is_at (nat_cmp q)) old.delays)) 100000 ≡ unwrap_or (option_or (cond b (Some micros) None) (newest (delay_told me q) calls)) 100000
+  from : (q : ℕ) (b : Bool) → unwrap_or (cond b (Some micros) (lookup (is_at (nat_cmp q)) old.delays)) 100000 ≡ unwrap_or (option_or (cond b (Some micros) None) (newest (delay_given me q) calls)) 100000
   from q true = refl
   from q false = s.delays q
 

@@ -23,10 +23,10 @@ use Rattle.wb_gaps.specs.Joining.{joined, joined_at}
 use Rattle.wb_gaps.specs.Pages.{ArePages}
 use Rattle.wb_gaps.proofs.HeldNumbers.{same_page-here}
 use Rattle.wb_gaps.proofs.Sorting.{lists_sorted}
-use Rattle.wb_host.specs.Hearing.{marks_in, marks_told, marks_heard}
+use Rattle.wb_host.specs.Hearing.{marks_in, marks_reported, marks_heard}
 use Rattle.wb_host.specs.Keeper.{KeeperCall, SetDelay, Hear, Arrive, Miss, GoOn, Report, GiveUp, is_own}
 use Rattle.wb_host.specs.Keeping.{marks_at}
-use Rattle.wb_host.specs.Known.{AreKnownPages, page_where, page_in, page_told, pages_heard, known_pages, KnownPagesAreKnown}
+use Rattle.wb_host.specs.Known.{AreKnownPages, page_where, page_in, page_named, pages_heard, known_pages, KnownPagesAreKnown}
 
 abbrev page_of : DrawopValue → PageId
 page_of d = d.name.page
@@ -38,37 +38,37 @@ abbrev IsHeard : List MarkValue → Type 0
 IsHeard marks = marks ≢ []
 
 -- what one datagram tells of a page
-told_in : (p q : PageId) (marks : List MarkValue) → (page_where p marks ≡ Some q) ↔ IsHeard (cond (same_page p q) marks [])
-told_in p q [] = from (same_page p q) where
+named_in : (p q : PageId) (marks : List MarkValue) → (page_where p marks ≡ Some q) ↔ IsHeard (cond (same_page p q) marks [])
+named_in p q [] = from (same_page p q) where
   from : (b : Bool) → (None ≡ Some q) ↔ IsHeard (cond b [] [])
   from true = (λ c. absurd cc, λ h. absurd (h refl))
   from false = (λ c. absurd cc, λ h. absurd (h refl))
-told_in p q (m ∷ marks) = from (same_page p q) refl where
+named_in p q (m ∷ marks) = from (same_page p q) refl where
   from : (b : Bool) → same_page p q ≡ b → (Some p ≡ Some q) ↔ IsHeard (cond b (m ∷ marks) [])
   from true e = (λ c. λ h. absurd cc, λ h. ap (λ (r : PageId). Some r) (same_page-is p q e))
   from false e = (λ c. let is : p ≡ q = cc in absurd (true≢false (sym (same_page-here p q is) ∙ e)), λ h. absurd (h refl))
 
-none_told : (q : PageId) → (None ≡ Some q) ↔ IsHeard []
-none_told q = (λ c. absurd cc, λ h. absurd (h refl))
+none_named : (q : PageId) → (None ≡ Some q) ↔ IsHeard []
+none_named q = (λ c. absurd cc, λ h. absurd (h refl))
 
 in_datagram : (q : PageId) (v : Datagram) → (page_in v ≡ Some q) ↔ IsHeard (marks_in q v)
-in_datagram q (Session sender sent p marks echoes) = told_in p q marks
-in_datagram q (PageState sender p marks) = told_in p q marks
-in_datagram q (Draw d) = none_told q
-in_datagram q (Request asker name) = none_told q
-in_datagram q (AskPages asker) = none_told q
+in_datagram q (Session sender sent p marks echoes) = named_in p q marks
+in_datagram q (PageState sender p marks) = named_in p q marks
+in_datagram q (Draw d) = none_named q
+in_datagram q (Request asker name) = none_named q
+in_datagram q (AskPages asker) = none_named q
 
-in_call : (me : ℕ) (q : PageId) (call : KeeperCall) → (page_told me call ≡ Some q) ↔ IsHeard (marks_told me q call)
+in_call : (me : ℕ) (q : PageId) (call : KeeperCall) → (page_named me call ≡ Some q) ↔ IsHeard (marks_reported me q call)
 in_call me q (Hear now v word held) = from (is_own me v) where
   from : (b : Bool) → (cond b None (page_in v) ≡ Some q) ↔ IsHeard (cond b [] (marks_in q v))
-  from true = none_told q
+  from true = none_named q
   from false = in_datagram q v
-in_call me q (SetDelay source micros) = none_told q
-in_call me q (Arrive now held) = none_told q
-in_call me q (Miss now names words) = none_told q
-in_call me q (GoOn now words stopped) = none_told q
-in_call me q (Report now) = none_told q
-in_call me q (GiveUp now name asked) = none_told q
+in_call me q (SetDelay source micros) = none_named q
+in_call me q (Arrive now held) = none_named q
+in_call me q (Miss now names words) = none_named q
+in_call me q (GoOn now words stopped) = none_named q
+in_call me q (Report now) = none_named q
+in_call me q (GiveUp now name asked) = none_named q
 
 joined_some : (a b : List MarkValue) → IsHeard (joined a b) ↔ (IsHeard a ⊎ IsHeard b)
 joined_some [] b = (λ h. inr h, λ o. ⊎_elim (λ (h : IsHeard []). absurd (h refl)) (λ (h : IsHeard b). h) o)
@@ -94,10 +94,10 @@ by_calls me [] q = (λ c. absurd (Contains-none q c), λ h. absurd (h refl))
 by_calls me (call ∷ calls) q =
     let one = in_call me q call in
     let rest = by_calls me calls q in
-    let more = with_page (page_told me call) (pages_heard me calls) q in
-    let both = joined_some (marks_told me q call) (marks_heard me calls q) in (
-      λ c. both.1 (⊎_elim (λ (h : page_told me call ≡ Some q). inl (one.0 h)) (λ (h : Contains (pages_heard me calls) q). inr (rest.0 h)) (more.0 c)),
-      λ h. more.1 (⊎_elim (λ (g : IsHeard (marks_told me q call)). inl (one.1 g)) (λ (g : IsHeard (marks_heard me calls q)). inr (rest.1 g)) (both.0 h)),
+    let more = with_page (page_named me call) (pages_heard me calls) q in
+    let both = joined_some (marks_reported me q call) (marks_heard me calls q) in (
+      λ c. both.1 (⊎_elim (λ (h : page_named me call ≡ Some q). inl (one.0 h)) (λ (h : Contains (pages_heard me calls) q). inr (rest.0 h)) (more.0 c)),
+      λ h. more.1 (⊎_elim (λ (g : IsHeard (marks_reported me q call)). inl (one.1 g)) (λ (g : IsHeard (marks_heard me calls q)). inr (rest.1 g)) (both.0 h)),
     )
 
 -- ---- the known pages

@@ -33,18 +33,18 @@ module _ (me : ℕ) (page : PageId) where
     rises : Rises (marks_heard me calls page)
     highs : (source : ℕ) → mark_of (marks_heard me calls page) source ≡ high_heard me calls page source
 
-  told : (calls : List KeeperCall) (datagram : Datagram) → AreMarks (marks_in page datagram) → AreGreatest calls → (b : Bool) →
+  reported : (calls : List KeeperCall) (datagram : Datagram) → AreMarks (marks_in page datagram) → AreGreatest calls → (b : Bool) →
       let old = marks_heard me calls page in
       let marks : List MarkValue = cond b [] (marks_in page datagram) in
       Rises (joined marks old) × ((source : ℕ) → mark_of (joined marks old) source ≡ max (cond b 0 (high_in page source datagram)) (high_heard me calls page source))
-  told calls datagram are rest true = (rest.rises, λ source. rest.highs source ∙ omega arith)
-  told calls datagram are rest false =
+  reported calls datagram are rest true = (rest.rises, λ source. rest.highs source ∙ omega arith)
+  reported calls datagram are rest false =
       let old = marks_heard me calls page in
       let j = joins (marks_in page datagram) are.ascending are.positive old rest.rises in
       (j.rises, λ source. j.highs source ∙ ap (λ (n : ℕ). max n (mark_of old source)) (high_is page source datagram) ∙ ap (max (high_in page source datagram)) (rest.highs source))
 
   step : (call : KeeperCall) (calls : List KeeperCall) → AreOrderly (call ∷ calls) page → AreGreatest calls → AreGreatest (call ∷ calls)
-  step (Hear now datagram word held) calls all rest = let t = told calls datagram (all now word datagram held (Contains-here _ calls)) rest (is_own me datagram) in record { rises = t.0; highs = t.1 }
+  step (Hear now datagram word held) calls all rest = let t = reported calls datagram (all now word datagram held (Contains-here _ calls)) rest (is_own me datagram) in record { rises = t.0; highs = t.1 }
   step call calls all rest = record { rises = rest.rises; highs = λ source. rest.highs source ∙ omega arith }
 
   are_greatest : (calls : List KeeperCall) → AreOrderly calls page → AreGreatest calls

@@ -15,7 +15,7 @@ use Rattle.wb_codec.specs.declared.datagram.Datagram.{Datagram}
 use Rattle.wb_gaps.specs.Answers.{report_of}
 use Rattle.wb_gaps.proofs.PageAnswers.{report_of_page}
 use Rattle.wb_gaps.proofs.Sorting.{lists_sorted}
-use Rattle.wb_host.specs.Keeper.{KeeperCall, newest, session_told, told_by, senders_of, last_heard}
+use Rattle.wb_host.specs.Keeper.{KeeperCall, newest, session_heard, heard_by, senders_of, last_heard}
 use Rattle.wb_host.specs.Sessions.{echo_cmp, IsEchoTo, IsSession, echo_to, echoes_of, message_of, MessageIsSession}
 use Rattle.wb_host.specs.declared.keeper.Heard.{Heard}
 use Rattle.wb_host.proofs.KeeperAnswers.{few_seen}
@@ -45,7 +45,7 @@ module _ (me : ℕ) (calls : List KeeperCall) (now : ℕ) where
 
   is_sender : (source : ℕ) (h : Heard) → last_heard me calls source ≡ Some h → Contains (senders_of me calls) source
   is_sender source h e = at (list_any (nat_eq source) (senders_of me calls)) refl e where
-    at : (b : Bool) → list_any (nat_eq source) (senders_of me calls) ≡ b → cond b (newest (λ call. told_by source (session_told me call)) calls) None ≡ Some h → Contains (senders_of me calls) source
+    at : (b : Bool) → list_any (nat_eq source) (senders_of me calls) ≡ b → cond b (newest (λ call. heard_by source (session_heard me call)) calls) None ≡ Some h → Contains (senders_of me calls) source
     at true any f = Contains-from_any (λ a c e. eqb-true a c e) source (senders_of me calls) any
     at false any f = absurd cc
 

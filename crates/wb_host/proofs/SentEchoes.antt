@@ -52,8 +52,8 @@ nat_is : (a b : ℕ) → eq_by_cmp nat_cmp a b ≡ true → a ≡ b
 nat_is a b e = eqb-true a b (nat_ties a b ∙ e)
 
 -- an echo to each sender that is remembered, and no other
-pub echoes_told : (me now : ℕ) (calls : List KeeperCall) (heard : List (ℕ × Heard)) → IsStrictlySortedBy nat_cmp (keys_of heard) → ((source : ℕ) → heard_at heard source ≡ last_heard me calls source) → Lists echo_cmp (IsEchoTo me calls now) (echoes_at now heard)
-echoes_told me now calls heard rises same = record {
+pub echoes_heard : (me now : ℕ) (calls : List KeeperCall) (heard : List (ℕ × Heard)) → IsStrictlySortedBy nat_cmp (keys_of heard) → ((source : ℕ) → heard_at heard source ≡ last_heard me calls source) → Lists echo_cmp (IsEchoTo me calls now) (echoes_at now heard)
+echoes_heard me now calls heard rises same = record {
   rising = rising now heard rises;
   members = λ e. (found e, there e);
 } where

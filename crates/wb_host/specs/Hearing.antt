@@ -26,14 +26,14 @@ marks_in page (Draw d) = []
 marks_in page (Request asker name) = []
 marks_in page (AskPages asker) = []
 
-abbrev pub marks_told : ℕ → PageId → KeeperCall → List MarkValue
-marks_told me page (Hear now datagram word held) = if is_own me datagram then [] else marks_in page datagram
-marks_told me page call = []
+abbrev pub marks_reported : ℕ → PageId → KeeperCall → List MarkValue
+marks_reported me page (Hear now datagram word held) = if is_own me datagram then [] else marks_in page datagram
+marks_reported me page call = []
 
 -- the marks of a page that were heard from others, merged: of each source the greatest number
 abbrev pub marks_heard : ℕ → List KeeperCall → PageId → List MarkValue
 marks_heard me [] page = []
-marks_heard me (call ∷ calls) page = joined (marks_told me page call) (marks_heard me calls page)
+marks_heard me (call ∷ calls) page = joined (marks_reported me page call) (marks_heard me calls page)
 
 -- ---- why a datagram is refused
 

@@ -79,13 +79,13 @@ high_in page source (Draw d) = 0
 high_in page source (Request asker name) = 0
 high_in page source (AskPages asker) = 0
 
-abbrev pub high_told : ℕ → PageId → ℕ → KeeperCall → ℕ
-high_told me page source (Hear now datagram word held) = if is_own me datagram then 0 else high_in page source datagram
-high_told me page source call = 0
+abbrev pub high_reported : ℕ → PageId → ℕ → KeeperCall → ℕ
+high_reported me page source (Hear now datagram word held) = if is_own me datagram then 0 else high_in page source datagram
+high_reported me page source call = 0
 
 -- the greatest number of a source on a page that was heard from others, or 0
 abbrev pub high_heard : ℕ → List KeeperCall → PageId → ℕ → ℕ
-high_heard me calls page source = greatest (high_told me page source) calls
+high_heard me calls page source = greatest (high_reported me page source) calls
 
 -- ---- delays
 
@@ -102,14 +102,14 @@ delay_in me now source (Request asker name) = None
 delay_in me now source (AskPages asker) = None
 delay_in me now source (PageState sender page marks) = None
 
-abbrev pub delay_told : ℕ → ℕ → KeeperCall → Option ℕ
-delay_told me source (SetDelay s micros) = if nat_eq s source then Some micros else None
-delay_told me source (Hear now datagram word held) = if is_own me datagram then None else delay_in me now source datagram
-delay_told me source call = None
+abbrev pub delay_given : ℕ → ℕ → KeeperCall → Option ℕ
+delay_given me source (SetDelay s micros) = if nat_eq s source then Some micros else None
+delay_given me source (Hear now datagram word held) = if is_own me datagram then None else delay_in me now source datagram
+delay_given me source call = None
 
 -- the delay to a source that was last set or told, else a tenth of a second
 abbrev pub delay_to : ℕ → List KeeperCall → ℕ → ℕ
-delay_to me calls source = unwrap_or (newest (delay_told me source) calls) 100000
+delay_to me calls source = unwrap_or (newest (delay_given me source) calls) 100000
 
 -- ---- the senders of session messages
 
@@ -121,9 +121,9 @@ session_in now (Request asker name) = None
 session_in now (AskPages asker) = None
 session_in now (PageState sender page marks) = None
 
-abbrev pub session_told : ℕ → KeeperCall → Option (ℕ × Heard)
-session_told me (Hear now datagram word held) = if is_own me datagram then None else session_in now datagram
-session_told me call = None
+abbrev pub session_heard : ℕ → KeeperCall → Option (ℕ × Heard)
+session_heard me (Hear now datagram word held) = if is_own me datagram then None else session_in now datagram
+session_heard me call = None
 
 -- the senders that are remembered: of those that were heard, the first 65,535
 abbrev pub remember : Option (ℕ × Heard) → List ℕ → List ℕ
@@ -132,15 +132,15 @@ remember (Some told) senders = if list_any (nat_eq told.0) senders || nat_le 655
 
 abbrev pub senders_of : ℕ → List KeeperCall → List ℕ
 senders_of me [] = []
-senders_of me (call ∷ calls) = remember (session_told me call) (senders_of me calls)
+senders_of me (call ∷ calls) = remember (session_heard me call) (senders_of me calls)
 
-abbrev pub told_by : ℕ → Option (ℕ × Heard) → Option Heard
-told_by source None = None
-told_by source (Some told) = if nat_eq told.0 source then Some told.1 else None
+abbrev pub heard_by : ℕ → Option (ℕ × Heard) → Option Heard
+heard_by source None = None
+heard_by source (Some told) = if nat_eq told.0 source then Some told.1 else None
 
 -- of a sender that is remembered, what its last session message told
 abbrev pub last_heard : ℕ → List KeeperCall → ℕ → Option Heard
-last_heard me calls source = if list_any (nat_eq source) (senders_of me calls) then newest (λ call. told_by source (session_told me call)) calls else None
+last_heard me calls source = if list_any (nat_eq source) (senders_of me calls) then newest (λ call. heard_by source (session_heard me call)) calls else None
 
 -- ---- the timers
 

@@ -13,7 +13,7 @@ use Rattle.wb_recovery.specs.Timing.{is_ask_due, is_answer_due}
 use Rattle.wb_recovery.specs.Events.{timers_of, actions_of}
 use Rattle.wb_recovery.specs.Stopping.{receipts}
 use Rattle.wb_recovery.specs.declared.tuning.Tuning.{Tuning}
-use Rattle.wb_host.specs.Keeper.{KeeperCall, Hear, Arrive, moment_at, is_own, high_in, high_heard, delay_to, session_told, senders_of, told_by, last_heard, received_of, events_of, holds}
+use Rattle.wb_host.specs.Keeper.{KeeperCall, Hear, Arrive, moment_at, is_own, high_in, high_heard, delay_to, session_heard, senders_of, heard_by, last_heard, received_of, events_of, holds}
 use Rattle.wb_host.specs.Hearing.{marks_in, marks_heard}
 use Rattle.wb_host.specs.Keeping.{KeeperValue, StandsFor}
 use Rattle.wb_host.specs.Ticks.{sends_for, stopped_in, stopped_after}
@@ -28,16 +28,16 @@ StoppedByCalls = (me : ℕ) (constants : Tuning) (calls : List KeeperCall) (valu
 -- ---- marks
 
 -- a datagram of another member that was heard has this number as its mark of the source on the page
-abbrev pub IsTold : ℕ → List KeeperCall → PageId → ℕ → ℕ → Type 0
-IsTold me calls page source high = (now word : ℕ) × (datagram : Datagram) × (held : Bool) × Contains calls (Hear now datagram word held) × (is_own me datagram ≡ false) × (high_in page source datagram ≡ high)
+abbrev pub IsReported : ℕ → List KeeperCall → PageId → ℕ → ℕ → Type 0
+IsReported me calls page source high = (now word : ℕ) × (datagram : Datagram) × (held : Bool) × Contains calls (Hear now datagram word held) × (is_own me datagram ≡ false) × (high_in page source datagram ≡ high)
 
 -- it is the greatest of those numbers, or 0 where there is none
-pub record IsGreatestTold (me : ℕ) (calls : List KeeperCall) (page : PageId) (source high : ℕ) : Type 0 where
-  pub told : (high ≡ 0) ⊎ IsTold me calls page source high
-  pub greatest : (other : ℕ) → IsTold me calls page source other → other ≤ high
+pub record IsGreatestReported (me : ℕ) (calls : List KeeperCall) (page : PageId) (source high : ℕ) : Type 0 where
+  pub reported : (high ≡ 0) ⊎ IsReported me calls page source high
+  pub greatest : (other : ℕ) → IsReported me calls page source other → other ≤ high
 
 abbrev pub MarksAreGreatest : Type 0
-MarksAreGreatest = (me : ℕ) (calls : List KeeperCall) (page : PageId) (source : ℕ) → IsGreatestTold me calls page source (high_heard me calls page source)
+MarksAreGreatest = (me : ℕ) (calls : List KeeperCall) (page : PageId) (source : ℕ) → IsGreatestReported me calls page source (high_heard me calls page source)
 
 -- each datagram that was heard tells marks of the page in order, or none
 abbrev pub AreOrderly : List KeeperCall → PageId → Type 0
@@ -49,7 +49,7 @@ MergedAreGreatest = (me : ℕ) (calls : List KeeperCall) (page : PageId) → Are
 
 -- ---- what is heard of oneself
 
--- the calls tell what they told without the last, but for the moment
+-- the calls tell what they reported without the last, but for the moment
 pub record OnlyMoves (me now : ℕ) (call : KeeperCall) (calls : List KeeperCall) : Type 0 where
   pub moment : moment_at (call ∷ calls) ≡ now
   pub marks : (page : PageId) (source : ℕ) → high_heard me (call ∷ calls) page source ≡ high_heard me calls page source
@@ -70,7 +70,7 @@ DrawopsOnlyMove = (me now : ℕ) (d : DrawopValue) (word : ℕ) (held : Bool) (c
 
 -- who sent the session messages that were heard of others, the newest first
 abbrev pub all_senders : ℕ → List KeeperCall → List ℕ
-all_senders me calls = filter_map (λ call. option_map (λ told. told.0) (session_told me call)) calls
+all_senders me calls = filter_map (λ call. option_map (λ reported. reported.0) (session_heard me call)) calls
 
 -- of a list whose first is the newest: each once, in the order in which they first came
 abbrev pub by_first : List ℕ → List ℕ
@@ -81,14 +81,14 @@ by_first (s ∷ older) = if list_any (nat_eq s) (by_first older) then by_first o
 abbrev pub first_senders : ℕ → List KeeperCall → List ℕ
 first_senders me calls = take 65535 (by_first (all_senders me calls))
 
--- the last session message of a source told this
+-- the last session message of a source reported this
 pub record IsLatest (me : ℕ) (calls : List KeeperCall) (source : ℕ) (h : Heard) : Type 0 where
   pub newer : List KeeperCall
   pub call : KeeperCall
   pub older : List KeeperCall
   pub split : calls ≡ newer ++ call ∷ older
-  pub told : session_told me call ≡ Some (source, h)
-  pub last : (c : KeeperCall) → Contains newer c → told_by source (session_told me c) ≡ None
+  pub reported : session_heard me call ≡ Some (source, h)
+  pub last : (c : KeeperCall) → Contains newer c → heard_by source (session_heard me c) ≡ None
 
 abbrev pub FirstSendersAreEchoed : Type 0
 FirstSendersAreEchoed = (me : ℕ) (calls : List KeeperCall) (source : ℕ) (h : Heard) → last_heard me calls source ≡ Some h ↔ (Contains (first_senders me calls) source × IsLatest me calls source h)

@@ -33,13 +33,13 @@ page_in (Draw d) = None
 page_in (Request asker name) = None
 page_in (AskPages asker) = None
 
-abbrev pub page_told : ℕ → KeeperCall → Option PageId
-page_told me (Hear now datagram word held) = if is_own me datagram then None else page_in datagram
-page_told me call = None
+abbrev pub page_named : ℕ → KeeperCall → Option PageId
+page_named me (Hear now datagram word held) = if is_own me datagram then None else page_in datagram
+page_named me call = None
 
 -- the pages of which others told some mark
 abbrev pub pages_heard : ℕ → List KeeperCall → List PageId
-pages_heard me calls = filter_map (page_told me) calls
+pages_heard me calls = filter_map (page_named me) calls
 
 abbrev pub known_pages : ℕ → List KeeperCall → List DrawopValue → List PageId
 known_pages me calls history = sorted page_cmp (map (λ d. d.name.page) history ++ pages_heard me calls)

@@ -1,11 +1,11 @@
--- One run of a whiteboard, made of what many callers were told.
+-- One run of a whiteboard, made of what many callers were answered.
 use Rattle.std.specs.Prelude.{◌≡◌, ℕ, ◌+◌, ◌*◌, ◌<◌, ◌≤◌, Bool, true, false, ◌&&◌, if◌then◌else◌, nat_eq, nat_le, List, [], ◌∷◌, length, take, map, filter, All, AllPairs, slice_get, Some}
 use Rattle.wb_names.specs.Values.{DrawopValue}
 use Rattle.wb_host.specs.declared.reply.Reply.TheVariants.{New}
 use Rattle.wb_host.specs.Board.{Call, Accept, Answer, Replied, Step, IsAnswer, after_call, IsLegalFrom}
 
 -- a call with its answer, and the point at which it was answered: how many members the history had there
-pub record Told : Type 0 where
+pub record Answered : Type 0 where
   pub step : Step
   pub point : ℕ
 
@@ -19,43 +19,43 @@ abbrev pub IsMember : List DrawopValue → Call → Answer → Type 0
 IsMember history (Accept d) (Replied (New i)) = slice_get history i ≡ Some d
 IsMember history call answer = Unit {0}
 
--- t was told to a caller before u: the points of a caller never fall, and after a new drawop they have risen
-abbrev pub Precedes : Told → Told → Type 0
+-- t was answered to a caller before u: the points of a caller never fall, and after a new drawop they have risen
+abbrev pub Precedes : Answered → Answered → Type 0
 Precedes t u = (t.point ≤ u.point) × (is_new t.step.answer ≡ true → t.point < u.point)
 
--- one call, told at a point from k on
-pub record IsToldSince (history : List DrawopValue) (k : ℕ) (t : Told) : Type 0 where
+-- one call, answered at a point from k on
+pub record IsAnsweredSince (history : List DrawopValue) (k : ℕ) (t : Answered) : Type 0 where
   pub since : k ≤ t.point
   pub within : t.point ≤ length history
   pub answer : IsAnswer (take t.point history) t.step.call t.step.answer
   pub member : IsMember history t.step.call t.step.answer
 
 -- the member i was new to this caller
-abbrev pub is_new_at : ℕ → Told → Bool
+abbrev pub is_new_at : ℕ → Answered → Bool
 is_new_at i t = is_new t.step.answer && nat_eq t.point i
 
--- What all callers were told since the history had k members, the calls of each caller in their order, as where one caller's
+-- What all callers were answered since the history had k members, the calls of each caller in their order, as where one caller's
 -- calls stand after another's. Each member from k on was new to exactly one of them.
-pub record AreToldSince (history : List DrawopValue) (k : ℕ) (told : List Told) : Type 0 where
-  pub each : All (IsToldSince history k) told
-  pub once : (i : ℕ) → k ≤ i → i < length history → length (filter (is_new_at i) told) ≡ 1
-  pub ordered : AllPairs (λ t u. t.step.caller ≡ u.step.caller → Precedes t u) told
+pub record AreAnsweredSince (history : List DrawopValue) (k : ℕ) (answered : List Answered) : Type 0 where
+  pub each : All (IsAnsweredSince history k) answered
+  pub once : (i : ℕ) → k ≤ i → i < length history → length (filter (is_new_at i) answered) ≡ 1
+  pub ordered : AllPairs (λ t u. t.step.caller ≡ u.step.caller → Precedes t u) answered
 
 -- at each point first what was answered there, and then the new drawop
-abbrev pub rank : Told → ℕ
+abbrev pub rank : Answered → ℕ
 rank t = 2 * t.point + (if is_new t.step.answer then 1 else 0)
 
-abbrev pub placed : Told → List Told → List Told
+abbrev pub placed : Answered → List Answered → List Answered
 placed t [] = t ∷ []
 placed t (u ∷ us) = if nat_le (rank t) (rank u) then t ∷ u ∷ us else u ∷ placed t us
 
 -- by rank; what has one rank stays in its order
-abbrev pub in_order : List Told → List Told
+abbrev pub in_order : List Answered → List Answered
 in_order [] = []
-in_order (t ∷ told) = placed t (in_order told)
+in_order (t ∷ answered) = placed t (in_order answered)
 
-abbrev pub run_of : List Told → List Step
-run_of told = map (λ t. t.step) (in_order told)
+abbrev pub run_of : List Answered → List Step
+run_of answered = map (λ t. t.step) (in_order answered)
 
 -- the steps of one caller
 abbrev pub steps_of : ℕ → List Step → List Step
@@ -67,10 +67,10 @@ end_of history [] = history
 end_of history (step ∷ steps) = end_of (after_call history step.call step.answer) steps
 
 -- The run is legal from the first k members on, ends at the whole history, and has the calls of each caller, each once, in their order.
-pub record IsOneRun (history : List DrawopValue) (k : ℕ) (told : List Told) (run : List Step) : Type 0 where
+pub record IsOneRun (history : List DrawopValue) (k : ℕ) (answered : List Answered) (run : List Step) : Type 0 where
   pub legal : IsLegalFrom (take k history) run
   pub end : end_of (take k history) run ≡ history
-  pub callers : (caller : ℕ) → steps_of caller run ≡ steps_of caller (map (λ t. t.step) told)
+  pub callers : (caller : ℕ) → steps_of caller run ≡ steps_of caller (map (λ t. t.step) answered)
 
 abbrev pub OneRun : Type 0
-OneRun = (history : List DrawopValue) (k : ℕ) (told : List Told) → k ≤ length history → AreToldSince history k told → IsOneRun history k told (run_of told)
+OneRun = (history : List DrawopValue) (k : ℕ) (answered : List Answered) → k ≤ length history → AreAnsweredSince history k answered → IsOneRun history k answered (run_of answered)

@@ -22,7 +22,7 @@ use Rattle.wb_recovery.specs.declared.timers.Timers.{Timers}
 use Rattle.wb_recovery.specs.declared.tuning.Tuning.{Tuning}
 use Rattle.wb_recovery.proofs.StoppedNames.{names_receipts}
 use Rattle.wb_host.specs.Hearing.{marks_in, marks_heard}
-use Rattle.wb_host.specs.Keeper.{KeeperCall, SetDelay, Hear, Arrive, Miss, GoOn, Report, GiveUp, now_of, newest, moment_at, is_own, high_in, high_told, high_heard, delay_to, received_of, missed_of, asked_by, given_up, timer_calls, events_of}
+use Rattle.wb_host.specs.Keeper.{KeeperCall, SetDelay, Hear, Arrive, Miss, GoOn, Report, GiveUp, now_of, newest, moment_at, is_own, high_in, high_reported, high_heard, delay_to, received_of, missed_of, asked_by, given_up, timer_calls, events_of}
 use Rattle.wb_host.specs.KeeperLaws.{AreOrderly}
 use Rattle.wb_host.specs.Missing.{IsWanted, wanted_of}
 use Rattle.wb_host.proofs.FirstWanted.{first_are_wanted}
@@ -137,7 +137,7 @@ marks_orderly page v fit = from v fit where
   from (datagrams.AskPages asker) fit = none
 
 module _ (me : ℕ) (page : PageId) where
-  call_small : (source : ℕ) (call : KeeperCall) → Fits call → IsSmall source (high_told me page source call)
+  call_small : (source : ℕ) (call : KeeperCall) → Fits call → IsSmall source (high_reported me page source call)
   call_small source (Hear now v word held) f = from (is_own me v) where
     from : (b : Bool) → IsSmall source (if b then 0 else high_in page source v)
     from true = inl refl
@@ -146,7 +146,7 @@ module _ (me : ℕ) (page : PageId) where
 
   heard_small : (source : ℕ) (calls : List KeeperCall) → All Fits calls → IsSmall source (high_heard me calls page source)
   heard_small source [] fit = inl refl
-  heard_small source (call ∷ calls) fit = small_max source (high_told me page source call) (high_heard me calls page source) (call_small source call (All-head Fits call calls fit)) (heard_small source calls (All-tail Fits call calls fit))
+  heard_small source (call ∷ calls) fit = small_max source (high_reported me page source call) (high_heard me calls page source) (call_small source call (All-head Fits call calls fit)) (heard_small source calls (All-tail Fits call calls fit))
 
   module _ (calls : List KeeperCall) (fit : All Fits calls) (held : List DrawopValue) (board : All IsDrawop held) where
     orderly : AreOrderly calls page

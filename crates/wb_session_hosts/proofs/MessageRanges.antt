@@ -27,7 +27,7 @@ use Rattle.wb_recovery.specs.declared.action.Action.{Action}
 use Rattle.wb_recovery.specs.declared.action.Action.TheVariants.{Ask, Answer}
 use Rattle.wb_recovery.specs.declared.tuning.Tuning.{Tuning}
 use Rattle.wb_recovery.proofs.StoppedNames.{names_receipts}
-use Rattle.wb_host.specs.Keeper.{KeeperCall, Hear, is_own, session_in, session_told, remember, senders_of, last_heard, delay_to, received_of, events_of}
+use Rattle.wb_host.specs.Keeper.{KeeperCall, Hear, is_own, session_in, session_heard, remember, senders_of, last_heard, delay_to, received_of, events_of}
 use Rattle.wb_host.specs.Sessions.{echo_cmp, IsEchoTo, echo_to, echoes_of, message_of}
 use Rattle.wb_host.specs.Ticks.{drawop_of, sent_for, stopped_after, sent_by_tick}
 use Rattle.wb_host.specs.declared.keeper.Heard.{Heard}
@@ -47,7 +47,7 @@ few_told f (x ∷ xs) = from (f x) (few_told f xs) where
 
 few_senders : (me : ℕ) (calls : List KeeperCall) → length (senders_of me calls) ≤ 65535
 few_senders me [] = omega arith
-few_senders me (call ∷ calls) = from (session_told me call) (senders_of me calls) (few_senders me calls) where
+few_senders me (call ∷ calls) = from (session_heard me call) (senders_of me calls) (few_senders me calls) where
   from : (o : Option (ℕ × Heard)) (senders : List ℕ) → length senders ≤ 65535 → length (remember o senders) ≤ 65535
   from None senders le = le
   from (Some told) senders le = at (list_any (nat_eq told.0) senders || nat_le 65535 (length senders)) refl where
@@ -73,7 +73,7 @@ session_fits now (datagrams.Request asker name) fit source h e = absurd cc
 session_fits now (datagrams.AskPages asker) fit source h e = absurd cc
 session_fits now (datagrams.PageState sender page marks) fit source h e = absurd cc
 
-call_fits : (me : ℕ) (call : KeeperCall) → Fits call → (source : ℕ) (h : Heard) → session_told me call ≡ Some (source, h) → IsHeard source h
+call_fits : (me : ℕ) (call : KeeperCall) → Fits call → (source : ℕ) (h : Heard) → session_heard me call ≡ Some (source, h) → IsHeard source h
 call_fits me (Hear now v word held) f source h e = from (is_own me v) e where
   from : (b : Bool) → (if b then None else session_in now v) ≡ Some (source, h) → IsHeard source h
   from true e = absurd cc

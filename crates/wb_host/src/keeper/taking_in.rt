@@ -47,7 +47,7 @@ impl Keeper {
                 echoes,
                 ..
             } => {
-                let delay = self.delay_told(echoes, now);
+                let delay = self.delay_given(echoes, now);
                 self.note_session(now, *sender, *sent, delay, *page, merged)
             }
             Datagram::PageState { page, .. } => self.note_marks(now, *page, merged),
@@ -60,7 +60,7 @@ impl Keeper {
     }
 
     /// The delay that the echo of this member tells, where there is one and it tells a delay.
-    fn delay_told(&self, echoes: &Echoes, now: u64) -> Option<u64>
+    fn delay_given(&self, echoes: &Echoes, now: u64) -> Option<u64>
         ensures { result ≡ distance_by now (find (λ e. nat_eq e.source self.now.me) echoes.now) }
     {
         let echo = self.echo_of_me(echoes)?;

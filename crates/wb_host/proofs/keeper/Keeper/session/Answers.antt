@@ -7,7 +7,7 @@ use Rattle.wb_host.specs.Keeping.{KeeperValue}
 use Rattle.wb_host.specs.Sessions.{echo_cmp, IsEchoTo}
 use Rattle.wb_host.proofs.KeptCalls.{keeps_inward}
 use Rattle.wb_host.proofs.MessageValue.{only_message}
-use Rattle.wb_host.proofs.SentEchoes.{echoes_told}
+use Rattle.wb_host.proofs.SentEchoes.{echoes_heard}
 use Rattle.wb_host.proofs.keeper.Keeper.session.Goals as goal
 
 pub returns-clause-value : goal.returns-clause-value
@@ -15,7 +15,7 @@ returns-clause-value c = λ me constants calls s. only_message me calls c.args.n
   marks = c.in_ok-marks.marks;
   echoes = c.in_ok-echoes.echoes;
   report = c.in_ok-marks.ensures.answer;
-  echoed = subst (λ (es : List Echo). Lists echo_cmp (IsEchoTo me calls c.args.now) es) (sym c.in_ok-echoes.ensures.echoes) (echoes_told me c.args.now calls c.args.self.now.heard c.echoes.ensures.ordered s.heard);
+  echoed = subst (λ (es : List Echo). Lists echo_cmp (IsEchoTo me calls c.args.now) es) (sym c.in_ok-echoes.ensures.echoes) (echoes_heard me c.args.now calls c.args.self.now.heard c.echoes.ensures.ordered s.heard);
   is = ap (λ (k : ℕ). Session k c.args.now c.args.page c.in_ok-marks.marks c.in_ok-echoes.echoes) (ap (λ (v : KeeperValue). v.me) c.self.view_is ∙ s.me_is);
 })
 

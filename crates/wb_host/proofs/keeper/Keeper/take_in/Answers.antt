@@ -22,7 +22,7 @@ returns-in-Session-clause-ok c =
     let d = c.in-Session in
     let merged = subst (λ (x : Datagram). AreMerged (marks_at a.self.now.marks) x a.merged) d.is c.requires.merged in
     on_ok_both c.note_session.result _ _ _ (λ is counted. subst (λ (x : Datagram). Keeps (Hear a.now x a.word (asks_for_held a.desk.now.seen x)) a.self.now c.note_session.new.self) (sym d.is)
-    (keeps_session a.self.now c.note_session.new.self a.now d.sender d.sent d.page d.marks a.merged d.echoes c.delay_told-delay.result a.word false (sym (ap (is_own a.self.now.me) d.is) ∙ c.requires.other) c.delay_told-delay.ensures is counted merged)) c.note_session.ensures.ok c.note_session.ensures.counted
+    (keeps_session a.self.now c.note_session.new.self a.now d.sender d.sent d.page d.marks a.merged d.echoes c.delay_given-delay.result a.word false (sym (ap (is_own a.self.now.me) d.is) ∙ c.requires.other) c.delay_given-delay.ensures is counted merged)) c.note_session.ensures.ok c.note_session.ensures.counted
 
 pub returns-in-Request-clause-ok : goal.returns-in-Request-clause-ok
 returns-in-Request-clause-ok c =
