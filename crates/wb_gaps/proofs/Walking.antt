@@ -458,4 +458,4 @@ are_gaps history page runs marks of lawful =
 -- the same, of what was read
 pub are_gaps_read : (history : List DrawopValue) (page : PageId) (runs read : List Run) (marks heard : List MarkValue) (gaps : List Gap) → AreRunsOf history page runs → AreMarks marks → read ≡ runs → heard ≡ marks → gaps ≡ walk_of read heard → AreGaps history page marks gaps
 are_gaps_read history page runs read marks heard gaps of lawful same walked found =
-    subst (AreGaps history page marks) (sym (found ∙ ap (λ (rs : List Run). walk_of rs heard) same ∙ ap (walk_of runs) done_of)) (are_gaps history page runs marks of lawful)
+    subst (AreGaps history page marks) (sym (found ∙ ap (λ (rs : List Run). walk_of rs heard) same ∙ ap (walk_of runs) walked)) (are_gaps history page runs marks of lawful)
