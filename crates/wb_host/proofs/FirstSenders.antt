@@ -116,7 +116,7 @@ latest_from me (call ∷ calls) source h e = from (latest_from me calls source h
     call = r.call;
     older = r.older;
     split = ap (λ (cs : List KeeperCall). call ∷ cs) r.split;
-    told = r.told;
+    heard = r.heard;
     last = λ c m. ⊎_elim (λ (is : call ≡ c). ap (λ (k : KeeperCall). heard_by source (session_heard me k)) (sym is) ∙ p) (λ (m : Contains r.newer c). r.last c m) (Contains-cases call c r.newer m);
   }
   from rest (Some g) p q = record {
@@ -124,7 +124,7 @@ latest_from me (call ∷ calls) source h e = from (latest_from me calls source h
     call = call;
     older = calls;
     split = refl;
-    told = heard_is source (session_heard me call) h (p ∙ q);
+    heard = heard_is source (session_heard me call) h (p ∙ q);
     last = λ c m. absurd (Contains-none c m);
   }
 
@@ -153,4 +153,4 @@ first_senders_are_echoed me calls source h = (forth, back) where
   back (c, l) =
       ap (λ (b : Bool). cond b (last_of me calls source) None) (same ∙ list_any-from_Contains nat_eq_equiv source (first_senders me calls) c)
       ∙ ap (λ (cs : List KeeperCall). last_of me cs source) l.split
-      ∙ latest_to me l.newer l.call l.older source h l.told l.last
+      ∙ latest_to me l.newer l.call l.older source h l.heard l.last

@@ -49,7 +49,7 @@ MergedAreGreatest = (me : ℕ) (calls : List KeeperCall) (page : PageId) → Are
 
 -- ---- what is heard of oneself
 
--- the calls tell what they reported without the last, but for the moment
+-- the calls tell what they told without the last, but for the moment
 pub record OnlyMoves (me now : ℕ) (call : KeeperCall) (calls : List KeeperCall) : Type 0 where
   pub moment : moment_at (call ∷ calls) ≡ now
   pub marks : (page : PageId) (source : ℕ) → high_heard me (call ∷ calls) page source ≡ high_heard me calls page source
@@ -70,7 +70,7 @@ DrawopsOnlyMove = (me now : ℕ) (d : DrawopValue) (word : ℕ) (held : Bool) (c
 
 -- who sent the session messages that were heard of others, the newest first
 abbrev pub all_senders : ℕ → List KeeperCall → List ℕ
-all_senders me calls = filter_map (λ call. option_map (λ reported. reported.0) (session_heard me call)) calls
+all_senders me calls = filter_map (λ call. option_map (λ heard. heard.0) (session_heard me call)) calls
 
 -- of a list whose first is the newest: each once, in the order in which they first came
 abbrev pub by_first : List ℕ → List ℕ
@@ -81,13 +81,13 @@ by_first (s ∷ older) = if list_any (nat_eq s) (by_first older) then by_first o
 abbrev pub first_senders : ℕ → List KeeperCall → List ℕ
 first_senders me calls = take 65535 (by_first (all_senders me calls))
 
--- the last session message of a source reported this
+-- the last session message of a source says this
 pub record IsLatest (me : ℕ) (calls : List KeeperCall) (source : ℕ) (h : Heard) : Type 0 where
   pub newer : List KeeperCall
   pub call : KeeperCall
   pub older : List KeeperCall
   pub split : calls ≡ newer ++ call ∷ older
-  pub reported : session_heard me call ≡ Some (source, h)
+  pub heard : session_heard me call ≡ Some (source, h)
   pub last : (c : KeeperCall) → Contains newer c → heard_by source (session_heard me c) ≡ None
 
 abbrev pub FirstSendersAreEchoed : Type 0

@@ -14,10 +14,9 @@ use Rattle.wb_script.specs.Parsing.{line_of}
 use Rattle.wb_script.specs.Reordering.{part_unless, part_at, other_than, others_of, onto_batch, batches_with, batches_of, AreRearranged, EachReorderingIsOutcome}
 use Rattle.wb_lines.specs.Input.{InputLine, input_lines, content}
 use Rattle.wb_script.specs.Script.{State, MayBeTaken, Closing, Opens, Acts, Faulty, Part, Arrival, Nothing, End, part_of, part_in, Step, goes, refused, step_by, part_step, Outcome, before, finish, proceed, continue, outcome_from, Finishes, Proceeds, fault_at, Continues, IsOutcomeFrom}
-use Rattle.wb_script.proofs.AlikeCalls.{tell_same}
-use Rattle.wb_script.proofs.AlikeHosts.{told, ActsAlike, acts_alike}
 use Rattle.wb_script.proofs.Lifted.{lifted}
-use Rattle.wb_script.proofs.ReorderedLines.{onto_onto, Taken, drawops_in, no_fault, part_here, same_line, Arrives, arrived, first_same, others_same, line_course, alone, ToldAlike, state, finish_alike, after_alike}
+use Rattle.wb_script.proofs.Simulations.{proceeds_back}
+use Rattle.wb_script.proofs.ReorderedLines.{onto_onto, Taken, drawops_in, no_fault, part_here, same_line, Arrives, arrived, first_same, others_same, line_course, alone, ToldAlike, state, finish_alike, AreBehind, closes_alike}
 
 -- ---- arrivals, by their contents
 
@@ -101,62 +100,17 @@ module _ (k : ℕ) (many : 2 ≤ k) (cut : Bool) where
           line_course cut n u line' more part free is ∙ ap (λ (step : Step). proceed (n + 1) step (λ t. outcome_from cut (n + 1) t more)) step,
         )
 
-    -- ---- a line that ends its batch
-    goes_on : (part : Part) (host next : Option Opened) (waiting order : List DrawopValue) (calls after : List KeeperCall) (text : List ℕ) (more : List InputLine) → fault_at cut n line ≡ None → part_in line ≡ part → ToldAlike next after
-        → others_of cut (n + 1) more ≡ others_of cut (n + 1) lines → AreRearranged (batches_of content cut (n + 1) lines) (batches_of content cut (n + 1) more)
-        → part_step (alone (here host waiting) calls order) order part ≡ goes (alone (here next []) after []) text
-        → Proceeds (n + 1) Rest (outcome_from cut n (alone (here host waiting) calls order) (line ∷ more)) (goes (here next []) text)
-    goes_on part host next waiting order calls after text more free is alike others batches step = (
-      outcome_from cut (n + 1) (alone (here next []) after []) more,
-      rest next [] after [] [] more (record { waits = refl; none = nobody next; alike = alike; others = others; batches = none_onto (batches_of content cut (n + 1) lines) (batches_of content cut (n + 1) more) batches }),
-      line_course cut n (alone (here host waiting) calls order) line more part free is ∙ ap (λ (step : Step). proceed (n + 1) step (λ t. outcome_from cut (n + 1) t more)) step,
-    )
-
-    does_alike : (part : Part) (host : Option Opened) (first : Opened) (waiting order : List DrawopValue) (calls after : List KeeperCall) (text : List ℕ) (more : List InputLine) (a b : Act) → fault_at cut n line ≡ None → part_in line ≡ part → ActsAlike a b
-        → others_of cut (n + 1) more ≡ others_of cut (n + 1) lines → AreRearranged (batches_of content cut (n + 1) lines) (batches_of content cut (n + 1) more)
-        → part_step (alone (here host waiting) calls order) order part ≡ step_by (Some k) text b (told after first)
-        → Proceeds (n + 1) Rest (outcome_from cut n (alone (here host waiting) calls order) (line ∷ more)) (step_by (Some k) text a first)
-    does_alike part host first waiting order calls after text more (does next printed) (does other printed') free is alike others batches step =
-        goes_on part host (Some next) waiting order calls alike.0 (text ++ printed) more free is alike.2 others batches
-        (step ∙ ap₂ (λ (h : Opened) (shown : List ℕ). goes (here (Some h) []) (text ++ shown)) alike.1 alike.3)
-    does_alike part host first waiting order calls after text more (fails e) (fails f) free is alike others batches step =
-        let end : Result ℕ RunFault = Err (run_faults.Line (n + 1) e) in (
-          finish (here (Some first) []) [] end,
-          ([], may [] [] (IsPermutation-refl []), refl),
-          line_course cut n (alone (here host waiting) calls order) line more part free is ∙ ap (λ (step : Step). proceed (n + 1) step (λ t. outcome_from cut (n + 1) t more)) step
-              ∙ ap (λ (f : LineFault). before text (finish (here (Some (told after first)) []) [] (Err (run_faults.Line (n + 1) f)))) alike,
-        )
-    does_alike part host first waiting order calls after text more (does next printed) (fails f) free is alike others batches step = absurd alike
-    does_alike part host first waiting order calls after text more (fails e) (does other printed') free is alike others batches step = absurd alike
-
-    -- it is refused
-    refuses_after : (c : Closing) (t u : State) (e : LineFault) (host : Option Opened) (waiting order : List DrawopValue) (calls : List KeeperCall) (text : List ℕ) (more : List InputLine) → fault_at cut n line ≡ None → part_in line ≡ End c → t.workers ≡ Some k → t.waiting ≡ []
-        → finish u u.waiting (Err (run_faults.Line (n + 1) e)) ≡ finish t [] (Err (run_faults.Line (n + 1) e))
-        → part_step (alone (here host waiting) calls order) order (End c) ≡ refused u text e → Proceeds (n + 1) Rest (outcome_from cut n (alone (here host waiting) calls order) (line ∷ more)) (refused t text e)
-    refuses_after c t u e host waiting order calls text more free is known empty same step =
-        let end : Result ℕ RunFault = Err (run_faults.Line (n + 1) e) in (
-          finish t [] end,
-          ([], rw (known, empty) (may [] [] (IsPermutation-refl [])), refl),
-          line_course cut n (alone (here host waiting) calls order) line more (End c) free is ∙ ap (λ (step : Step). proceed (n + 1) step (λ t. outcome_from cut (n + 1) t more)) step ∙ ap (before text) same,
-        )
-
-    -- whatever the line says that ends a batch, which is taken in this order
+    -- ---- a line that ends its batch, which is taken in this order
     closes : (c : Closing) (host : Option Opened) (waiting order : List DrawopValue) (calls : List KeeperCall) (more : List InputLine) → fault_at cut n line ≡ None → part_in line ≡ End c → IsPermutation waiting order → ToldAlike host calls
         → others_of cut (n + 1) more ≡ others_of cut (n + 1) lines → AreRearranged (batches_of content cut (n + 1) lines) (batches_of content cut (n + 1) more)
         → Proceeds (n + 1) Rest (outcome_from cut n (alone (here host waiting) calls order) (line ∷ more)) (part_step (here host waiting) order (End c))
-    closes (Opens member cells workers seed) None waiting order calls more free is moved alike others batches =
-        goes_on (End (Opens member cells workers seed)) None (Some (opened member cells seed)) waiting order calls [] [] more free is (tell_same member []) others batches refl
-    closes (Acts l) None waiting order calls more free is moved alike others batches = refuses_after (Acts l) (here None []) (here None []) faults.NoBoard None waiting order calls [] more free is refl refl refl refl
-    closes (Faulty e) None waiting order calls more free is moved alike others batches = refuses_after (Faulty e) (here None []) (here None []) e None waiting order calls [] more free is refl refl refl refl
-    closes (Opens member cells workers seed) (Some host) waiting order calls more free is moved alike others batches =
-        refuses_after (Opens member cells workers seed) (here (Some (host_after host waiting order)) []) (here (Some (host_after (told calls host) order order)) []) faults.SecondBoard (Some host) waiting order calls (batch_text host.board order) more free is refl refl refl refl
-    closes (Faulty e) (Some host) waiting order calls more free is moved alike others batches =
-        refuses_after (Faulty e) (here (Some (host_after host waiting order)) []) (here (Some (host_after (told calls host) order order)) []) e (Some host) waiting order calls (batch_text host.board order) more free is refl refl refl refl
-    closes (Acts l) (Some host) waiting order calls more free is moved alike others batches =
-        let first : Opened = host_after host waiting order in
-        let after : List KeeperCall = calls_after (told calls host) order order in
-        does_alike (End (Acts l)) (Some host) first waiting order calls after (batch_text host.board order) more (act l first) (act l (told after first)) free is
-        (acts_alike first after (after_alike host calls waiting order alike moved) l) others batches refl
+    closes c host waiting order calls more free is moved alike others batches =
+        let step : Step = part_step (here host waiting) order (End c) in
+        let other : Step = part_step (alone (here host waiting) calls order) order (End c) in
+        subst (λ (o : Outcome). Proceeds (n + 1) Rest o step) (sym (line_course cut n (alone (here host waiting) calls order) line more (End c) free is))
+        (proceeds_back (n + 1) (AreBehind (λ w. w ≡ Some k)) Rest (λ t. outcome_from cut (n + 1) t more) step other (closes_alike (λ w. w ≡ Some k) c (Some k) host waiting order calls refl (λ w. refl) moved alike) follows) where
+      follows : (s t : State) → AreBehind (λ w. w ≡ Some k) s t → Rest s (outcome_from cut (n + 1) t more)
+      follows s t b = rw (b.is, b.workers, b.empty) (rest s.host [] b.calls [] [] more (record { waits = refl; none = nobody s.host; alike = b.alike; others = others; batches = none_onto (batches_of content cut (n + 1) lines) (batches_of content cut (n + 1) more) batches }))
 
     -- ---- the line that stands there in the other script
     abbrev Here : Option RunFault → Option Opened → List DrawopValue → Outcome → Type 0

@@ -13,10 +13,10 @@ use Rattle.wb_script.specs.Hosts.{Opened, opened, calls_after, host_after, batch
 use Rattle.wb_script.specs.Reordering.{part_at, other_than, others_of, onto_batch, batches_with, batches_of, AreRearranged, IsReorderedBy}
 use Rattle.wb_lines.specs.Input.{InputLine, content}
 use Rattle.wb_script.specs.Script.{State, start, Closing, Opens, Acts, Faulty, Part, Arrival, Nothing, End, part_in, Step, goes, refused, step_by, part_step, Outcome, before, finish, proceed, continue, most_lines, outcome_from, Finishes, Proceeds, fault_at, Continues, IsOutcomeFrom}
-use Rattle.wb_script.proofs.AlikeCalls.{TellAlike, tell_same}
-use Rattle.wb_script.proofs.AlikeHosts.{told, ActsAlike, acts_alike}
+use Rattle.wb_script.proofs.AlikeCalls.{TellAlike}
+use Rattle.wb_script.proofs.Simulations.{StepsAlike}
 use Rattle.wb_script.proofs.Lifted.{lifted}
-use Rattle.wb_script.proofs.ReorderedLines.{onto_same, onto_none, onto_onto, Taken, lines_in, drawops_in, no_fault, arrives_at, part_here, line_course, alone, ToldAlike, state, finish_alike, after_alike}
+use Rattle.wb_script.proofs.ReorderedLines.{onto_same, onto_none, onto_onto, Taken, lines_in, drawops_in, no_fault, arrives_at, part_here, line_course, alone, ToldAlike, state, finish_alike, AreBehind, closes_alike}
 
 abbrev pub entire : InputLine → InputLine
 entire line = line
@@ -48,9 +48,6 @@ last_of (x ∷ y ∷ xs) zero e = absurd (omega arith)
 last_of (x ∷ y ∷ xs) (suc count) e =
     let r = last_of (y ∷ xs) count (omega (arith, e)) in
     record { front = x ∷ r.front; last = r.last; is = ap (λ l. x ∷ l) r.is; long = omega (arith, r.long) }
-
-none_waits : (order : List DrawopValue) → IsPermutation [] order → order ≡ []
-none_waits order p = nil_from_length order (length_permutation [] order p)
 
 line_between : (xs ys more others : List InputLine) (line : InputLine) → IsPermutation (xs ++ more) (ys ++ others) → IsPermutation (xs ++ line ∷ more) (ys ++ line ∷ others)
 line_between xs ys more others line p =
@@ -175,63 +172,32 @@ module _ (cut : Bool) (n : ℕ) where
               ∙ ap (λ (order : List DrawopValue). outcome_from cut n (alone s calls order) (line ∷ q.reordered)) (sym l.is);
         }
 
-    -- a line that is refused once its batch has ended
-    refuses_after : (c : Closing) (s t u : State) (e : LineFault) (calls : List KeeperCall) (ws : List (Taken cut)) (order : List DrawopValue) (text : List ℕ) (o : Outcome) → part_in line ≡ End c → s.waiting ≡ drawops_in ws → IsPermutation s.waiting order
-        → part_step (alone s calls order) order (End c) ≡ refused u text e → finish t [] (Err (run_faults.Line (n + 1) e)) ≡ finish u u.waiting (Err (run_faults.Line (n + 1) e)) → t.waiting ≡ []
-        → Proceeds (n + 1) Rest o (refused t text e) → Found cut n s calls ws (line ∷ lines) o
-    refuses_after c s t u e calls ws order text o is waits moved step same empty p =
-        let last = p.1 in
-        stays s calls ws (line ∷ lines) o order waits moved (
-        p.2 ∙ ap (before text) (last.2 ∙ ap (λ (l : List DrawopValue). finish t l (Err (run_faults.Line (n + 1) e))) (none_waits last.0 (subst (λ (l : List DrawopValue). IsPermutation l last.0) empty last.1.moved)) ∙ same)
-        ∙ ap (λ (step : Step). proceed (n + 1) step one) (sym step)
-        ∙ sym (line_course cut n (alone s calls order) line lines (End c) taken_here is)
-        )
-
     comes_in : (k : Option ℕ) (host : Option Opened) (waiting : List DrawopValue) (d : DrawopValue) (calls : List KeeperCall) (ws : List (Taken cut)) (o : Outcome) → part_in line ≡ Arrival d → waiting ≡ drawops_in ws → ToldAlike host calls
         → Proceeds (n + 1) Rest o (part_step (state k host waiting) waiting (Arrival d)) → Found cut n (state k host waiting) calls ws (line ∷ lines) o
     comes_in k None waiting d calls ws o is waits alike p = refuses (Arrival d) faults.NoBoard (state k None waiting) calls ws o is waits (λ order. refl) p
     comes_in k (Some host) waiting d calls ws o is waits alike p = arrives k host waiting d calls ws o is waits alike p
 
-    -- what the host does then is what that of one thread does
-    does_alike : (c : Closing) (s : State) (first : Opened) (calls after : List KeeperCall) (ws : List (Taken cut)) (order : List DrawopValue) (text : List ℕ) (o : Outcome) (a b : Act) → part_in line ≡ End c
-        → s.waiting ≡ drawops_in ws → IsPermutation s.waiting order → ActsAlike a b → part_step (alone s calls order) order (End c) ≡ step_by s.workers text b (told after first)
-        → Proceeds (n + 1) Rest o (step_by s.workers text a first) → Found cut n s calls ws (line ∷ lines) o
-    does_alike c s first calls after ws order text o (does next printed) (does other printed') is waits moved alike step p =
-        goes_on c s (state s.workers (Some next) []) calls alike.0 ws order (text ++ printed) o p.0 is waits moved refl alike.2
-        (step ∙ ap₂ (λ (host : Opened) (shown : List ℕ). goes (state s.workers (Some host) []) (text ++ shown)) alike.1 alike.3) p.1 p.2
-    does_alike c s first calls after ws order text o (fails e) (fails f) is waits moved alike step p =
-        refuses_after c s (state s.workers (Some first) []) (state s.workers (Some (told after first)) []) e calls ws order text o is waits moved
-        (step ∙ ap (λ (f : LineFault). refused (state s.workers (Some (told after first)) []) text f) alike) refl refl p
-    does_alike c s first calls after ws order text o (does next printed) (fails f) is waits moved alike step p = absurd alike
-    does_alike c s first calls after ws order text o (fails e) (does other printed') is waits moved alike step p = absurd alike
-
-    -- a line that ends its batch
-    closes : (c : Closing) (k : Option ℕ) (host : Option Opened) (waiting order : List DrawopValue) (calls : List KeeperCall) (ws : List (Taken cut)) (o : Outcome) → part_in line ≡ End c
-        → waiting ≡ drawops_in ws → IsPermutation waiting order → ToldAlike host calls
-        → Proceeds (n + 1) Rest o (part_step (state k host waiting) order (End c)) → Found cut n (state k host waiting) calls ws (line ∷ lines) o
-    closes (Opens member cells workers seed) k None waiting order calls ws o is waits moved alike p =
-        goes_on (Opens member cells workers seed) (state k None waiting) (state (Some (unwrap_or k workers)) (Some (opened member cells seed)) []) calls [] ws order [] o p.0 is waits moved refl (tell_same member []) refl p.1 p.2
-    closes (Acts l) k None waiting order calls ws o is waits moved alike p =
-        refuses_after (Acts l) (state k None waiting) (state k None []) (state k None []) faults.NoBoard calls ws order [] o is waits moved refl refl refl p
-    closes (Faulty e) k None waiting order calls ws o is waits moved alike p =
-        refuses_after (Faulty e) (state k None waiting) (state k None []) (state k None []) e calls ws order [] o is waits moved refl refl refl p
-    closes (Opens member cells workers seed) k (Some host) waiting order calls ws o is waits moved alike p =
-        let after : List KeeperCall = calls_after (told calls host) order order in
-        refuses_after (Opens member cells workers seed) (state k (Some host) waiting) (state k (Some (host_after host waiting order)) []) (state k (Some (told after (host_after host waiting order))) []) faults.SecondBoard calls ws order (batch_text host.board order) o is waits moved refl refl refl p
-    closes (Acts l) k (Some host) waiting order calls ws o is waits moved alike p =
-        let first : Opened = host_after host waiting order in
-        let after : List KeeperCall = calls_after (told calls host) order order in
-        does_alike (Acts l) (state k (Some host) waiting) first calls after ws order (batch_text host.board order) o (act l first) (act l (told after first)) is waits moved
-        (acts_alike first after (after_alike host calls waiting order alike moved) l) refl p
-    closes (Faulty e) k (Some host) waiting order calls ws o is waits moved alike p =
-        let after : List KeeperCall = calls_after (told calls host) order order in
-        refuses_after (Faulty e) (state k (Some host) waiting) (state k (Some (host_after host waiting order)) []) (state k (Some (told after (host_after host waiting order))) []) e calls ws order (batch_text host.board order) o is waits moved refl refl refl p
+    closes : (c : Closing) (s : State) (calls : List KeeperCall) (ws : List (Taken cut)) (order : List DrawopValue) (o : Outcome) (step other : Step) → part_in line ≡ End c → s.waiting ≡ drawops_in ws → IsPermutation s.waiting order
+        → part_step (alone s calls order) order (End c) ≡ other → StepsAlike (AreBehind (λ k. Unit {0})) step other → Proceeds (n + 1) Rest o step → Found cut n s calls ws (line ∷ lines) o
+    closes c s calls ws order o (goes t text) (goes u text') is waits moved step a p =
+        let b = a.0 in
+        goes_on c s t calls b.calls ws order text o p.0 is waits moved b.empty b.alike (step ∙ ap₂ goes b.is (sym a.1)) p.1 p.2
+    closes c s calls ws order o (refused t text e) (refused u text' e') is waits moved step a p =
+        let last = p.1 in
+        stays s calls ws (line ∷ lines) o order waits moved (
+        p.2 ∙ ap (before text) (last.2 ∙ a.0 last.0 last.1 (Err (run_faults.Line (n + 1) e)) ∙ ap (λ (f : LineFault). finish u u.waiting (Err (run_faults.Line (n + 1) f))) a.2)
+        ∙ ap (λ (x : List ℕ). before x (finish u u.waiting (Err (run_faults.Line (n + 1) e')))) a.1 ∙ ap (λ (step : Step). proceed (n + 1) step one) (sym step)
+        ∙ sym (line_course cut n (alone s calls order) line lines (End c) taken_here is)
+        )
+    closes c s calls ws order o (goes t text) (refused u text' e) is waits moved step a p = absurd a
+    closes c s calls ws order o (refused t text e) (goes u text') is waits moved step a p = absurd a
 
     says : (part : Part) (s : State) (order : List DrawopValue) (calls : List KeeperCall) (ws : List (Taken cut)) (o : Outcome) → part_in line ≡ part → s.waiting ≡ drawops_in ws → IsPermutation s.waiting order → ToldAlike s.host calls
         → Proceeds (n + 1) Rest o (part_step s order part) → Found cut n s calls ws (line ∷ lines) o
     says Nothing s order calls ws o is waits moved alike p = skips s calls ws o is waits alike p
     says (Arrival d) s order calls ws o is waits moved alike p = comes_in s.workers s.host s.waiting d calls ws o is waits alike p
-    says (End c) s order calls ws o is waits moved alike p = closes c s.workers s.host s.waiting order calls ws o is waits moved alike p
+    says (End c) s order calls ws o is waits moved alike p =
+        closes c s calls ws order o (part_step s order (End c)) (part_step (alone s calls order) order (End c)) is waits moved refl (closes_alike (λ k. Unit {0}) c s.workers s.host s.waiting order calls tt (λ w. tt) moved alike) p
 
   faulty : (line : InputLine) (lines : List InputLine) (s : State) (calls : List KeeperCall) (ws : List (Taken cut)) (o : Outcome) (e : RunFault) → fault_at cut n line ≡ Some e → s.waiting ≡ drawops_in ws
       → Finishes s (Err e) o → Found cut n s calls ws (line ∷ lines) o

@@ -2,6 +2,7 @@
 use Rattle.std.proofs.Common.{◌≡◌, ℕ, ◌+◌, Bool, true, false, cond, List, [], ◌∷◌, ◌++◌, length, map, Result, Ok, Err, refl, sym, ap, subst, ◌∙◌, append_assoc, arith}
 use Rattle.std.specs.Prelude.{Option, Some, None, IsPermutation, filter, nat_le, nat_lt, unwrap_or, ◌&&◌, ◌||◌, not}
 use Rattle.std.specs.List.{list_any}
+use Rattle.std.proofs.lemmas.List.{nil_from_length}
 use Rattle.std.proofs.lemmas.List.Sorted.{IsPermutation-refl, IsPermutation-map, IsPermutation-append_left, length_permutation, list_any-IsPermutation}
 use Rattle.wb_names.specs.Values.{NameValue, DrawopValue}
 use Rattle.wb_names.specs.Orders.{same_name}
@@ -9,12 +10,13 @@ use Rattle.wb_host.specs.Keeper.{KeeperCall, Arrive as arrives, holds}
 use Rattle.wb_host.proofs.FreeArrivals.{comes}
 use Rattle.wb_script.specs.declared.fault.RunFault.{RunFault}
 use Rattle.wb_script.specs.declared.fault.RunFault.TheVariants as run_faults
-use Rattle.wb_script.specs.Hosts.{Opened, present, names_of, board_after, calls_after}
+use Rattle.wb_script.specs.Hosts.{Opened, opened, present, names_of, board_after, calls_after, host_after, batch_text, Act, does, fails, act}
 use Rattle.wb_script.specs.Reordering.{part_unless, part_at, other_than, onto_batch, AreRearranged}
 use Rattle.wb_lines.specs.Input.{InputLine, content, most_bytes}
-use Rattle.wb_script.specs.Script.{State, by_host, Part, Arrival, Nothing, End, part_in, part_step, finish, proceed, continue, most_lines, outcome_from, fault_at}
-use Rattle.wb_script.proofs.AlikeCalls.{TellAlike, arrive_alike}
-use Rattle.wb_script.proofs.AlikeHosts.{told}
+use Rattle.wb_script.specs.Script.{State, by_host, MayBeTaken, Closing, Opens, Acts, Faulty, Part, Arrival, Nothing, End, part_in, Step, goes, refused, step_by, part_step, finish, proceed, continue, most_lines, outcome_from, fault_at}
+use Rattle.wb_script.proofs.AlikeCalls.{TellAlike, arrive_alike, tell_same}
+use Rattle.wb_script.proofs.AlikeHosts.{told, ActsAlike, acts_alike}
+use Rattle.wb_script.proofs.Simulations.{EndsAlike, StepsAlike}
 
 -- ---- batches
 
@@ -151,3 +153,43 @@ after_alike host calls (d ∷ batch) (e ∷ order) alike moved =
     let kept : List DrawopValue → List NameValue = λ batch. filter (holds (board_after host.board (e ∷ order)).drawops) (names_of batch) in
     subst (λ (now : ℕ). TellAlike host.me (calls_after host (d ∷ batch) (e ∷ order)) (arrives now (kept (e ∷ order)) ∷ calls)) (ap (λ (o : Option ℕ). unwrap_or o 0) alike.moment)
     (arrive_alike host.me (present host) (kept (d ∷ batch)) (kept (e ∷ order)) host.calls calls (comes_alike (holds (board_after host.board (e ∷ order)).drawops) (d ∷ batch) (e ∷ order) moved) alike)
+
+-- ---- a line that ends its batch: by workers that take the batch in some order, and by one thread to which it came in that order
+
+-- No arrival waits at either, and the keepers were told alike.
+pub record AreBehind (Has : Option ℕ → Type 0) (s t : State) : Type 0 where
+  pub calls : List KeeperCall
+  pub alike : ToldAlike s.host calls
+  pub workers : Has s.workers
+  pub empty : s.waiting ≡ []
+  pub is : t ≡ alone s calls []
+
+pub none_waits : (order : List DrawopValue) → IsPermutation [] order → order ≡ []
+none_waits order p = nil_from_length order (length_permutation [] order p)
+
+behind_ends : (k : Option ℕ) (host : Option Opened) (calls : List KeeperCall) → EndsAlike (state k host []) (alone (state k host []) calls [])
+behind_ends k host calls order may ending = rw (none_waits order may.moved) (finish_alike k host [] [] calls ending)
+
+-- what the host does then
+behind_acts : (Has : Option ℕ → Type 0) (k : Option ℕ) (text : List ℕ) (first : Opened) (after : List KeeperCall) (a b : Act) → Has k → ActsAlike a b → StepsAlike (AreBehind Has) (step_by k text a first) (step_by k text b (told after first))
+behind_acts Has k text first after (does next printed) (does other printed') has alike = (
+  record { calls = alike.0; alike = alike.2; workers = has; empty = refl; is = ap (λ (h : Opened). state k (Some h) []) alike.1 },
+  ap (λ (x : List ℕ). text ++ x) (sym alike.3),
+)
+behind_acts Has k text first after (fails e) (fails f) has alike = (behind_ends k (Some first) after, refl, sym alike)
+behind_acts Has k text first after (does next printed) (fails f) has alike = absurd alike
+behind_acts Has k text first after (fails e) (does other printed') has alike = absurd alike
+
+-- whatever the line says
+pub closes_alike : (Has : Option ℕ → Type 0) (c : Closing) (k : Option ℕ) (host : Option Opened) (waiting order : List DrawopValue) (calls : List KeeperCall) → Has k → ((w : ℕ) → Has (Some (unwrap_or k w))) → IsPermutation waiting order → ToldAlike host calls
+    → StepsAlike (AreBehind Has) (part_step (state k host waiting) order (End c)) (part_step (alone (state k host waiting) calls order) order (End c))
+closes_alike Has (Opens member cells workers seed) k None waiting order calls has opens moved alike =
+    (record { calls = []; alike = tell_same member []; workers = opens workers; empty = refl; is = refl }, refl)
+closes_alike Has (Acts l) k None waiting order calls has opens moved alike = (behind_ends k None [], refl, refl)
+closes_alike Has (Faulty e) k None waiting order calls has opens moved alike = (behind_ends k None [], refl, refl)
+closes_alike Has (Opens member cells workers seed) k (Some host) waiting order calls has opens moved alike = (behind_ends k (Some (host_after host waiting order)) (calls_after (told calls host) order order), refl, refl)
+closes_alike Has (Faulty e) k (Some host) waiting order calls has opens moved alike = (behind_ends k (Some (host_after host waiting order)) (calls_after (told calls host) order order), refl, refl)
+closes_alike Has (Acts l) k (Some host) waiting order calls has opens moved alike =
+    let first : Opened = host_after host waiting order in
+    let after : List KeeperCall = calls_after (told calls host) order order in
+    behind_acts Has k (batch_text host.board order) first after (act l first) (act l (told after first)) has (acts_alike first after (after_alike host calls waiting order alike moved) l)
