@@ -21,7 +21,7 @@ use Rattle.wb_recovery.specs.declared.timers.Timers.{Timers}
 use Rattle.wb_recovery.specs.declared.tuning.Tuning.{Tuning}
 use Rattle.wb_recovery.proofs.StoppedNames.{names_receipts}
 use Rattle.wb_host.specs.Hearing.{marks_reported, marks_heard}
-use Rattle.wb_host.specs.Keeper.{KeeperCall, SetDelay, Hear, Arrive, Miss, GoOn, Report, GiveUp, newest, now_of, delay_given, delay_to, session_heard, senders_of, remember, told_by, last_heard, received_of, missed_of, asked_by, timer_calls, events_of}
+use Rattle.wb_host.specs.Keeper.{KeeperCall, SetDelay, Hear, Arrive, Miss, GoOn, Report, GiveUp, newest, now_of, delay_given, delay_to, session_heard, senders_of, remember, heard_by, last_heard, received_of, missed_of, asked_by, timer_calls, events_of}
 use Rattle.wb_host.specs.declared.keeper.Heard.{Heard}
 use Rattle.wb_host.proofs.FreeArrivals.{comes, timers_alike}
 
@@ -107,7 +107,7 @@ pub record TellAlike (me : ℕ) (a b : List KeeperCall) : Type 0 where
   pub marks : marks_heard me a ≡ marks_heard me b
   pub delays : (source : ℕ) → newest (delay_given me source) a ≡ newest (delay_given me source) b
   pub senders : senders_of me a ≡ senders_of me b
-  pub heard : (source : ℕ) → newest (λ call. told_by source (session_heard me call)) a ≡ newest (λ call. told_by source (session_heard me call)) b
+  pub heard : (source : ℕ) → newest (λ call. heard_by source (session_heard me call)) a ≡ newest (λ call. heard_by source (session_heard me call)) b
   pub time : TimeAlike (events_of me a) (events_of me b)
 
 pub tell_same : (me : ℕ) (a : List KeeperCall) → TellAlike me a a
@@ -133,7 +133,7 @@ tell_more me call a b p = record {
   marks = fun_ext (λ page. ap (λ (f : PageId → List MarkValue). joined (marks_reported me page call) (f page)) p.marks);
   delays = λ source. ap (option_or (delay_given me source call)) (p.delays source);
   senders = ap (remember (session_heard me call)) p.senders;
-  heard = λ source. ap (option_or (told_by source (session_heard me call))) (p.heard source);
+  heard = λ source. ap (option_or (heard_by source (session_heard me call))) (p.heard source);
   time = subst (λ (delays : ℕ → ℕ). TimeAlike (timer_calls me (delay_to me a) call (events_of me a)) (timer_calls me delays call (events_of me b))) (same_delays me a b p)
       (timer_calls_alike me (delay_to me a) call (events_of me a) (events_of me b) p.time);
 }

@@ -109,8 +109,8 @@ module _ (k : ℕ) (many : 2 ≤ k) (cut : Bool) where
         let other : Step = part_step (alone (here host waiting) calls order) order (End c) in
         subst (λ (o : Outcome). Proceeds (n + 1) Rest o step) (sym (line_course cut n (alone (here host waiting) calls order) line more (End c) free is))
         (proceeds_back (n + 1) (AreBehind (λ w. w ≡ Some k)) Rest (λ t. outcome_from cut (n + 1) t more) step other (closes_alike (λ w. w ≡ Some k) c (Some k) host waiting order calls refl (λ w. refl) moved alike) follows) where
-      follows : (s t : State) → AreBehind (λ w. w ≡ Some k) s t → Rest s (outcome_from cut (n + 1) t more)
-      follows s t b = rw (b.is, b.workers, b.empty) (rest s.host [] b.calls [] [] more (record { waits = refl; none = nobody s.host; alike = b.alike; others = others; batches = none_onto (batches_of content cut (n + 1) lines) (batches_of content cut (n + 1) more) batches }))
+          follows : (s t : State) → AreBehind (λ w. w ≡ Some k) s t → Rest s (outcome_from cut (n + 1) t more)
+          follows s t b = rw (b.is, b.workers, b.empty) (rest s.host [] b.calls [] [] more (record { waits = refl; none = nobody s.host; alike = b.alike; others = others; batches = none_onto (batches_of content cut (n + 1) lines) (batches_of content cut (n + 1) more) batches }))
 
     -- ---- the line that stands there in the other script
     abbrev Here : Option RunFault → Option Opened → List DrawopValue → Outcome → Type 0

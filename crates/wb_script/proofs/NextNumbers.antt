@@ -26,7 +26,7 @@ module _ (page : PageId) (host : Opened) (marks : mark_of (marks_heard host.me h
         let le = (greatest_held host.board.drawops page host.me).bound n h in
         let most = max_left (highest page host.me host.board.drawops) (mark_of (marks_heard host.me host.calls page) host.me) in
         omega (arith, le, most, lt);
-    told = λ n t.
+    reported = λ n t.
         let le = (marks_are_greatest host.me host.calls page host.me).greatest n t in
         let most = max_right (highest page host.me host.board.drawops) (mark_of (marks_heard host.me host.calls page) host.me) in
         omega (arith, le, marks, most, lt);

@@ -125,14 +125,14 @@ closing_is : (o : Option Opened) (host : Opened) (order : List DrawopValue) → 
 closing_is o host order e = ap (λ (h : Option Opened). by_host {X = List ℕ} h [] (λ k. batch_text k.board order)) e
 
 -- what a member prints and tells its keeper of a batch that it has taken
-pub record IsTold (d : TakenBatch) (member : MemberValue) (written : List ℕ) : Type 0 where
+pub record TellsKeeper (d : TakenBatch) (member : MemberValue) (written : List ℕ) : Type 0 where
   pub text : written ≡ batch_line (counts_in d.batch)
   pub board : member.board ≡ d.member.board
   pub words : member.words ≡ d.member.words
   pub keeper : Keeps (Arrive d.member.keeper.moment (filter (holds d.member.board.drawops) (names_of d.drawops.items))) d.member.keeper member.keeper
 
 -- the member is at the host after the batch
-told_at : (old : MemberValue) (workers : ℕ) (d : TakenBatch) (member : MemberValue) (written : List ℕ) (host : Opened) (is : IsTaken old workers d) → 0 < length d.drawops.items → IsTold d member written → IsOpenAt old host
+told_at : (old : MemberValue) (workers : ℕ) (d : TakenBatch) (member : MemberValue) (written : List ℕ) (host : Opened) (is : IsTaken old workers d) → 0 < length d.drawops.items → TellsKeeper d member written → IsOpenAt old host
     → TakesBatch host d.drawops.items is.taken.order member written
 told_at old workers d member written host is some told at =
     let arrived = d.drawops.items in
@@ -145,7 +145,7 @@ told_at old workers d member written host is some told at =
     }
 
 pub takes_on : (old : MemberValue) (workers : ℕ) (d : TakenBatch) (member : PrintedBatch) (written given : List ℕ) (lines lines' : LinesValue) (first : DrawopValue) (failed : Bool) (s : State) (host : Opened)
-    → s.host ≡ Some host → (IsAlone s.workers → workers ≤ 1) → IsOpenAt old host → IsTaken old workers d → IsTold d member.member written → member.fault ≡ d.fault
+    → s.host ≡ Some host → (IsAlone s.workers → workers ≤ 1) → IsOpenAt old host → IsTaken old workers d → TellsKeeper d member.member written → member.fault ≡ d.fault
     → (IsOpen s.host → (0 < length d.drawops.items) × GetsOver d.fault s lines first given lines' failed d.drawops.items) → TakesOn s host lines first given written lines' failed member
 takes_on old workers d member written given lines lines' first failed s host here few at is told same read =
     let arrived = d.drawops.items in

@@ -8,7 +8,7 @@ use Rattle.wb_recovery.specs.Events.{timers_of}
 use Rattle.wb_host.specs.Dues.{next_due_of}
 use Rattle.wb_host.specs.GivingUp.{is_asked, is_timed}
 use Rattle.wb_host.specs.Keeper.{Miss, GiveUp, holds}
-use Rattle.wb_host.specs.KeeperLaws.{IsTold}
+use Rattle.wb_host.specs.KeeperLaws.{IsReported}
 use Rattle.wb_host.specs.Known.{known_pages, known_number}
 use Rattle.wb_script.specs.declared.acceptance.Acceptance.{Acceptance}
 use Rattle.wb_script.specs.declared.acceptance.Acceptance.TheVariants as became
@@ -59,7 +59,7 @@ next_number page host = if nat_lt (last_number page host) 4294967295 then Some (
 -- Its own drawops on a page that are held, and the marks of them that others told, are all below the number.
 pub record IsUnreached (page : PageId) (host : Opened) (number : ℕ) : Type 0 where
   pub held : (n : ℕ) → IsHeld host.board.drawops page host.me n → n < number
-  pub told : (n : ℕ) → IsTold host.me host.calls page host.me n → n < number
+  pub reported : (n : ℕ) → IsReported host.me host.calls page host.me n → n < number
 
 -- the least moment at which one of its timers is due, or None where none stands
 abbrev pub next_due : Opened → Option ℕ

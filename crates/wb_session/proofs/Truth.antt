@@ -20,7 +20,7 @@ use Rattle.wb_gaps.proofs.Reports.{greatest_held}
 use Rattle.wb_host.specs.Hearing.{marks_in, marks_heard}
 use Rattle.wb_host.specs.Keeper.{Hear, high_in, high_heard, holds}
 use Rattle.wb_host.proofs.KeptCalls.{holds_from}
-use Rattle.wb_host.specs.KeeperLaws.{IsTold}
+use Rattle.wb_host.specs.KeeperLaws.{IsReported}
 use Rattle.wb_host.proofs.HeardNumbers.{marks_are_greatest}
 use Rattle.wb_host.proofs.MergedNumbers.{high_is, merged_are_greatest}
 use Rattle.wb_session.specs.Session.{sends, Event, Group, IsDistinct, member, sent, IsSession, IsDrawn, IsReached}
@@ -129,9 +129,9 @@ heard_marks_are_true group events is s i page source =
     let m = member group events i in
     ⊎_elim
     (λ (z : high_heard m.number m.calls page source ≡ 0). inl z)
-    (λ (t : IsTold m.number m.calls page source (high_heard m.number m.calls page source)).
+    (λ (t : IsReported m.number m.calls page source (high_heard m.number m.calls page source)).
     subst (IsReached group events page source) t.6 ((sent_true group is events s t.2 (heard_sent group is events s i t.0 t.1 t.3 t.2 t.4) page).1 source))
-    (marks_are_greatest m.number m.calls page source).told
+    (marks_are_greatest m.number m.calls page source).reported
 
 pub lacks_knowingly : LacksKnowingly
 lacks_knowingly group events is s i d drawn =

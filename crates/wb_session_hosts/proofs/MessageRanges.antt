@@ -85,7 +85,7 @@ module _ (me : ℕ) (calls : List KeeperCall) (fit : All Fits calls) (now : ℕ)
   heard_fits source h e =
       let latest = ((first_senders_are_echoed me calls source h).0 e).1 in
       let c : Contains calls latest.call = subst (λ (cs : List KeeperCall). Contains cs latest.call) (sym latest.split) (Contains-append_right latest.newer (latest.call ∷ latest.older) latest.call (Contains-here latest.call latest.older)) in
-      call_fits me latest.call (All-contains Fits calls latest.call fit c) source h latest.told
+      call_fits me latest.call (All-contains Fits calls latest.call fit c) source h latest.heard
 
   echo_fits : (e : Echo) → IsEchoTo me calls now e → IsEcho e
   echo_fits e (h, told, sent, held) =

@@ -17,14 +17,14 @@ returns-in-Skipped-clause-text g c =
 
 pub returns-in-Ok-clause-text : goal.returns-in-Ok-clause-text
 returns-in-Ok-clause-text g c =
-    let said = said_is c.args.progress.now.lines.next (Ok c.in-Ok.line) c.in-Ok.ensures.said in
+    let said = said_is c.args.progress.now.lines.next (Ok c.in-Ok.command) c.in-Ok.ensures.said in
     let taken = c.in-Ok.ensures.taken in
     let t = rw c.done.ensures.count at c.take_line.ensures.text in (
       [],
       t.0,
       takes_pulls c.args.progress.now.lines.next c.args.progress.now.lines.ahead c.args.progress.now.lines.done c.take.new.self (g.R.Source.left c.args.source.now) (g.R.Source.has_failed c.args.source.now) taken,
       Sends-more (g.W.Sink.taken c.args.sink.now) c.args.progress.now.output c.take_line.new.output t.0 t.1,
-      λ s at. seen_runs c.args.progress.now.lines.next c.args.progress.now.lines.ahead c.args.progress.now.lines.done c.take.new.self (part_of (Ok c.in-Ok.line)) s c.take_line.new.self t.0 (g.R.Source.has_failed c.args.source.now) c.take_line.result said taken (t.2 s at),
+      λ s at. seen_runs c.args.progress.now.lines.next c.args.progress.now.lines.ahead c.args.progress.now.lines.done c.take.new.self (part_of (Ok c.in-Ok.command)) s c.take_line.new.self t.0 (g.R.Source.has_failed c.args.source.now) c.take_line.result said taken (t.2 s at),
     )
 
 pub returns-in-Err-clause-text : goal.returns-in-Err-clause-text

@@ -6,7 +6,7 @@ use Rattle.wb_host.specs.Keeper.{Arrive, holds}
 use Rattle.wb_host.specs.Keeping.{Keeps}
 use Rattle.wb_script.specs.Answers.{batch_line}
 use Rattle.wb_script.specs.Hosts.{names_of}
-use Rattle.wb_script.proofs.TakingArrivals.{IsTold, takes_on, never_unwritten}
+use Rattle.wb_script.proofs.TakingArrivals.{TellsKeeper, takes_on, never_unwritten}
 use Rattle.wb_lines.proofs.KnownBytes.{Sends-more, Sends-then}
 use Rattle.wb_script.proofs.taking.take_batch.Goals as goal
 
@@ -16,7 +16,7 @@ returns-clause-read g c =
     let printed = c.in_ok-member-2.ensures.printed in
     let d = c.in_ok-member.field-0 in
     let text = batch_line (counts_in d.batch) in
-    let told : IsTold d c.in_ok-member-2.member text = record {
+    let told : TellsKeeper d c.in_ok-member-2.member text = record {
       text = refl;
       board = printed.1;
       words = printed.2;
