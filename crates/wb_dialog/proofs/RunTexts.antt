@@ -13,7 +13,7 @@ use Rattle.wb_script.specs.declared.fault.RunFault.{RunFault}
 use Rattle.wb_script.specs.declared.fault.RunFault.TheVariants as run_faults
 use Rattle.wb_script.specs.declared.command.Command.{Command}
 use Rattle.wb_script.specs.declared.command.Command.TheVariants as lines
-use Rattle.wb_script.specs.declared.summary.Summary.{Summary}
+use Rattle.wb_script.specs.declared.running.Summary.{Summary}
 use Rattle.wb_script.specs.Answers.{batch_line}
 use Rattle.wb_script.specs.Driving.{acceptance_of, counts_with}
 use Rattle.wb_script.specs.Hosts.{Opened, host_after, batch_text, script_constants, Act, does, fails, act}

@@ -5,7 +5,7 @@ use Rattle.wb_script.specs.declared.fault.LineFault.{LineFault}
 use Rattle.wb_script.specs.declared.fault.RunFault.{RunFault}
 use Rattle.wb_script.specs.declared.fault.RunFault.TheVariants as run_faults
 use Rattle.wb_script.specs.declared.command.Command.{Command}
-use Rattle.wb_script.specs.declared.summary.Summary.{Summary}
+use Rattle.wb_script.specs.declared.running.Summary.{Summary}
 use Rattle.wb_script.specs.Hosts.{script_constants}
 use Rattle.wb_script.specs.Parsing.{line_of as script_line_of}
 use Rattle.wb_script.specs.Reordering.{batches_of}

@@ -20,7 +20,7 @@ use Rattle.wb_recovery.specs.Events.{Event, Got}
 use Rattle.wb_recovery.specs.Accepted as timers
 use Rattle.wb_recovery.specs.Stopping.{receipts}
 use Rattle.wb_recovery.specs.declared.tuning.Tuning.{Tuning}
-use Rattle.wb_recovery.specs.declared.received.Received.{Received}
+use Rattle.wb_recovery.specs.declared.missed.Received.{Received}
 use Rattle.wb_recovery.specs.declared.missed.Missed.{Missed}
 use Rattle.wb_host.specs.Keeper.{KeeperCall, SetDelay, newest, moment_at, high_reported, high_heard, delay_given, delay_to, session_heard, senders_of, remember, heard_by, last_heard, received_of, missed_of, events_of, holds}
 use Rattle.wb_host.specs.Hearing.{marks_reported, marks_heard}

@@ -18,9 +18,9 @@ use Rattle.wb_recovery.specs.Timing.{no_timers, is_ask_due, is_answer_due}
 use Rattle.wb_recovery.specs.Events.{Event, names_of, timers_of, asking, due_asks, due_answers, actions_of}
 use Rattle.wb_recovery.specs.Stopping.{receipts, is_received}
 use Rattle.wb_recovery.specs.Values.{RecoveryValue, timers_in, names_in}
-use Rattle.wb_recovery.specs.declared.action.Action.{Action}
-use Rattle.wb_recovery.specs.declared.action.Action.TheVariants.{Ask, Answer}
-use Rattle.wb_recovery.specs.declared.received.Received.{Received}
+use Rattle.wb_recovery.specs.declared.plan.Action.{Action}
+use Rattle.wb_recovery.specs.declared.plan.Action.TheVariants.{Ask, Answer}
+use Rattle.wb_recovery.specs.declared.missed.Received.{Received}
 use Rattle.wb_recovery.specs.declared.timers.AskTimer.{AskTimer}
 use Rattle.wb_recovery.specs.declared.timers.Timers.{Timers}
 use Rattle.wb_recovery.specs.declared.tuning.Tuning.{Tuning}

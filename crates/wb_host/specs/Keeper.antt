@@ -14,7 +14,7 @@ use Rattle.wb_recovery.specs.Events.{Event, Asked, Tick}
 use Rattle.wb_recovery.specs.Noticing.{notices}
 use Rattle.wb_recovery.specs.Stopping.{receipts}
 use Rattle.wb_recovery.specs.declared.missed.Missed.{Missed}
-use Rattle.wb_recovery.specs.declared.received.Received.{Received}
+use Rattle.wb_recovery.specs.declared.missed.Received.{Received}
 use Rattle.wb_host.specs.declared.keeper.Heard.{Heard}
 
 -- An accepted call, with what it found on the desk: whether a name that was asked for was held; which of the names

@@ -7,8 +7,8 @@ use Rattle.wb_names.specs.Orders.{same_name, name_cmp}
 use Rattle.wb_recovery.specs.Timing.{no_timers, ask_due, answer_due, is_standing, is_set_to, is_ask_due, is_answer_due, noticed, asked, got, ticked}
 use Rattle.wb_recovery.specs.declared.tuning.Tuning.{Tuning}
 use Rattle.wb_recovery.specs.declared.timers.Timers.{Timers}
-use Rattle.wb_recovery.specs.declared.action.Action.{Action}
-use Rattle.wb_recovery.specs.declared.action.Action.TheVariants.{Ask, Answer}
+use Rattle.wb_recovery.specs.declared.plan.Action.{Action}
+use Rattle.wb_recovery.specs.declared.plan.Action.TheVariants.{Ask, Answer}
 
 -- an accepted call: a name is missed, is asked for by another member, has come; time goes on
 pub data Event : Type 0 where

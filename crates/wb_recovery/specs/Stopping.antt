@@ -10,7 +10,7 @@ use Rattle.wb_recovery.specs.Faults.{is_delay}
 use Rattle.wb_recovery.specs.Timing.{got, is_ask_due, is_answer_due}
 use Rattle.wb_recovery.specs.Firing.{with_ask_fired, with_answer_fired}
 use Rattle.wb_recovery.specs.Values.{RecoveryValue, timers_in}
-use Rattle.wb_recovery.specs.declared.received.Received.{Received}
+use Rattle.wb_recovery.specs.declared.missed.Received.{Received}
 use Rattle.wb_recovery.specs.declared.plan.Plan.{Plan}
 use Rattle.wb_recovery.specs.declared.tuning.Tuning.{Tuning}
 use Rattle.wb_recovery.specs.declared.timers.Timers.{Timers}

@@ -5,15 +5,15 @@ ghost use Rattle.std.specs.BTreeMap.{IsOrdered};
 ghost use Rattle.std.specs.List.Sorted.{IsStrictlySortedBy};
 ghost use Rattle.wb_names.specs.Values.{NameValue};
 ghost use Rattle.wb_names.specs.Orders.{name_cmp};
-ghost use Rattle.wb_recovery.specs.declared.action.Action.TheVariants.{Ask, Answer};
+ghost use Rattle.wb_recovery.specs.declared.plan.Action.TheVariants.{Ask, Answer};
 ghost use Rattle.wb_recovery.specs.declared.timers.Timers.{Timers as SomeTimers};
 ghost use Rattle.wb_recovery.specs.Timing.{are_constants, is_answer_due, ask_due, answer_due, AreDelays};
 ghost use Rattle.wb_recovery.specs.Alarms.{among, Keep};
 ghost use Rattle.wb_recovery.specs.Values.{timers_at};
 ghost use Rattle.wb_recovery.specs.Firing.{with_ask_fired, with_answer_fired};
 
-use crate::action::Action;
 use crate::alarms::Alarms;
+use crate::plan::Action;
 use crate::records::{rewrite, timers_of};
 use crate::timers::Timers;
 use crate::tuning::Tuning;

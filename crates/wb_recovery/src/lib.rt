@@ -15,28 +15,22 @@
 //! after a repair. The constants do not adapt. `distance` is that of its session messages.
 #![tactic(auto)]
 
-mod action;
 mod alarms;
 mod expiry;
 mod fault;
 mod firing;
 pub mod laws;
-mod limits;
 mod missed;
 mod plan;
-mod received;
 mod records;
 mod recovery;
 mod round_trip;
 mod timers;
 mod tuning;
 
-pub use action::Action;
-pub use fault::{RecoveryFault, TuningFault};
-pub use limits::{DELAY_LIMIT, MOMENT_LIMIT};
-pub use missed::Missed;
-pub use plan::Plan;
-pub use received::Received;
+pub use fault::{DELAY_LIMIT, MOMENT_LIMIT, RecoveryFault, TuningFault};
+pub use missed::{Missed, Received};
+pub use plan::{Action, Plan};
 pub use recovery::Recovery;
 pub use round_trip::distance;
 pub use timers::{AnswerTimer, AskTimer};

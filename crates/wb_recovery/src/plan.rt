@@ -1,8 +1,16 @@
-//! What a tick is to do.
+//! What a tick is to do, and what it sends.
 
-use crate::action::Action;
 use crate::timers::Timers;
 use wb_names::Name;
+
+/// What a tick asks its caller to send.
+#[derive(Clone, Copy, Debug, PartialEq, Eq)]
+pub enum Action {
+    /// A request for the drawop of this name.
+    Ask(Name),
+    /// The drawop of this name.
+    Answer(Name),
+}
 
 /// What a tick will do: `Recovery::plan` works it out and changes nothing, `Recovery::commit` does it.
 #[derive(Debug, Drop)]

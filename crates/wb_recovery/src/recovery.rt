@@ -14,11 +14,10 @@ ghost use Rattle.wb_recovery.specs.declared.tuning.Tuning.{Tuning as Constants};
 mod notices;
 mod stopping;
 
-use crate::action::Action;
 use crate::alarms::Alarms;
-use crate::fault::{RecoveryFault, TuningFault};
-use crate::limits::{DELAY_LIMIT, MOMENT_LIMIT};
+use crate::fault::{DELAY_LIMIT, MOMENT_LIMIT, RecoveryFault, TuningFault};
 use crate::missed::Missed;
+use crate::plan::Action;
 use crate::records::{copy_of, rewrite, timers_of};
 use crate::timers::{AnswerTimer, AskTimer, Timers};
 use crate::tuning::Tuning;

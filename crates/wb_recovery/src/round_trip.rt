@@ -2,7 +2,7 @@
 ghost use Rattle.std.specs.Prelude.{◌≡◌};
 ghost use Rattle.wb_recovery.specs.Distance.{distance_of};
 
-use crate::limits::DELAY_LIMIT;
+use crate::fault::DELAY_LIMIT;
 
 /// The delay to another member, in microseconds, from an echo of one's own session message: it was
 /// sent at `sent`, lay with the other member for `held`, and its echo is heard at `now`. It is half of

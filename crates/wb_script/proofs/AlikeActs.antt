@@ -8,7 +8,7 @@ use Rattle.wb_names.specs.declared.gap.Gap.{Gap}
 use Rattle.wb_codec.specs.declared.datagram.Datagram.{Datagram}
 use Rattle.wb_codec.specs.declared.datagram.Datagram.TheVariants.{PageState, Session as SessionMessage}
 use Rattle.wb_gaps.specs.declared.page_reports.PageReport.{PageReport}
-use Rattle.wb_recovery.specs.declared.action.Action.{Action}
+use Rattle.wb_recovery.specs.declared.plan.Action.{Action}
 use Rattle.wb_recovery.specs.Events.{asking, actions_of, timers_of, names_of as timer_names}
 use Rattle.wb_recovery.specs.Stopping.{receipts}
 use Rattle.wb_host.specs.Keeper.{Hear, Miss, GoOn, is_own, delay_to, received_of}

@@ -15,7 +15,7 @@ use Rattle.wb_recovery.specs.Timing.{noticed, asked, got, ticked}
 use Rattle.wb_recovery.specs.Events.{Event, Notice, Asked, Got, Tick, names_of, word_for, due_asks, timers_of}
 use Rattle.wb_recovery.specs.Noticing.{notices}
 use Rattle.wb_recovery.specs.Stopping.{receipts}
-use Rattle.wb_recovery.specs.declared.received.Received.{Received}
+use Rattle.wb_recovery.specs.declared.missed.Received.{Received}
 use Rattle.wb_recovery.specs.declared.missed.Missed.{Missed}
 use Rattle.wb_recovery.specs.declared.timers.Timers.{Timers}
 use Rattle.wb_recovery.specs.declared.tuning.Tuning.{Tuning}

@@ -25,8 +25,8 @@ use Rattle.wb_gaps.proofs.PageAnswers.{pages_of_history, only_pages}
 use Rattle.wb_gaps.proofs.Rearranged.{gaps_moved, pages_moved}
 use Rattle.wb_gaps.proofs.Reports.{greatest_held}
 use Rattle.wb_gaps.proofs.Sorting.{lists_sorted}
-use Rattle.wb_recovery.specs.declared.action.Action.{Action}
-use Rattle.wb_recovery.specs.declared.action.Action.TheVariants.{Ask, Answer}
+use Rattle.wb_recovery.specs.declared.plan.Action.{Action}
+use Rattle.wb_recovery.specs.declared.plan.Action.TheVariants.{Ask, Answer}
 use Rattle.wb_host.specs.Keeper.{holds}
 use Rattle.wb_host.specs.Hearing.{asks_for_held}
 use Rattle.wb_host.specs.Ticks.{drawop_of, sent_for}

@@ -11,7 +11,7 @@ use Rattle.wb_codec.specs.declared.datagram.Datagram.{Datagram}
 use Rattle.wb_codec.specs.declared.datagram.Datagram.TheVariants.{Session}
 use Rattle.wb_recovery.specs.Events.{Event, asking, due_asks, due_answers, actions_of, timers_of, names_of}
 use Rattle.wb_recovery.specs.Stopping.{receipts}
-use Rattle.wb_recovery.specs.declared.action.Action.TheVariants.{Ask, Answer}
+use Rattle.wb_recovery.specs.declared.plan.Action.TheVariants.{Ask, Answer}
 use Rattle.wb_recovery.specs.declared.timers.Timers.{Timers}
 use Rattle.wb_gaps.specs.Answers.{gaps_of, report_of}
 use Rattle.wb_gaps.specs.Sorting.{sorted}

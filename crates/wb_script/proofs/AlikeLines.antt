@@ -7,7 +7,7 @@ use Rattle.wb_names.specs.Values.{DrawopValue}
 use Rattle.wb_names.specs.Arrivals.{history_after}
 use Rattle.wb_names.proofs.Listings.{Contains-here, Contains-none}
 use Rattle.wb_script.specs.declared.fault.RunFault.{RunFault}
-use Rattle.wb_script.specs.declared.summary.Summary.{Summary}
+use Rattle.wb_script.specs.declared.running.Summary.{Summary}
 use Rattle.wb_script.specs.declared.command.Command.{Command}
 use Rattle.wb_script.specs.Board.{Held}
 use Rattle.wb_script.specs.Hosts.{Opened, opened, host_after, batch_text, Act, does, fails, act}

@@ -5,7 +5,7 @@ use Rattle.std.proofs.lemmas.Bool.{false≢true}
 use Rattle.std.proofs.lemmas.List.{append-nil}
 use Rattle.wb_script.specs.declared.fault.RunFault.{RunFault}
 use Rattle.wb_script.specs.declared.fault.RunFault.TheVariants as run_faults
-use Rattle.wb_script.specs.declared.summary.Summary.{Summary}
+use Rattle.wb_script.specs.declared.running.Summary.{Summary}
 use Rattle.wb_lines.specs.Ahead.{Ahead, Pulls}
 use Rattle.wb_lines.specs.Input.{input_lines}
 use Rattle.wb_script.specs.Script.{State, start, Outcome, prints, before, outcome, Finishes, IsOutcome, IsStop}

@@ -8,7 +8,7 @@ use Rattle.wb_names.specs.Values.{DrawopValue}
 use Rattle.wb_script.specs.declared.fault.LineFault.{LineFault}
 use Rattle.wb_script.specs.declared.fault.RunFault.{RunFault}
 use Rattle.wb_script.specs.declared.fault.RunFault.TheVariants as run_faults
-use Rattle.wb_script.specs.declared.summary.Summary.{Summary}
+use Rattle.wb_script.specs.declared.running.Summary.{Summary}
 use Rattle.wb_lines.specs.Ahead.{Ahead, NoLineFeed, IsLine}
 use Rattle.wb_lines.specs.Input.{InputLine, input_lines, content, most_bytes, BeginsWith}
 use Rattle.wb_script.specs.Script.{State, MayBeTaken, InSomeOrder, Step, goes, refused, step_of, Outcome, prints, before, finish, proceed, continue, most_lines, outcome_from, Finishes, Proceeds, fault_at, Continues, IsOutcomeFrom, IsStop}

@@ -11,7 +11,7 @@ use Rattle.wb_script.specs.declared.fault.RunFault.{RunFault}
 use Rattle.wb_script.specs.declared.fault.RunFault.TheVariants as run_faults
 use Rattle.wb_script.specs.declared.command.Command.{Command}
 use Rattle.wb_script.specs.declared.command.Command.TheVariants.{Skip}
-use Rattle.wb_script.specs.declared.summary.Summary.{Summary}
+use Rattle.wb_script.specs.declared.running.Summary.{Summary}
 use Rattle.wb_lines.specs.Ahead.{IsLine}
 use Rattle.wb_script.specs.Hosts.{Opened, opened, Act, does, fails, act}
 use Rattle.wb_script.specs.Parsing.{line_of}

@@ -13,7 +13,7 @@ use Rattle.wb_script.specs.declared.fault.LineFault.TheVariants as faults
 use Rattle.wb_script.specs.declared.fault.RunFault.{RunFault}
 use Rattle.wb_script.specs.declared.fault.RunFault.TheVariants as run_faults
 use Rattle.wb_script.specs.declared.command.Command.{Command}
-use Rattle.wb_script.specs.declared.summary.Summary.{Summary}
+use Rattle.wb_script.specs.declared.running.Summary.{Summary}
 use Rattle.wb_script.specs.Board.{Held}
 use Rattle.wb_script.specs.Answers.{batch_line}
 use Rattle.wb_script.specs.Hosts.{Opened, opened, present, board_after, names_of, host_after, batch_text, Act, does, fails, act}

@@ -1,7 +1,7 @@
 -- What a run makes of a script.
 use Rattle.std.specs.Prelude.{ℕ, List, Bool, Option, Result}
 use Rattle.wb_script.specs.declared.fault.RunFault.{RunFault}
-use Rattle.wb_script.specs.declared.summary.Summary.{Summary}
+use Rattle.wb_script.specs.declared.running.Summary.{Summary}
 use Rattle.wb_lines.specs.Input.{input_lines}
 use Rattle.wb_script.specs.Script.{IsAlone, Outcome, outcome, IsOutcome}
 use Rattle.wb_script.specs.Script.{Meets}

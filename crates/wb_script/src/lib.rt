@@ -24,7 +24,6 @@ mod random;
 mod running;
 mod script_lines;
 mod sent_lines;
-mod summary;
 mod taking;
 mod whiteboard;
 
@@ -35,7 +34,6 @@ pub use command::Command;
 pub use fault::{LineFault, ParseFault, RunFault};
 pub use member::Member;
 pub use parsing::{datagram, four_words, no_words, page, parse_line, u32_word};
-pub use running::run;
+pub use running::{Summary, run};
 pub use sent_lines::send_line;
-pub use summary::Summary;
 pub use wb_feed::{Gate, NoGate};

@@ -15,7 +15,6 @@ use crate::host::Host;
 use crate::part::Part;
 use crate::progress::{Place, Progress};
 use crate::script_lines::ScriptLines;
-use crate::summary::Summary;
 use crate::taking::is_stop;
 use std::alloc::Global;
 use std::sync::Wait;
@@ -23,6 +22,15 @@ use std::thread::Threads;
 use wb_feed::Gate;
 use wb_lines::Output;
 use wb_names::{Sink, Source};
+
+/// How far a script went.
+#[derive(Clone, Copy, Debug, PartialEq, Eq)]
+pub struct Summary {
+    /// The lines, of each kind.
+    pub lines: u32,
+    /// The drawops that are held.
+    pub held: u32,
+}
 
 /// Runs the line that was looked at, and where a batch begins with it, all of the batch.
 fn run_seen<T: Threads + Wait + Sync, R: Source, W: Sink, G: Gate + Sync>(

@@ -16,8 +16,8 @@ use Rattle.wb_codec.specs.declared.datagram.Datagram.{Datagram}
 use Rattle.wb_codec.specs.declared.datagram.Datagram.TheVariants.{Draw, Session, AskPages, PageState}
 use Rattle.wb_gaps.specs.Answers.{reports_of}
 use Rattle.wb_gaps.specs.declared.page_reports.PageReport.{PageReport}
-use Rattle.wb_recovery.specs.declared.action.Action.{Action}
-use Rattle.wb_recovery.specs.declared.action.Action.TheVariants.{Ask, Answer}
+use Rattle.wb_recovery.specs.declared.plan.Action.{Action}
+use Rattle.wb_recovery.specs.declared.plan.Action.TheVariants.{Ask, Answer}
 use Rattle.wb_host.specs.Hearing.{answers_to, asks_for_pages, asks_for_held, page_states}
 use Rattle.wb_host.specs.Keeper.{KeeperCall, SetDelay, Hear, Arrive, Miss, GoOn, Report, GiveUp}
 use Rattle.wb_host.specs.Ticks.{drawop_of, sent_for, sends_for}

@@ -11,8 +11,8 @@ use Rattle.wb_codec.specs.declared.datagram.Datagram.{Datagram}
 use Rattle.wb_codec.specs.declared.datagram.Datagram.TheVariants.{Draw, Request, AskPages, PageState}
 use Rattle.wb_gaps.specs.Answers.{report_of, pages_of, reports_of}
 use Rattle.wb_gaps.specs.declared.page_reports.PageReport.{PageReport}
-use Rattle.wb_recovery.specs.declared.action.Action.{Action}
-use Rattle.wb_recovery.specs.declared.action.Action.TheVariants.{Ask, Answer}
+use Rattle.wb_recovery.specs.declared.plan.Action.{Action}
+use Rattle.wb_recovery.specs.declared.plan.Action.TheVariants.{Ask, Answer}
 use Rattle.wb_host.specs.Hearing.{marks_in, answers_to, asks_for_pages, page_states}
 use Rattle.wb_host.specs.Ticks.{drawop_of, sent_for, sends_for}
 use Rattle.wb_host.proofs.TickSends.{sent_from}

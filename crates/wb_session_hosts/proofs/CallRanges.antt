@@ -16,7 +16,7 @@ use Rattle.wb_codec.specs.declared.datagram.Datagram.TheVariants as datagrams
 use Rattle.wb_recovery.specs.Events.{Event, Notice, Asked, names_of, asking, timers_of}
 use Rattle.wb_recovery.specs.Noticing.{notices}
 use Rattle.wb_recovery.specs.Stopping.{receipts}
-use Rattle.wb_recovery.specs.declared.received.Received.{Received}
+use Rattle.wb_recovery.specs.declared.missed.Received.{Received}
 use Rattle.wb_recovery.specs.declared.missed.Missed.{Missed}
 use Rattle.wb_recovery.specs.declared.timers.Timers.{Timers}
 use Rattle.wb_recovery.specs.declared.tuning.Tuning.{Tuning}

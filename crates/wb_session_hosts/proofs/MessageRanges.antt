@@ -23,8 +23,8 @@ use Rattle.wb_gaps.proofs.Sorting.{length-sorted-le}
 use Rattle.wb_recovery.specs.Timing.{is_ask_due}
 use Rattle.wb_recovery.specs.Events.{names_of, timers_of, due_asks, due_answers, actions_of}
 use Rattle.wb_recovery.specs.Stopping.{receipts}
-use Rattle.wb_recovery.specs.declared.action.Action.{Action}
-use Rattle.wb_recovery.specs.declared.action.Action.TheVariants.{Ask, Answer}
+use Rattle.wb_recovery.specs.declared.plan.Action.{Action}
+use Rattle.wb_recovery.specs.declared.plan.Action.TheVariants.{Ask, Answer}
 use Rattle.wb_recovery.specs.declared.tuning.Tuning.{Tuning}
 use Rattle.wb_recovery.proofs.StoppedNames.{names_receipts}
 use Rattle.wb_host.specs.Keeper.{KeeperCall, Hear, is_own, session_in, session_heard, remember, senders_of, last_heard, delay_to, received_of, events_of}

@@ -14,8 +14,7 @@ ghost use Rattle.wb_recovery.specs.Accepted.{StandsFor};
 ghost use Rattle.wb_recovery.specs.Noticing.{notices, unset_at, taken_back};
 ghost use Rattle.wb_recovery.specs.declared.tuning.Tuning.{Tuning as Constants};
 
-use crate::fault::RecoveryFault;
-use crate::limits::DELAY_LIMIT;
+use crate::fault::{DELAY_LIMIT, RecoveryFault};
 use crate::missed::Missed;
 use crate::records::rewrite;
 use crate::recovery::Recovery;

@@ -12,15 +12,13 @@ ghost use Rattle.wb_recovery.specs.Events.{Event, Tick, asking, due_asks, action
 ghost use Rattle.wb_recovery.specs.Accepted.{StandsFor};
 ghost use Rattle.wb_recovery.specs.Alarms.{Tells};
 ghost use Rattle.wb_recovery.specs.Stopping.{receipts, is_received, EndsAll, FiresThese, IsPlan, IsPlanOf};
-ghost use Rattle.wb_recovery.specs.declared.received.Received.{Received as AReceived};
+ghost use Rattle.wb_recovery.specs.declared.missed.Received.{Received as AReceived};
 ghost use Rattle.wb_recovery.specs.declared.tuning.Tuning.{Tuning as Constants};
 
-use crate::action::Action;
-use crate::fault::RecoveryFault;
+use crate::fault::{DELAY_LIMIT, RecoveryFault};
 use crate::firing::{actions, answer_all, ask_all, asked_after};
-use crate::limits::DELAY_LIMIT;
-use crate::plan::Plan;
-use crate::received::Received;
+use crate::missed::Received;
+use crate::plan::{Action, Plan};
 use crate::recovery::Recovery;
 use std::alloc::{AllocError, Global};
 use std::collections::BTreeSet;

@@ -2,7 +2,7 @@
 use Rattle.std.specs.Prelude.{◌≡◌, ℕ, List, [], ◌++◌, Bool, true, false, Option, Result, Ok, Err, ◌⊎◌}
 use Rattle.wb_script.specs.declared.fault.RunFault.{RunFault}
 use Rattle.wb_script.specs.declared.fault.RunFault.TheVariants as run_faults
-use Rattle.wb_script.specs.declared.summary.Summary.{Summary}
+use Rattle.wb_script.specs.declared.running.Summary.{Summary}
 use Rattle.wb_lines.specs.Ahead.{Ahead}
 use Rattle.wb_lines.specs.Input.{MayFollow, MayRemain, input_lines, BeginsWith}
 use Rattle.wb_script.specs.Script.{State, Outcome, prints, before, Finishes, IsOutcomeFrom, IsOutcome, is_stop, Begins, IsStopped}

@@ -2,7 +2,7 @@ use Rattle.std.proofs.Common.{◌∙◌, sym, ap, subst, refl, List}
 use Rattle.std.specs.Prelude.{filter}
 use Rattle.wb_recovery.specs.Accepted as timers
 use Rattle.wb_recovery.specs.Stopping.{receipts}
-use Rattle.wb_recovery.specs.declared.received.Received.{Received}
+use Rattle.wb_recovery.specs.declared.missed.Received.{Received}
 use Rattle.wb_host.specs.Keeper.{Arrive, received_of, holds, events_of}
 use Rattle.wb_host.specs.Keeping.{KeeperValue, delay_at}
 use Rattle.wb_host.proofs.KeptCalls.{keeps_inward, same_received}

@@ -2,7 +2,7 @@ use Rattle.std.proofs.Common.{ℕ, ◌∙◌, ◌∷◌, sym, ap, subst, refl, L
 use Rattle.wb_recovery.specs.Events.{Tick, actions_of}
 use Rattle.wb_recovery.specs.Accepted as timers
 use Rattle.wb_recovery.specs.Stopping.{receipts, IsPlanOf}
-use Rattle.wb_recovery.specs.declared.received.Received.{Received}
+use Rattle.wb_recovery.specs.declared.missed.Received.{Received}
 use Rattle.wb_host.specs.Keeper.{GoOn, events_of}
 use Rattle.wb_host.specs.Keeping.{KeeperValue}
 use Rattle.wb_host.specs.Ticks.{sends_for, stopped_in}

@@ -10,8 +10,8 @@ use Rattle.wb_recovery.specs.Values.{RecoveryValue, names_in, timers_in}
 use Rattle.wb_recovery.specs.Events.{names_of, timers_of, due_asks}
 use Rattle.wb_recovery.specs.Accepted.{StandsFor}
 use Rattle.wb_recovery.specs.Stopping.{receipts, IsPlanOf}
-use Rattle.wb_recovery.specs.declared.action.Action.{Action}
-use Rattle.wb_recovery.specs.declared.action.Action.TheVariants.{Ask, Answer}
+use Rattle.wb_recovery.specs.declared.plan.Action.{Action}
+use Rattle.wb_recovery.specs.declared.plan.Action.TheVariants.{Ask, Answer}
 use Rattle.wb_recovery.proofs.StoppedNames.{asking_left, answering_left, words_left, others_asking, others_answering}
 use Rattle.wb_recovery.proofs.recovery.Recovery.plan.Goals as goal
 
