@@ -6,7 +6,7 @@ use Rattle.std.proofs.lemmas.Bool.Decides.{nat_tests}
 use Rattle.std.proofs.lemmas.List.{length-take, get_or-take, get_or_default, map-append}
 use Rattle.std.proofs.lemmas.List.Folds.{Any-from_list_any}
 use Rattle.wb_names.proofs.Orders.{same_name-is}
-use Rattle.std.proofs.lemmas.List.Elements.{All-head, All-tail, Contains-get_or, All-push, Contains-append_left, Contains-push}
+use Rattle.std.proofs.lemmas.List.Elements.{All-head, All-tail, Contains-get_or, All-push, Contains-append_left}
 use Rattle.std.proofs.lemmas.List.Quantifiers.{all_pairs_push}
 use Rattle.wb_names.specs.Values.{DrawopValue, NameValue}
 use Rattle.wb_names.specs.History.{IsHistory}
@@ -19,9 +19,9 @@ use Rattle.wb_display.specs.Layer.{holds_name, LayerValue, is_news, held_with, h
 use Rattle.wb_display.specs.LayerFields.{held_of}
 use Rattle.wb_display.specs.TakingIn.{IsKeyed, AreHeld, AreKept, TakesIn, Touches, HoldsToo, IsShownIn}
 use Rattle.wb_names.specs.declared.parts.Target.{Target}
-use Rattle.wb_display.proofs.Deciding.{nowhere_from, shown_here, list_any_here, list_any_nowhere, one_drawop, tie_names}
+use Rattle.wb_display.proofs.Deciding.{nowhere_from, shown_here, list_any_nowhere, one_drawop, tie_names}
 use Rattle.std.specs.List.Sorted.{IsStrictlySortedBy}
-use Rattle.std.proofs.lemmas.Bool.{and_parts, not-true, and_right, not_from_false, and_from}
+use Rattle.std.proofs.lemmas.Bool.{and_parts, not-true, not_from_false, and_from}
 use Rattle.indexmap.specs.IndexMap.{insert_entry}
 use Rattle.wb_display.specs.Display.{is_shown, IsView}
 use Rattle.wb_display.specs.DisplayList.{SetsShown, TiesAlone, ShowsOthers, TieOnce}
@@ -32,7 +32,6 @@ use Rattle.std.specs.List.{list_any}
 use Rattle.std.specs.Ordering.{is_eq}
 use Rattle.std.proofs.lemmas.List.Sums.{fold_more}
 use Rattle.wb_names.specs.Listing.{Lists}
-use Rattle.wb_display.specs.Laws.{KeepsTheFirst}
 
 -- ---- what is held, by the keys of the drawops
 
@@ -342,16 +341,3 @@ module _ (words words' : LastWords) (entries entries' : List (Target × DrawopVa
   } where
     from : (x : DrawopValue) → IsShownIn (held_of entries') words.page x → Contains shown x ⊎ Contains touched x
     from x m = ⊎_elim (λ (c : Contains touched x). inr c) (λ (out : ¬ Contains touched x). inl ((kept.view.members x).1 ((touches.others x out).0 m))) (member_or_not touched x)
-
--- of two of one name the first is kept
-pub keeps_the_first : KeepsTheFirst
-keeps_the_first page held d e same = sym (held_not_more page (held_with page held d) e (subst (λ (n : NameValue). (same_page n.page page && not (holds_name (held_with page held d) n)) ≡ false) same (at (same_page d.name.page page) (holds_name held d.name) refl refl))) where
-  at : (here known : Bool) → same_page d.name.page page ≡ here → holds_name held d.name ≡ known → (same_page d.name.page page && not (holds_name (held_with page held d) d.name)) ≡ false
-  at false known p h = ap (λ (b : Bool). b && not (holds_name (held_with page held d) d.name)) p
-  at true true p h =
-      let none : is_news page held d ≡ false = ap (λ (b : Bool). same_page d.name.page page && not b) h ∙ and_right (same_page d.name.page page) false refl in
-      and_right (same_page d.name.page page) _ (ap (λ (hs : List DrawopValue). not (holds_name hs d.name)) (sym (held_not_more page held d none)) ∙ ap not h)
-  at true false p h =
-      let news : is_news page held d ≡ true = and_from (same_page d.name.page page) _ p (not_from_false _ h) in
-      let held_now : holds_name (held ++ d ∷ []) d.name ≡ true = list_any_here (λ x. same_name x.name d.name) (held ++ d ∷ []) d (Contains-push held d) (same_name-here d.name) in
-      and_right (same_page d.name.page page) _ (ap (λ (hs : List DrawopValue). not (holds_name hs d.name)) (held_more page held d news) ∙ ap not held_now)

@@ -6,7 +6,6 @@ use Rattle.std.proofs.lemmas.List.{map-id}
 use Rattle.std.proofs.lemmas.List.FromFn.{map-range_with_len_more}
 use Rattle.std.proofs.lemmas.List.Folds.{list_any-append}
 use Rattle.wb_display.specs.Canvas.{distance, toward, share, line_len, line_at, is_line_point, is_on_line}
-use Rattle.wb_display.specs.Laws.{LinesStepByOne}
 use Rattle.std.proofs.lemmas.Nat.{div-mul-add, mod-mul-add, div_below, le-div}
 use Rattle.std.proofs.lemmas.Bool.Decides.{nat_tests}
 use Rattle.wb_display.specs.Cells.{is_at, Overlays, is_on_row}
@@ -44,24 +43,6 @@ line_more w h x0 y0 x1 y1 m n px py g old mid new ex ey a b =
 
 pub own_share : (d k : ℕ) → 0 < d → share d k d ≡ k
 own_share d k pos = ap (λ (n : ℕ). n / (2 * d)) (let e : 2 * k * d + d ≡ k * (2 * d) + d = omega arith in e) ∙ div-mul-add k (2 * d) d (omega arith)
-
-no_distance : (a : ℕ) → distance a a ≡ 0
-no_distance a = omega arith
-
-stands : (a : ℕ) → line_at a a 0 0 ≡ a
-stands a = ap (λ (d : ℕ). toward a a ((2 * 0 * d + 0) / (2 * 0))) (no_distance a) ∙ toward_here a where
-  toward_here : (a : ℕ) → toward a a 0 ≡ a
-  toward_here a = grind (arith, nat_tests)
-
-one_point : (x0 y0 x y : ℕ) → is_on_line x0 y0 x0 y0 x y ≡ (nat_eq x x0 && nat_eq y y0)
-one_point x0 y0 x y =
-    ap (λ (m : ℕ). list_any (λ k. is_line_point x0 y0 x0 y0 m x y k) (range_with_len 0 (m + 1))) (let e : line_len x0 y0 x0 y0 ≡ 0 = omega arith in e)
-    ∙ or_false (is_line_point x0 y0 x0 y0 0 x y 0)
-    ∙ ap (λ (a : ℕ). nat_eq x a && nat_eq y (line_at y0 y0 0 0)) (stands x0)
-    ∙ ap (λ (b : ℕ). nat_eq x x0 && nat_eq y b) (stands y0)
-
-pub steps_by_one : LinesStepByOne
-steps_by_one = (own_share, one_point)
 
 -- ---- a running error is the remainder of the division, step by step
 
@@ -170,29 +151,6 @@ pub same_steps : (p : Progress) (a b s m k : ℕ) → s ≡ m → p ≡ record {
 same_steps p a b s m k same e =
     let P : ℕ → Type 0 = λ t. p ≡ record { from = a; to = b; steps = t; gone = k } in
     subst P same e
-
-pub before_end : (p q end : ℕ) → p ≡ q → q < end → p < end
-before_end p q end same lt = omega arith
-
--- the steps at which both coordinates are inside
-pub both_inside : (w h x0 y0 x1 y1 m f e : ℕ) (a b : Steps) → f ≡ max a.first b.first → e ≡ min a.end b.end
-    → ((k : ℕ) → k < a.first → w ≤ line_at x0 x1 m k) → ((k : ℕ) → a.first ≤ k → k < a.end → line_at x0 x1 m k < w) → ((k : ℕ) → a.end ≤ k → k ≤ m → w ≤ line_at x0 x1 m k) → a.end ≤ m + 1
-    → ((k : ℕ) → k < b.first → h ≤ line_at y0 y1 m k) → ((k : ℕ) → b.first ≤ k → k < b.end → line_at y0 y1 m k < h) → ((k : ℕ) → b.end ≤ k → k ≤ m → h ≤ line_at y0 y1 m k)
-    → AreInside w h x0 y0 x1 y1 m (record { first = f; end = e })
-both_inside w h x0 y0 x1 y1 m f e a b ef ee ab ai aa aw bb bi ba = record {
-  before = λ k lt. early k lt (cases_lt k a.first);
-  columns = λ k le lt. ai k (omega arith) (omega arith);
-  rows = λ k le lt. bi k (omega arith) (omega arith);
-  after = λ k le fit. late k le fit (cases_lt k a.end);
-  within = omega arith;
-} where
-  early : (k : ℕ) → k < f → (k < a.first) ⊎ (a.first ≤ k) → (w ≤ line_at x0 x1 m k) ⊎ (h ≤ line_at y0 y1 m k)
-  early k lt (inl first) = inl (ab k first)
-  early k lt (inr later) = inr (bb k (omega arith))
-
-  late : (k : ℕ) → e ≤ k → k ≤ m → (k < a.end) ⊎ (a.end ≤ k) → (w ≤ line_at x0 x1 m k) ⊎ (h ≤ line_at y0 y1 m k)
-  late k le fit (inr past) = inl (aa k past fit)
-  late k le fit (inl before) = inr (ba k (omega arith) fit)
 
 missed : (x y px py w h : ℕ) → x < w → y < h → (w ≤ px) ⊎ (h ≤ py) → is_at px py x y ≡ false
 missed x y px py w h hx hy (inl past) = grind (arith, nat_tests)

@@ -105,18 +105,6 @@ from_any [] up = nothing_rises
 from_any (x ∷ xs) up = sorted_from_all_adjacent display_total (x ∷ xs) x (up x)
 
 module _ (xs ys : List DrawopValue) (up : IsStrictlySortedBy display_cmp xs) (rise : IsStrictlySortedBy display_cmp ys) where
-  -- all is still to be merged
-  pub merging_none : (cur : List DrawopValue) → length cur ≡ length xs + length ys → ((k : ℕ) (d : DrawopValue) → k < length xs → get_or cur k d ≡ get_or xs k d) → Merging xs ys cur (length xs) (length ys)
-  merging_none cur len front = record {
-    within_left = omega arith;
-    within_right = omega arith;
-    len = len;
-    front = front;
-    rising = λ i j d lo lt h. absurd (omega arith);
-    members = λ x. ((λ b. absurd (let h = b.2 in let g = b.1 in omega arith)), (λ s. ⊎_elim (λ (b : Behind (length xs) xs x). absurd (let h = b.2 in let g = b.1 in omega arith)) (λ (b : Behind (length ys) ys x). absurd (let h = b.2 in let g = b.1 in omega arith)) s));
-    below = λ x w r b. absurd (let h = b.2 in let g = b.1 in omega arith);
-  }
-
   -- the last of the first list moves up
   pub merging_moved : (cur : List DrawopValue) (left right n : ℕ) (e next : DrawopValue) → Merging xs ys cur (left + 1) (right + 1) → left + (right + 1) ≡ n → get_or xs left e ≡ e → get_or ys right next ≡ next → display_cmp next e ≡ Less → Merging xs ys (set cur n e) left (right + 1)
   merging_moved cur left right n e next m at is nth low =

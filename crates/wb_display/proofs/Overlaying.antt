@@ -36,16 +36,6 @@ plotted w h px py g old lx ly len = record {
       let hit : (nat_lt x w && is_at px py x y) ≡ true = grind (arith, nat_tests) in
       ap (λ (i : ℕ). get_or (set old (py * (w + 1) + px) g) i 0) at ∙ get_or-set_same old (place w px py) g 0 room ∙ ap (λ (b : Bool). cond b g (get_or old (place w x y) 0)) (sym hit)
 
--- a point outside the canvas
-pub clipped : (w h px py g : ℕ) (old : List ℕ) → (w ≤ px) ⊎ (h ≤ py) → Overlays w h (is_at px py) (λ _. g) old old
-clipped w h px py g old out = record {
-  len = refl;
-  cells = λ x y hx hy. ap (λ (b : Bool). cond b g (get_or old (place w x y) 0)) (sym (missed x y hy out));
-} where
-  missed : (x y : ℕ) → y < h → (w ≤ px) ⊎ (h ≤ py) → (nat_lt x w && is_at px py x y) ≡ false
-  missed x y hy (inl le) = grind (arith, nat_tests)
-  missed x y hy (inr le) = grind (arith, nat_tests)
-
 -- nothing drawn
 pub untouched : (w h : ℕ) (covered : ℕ → ℕ → Bool) (glyph : ℕ → ℕ) (old : List ℕ) → ((x y : ℕ) → covered x y ≡ false) → Overlays w h covered glyph old old
 untouched w h covered glyph old none = record {

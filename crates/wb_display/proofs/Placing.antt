@@ -105,22 +105,6 @@ module _ (xs : List DrawopValue) (up : IsStrictlySortedBy display_cmp xs) where
         itself = ((λ _. refl), (λ _. Contains-permutation (d ∷ xs) (insert xs i d) d moved (Contains-here d xs)));
       }
 
-  -- d stays out
-  pub kept_out : (d : DrawopValue) (i : ℕ) → IsPartitionPoint (λ x. display_cmp x d ≡ Less) (λ x. display_cmp x d ≡ Greater) xs i → SetsShown d false xs xs
-  kept_out d i place = record {
-    rising = up;
-    others = λ x ne. ((λ h. h), (λ h. h));
-    itself = ((λ h. absurd (not_among d i place h)), (λ e. cc));
-  }
-
-  -- d stays in
-  pub kept_in : (d : DrawopValue) (i : ℕ) → i < length xs → get_or xs i d ≡ d → SetsShown d true xs xs
-  kept_in d i lt is = record {
-    rising = up;
-    others = λ x ne. ((λ h. h), (λ h. h));
-    itself = ((λ h. refl), (λ e. (i, lt, is)));
-  }
-
   -- d leaves
   pub left : (d : DrawopValue) (i : ℕ) → i < length xs → get_or xs i d ≡ d → SetsShown d false xs (remove xs i)
   left d i lt is =

@@ -1,22 +1,9 @@
-use Rattle.std.proofs.Common.{rules, ◌≡◌, ◌∙◌, ◌+◌, ◌++◌, [], ◌∷◌, true, false, sym, ap, arith, length, vec_len}
+use Rattle.std.proofs.Common.{rules, ◌≡◌, ◌∙◌, ◌+◌, ◌++◌, [], ◌∷◌, true, false, sym, arith, vec_len}
 use Rattle.wb_display.specs.Layer.{is_news}
 use Rattle.wb_display.specs.LayerFields.{held_of}
 use Rattle.wb_display.proofs.Layers.{touched_more, touched_alone, step_held, room_left, held_more_puts, held_not_more}
-use Rattle.wb_display.proofs.Putting.{touched_none}
 use Rattle.wb_display.proofs.layer.take_in_all.Goals as goal
 use Rattle.wb_display.proofs.layer.take_in_all.Goals.{then-is_news+in-Some, then-is_news+in_default, else-is_news}
-
-pub loop-drawop-init : goal.loop-drawop-init
-loop-drawop-init c = record {
-  page = search rules;
-  held = c.requires.held;
-  all = search rules;
-  touches = rw c.requires.none (touched_none c.args.words.now.page (held_of c.args.drawops.now.entries));
-  words = c.requires.words;
-  drawops = c.requires.drawops;
-  touched = omega (arith, ap length c.requires.none);
-  count = omega (arith, ap length c.requires.none);
-}
 
 pub loop-drawop-preserved : goal.loop-drawop-preserved
 loop-drawop-preserved c =
