@@ -73,6 +73,7 @@ impl Layer {
 
     /// Puts each drawop of a list, in its order, as that many calls of `put` would. All memory is
     /// asked for before anything is changed: where it is refused, none was put.
+    #[tactic(auto, using(crate::proofs::Layers::news_none))]
     pub fn put_all(&mut self, drawops: &[Drawop]) -> Result<(), AllocError>
         ensures ok { OnOk result (self.new ≡ record self.old { held = held_with_all self.old.page self.old.held drawops.now }) }
         ensures err { OnErr result (self.new ≡ self.old) }
