@@ -266,6 +266,8 @@ fed_feeds w h y cells hy len fed =
     (λ b hb. let other : place w w b ≢ place w w y = λ s. (let e = (same_from_place b w y w (w + 1) (omega arith) (omega arith) s).0 in omega arith) in get_or-set_other cells (place w w y) (place w w b) 10 0 other ∙ fed b hb)
     (get_or-set_same cells (place w w y) 10 0 (omega (arith, mul-add-lt y (w + 1) w h hy (omega arith), len)))
 
+pub ruleset fed = (fed_columns, fed_feeds)
+
 -- the same, at a step of a loop over the list
 pub shows_next : (w h : ℕ) (ds : List DrawopValue) (i : ℕ) (d : DrawopValue) (op : Op) (old new : List ℕ) → i < length ds → d ≡ get_or ds i d → op ≡ d.op → Shows w h (take i ds) old → Overlays w h (covers op) (glyph_of op) old new → Shows w h (take (i + 1) ds) new
 shows_next w h ds i d op old new lt is same s over =

@@ -133,7 +133,7 @@ impl Canvas {
 }
 
 /// Makes the cells an empty canvas: spaces, and a line feed at the end of each row.
-#[tactic(auto, using(crate::proofs::Overlaying::fed_columns, crate::proofs::Overlaying::fed_feeds))]
+#[tactic(auto, using(crate::proofs::Overlaying::fed))]
 fn clear(cells: &mut [u8], size: Size)
     requires { length cells.old ≡ size.height * (size.width + 1) }
     ensures { Shows size.width size.height [] cells.new }

@@ -141,7 +141,7 @@ fn step_moved(distance: u16, steps: u16, moved: usize) -> usize
 }
 
 /// The steps at which a coordinate on its way from `from` to `to` is before `end`, in cells.
-#[tactic(auto, using(crate::proofs::Lines::lies_between, crate::proofs::Lines::up_before, crate::proofs::Lines::up_after, crate::proofs::Lines::down_before, crate::proofs::Lines::down_after))]
+#[tactic(auto, using(crate::proofs::Lines::steps_inside))]
 pub(crate) fn steps_inside(from: u16, to: u16, steps: u16, end: usize) -> Steps
     requires { distance_of from to ≤ steps }
     ensures before { (k : ℕ) → k < result.first → end ≤ line_at from to steps k }
