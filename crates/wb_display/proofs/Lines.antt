@@ -1,8 +1,8 @@
 -- A line, drawn by a running error from the first to the last step at which it is on the canvas.
-use Rattle.std.proofs.Common.{◌≡◌, ℕ, ◌+◌, ◌*◌, ◌/◌, ◌<◌, List, [], ◌∷◌, ◌++◌, length, get_or, refl, ap, ◌∙◌, sym, arith, zero, suc, ◌-◌, ◌%◌, ◌≤◌, ◌⊎◌, inl, inr, subst}
-use Rattle.std.specs.Prelude.{Bool, true, false, ◌&&◌, ◌||◌, nat_eq, nat_le, cond, max, min, nat_lt}
+use Rattle.std.proofs.Common.{◌≡◌, ℕ, ◌+◌, ◌*◌, ◌/◌, ◌<◌, List, [], ◌∷◌, ◌++◌, get_or, refl, ap, ◌∙◌, sym, arith, zero, suc, ◌-◌, ◌%◌, ◌≤◌, ◌⊎◌, inl, inr}
+use Rattle.std.specs.Prelude.{Bool, true, false, ◌&&◌, ◌||◌, nat_eq, max, min}
 use Rattle.std.specs.List.{list_any, range_with_len}
-use Rattle.std.proofs.lemmas.List.{map-id, get_or_default}
+use Rattle.std.proofs.lemmas.List.{map-id}
 use Rattle.std.proofs.lemmas.List.FromFn.{map-range_with_len_more, length-range_with_len, get_or-range_with_len}
 use Rattle.std.proofs.lemmas.List.Folds.{list_any-append, list_any_at, list_any_none}
 use Rattle.wb_display.specs.Canvas.{distance, toward, share, line_len, line_at, is_line_point, is_on_line}
@@ -15,7 +15,6 @@ use Rattle.std.proofs.Math.Bool.{or-false}
 use Rattle.wb_display.specs.Walks.{error_at, IsWalk, AreInside}
 use Rattle.wb_display.specs.declared.line_points.Walk.TheInside.{Inside}
 use Rattle.std.proofs.lemmas.Bool.{cases_lt}
-use Rattle.wb_display.specs.Walking.{Progress}
 use Rattle.wb_display.specs.declared.line_points.Steps.{Steps}
 use Rattle.std.proofs.lemmas.Grind.{div_ceil_times}
 
@@ -127,12 +126,12 @@ module _ (w h x0 y0 x1 y1 m g : ℕ) (inside : Steps) (are : AreInside w h x0 y0
 
   -- a line that is nowhere on the canvas
   pub line_missed : (old : List ℕ) → m ≡ line_len x0 y0 x1 y1 → inside.end ≤ inside.first → Overlays w h (is_on_line x0 y0 x1 y1) (λ _. g) old old
-  line_missed old steps none = agreeing w h _ _ _ old old (untouched w h (λ x y. false) (λ _. g) old (λ x y. refl)) (λ x y hx hy.
+  line_missed old steps none = agreeing w h _ _ _ old old (untouched w h (λ _. g) old) (λ x y hx hy.
       sym (none_more w h x0 y0 x1 y1 m 0 (m + 1) (m + 1) x y (omega arith) (λ k le lt. outside k lt (cases_lt k inside.first)) hx hy)
       ∙ ap (λ (t : ℕ). line_upto x0 y0 x1 y1 t (t + 1) x y) steps) where
-    outside : (k : ℕ) → k < m + 1 → (k < inside.first) ⊎ (inside.first ≤ k) → (w ≤ line_at x0 x1 m k) ⊎ (h ≤ line_at y0 y1 m k)
-    outside k le (inl early) = are.before k early
-    outside k le (inr late) = are.after k (omega arith) (omega arith)
+        outside : (k : ℕ) → k < m + 1 → (k < inside.first) ⊎ (inside.first ≤ k) → (w ≤ line_at x0 x1 m k) ⊎ (h ≤ line_at y0 y1 m k)
+        outside k le (inl early) = are.before k early
+        outside k le (inr late) = are.after k (omega arith) (omega arith)
 
 -- ---- the steps at which a coordinate is before an edge
 
