@@ -1,4 +1,3 @@
-pub mod Appending
 pub mod GrammarLaws
 pub mod Bytes
 pub mod DrawopLaws

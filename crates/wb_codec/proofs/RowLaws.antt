@@ -29,13 +29,6 @@ use Rattle.wb_codec.proofs.DrawopLaws.{code_back}
 use Rattle.wb_codec.proofs.Bytes.{IsBytes, IsBytes-take, IsBytes-drop, IsBytes-append, IsBytes-zeros}
 use Rattle.wb_codec.proofs.Lawful.{IsText, lawful_stroke, lawful_text}
 
--- all words are written
-pub all_written : (f : ℕ → List ℕ) (bytes words : List ℕ) (k : ℕ) → k ≤ 8 → length words ≤ k → length bytes ≡ 64 → length words ≡ 8 → take (8 * k) bytes ≡ flat_map f (take k words) → bytes ≡ flat_map f words
-all_written f bytes words k le ge len eight e =
-    let k-is : k ≡ 8 = omega arith in
-    let e8 : take 64 bytes ≡ flat_map f (take 8 words) = subst (λ (n : ℕ). take (8 * n) bytes ≡ flat_map f (take n words)) k-is e in
-    sym (take_all 64 bytes (omega arith)) ∙ e8 ∙ ap (flat_map f) (take_all 8 words (omega arith))
-
 -- eight bytes at a time, what is read of a word is what it was made of
 pub words_back : (bytes : List ℕ) (k n : ℕ) → length bytes ≡ 8 * (k + n) → IsBytes bytes → flat_map (to_be_bytes w64) (map (text_word bytes) (range_with_len k n)) ≡ drop (8 * k) bytes
 words_back bytes k zero len fits = sym (drop_all (8 * k) bytes (omega arith))
