@@ -22,7 +22,7 @@ use Rattle.wb_codec.specs.declared.fault.ReadFault.{ReadFault}
 use Rattle.wb_codec.specs.declared.fault.ReadFault.TheVariants.{OpKind as OpKindFault}
 use Rattle.wb_codec.specs.Ranges.{HasTarget, IsName, IsDrawop}
 use Rattle.wb_codec.specs.Spelling.{stroke_bytes, text_bytes, target_bytes, field_bytes, op_bytes, op_version, name_bytes, drawop_bytes}
-use Rattle.wb_codec.specs.Reading.{◌>>=◌, require, stroke_at, text_at, target_at, fields_at, told_kind, op_at, told_fault, drawop_at}
+use Rattle.wb_codec.specs.Reading.{◌>>=◌, require, stroke_at, text_at, target_at, fields_at, kind_in_version, op_at, fault_in_version, drawop_at}
 use Rattle.wb_codec.proofs.Bytes.{IsBytes, IsBytes-drop}
 use Rattle.wb_codec.proofs.Lawful.{IsStroke, lawful_stroke, lawful_text}
 use Rattle.wb_codec.proofs.FieldLaws.{Reads, gives, step, weaker, checks, Takes, Takes-then, reads8, reads16, reads32, again16, again32, ended, ranged, ranges, Takes-all, reads64, again64, name_reads, name_again, HasWidth, has_width}
@@ -110,24 +110,24 @@ pub record OpTaken (version : Version) (bytes : List ℕ) (x : Op × List ℕ) :
   pub target : HasTarget x.0
   pub kind : has_kind version (op_kind x.0) ≡ true
 
-told_reads : (version : Version) (o : Option OpKind) → Reads (λ kind. (o ≡ Some kind) × (has_kind version kind ≡ true)) (told_kind version o)
-told_reads version None = record { it = refl }
-told_reads version (Some kind) = checks _ _ kind refl (λ has. (refl, has))
+version_kind_reads : (version : Version) (o : Option OpKind) → Reads (λ kind. (o ≡ Some kind) × (has_kind version kind ≡ true)) (kind_in_version version o)
+version_kind_reads version None = record { it = refl }
+version_kind_reads version (Some kind) = checks _ _ kind refl (λ has. (refl, has))
 
 pub op_reads : (version : Version) (bytes : List ℕ) → IsBytes bytes → Reads (OpTaken version bytes) (op_at version bytes)
 unfolding op_at
-op_reads version bytes fits = step _ (reads8 bytes fits) (λ n tn. step _ (told_reads version (op_kind_of n.0)) (λ k told. weaker (fields_read k n.1 tn.0.rest_fits) (λ x t.
-    let number : n.0 ≡ op_code (op_kind x.0) = code_is n.0 k told.0 ∙ ap op_code (sym t.kind-is) in
+op_reads version bytes fits = step _ (reads8 bytes fits) (λ n tn. step _ (version_kind_reads version (op_kind_of n.0)) (λ k has. weaker (fields_read k n.1 tn.0.rest_fits) (λ x t.
+    let number : n.0 ≡ op_code (op_kind x.0) = code_is n.0 k has.0 ∙ ap op_code (sym t.kind-is) in
     record {
       taken = Takes-then bytes (op_code (op_kind x.0) ∷ []) n.1 (field_bytes x.0) x.1 (subst (λ (m : ℕ). Takes bytes (m ∷ []) n.1) number tn.0) t.taken;
       target = t.target;
-      kind = subst (λ (l : OpKind). has_kind version l ≡ true) (sym t.kind-is) told.1;
+      kind = subst (λ (l : OpKind). has_kind version l ≡ true) (sym t.kind-is) has.1;
     })))
 
 -- ---- the version of an operation
 
 -- each operation is told by one version
-pub one_version : (version : Version) (name : NameValue) (op : Op) → has_kind version (op_kind op) ≡ true → told_fault version name op ≡ None → (op_version op ≡ version) × IsLawful name op
+pub one_version : (version : Version) (name : NameValue) (op : Op) → has_kind version (op_kind op) ≡ true → fault_in_version version name op ≡ None → (op_version op ≡ version) × IsLawful name op
 one_version version name (Drawn figure s) k e = (version_is version (first_version (kinds.Drawn figure)) k, e)
 one_version One name (Text x y text) k e =
     let short : nat_le (length text) 40 ≡ true = grind (arith, nat_tests) in
@@ -138,13 +138,13 @@ one_version Two name (Text x y text) k e =
 one_version version name (Aimed change t) k e = (version_is version (first_version (kinds.Aimed change)) k, e)
 
 -- what is lawful has no fault in its version
-pub told_again : (name : NameValue) (op : Op) → IsLawful name op → told_fault (op_version op) name op ≡ None
-told_again name (Drawn figure s) e = e
-told_again name (Text x y text) e = by_length (nat_le (length text) 40) refl where
-  by_length : (b : Bool) → nat_le (length text) 40 ≡ b → told_fault (cond b One Two) name (Text x y text) ≡ None
+pub no_fault_again : (name : NameValue) (op : Op) → IsLawful name op → fault_in_version (op_version op) name op ≡ None
+no_fault_again name (Drawn figure s) e = e
+no_fault_again name (Text x y text) e = by_length (nat_le (length text) 40) refl where
+  by_length : (b : Bool) → nat_le (length text) 40 ≡ b → fault_in_version (cond b One Two) name (Text x y text) ≡ None
   by_length true h = grind (arith, nat_tests)
   by_length false h = grind (arith, nat_tests)
-told_again name (Aimed change t) e = e
+no_fault_again name (Aimed change t) e = e
 
 its_version : (op : Op) → has_kind (op_version op) (op_kind op) ≡ true
 its_version (Drawn figure s) = version_here (first_version (kinds.Drawn figure))
@@ -154,9 +154,9 @@ its_version (Aimed change t) = version_here (first_version (kinds.Aimed change))
 pub op_again : (name : NameValue) (op : Op) (rest : List ℕ) → IsLawful name op → HasTarget op → op_at (op_version op) (op_bytes op ++ rest) ≡ Ok (op, rest)
 unfolding op_at
 op_again name op rest lawful target =
-    let told : told_kind (op_version op) (op_kind_of (op_code (op_kind op))) ≡ Ok (op_kind op) =
-    ap (told_kind (op_version op)) (code_back (op_kind op)) ∙ ap (λ (b : Bool). require b OpKindFault (op_kind op)) (its_version op) in
-    ap (λ (r : Result OpKind ReadFault). r >>= λ kind. fields_at kind (field_bytes op ++ rest)) told ∙ fields_again name op rest lawful target
+    let kind : kind_in_version (op_version op) (op_kind_of (op_code (op_kind op))) ≡ Ok (op_kind op) =
+    ap (kind_in_version (op_version op)) (code_back (op_kind op)) ∙ ap (λ (b : Bool). require b OpKindFault (op_kind op)) (its_version op) in
+    ap (λ (r : Result OpKind ReadFault). r >>= λ kind. fields_at kind (field_bytes op ++ rest)) kind ∙ fields_again name op rest lawful target
 
 -- ---- drawops
 
@@ -174,16 +174,16 @@ pub record DrawopTaken (version : Version) (bytes : List ℕ) (d : DrawopValue) 
   pub fits : IsDrawop d
   pub version-is : op_version d.op ≡ version
 
-drawn : (version : Version) (bytes : List ℕ) (name : NameValue) (time : ℕ) (op : Op) → bytes ≡ name_bytes name ++ to_be_bytes w64 time ++ op_bytes op → HasWidth name → time < 2 ^ 64 → HasTarget op → has_kind version (op_kind op) ≡ true → seq_fault name.seq ≡ None → told_fault version name op ≡ None → DrawopTaken version bytes (record { name = name; time = time; op = op })
-drawn version bytes name time op parts width lt target kind seq told =
-    let v = one_version version name op kind told in
+drawn : (version : Version) (bytes : List ℕ) (name : NameValue) (time : ℕ) (op : Op) → bytes ≡ name_bytes name ++ to_be_bytes w64 time ++ op_bytes op → HasWidth name → time < 2 ^ 64 → HasTarget op → has_kind version (op_kind op) ≡ true → seq_fault name.seq ≡ None → fault_in_version version name op ≡ None → DrawopTaken version bytes (record { name = name; time = time; op = op })
+drawn version bytes name time op parts width lt target kind seq free =
+    let v = one_version version name op kind free in
     record { parts = parts; fits = record { name = named name width seq; time = lt; lawful = v.1; target = target }; version-is = v.0 }
 
 pub drawop_reads : (version : Version) (bytes : List ℕ) → IsBytes bytes → Reads (DrawopTaken version bytes) (drawop_at version bytes)
 unfolding drawop_at
-drawop_reads version bytes fits = step _ (name_reads bytes fits) (λ n tn. step _ (reads64 n.1 tn.0.rest_fits) (λ t tm. step _ (op_reads version t.1 tm.0.rest_fits) (λ o to. ended o.1 o.0 _ (λ end. ranged (seq_fault n.0.seq) n.0 _ (λ counted. ranges (told_fault version n.0 o.0) _ (λ told.
+drawop_reads version bytes fits = step _ (name_reads bytes fits) (λ n tn. step _ (reads64 n.1 tn.0.rest_fits) (λ t tm. step _ (op_reads version t.1 tm.0.rest_fits) (λ o to. ended o.1 o.0 _ (λ end. ranged (seq_fault n.0.seq) n.0 _ (λ counted. ranges (fault_in_version version n.0 o.0) _ (λ free.
     let all = Takes-all _ _ _ (Takes-then _ _ _ _ _ (Takes-then _ _ _ _ _ tn.0 tm.0) to.taken) end in
-    drawn version bytes n.0 t.0 o.0 all tn.1 tm.1 to.target to.kind counted told))))))
+    drawn version bytes n.0 t.0 o.0 all tn.1 tm.1 to.target to.kind counted free))))))
 
 pub drawop_again : (d : DrawopValue) → IsDrawop d → drawop_at (op_version d.op) (drawop_bytes d) ≡ Ok d
 unfolding drawop_at
@@ -192,4 +192,4 @@ drawop_again d fits =
     let t = to_be_bytes w64 d.time in
     let o = op_bytes d.op in
     let regrouped : drawop_bytes d ≡ n ++ (t ++ (o ++ [])) = append_assoc n t o ∙ ap (λ (r : List ℕ). n ++ (t ++ r)) (sym (append-nil o)) in
-    ap (drawop_at (op_version d.op)) regrouped ∙ rw (name_again d.name (t ++ (o ++ [])) (has_width d.name fits.name), again64 d.time (o ++ []) fits.time, op_again d.name d.op [] fits.lawful fits.target, seq_free d.name.seq fits.name.positive, told_again d.name d.op fits.lawful) refl
+    ap (drawop_at (op_version d.op)) regrouped ∙ rw (name_again d.name (t ++ (o ++ [])) (has_width d.name fits.name), again64 d.time (o ++ []) fits.time, op_again d.name d.op [] fits.lawful fits.target, seq_free d.name.seq fits.name.positive, no_fault_again d.name d.op fits.lawful) refl

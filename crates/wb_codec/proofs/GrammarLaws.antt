@@ -235,9 +235,9 @@ both_bytes : (a b : ℕ) → (nat_eq a 0x57 && nat_eq b 0x42) ≡ true → (a �
 both_bytes a b e = (grind (arith, nat_tests), grind (arith, nat_tests))
 
 frame_parts : (a b v k l0 l1 l2 l3 : ℕ) (bytes : List ℕ) (version : Version) (kind : Kind) → IsBytes (a ∷ b ∷ v ∷ k ∷ l0 ∷ l1 ∷ l2 ∷ l3 ∷ bytes) → a ≡ 0x57 → b ≡ 0x42 → v ≡ version_code version → KindTaken version k kind → from_be_bytes w32 (l0 ∷ l1 ∷ l2 ∷ l3 ∷ []) ≡ length bytes → FrameTaken (a ∷ b ∷ v ∷ k ∷ l0 ∷ l1 ∷ l2 ∷ l3 ∷ bytes) (record { version = version; kind = kind; body = bytes })
-frame_parts a b v k l0 l1 l2 l3 bytes version kind fits ea eb ev ek told =
+frame_parts a b v k l0 l1 l2 l3 bytes version kind fits ea eb ev ek size =
     let four : List ℕ = l0 ∷ l1 ∷ l2 ∷ l3 ∷ [] in
-    let spelled : to_be_bytes w32 (length bytes) ≡ four = be_bytes_4 four (length bytes) refl (IsBytes-take 4 (l0 ∷ l1 ∷ l2 ∷ l3 ∷ bytes) (IsBytes-drop 4 (a ∷ b ∷ v ∷ k ∷ l0 ∷ l1 ∷ l2 ∷ l3 ∷ bytes) fits)) (sym told) in
+    let spelled : to_be_bytes w32 (length bytes) ≡ four = be_bytes_4 four (length bytes) refl (IsBytes-take 4 (l0 ∷ l1 ∷ l2 ∷ l3 ∷ bytes) (IsBytes-drop 4 (a ∷ b ∷ v ∷ k ∷ l0 ∷ l1 ∷ l2 ∷ l3 ∷ bytes) fits)) (sym size) in
     record {
       parts = rw (ea, eb, ev, ek.number-is) (ap (λ (t : List ℕ). 0x57 ∷ 0x42 ∷ version_code version ∷ kind_number kind ∷ (t ++ bytes)) (sym spelled));
       has = ek.has;
@@ -247,11 +247,11 @@ frame_parts a b v k l0 l1 l2 l3 bytes version kind fits ea eb ev ek told =
 frame_reads : (bytes : List ℕ) → IsBytes bytes → Reads (FrameTaken bytes) (frame_at bytes)
 unfolding frame_at
 frame_reads (a ∷ b ∷ v ∷ k ∷ l0 ∷ l1 ∷ l2 ∷ l3 ∷ bytes) fits =
-    let told = from_be_bytes w32 (l0 ∷ l1 ∷ l2 ∷ l3 ∷ []) in
-    checked (nat_eq a 0x57 && nat_eq b 0x42) faults.Magic told _ refl (λ magic. step _ (version_reads v) (λ version tv. step _ (kind_reads version k) (λ kind tk. checked (nat_le told (length bytes)) faults.Short bytes _ refl (λ enough. checked (nat_le (length bytes) told) faults.Trailing bytes _ refl (λ exact.
+    let size = from_be_bytes w32 (l0 ∷ l1 ∷ l2 ∷ l3 ∷ []) in
+    checked (nat_eq a 0x57 && nat_eq b 0x42) faults.Magic size _ refl (λ magic. step _ (version_reads v) (λ version tv. step _ (kind_reads version k) (λ kind tk. checked (nat_le size (length bytes)) faults.Short bytes _ refl (λ enough. checked (nat_le (length bytes) size) faults.Trailing bytes _ refl (λ exact.
     let wb = both_bytes a b magic in
-    let told-is : told ≡ length bytes = omega (arith, leb-true told (length bytes) enough, leb-true (length bytes) told exact) in
-    gives _ (frame_parts a b v k l0 l1 l2 l3 bytes version kind fits wb.0 wb.1 tv tk told-is))))))
+    let size-is : size ≡ length bytes = omega (arith, leb-true size (length bytes) enough, leb-true (length bytes) size exact) in
+    gives _ (frame_parts a b v k l0 l1 l2 l3 bytes version kind fits wb.0 wb.1 tv tk size-is))))))
 frame_reads bytes fits = record { it = refl }
 
 pub version_again : (version : Version) → version_at (version_code version) ≡ Ok version

@@ -23,7 +23,7 @@ use Rattle.wb_names.specs.declared.parts.Op.{Op}
 use Rattle.wb_names.specs.declared.parts.Op.TheVariants.{Drawn, Text, Aimed}
 use Rattle.wb_codec.specs.Ranges.{IsName, IsDrawop, HasTarget}
 use Rattle.wb_codec.specs.Rows.{row_words, row, op_words, text_word, text_words, op_word, pair_word}
-use Rattle.wb_codec.specs.RowReading.{high_half, low_half, code_in, byte_in, p_in, q_in, r_in, s_in, stroke_in, target_in, op_told, op_in}
+use Rattle.wb_codec.specs.RowReading.{high_half, low_half, code_in, byte_in, p_in, q_in, r_in, s_in, stroke_in, target_in, op_of_kind, op_in}
 use Rattle.wb_codec.specs.Kinds.{op_code, op_kind_of}
 use Rattle.wb_codec.proofs.DrawopLaws.{code_back}
 use Rattle.wb_codec.proofs.Bytes.{IsBytes, IsBytes-take, IsBytes-drop, IsBytes-append, IsBytes-zeros}
@@ -78,9 +78,9 @@ target_back t hs hn =
     let l : low_half (pair_word t.source t.seq) ≡ t.seq = omega arith in
     rw (h, l) refl
 
-op_found : (kind : OpKind) (word target : ℕ) (bytes : List ℕ) → code_in word ≡ op_code kind → op_in word target bytes ≡ op_told kind word target bytes
+op_found : (kind : OpKind) (word target : ℕ) (bytes : List ℕ) → code_in word ≡ op_code kind → op_in word target bytes ≡ op_of_kind kind word target bytes
 unfolding op_in
-op_found kind word target bytes e = ap (λ (n : ℕ). option_and_then (λ k. op_told k word target bytes) (op_kind_of n)) e ∙ ap (option_and_then (λ k. op_told k word target bytes)) (code_back kind)
+op_found kind word target bytes e = ap (λ (n : ℕ). option_and_then (λ k. op_of_kind k word target bytes) (op_kind_of n)) e ∙ ap (option_and_then (λ k. op_of_kind k word target bytes)) (code_back kind)
 
 -- the operation's words read back
 abbrev pub op_in_words : List ℕ → Option Op
@@ -99,8 +99,8 @@ op_back name (Text x y text) lawful fits =
     let bytes = flat_map (to_be_bytes w64) (text_words text) in
     let h = parts_back 3 (length text) x y 0 0 (omega (arith, t.few_bytes)) t.x-fits t.y-fits (omega arith) (omega arith) in
     let few : nat_le (byte_in word) 64 ≡ true = le-leb _ _ (omega (arith, h.byte-is, t.few_bytes)) in
-    let told : Option Op = Some (Text (p_in word) (q_in word) (take (byte_in word) bytes)) in
-    op_found kinds.Text word (get_or (text_words text) 0 0) bytes h.code-is ∙ ap (λ (b : Bool). if b then told else None) few ∙ ap Some (text_front x y 0 text bytes word h (text_back x y text t))
+    let whole : Option Op = Some (Text (p_in word) (q_in word) (take (byte_in word) bytes)) in
+    op_found kinds.Text word (get_or (text_words text) 0 0) bytes h.code-is ∙ ap (λ (b : Bool). if b then whole else None) few ∙ ap Some (text_front x y 0 text bytes word h (text_back x y text t))
 op_back name (Aimed change t) lawful fits =
     let code = op_code (kinds.Aimed change) in
     let h = parts_back code 0 0 0 0 0 (omega arith) (omega arith) (omega arith) (omega arith) (omega arith) in

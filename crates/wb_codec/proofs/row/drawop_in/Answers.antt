@@ -3,7 +3,7 @@ use Rattle.wb_codec.proofs.RowLaws.{row_op_back, row_name_back, row_back, some_o
 use Rattle.wb_codec.proofs.row.drawop_in.Goals as goal
 
 pub returns-in_err-shape : goal.returns-in_err-shape
-returns-in_err-shape c = λ d h e. let told = row_op_back d c.args.words.now _ _ h e c.text_bytes-bytes.ensures c.in_err-shape.ensures in absurd cc
+returns-in_err-shape c = λ d h e. let op = row_op_back d c.args.words.now _ _ h e c.text_bytes-bytes.ensures c.in_err-shape.ensures in absurd cc
 
 pub returns : goal.returns
 returns c = λ d h e.
