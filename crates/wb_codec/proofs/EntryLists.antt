@@ -82,9 +82,6 @@ module _ {X : Type 0} (source : X → ℕ) (IsPositive : X → Type 0) where
     pub positive : All IsPositive xs
     pub below : (s : ℕ) → is_above before s ≡ true → All (λ a. source a < s) xs
 
-  pub none_ascend : Ascends None []
-  none_ascend = record { ascending = λ i j d ij h. absurd (omega arith); positive = λ k d h. absurd (omega arith); below = λ s up k d h. absurd (omega arith) }
-
   pub ascends_more : (before : Option ℕ) (xs : List X) (x : X) (ys : List X) (s : ℕ) → Ascends before xs → is_above before (source x) ≡ true → IsPositive x → ys ≡ xs ++ x ∷ [] → s ≡ source x → Ascends (Some s) ys
   ascends_more before xs x ys s a up p pushed is =
       let under : All (λ a. source a < source x) xs = a.below (source x) up in

@@ -45,6 +45,5 @@ lawful_text x y text e =
 
 -- the bytes of a lawful operation's text are few
 pub text_fits : (name : NameValue) (op : Op) → IsLawful name op → length (text_of op) ≤ 64
-text_fits name (Drawn figure s) e = omega arith
 text_fits name (Text x y text) e = (lawful_text x y text e).few_bytes
-text_fits name (Aimed change t) e = omega arith
+text_fits name op e = omega arith

@@ -7,4 +7,3 @@ pub mod FieldLaws
 pub mod Lawful
 pub mod RowLaws
 pub mod SpelledBytes
-pub mod TooShort

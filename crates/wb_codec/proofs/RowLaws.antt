@@ -135,31 +135,26 @@ row_name_back d words source seq creator number name r h e es eq ec en made give
     let page : PageId = record { creator = creator; number = number } in
     let whole : NameValue = record { source = source; page = page; seq = seq } in
     let named : r ≡ Ok whole = made ∙ ap (λ (b : Bool). value_unless (fault_unless b SeqZero) whole) positive in
-    let same : name ≡ whole = some_is name whole (given ∙ ap result_ok named) in
+    let given' = given ∙ ap result_ok named in
+    let same : name ≡ whole = cc in
     same ∙ name_parts source d.name.source page d.name.page seq d.name.seq source-is (one_page creator d.name.page.creator number d.name.page.number creator-is number-is) seq-is
-  where
-    some_is : (v w : NameValue) → (let x : Option NameValue = Some v in let y : Option NameValue = Some w in x ≡ y) → v ≡ w
-    some_is v w e = cc
 
 -- the drawop made from what the words say
-pub row_back : (d : DrawopValue) (words : List ℕ) (name : NameValue) (op : Op) (r : Result DrawopValue FieldFault) → IsDrawop d → row d ≡ words → name ≡ d.name → op ≡ d.op
+pub row_back : (d : DrawopValue) (words : List ℕ) (name : NameValue) (op : Op) (r : Result DrawopValue FieldFault) → IsDrawop d → row d ≡ words → name ≡ d.name → (let x : Option Op = Some op in let y : Option Op = Some d.op in x ≡ y)
     → r ≡ value_unless (op_fault name op) (record { name = name; time = get_or words 2 0; op = op }) → result_ok r ≡ Some d
-row_back d words name op r h e name-is op-is made =
+row_back d words name op r h e name-is same made =
+    let op-is : op ≡ d.op = cc in
     let time : d.time ≡ get_or words 2 0 = ap (λ (ws : List ℕ). get_or ws 2 0) e in
     let lawful : op_fault name op ≡ None = ap (λ (n : NameValue). op_fault n op) name-is ∙ ap (op_fault d.name) op-is ∙ h.lawful in
     let whole : DrawopValue = record { name = name; time = get_or words 2 0; op = op } in
     let found : r ≡ Ok whole = made ∙ ap (λ (f : Option FieldFault). value_unless f whole) lawful in
     ap result_ok found ∙ ap Some (one_drawop name d.name (get_or words 2 0) d.time op d.op name-is (sym time) op-is)
 
-pub some_op : (o p : Op) → (let x : Option Op = Some o in let y : Option Op = Some p in x ≡ y) → o ≡ p
-some_op o p e = cc
-
 pub row_length : (d : DrawopValue) → length (row d) ≡ row_words
 row_length d = ap (λ (n : ℕ). suc (suc (suc n))) (op_length d.op) where
   op_length : (op : Op) → length (op_words op) ≡ 9
-  op_length (Drawn figure s) = refl
   op_length (Text x y text) = refl
-  op_length (Aimed change t) = refl
+  op_length op = refl
 
 pair_back : (a b c d : ℕ) → b < 2 ^ 32 → d < 2 ^ 32 → pair_word a b ≡ pair_word c d → (a ≡ c) × (b ≡ d)
 pair_back a b c d hb hd e = (omega arith, omega arith)
@@ -175,5 +170,5 @@ pub one_row : (d e : DrawopValue) → IsDrawop d → IsDrawop e → row d ≡ ro
 one_row d e hd he h =
     let name : d.name ≡ e.name = one_name d.name e.name hd.name he.name (ap (λ (ws : List ℕ). get_or ws 0 0) h) (ap (λ (ws : List ℕ). get_or ws 1 0) h) in
     let time : d.time ≡ e.time = ap (λ (ws : List ℕ). get_or ws 2 0) h in
-    let op : d.op ≡ e.op = some_op d.op e.op (sym (op_back d.name d.op hd.lawful hd.target) ∙ ap (λ (ws : List ℕ). op_in_words (drop 3 ws)) h ∙ op_back e.name e.op he.lawful he.target) in
+    let op : d.op ≡ e.op = (let same = sym (op_back d.name d.op hd.lawful hd.target) ∙ ap (λ (ws : List ℕ). op_in_words (drop 3 ws)) h ∙ op_back e.name e.op he.lawful he.target in cc) in
     one_drawop d.name e.name d.time e.time d.op e.op name time op
