@@ -2,7 +2,7 @@
 use Rattle.std.proofs.Common.{◌≡◌, ℕ, List, [], ◌∷◌, ◌++◌, refl, ap, ◌∙◌, sym, subst, ⊎_elim, eqb-true, ◌<◌, ◌≤◌, length, get_or, arith, ◌+◌, take, append-nil}
 use Rattle.std.specs.Prelude.{Bool, true, false, cond, ◌&&◌, Contains, Option, Some, None, ◌≢◌, not, AllPairs, filter}
 use Rattle.std.specs.declared.cmp.Ordering.{Ordering}
-use Rattle.std.specs.declared.cmp.Ordering.TheVariants.{Less, Equal, Greater}
+use Rattle.std.specs.declared.cmp.Ordering.TheVariants.{Less, Equal}
 use Rattle.std.specs.Cmp.{IsTotalOrder, nat_cmp_total}
 use Rattle.std.specs.Ordering.{is_lt, eq_by_cmp, is_eq, nat_cmp, ordering_reverse}
 use Rattle.std.proofs.lemmas.Cmp.{on_total, then_total, tied_itself}
@@ -12,7 +12,7 @@ use Rattle.wb_names.specs.Values.{DrawopValue}
 use Rattle.wb_names.specs.Orders.{same_page, display_cmp}
 use Rattle.wb_names.specs.declared.name.PageId.{PageId}
 use Rattle.wb_names.specs.declared.parts.Op.{Op}
-use Rattle.wb_names.specs.declared.parts.Op.TheVariants.{Drawn, Text, Aimed}
+use Rattle.wb_names.specs.declared.parts.Op.TheVariants.{Aimed}
 use Rattle.wb_display.specs.Display.{has_target, is_drawing, is_delete, is_aimed_at, is_last_word, is_hidden_in, is_shown}
 use Rattle.wb_display.specs.LastWord.{aimed_target, word_cmp, word_of, later_word, speaks_of, IsLastWord, own_target, hides, is_shown_by}
 use Rattle.wb_names.specs.Same.{same_target, same_target-is}
@@ -34,8 +34,7 @@ word_total = then_total (on_total (λ (w : LastWord). w.time) nat_cmp_total) (th
 
 less_is : (r : Ordering) → is_lt r ≡ true → r ≡ Less
 less_is Less e = refl
-less_is Equal e = cc
-less_is Greater e = cc
+less_is r e = cc
 
 pub not_before_itself : (w : LastWord) → is_lt (word_cmp w w) ≡ false
 not_before_itself w = ap is_lt (tied_itself word_total w)
@@ -74,14 +73,12 @@ module _ (history : List DrawopValue) (page : PageId) (target : Target) (e : Dra
 
 -- an operation has the target that it names, and no other
 pub aims_where : (op : Op) (l k : Target) → aimed_target op ≡ Some l → has_target op k.source k.seq ≡ same_target l k
-aims_where (Drawn figure s) l k e = cc
-aims_where (Text x y text) l k e = cc
 aims_where (Aimed change t) l k e = let f : t ≡ l = cc in ap (λ (m : Target). same_target m k) f
+aims_where op l k e = cc
 
 pub aims_nowhere : (op : Op) (k : Target) → aimed_target op ≡ None → has_target op k.source k.seq ≡ false
-aims_nowhere (Drawn figure s) k e = refl
-aims_nowhere (Text x y text) k e = refl
 aims_nowhere (Aimed change t) k e = cc
+aims_nowhere op k e = refl
 
 module _ (history : List DrawopValue) (page : PageId) (d : DrawopValue) (f g : Target → Option LastWord) where
   -- a drawop that names nothing leaves all words
@@ -130,11 +127,9 @@ tie_names page e f pe pf tie =
     name_parts _ _ _ _ _ _ (eqb-true _ _ (nat_ties e.name.source f.name.source ∙ s.0)) (p ∙ sym q) (eqb-true _ _ (nat_ties e.name.seq f.name.seq ∙ s.1))
 
 tied_unless : (r s : Ordering) → r ≡ ordering_reverse s → is_lt r ≡ false → is_lt s ≡ false → is_eq r ≡ true
-tied_unless Less s e p q = cc
 tied_unless Equal s e p q = refl
-tied_unless Greater Less e p q = cc
-tied_unless Greater Equal e p q = cc
-tied_unless Greater Greater e p q = cc
+tied_unless r Less e p q = cc
+tied_unless r s e p q = cc
 
 -- a test of the members that one passes, or that none passes
 pub list_any_here : (p : DrawopValue → Bool) (xs : List DrawopValue) (x : DrawopValue) → Contains xs x → p x ≡ true → list_any p xs ≡ true
@@ -180,6 +175,10 @@ module _ (history : List DrawopValue) (d : DrawopValue) where
         let q = and_parts (is_delete f.op) _ p.0 in
         let g : true ≡ false = sym q.0 ∙ ap (λ (x : DrawopValue). is_delete x.op) (sym (same f c q.1 p.1)) ∙ h in cc)) ∙ sym h
 
+-- what is not of the page is not shown on it
+pub off_page : (a b c : Bool) → a ≡ false → ((a && b) && c) ≡ false
+off_page a b c h = ap (λ (t : Bool). (t && b) && c) h
+
 -- so the last word decides what is shown
 pub shown_by : (history : List DrawopValue) (page : PageId) (d : DrawopValue) (r : Option LastWord) → IsHistory history → IsLastWord history page (own_target d) r → is_shown history page d ≡ is_shown_by page d r
 shown_by history page d r names last = at (same_page d.name.page page) refl where
@@ -187,10 +186,7 @@ shown_by history page d r names last = at (same_page d.name.page page) refl wher
   at true e =
       let here : IsLastWord history d.name.page (own_target d) r = subst (λ (p : PageId). IsLastWord history p (own_target d) r) (sym (same_page-is d.name.page page e)) last in
       ap (λ (h : Bool). (same_page d.name.page page && is_drawing d.op) && not h) (hidden_by history d names r here)
-  at false e = off _ _ _ e ∙ sym (off _ _ _ e) where
-    off : (a b c : Bool) → a ≡ false → ((a && b) && c) ≡ false
-    off true b c h = cc
-    off false b c h = refl
+  at false e = off_page _ _ _ e ∙ sym (off_page _ _ _ e)
 
 -- no two shown members tie
 pub shown_apart : (history : List DrawopValue) (page : PageId) → IsHistory history → AllPairs (λ x y. eq_by_cmp display_cmp x y ≡ false) (filter (is_shown history page) history)

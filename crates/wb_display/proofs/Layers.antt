@@ -1,20 +1,24 @@
 -- What a layer holds and keeps, from its making on.
 use Rattle.std.proofs.Common.{◌≡◌, ℕ, ◌<◌, length, take, List, [], ◌∷◌, ◌++◌, get_or, refl, ap, ◌∙◌, sym, subst, arith, ⊎_elim, ◌+◌, ◌≤◌, drop, add-one, drop-cons, ◌⊎◌, inl, inr}
 use Rattle.std.specs.Prelude.{◌≢◌, Bool, true, false, cond, ◌||◌, All, Contains, Option, Some, None, is_some, not, ◌&&◌, Result, Ok, OnOk, filter}
-use Rattle.std.specs.Map.{lookup}
+use Rattle.std.specs.Map.{lookup, keys_of}
+use Rattle.std.proofs.lemmas.Map.{none_passes_from_lookup}
+use Rattle.std.proofs.lemmas.Map.Made.{is_some-lookup}
+use Rattle.std.proofs.lemmas.Map.Views.{Contains-from_lookup}
+use Rattle.indexmap.proofs.MapLemmas.{insert_entry-absent, absent_from_lookup}
 use Rattle.std.proofs.lemmas.Bool.Decides.{nat_tests}
 use Rattle.std.proofs.lemmas.List.{length-take, get_or-take, get_or_default, map-append}
 use Rattle.std.proofs.lemmas.List.Folds.{Any-from_list_any}
 use Rattle.wb_names.proofs.Orders.{same_name-is}
-use Rattle.std.proofs.lemmas.List.Elements.{All-head, All-tail, Contains-get_or, All-push, Contains-append_left}
+use Rattle.std.proofs.lemmas.List.Elements.{All-contains, All-from_recursion, All-head, All-tail, Contains-get_or, All-push, Contains-append_left}
 use Rattle.std.proofs.lemmas.List.Quantifiers.{all_pairs_push}
 use Rattle.wb_names.specs.Values.{DrawopValue, NameValue}
 use Rattle.wb_names.specs.History.{IsHistory}
 use Rattle.wb_names.specs.Orders.{same_page, same_name, display_cmp}
 use Rattle.wb_names.specs.declared.name.PageId.{PageId}
-use Rattle.wb_names.proofs.Listings.{Contains-here, Contains-there, Contains-cases, Contains-none}
+use Rattle.wb_names.proofs.Listings.{Contains-none, Any-from_map, Contains-map}
 use Rattle.wb_display.specs.LastWord.{own_target, affected_target, is_shown_by, IsLastWord}
-use Rattle.wb_names.specs.Same.{same_target, same_drawop, same_drawop-Decides}
+use Rattle.wb_names.specs.Same.{same_target, same_target-is, same_drawop, same_drawop-Decides}
 use Rattle.wb_display.specs.Layer.{holds_name, LayerValue, is_news, held_with, held_with_all, news_count}
 use Rattle.wb_display.specs.LayerFields.{held_of}
 use Rattle.wb_display.specs.TakingIn.{IsKeyed, AreHeld, AreKept, TakesIn, Touches, HoldsToo, IsShownIn}
@@ -38,45 +42,40 @@ use Rattle.wb_names.specs.Listing.{Lists}
 target_is_name : (page : PageId) (d e : DrawopValue) → same_page d.name.page page ≡ true → same_page e.name.page page ≡ true → same_target (own_target d) (own_target e) ≡ same_name e.name d.name
 target_is_name page d e pd pe = grind (arith, nat_tests)
 
-is_some_either : (b : Bool) (x : DrawopValue) (r : Option DrawopValue) → is_some (cond b (Some x) r) ≡ (b || is_some r)
-is_some_either true x r = refl
-is_some_either false x r = refl
-
 -- the table has a target exactly where the name is held
-pub known_name : (page : PageId) (d : DrawopValue) (entries : List (Target × DrawopValue)) → same_page d.name.page page ≡ true → All (IsKeyed page) entries → is_some (lookup (same_target (own_target d)) entries) ≡ holds_name (held_of entries) d.name
-known_name page d [] here all = refl
-known_name page d (e ∷ es) here all =
+known_keys : (page : PageId) (d : DrawopValue) (entries : List (Target × DrawopValue)) → same_page d.name.page page ≡ true → All (IsKeyed page) entries → list_any (same_target (own_target d)) (keys_of entries) ≡ holds_name (held_of entries) d.name
+known_keys page d [] here all = refl
+known_keys page d (e ∷ es) here all =
     let head = All-head (IsKeyed page) e es all in
-    is_some_either (same_target (own_target d) e.0) e.1 (lookup (same_target (own_target d)) es)
-    ∙ ap (λ (b : Bool). b || is_some (lookup (same_target (own_target d)) es)) (ap (same_target (own_target d)) head.0 ∙ target_is_name page d e.1 here head.1)
-    ∙ ap (λ (b : Bool). same_name e.1.name d.name || b) (known_name page d es here (All-tail (IsKeyed page) e es all))
+    ap (λ (b : Bool). b || list_any (same_target (own_target d)) (keys_of es)) (ap (same_target (own_target d)) head.0 ∙ target_is_name page d e.1 here head.1)
+    ∙ ap (λ (b : Bool). same_name e.1.name d.name || b) (known_keys page d es here (All-tail (IsKeyed page) e es all))
+
+pub known_name : (page : PageId) (d : DrawopValue) (entries : List (Target × DrawopValue)) → same_page d.name.page page ≡ true → All (IsKeyed page) entries → is_some (lookup (same_target (own_target d)) entries) ≡ holds_name (held_of entries) d.name
+known_name page d entries here all = is_some-lookup (same_target (own_target d)) entries ∙ known_keys page d entries here all
+
+-- what is held is of the page, and stands under its target
+keyed : (page : PageId) (entries : List (Target × DrawopValue)) → All (IsKeyed page) entries → (x : DrawopValue) → Contains (held_of entries) x → Contains entries (own_target x, x) × (same_page x.name.page page ≡ true)
+keyed page entries all x c =
+    let found = Any-from_map (λ (e : Target × DrawopValue). e.1) entries x c in
+    let key = All-contains (IsKeyed page) entries found.1 all (found.0, found.2, found.3) in (
+      subst (λ (y : DrawopValue). Contains entries (own_target y, y)) found.4 (subst (λ (k : Target). Contains entries (k, found.1.1)) key.0 (found.0, found.2, found.3)),
+      subst (λ (y : DrawopValue). same_page y.name.page page ≡ true) found.4 key.1,
+    )
+
+same_target-here : (l : Target) → same_target l l ≡ true
+same_target-here l = grind (arith, nat_tests)
 
 -- what the table finds is held under that target
-pub found_held : (page : PageId) (l : Target) (a : DrawopValue) (entries : List (Target × DrawopValue)) → All (IsKeyed page) entries → lookup (same_target l) entries ≡ Some a → Contains (held_of entries) a × (same_target l (own_target a) ≡ true)
-found_held page l a [] all e = cc
-found_held page l a (e ∷ es) all f = at (found_held page l a es (All-tail (IsKeyed page) e es all)) (same_target l e.0) refl f where
-  head : IsKeyed page e
-  head = All-head (IsKeyed page) e es all
-
-  at : (lookup (same_target l) es ≡ Some a → Contains (held_of es) a × (same_target l (own_target a) ≡ true)) → (b : Bool) → same_target l e.0 ≡ b → cond b (Some e.1) (lookup (same_target l) es) ≡ Some a → Contains (held_of (e ∷ es)) a × (same_target l (own_target a) ≡ true)
-  at rest true t s =
-      let same : e.1 ≡ a = cc in
-      (subst (Contains (e.1 ∷ held_of es)) same (Contains-here e.1 (held_of es)), ap (λ (x : DrawopValue). same_target l (own_target x)) (sym same) ∙ ap (same_target l) (sym head.0) ∙ t)
-  at rest false t s = let r = rest s in (Contains-there e.1 a (held_of es) r.0, r.1)
+found_held : (page : PageId) (l : Target) (a : DrawopValue) (entries : List (Target × DrawopValue)) → All (IsKeyed page) entries → lookup (same_target l) entries ≡ Some a → Contains (held_of entries) a × (same_target l (own_target a) ≡ true)
+found_held page l a entries all f =
+    let c = Contains-from_lookup same_target-is l a entries f in
+    let key = All-contains (IsKeyed page) entries (l, a) all c in
+    (Contains-map (λ (e : Target × DrawopValue). e.1) entries a (c.0, (l, a), c.1, c.2, refl), ap (same_target l) (sym key.0) ∙ same_target-here l)
 
 -- what it does not find is not held
-pub not_found : (page : PageId) (l : Target) (entries : List (Target × DrawopValue)) → All (IsKeyed page) entries → lookup (same_target l) entries ≡ None → (x : DrawopValue) → Contains (held_of entries) x → same_target l (own_target x) ≡ false
-not_found page l [] all e x c = absurd (Contains-none x c)
-not_found page l (e ∷ es) all f x c = at (λ s h. not_found page l es (All-tail (IsKeyed page) e es all) s x h) (same_target l e.0) refl f where
-  head : IsKeyed page e
-  head = All-head (IsKeyed page) e es all
-
-  at : (lookup (same_target l) es ≡ None → Contains (held_of es) x → same_target l (own_target x) ≡ false) → (b : Bool) → same_target l e.0 ≡ b → cond b (Some e.1) (lookup (same_target l) es) ≡ None → same_target l (own_target x) ≡ false
-  at rest true t s = cc
-  at rest false t s = ⊎_elim
-      (λ (same : e.1 ≡ x). ap (λ (y : DrawopValue). same_target l (own_target y)) (sym same) ∙ ap (same_target l) (sym head.0) ∙ t)
-      (λ (h : Contains (held_of es) x). rest s h)
-      (Contains-cases e.1 x (held_of es) c)
+not_found : (page : PageId) (l : Target) (entries : List (Target × DrawopValue)) → All (IsKeyed page) entries → lookup (same_target l) entries ≡ None → (x : DrawopValue) → Contains (held_of entries) x → same_target l (own_target x) ≡ false
+not_found page l entries all e x c =
+    All-contains (λ (k : Target × DrawopValue). same_target l k.0 ≡ false) entries (own_target x, x) (All-from_recursion _ entries (none_passes_from_lookup (same_target l) entries e)) (keyed page entries all x c).0
 
 pub same_name-here : (n : NameValue) → same_name n n ≡ true
 same_name-here n = grind (arith, nat_tests)
@@ -88,11 +87,7 @@ names_more held d names new = all_pairs_push (λ (x y : DrawopValue). x.name ≢
 
 -- all that is held is of the page
 pub held_here : (page : PageId) (entries : List (Target × DrawopValue)) → All (IsKeyed page) entries → (x : DrawopValue) → Contains (held_of entries) x → same_page x.name.page page ≡ true
-held_here page [] all x c = absurd (Contains-none x c)
-held_here page (e ∷ es) all x c = ⊎_elim
-    (λ (same : e.1 ≡ x). ap (λ (y : DrawopValue). same_page y.name.page page) (sym same) ∙ (All-head (IsKeyed page) e es all).1)
-    (λ (h : Contains (held_of es) x). held_here page es (All-tail (IsKeyed page) e es all) x h)
-    (Contains-cases e.1 x (held_of es) c)
+held_here page entries all x c = (keyed page entries all x c).1
 
 -- a name that stood before stands twice
 pub named_twice : (list : List DrawopValue) (i : ℕ) (d : DrawopValue) → i < length list → get_or list i d ≡ d → holds_name (take i list) d.name ≡ true → IsHistory list → ⊥
@@ -114,13 +109,9 @@ nothing_shown page = record {
   members = λ d. ((λ h. absurd (Contains-none d h)), (λ h. absurd (Contains-none d h.0)));
 }
 
--- a target that the table has not goes last
-insert_new : (l : Target) (d : DrawopValue) (entries : List (Target × DrawopValue)) → is_some (lookup (same_target l) entries) ≡ false → insert_entry same_target entries l d ≡ entries ++ (l, d) ∷ []
-insert_new l d [] none = refl
-insert_new l d (e ∷ es) none = at (same_target l e.0) (insert_new l d es) none where
-  at : (b : Bool) → (is_some (lookup (same_target l) es) ≡ false → insert_entry same_target es l d ≡ es ++ (l, d) ∷ []) → is_some (cond b (Some e.1) (lookup (same_target l) es)) ≡ false → cond b ((e.0, d) ∷ es) (e ∷ insert_entry same_target es l d) ≡ e ∷ (es ++ (l, d) ∷ [])
-  at true rest f = cc
-  at false rest f = ap (λ (t : List (Target × DrawopValue)). e ∷ t) (rest f)
+none_is : (r : Option DrawopValue) → is_some r ≡ false → r ≡ None
+none_is None e = refl
+none_is (Some x) e = cc
 
 module _ (words words' : LastWords) (entries : List (Target × DrawopValue)) (d : DrawopValue) (here : same_page d.name.page words.page ≡ true) (new : holds_name (held_of entries) d.name ≡ false) (held : AreHeld words entries) (page : words'.page ≡ words.page) (last_words : (history : List DrawopValue) → AreLastWords history words → AreLastWords (history ++ d ∷ []) words') where
   same_held : held_of (entries ++ (own_target d, d) ∷ []) ≡ held_of entries ++ d ∷ []
@@ -128,7 +119,7 @@ module _ (words words' : LastWords) (entries : List (Target × DrawopValue)) (d 
 
   -- the table after it was inserted
   pub entries_with : insert_entry same_target entries (own_target d) d ≡ entries ++ (own_target d, d) ∷ []
-  entries_with = insert_new (own_target d) d entries (known_name words.page d entries here held.keys ∙ new)
+  entries_with = insert_entry-absent same_target (own_target d) d entries (absent_from_lookup (same_target (own_target d)) entries (none_is _ (known_name words.page d entries here held.keys ∙ new)))
 
   pub held_more_of : AreHeld words' (entries ++ (own_target d, d) ∷ [])
   held_more_of = record {

@@ -15,7 +15,7 @@ use Rattle.wb_names.proofs.Orders.{same_page-is, same_name-is}
 use Rattle.wb_display.specs.Display.{is_drawing, is_delete, is_aimed_at, is_last_word, is_hidden_in, is_shown}
 use Rattle.wb_display.specs.Layer.{holds_name, is_news, held_with}
 use Rattle.wb_display.specs.Laws.{on_page, StandsAlone, HoldsItsPage, HoldsAHistory}
-use Rattle.wb_display.proofs.Deciding.{display_total, list_any_nowhere}
+use Rattle.wb_display.proofs.Deciding.{display_total, list_any_nowhere, off_page}
 use Rattle.wb_display.proofs.Convergence.{list_any_agree}
 use Rattle.wb_display.proofs.Layers.{names_more}
 
@@ -41,13 +41,9 @@ module _ (history : List DrawopValue) (page : PageId) where
 
   shown_alone : (d : DrawopValue) → is_shown (on_page page history) page d ≡ is_shown history page d
   shown_alone d = at (same_page d.name.page page) refl where
-    off : (a b c : Bool) → a ≡ false → ((a && b) && c) ≡ false
-    off true b c h = cc
-    off false b c h = refl
-
     at : (b : Bool) → same_page d.name.page page ≡ b → is_shown (on_page page history) page d ≡ is_shown history page d
     at true e = ap (λ (h : Bool). (same_page d.name.page page && is_drawing d.op) && not h) (hidden_alone d (same_page-is d.name.page page e))
-    at false e = off _ _ _ e ∙ sym (off _ _ _ e)
+    at false e = off_page _ _ _ e ∙ sym (off_page _ _ _ e)
 
   of_page : (d : DrawopValue) → is_shown history page d ≡ true → same_page d.name.page page ≡ true
   of_page d s = (and_parts (same_page d.name.page page) _ (and_parts (same_page d.name.page page && is_drawing d.op) _ s).0).0

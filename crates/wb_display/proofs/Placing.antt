@@ -24,8 +24,7 @@ after xs i j d up lt h = Less-from_sorted display_cmp xs i j d up lt h
 
 turned : (r s : Ordering) → r ≡ ordering_reverse s → r ≡ Greater → s ≡ Less
 turned r Less e f = refl
-turned r Equal e f = cc
-turned r Greater e f = cc
+turned r s e f = cc
 
 not_lower : (r s : Ordering) → r ≡ ordering_reverse s → s ≡ Less → is_lt r ≡ false
 not_lower r s e f = ap is_lt (e ∙ ap ordering_reverse f)

@@ -11,7 +11,7 @@ use Rattle.wb_names.specs.Orders.{same_page, display_cmp}
 use Rattle.wb_names.specs.Same.{same_drawop, same_drawop-Decides, same_target, same_target-is}
 use Rattle.wb_names.specs.declared.name.PageId.{PageId}
 use Rattle.wb_names.specs.declared.parts.Op.{Op}
-use Rattle.wb_names.specs.declared.parts.Op.TheVariants.{Drawn, Text, Aimed}
+use Rattle.wb_names.specs.declared.parts.Op.TheVariants.{Aimed}
 use Rattle.wb_names.proofs.Listings.{Contains-cases, Contains-none}
 use Rattle.wb_names.proofs.Orders.{name_parts, same_page-is}
 use Rattle.wb_display.specs.Display.{is_drawing, is_shown, IsView, is_delete, has_target, is_aimed_at, is_last_word, is_hidden_in}
@@ -42,9 +42,8 @@ pub last_word_of : (history : List DrawopValue) (page : PageId) (target : Target
 last_word_of history page target = more_words page target [] history (None, λ e c. absurd (Contains-none e c))
 
 pub drawing_names_nothing : (op : Op) → is_drawing op ≡ true → aimed_target op ≡ None
-drawing_names_nothing (Drawn figure s) e = refl
-drawing_names_nothing (Text x y text) e = refl
 drawing_names_nothing (Aimed change t) e = cc
+drawing_names_nothing op e = refl
 
 -- a drawop says nothing of another target than the one that it affects
 silent : (page : PageId) (d : DrawopValue) (l : Target) → same_target (affected_target d) l ≡ false → speaks_of page l d ≡ false
