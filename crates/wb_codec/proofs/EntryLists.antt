@@ -3,7 +3,7 @@ use Rattle.std.proofs.Common.{◌≡◌, ℕ, suc, ◌+◌, ◌-◌, ◌<◌, �
 use Rattle.std.specs.Prelude.{All, AllPairs}
 use Rattle.std.specs.Result.{is_ok}
 use Rattle.std.proofs.lemmas.Bool.{ltb-true}
-use Rattle.std.proofs.lemmas.List.Elements.{All-append, All-cons}
+use Rattle.std.proofs.lemmas.List.Elements.{All-push}
 use Rattle.std.proofs.lemmas.List.Quantifiers.{all_pairs_push}
 use Rattle.std.proofs.lemmas.List.{append-nil}
 use Rattle.wb_names.specs.Ascending.{is_above}
@@ -87,10 +87,7 @@ module _ {X : Type 0} (source : X → ℕ) (IsPositive : X → Type 0) where
       let under : All (λ a. source a < source x) xs = a.below (source x) up in
       let more : Ascends (Some (source x)) (xs ++ x ∷ []) = record {
         ascending = all_pairs_push (λ (a b : X). source a < source b) xs x a.ascending under;
-        positive = All-append IsPositive xs (x ∷ []) a.positive (one IsPositive x p);
-        below = λ t above. let lt = ltb-true (source x) t above in All-append (λ (a : X). source a < t) xs (x ∷ []) (λ k d h. let l = under k d h in omega arith) (one (λ (a : X). source a < t) x lt);
+        positive = All-push IsPositive xs x a.positive p;
+        below = λ t above. let lt = ltb-true (source x) t above in All-push (λ (a : X). source a < t) xs x (λ k d h. let l = under k d h in omega arith) lt;
       } in
       subst (λ (zs : List X). Ascends (Some s) zs) (sym pushed) (subst (λ (t : ℕ). Ascends (Some t) (xs ++ x ∷ [])) (sym is) more)
-    where
-      one : (P : X → Type 0) (x : X) → P x → All P (x ∷ [])
-      one P x p = All-cons P x [] p (λ k d h. absurd (omega arith))

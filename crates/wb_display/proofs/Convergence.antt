@@ -1,16 +1,17 @@
 -- Histories that hold the same drawops show the same; and where nothing is restored, as by the rule that knows deletes alone.
-use Rattle.std.proofs.Common.{◌≡◌, List, refl, ap, ◌∙◌, sym, ℕ}
-use Rattle.std.specs.Prelude.{Bool, not, ◌&&◌, Contains, IsPermutation, true, false, All, Option, Some, None}
+use Rattle.std.proofs.Common.{◌≡◌, List, refl, ap, ◌∙◌, sym, subst, ℕ}
+use Rattle.std.specs.Prelude.{Bool, ◌↔◌, not, ◌&&◌, Contains, IsPermutation, true, false, All, Option, Some, None}
 use Rattle.std.specs.List.{list_any}
 use Rattle.std.specs.Ordering.{is_lt}
 use Rattle.std.proofs.lemmas.List.Sorted.{Contains-permutation, IsPermutation-sym, list_any-IsPermutation}
 use Rattle.wb_names.specs.Values.{DrawopValue}
 use Rattle.wb_names.specs.Orders.{same_page, display_cmp}
 use Rattle.wb_names.specs.declared.name.PageId.{PageId}
-use Rattle.wb_names.proofs.Listings.{one_list, lists_same}
+use Rattle.wb_names.specs.Listing.{Lists}
+use Rattle.wb_names.proofs.Listings.{one_list}
 use Rattle.wb_display.specs.Canvas.{canvas_text}
-use Rattle.wb_display.specs.Display.{is_drawing, is_delete, is_aimed_at, is_last_word, is_hidden_in, is_shown, is_restore, has_target}
-use Rattle.wb_display.specs.Laws.{Converges, StaysAView, PaintsAlike, is_deleted_in, was_shown, AgreesWithOlderRule}
+use Rattle.wb_display.specs.Display.{is_drawing, is_delete, is_aimed_at, is_last_word, is_hidden_in, is_shown, IsView, is_restore, has_target}
+use Rattle.wb_display.specs.Laws.{Converges, StaysAView, PaintsAlike, is_deleted_in, was_shown, IsOlderView, AgreesWithOlderRule}
 use Rattle.wb_display.proofs.Deciding.{display_total, list_any_here, list_any_nowhere, last_word-is}
 use Rattle.std.proofs.lemmas.List.Elements.{All-contains}
 use Rattle.std.proofs.lemmas.Bool.{and_parts, false_from_ne_true, and_from}
@@ -74,7 +75,6 @@ module _ (history : List DrawopValue) (nothing : All (λ e. is_restore e.op ≡ 
   shown_as_before page = let r = last_word_of history d.name.page (own_target d) in ap (λ (h : Bool). (same_page d.name.page page && is_drawing d.op) && not h) (hidden_as_before r.0 r.1)
 
 pub older_rule : AgreesWithOlderRule
-older_rule history page shown nothing = (
-  λ v. lists_same display_total _ _ shown (λ d m. (m.0, sym (shown_as_before history nothing d page) ∙ m.1)) (λ d m. (m.0, shown_as_before history nothing d page ∙ m.1)) v,
-  λ v. lists_same display_total _ _ shown (λ d m. (m.0, shown_as_before history nothing d page ∙ m.1)) (λ d m. (m.0, sym (shown_as_before history nothing d page) ∙ m.1)) v,
-)
+older_rule history page shown nothing =
+    let same : IsView history page shown ≡ IsOlderView history page shown = λ i. Lists display_cmp (λ d. Contains history d × (shown_as_before history nothing d page i ≡ true)) shown in
+    subst (λ (View : Type 0). IsView history page shown ↔ View) same ((λ v. v), (λ v. v))

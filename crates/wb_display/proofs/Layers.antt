@@ -19,8 +19,7 @@ use Rattle.wb_names.specs.declared.name.PageId.{PageId}
 use Rattle.wb_names.proofs.Listings.{Contains-none, Any-from_map, Contains-map}
 use Rattle.wb_display.specs.LastWord.{own_target, affected_target, is_shown_by, IsLastWord}
 use Rattle.wb_names.specs.Same.{same_target, same_target-is, same_drawop, same_drawop-Decides}
-use Rattle.wb_display.specs.Layer.{holds_name, LayerValue, is_news, held_with, held_with_all, news_count}
-use Rattle.wb_display.specs.LayerFields.{held_of}
+use Rattle.wb_display.specs.Layer.{holds_name, LayerValue, is_news, held_with, held_with_all, news_count, held_of}
 use Rattle.wb_display.specs.TakingIn.{IsKeyed, AreHeld, AreKept, TakesIn, Touches, HoldsToo, IsShownIn}
 use Rattle.wb_names.specs.declared.parts.Target.{Target}
 use Rattle.wb_display.proofs.Deciding.{nowhere_from, shown_here, list_any_nowhere, one_drawop, tie_names}

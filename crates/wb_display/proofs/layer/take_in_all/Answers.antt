@@ -1,6 +1,5 @@
 use Rattle.std.proofs.Common.{rules, ◌≡◌, ◌∙◌, ◌+◌, ◌++◌, [], ◌∷◌, true, false, sym, arith, vec_len}
-use Rattle.wb_display.specs.Layer.{is_news}
-use Rattle.wb_display.specs.LayerFields.{held_of}
+use Rattle.wb_display.specs.Layer.{is_news, held_of}
 use Rattle.wb_display.proofs.Layers.{touched_more, touched_alone, step_held, room_left, held_more_puts, held_not_more}
 use Rattle.wb_display.proofs.layer.take_in_all.Goals as goal
 use Rattle.wb_display.proofs.layer.take_in_all.Goals.{then-is_news+in-Some, then-is_news+in_default, else-is_news}
@@ -26,9 +25,7 @@ loop-drawop-preserved c =
             held = step.0;
             all = held_more_puts c.args.words.now.page words.page (held_of c.args.drawops.now.entries) (held_of entries) _ c.args.list.now i d (omega arith) is inv.page inv.all step.2;
             touches = rw (w.hold.ensures.page, grown) touches;
-            words = omega (arith, step.3);
-            drawops = omega (arith, step.3);
-            touched = omega (arith, step.3);
+            room = (omega (arith, step.3), omega (arith, step.3), omega (arith, step.3));
             count = omega (arith, step.3);
           })
       | then-is_news+in_default w ↦
@@ -40,9 +37,7 @@ loop-drawop-preserved c =
             held = step.0;
             all = held_more_puts c.args.words.now.page words.page (held_of c.args.drawops.now.entries) (held_of entries) _ c.args.list.now i d (omega arith) is inv.page inv.all step.2;
             touches = rw w.hold.ensures.page touches;
-            words = omega (arith, step.3);
-            drawops = omega (arith, step.3);
-            touched = omega (arith, step.3);
+            room = (omega (arith, step.3), omega (arith, step.3), omega (arith, step.3));
             count = omega (arith, step.3);
           })
       | else-is_news w ↦
@@ -53,9 +48,7 @@ loop-drawop-preserved c =
             held = inv.held;
             all = held_more_puts c.args.words.now.page words.page (held_of c.args.drawops.now.entries) (held_of entries) _ c.args.list.now i d (omega arith) is inv.page inv.all (held_not_more words.page (held_of entries) d known);
             touches = inv.touches;
-            words = omega (arith, room);
-            drawops = omega (arith, room);
-            touched = omega (arith, room);
+            room = (omega (arith, room), omega (arith, room), omega (arith, room));
             count = omega (arith, room);
           })
     ]
