@@ -1,5 +1,5 @@
 -- The laws of the grammar: what is read is spelled so, what is spelled so is read, and only whole datagrams are read.
-use Rattle.std.proofs.Common.{◌≡◌, ℕ, ◌^◌, ◌<◌, List, [], ◌++◌, length, Result, Ok, Option, refl, sym, ap, subst, ◌∙◌, append_assoc, append-nil, arith, ◌+◌, ◌*◌, ◌∷◌, Bool, true, false, cond, Err, zero, suc, take, inl, inr}
+use Rattle.std.proofs.Common.{◌≡◌, ℕ, ◌^◌, ◌<◌, List, [], ◌++◌, length, Result, Ok, Option, refl, sym, ap, subst, ◌∙◌, append_assoc, append-nil, arith, ◌+◌, ◌*◌, ◌∷◌, Bool, true, false, cond, Err, suc, take, inl, inr}
 use Rattle.std.specs.List.{flat_map}
 use Rattle.std.specs.Int.{w16, w32, w64, to_be_bytes, from_be_bytes}
 use Rattle.wb_names.specs.Values.{NameValue, MarkValue, DrawopValue}
@@ -22,7 +22,7 @@ use Rattle.wb_codec.proofs.DrawopLaws.{drawop_reads, drawop_again, named, seq_fr
 use Rattle.wb_codec.proofs.EntryLaws.{marks_read, marks_again, echoes_read, echoes_again}
 use Rattle.std.proofs.lemmas.List.{length-append, length-take, get_or_past}
 use Rattle.wb_names.specs.declared.parts.Op.{Op}
-use Rattle.wb_names.specs.declared.parts.Op.TheVariants.{Drawn, Text, Aimed}
+use Rattle.wb_names.specs.declared.parts.Op.TheVariants.{Text}
 use Rattle.wb_codec.proofs.Lawful.{lawful_text}
 use Rattle.std.specs.Prelude.{nat_eq, nat_le, ◌&&◌, All}
 use Rattle.std.proofs.lemmas.Bool.{eqb-true, leb-true, le-leb, cases_lt}

@@ -5,7 +5,7 @@ use Rattle.std.proofs.lemmas.Bool.Decides.{nat_tests}
 use Rattle.wb_names.specs.Values.{NameValue}
 use Rattle.wb_names.specs.declared.parts.Stroke.{Stroke}
 use Rattle.wb_names.specs.declared.parts.Op.{Op}
-use Rattle.wb_names.specs.declared.parts.Op.TheVariants.{Drawn, Text, Aimed}
+use Rattle.wb_names.specs.declared.parts.Op.TheVariants.{Text}
 use Rattle.wb_names.specs.Drawing.{text_of, IsLawful, stroke_fault, text_fault, is_printable}
 use Rattle.wb_codec.proofs.Bytes.{IsBytes, IsBytes-printable}
 

@@ -1,8 +1,8 @@
 -- A record read back is the drawop that it was made from.
-use Rattle.std.proofs.Common.{◌≡◌, ℕ, zero, suc, ◌+◌, ◌-◌, ◌*◌, ◌^◌, ◌<◌, ◌≤◌, Bool, true, List, ◌++◌, length, get_or, take, drop, replicate, map, Option, Some, None, Result, Ok, refl, sym, ap, subst, ◌∙◌, arith}
+use Rattle.std.proofs.Common.{◌≡◌, ℕ, zero, suc, ◌+◌, ◌-◌, ◌*◌, ◌^◌, ◌<◌, Bool, true, List, ◌++◌, length, get_or, take, drop, replicate, map, Option, Some, None, Result, Ok, refl, sym, ap, subst, ◌∙◌, arith}
 use Rattle.std.specs.List.{flat_map, range_with_len}
 use Rattle.std.specs.Int.{w64, to_be_bytes}
-use Rattle.std.proofs.lemmas.List.{take_all, drop_all, length-take, length-drop, take_at, length-append, length-replicate, drop-drop, take-append-drop}
+use Rattle.std.proofs.lemmas.List.{drop_all, length-take, length-drop, take_at, length-append, length-replicate, drop-drop, take-append-drop}
 use Rattle.std.proofs.lemmas.Nat.{be_bytes_8}
 use Rattle.wb_names.specs.TextFields.{padded}
 use Rattle.std.specs.Prelude.{nat_le, option_and_then, if◌then◌else◌}

@@ -5,16 +5,15 @@ use Rattle.wb_names.specs.Drawing.{seq_fault}
 use Rattle.wb_names.specs.declared.fault.FieldFault.{FieldFault}
 use Rattle.wb_names.specs.declared.fault.FieldFault.TheVariants.{Coordinate, TextLength}
 use Rattle.wb_names.specs.declared.parts.Op.{Op}
-use Rattle.wb_names.specs.declared.parts.Op.TheVariants.{Drawn, Text, Aimed}
+use Rattle.wb_names.specs.declared.parts.Op.TheVariants.{Text}
 use Rattle.wb_codec.specs.declared.version.Version.{Version}
 use Rattle.wb_codec.specs.declared.fault.ReadFault.{ReadFault}
 use Rattle.wb_codec.specs.Reading.{◌>>=◌, is_length_of, in_range, fault_in_version}
 
 -- the version says texts of this length
 abbrev pub has_length : Version → Op → Bool
-has_length version (Drawn figure s) = true
 has_length version (Text x y text) = is_length_of version (length text)
-has_length version (Aimed change t) = true
+has_length version op = true
 
 -- The fault of a text whose length is not told, by what is wrong with the operation else: it stands where lengths are checked, after the coordinates and before the bytes.
 abbrev pub fault_at_length : Option FieldFault → FieldFault

@@ -70,7 +70,7 @@ module _ (w : Inside) (d s : ℕ) (old : IsWalk w) (room : w.gone < w.steps) (ed
   divided q r e low = division _ (2 * w.steps) q r (omega arith) (omega arith)
 
   -- a step that moves
-  pub step_over : (at : ℕ) → 2 * s ≤ w.error + 2 * d → (w.from ≤ w.to → at ≡ w.at + 1) → (w.to < w.from → at ≡ w.at - 1) → let v : Inside = record { from = w.from; to = w.to; steps = w.steps; gone = w.gone + 1; at = at; error = w.error + 2 * d - 2 * s } in IsWalk v
+  pub step_over : (at : ℕ) → 2 * s ≤ w.error + 2 * d → (w.from ≤ w.to → at ≡ w.at + 1) → (w.to < w.from → at ≡ w.at - 1) → let v : Inside = record w { gone = w.gone + 1; at = at; error = w.error + 2 * d - 2 * s } in IsWalk v
   step_over at past up down =
       let r = old.remainder in
       let reach = old.reach in
@@ -82,7 +82,7 @@ module _ (w : Inside) (d s : ℕ) (old : IsWalk w) (room : w.gone < w.steps) (ed
         within = omega arith;
       }
 
-  pub step_along : w.error + 2 * d < 2 * s → let v : Inside = record { from = w.from; to = w.to; steps = w.steps; gone = w.gone + 1; at = w.at; error = w.error + 2 * d } in IsWalk v
+  pub step_along : w.error + 2 * d < 2 * s → let v : Inside = record w { gone = w.gone + 1; error = w.error + 2 * d } in IsWalk v
   step_along low =
       let r = old.remainder in
       let next = divided (share (distance w.from w.to) w.gone w.steps) (w.error + 2 * d) (omega (arith, div-add-mod' (2 * w.gone * distance w.from w.to + w.steps) (2 * w.steps))) low in

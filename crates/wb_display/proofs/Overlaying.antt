@@ -1,7 +1,7 @@
 -- What is drawn over the cells of a canvas, and how cells that show a list are its text.
 use Rattle.std.proofs.Common.{◌≡◌, ℕ, ◌+◌, ◌*◌, ◌<◌, ◌≤◌, ◌≢◌, List, length, get_or, set, refl, ap, ◌∙◌, sym, arith, ◌⊎◌, inl, inr, length-set, get_or-set_same, get_or-set_other, ◌-◌, ◌++◌, take, drop, subst, length-append, length-drop, ◌/◌, ◌%◌, [], ◌∷◌, map, below_more}
 use Rattle.std.specs.Prelude.{Bool, true, false, cond, ◌&&◌, ◌||◌, nat_lt, nat_eq, nat_le, min, max, replicate, find, reverse, Option, Some}
-use Rattle.std.proofs.lemmas.Bool.{cases_lt}
+use Rattle.std.proofs.lemmas.Bool.{cases_lt, le-ltb}
 use Rattle.std.proofs.lemmas.Bool.Decides.{nat_tests}
 use Rattle.std.proofs.lemmas.Nat.{same_from_place, mul-add-lt, div_below, mod_below, div-add-mod'}
 use Rattle.wb_display.specs.Cells.{place, is_at, Overlays, is_on_row, is_on_column, Shows}
@@ -64,14 +64,11 @@ drawn_over w h a b c ga gb g old mid new first second all p q = record {
 pub agreeing : (w h : ℕ) (a b : ℕ → ℕ → Bool) (g : ℕ → ℕ) (old new : List ℕ) → Overlays w h a g old new → ((x y : ℕ) → x < w → y < h → a x y ≡ b x y) → Overlays w h b g old new
 agreeing w h a b g old new drawn same = record {
   len = drawn.len;
-  cells = λ x y hx hy. drawn.cells x y hx hy ∙ ap (λ (t : Bool). cond t (g x) (get_or old (place w x y) 0)) (alike x y hy (nat_lt x w) (here x));
+  cells = λ x y hx hy. drawn.cells x y hx hy ∙ ap (λ (t : Bool). cond t (g x) (get_or old (place w x y) 0)) (alike x y hy (cases_lt x w));
 } where
-  here : (x : ℕ) → nat_lt x w ≡ true → x < w
-  here x e = grind (arith, nat_tests)
-
-  alike : (x y : ℕ) → y < h → (l : Bool) → (l ≡ true → x < w) → (l && a x y) ≡ (l && b x y)
-  alike x y hy true in_row = same x y (in_row refl) hy
-  alike x y hy false in_row = refl
+  alike : (x y : ℕ) → y < h → (x < w) ⊎ (w ≤ x) → (nat_lt x w && a x y) ≡ (nat_lt x w && b x y)
+  alike x y hy (inl lt) = ap (λ (t : Bool). nat_lt x w && t) (same x y lt hy)
+  alike x y hy (inr ge) = rw (le-ltb x w ge) refl
 
 -- ---- rows, columns and texts, drawn a cell at a time
 
