@@ -15,6 +15,7 @@ use Rattle.wb_names.specs.Drawing.{IsLawful, seq_fault}
 use Rattle.wb_names.specs.declared.parts.Figure.{Figure}
 use Rattle.wb_names.specs.declared.parts.Stroke.{Stroke}
 use Rattle.wb_names.specs.declared.parts.Change.{Change}
+use Rattle.wb_names.specs.declared.parts.Change.TheVariants.{Restore}
 use Rattle.wb_names.specs.declared.parts.Target.{Target}
 use Rattle.wb_names.specs.declared.parts.Op.{Op}
 use Rattle.wb_names.specs.declared.parts.Op.TheVariants.{Drawn, Text, Aimed}
@@ -47,10 +48,6 @@ pub version_is : (v w : Version) → is_version v w ≡ true → w ≡ v
 version_is One One e = refl
 version_is Two Two e = refl
 version_is v w e = cc
-
-pub version_here : (v : Version) → is_version v v ≡ true
-version_here One = refl
-version_here Two = refl
 
 -- ---- the fields of each kind
 
@@ -146,7 +143,8 @@ no_fault_again name op e = e
 
 its_version : (op : Op) → has_kind (op_version op) (op_kind op) ≡ true
 its_version (Text x y text) = refl
-its_version op = version_here (first_version (op_kind op))
+its_version (Aimed Restore t) = refl
+its_version op = refl
 
 pub op_again : (name : NameValue) (op : Op) (rest : List ℕ) → IsLawful name op → HasTarget op → op_at (op_version op) (op_bytes op ++ rest) ≡ Ok (op, rest)
 unfolding op_at

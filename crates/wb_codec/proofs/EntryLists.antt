@@ -13,8 +13,7 @@ use Rattle.wb_codec.specs.Checked.{listed}
 
 -- these entries before those that are still to be read
 abbrev pub onto : {X : Type 0} → List X → Result (List X × List ℕ) ReadFault → Result (List X × List ℕ) ReadFault
-onto xs (Ok read) = Ok (xs ++ read.0, read.1)
-onto xs (Err fault) = Err fault
+onto xs r = r >>= λ read. Ok (xs ++ read.0, read.1)
 
 pub onto_none : {X : Type 0} (r : Result (List X × List ℕ) ReadFault) → r ≡ onto [] r
 onto_none (Ok (xs, rest)) = refl
@@ -34,11 +33,7 @@ module _ {X : Type 0} (entry_at : Option ℕ → List ℕ → Result (X × List 
 
   step : (n : ℕ) (before : Option ℕ) (rest after : List ℕ) (x : X) → entry_at before rest ≡ Ok (x, after) → list_at entry_at source (suc n) before rest ≡ onto (x ∷ []) (list_at entry_at source n (Some (source x)) after)
   unfolding list_at
-  step n before rest after x e = ap (λ (r : Result (X × List ℕ) ReadFault). r >>= λ entry. list_at entry_at source n (Some (source entry.0)) entry.1 >>= λ others. Ok (entry.0 ∷ others.0, others.1)) e ∙ one (list_at entry_at source n (Some (source x)) after)
-    where
-      one : (r : Result (List X × List ℕ) ReadFault) → (r >>= λ others. Ok (x ∷ others.0, others.1)) ≡ onto (x ∷ []) r
-      one (Ok p) = refl
-      one (Err fault) = refl
+  step n before rest after x e = rw e refl
 
   stop : (n : ℕ) (before : Option ℕ) (rest : List ℕ) (fault : ReadFault) → entry_at before rest ≡ Err fault → list_at entry_at source (suc n) before rest ≡ Err fault
   unfolding list_at

@@ -90,15 +90,13 @@ session_again sender sent page marks echoes fits =
     let n = to_be_bytes w16 (length echoes) in
     let es = flat_map echo_bytes echoes in
     let regrouped : a ++ b ++ p ++ (m ++ ms) ++ (n ++ es) ≡ a ++ (b ++ (p ++ (m ++ (ms ++ (n ++ (es ++ [])))))) = simp (append_assoc, append-nil) in
-    let few = fits.marks-fit.lawful.few in
-    let few_echoes = fits.echoes-fit.lawful.few in
     ap session_at regrouped ∙ rw (
       number_again wide32 sender (b ++ (p ++ (m ++ (ms ++ (n ++ (es ++ [])))))) fits.sender-fits,
       number_again wide64 sent (p ++ (m ++ (ms ++ (n ++ (es ++ []))))) fits.sent-fits,
       page_again page (m ++ (ms ++ (n ++ (es ++ [])))) fits.page-fits,
-      number_again wide16 (length marks) (ms ++ (n ++ (es ++ []))) (omega arith),
+      number_again wide16 (length marks) (ms ++ (n ++ (es ++ []))) (omega (arith, fits.marks-fit.lawful.few)),
       marks_again marks (n ++ (es ++ [])) fits.marks-fit,
-      number_again wide16 (length echoes) (es ++ []) (omega arith),
+      number_again wide16 (length echoes) (es ++ []) (omega (arith, fits.echoes-fit.lawful.few)),
       echoes_again echoes [] fits.echoes-fit,
     ) refl
 
@@ -110,11 +108,10 @@ page_state_again sender page marks fits =
     let m = to_be_bytes w16 (length marks) in
     let ms = flat_map mark_bytes marks in
     let regrouped : a ++ p ++ (m ++ ms) ≡ a ++ (p ++ (m ++ (ms ++ []))) = simp (append_assoc, append-nil) in
-    let few = fits.marks-fit.lawful.few in
     ap page_state_at regrouped ∙ rw (
       number_again wide32 sender (p ++ (m ++ (ms ++ []))) fits.sender-fits,
       page_again page (m ++ (ms ++ [])) fits.page-fits,
-      number_again wide16 (length marks) (ms ++ []) (omega arith),
+      number_again wide16 (length marks) (ms ++ []) (omega (arith, fits.marks-fit.lawful.few)),
       marks_again marks [] fits.marks-fit,
     ) refl
 
@@ -280,11 +277,12 @@ reads bytes fits = step _ (frame_reads bytes fits) (λ f tf. weaker (body_reads 
 pub reading_takes : (bytes : List ℕ) (v : Datagram) → IsBytes bytes → reading bytes ≡ Ok v → (bytes ≡ spelling v) × IsDatagram v
 reading_takes bytes v fits e = found v (reads bytes fits) e
 
+framed_is : (v : Datagram) → framed (version_code (version_of v)) (kind_number (kind_of v)) (body v) ≡ spelling v
+framed_is v = ap (λ (n : ℕ). framed (version_code (version_of v)) n (body v)) (code_of_kind v)
+
 pub reading_again : (v : Datagram) → IsDatagram v → reading (spelling v) ≡ Ok v
 unfolding reading
-reading_again v fits =
-    let kind : spelling v ≡ framed (version_code (version_of v)) (kind_number (kind_of v)) (body v) = ap (λ (n : ℕ). framed (version_code (version_of v)) n (body v)) (sym (code_of_kind v)) in
-    ap reading kind ∙ rw (frame_again (version_of v) (kind_of v) (body v) (has_kind v) (body_short v fits)) (body_again v fits)
+reading_again v fits = ap reading (sym (framed_is v)) ∙ rw (frame_again (version_of v) (kind_of v) (body v) (has_kind v) (body_short v fits)) (body_again v fits)
 
 -- there is one datagram of a spelling
 pub one_datagram : (v w : Datagram) → IsDatagram v → IsDatagram w → spelling v ≡ spelling w → v ≡ w
@@ -328,9 +326,6 @@ longer version kind bytes b rest has lt =
     let enough : nat_le (length bytes) (length (bytes ++ b ∷ rest)) ≡ true = le-leb _ _ (omega (arith, len)) in
     let many : nat_le (length (bytes ++ b ∷ rest)) (length bytes) ≡ false = grind (arith, nat_tests) in
     rw (back, version_again version, kind_again version kind has, enough, many) refl
-
-framed_is : (v : Datagram) → framed (version_code (version_of v)) (kind_number (kind_of v)) (body v) ≡ spelling v
-framed_is v = ap (λ (n : ℕ). framed (version_code (version_of v)) n (body v)) (code_of_kind v)
 
 pub prefix_short : (v : Datagram) (n : ℕ) → IsDatagram v → n < length (spelling v) → reading (take n (spelling v)) ≡ Err Short
 unfolding reading
