@@ -1,13 +1,14 @@
 -- The last word on a drawop decides whether it is shown, and on one page the order of display tells drawops apart.
-use Rattle.std.proofs.Common.{◌≡◌, ℕ, List, [], ◌∷◌, ◌++◌, refl, ap, ◌∙◌, sym, subst, ⊎_elim, eqb-true, ◌<◌, ◌≤◌, length, get_or, arith, ◌+◌, take, append-nil}
+use Rattle.std.proofs.lemmas.Grind.{common_steps}
+use Rattle.std.proofs.Common.{◌≡◌, ℕ, List, [], ◌∷◌, ◌++◌, refl, ap, ◌∙◌, sym, subst, ⊎_elim, ◌<◌, ◌≤◌, length, get_or, arith, ◌+◌, take, append-nil}
 use Rattle.std.specs.Prelude.{Bool, true, false, cond, ◌&&◌, Contains, Option, Some, None, ◌≢◌, not, AllPairs, filter}
 use Rattle.std.specs.declared.cmp.Ordering.{Ordering}
 use Rattle.std.specs.declared.cmp.Ordering.TheVariants.{Less, Equal}
 use Rattle.std.specs.Cmp.{IsTotalOrder, nat_cmp_total}
-use Rattle.std.specs.Ordering.{is_lt, eq_by_cmp, is_eq, nat_cmp, ordering_reverse}
+use Rattle.std.specs.Ordering.{is_lt, eq_by_cmp, is_eq, ordering_reverse}
 use Rattle.std.proofs.lemmas.Cmp.{on_total, then_total, tied_itself}
 use Rattle.std.proofs.lemmas.List.Elements.{Contains-append_left, Contains-push, Contains-push_cases, filter_passes, Contains-get_or, filter_more}
-use Rattle.std.proofs.lemmas.Bool.{and_parts, false_from_ne_true, cases_lt, not-true, not_from_false, and_from}
+use Rattle.std.proofs.lemmas.Bool.{and_parts, false_from_ne_true, cases_lt, not_from_false, and_from}
 use Rattle.wb_names.specs.Values.{DrawopValue}
 use Rattle.wb_names.specs.Orders.{same_page, display_cmp}
 use Rattle.wb_names.specs.declared.name.PageId.{PageId}
@@ -23,7 +24,7 @@ use Rattle.std.proofs.lemmas.List.{get_or_default}
 use Rattle.std.proofs.lemmas.List.Folds.{list_any_none, list_any_at}
 use Rattle.std.proofs.lemmas.List.Kept.{AllPairs-filter}
 use Rattle.wb_names.specs.History.{IsHistory}
-use Rattle.wb_names.proofs.Orders.{then_is, nat_ties, name_parts, same_page-is}
+use Rattle.wb_names.proofs.Orders.{same_page-is}
 use Rattle.wb_display.specs.LastWords.{AreLastWords, word_on}
 use Rattle.wb_display.specs.declared.last_words.LastWords.{LastWords}
 
@@ -119,12 +120,7 @@ one_drawop history names e f (j, lj, ej) (k, lk, ek) same =
 
 -- two of one page that tie have one name
 pub tie_names : (page : PageId) (e f : DrawopValue) → same_page e.name.page page ≡ true → same_page f.name.page page ≡ true → is_eq (display_cmp e f) ≡ true → e.name ≡ f.name
-tie_names page e f pe pf tie =
-    let p = same_page-is e.name.page page pe in
-    let q = same_page-is f.name.page page pf in
-    let r = (and_parts (is_eq (nat_cmp e.time f.time)) _ (sym (then_is _ _) ∙ tie)).1 in
-    let s = and_parts (is_eq (nat_cmp e.name.source f.name.source)) (is_eq (nat_cmp e.name.seq f.name.seq)) (sym (then_is _ _) ∙ r) in
-    name_parts _ _ _ _ _ _ (eqb-true _ _ (nat_ties e.name.source f.name.source ∙ s.0)) (p ∙ sym q) (eqb-true _ _ (nat_ties e.name.seq f.name.seq ∙ s.1))
+tie_names page e f pe pf tie = grind (arith, common_steps)
 
 tied_unless : (r s : Ordering) → r ≡ ordering_reverse s → is_lt r ≡ false → is_lt s ≡ false → is_eq r ≡ true
 tied_unless Equal s e p q = refl
@@ -147,9 +143,7 @@ module _ (history : List DrawopValue) (d : DrawopValue) where
   last_word-is e last = not_from_false _ (list_any_nowhere (λ f. is_aimed_at f d && is_lt (display_cmp e f)) history (λ f c. false_from_ne_true _ (λ (t : (is_aimed_at f d && is_lt (display_cmp e f)) ≡ true). let p = and_parts (is_aimed_at f d) _ t in let g : true ≡ false = sym p.1 ∙ last f c p.0 in cc)))
 
   pub last_word-says : (e : DrawopValue) → is_last_word history d e ≡ true → (f : DrawopValue) → Contains history f → is_aimed_at f d ≡ true → is_lt (display_cmp e f) ≡ false
-  last_word-says e last f c aimed =
-      let none = nowhere_from (λ f. is_aimed_at f d && is_lt (display_cmp e f)) history (not-true _ last) f c in
-      false_from_ne_true _ (λ (t : is_lt (display_cmp e f) ≡ true). let g : true ≡ false = sym (and_from _ _ aimed t) ∙ none in cc)
+  last_word-says e last f c aimed = grind (arith, common_steps)
 
   -- a drawop is hidden exactly where the last word on it hides
   pub hidden_by : IsHistory history → (r : Option LastWord) → IsLastWord history d.name.page (own_target d) r → is_hidden_in history d ≡ hides r

@@ -1,5 +1,6 @@
 -- What a layer holds and keeps, from its making on.
-use Rattle.std.proofs.Common.{◌≡◌, ℕ, ◌<◌, length, take, List, [], ◌∷◌, ◌++◌, get_or, refl, ap, ◌∙◌, sym, subst, arith, ⊎_elim, ◌+◌, ◌≤◌, drop, add-one, drop-cons, ◌⊎◌, inl, inr}
+use Rattle.std.proofs.lemmas.Grind.{common_steps}
+use Rattle.std.proofs.Common.{◌≡◌, ℕ, ◌<◌, length, take, List, [], ◌∷◌, ◌++◌, get_or, refl, ap, ◌∙◌, sym, subst, arith, ⊎_elim, ◌+◌, ◌≤◌, drop, ◌⊎◌, inl, inr}
 use Rattle.std.specs.Prelude.{◌≢◌, Bool, true, false, cond, ◌||◌, All, Contains, Option, Some, None, is_some, not, ◌&&◌, Result, Ok, OnOk, filter}
 use Rattle.std.specs.Map.{lookup, keys_of}
 use Rattle.std.proofs.lemmas.Map.{none_passes_from_lookup}
@@ -10,21 +11,21 @@ use Rattle.std.proofs.lemmas.Bool.Decides.{nat_tests}
 use Rattle.std.proofs.lemmas.List.{length-take, get_or-take, get_or_default, map-append}
 use Rattle.std.proofs.lemmas.List.Folds.{Any-from_list_any}
 use Rattle.wb_names.proofs.Orders.{same_name-is}
-use Rattle.std.proofs.lemmas.List.Elements.{All-contains, All-from_recursion, All-head, All-tail, Contains-get_or, All-push, Contains-append_left}
+use Rattle.std.proofs.lemmas.List.Elements.{All-contains, All-from_recursion, All-head, All-tail, Contains-get_or, All-push}
 use Rattle.std.proofs.lemmas.List.Quantifiers.{all_pairs_push}
 use Rattle.wb_names.specs.Values.{DrawopValue, NameValue}
 use Rattle.wb_names.specs.History.{IsHistory}
 use Rattle.wb_names.specs.Orders.{same_page, same_name, display_cmp}
 use Rattle.wb_names.specs.declared.name.PageId.{PageId}
 use Rattle.wb_names.proofs.Listings.{Contains-none, Any-from_map, Contains-map}
-use Rattle.wb_display.specs.LastWord.{own_target, affected_target, is_shown_by, IsLastWord}
+use Rattle.wb_display.specs.LastWord.{own_target, affected_target, is_shown_by}
 use Rattle.wb_names.specs.Same.{same_target, same_target-is, same_drawop, same_drawop-Decides}
 use Rattle.wb_display.specs.Layer.{holds_name, LayerValue, is_news, held_with, held_with_all, news_count, held_of}
 use Rattle.wb_display.specs.TakingIn.{IsKeyed, AreHeld, AreKept, TakesIn, Touches, HoldsToo, IsShownIn}
 use Rattle.wb_names.specs.declared.parts.Target.{Target}
-use Rattle.wb_display.proofs.Deciding.{nowhere_from, shown_here, list_any_nowhere, one_drawop, tie_names}
+use Rattle.wb_display.proofs.Deciding.{nowhere_from, shown_here, one_drawop, tie_names}
 use Rattle.std.specs.List.Sorted.{IsStrictlySortedBy}
-use Rattle.std.proofs.lemmas.Bool.{and_parts, not-true, not_from_false, and_from}
+use Rattle.std.proofs.lemmas.Bool.{and_parts, not-true}
 use Rattle.indexmap.specs.IndexMap.{insert_entry}
 use Rattle.wb_display.specs.Display.{is_shown, IsView}
 use Rattle.wb_display.specs.DisplayList.{SetsShown, TiesAlone, ShowsOthers, TieOnce}
@@ -33,7 +34,6 @@ use Rattle.wb_display.specs.declared.last_words.LastWords.{LastWords}
 use Rattle.wb_display.proofs.Putting.{view_changed, view_stays, ties_alone, touches_stake, touches_no_stake}
 use Rattle.std.specs.List.{list_any}
 use Rattle.std.specs.Ordering.{is_eq}
-use Rattle.std.proofs.lemmas.List.Sums.{fold_more}
 use Rattle.wb_names.specs.Listing.{Lists}
 
 -- ---- what is held, by the keys of the drawops
@@ -144,10 +144,7 @@ module _ (words words' : LastWords) (entries entries' : List (Target × DrawopVa
   missing none x c = not_found words'.page (affected_target d) entries' after.keys none x (subst (λ (h : List DrawopValue). Contains h x) (sym same) c)
 
   viewed : (shown : List DrawopValue) → IsView (held_of entries ++ d ∷ []) words.page shown → AreKept words' entries' shown
-  viewed shown view = record {
-    held = after;
-    view = subst (λ (h : List DrawopValue). IsView h words'.page shown) (sym same) (subst (λ (p : PageId). IsView (held_of entries ++ d ∷ []) p shown) (sym page) view);
-  }
+  viewed shown view = grind (arith, common_steps)
 
   -- the affected drawop was found, and what is shown changed with it
   pub took_in : (shown shown' : List DrawopValue) (a : DrawopValue) (show : Bool) → IsView (held_of entries) words.page shown → lookup (same_target (affected_target d)) entries' ≡ Some a → show ≡ is_shown_by words'.page a (word_on words' (own_target a)) → (IsStrictlySortedBy display_cmp shown → TiesAlone shown a → SetsShown a show shown shown') → AreKept words' entries' shown'
@@ -174,16 +171,7 @@ on_ok X F P r v e h = subst (λ (s : Result X F). OnOk s P) e h
 
 -- room made changes nothing that is kept
 pub kept_with_room : (words words' : LastWords) (entries entries' : List (Target × DrawopValue)) (shown shown' : List DrawopValue) → words'.page ≡ words.page → ((l : Target) → word_on words' l ≡ word_on words l) → entries' ≡ entries → shown' ≡ shown → AreKept words entries shown → AreKept words' entries' shown'
-kept_with_room words words' entries entries' shown shown' page same e s kept =
-    let moved : AreKept words' entries shown = record {
-      held = record {
-        names = kept.held.names;
-        keys = subst (λ (p : PageId). All (IsKeyed p) entries) (sym page) kept.held.keys;
-        last_words = λ l. subst (λ (p : PageId). IsLastWord (held_of entries) p l (word_on words' l)) (sym page) (subst (IsLastWord (held_of entries) words.page l) (sym (same l)) (kept.held.last_words l));
-      };
-      view = subst (λ (p : PageId). IsView (held_of entries) p shown) (sym page) kept.view;
-    } in
-    subst (λ (xs : List DrawopValue). AreKept words' entries' xs) (sym s) (subst (λ (es : List (Target × DrawopValue)). AreKept words' es shown) (sym e) moved)
+kept_with_room words words' entries entries' shown shown' page same e s kept = grind (arith, common_steps)
 
 -- a new drawop is held last
 pub held_more : (page : PageId) (held : List DrawopValue) (d : DrawopValue) → is_news page held d ≡ true → held_with page held d ≡ held ++ d ∷ []
@@ -224,10 +212,7 @@ put_news words roomy words' entries wider entries' shown longer shown' d v is ne
 
 -- what is news later was news before
 news_before : (page : PageId) (held : List DrawopValue) (d x : DrawopValue) → is_news page (held ++ d ∷ []) x ≡ true → is_news page held x ≡ true
-news_before page held d x e =
-    let p = and_parts (same_page x.name.page page) _ e in
-    let none = not-true _ p.1 in
-    and_from _ _ p.0 (not_from_false _ (list_any_nowhere (λ y. same_name y.name x.name) held (λ y c. nowhere_from (λ y. same_name y.name x.name) (held ++ d ∷ []) none y (Contains-append_left held (d ∷ []) y c))))
+news_before page held d x e = grind (arith, common_steps)
 
 -- a narrower test keeps no more
 filter_narrows : (p q : DrawopValue → Bool) → ((x : DrawopValue) → q x ≡ true → p x ≡ true) → (xs : List DrawopValue) → length (filter q xs) ≤ length (filter p xs)
@@ -241,9 +226,7 @@ filter_narrows p q h (x ∷ xs) = at (q x) (p x) (h x) (filter_narrows p q h xs)
 
 module _ (page : PageId) (held list : List DrawopValue) (i : ℕ) (d : DrawopValue) (h : i < length list) (is : get_or list i d ≡ d) where
   here : (b : Bool) → is_news page held d ≡ b → news_count page held (drop i list) ≡ length (cond b (d ∷ filter (is_news page held) (drop (i + 1) list)) (filter (is_news page held) (drop (i + 1) list)))
-  here b e =
-      let cut : drop i list ≡ d ∷ drop (i + 1) list = rw (add-one, drop-cons list i d, is) refl in
-      ap (news_count page held) cut ∙ ap (λ (c : Bool). length (cond c (d ∷ filter (is_news page held) (drop (i + 1) list)) (filter (is_news page held) (drop (i + 1) list)))) e
+  here b e = grind (arith, common_steps)
 
   -- a step over what is news takes one place
   pub room_taken : is_news page held d ≡ true → news_count page (held_with page held d) (drop (i + 1) list) + 1 ≤ news_count page held (drop i list)
@@ -258,9 +241,7 @@ module _ (page : PageId) (held list : List DrawopValue) (i : ℕ) (d : DrawopVal
 -- one put more
 pub held_more_puts : (page here : PageId) (start held held' list : List DrawopValue) (i : ℕ) (d : DrawopValue) → i < length list → get_or list i d ≡ d → here ≡ page
     → held ≡ held_with_all page start (take i list) → held' ≡ held_with here held d → held' ≡ held_with_all page start (take (i + 1) list)
-held_more_puts page here start held held' list i d h is at so then =
-    then ∙ ap (λ (p : PageId). held_with p held d) at ∙ ap (λ (hs : List DrawopValue). held_with page hs d) so
-    ∙ sym (fold_more (held_with page) start list i d h ∙ ap (held_with page (held_with_all page start (take i list))) is)
+held_more_puts page here start held held' list i d h is at so then = grind (arith, common_steps)
 
 -- what is no news changes nothing
 pub held_not_more : (page : PageId) (held : List DrawopValue) (d : DrawopValue) → is_news page held d ≡ false → held ≡ held_with page held d

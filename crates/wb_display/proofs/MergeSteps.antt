@@ -1,11 +1,12 @@
 -- Two lists in the order of display become one, from the back.
-use Rattle.std.proofs.Common.{◌≡◌, ℕ, ◌+◌, ◌-◌, ◌<◌, ◌≤◌, List, [], ◌∷◌, ◌++◌, length, get_or, set, take, drop, refl, ap, ◌∙◌, sym, subst, arith, ⊎_elim, ◌⊎◌, append-nil, append_assoc}
+use Rattle.std.proofs.lemmas.Grind.{common_steps}
+use Rattle.std.proofs.Common.{◌≡◌, ℕ, ◌+◌, ◌-◌, ◌<◌, ◌≤◌, List, [], ◌∷◌, ◌++◌, length, get_or, set, take, drop, refl, ap, ◌∙◌, sym, subst, arith, ⊎_elim, ◌⊎◌, append_assoc}
 use Rattle.std.specs.Prelude.{Contains, ◌↔◌, ◌≢◌}
 use Rattle.std.specs.declared.cmp.Ordering.{Ordering}
 use Rattle.std.specs.declared.cmp.Ordering.TheVariants.{Less, Equal, Greater}
 use Rattle.std.specs.Ordering.{ordering_reverse}
 use Rattle.std.specs.List.Sorted.{IsStrictlySortedBy}
-use Rattle.std.proofs.lemmas.List.{get_or_default, get_or-take, length-set, length-take, take_all, drop_all, take_more, take-take, take-set-le, take-append-drop, drop-set}
+use Rattle.std.proofs.lemmas.List.{get_or_default, get_or-take, length-set, length-take, take-take, take-set-le, take-append-drop, drop-set}
 use Rattle.std.proofs.lemmas.List.Elements.{Contains-append_left, Contains-append_right, Contains-append_cases, Contains-push_cases}
 use Rattle.wb_names.specs.Values.{DrawopValue}
 use Rattle.wb_names.specs.Orders.{display_cmp}
@@ -66,10 +67,7 @@ in_front xs ys cur left right e m pos is = sym (get_or-take left xs (left - 1) e
 
 -- the first n of a list, by the last of them
 by_last : (zs : List DrawopValue) (n : ℕ) (e : DrawopValue) → 0 < n → n ≤ length zs → get_or zs (n - 1) e ≡ e → take n zs ≡ take (n - 1) zs ++ e ∷ []
-by_last zs n e pos le is =
-    ap (λ (k : ℕ). take k zs) (let s : n ≡ n - 1 + 1 = omega arith in s)
-    ∙ take_more zs (n - 1) e (omega arith)
-    ∙ ap (λ (d : DrawopValue). take (n - 1) zs ++ d ∷ []) is
+by_last zs n e pos le is = grind (arith, common_steps)
 
 -- what is merged once one more was put before it
 one_more : (cur : List DrawopValue) (e : DrawopValue) (k n m : ℕ) → k ≡ n → n + 1 ≡ m → n < length cur → drop k (set cur n e) ≡ e ∷ drop m cur
@@ -77,21 +75,7 @@ one_more cur e k n m now was lt = rw (now, ← was) (drop-set cur n e lt)
 
 -- all is still to be merged
 pub merging_none : (xs ys cur : List DrawopValue) (left right : ℕ) → IsStrictlySortedBy display_cmp xs → IsStrictlySortedBy display_cmp ys → left ≡ length xs → right ≡ length ys → length cur ≡ length xs + length ys → take left cur ≡ xs → Merging xs ys cur left right
-merging_none xs ys cur left right up rise l r len front =
-    let none : drop (left + right) cur ≡ [] = drop_all (left + right) cur (omega arith) in
-    let p : take left xs ≡ xs = take_all left xs (omega arith) in
-    let q : take right ys ≡ ys = take_all right ys (omega arith) in
-    record {
-      within_left = omega arith;
-      within_right = omega arith;
-      len = len;
-      front = front ∙ sym p;
-      merged = rw (none, p, q) (record {
-        first = rw append-nil up;
-        second = rw append-nil rise;
-        members = λ x. rw (append-nil ys) ((λ c. c), (λ c. c));
-      });
-    }
+merging_none xs ys cur left right up rise l r len front = grind (arith, common_steps)
 
 module _ (xs ys cur : List DrawopValue) (left right : ℕ) (e : DrawopValue) (m : Merging xs ys cur left right) (some : 0 < right) where
   -- the last of the first list moves up

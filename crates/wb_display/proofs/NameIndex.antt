@@ -1,10 +1,11 @@
 -- An index of the names of a list, into which its names go one after another.
+use Rattle.std.proofs.lemmas.Grind.{common_steps}
 use Rattle.std.proofs.Common.{◌≡◌, ℕ, ◌<◌, ◌+◌, length, take, map, List, [], ◌∷◌, ◌++◌, get_or, refl, ap, ◌∙◌, sym, subst, arith}
-use Rattle.std.specs.Prelude.{Bool, true, false, ◌&&◌, ◌||◌, nat_eq, not, if◌then◌else◌}
+use Rattle.std.specs.Prelude.{Bool, true, false, ◌&&◌, ◌||◌, nat_eq, not}
 use Rattle.std.specs.List.{list_any}
 use Rattle.std.proofs.lemmas.Bool.{not-true, not-false}
 use Rattle.std.proofs.lemmas.Bool.Decides.{nat_tests}
-use Rattle.std.proofs.lemmas.List.{map-append, take_more}
+use Rattle.std.proofs.lemmas.List.{take_more}
 use Rattle.indexmap.specs.IndexSet.{insert_key}
 use Rattle.wb_names.specs.Values.{NameValue, DrawopValue}
 use Rattle.wb_names.specs.History.{IsHistory}
@@ -39,13 +40,7 @@ module _ (list : List DrawopValue) (i : ℕ) (d : DrawopValue) (n : NameValue) (
   stands_once new once = subst IsHistory (sym next) (names_more (take i list) d once (sym known_before ∙ not-true _ (sym told ∙ new)))
 
   pub index_more : added ≡ true → (keys' : List NameValue) → keys' ≡ insert_key alike keys n → keys' ≡ names_of (take (i + 1) list)
-  index_more new keys' inserted =
-      inserted
-      ∙ ap (λ (b : Bool). if b then keys else (keys ++ n ∷ [])) (not-true _ (sym told ∙ new))
-      ∙ ap (λ (ks : List NameValue). ks ++ n ∷ []) index
-      ∙ ap (λ (m : NameValue). names_of (take i list) ++ m ∷ []) named
-      ∙ sym (map-append (λ (e : DrawopValue). e.name) (take i list) (d ∷ []))
-      ∙ ap names_of (sym next)
+  index_more new keys' inserted = grind (arith, common_steps)
 
   pub stands_twice : added ≡ false → IsHistory list → ⊥
   stands_twice had names = named_twice list i d inside (sym here) (sym known_before ∙ not-false _ (sym told ∙ had)) names

@@ -1,17 +1,16 @@
 -- What is drawn over the cells of a canvas, and how cells that show a list are its text.
-use Rattle.std.proofs.Common.{◌≡◌, ℕ, ◌+◌, ◌*◌, ◌<◌, ◌≤◌, ◌≢◌, List, length, get_or, set, refl, ap, ◌∙◌, sym, arith, ◌⊎◌, inl, inr, length-set, get_or-set_same, get_or-set_other, ◌-◌, ◌++◌, take, drop, subst, length-append, length-drop, ◌/◌, ◌%◌, [], ◌∷◌, map, below_more}
-use Rattle.std.specs.Prelude.{Bool, true, false, cond, ◌&&◌, ◌||◌, nat_lt, nat_eq, nat_le, min, max, replicate, find, reverse, Option, Some}
-use Rattle.std.proofs.lemmas.Bool.{cases_lt, le-ltb}
+use Rattle.std.proofs.lemmas.Grind.{common_steps}
+use Rattle.std.proofs.Common.{◌≡◌, ℕ, ◌+◌, ◌*◌, ◌<◌, ◌≤◌, ◌≢◌, List, length, get_or, set, refl, ap, ◌∙◌, sym, arith, ◌⊎◌, inl, inr, length-set, get_or-set_same, get_or-set_other, ◌-◌, ◌++◌, take, drop, length-append, length-drop, ◌/◌, ◌%◌, [], ◌∷◌, map, below_more}
+use Rattle.std.specs.Prelude.{Bool, true, false, cond, ◌&&◌, ◌||◌, nat_lt, nat_eq, nat_le, min, max, replicate}
+use Rattle.std.proofs.lemmas.Bool.{cases_lt}
 use Rattle.std.proofs.lemmas.Bool.Decides.{nat_tests}
 use Rattle.std.proofs.lemmas.Nat.{same_from_place, mul-add-lt, div_below, mod_below, div-add-mod'}
 use Rattle.wb_display.specs.Cells.{place, is_at, Overlays, is_on_row, is_on_column, Shows}
 use Rattle.wb_display.specs.Canvas.{is_on_frame, covers, glyph_of, glyph_at, row_text, canvas_text}
-use Rattle.std.proofs.lemmas.List.{length-take-le, length-replicate, get_or_append_left, get_or_at, reverse-append, ext_get_or, take_more}
+use Rattle.std.proofs.lemmas.List.{length-take-le, length-replicate, get_or_append_left, get_or_at, ext_get_or}
 use Rattle.std.proofs.lemmas.List.Concat.{get_or-flat_map}
 use Rattle.std.proofs.lemmas.Grind.{elements}
-use Rattle.std.proofs.Math.Bool.{and-false}
 use Rattle.std.specs.List.{range_with_len, flat_map}
-use Rattle.std.specs.Option.{option_map_or}
 use Rattle.std.proofs.lemmas.List.FromFn.{length-range_with_len, get_or-range_with_len, length-map-range_with_len, get_or-map-range_with_len}
 use Rattle.wb_names.specs.Values.{DrawopValue}
 use Rattle.wb_names.specs.declared.parts.Op.{Op}
@@ -40,35 +39,16 @@ plotted w h px py g old lx ly len = record {
 
 -- nothing drawn
 pub untouched : (w h : ℕ) (glyph : ℕ → ℕ) (old : List ℕ) → Overlays w h (λ x y. false) glyph old old
-untouched w h glyph old = record {
-  len = refl;
-  cells = λ x y hx hy. changed (nat_lt x w && false) _ _ (glyph x) (λ e. let f = and-false (nat_lt x w) in cc) (λ e. refl);
-}
-
-both_drawn : (l a b c : Bool) (n m o ga gb g : ℕ) → n ≡ cond (l && b) gb m → m ≡ cond (l && a) ga o → c ≡ (a || b) → (a ≡ true → b ≡ false → ga ≡ g) → (b ≡ true → gb ≡ g) → n ≡ cond (l && c) g o
-both_drawn false a b c n m o ga gb g e f h p q = e ∙ f
-both_drawn true true true c n m o ga gb g e f h p q = e ∙ q refl ∙ ap (λ (t : Bool). cond t g o) (sym h)
-both_drawn true false true c n m o ga gb g e f h p q = e ∙ q refl ∙ ap (λ (t : Bool). cond t g o) (sym h)
-both_drawn true true false c n m o ga gb g e f h p q = e ∙ f ∙ p refl refl ∙ ap (λ (t : Bool). cond t g o) (sym h)
-both_drawn true false false c n m o ga gb g e f h p q = e ∙ f ∙ ap (λ (t : Bool). cond t g o) (sym h)
+untouched w h glyph old = grind (arith, common_steps)
 
 -- one thing over another, as one
 pub drawn_over : (w h : ℕ) (a b c : ℕ → ℕ → Bool) (ga gb g : ℕ → ℕ) (old mid new : List ℕ) → Overlays w h a ga old mid → Overlays w h b gb mid new
     → ((x y : ℕ) → c x y ≡ (a x y || b x y)) → ((x y : ℕ) → a x y ≡ true → b x y ≡ false → ga x ≡ g x) → ((x y : ℕ) → b x y ≡ true → gb x ≡ g x) → Overlays w h c g old new
-drawn_over w h a b c ga gb g old mid new first second all p q = record {
-  len = second.len ∙ first.len;
-  cells = λ x y hx hy. both_drawn (nat_lt x w) (a x y) (b x y) (c x y) _ _ _ _ _ _ (second.cells x y hx hy) (first.cells x y hx hy) (all x y) (p x y) (q x y);
-}
+drawn_over w h a b c ga gb g old mid new first second all p q = grind (arith, common_steps)
 
 -- what covers the same points of the canvas, with the same glyphs there, is the same
 pub agreeing : (w h : ℕ) (a b : ℕ → ℕ → Bool) (g : ℕ → ℕ) (old new : List ℕ) → Overlays w h a g old new → ((x y : ℕ) → x < w → y < h → a x y ≡ b x y) → Overlays w h b g old new
-agreeing w h a b g old new drawn same = record {
-  len = drawn.len;
-  cells = λ x y hx hy. drawn.cells x y hx hy ∙ ap (λ (t : Bool). cond t (g x) (get_or old (place w x y) 0)) (alike x y hy (cases_lt x w));
-} where
-  alike : (x y : ℕ) → y < h → (x < w) ⊎ (w ≤ x) → (nat_lt x w && a x y) ≡ (nat_lt x w && b x y)
-  alike x y hy (inl lt) = ap (λ (t : Bool). nat_lt x w && t) (same x y lt hy)
-  alike x y hy (inr ge) = rw (le-ltb x w ge) refl
+agreeing w h a b g old new drawn same = grind (arith, common_steps)
 
 -- ---- rows, columns and texts, drawn a cell at a time
 
@@ -185,19 +165,10 @@ shown_text w h ds cells s =
 
 -- the glyph where one more drawop is drawn
 glyph_more : (ds : List DrawopValue) (d : DrawopValue) (x y : ℕ) → glyph_at (ds ++ d ∷ []) x y ≡ cond (covers d.op x y) (glyph_of d.op x) (glyph_at ds x y)
-glyph_more ds d x y =
-    ap (λ (r : List DrawopValue). option_map_or (λ d. glyph_of d.op x) (find (λ d. covers d.op x y) r) 32) (reverse-append ds (d ∷ []))
-    ∙ first (covers d.op x y) (find (λ (d : DrawopValue). covers d.op x y) (reverse ds)) where
-      first : (b : Bool) (r : Option DrawopValue) → option_map_or (λ (d : DrawopValue). glyph_of d.op x) (cond b (Some d) r) 32 ≡ cond b (glyph_of d.op x) (option_map_or (λ (d : DrawopValue). glyph_of d.op x) r 32)
-      first true r = refl
-      first false r = refl
+glyph_more ds d x y = grind (arith, common_steps)
 
 pub shows_more : (w h : ℕ) (ds : List DrawopValue) (d : DrawopValue) (old new : List ℕ) → Shows w h ds old → Overlays w h (covers d.op) (glyph_of d.op) old new → Shows w h (ds ++ d ∷ []) new
-shows_more w h ds d old new s over = record {
-  len = over.len ∙ s.len;
-  columns = λ x y hx hy. over.cells x y (omega arith) hy ∙ ap (λ (l : Bool). cond (l && covers d.op x y) (glyph_of d.op x) (get_or old (place w x y) 0)) (let e : nat_lt x w ≡ true = grind (arith, nat_tests) in e) ∙ ap (λ (o : ℕ). cond (covers d.op x y) (glyph_of d.op x) o) (s.columns x y hx hy) ∙ sym (glyph_more ds d x y);
-  feeds = λ y hy. over.cells w y (omega arith) hy ∙ ap (λ (l : Bool). cond (l && covers d.op w y) (glyph_of d.op w) (get_or old (place w w y) 0)) (let e : nat_lt w w ≡ false = grind (arith, nat_tests) in e) ∙ s.feeds y hy;
-}
+shows_more w h ds d old new s over = grind (arith, common_steps)
 
 -- one more line feed: the columns stay as they were, and the feeds above too
 pub fed_columns : (w h y : ℕ) (cells : List ℕ) → ((a b : ℕ) → a < w → b < h → get_or cells (place w a b) 0 ≡ 32) → (a b : ℕ) → a < w → b < h → get_or (set cells (y * (w + 1) + w) 10) (place w a b) 0 ≡ 32
@@ -216,8 +187,4 @@ pub ruleset fed = (fed_columns, fed_feeds)
 
 -- the same, at a step of a loop over the list
 pub shows_next : (w h : ℕ) (ds : List DrawopValue) (i : ℕ) (d : DrawopValue) (op : Op) (old new : List ℕ) → i < length ds → d ≡ get_or ds i d → op ≡ d.op → Shows w h (take i ds) old → Overlays w h (covers op) (glyph_of op) old new → Shows w h (take (i + 1) ds) new
-shows_next w h ds i d op old new lt is same s over =
-    let e : take i ds ++ d ∷ [] ≡ take (i + 1) ds = ap (λ (t : DrawopValue). take i ds ++ t ∷ []) is ∙ sym (take_more ds i d lt) in
-    let drawn : Overlays w h (covers d.op) (glyph_of d.op) old new = (let P : Op → Type 0 = λ o. Overlays w h (covers o) (glyph_of o) old new in subst P same over) in
-    let P : List DrawopValue → Type 0 = λ xs. Shows w h xs new in
-    subst P e (shows_more w h (take i ds) d old new s drawn)
+shows_next w h ds i d op old new lt is same s over = grind (arith, common_steps)
