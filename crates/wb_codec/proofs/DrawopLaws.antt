@@ -15,6 +15,7 @@ use Rattle.wb_names.specs.Drawing.{IsLawful, seq_fault}
 use Rattle.wb_names.specs.declared.parts.Figure.{Figure}
 use Rattle.wb_names.specs.declared.parts.Stroke.{Stroke}
 use Rattle.wb_names.specs.declared.parts.Change.{Change}
+use Rattle.wb_names.specs.declared.parts.Change.TheVariants.{Restore}
 use Rattle.wb_names.specs.declared.parts.Target.{Target}
 use Rattle.wb_names.specs.declared.parts.Op.{Op}
 use Rattle.wb_names.specs.declared.parts.Op.TheVariants.{Drawn, Text, Aimed}
@@ -22,10 +23,10 @@ use Rattle.wb_codec.specs.declared.fault.ReadFault.{ReadFault}
 use Rattle.wb_codec.specs.declared.fault.ReadFault.TheVariants.{OpKind as OpKindFault}
 use Rattle.wb_codec.specs.Ranges.{HasTarget, IsName, IsDrawop}
 use Rattle.wb_codec.specs.Spelling.{stroke_bytes, text_bytes, target_bytes, field_bytes, op_bytes, op_version, name_bytes, drawop_bytes}
-use Rattle.wb_codec.specs.Reading.{◌>>=◌, require, stroke_at, text_at, target_at, fields_at, told_kind, op_at, told_fault, drawop_at}
+use Rattle.wb_codec.specs.Reading.{◌>>=◌, require, stroke_at, text_at, target_at, fields_at, kind_in_version, op_at, fault_in_version, drawop_at}
 use Rattle.wb_codec.proofs.Bytes.{IsBytes, IsBytes-drop}
 use Rattle.wb_codec.proofs.Lawful.{IsStroke, lawful_stroke, lawful_text}
-use Rattle.wb_codec.proofs.FieldLaws.{Reads, gives, step, weaker, checks, Takes, Takes-then, reads8, reads16, reads32, again16, again32, ended, ranged, ranges, Takes-all, reads64, again64, name_reads, name_again, HasWidth, has_width}
+use Rattle.wb_codec.proofs.FieldLaws.{Reads, gives, step, weaker, checks, Takes, Takes-then, reads8, ended, ranged, ranges, Takes-all, name_reads, name_again, HasWidth, has_width, number_again, number_reads, wide16, wide32, wide64}
 use Rattle.wb_names.specs.Faults.{fault_unless}
 use Rattle.wb_names.specs.declared.fault.FieldFault.TheVariants.{SeqZero}
 use Rattle.wb_names.specs.declared.parts.OpKind.TheVariants as kinds
@@ -48,10 +49,6 @@ version_is One One e = refl
 version_is Two Two e = refl
 version_is v w e = cc
 
-pub version_here : (v : Version) → is_version v v ≡ true
-version_here One = refl
-version_here Two = refl
-
 -- ---- the fields of each kind
 
 -- the bytes told the fields of an operation of this kind
@@ -62,17 +59,17 @@ record FieldsTaken (kind : OpKind) (bytes : List ℕ) (x : Op × List ℕ) : Typ
 
 fields_read : (kind : OpKind) (bytes : List ℕ) → IsBytes bytes → Reads (FieldsTaken kind bytes) (fields_at kind bytes)
 unfolding fields_at stroke_at text_at target_at
-fields_read (kinds.Drawn figure) bytes fits = step _ (reads16 bytes fits) (λ a ta. step _ (reads16 a.1 ta.0.rest_fits) (λ b tb. step _ (reads16 b.1 tb.0.rest_fits) (λ c tc. step _ (reads16 c.1 tc.0.rest_fits) (λ d td. step _ (reads8 d.1 td.0.rest_fits) (λ g tg.
+fields_read (kinds.Drawn figure) bytes fits = step _ (number_reads wide16 bytes fits) (λ a ta. step _ (number_reads wide16 a.1 ta.0.rest_fits) (λ b tb. step _ (number_reads wide16 b.1 tb.0.rest_fits) (λ c tc. step _ (number_reads wide16 c.1 tc.0.rest_fits) (λ d td. step _ (reads8 d.1 td.0.rest_fits) (λ g tg.
     let all = Takes-then _ _ _ _ _ (Takes-then _ _ _ _ _ (Takes-then _ _ _ _ _ (Takes-then _ _ _ _ _ ta.0 tb.0) tc.0) td.0) tg.0 in
     gives _ (record { kind-is = refl; taken = all; target = tt }))))))
-fields_read kinds.Text bytes fits = step _ (reads16 bytes fits) (λ x tx. step _ (reads16 x.1 tx.0.rest_fits) (λ y ty. step _ (reads8 y.1 ty.0.rest_fits) (λ n tn. checks _ _ _ refl (λ (enough : nat_le n.0 (length n.1) ≡ true).
+fields_read kinds.Text bytes fits = step _ (number_reads wide16 bytes fits) (λ x tx. step _ (number_reads wide16 x.1 tx.0.rest_fits) (λ y ty. step _ (reads8 y.1 ty.0.rest_fits) (λ n tn. checks _ _ _ refl (λ (enough : nat_le n.0 (length n.1) ≡ true).
     let long : n.0 ≤ length n.1 = leb-true _ _ enough in
     let text : List ℕ = take n.0 n.1 in
     let len : length text ≡ n.0 = omega (arith, length-take n.0 n.1) in
     let front : Takes n.1 text (drop n.0 n.1) = record { parts = sym (take-append-drop n.0 n.1); rest_fits = IsBytes-drop n.0 n.1 tn.0.rest_fits } in
     let counted : Takes y.1 (length text ∷ []) n.1 = subst (λ (m : ℕ). Takes y.1 (m ∷ []) n.1) (sym len) tn.0 in
     record { kind-is = refl; taken = Takes-then _ _ _ _ _ (Takes-then _ _ _ _ _ (Takes-then _ _ _ _ _ tx.0 ty.0) counted) front; target = tt }))))
-fields_read (kinds.Aimed change) bytes fits = step _ (reads32 bytes fits) (λ s ts. step _ (reads32 s.1 ts.0.rest_fits) (λ q tq. gives _ (record { kind-is = refl; taken = Takes-then _ _ _ _ _ ts.0 tq.0; target = (ts.1, tq.1) })))
+fields_read (kinds.Aimed change) bytes fits = step _ (number_reads wide32 bytes fits) (λ s ts. step _ (number_reads wide32 s.1 ts.0.rest_fits) (λ q tq. gives _ (record { kind-is = refl; taken = Takes-then _ _ _ _ _ ts.0 tq.0; target = (ts.1, tq.1) })))
 
 stroke_again : (figure : Figure) (s : Stroke) (rest : List ℕ) → IsStroke s → stroke_at figure (stroke_bytes s ++ rest) ≡ Ok (Drawn figure s, rest)
 unfolding stroke_at
@@ -82,7 +79,7 @@ stroke_again figure s rest fits =
     let c = to_be_bytes w16 s.x1 in
     let d = to_be_bytes w16 s.y1 in
     let regrouped : stroke_bytes s ++ rest ≡ a ++ (b ++ (c ++ (d ++ (s.glyph ∷ rest)))) = simp append_assoc in
-    ap (stroke_at figure) regrouped ∙ rw (again16 s.x0 (b ++ (c ++ (d ++ (s.glyph ∷ rest)))) (omega (arith, fits.x0-fits)), again16 s.y0 (c ++ (d ++ (s.glyph ∷ rest))) (omega (arith, fits.y0-fits)), again16 s.x1 (d ++ (s.glyph ∷ rest)) (omega (arith, fits.x1-fits)), again16 s.y1 (s.glyph ∷ rest) (omega (arith, fits.y1-fits))) refl
+    ap (stroke_at figure) regrouped ∙ rw (number_again wide16 s.x0 (b ++ (c ++ (d ++ (s.glyph ∷ rest)))) (omega (arith, fits.x0-fits)), number_again wide16 s.y0 (c ++ (d ++ (s.glyph ∷ rest))) (omega (arith, fits.y0-fits)), number_again wide16 s.x1 (d ++ (s.glyph ∷ rest)) (omega (arith, fits.x1-fits)), number_again wide16 s.y1 (s.glyph ∷ rest) (omega (arith, fits.y1-fits))) refl
 
 text_again : (x y : ℕ) (text rest : List ℕ) → x < 2 ^ 16 → y < 2 ^ 16 → text_at (text_bytes x y text ++ rest) ≡ Ok (Text x y text, rest)
 unfolding text_at
@@ -91,11 +88,11 @@ text_again x y text rest fx fy =
     let b = to_be_bytes w16 y in
     let regrouped : text_bytes x y text ++ rest ≡ a ++ (b ++ (length text ∷ (text ++ rest))) = simp append_assoc in
     let long : nat_le (length text) (length (text ++ rest)) ≡ true = le-leb _ _ (omega (arith, length-append text rest)) in
-    ap text_at regrouped ∙ rw (again16 x (b ++ (length text ∷ (text ++ rest))) fx, again16 y (length text ∷ (text ++ rest)) fy, long, take_at text rest (length text) refl, drop_at text rest (length text) refl) refl
+    ap text_at regrouped ∙ rw (number_again wide16 x (b ++ (length text ∷ (text ++ rest))) fx, number_again wide16 y (length text ∷ (text ++ rest)) fy, long, take_at text rest (length text) refl, drop_at text rest (length text) refl) refl
 
 target_again : (change : Change) (t : Target) (rest : List ℕ) → t.source < 2 ^ 32 → t.seq < 2 ^ 32 → target_at change (target_bytes t ++ rest) ≡ Ok (Aimed change t, rest)
 unfolding target_at
-target_again change t rest fs fq = ap (target_at change) (append_assoc (to_be_bytes w32 t.source) (to_be_bytes w32 t.seq) rest) ∙ rw (again32 t.source (to_be_bytes w32 t.seq ++ rest) fs, again32 t.seq rest fq) refl
+target_again change t rest fs fq = ap (target_at change) (append_assoc (to_be_bytes w32 t.source) (to_be_bytes w32 t.seq) rest) ∙ rw (number_again wide32 t.source (to_be_bytes w32 t.seq ++ rest) fs, number_again wide32 t.seq rest fq) refl
 
 fields_again : (name : NameValue) (op : Op) (rest : List ℕ) → IsLawful name op → HasTarget op → fields_at (op_kind op) (field_bytes op ++ rest) ≡ Ok (op, rest)
 unfolding fields_at
@@ -110,53 +107,51 @@ pub record OpTaken (version : Version) (bytes : List ℕ) (x : Op × List ℕ) :
   pub target : HasTarget x.0
   pub kind : has_kind version (op_kind x.0) ≡ true
 
-told_reads : (version : Version) (o : Option OpKind) → Reads (λ kind. (o ≡ Some kind) × (has_kind version kind ≡ true)) (told_kind version o)
-told_reads version None = record { it = refl }
-told_reads version (Some kind) = checks _ _ kind refl (λ has. (refl, has))
+version_kind_reads : (version : Version) (o : Option OpKind) → Reads (λ kind. (o ≡ Some kind) × (has_kind version kind ≡ true)) (kind_in_version version o)
+version_kind_reads version None = record { it = refl }
+version_kind_reads version (Some kind) = checks _ _ kind refl (λ has. (refl, has))
 
 pub op_reads : (version : Version) (bytes : List ℕ) → IsBytes bytes → Reads (OpTaken version bytes) (op_at version bytes)
 unfolding op_at
-op_reads version bytes fits = step _ (reads8 bytes fits) (λ n tn. step _ (told_reads version (op_kind_of n.0)) (λ k told. weaker (fields_read k n.1 tn.0.rest_fits) (λ x t.
-    let number : n.0 ≡ op_code (op_kind x.0) = code_is n.0 k told.0 ∙ ap op_code (sym t.kind-is) in
+op_reads version bytes fits = step _ (reads8 bytes fits) (λ n tn. step _ (version_kind_reads version (op_kind_of n.0)) (λ k has. weaker (fields_read k n.1 tn.0.rest_fits) (λ x t.
+    let number : n.0 ≡ op_code (op_kind x.0) = code_is n.0 k has.0 ∙ ap op_code (sym t.kind-is) in
     record {
       taken = Takes-then bytes (op_code (op_kind x.0) ∷ []) n.1 (field_bytes x.0) x.1 (subst (λ (m : ℕ). Takes bytes (m ∷ []) n.1) number tn.0) t.taken;
       target = t.target;
-      kind = subst (λ (l : OpKind). has_kind version l ≡ true) (sym t.kind-is) told.1;
+      kind = subst (λ (l : OpKind). has_kind version l ≡ true) (sym t.kind-is) has.1;
     })))
 
 -- ---- the version of an operation
 
 -- each operation is told by one version
-pub one_version : (version : Version) (name : NameValue) (op : Op) → has_kind version (op_kind op) ≡ true → told_fault version name op ≡ None → (op_version op ≡ version) × IsLawful name op
-one_version version name (Drawn figure s) k e = (version_is version (first_version (kinds.Drawn figure)) k, e)
+pub one_version : (version : Version) (name : NameValue) (op : Op) → has_kind version (op_kind op) ≡ true → fault_in_version version name op ≡ None → (op_version op ≡ version) × IsLawful name op
 one_version One name (Text x y text) k e =
     let short : nat_le (length text) 40 ≡ true = grind (arith, nat_tests) in
     (ap (λ (b : Bool). cond b One Two) short, grind (arith, nat_tests))
 one_version Two name (Text x y text) k e =
     let long : nat_le (length text) 40 ≡ false = grind (arith, nat_tests) in
     (ap (λ (b : Bool). cond b One Two) long, grind (arith, nat_tests))
-one_version version name (Aimed change t) k e = (version_is version (first_version (kinds.Aimed change)) k, e)
+one_version version name op k e = (version_is version (first_version (op_kind op)) k, e)
 
 -- what is lawful has no fault in its version
-pub told_again : (name : NameValue) (op : Op) → IsLawful name op → told_fault (op_version op) name op ≡ None
-told_again name (Drawn figure s) e = e
-told_again name (Text x y text) e = by_length (nat_le (length text) 40) refl where
-  by_length : (b : Bool) → nat_le (length text) 40 ≡ b → told_fault (cond b One Two) name (Text x y text) ≡ None
+pub no_fault_again : (name : NameValue) (op : Op) → IsLawful name op → fault_in_version (op_version op) name op ≡ None
+no_fault_again name (Text x y text) e = by_length (nat_le (length text) 40) refl where
+  by_length : (b : Bool) → nat_le (length text) 40 ≡ b → fault_in_version (cond b One Two) name (Text x y text) ≡ None
   by_length true h = grind (arith, nat_tests)
   by_length false h = grind (arith, nat_tests)
-told_again name (Aimed change t) e = e
+no_fault_again name op e = e
 
 its_version : (op : Op) → has_kind (op_version op) (op_kind op) ≡ true
-its_version (Drawn figure s) = version_here (first_version (kinds.Drawn figure))
 its_version (Text x y text) = refl
-its_version (Aimed change t) = version_here (first_version (kinds.Aimed change))
+its_version (Aimed Restore t) = refl
+its_version op = refl
 
 pub op_again : (name : NameValue) (op : Op) (rest : List ℕ) → IsLawful name op → HasTarget op → op_at (op_version op) (op_bytes op ++ rest) ≡ Ok (op, rest)
 unfolding op_at
 op_again name op rest lawful target =
-    let told : told_kind (op_version op) (op_kind_of (op_code (op_kind op))) ≡ Ok (op_kind op) =
-    ap (told_kind (op_version op)) (code_back (op_kind op)) ∙ ap (λ (b : Bool). require b OpKindFault (op_kind op)) (its_version op) in
-    ap (λ (r : Result OpKind ReadFault). r >>= λ kind. fields_at kind (field_bytes op ++ rest)) told ∙ fields_again name op rest lawful target
+    let kind : kind_in_version (op_version op) (op_kind_of (op_code (op_kind op))) ≡ Ok (op_kind op) =
+    ap (kind_in_version (op_version op)) (code_back (op_kind op)) ∙ ap (λ (b : Bool). require b OpKindFault (op_kind op)) (its_version op) in
+    ap (λ (r : Result OpKind ReadFault). r >>= λ kind. fields_at kind (field_bytes op ++ rest)) kind ∙ fields_again name op rest lawful target
 
 -- ---- drawops
 
@@ -174,16 +169,16 @@ pub record DrawopTaken (version : Version) (bytes : List ℕ) (d : DrawopValue) 
   pub fits : IsDrawop d
   pub version-is : op_version d.op ≡ version
 
-drawn : (version : Version) (bytes : List ℕ) (name : NameValue) (time : ℕ) (op : Op) → bytes ≡ name_bytes name ++ to_be_bytes w64 time ++ op_bytes op → HasWidth name → time < 2 ^ 64 → HasTarget op → has_kind version (op_kind op) ≡ true → seq_fault name.seq ≡ None → told_fault version name op ≡ None → DrawopTaken version bytes (record { name = name; time = time; op = op })
-drawn version bytes name time op parts width lt target kind seq told =
-    let v = one_version version name op kind told in
+drawn : (version : Version) (bytes : List ℕ) (name : NameValue) (time : ℕ) (op : Op) → bytes ≡ name_bytes name ++ to_be_bytes w64 time ++ op_bytes op → HasWidth name → time < 2 ^ 64 → HasTarget op → has_kind version (op_kind op) ≡ true → seq_fault name.seq ≡ None → fault_in_version version name op ≡ None → DrawopTaken version bytes (record { name = name; time = time; op = op })
+drawn version bytes name time op parts width lt target kind seq free =
+    let v = one_version version name op kind free in
     record { parts = parts; fits = record { name = named name width seq; time = lt; lawful = v.1; target = target }; version-is = v.0 }
 
 pub drawop_reads : (version : Version) (bytes : List ℕ) → IsBytes bytes → Reads (DrawopTaken version bytes) (drawop_at version bytes)
 unfolding drawop_at
-drawop_reads version bytes fits = step _ (name_reads bytes fits) (λ n tn. step _ (reads64 n.1 tn.0.rest_fits) (λ t tm. step _ (op_reads version t.1 tm.0.rest_fits) (λ o to. ended o.1 o.0 _ (λ end. ranged (seq_fault n.0.seq) n.0 _ (λ counted. ranges (told_fault version n.0 o.0) _ (λ told.
+drawop_reads version bytes fits = step _ (name_reads bytes fits) (λ n tn. step _ (number_reads wide64 n.1 tn.0.rest_fits) (λ t tm. step _ (op_reads version t.1 tm.0.rest_fits) (λ o to. ended o.1 o.0 _ (λ end. ranged (seq_fault n.0.seq) n.0 _ (λ counted. ranges (fault_in_version version n.0 o.0) _ (λ free.
     let all = Takes-all _ _ _ (Takes-then _ _ _ _ _ (Takes-then _ _ _ _ _ tn.0 tm.0) to.taken) end in
-    drawn version bytes n.0 t.0 o.0 all tn.1 tm.1 to.target to.kind counted told))))))
+    drawn version bytes n.0 t.0 o.0 all tn.1 tm.1 to.target to.kind counted free))))))
 
 pub drawop_again : (d : DrawopValue) → IsDrawop d → drawop_at (op_version d.op) (drawop_bytes d) ≡ Ok d
 unfolding drawop_at
@@ -192,4 +187,4 @@ drawop_again d fits =
     let t = to_be_bytes w64 d.time in
     let o = op_bytes d.op in
     let regrouped : drawop_bytes d ≡ n ++ (t ++ (o ++ [])) = append_assoc n t o ∙ ap (λ (r : List ℕ). n ++ (t ++ r)) (sym (append-nil o)) in
-    ap (drawop_at (op_version d.op)) regrouped ∙ rw (name_again d.name (t ++ (o ++ [])) (has_width d.name fits.name), again64 d.time (o ++ []) fits.time, op_again d.name d.op [] fits.lawful fits.target, seq_free d.name.seq fits.name.positive, told_again d.name d.op fits.lawful) refl
+    ap (drawop_at (op_version d.op)) regrouped ∙ rw (name_again d.name (t ++ (o ++ [])) (has_width d.name fits.name), number_again wide64 d.time (o ++ []) fits.time, op_again d.name d.op [] fits.lawful fits.target, seq_free d.name.seq fits.name.positive, no_fault_again d.name d.op fits.lawful) refl

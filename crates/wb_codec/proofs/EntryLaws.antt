@@ -16,7 +16,7 @@ use Rattle.wb_codec.specs.Ranges.{IsMark, IsEcho, IsEntryList, IsMarkList, IsEch
 use Rattle.wb_codec.specs.Spelling.{mark_bytes, echo_bytes, list_bytes}
 use Rattle.wb_codec.specs.Reading.{mark_at, echo_at, list_at, marks_at, echoes_at}
 use Rattle.wb_codec.proofs.Bytes.{IsBytes}
-use Rattle.wb_codec.proofs.FieldLaws.{Reads, gives, step, weaker, checked, ranged, Takes, Takes-then, Numbered, reads32, reads64, again32, again64}
+use Rattle.wb_codec.proofs.FieldLaws.{Reads, gives, step, weaker, checked, ranged, Takes, Takes-then, Numbered, number_again, number_reads, wide32, wide64}
 use Rattle.wb_codec.proofs.DrawopLaws.{seq_counted, seq_free}
 
 -- ---- one entry
@@ -46,7 +46,7 @@ echo_source e = e.source
 
 mark_reads : (before : Option ℕ) (bytes : List ℕ) → IsBytes bytes → Reads (λ x. EntryTaken mark_source mark_bytes MarkFits before bytes x.0 x.1) (mark_at before bytes)
 unfolding mark_at
-mark_reads before bytes fits = step _ (reads32 bytes fits) (λ s ts. step _ (reads32 s.1 ts.0.rest_fits) (λ h th. ranged (seq_fault h.0) h.0 _ (λ counted. checked (is_above before s.0) Order s.0 _ refl (λ above. gives _ (record {
+mark_reads before bytes fits = step _ (number_reads wide32 bytes fits) (λ s ts. step _ (number_reads wide32 s.1 ts.0.rest_fits) (λ h th. ranged (seq_fault h.0) h.0 _ (λ counted. checked (is_above before s.0) Order s.0 _ refl (λ above. gives _ (record {
   taken = Takes-then _ _ _ _ _ ts.0 th.0;
   fits = record { ranges = record { source = ts.1; high = th.1 }; positive = seq_counted h.0 counted };
   above = above;
@@ -57,11 +57,11 @@ unfolding mark_at
 mark_again before m rest fits above =
     let s = to_be_bytes w32 m.source in
     let h = to_be_bytes w32 m.high in
-    ap (mark_at before) (append_assoc s h rest) ∙ rw (again32 m.source (h ++ rest) fits.ranges.source, again32 m.high rest fits.ranges.high, seq_free m.high fits.positive, above) refl
+    ap (mark_at before) (append_assoc s h rest) ∙ rw (number_again wide32 m.source (h ++ rest) fits.ranges.source, number_again wide32 m.high rest fits.ranges.high, seq_free m.high fits.positive, above) refl
 
 echo_reads : (before : Option ℕ) (bytes : List ℕ) → IsBytes bytes → Reads (λ x. EntryTaken echo_source echo_bytes EchoFits before bytes x.0 x.1) (echo_at before bytes)
 unfolding echo_at
-echo_reads before bytes fits = step _ (reads32 bytes fits) (λ s ts. step _ (reads64 s.1 ts.0.rest_fits) (λ m tm. step _ (reads64 m.1 tm.0.rest_fits) (λ h th. checked (is_above before s.0) Order s.0 _ refl (λ above. gives _ (record {
+echo_reads before bytes fits = step _ (number_reads wide32 bytes fits) (λ s ts. step _ (number_reads wide64 s.1 ts.0.rest_fits) (λ m tm. step _ (number_reads wide64 m.1 tm.0.rest_fits) (λ h th. checked (is_above before s.0) Order s.0 _ refl (λ above. gives _ (record {
   taken = Takes-then _ _ _ _ _ (Takes-then _ _ _ _ _ ts.0 tm.0) th.0;
   fits = record { ranges = record { source = ts.1; sent = tm.1; held = th.1 }; positive = tt };
   above = above;
@@ -74,7 +74,7 @@ echo_again before e rest fits above =
     let t = to_be_bytes w64 e.sent in
     let h = to_be_bytes w64 e.held in
     let regrouped : echo_bytes e ++ rest ≡ s ++ (t ++ (h ++ rest)) = append_assoc (s ++ t) h rest ∙ append_assoc s t (h ++ rest) in
-    ap (echo_at before) regrouped ∙ rw (again32 e.source (t ++ (h ++ rest)) fits.ranges.source, again64 e.sent (h ++ rest) fits.ranges.sent, again64 e.held rest fits.ranges.held, above) refl
+    ap (echo_at before) regrouped ∙ rw (number_again wide32 e.source (t ++ (h ++ rest)) fits.ranges.source, number_again wide64 e.sent (h ++ rest) fits.ranges.sent, number_again wide64 e.held rest fits.ranges.held, above) refl
 
 -- ---- lists of entries
 

@@ -3,7 +3,7 @@ use Rattle.std.proofs.Common.{◌≡◌, ℕ, suc, ◌+◌, ◌-◌, ◌<◌, �
 use Rattle.std.specs.Prelude.{All, AllPairs}
 use Rattle.std.specs.Result.{is_ok}
 use Rattle.std.proofs.lemmas.Bool.{ltb-true}
-use Rattle.std.proofs.lemmas.List.Elements.{All-append, All-cons}
+use Rattle.std.proofs.lemmas.List.Elements.{All-push}
 use Rattle.std.proofs.lemmas.List.Quantifiers.{all_pairs_push}
 use Rattle.std.proofs.lemmas.List.{append-nil}
 use Rattle.wb_names.specs.Ascending.{is_above}
@@ -13,8 +13,7 @@ use Rattle.wb_codec.specs.Checked.{listed}
 
 -- these entries before those that are still to be read
 abbrev pub onto : {X : Type 0} → List X → Result (List X × List ℕ) ReadFault → Result (List X × List ℕ) ReadFault
-onto xs (Ok read) = Ok (xs ++ read.0, read.1)
-onto xs (Err fault) = Err fault
+onto xs r = r >>= λ read. Ok (xs ++ read.0, read.1)
 
 pub onto_none : {X : Type 0} (r : Result (List X × List ℕ) ReadFault) → r ≡ onto [] r
 onto_none (Ok (xs, rest)) = refl
@@ -34,11 +33,7 @@ module _ {X : Type 0} (entry_at : Option ℕ → List ℕ → Result (X × List 
 
   step : (n : ℕ) (before : Option ℕ) (rest after : List ℕ) (x : X) → entry_at before rest ≡ Ok (x, after) → list_at entry_at source (suc n) before rest ≡ onto (x ∷ []) (list_at entry_at source n (Some (source x)) after)
   unfolding list_at
-  step n before rest after x e = ap (λ (r : Result (X × List ℕ) ReadFault). r >>= λ entry. list_at entry_at source n (Some (source entry.0)) entry.1 >>= λ others. Ok (entry.0 ∷ others.0, others.1)) e ∙ one (list_at entry_at source n (Some (source x)) after)
-    where
-      one : (r : Result (List X × List ℕ) ReadFault) → (r >>= λ others. Ok (x ∷ others.0, others.1)) ≡ onto (x ∷ []) r
-      one (Ok p) = refl
-      one (Err fault) = refl
+  step n before rest after x e = rw e refl
 
   stop : (n : ℕ) (before : Option ℕ) (rest : List ℕ) (fault : ReadFault) → entry_at before rest ≡ Err fault → list_at entry_at source (suc n) before rest ≡ Err fault
   unfolding list_at
@@ -82,18 +77,12 @@ module _ {X : Type 0} (source : X → ℕ) (IsPositive : X → Type 0) where
     pub positive : All IsPositive xs
     pub below : (s : ℕ) → is_above before s ≡ true → All (λ a. source a < s) xs
 
-  pub none_ascend : Ascends None []
-  none_ascend = record { ascending = λ i j d ij h. absurd (omega arith); positive = λ k d h. absurd (omega arith); below = λ s up k d h. absurd (omega arith) }
-
   pub ascends_more : (before : Option ℕ) (xs : List X) (x : X) (ys : List X) (s : ℕ) → Ascends before xs → is_above before (source x) ≡ true → IsPositive x → ys ≡ xs ++ x ∷ [] → s ≡ source x → Ascends (Some s) ys
   ascends_more before xs x ys s a up p pushed is =
       let under : All (λ a. source a < source x) xs = a.below (source x) up in
       let more : Ascends (Some (source x)) (xs ++ x ∷ []) = record {
         ascending = all_pairs_push (λ (a b : X). source a < source b) xs x a.ascending under;
-        positive = All-append IsPositive xs (x ∷ []) a.positive (one IsPositive x p);
-        below = λ t above. let lt = ltb-true (source x) t above in All-append (λ (a : X). source a < t) xs (x ∷ []) (λ k d h. let l = under k d h in omega arith) (one (λ (a : X). source a < t) x lt);
+        positive = All-push IsPositive xs x a.positive p;
+        below = λ t above. let lt = ltb-true (source x) t above in All-push (λ (a : X). source a < t) xs x (λ k d h. let l = under k d h in omega arith) lt;
       } in
       subst (λ (zs : List X). Ascends (Some s) zs) (sym pushed) (subst (λ (t : ℕ). Ascends (Some t) (xs ++ x ∷ [])) (sym is) more)
-    where
-      one : (P : X → Type 0) (x : X) → P x → All P (x ∷ [])
-      one P x p = All-cons P x [] p (λ k d h. absurd (omega arith))

@@ -17,12 +17,6 @@ use Rattle.wb_codec.proofs.Bytes.{IsBytes, IsBytes-drop, IsBytes-take, IsBytes-r
 
 -- ---- steps and checks
 
-abbrev done : {A : Type 0} → A → Result A ReadFault
-done x = Ok x
-
-pub ok_is : {A : Type 0} (x y : A) → done x ≡ done y → x ≡ y
-ok_is x y e = cc
-
 abbrev pub is_memory : ReadFault → Bool
 is_memory Memory = true
 is_memory fault = false
@@ -96,7 +90,7 @@ pub record IsWide (w : Width) (limit : ℕ) : Type 0 where
   pub again : (n : ℕ) → n < limit → from_be_bytes w (to_be_bytes w n) ≡ n
   pub below : (bytes : List ℕ) → IsBytes bytes → from_be_bytes w bytes < limit
 
-wide16 : IsWide w16 (2 ^ 16)
+pub wide16 : IsWide w16 (2 ^ 16)
 wide16 = record {
   len = λ n. refl;
   back = λ bytes len fits. be_bytes_2 bytes _ len fits refl;
@@ -104,7 +98,7 @@ wide16 = record {
   below = λ bytes fits. omega (arith, fits 0, fits 1);
 }
 
-wide32 : IsWide w32 (2 ^ 32)
+pub wide32 : IsWide w32 (2 ^ 32)
 wide32 = record {
   len = λ n. refl;
   back = λ bytes len fits. be_bytes_4 bytes _ len fits refl;
@@ -112,7 +106,7 @@ wide32 = record {
   below = λ bytes fits. omega (arith, fits 0, fits 1, fits 2, fits 3);
 }
 
-wide64 : IsWide w64 (2 ^ 64)
+pub wide64 : IsWide w64 (2 ^ 64)
 wide64 = record {
   len = λ n. refl;
   back = λ bytes len fits. be_bytes_8 bytes _ len fits refl;
@@ -124,36 +118,18 @@ wide64 = record {
 abbrev pub Numbered : Width → ℕ → List ℕ → ℕ × List ℕ → Type 0
 Numbered w limit bytes x = Takes bytes (to_be_bytes w x.0) x.1 × (x.0 < limit)
 
-reads : (w : Width) (limit : ℕ) (wide : IsWide w limit) (bytes : List ℕ) → IsBytes bytes → Reads (Numbered w limit bytes) (number_at w bytes)
-reads w limit wide bytes fits = checks _ _ _ refl (λ (t : nat_le (byte_len w) (length bytes) ≡ true).
+pub number_reads : {w : Width} {limit : ℕ} (wide : IsWide w limit) (bytes : List ℕ) → IsBytes bytes → Reads (Numbered w limit bytes) (number_at w bytes)
+number_reads {w} wide bytes fits = checks _ _ _ refl (λ (t : nat_le (byte_len w) (length bytes) ≡ true).
     let long : byte_len w ≤ length bytes = leb-true _ _ t in
     let front : List ℕ = take (byte_len w) bytes in
     let back : to_be_bytes w (from_be_bytes w front) ≡ front = wide.back front (omega (arith, length-take (byte_len w) bytes)) (IsBytes-take (byte_len w) bytes fits) in
     (record { parts = rw back (sym (take-append-drop (byte_len w) bytes)); rest_fits = IsBytes-drop (byte_len w) bytes fits }, wide.below front (IsBytes-take (byte_len w) bytes fits)))
 
-number_again : (w : Width) (limit : ℕ) (wide : IsWide w limit) (n : ℕ) (rest : List ℕ) → n < limit → number_at w (to_be_bytes w n ++ rest) ≡ Ok (n, rest)
-number_again w limit wide n rest lt =
+pub number_again : {w : Width} {limit : ℕ} (wide : IsWide w limit) (n : ℕ) (rest : List ℕ) → n < limit → number_at w (to_be_bytes w n ++ rest) ≡ Ok (n, rest)
+number_again {w} wide n rest lt =
     let len = wide.len n in
     let long : nat_le (byte_len w) (length (to_be_bytes w n ++ rest)) ≡ true = le-leb _ _ (omega (arith, length-append (to_be_bytes w n) rest)) in
     rw (long, take_at (to_be_bytes w n) rest (byte_len w) len, drop_at (to_be_bytes w n) rest (byte_len w) len, wide.again n lt) refl
-
-pub reads16 : (bytes : List ℕ) → IsBytes bytes → Reads (Numbered w16 (2 ^ 16) bytes) (number_at w16 bytes)
-reads16 = reads w16 (2 ^ 16) wide16
-
-pub reads32 : (bytes : List ℕ) → IsBytes bytes → Reads (Numbered w32 (2 ^ 32) bytes) (number_at w32 bytes)
-reads32 = reads w32 (2 ^ 32) wide32
-
-pub reads64 : (bytes : List ℕ) → IsBytes bytes → Reads (Numbered w64 (2 ^ 64) bytes) (number_at w64 bytes)
-reads64 = reads w64 (2 ^ 64) wide64
-
-pub again16 : (n : ℕ) (rest : List ℕ) → n < 2 ^ 16 → number_at w16 (to_be_bytes w16 n ++ rest) ≡ Ok (n, rest)
-again16 = number_again w16 (2 ^ 16) wide16
-
-pub again32 : (n : ℕ) (rest : List ℕ) → n < 2 ^ 32 → number_at w32 (to_be_bytes w32 n ++ rest) ≡ Ok (n, rest)
-again32 = number_again w32 (2 ^ 32) wide32
-
-pub again64 : (n : ℕ) (rest : List ℕ) → n < 2 ^ 64 → number_at w64 (to_be_bytes w64 n ++ rest) ≡ Ok (n, rest)
-again64 = number_again w64 (2 ^ 64) wide64
 
 pub reads8 : (bytes : List ℕ) → IsBytes bytes → Reads (λ x. Takes bytes (x.0 ∷ []) x.1 × (x.0 < 256)) (byte_at bytes)
 reads8 [] fits = record { it = refl }
@@ -163,11 +139,11 @@ reads8 (b ∷ bytes) fits = gives (b, bytes) (record { parts = refl; rest_fits =
 
 pub page_reads : (bytes : List ℕ) → IsBytes bytes → Reads (λ x. Takes bytes (page_bytes x.0) x.1 × IsPage x.0) (page_at bytes)
 unfolding page_at
-page_reads bytes fits = step _ (reads32 bytes fits) (λ a ta. step _ (reads32 a.1 ta.0.rest_fits) (λ b tb. gives _ (Takes-then _ _ _ _ _ ta.0 tb.0, record { creator = ta.1; number = tb.1 })))
+page_reads bytes fits = step _ (number_reads wide32 bytes fits) (λ a ta. step _ (number_reads wide32 a.1 ta.0.rest_fits) (λ b tb. gives _ (Takes-then _ _ _ _ _ ta.0 tb.0, record { creator = ta.1; number = tb.1 })))
 
 pub page_again : (p : PageId) (rest : List ℕ) → IsPage p → page_at (page_bytes p ++ rest) ≡ Ok (p, rest)
 unfolding page_at
-page_again p rest fits = ap page_at (append_assoc (to_be_bytes w32 p.creator) (to_be_bytes w32 p.number) rest) ∙ rw (again32 p.creator (to_be_bytes w32 p.number ++ rest) fits.creator, again32 p.number rest fits.number) refl
+page_again p rest fits = ap page_at (append_assoc (to_be_bytes w32 p.creator) (to_be_bytes w32 p.number) rest) ∙ rw (number_again wide32 p.creator (to_be_bytes w32 p.number ++ rest) fits.creator, number_again wide32 p.number rest fits.number) refl
 
 -- the fields of a name, whose number may be 0
 pub record HasWidth (n : NameValue) : Type 0 where
@@ -177,7 +153,7 @@ pub record HasWidth (n : NameValue) : Type 0 where
 
 pub name_reads : (bytes : List ℕ) → IsBytes bytes → Reads (λ x. Takes bytes (name_bytes x.0) x.1 × HasWidth x.0) (name_at bytes)
 unfolding name_at
-name_reads bytes fits = step _ (reads32 bytes fits) (λ s ts. step _ (page_reads s.1 ts.0.rest_fits) (λ p tp. step _ (reads32 p.1 tp.0.rest_fits) (λ q tq.
+name_reads bytes fits = step _ (number_reads wide32 bytes fits) (λ s ts. step _ (page_reads s.1 ts.0.rest_fits) (λ p tp. step _ (number_reads wide32 p.1 tp.0.rest_fits) (λ q tq.
     gives _ (Takes-then _ _ _ _ _ (Takes-then _ _ _ _ _ ts.0 tp.0) tq.0, record { source = ts.1; page = tp.1; seq = tq.1 }))))
 
 pub name_again : (n : NameValue) (rest : List ℕ) → HasWidth n → name_at (name_bytes n ++ rest) ≡ Ok (n, rest)
@@ -187,7 +163,7 @@ name_again n rest fits =
     let p = page_bytes n.page in
     let q = to_be_bytes w32 n.seq in
     let regrouped : name_bytes n ++ rest ≡ s ++ (p ++ (q ++ rest)) = append_assoc (s ++ p) q rest ∙ append_assoc s p (q ++ rest) in
-    ap name_at regrouped ∙ rw (again32 n.source (p ++ (q ++ rest)) fits.source, page_again n.page (q ++ rest) fits.page, again32 n.seq rest fits.seq) refl
+    ap name_at regrouped ∙ rw (number_again wide32 n.source (p ++ (q ++ rest)) fits.source, page_again n.page (q ++ rest) fits.page, number_again wide32 n.seq rest fits.seq) refl
 
 pub has_width : (n : NameValue) → IsName n → HasWidth n
 has_width n h = record { source = h.source; page = h.page; seq = h.seq }

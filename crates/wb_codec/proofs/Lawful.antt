@@ -5,7 +5,7 @@ use Rattle.std.proofs.lemmas.Bool.Decides.{nat_tests}
 use Rattle.wb_names.specs.Values.{NameValue}
 use Rattle.wb_names.specs.declared.parts.Stroke.{Stroke}
 use Rattle.wb_names.specs.declared.parts.Op.{Op}
-use Rattle.wb_names.specs.declared.parts.Op.TheVariants.{Drawn, Text, Aimed}
+use Rattle.wb_names.specs.declared.parts.Op.TheVariants.{Text}
 use Rattle.wb_names.specs.Drawing.{text_of, IsLawful, stroke_fault, text_fault, is_printable}
 use Rattle.wb_codec.proofs.Bytes.{IsBytes, IsBytes-printable}
 
@@ -45,6 +45,5 @@ lawful_text x y text e =
 
 -- the bytes of a lawful operation's text are few
 pub text_fits : (name : NameValue) (op : Op) → IsLawful name op → length (text_of op) ≤ 64
-text_fits name (Drawn figure s) e = omega arith
 text_fits name (Text x y text) e = (lawful_text x y text e).few_bytes
-text_fits name (Aimed change t) e = omega arith
+text_fits name op e = omega arith

@@ -1,4 +1,3 @@
-pub mod Appending
 pub mod GrammarLaws
 pub mod Bytes
 pub mod DrawopLaws
@@ -8,4 +7,3 @@ pub mod FieldLaws
 pub mod Lawful
 pub mod RowLaws
 pub mod SpelledBytes
-pub mod TooShort

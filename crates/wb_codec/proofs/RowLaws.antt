@@ -1,8 +1,8 @@
 -- A record read back is the drawop that it was made from.
-use Rattle.std.proofs.Common.{◌≡◌, ℕ, zero, suc, ◌+◌, ◌-◌, ◌*◌, ◌^◌, ◌<◌, ◌≤◌, Bool, true, List, ◌++◌, length, get_or, take, drop, replicate, map, Option, Some, None, Result, Ok, refl, sym, ap, subst, ◌∙◌, arith}
+use Rattle.std.proofs.Common.{◌≡◌, ℕ, zero, suc, ◌+◌, ◌-◌, ◌*◌, ◌^◌, ◌<◌, Bool, true, List, ◌++◌, length, get_or, take, drop, replicate, map, Option, Some, None, Result, Ok, refl, sym, ap, subst, ◌∙◌, arith}
 use Rattle.std.specs.List.{flat_map, range_with_len}
 use Rattle.std.specs.Int.{w64, to_be_bytes}
-use Rattle.std.proofs.lemmas.List.{take_all, drop_all, length-take, length-drop, take_at, length-append, length-replicate, drop-drop, take-append-drop}
+use Rattle.std.proofs.lemmas.List.{drop_all, length-take, length-drop, take_at, length-append, length-replicate, drop-drop, take-append-drop}
 use Rattle.std.proofs.lemmas.Nat.{be_bytes_8}
 use Rattle.wb_names.specs.TextFields.{padded}
 use Rattle.std.specs.Prelude.{nat_le, option_and_then, if◌then◌else◌}
@@ -23,18 +23,11 @@ use Rattle.wb_names.specs.declared.parts.Op.{Op}
 use Rattle.wb_names.specs.declared.parts.Op.TheVariants.{Drawn, Text, Aimed}
 use Rattle.wb_codec.specs.Ranges.{IsName, IsDrawop, HasTarget}
 use Rattle.wb_codec.specs.Rows.{row_words, row, op_words, text_word, text_words, op_word, pair_word}
-use Rattle.wb_codec.specs.RowReading.{high_half, low_half, code_in, byte_in, p_in, q_in, r_in, s_in, stroke_in, target_in, op_told, op_in}
+use Rattle.wb_codec.specs.RowReading.{high_half, low_half, code_in, byte_in, p_in, q_in, r_in, s_in, stroke_in, target_in, op_of_kind, op_in}
 use Rattle.wb_codec.specs.Kinds.{op_code, op_kind_of}
 use Rattle.wb_codec.proofs.DrawopLaws.{code_back}
 use Rattle.wb_codec.proofs.Bytes.{IsBytes, IsBytes-take, IsBytes-drop, IsBytes-append, IsBytes-zeros}
 use Rattle.wb_codec.proofs.Lawful.{IsText, lawful_stroke, lawful_text}
-
--- all words are written
-pub all_written : (f : ℕ → List ℕ) (bytes words : List ℕ) (k : ℕ) → k ≤ 8 → length words ≤ k → length bytes ≡ 64 → length words ≡ 8 → take (8 * k) bytes ≡ flat_map f (take k words) → bytes ≡ flat_map f words
-all_written f bytes words k le ge len eight e =
-    let k-is : k ≡ 8 = omega arith in
-    let e8 : take 64 bytes ≡ flat_map f (take 8 words) = subst (λ (n : ℕ). take (8 * n) bytes ≡ flat_map f (take n words)) k-is e in
-    sym (take_all 64 bytes (omega arith)) ∙ e8 ∙ ap (flat_map f) (take_all 8 words (omega arith))
 
 -- eight bytes at a time, what is read of a word is what it was made of
 pub words_back : (bytes : List ℕ) (k n : ℕ) → length bytes ≡ 8 * (k + n) → IsBytes bytes → flat_map (to_be_bytes w64) (map (text_word bytes) (range_with_len k n)) ≡ drop (8 * k) bytes
@@ -85,9 +78,9 @@ target_back t hs hn =
     let l : low_half (pair_word t.source t.seq) ≡ t.seq = omega arith in
     rw (h, l) refl
 
-op_found : (kind : OpKind) (word target : ℕ) (bytes : List ℕ) → code_in word ≡ op_code kind → op_in word target bytes ≡ op_told kind word target bytes
+op_found : (kind : OpKind) (word target : ℕ) (bytes : List ℕ) → code_in word ≡ op_code kind → op_in word target bytes ≡ op_of_kind kind word target bytes
 unfolding op_in
-op_found kind word target bytes e = ap (λ (n : ℕ). option_and_then (λ k. op_told k word target bytes) (op_kind_of n)) e ∙ ap (option_and_then (λ k. op_told k word target bytes)) (code_back kind)
+op_found kind word target bytes e = ap (λ (n : ℕ). option_and_then (λ k. op_of_kind k word target bytes) (op_kind_of n)) e ∙ ap (option_and_then (λ k. op_of_kind k word target bytes)) (code_back kind)
 
 -- the operation's words read back
 abbrev pub op_in_words : List ℕ → Option Op
@@ -106,8 +99,8 @@ op_back name (Text x y text) lawful fits =
     let bytes = flat_map (to_be_bytes w64) (text_words text) in
     let h = parts_back 3 (length text) x y 0 0 (omega (arith, t.few_bytes)) t.x-fits t.y-fits (omega arith) (omega arith) in
     let few : nat_le (byte_in word) 64 ≡ true = le-leb _ _ (omega (arith, h.byte-is, t.few_bytes)) in
-    let told : Option Op = Some (Text (p_in word) (q_in word) (take (byte_in word) bytes)) in
-    op_found kinds.Text word (get_or (text_words text) 0 0) bytes h.code-is ∙ ap (λ (b : Bool). if b then told else None) few ∙ ap Some (text_front x y 0 text bytes word h (text_back x y text t))
+    let whole : Option Op = Some (Text (p_in word) (q_in word) (take (byte_in word) bytes)) in
+    op_found kinds.Text word (get_or (text_words text) 0 0) bytes h.code-is ∙ ap (λ (b : Bool). if b then whole else None) few ∙ ap Some (text_front x y 0 text bytes word h (text_back x y text t))
 op_back name (Aimed change t) lawful fits =
     let code = op_code (kinds.Aimed change) in
     let h = parts_back code 0 0 0 0 0 (omega arith) (omega arith) (omega arith) (omega arith) (omega arith) in
@@ -142,31 +135,26 @@ row_name_back d words source seq creator number name r h e es eq ec en made give
     let page : PageId = record { creator = creator; number = number } in
     let whole : NameValue = record { source = source; page = page; seq = seq } in
     let named : r ≡ Ok whole = made ∙ ap (λ (b : Bool). value_unless (fault_unless b SeqZero) whole) positive in
-    let same : name ≡ whole = some_is name whole (given ∙ ap result_ok named) in
+    let given' = given ∙ ap result_ok named in
+    let same : name ≡ whole = cc in
     same ∙ name_parts source d.name.source page d.name.page seq d.name.seq source-is (one_page creator d.name.page.creator number d.name.page.number creator-is number-is) seq-is
-  where
-    some_is : (v w : NameValue) → (let x : Option NameValue = Some v in let y : Option NameValue = Some w in x ≡ y) → v ≡ w
-    some_is v w e = cc
 
 -- the drawop made from what the words say
-pub row_back : (d : DrawopValue) (words : List ℕ) (name : NameValue) (op : Op) (r : Result DrawopValue FieldFault) → IsDrawop d → row d ≡ words → name ≡ d.name → op ≡ d.op
+pub row_back : (d : DrawopValue) (words : List ℕ) (name : NameValue) (op : Op) (r : Result DrawopValue FieldFault) → IsDrawop d → row d ≡ words → name ≡ d.name → (let x : Option Op = Some op in let y : Option Op = Some d.op in x ≡ y)
     → r ≡ value_unless (op_fault name op) (record { name = name; time = get_or words 2 0; op = op }) → result_ok r ≡ Some d
-row_back d words name op r h e name-is op-is made =
+row_back d words name op r h e name-is same made =
+    let op-is : op ≡ d.op = cc in
     let time : d.time ≡ get_or words 2 0 = ap (λ (ws : List ℕ). get_or ws 2 0) e in
     let lawful : op_fault name op ≡ None = ap (λ (n : NameValue). op_fault n op) name-is ∙ ap (op_fault d.name) op-is ∙ h.lawful in
     let whole : DrawopValue = record { name = name; time = get_or words 2 0; op = op } in
     let found : r ≡ Ok whole = made ∙ ap (λ (f : Option FieldFault). value_unless f whole) lawful in
     ap result_ok found ∙ ap Some (one_drawop name d.name (get_or words 2 0) d.time op d.op name-is (sym time) op-is)
 
-pub some_op : (o p : Op) → (let x : Option Op = Some o in let y : Option Op = Some p in x ≡ y) → o ≡ p
-some_op o p e = cc
-
 pub row_length : (d : DrawopValue) → length (row d) ≡ row_words
 row_length d = ap (λ (n : ℕ). suc (suc (suc n))) (op_length d.op) where
   op_length : (op : Op) → length (op_words op) ≡ 9
-  op_length (Drawn figure s) = refl
   op_length (Text x y text) = refl
-  op_length (Aimed change t) = refl
+  op_length op = refl
 
 pair_back : (a b c d : ℕ) → b < 2 ^ 32 → d < 2 ^ 32 → pair_word a b ≡ pair_word c d → (a ≡ c) × (b ≡ d)
 pair_back a b c d hb hd e = (omega arith, omega arith)
@@ -182,5 +170,5 @@ pub one_row : (d e : DrawopValue) → IsDrawop d → IsDrawop e → row d ≡ ro
 one_row d e hd he h =
     let name : d.name ≡ e.name = one_name d.name e.name hd.name he.name (ap (λ (ws : List ℕ). get_or ws 0 0) h) (ap (λ (ws : List ℕ). get_or ws 1 0) h) in
     let time : d.time ≡ e.time = ap (λ (ws : List ℕ). get_or ws 2 0) h in
-    let op : d.op ≡ e.op = some_op d.op e.op (sym (op_back d.name d.op hd.lawful hd.target) ∙ ap (λ (ws : List ℕ). op_in_words (drop 3 ws)) h ∙ op_back e.name e.op he.lawful he.target) in
+    let op : d.op ≡ e.op = (let same = sym (op_back d.name d.op hd.lawful hd.target) ∙ ap (λ (ws : List ℕ). op_in_words (drop 3 ws)) h ∙ op_back e.name e.op he.lawful he.target in cc) in
     one_drawop d.name e.name d.time e.time d.op e.op name time op

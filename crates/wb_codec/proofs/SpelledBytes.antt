@@ -1,5 +1,5 @@
 -- A datagram is spelled in bytes.
-use Rattle.std.proofs.Common.{ℕ, zero, suc, ◌<◌, List, [], ◌∷◌, ◌++◌, length, get_or, arith}
+use Rattle.std.proofs.Common.{ℕ, zero, suc, ◌<◌, List, [], ◌∷◌, ◌++◌, length, arith}
 use Rattle.std.specs.Prelude.{slice_index}
 use Rattle.std.specs.List.{flat_map}
 use Rattle.std.specs.Int.{w16, w32, w64, to_be_bytes}
@@ -19,41 +19,33 @@ use Rattle.wb_codec.specs.declared.version.Version.TheVariants.{One, Two}
 use Rattle.wb_codec.specs.Ranges.{IsDatagram}
 use Rattle.wb_codec.specs.Kinds.{op_code}
 use Rattle.wb_codec.specs.Spelling.{page_bytes, name_bytes, stroke_bytes, target_bytes, field_bytes, op_bytes, mark_bytes, echo_bytes, body, kind_code, version_of, version_code, spelling}
+use Rattle.wb_codec.proofs.Bytes.{IsBytes, IsBytes-append}
 use Rattle.wb_codec.proofs.DrawopLaws.{code_below}
 use Rattle.wb_codec.proofs.Lawful.{lawful_stroke, lawful_text}
 
-abbrev Below : List ℕ → Type 0
-Below [] = Unit {0}
-Below (b ∷ bytes) = (b < 256) × Below bytes
-
 record AreBytes (bytes : List ℕ) : Type 0 where
-  each : Below bytes
-
-below_append : (xs ys : List ℕ) → Below xs → Below ys → Below (xs ++ ys)
-below_append [] ys p q = q
-below_append (x ∷ xs) ys p q = (p.0, below_append xs ys p.1 q)
+  each : IsBytes bytes
 
 cat : (xs ys : List ℕ) → AreBytes xs → AreBytes ys → AreBytes (xs ++ ys)
-cat xs ys p q = record { each = below_append xs ys p.each q.each }
+cat xs ys p q = record { each = IsBytes-append xs ys p.each q.each }
 
-one : (b : ℕ) → b < 256 → AreBytes (b ∷ [])
-one b lt = record { each = (lt, tt) }
+none : AreBytes []
+none = record { each = λ i. omega arith }
 
 put : (b : ℕ) (xs : List ℕ) → b < 256 → AreBytes xs → AreBytes (b ∷ xs)
-put b xs lt p = record { each = (lt, p.each) }
+put b xs lt p = record { each = at } where
+  at : IsBytes (b ∷ xs)
+  at zero = lt
+  at (suc i) = p.each i
 
 be16 : (n : ℕ) → AreBytes (to_be_bytes w16 n)
-be16 n = record { each = (omega arith, (omega arith, tt)) }
+be16 n = put _ _ (omega arith) (put _ _ (omega arith) none)
 
 be32 : (n : ℕ) → AreBytes (to_be_bytes w32 n)
-be32 n = record { each = (omega arith, (omega arith, (omega arith, (omega arith, tt)))) }
+be32 n = put _ _ (omega arith) (put _ _ (omega arith) (put _ _ (omega arith) (put _ _ (omega arith) none)))
 
 be64 : (n : ℕ) → AreBytes (to_be_bytes w64 n)
-be64 n = record { each = (omega arith, (omega arith, (omega arith, (omega arith, (omega arith, (omega arith, (omega arith, (omega arith, tt)))))))) }
-
-text_below : (text : List ℕ) → ((i : ℕ) → get_or text i 0 < 256) → Below text
-text_below [] h = tt
-text_below (b ∷ text) h = (h 0, text_below text (λ i. h (suc i)))
+be64 n = put _ _ (omega arith) (put _ _ (omega arith) (put _ _ (omega arith) (put _ _ (omega arith) (put _ _ (omega arith) (put _ _ (omega arith) (put _ _ (omega arith) (put _ _ (omega arith) none)))))))
 
 page_are : (p : PageId) → AreBytes (page_bytes p)
 page_are p = cat _ _ (be32 p.creator) (be32 p.number)
@@ -62,7 +54,7 @@ name_are : (n : NameValue) → AreBytes (name_bytes n)
 name_are n = cat _ _ (cat _ _ (be32 n.source) (page_are n.page)) (be32 n.seq)
 
 stroke_are : (s : Stroke) → s.glyph < 256 → AreBytes (stroke_bytes s)
-stroke_are s lt = cat _ _ (cat _ _ (cat _ _ (cat _ _ (be16 s.x0) (be16 s.y0)) (be16 s.x1)) (be16 s.y1)) (one s.glyph lt)
+stroke_are s lt = cat _ _ (cat _ _ (cat _ _ (cat _ _ (be16 s.x0) (be16 s.y0)) (be16 s.x1)) (be16 s.y1)) (put s.glyph [] lt none)
 
 target_are : (t : Target) → AreBytes (target_bytes t)
 target_are t = cat _ _ (be32 t.source) (be32 t.seq)
@@ -71,18 +63,18 @@ fields_are : (name : NameValue) (op : Op) → IsLawful name op → AreBytes (fie
 fields_are name (Drawn figure s) e = stroke_are s (lawful_stroke s e).glyph-fits
 fields_are name (Text x y text) e =
     let t = lawful_text x y text e in
-    cat _ _ (cat _ _ (cat _ _ (be16 x) (be16 y)) (one (length text) (omega (arith, t.few_bytes)))) (record { each = text_below text t.bytes })
+    cat _ _ (cat _ _ (cat _ _ (be16 x) (be16 y)) (put (length text) [] (omega (arith, t.few_bytes)) none)) (record { each = t.bytes })
 fields_are name (Aimed change t) e = target_are t
 
 op_are : (name : NameValue) (op : Op) → IsLawful name op → AreBytes (op_bytes op)
 op_are name op e = put (op_code (op_kind op)) _ (code_below (op_kind op)) (fields_are name op e)
 
 marks_are : (marks : List MarkValue) → AreBytes (flat_map mark_bytes marks)
-marks_are [] = record { each = tt }
+marks_are [] = none
 marks_are (m ∷ marks) = cat _ _ (cat _ _ (be32 m.source) (be32 m.high)) (marks_are marks)
 
 echoes_are : (echoes : List Echo) → AreBytes (flat_map echo_bytes echoes)
-echoes_are [] = record { each = tt }
+echoes_are [] = none
 echoes_are (e ∷ echoes) = cat _ _ (cat _ _ (cat _ _ (be32 e.source) (be64 e.sent)) (be64 e.held)) (echoes_are echoes)
 
 body_are : (v : Datagram) → IsDatagram v → AreBytes (body v)
@@ -99,18 +91,10 @@ version_below Two = omega arith
 
 kind_below : (v : Datagram) → kind_code v < 256
 kind_below (Draw d) = omega arith
-kind_below (Session sender sent page marks echoes) = omega arith
-kind_below (Request asker name) = omega arith
-kind_below (AskPages asker) = omega arith
-kind_below (PageState sender page marks) = omega arith
+kind_below v = omega arith
 
 spelling_are : (v : Datagram) → IsDatagram v → AreBytes (spelling v)
 spelling_are v fits = put 0x57 _ (omega arith) (put 0x42 _ (omega arith) (put (version_code (version_of v)) _ (version_below (version_of v)) (put (kind_code v) _ (kind_below v) (cat _ _ (be32 (length (body v))) (body_are v fits)))))
 
-below_at : (bytes : List ℕ) → Below bytes → (i : ℕ) → slice_index bytes i < 256
-below_at [] p i = omega arith
-below_at (b ∷ bytes) p zero = p.0
-below_at (b ∷ bytes) p (suc i) = below_at bytes p.1 i
-
 pub spelled_bytes : (v : Datagram) → IsDatagram v → (i : ℕ) → slice_index (spelling v) i < 256
-spelled_bytes v fits = below_at (spelling v) (spelling_are v fits).each
+spelled_bytes v fits = (spelling_are v fits).each

@@ -99,14 +99,14 @@ fields_at kinds.Text bytes = text_at bytes
 fields_at (kinds.Aimed change) bytes = target_at change bytes
 
 -- the kind, if there is one and the version has it
-abbrev pub told_kind : Version → Option OpKind → Result OpKind ReadFault
-told_kind version None = Err faults.OpKind
-told_kind version (Some kind) = require (has_kind version kind) faults.OpKind kind
+abbrev pub kind_in_version : Version → Option OpKind → Result OpKind ReadFault
+kind_in_version version None = Err faults.OpKind
+kind_in_version version (Some kind) = require (has_kind version kind) faults.OpKind kind
 
 unfoldable pub op_at : Version → List ℕ → Result (Op × List ℕ) ReadFault
 op_at version bytes = do
   number ← byte_at bytes
-  kind ← told_kind version (op_kind_of number.0)
+  kind ← kind_in_version version (op_kind_of number.0)
   fields_at kind number.1
 
 -- ---- drawops
@@ -117,14 +117,14 @@ is_length_of One n = nat_le 1 n && nat_le n 40
 is_length_of Two n = nat_le 41 n && nat_le n 64
 
 -- The first fault of an operation that this version tells. The length of a text stands where lengths are checked.
-abbrev pub told_fault : Version → NameValue → Op → Option FieldFault
-told_fault version name (Drawn figure s) = stroke_fault s
-told_fault version name (Text x y text) = first_of (
+abbrev pub fault_in_version : Version → NameValue → Op → Option FieldFault
+fault_in_version version name (Drawn figure s) = stroke_fault s
+fault_in_version version name (Text x y text) = first_of (
     fault_unless (is_coordinate x && is_coordinate y) Coordinate
     ∷ fault_unless (is_length_of version (length text)) TextLength
     ∷ fault_unless (list_all is_printable text) TextByte
     ∷ [])
-told_fault version name (Aimed change t) = target_fault name t
+fault_in_version version name (Aimed change t) = target_fault name t
 
 -- the value, where no field has a fault
 abbrev pub in_range : {A : Type 0} → Option FieldFault → A → Result A ReadFault
@@ -139,7 +139,7 @@ drawop_at version bytes = do
   op ← op_at version time.1
   whole ← end_of op.1 op.0
   named ← in_range (seq_fault name.0.seq) name.0
-  in_range (told_fault version named whole) (record { name = named; time = time.0; op = whole })
+  in_range (fault_in_version version named whole) (record { name = named; time = time.0; op = whole })
 
 -- ---- lists: so many entries, each source above the one before it
 
@@ -248,11 +248,11 @@ pub record Framed : Type 0 where
 -- a body of as many bytes as the header tells
 unfoldable pub frame_at : List ℕ → Result Framed ReadFault
 frame_at (a ∷ b ∷ v ∷ k ∷ l0 ∷ l1 ∷ l2 ∷ l3 ∷ bytes) = do
-  told ← require (nat_eq a 0x57 && nat_eq b 0x42) faults.Magic (from_be_bytes w32 (l0 ∷ l1 ∷ l2 ∷ l3 ∷ []))
+  size ← require (nat_eq a 0x57 && nat_eq b 0x42) faults.Magic (from_be_bytes w32 (l0 ∷ l1 ∷ l2 ∷ l3 ∷ []))
   version ← version_at v
   kind ← kind_at version k
-  enough ← require (nat_le told (length bytes)) faults.Short bytes
-  body ← require (nat_le (length enough) told) faults.Trailing enough
+  enough ← require (nat_le size (length bytes)) faults.Short bytes
+  body ← require (nat_le (length enough) size) faults.Trailing enough
   Ok (record { version = version; kind = kind; body = body })
 frame_at bytes = Err faults.Short
 

@@ -40,10 +40,10 @@ abbrev pub target_in : ℕ → Target
 target_in word = record { source = high_half word; seq = low_half word }
 
 -- the operation of a kind with this word, this target's word and these bytes of text
-abbrev pub op_told : OpKind → ℕ → ℕ → List ℕ → Option Op
-op_told (kinds.Drawn figure) word target bytes = Some (Drawn figure (stroke_in word))
-op_told kinds.Text word target bytes = if nat_le (byte_in word) 64 then Some (Text (p_in word) (q_in word) (take (byte_in word) bytes)) else None
-op_told (kinds.Aimed change) word target bytes = Some (Aimed change (target_in target))
+abbrev pub op_of_kind : OpKind → ℕ → ℕ → List ℕ → Option Op
+op_of_kind (kinds.Drawn figure) word target bytes = Some (Drawn figure (stroke_in word))
+op_of_kind kinds.Text word target bytes = if nat_le (byte_in word) 64 then Some (Text (p_in word) (q_in word) (take (byte_in word) bytes)) else None
+op_of_kind (kinds.Aimed change) word target bytes = Some (Aimed change (target_in target))
 
 unfoldable pub op_in : ℕ → ℕ → List ℕ → Option Op
-op_in word target bytes = option_and_then (λ kind. op_told kind word target bytes) (op_kind_of (code_in word))
+op_in word target bytes = option_and_then (λ kind. op_of_kind kind word target bytes) (op_kind_of (code_in word))

@@ -4,8 +4,8 @@ ghost use Rattle.std.specs.Prelude.{◌≡◌};
 ghost use Rattle.std.specs.Result.{result_err};
 ghost use Rattle.wb_names.specs.Shapes.{op_of};
 ghost use Rattle.wb_codec.specs.Kinds.{op_kind_of as op_kind_of_number};
-ghost use Rattle.wb_codec.specs.Reading.{Gives, stroke_at, text_at, target_at, fields_at, told_kind, op_at, drawop_at};
-ghost use Rattle.wb_codec.specs.TextLengths.{is_length_told, fault_at_length, drawop_told};
+ghost use Rattle.wb_codec.specs.Reading.{Gives, stroke_at, text_at, target_at, fields_at, kind_in_version, op_at, drawop_at};
+ghost use Rattle.wb_codec.specs.TextLengths.{has_length, fault_at_length, drawop_in_version};
 
 use crate::fault::ReadFault;
 use crate::fields::{NameFields, name_of, u8_of, u16_of, u32_of, u64_of};
@@ -75,8 +75,8 @@ fn fields_of(kind: OpKind, bytes: &[u8]) -> Result<(Shape<'_>, &[u8]), ReadFault
 
 /// The kind of operation with this number, if the version has it.
 #[inline(always)]
-fn kind_told(version: Version, number: u8) -> Result<OpKind, ReadFault>
-    ensures { result ≡ told_kind version (op_kind_of_number number) }
+fn kind_of_number(version: Version, number: u8) -> Result<OpKind, ReadFault>
+    ensures { result ≡ kind_in_version version (op_kind_of_number number) }
 {
     let kind = op_kind_of(number).ok_or(ReadFault::OpKind)?;
     if !has_kind(version, kind) {
@@ -91,14 +91,14 @@ fn shape_of(version: Version, bytes: &[u8]) -> Result<(Shape<'_>, &[u8]), ReadFa
     ensures { Gives (λ x. (op_of x.0, x.1.now)) result (op_at version bytes.now) }
 {
     let (number, rest) = u8_of(bytes)?;
-    let kind = kind_told(version, number)?;
+    let kind = kind_of_number(version, number)?;
     fields_of(kind, rest)
 }
 
 /// Whether the version says texts of this length. Other operations have no length.
 #[inline(always)]
 fn is_length_said(version: Version, shape: &Shape<'_>) -> bool
-    ensures { result ≡ is_length_told version (op_of shape.now) }
+    ensures { result ≡ has_length version (op_of shape.now) }
 {
     let Shape::Text { bytes, .. } = *shape else {
         return true;
@@ -129,7 +129,7 @@ fn drawop_from(
     time: u64,
     shape: Shape<'_>,
 ) -> Result<Drawop, ReadFault>
-    ensures { result ≡ drawop_told version (record { source = fields.source; page = fields.page; seq = fields.seq }) time (op_of shape.entry) }
+    ensures { result ≡ drawop_in_version version (record { source = fields.source; page = fields.page; seq = fields.seq }) time (op_of shape.entry) }
 {
     let name = Name::new(fields.source, fields.page, fields.seq)?;
     let made = Drawop::new(name, time, shape);

@@ -42,7 +42,7 @@ impl Spelled for Mark {
     ghost entry_bytes = { mark_bytes };
 
     #[inline(always)]
-    #[tactic(auto, unfolding(crate::specs::Reading::mark_at), using(crate::proofs::TooShort::mark_short))]
+    #[tactic(auto, unfolding(crate::specs::Reading::mark_at))]
     fn read(before: Option<u32>, bytes: &[u8]) -> Result<(Mark, &[u8]), ReadFault> {
         if bytes.len() < 8 {
             return Err(ReadFault::Length);
@@ -68,7 +68,7 @@ impl Spelled for Echo {
     ghost entry_bytes = { echo_bytes };
 
     #[inline(always)]
-    #[tactic(auto, unfolding(crate::specs::Reading::echo_at), using(crate::proofs::TooShort::echo_short))]
+    #[tactic(auto, unfolding(crate::specs::Reading::echo_at))]
     fn read(before: Option<u32>, bytes: &[u8]) -> Result<(Echo, &[u8]), ReadFault> {
         if bytes.len() < 20 {
             return Err(ReadFault::Length);

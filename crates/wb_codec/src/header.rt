@@ -63,13 +63,13 @@ pub(crate) fn frame_of(bytes: &[u8]) -> Result<Frame<'_>, ReadFault>
     if !(*m0 == b'W' && *m1 == b'B') {
         return Err(ReadFault::Magic);
     }
-    let told = u32::from_be_bytes([*l0, *l1, *l2, *l3]) as usize;
+    let size = u32::from_be_bytes([*l0, *l1, *l2, *l3]) as usize;
     let version = version_of(*version)?;
     let kind = kind_of(version, *kind)?;
-    if body.len() < told {
+    if body.len() < size {
         return Err(ReadFault::Short);
     }
-    if body.len() > told {
+    if body.len() > size {
         return Err(ReadFault::Trailing);
     }
     Ok(Frame {

@@ -104,6 +104,7 @@ pub fn datagrams_are_in_range(datagram: &Datagram)
 }
 
 /// What was spelled is read, and what is read was spelled so. No two datagrams share a spelling.
+#[tactic(auto, using(crate::proofs::GrammarLaws::reading_again))]
 pub fn reading_undoes_spelling()
     ensures reads { ReadsSpellings }
     ensures spells { SpellsReadings }
@@ -112,6 +113,7 @@ pub fn reading_undoes_spelling()
 
 /// Bytes that end before a datagram does are short, and bytes behind a datagram are trailing,
 /// whatever they are.
+#[tactic(auto, using(crate::proofs::GrammarLaws::whole_datagrams))]
 pub fn only_whole_datagrams_are_read()
     ensures short { PrefixesAreShort }
     ensures trailing { LongerAreTrailing }

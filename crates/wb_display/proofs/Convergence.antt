@@ -1,30 +1,30 @@
 -- Histories that hold the same drawops show the same; and where nothing is restored, as by the rule that knows deletes alone.
-use Rattle.std.proofs.Common.{◌≡◌, List, [], ◌∷◌, refl, ap, ◌∙◌, sym, ℕ}
-use Rattle.std.specs.Prelude.{Bool, not, ◌&&◌, ◌||◌, Contains, IsPermutation, true, false, All, Option, Some, None}
+use Rattle.std.proofs.Common.{◌≡◌, List, refl, ap, ◌∙◌, sym, subst, ℕ}
+use Rattle.std.specs.Prelude.{Bool, ◌↔◌, not, ◌&&◌, Contains, IsPermutation, true, false, All, Option, Some, None}
 use Rattle.std.specs.List.{list_any}
 use Rattle.std.specs.Ordering.{is_lt}
 use Rattle.std.proofs.lemmas.List.Sorted.{Contains-permutation, IsPermutation-sym, list_any-IsPermutation}
 use Rattle.wb_names.specs.Values.{DrawopValue}
 use Rattle.wb_names.specs.Orders.{same_page, display_cmp}
 use Rattle.wb_names.specs.declared.name.PageId.{PageId}
-use Rattle.wb_names.proofs.Listings.{same_sorted, lists_same}
+use Rattle.wb_names.specs.Listing.{Lists}
+use Rattle.wb_names.proofs.Listings.{one_list}
 use Rattle.wb_display.specs.Canvas.{canvas_text}
 use Rattle.wb_display.specs.Display.{is_drawing, is_delete, is_aimed_at, is_last_word, is_hidden_in, is_shown, IsView, is_restore, has_target}
-use Rattle.wb_display.specs.Laws.{Converges, StaysAView, PaintsAlike, is_deleted_in, was_shown, AgreesWithOlderRule}
+use Rattle.wb_display.specs.Laws.{Converges, StaysAView, PaintsAlike, is_deleted_in, was_shown, IsOlderView, AgreesWithOlderRule}
 use Rattle.wb_display.proofs.Deciding.{display_total, list_any_here, list_any_nowhere, last_word-is}
 use Rattle.std.proofs.lemmas.List.Elements.{All-contains}
 use Rattle.std.proofs.lemmas.Bool.{and_parts, false_from_ne_true, and_from}
-use Rattle.wb_names.specs.declared.parts.Change.TheVariants.{Delete, Restore}
+use Rattle.wb_names.specs.declared.parts.Change.TheVariants.{Delete}
 use Rattle.wb_names.specs.declared.parts.Op.{Op}
-use Rattle.wb_names.specs.declared.parts.Op.TheVariants.{Drawn, Text, Aimed}
+use Rattle.wb_names.specs.declared.parts.Op.TheVariants.{Aimed}
 use Rattle.wb_display.specs.LastWord.{own_target, word_of, word_cmp, IsLastWord}
 use Rattle.wb_display.specs.declared.last_words.LastWord.{LastWord}
 use Rattle.wb_display.proofs.Putting.{last_word_of}
 
 -- tests that agree are passed alike
 pub list_any_agree : (p q : DrawopValue → Bool) → ((x : DrawopValue) → p x ≡ q x) → (xs : List DrawopValue) → list_any p xs ≡ list_any q xs
-list_any_agree p q e [] = refl
-list_any_agree p q e (x ∷ xs) = ap (λ (b : Bool). b || list_any p xs) (e x) ∙ ap (λ (b : Bool). q x || b) (list_any_agree p q e xs)
+list_any_agree p q e xs = λ i. list_any (λ x. e x i) xs
 
 same_last_word : (one other : List DrawopValue) → IsPermutation one other → (d e : DrawopValue) → is_last_word one d e ≡ is_last_word other d e
 same_last_word one other moved d e = ap not (list_any-IsPermutation (λ f. is_aimed_at f d && is_lt (display_cmp e f)) one other moved)
@@ -37,18 +37,7 @@ same_hidden one other moved d =
 same_test : (one other : List DrawopValue) (page : PageId) → IsPermutation one other → (d : DrawopValue) → is_shown one page d ≡ is_shown other page d
 same_test one other page moved d = ap (λ (h : Bool). (same_page d.name.page page && is_drawing d.op) && not h) (same_hidden one other moved d)
 
-carried : (one other : List DrawopValue) (page : PageId) (shown again : List DrawopValue) → IsPermutation one other → IsView one page shown → IsView other page again → (d : DrawopValue) → Contains shown d → Contains again d
-carried one other page shown again moved a b d h =
-    let m = (a.members d).0 h in
-    (b.members d).1 (Contains-permutation one other d moved m.0, sym (same_test one other page moved d) ∙ m.1)
-
-pub converges : Converges
-converges one other page shown again moved a b =
-    same_sorted display_total shown again a.rising b.rising
-    (carried one other page shown again moved a b)
-    (carried other one page again shown (IsPermutation-sym one other moved) b a)
-
--- and the view of one is the view of the other
+-- the view of one is the view of the other
 pub stays_a_view : StaysAView
 stays_a_view one other page shown moved a = record {
   rising = a.rising;
@@ -58,16 +47,17 @@ stays_a_view one other page shown moved a = record {
   );
 }
 
+pub converges : Converges
+converges one other page shown again moved a b = one_list display_total _ shown again (stays_a_view one other page shown moved a) b
+
 pub paints_alike : PaintsAlike
 paints_alike one other page shown again w h moved a b = ap (λ (ds : List DrawopValue). canvas_text ds w h) (converges one other page shown again moved a b)
 
 -- ---- where nothing is restored, the latest word on a drawop is a delete if there is a word at all
 
 deletes_unless : (op : Op) (s n : ℕ) → has_target op s n ≡ true → is_restore op ≡ false → is_delete op ≡ true
-deletes_unless (Drawn figure stroke) s n t r = cc
-deletes_unless (Text x y text) s n t r = cc
 deletes_unless (Aimed Delete target) s n t r = refl
-deletes_unless (Aimed Restore target) s n t r = cc
+deletes_unless op s n t r = cc
 
 module _ (history : List DrawopValue) (nothing : All (λ e. is_restore e.op ≡ false) history) (d : DrawopValue) where
   hidden_as_before : (r : Option LastWord) → IsLastWord history d.name.page (own_target d) r → is_hidden_in history d ≡ is_deleted_in history d
@@ -85,7 +75,6 @@ module _ (history : List DrawopValue) (nothing : All (λ e. is_restore e.op ≡ 
   shown_as_before page = let r = last_word_of history d.name.page (own_target d) in ap (λ (h : Bool). (same_page d.name.page page && is_drawing d.op) && not h) (hidden_as_before r.0 r.1)
 
 pub older_rule : AgreesWithOlderRule
-older_rule history page shown nothing = (
-  λ v. lists_same display_total _ _ shown (λ d m. (m.0, sym (shown_as_before history nothing d page) ∙ m.1)) (λ d m. (m.0, shown_as_before history nothing d page ∙ m.1)) v,
-  λ v. lists_same display_total _ _ shown (λ d m. (m.0, shown_as_before history nothing d page ∙ m.1)) (λ d m. (m.0, sym (shown_as_before history nothing d page) ∙ m.1)) v,
-)
+older_rule history page shown nothing =
+    let same : IsView history page shown ≡ IsOlderView history page shown = λ i. Lists display_cmp (λ d. Contains history d × (shown_as_before history nothing d page i ≡ true)) shown in
+    subst (λ (View : Type 0). IsView history page shown ↔ View) same ((λ v. v), (λ v. v))

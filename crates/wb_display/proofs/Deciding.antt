@@ -1,18 +1,19 @@
 -- The last word on a drawop decides whether it is shown, and on one page the order of display tells drawops apart.
-use Rattle.std.proofs.Common.{◌≡◌, ℕ, List, [], ◌∷◌, ◌++◌, refl, ap, ◌∙◌, sym, subst, ⊎_elim, eqb-true, ◌<◌, ◌≤◌, length, get_or, arith, ◌+◌, take, append-nil}
+use Rattle.std.proofs.lemmas.Grind.{common_steps}
+use Rattle.std.proofs.Common.{◌≡◌, ℕ, List, [], ◌∷◌, ◌++◌, refl, ap, ◌∙◌, sym, subst, ⊎_elim, ◌<◌, ◌≤◌, length, get_or, arith, ◌+◌, take, append-nil}
 use Rattle.std.specs.Prelude.{Bool, true, false, cond, ◌&&◌, Contains, Option, Some, None, ◌≢◌, not, AllPairs, filter}
 use Rattle.std.specs.declared.cmp.Ordering.{Ordering}
-use Rattle.std.specs.declared.cmp.Ordering.TheVariants.{Less, Equal, Greater}
+use Rattle.std.specs.declared.cmp.Ordering.TheVariants.{Less, Equal}
 use Rattle.std.specs.Cmp.{IsTotalOrder, nat_cmp_total}
-use Rattle.std.specs.Ordering.{is_lt, eq_by_cmp, is_eq, nat_cmp, ordering_reverse}
+use Rattle.std.specs.Ordering.{is_lt, eq_by_cmp, is_eq, ordering_reverse}
 use Rattle.std.proofs.lemmas.Cmp.{on_total, then_total, tied_itself}
 use Rattle.std.proofs.lemmas.List.Elements.{Contains-append_left, Contains-push, Contains-push_cases, filter_passes, Contains-get_or, filter_more}
-use Rattle.std.proofs.lemmas.Bool.{and_parts, false_from_ne_true, cases_lt, not-true, not_from_false, and_from}
+use Rattle.std.proofs.lemmas.Bool.{and_parts, false_from_ne_true, cases_lt, not_from_false, and_from}
 use Rattle.wb_names.specs.Values.{DrawopValue}
 use Rattle.wb_names.specs.Orders.{same_page, display_cmp}
 use Rattle.wb_names.specs.declared.name.PageId.{PageId}
 use Rattle.wb_names.specs.declared.parts.Op.{Op}
-use Rattle.wb_names.specs.declared.parts.Op.TheVariants.{Drawn, Text, Aimed}
+use Rattle.wb_names.specs.declared.parts.Op.TheVariants.{Aimed}
 use Rattle.wb_display.specs.Display.{has_target, is_drawing, is_delete, is_aimed_at, is_last_word, is_hidden_in, is_shown}
 use Rattle.wb_display.specs.LastWord.{aimed_target, word_cmp, word_of, later_word, speaks_of, IsLastWord, own_target, hides, is_shown_by}
 use Rattle.wb_names.specs.Same.{same_target, same_target-is}
@@ -23,7 +24,7 @@ use Rattle.std.proofs.lemmas.List.{get_or_default}
 use Rattle.std.proofs.lemmas.List.Folds.{list_any_none, list_any_at}
 use Rattle.std.proofs.lemmas.List.Kept.{AllPairs-filter}
 use Rattle.wb_names.specs.History.{IsHistory}
-use Rattle.wb_names.proofs.Orders.{then_is, nat_ties, name_parts, same_page-is}
+use Rattle.wb_names.proofs.Orders.{same_page-is}
 use Rattle.wb_display.specs.LastWords.{AreLastWords, word_on}
 use Rattle.wb_display.specs.declared.last_words.LastWords.{LastWords}
 
@@ -34,8 +35,7 @@ word_total = then_total (on_total (λ (w : LastWord). w.time) nat_cmp_total) (th
 
 less_is : (r : Ordering) → is_lt r ≡ true → r ≡ Less
 less_is Less e = refl
-less_is Equal e = cc
-less_is Greater e = cc
+less_is r e = cc
 
 pub not_before_itself : (w : LastWord) → is_lt (word_cmp w w) ≡ false
 not_before_itself w = ap is_lt (tied_itself word_total w)
@@ -74,14 +74,12 @@ module _ (history : List DrawopValue) (page : PageId) (target : Target) (e : Dra
 
 -- an operation has the target that it names, and no other
 pub aims_where : (op : Op) (l k : Target) → aimed_target op ≡ Some l → has_target op k.source k.seq ≡ same_target l k
-aims_where (Drawn figure s) l k e = cc
-aims_where (Text x y text) l k e = cc
 aims_where (Aimed change t) l k e = let f : t ≡ l = cc in ap (λ (m : Target). same_target m k) f
+aims_where op l k e = cc
 
 pub aims_nowhere : (op : Op) (k : Target) → aimed_target op ≡ None → has_target op k.source k.seq ≡ false
-aims_nowhere (Drawn figure s) k e = refl
-aims_nowhere (Text x y text) k e = refl
 aims_nowhere (Aimed change t) k e = cc
+aims_nowhere op k e = refl
 
 module _ (history : List DrawopValue) (page : PageId) (d : DrawopValue) (f g : Target → Option LastWord) where
   -- a drawop that names nothing leaves all words
@@ -122,19 +120,12 @@ one_drawop history names e f (j, lj, ej) (k, lk, ek) same =
 
 -- two of one page that tie have one name
 pub tie_names : (page : PageId) (e f : DrawopValue) → same_page e.name.page page ≡ true → same_page f.name.page page ≡ true → is_eq (display_cmp e f) ≡ true → e.name ≡ f.name
-tie_names page e f pe pf tie =
-    let p = same_page-is e.name.page page pe in
-    let q = same_page-is f.name.page page pf in
-    let r = (and_parts (is_eq (nat_cmp e.time f.time)) _ (sym (then_is _ _) ∙ tie)).1 in
-    let s = and_parts (is_eq (nat_cmp e.name.source f.name.source)) (is_eq (nat_cmp e.name.seq f.name.seq)) (sym (then_is _ _) ∙ r) in
-    name_parts _ _ _ _ _ _ (eqb-true _ _ (nat_ties e.name.source f.name.source ∙ s.0)) (p ∙ sym q) (eqb-true _ _ (nat_ties e.name.seq f.name.seq ∙ s.1))
+tie_names page e f pe pf tie = grind (arith, common_steps)
 
 tied_unless : (r s : Ordering) → r ≡ ordering_reverse s → is_lt r ≡ false → is_lt s ≡ false → is_eq r ≡ true
-tied_unless Less s e p q = cc
 tied_unless Equal s e p q = refl
-tied_unless Greater Less e p q = cc
-tied_unless Greater Equal e p q = cc
-tied_unless Greater Greater e p q = cc
+tied_unless r Less e p q = cc
+tied_unless r s e p q = cc
 
 -- a test of the members that one passes, or that none passes
 pub list_any_here : (p : DrawopValue → Bool) (xs : List DrawopValue) (x : DrawopValue) → Contains xs x → p x ≡ true → list_any p xs ≡ true
@@ -152,9 +143,7 @@ module _ (history : List DrawopValue) (d : DrawopValue) where
   last_word-is e last = not_from_false _ (list_any_nowhere (λ f. is_aimed_at f d && is_lt (display_cmp e f)) history (λ f c. false_from_ne_true _ (λ (t : (is_aimed_at f d && is_lt (display_cmp e f)) ≡ true). let p = and_parts (is_aimed_at f d) _ t in let g : true ≡ false = sym p.1 ∙ last f c p.0 in cc)))
 
   pub last_word-says : (e : DrawopValue) → is_last_word history d e ≡ true → (f : DrawopValue) → Contains history f → is_aimed_at f d ≡ true → is_lt (display_cmp e f) ≡ false
-  last_word-says e last f c aimed =
-      let none = nowhere_from (λ f. is_aimed_at f d && is_lt (display_cmp e f)) history (not-true _ last) f c in
-      false_from_ne_true _ (λ (t : is_lt (display_cmp e f) ≡ true). let g : true ≡ false = sym (and_from _ _ aimed t) ∙ none in cc)
+  last_word-says e last f c aimed = grind (arith, common_steps)
 
   -- a drawop is hidden exactly where the last word on it hides
   pub hidden_by : IsHistory history → (r : Option LastWord) → IsLastWord history d.name.page (own_target d) r → is_hidden_in history d ≡ hides r
@@ -180,6 +169,10 @@ module _ (history : List DrawopValue) (d : DrawopValue) where
         let q = and_parts (is_delete f.op) _ p.0 in
         let g : true ≡ false = sym q.0 ∙ ap (λ (x : DrawopValue). is_delete x.op) (sym (same f c q.1 p.1)) ∙ h in cc)) ∙ sym h
 
+-- what is not of the page is not shown on it
+pub off_page : (a b c : Bool) → a ≡ false → ((a && b) && c) ≡ false
+off_page a b c h = ap (λ (t : Bool). (t && b) && c) h
+
 -- so the last word decides what is shown
 pub shown_by : (history : List DrawopValue) (page : PageId) (d : DrawopValue) (r : Option LastWord) → IsHistory history → IsLastWord history page (own_target d) r → is_shown history page d ≡ is_shown_by page d r
 shown_by history page d r names last = at (same_page d.name.page page) refl where
@@ -187,10 +180,7 @@ shown_by history page d r names last = at (same_page d.name.page page) refl wher
   at true e =
       let here : IsLastWord history d.name.page (own_target d) r = subst (λ (p : PageId). IsLastWord history p (own_target d) r) (sym (same_page-is d.name.page page e)) last in
       ap (λ (h : Bool). (same_page d.name.page page && is_drawing d.op) && not h) (hidden_by history d names r here)
-  at false e = off _ _ _ e ∙ sym (off _ _ _ e) where
-    off : (a b c : Bool) → a ≡ false → ((a && b) && c) ≡ false
-    off true b c h = cc
-    off false b c h = refl
+  at false e = off_page _ _ _ e ∙ sym (off_page _ _ _ e)
 
 -- no two shown members tie
 pub shown_apart : (history : List DrawopValue) (page : PageId) → IsHistory history → AllPairs (λ x y. eq_by_cmp display_cmp x y ≡ false) (filter (is_shown history page) history)

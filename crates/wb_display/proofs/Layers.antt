@@ -1,27 +1,31 @@
 -- What a layer holds and keeps, from its making on.
-use Rattle.std.proofs.Common.{◌≡◌, ℕ, ◌<◌, length, take, List, [], ◌∷◌, ◌++◌, get_or, refl, ap, ◌∙◌, sym, subst, arith, ⊎_elim, ◌+◌, ◌≤◌, drop, add-one, drop-cons, ◌⊎◌, inl, inr}
+use Rattle.std.proofs.lemmas.Grind.{common_steps}
+use Rattle.std.proofs.Common.{◌≡◌, ℕ, ◌<◌, length, take, List, [], ◌∷◌, ◌++◌, get_or, refl, ap, ◌∙◌, sym, subst, arith, ⊎_elim, ◌+◌, ◌≤◌, drop, ◌⊎◌, inl, inr}
 use Rattle.std.specs.Prelude.{◌≢◌, Bool, true, false, cond, ◌||◌, All, Contains, Option, Some, None, is_some, not, ◌&&◌, Result, Ok, OnOk, filter}
-use Rattle.std.specs.Map.{lookup}
+use Rattle.std.specs.Map.{lookup, keys_of}
+use Rattle.std.proofs.lemmas.Map.{none_passes_from_lookup}
+use Rattle.std.proofs.lemmas.Map.Made.{is_some-lookup}
+use Rattle.std.proofs.lemmas.Map.Views.{Contains-from_lookup}
+use Rattle.indexmap.proofs.MapLemmas.{insert_entry-absent, absent_from_lookup}
 use Rattle.std.proofs.lemmas.Bool.Decides.{nat_tests}
 use Rattle.std.proofs.lemmas.List.{length-take, get_or-take, get_or_default, map-append}
 use Rattle.std.proofs.lemmas.List.Folds.{Any-from_list_any}
 use Rattle.wb_names.proofs.Orders.{same_name-is}
-use Rattle.std.proofs.lemmas.List.Elements.{All-head, All-tail, Contains-get_or, All-push, Contains-append_left, Contains-push}
+use Rattle.std.proofs.lemmas.List.Elements.{All-contains, All-from_recursion, All-head, All-tail, Contains-get_or, All-push}
 use Rattle.std.proofs.lemmas.List.Quantifiers.{all_pairs_push}
 use Rattle.wb_names.specs.Values.{DrawopValue, NameValue}
 use Rattle.wb_names.specs.History.{IsHistory}
 use Rattle.wb_names.specs.Orders.{same_page, same_name, display_cmp}
 use Rattle.wb_names.specs.declared.name.PageId.{PageId}
-use Rattle.wb_names.proofs.Listings.{Contains-here, Contains-there, Contains-cases, Contains-none}
-use Rattle.wb_display.specs.LastWord.{own_target, affected_target, is_shown_by, IsLastWord}
-use Rattle.wb_names.specs.Same.{same_target, same_drawop, same_drawop-Decides}
-use Rattle.wb_display.specs.Layer.{holds_name, LayerValue, is_news, held_with, held_with_all, news_count}
-use Rattle.wb_display.specs.LayerFields.{held_of}
+use Rattle.wb_names.proofs.Listings.{Contains-none, Any-from_map, Contains-map}
+use Rattle.wb_display.specs.LastWord.{own_target, affected_target, is_shown_by}
+use Rattle.wb_names.specs.Same.{same_target, same_target-is, same_drawop, same_drawop-Decides}
+use Rattle.wb_display.specs.Layer.{holds_name, LayerValue, is_news, held_with, held_with_all, news_count, held_of}
 use Rattle.wb_display.specs.TakingIn.{IsKeyed, AreHeld, AreKept, TakesIn, Touches, HoldsToo, IsShownIn}
 use Rattle.wb_names.specs.declared.parts.Target.{Target}
-use Rattle.wb_display.proofs.Deciding.{nowhere_from, shown_here, list_any_here, list_any_nowhere, one_drawop, tie_names}
+use Rattle.wb_display.proofs.Deciding.{nowhere_from, shown_here, one_drawop, tie_names}
 use Rattle.std.specs.List.Sorted.{IsStrictlySortedBy}
-use Rattle.std.proofs.lemmas.Bool.{and_parts, not-true, and_right, not_from_false, and_from}
+use Rattle.std.proofs.lemmas.Bool.{and_parts, not-true}
 use Rattle.indexmap.specs.IndexMap.{insert_entry}
 use Rattle.wb_display.specs.Display.{is_shown, IsView}
 use Rattle.wb_display.specs.DisplayList.{SetsShown, TiesAlone, ShowsOthers, TieOnce}
@@ -30,54 +34,47 @@ use Rattle.wb_display.specs.declared.last_words.LastWords.{LastWords}
 use Rattle.wb_display.proofs.Putting.{view_changed, view_stays, ties_alone, touches_stake, touches_no_stake}
 use Rattle.std.specs.List.{list_any}
 use Rattle.std.specs.Ordering.{is_eq}
-use Rattle.std.proofs.lemmas.List.Sums.{fold_more}
 use Rattle.wb_names.specs.Listing.{Lists}
-use Rattle.wb_display.specs.Laws.{KeepsTheFirst}
 
 -- ---- what is held, by the keys of the drawops
 
 target_is_name : (page : PageId) (d e : DrawopValue) → same_page d.name.page page ≡ true → same_page e.name.page page ≡ true → same_target (own_target d) (own_target e) ≡ same_name e.name d.name
 target_is_name page d e pd pe = grind (arith, nat_tests)
 
-is_some_either : (b : Bool) (x : DrawopValue) (r : Option DrawopValue) → is_some (cond b (Some x) r) ≡ (b || is_some r)
-is_some_either true x r = refl
-is_some_either false x r = refl
-
 -- the table has a target exactly where the name is held
-pub known_name : (page : PageId) (d : DrawopValue) (entries : List (Target × DrawopValue)) → same_page d.name.page page ≡ true → All (IsKeyed page) entries → is_some (lookup (same_target (own_target d)) entries) ≡ holds_name (held_of entries) d.name
-known_name page d [] here all = refl
-known_name page d (e ∷ es) here all =
+known_keys : (page : PageId) (d : DrawopValue) (entries : List (Target × DrawopValue)) → same_page d.name.page page ≡ true → All (IsKeyed page) entries → list_any (same_target (own_target d)) (keys_of entries) ≡ holds_name (held_of entries) d.name
+known_keys page d [] here all = refl
+known_keys page d (e ∷ es) here all =
     let head = All-head (IsKeyed page) e es all in
-    is_some_either (same_target (own_target d) e.0) e.1 (lookup (same_target (own_target d)) es)
-    ∙ ap (λ (b : Bool). b || is_some (lookup (same_target (own_target d)) es)) (ap (same_target (own_target d)) head.0 ∙ target_is_name page d e.1 here head.1)
-    ∙ ap (λ (b : Bool). same_name e.1.name d.name || b) (known_name page d es here (All-tail (IsKeyed page) e es all))
+    ap (λ (b : Bool). b || list_any (same_target (own_target d)) (keys_of es)) (ap (same_target (own_target d)) head.0 ∙ target_is_name page d e.1 here head.1)
+    ∙ ap (λ (b : Bool). same_name e.1.name d.name || b) (known_keys page d es here (All-tail (IsKeyed page) e es all))
+
+pub known_name : (page : PageId) (d : DrawopValue) (entries : List (Target × DrawopValue)) → same_page d.name.page page ≡ true → All (IsKeyed page) entries → is_some (lookup (same_target (own_target d)) entries) ≡ holds_name (held_of entries) d.name
+known_name page d entries here all = is_some-lookup (same_target (own_target d)) entries ∙ known_keys page d entries here all
+
+-- what is held is of the page, and stands under its target
+keyed : (page : PageId) (entries : List (Target × DrawopValue)) → All (IsKeyed page) entries → (x : DrawopValue) → Contains (held_of entries) x → Contains entries (own_target x, x) × (same_page x.name.page page ≡ true)
+keyed page entries all x c =
+    let found = Any-from_map (λ (e : Target × DrawopValue). e.1) entries x c in
+    let key = All-contains (IsKeyed page) entries found.1 all (found.0, found.2, found.3) in (
+      subst (λ (y : DrawopValue). Contains entries (own_target y, y)) found.4 (subst (λ (k : Target). Contains entries (k, found.1.1)) key.0 (found.0, found.2, found.3)),
+      subst (λ (y : DrawopValue). same_page y.name.page page ≡ true) found.4 key.1,
+    )
+
+same_target-here : (l : Target) → same_target l l ≡ true
+same_target-here l = grind (arith, nat_tests)
 
 -- what the table finds is held under that target
-pub found_held : (page : PageId) (l : Target) (a : DrawopValue) (entries : List (Target × DrawopValue)) → All (IsKeyed page) entries → lookup (same_target l) entries ≡ Some a → Contains (held_of entries) a × (same_target l (own_target a) ≡ true)
-found_held page l a [] all e = cc
-found_held page l a (e ∷ es) all f = at (found_held page l a es (All-tail (IsKeyed page) e es all)) (same_target l e.0) refl f where
-  head : IsKeyed page e
-  head = All-head (IsKeyed page) e es all
-
-  at : (lookup (same_target l) es ≡ Some a → Contains (held_of es) a × (same_target l (own_target a) ≡ true)) → (b : Bool) → same_target l e.0 ≡ b → cond b (Some e.1) (lookup (same_target l) es) ≡ Some a → Contains (held_of (e ∷ es)) a × (same_target l (own_target a) ≡ true)
-  at rest true t s =
-      let same : e.1 ≡ a = cc in
-      (subst (Contains (e.1 ∷ held_of es)) same (Contains-here e.1 (held_of es)), ap (λ (x : DrawopValue). same_target l (own_target x)) (sym same) ∙ ap (same_target l) (sym head.0) ∙ t)
-  at rest false t s = let r = rest s in (Contains-there e.1 a (held_of es) r.0, r.1)
+found_held : (page : PageId) (l : Target) (a : DrawopValue) (entries : List (Target × DrawopValue)) → All (IsKeyed page) entries → lookup (same_target l) entries ≡ Some a → Contains (held_of entries) a × (same_target l (own_target a) ≡ true)
+found_held page l a entries all f =
+    let c = Contains-from_lookup same_target-is l a entries f in
+    let key = All-contains (IsKeyed page) entries (l, a) all c in
+    (Contains-map (λ (e : Target × DrawopValue). e.1) entries a (c.0, (l, a), c.1, c.2, refl), ap (same_target l) (sym key.0) ∙ same_target-here l)
 
 -- what it does not find is not held
-pub not_found : (page : PageId) (l : Target) (entries : List (Target × DrawopValue)) → All (IsKeyed page) entries → lookup (same_target l) entries ≡ None → (x : DrawopValue) → Contains (held_of entries) x → same_target l (own_target x) ≡ false
-not_found page l [] all e x c = absurd (Contains-none x c)
-not_found page l (e ∷ es) all f x c = at (λ s h. not_found page l es (All-tail (IsKeyed page) e es all) s x h) (same_target l e.0) refl f where
-  head : IsKeyed page e
-  head = All-head (IsKeyed page) e es all
-
-  at : (lookup (same_target l) es ≡ None → Contains (held_of es) x → same_target l (own_target x) ≡ false) → (b : Bool) → same_target l e.0 ≡ b → cond b (Some e.1) (lookup (same_target l) es) ≡ None → same_target l (own_target x) ≡ false
-  at rest true t s = cc
-  at rest false t s = ⊎_elim
-      (λ (same : e.1 ≡ x). ap (λ (y : DrawopValue). same_target l (own_target y)) (sym same) ∙ ap (same_target l) (sym head.0) ∙ t)
-      (λ (h : Contains (held_of es) x). rest s h)
-      (Contains-cases e.1 x (held_of es) c)
+not_found : (page : PageId) (l : Target) (entries : List (Target × DrawopValue)) → All (IsKeyed page) entries → lookup (same_target l) entries ≡ None → (x : DrawopValue) → Contains (held_of entries) x → same_target l (own_target x) ≡ false
+not_found page l entries all e x c =
+    All-contains (λ (k : Target × DrawopValue). same_target l k.0 ≡ false) entries (own_target x, x) (All-from_recursion _ entries (none_passes_from_lookup (same_target l) entries e)) (keyed page entries all x c).0
 
 pub same_name-here : (n : NameValue) → same_name n n ≡ true
 same_name-here n = grind (arith, nat_tests)
@@ -89,11 +86,7 @@ names_more held d names new = all_pairs_push (λ (x y : DrawopValue). x.name ≢
 
 -- all that is held is of the page
 pub held_here : (page : PageId) (entries : List (Target × DrawopValue)) → All (IsKeyed page) entries → (x : DrawopValue) → Contains (held_of entries) x → same_page x.name.page page ≡ true
-held_here page [] all x c = absurd (Contains-none x c)
-held_here page (e ∷ es) all x c = ⊎_elim
-    (λ (same : e.1 ≡ x). ap (λ (y : DrawopValue). same_page y.name.page page) (sym same) ∙ (All-head (IsKeyed page) e es all).1)
-    (λ (h : Contains (held_of es) x). held_here page es (All-tail (IsKeyed page) e es all) x h)
-    (Contains-cases e.1 x (held_of es) c)
+held_here page entries all x c = (keyed page entries all x c).1
 
 -- a name that stood before stands twice
 pub named_twice : (list : List DrawopValue) (i : ℕ) (d : DrawopValue) → i < length list → get_or list i d ≡ d → holds_name (take i list) d.name ≡ true → IsHistory list → ⊥
@@ -115,13 +108,9 @@ nothing_shown page = record {
   members = λ d. ((λ h. absurd (Contains-none d h)), (λ h. absurd (Contains-none d h.0)));
 }
 
--- a target that the table has not goes last
-insert_new : (l : Target) (d : DrawopValue) (entries : List (Target × DrawopValue)) → is_some (lookup (same_target l) entries) ≡ false → insert_entry same_target entries l d ≡ entries ++ (l, d) ∷ []
-insert_new l d [] none = refl
-insert_new l d (e ∷ es) none = at (same_target l e.0) (insert_new l d es) none where
-  at : (b : Bool) → (is_some (lookup (same_target l) es) ≡ false → insert_entry same_target es l d ≡ es ++ (l, d) ∷ []) → is_some (cond b (Some e.1) (lookup (same_target l) es)) ≡ false → cond b ((e.0, d) ∷ es) (e ∷ insert_entry same_target es l d) ≡ e ∷ (es ++ (l, d) ∷ [])
-  at true rest f = cc
-  at false rest f = ap (λ (t : List (Target × DrawopValue)). e ∷ t) (rest f)
+none_is : (r : Option DrawopValue) → is_some r ≡ false → r ≡ None
+none_is None e = refl
+none_is (Some x) e = cc
 
 module _ (words words' : LastWords) (entries : List (Target × DrawopValue)) (d : DrawopValue) (here : same_page d.name.page words.page ≡ true) (new : holds_name (held_of entries) d.name ≡ false) (held : AreHeld words entries) (page : words'.page ≡ words.page) (last_words : (history : List DrawopValue) → AreLastWords history words → AreLastWords (history ++ d ∷ []) words') where
   same_held : held_of (entries ++ (own_target d, d) ∷ []) ≡ held_of entries ++ d ∷ []
@@ -129,7 +118,7 @@ module _ (words words' : LastWords) (entries : List (Target × DrawopValue)) (d 
 
   -- the table after it was inserted
   pub entries_with : insert_entry same_target entries (own_target d) d ≡ entries ++ (own_target d, d) ∷ []
-  entries_with = insert_new (own_target d) d entries (known_name words.page d entries here held.keys ∙ new)
+  entries_with = insert_entry-absent same_target (own_target d) d entries (absent_from_lookup (same_target (own_target d)) entries (none_is _ (known_name words.page d entries here held.keys ∙ new)))
 
   pub held_more_of : AreHeld words' (entries ++ (own_target d, d) ∷ [])
   held_more_of = record {
@@ -155,10 +144,7 @@ module _ (words words' : LastWords) (entries entries' : List (Target × DrawopVa
   missing none x c = not_found words'.page (affected_target d) entries' after.keys none x (subst (λ (h : List DrawopValue). Contains h x) (sym same) c)
 
   viewed : (shown : List DrawopValue) → IsView (held_of entries ++ d ∷ []) words.page shown → AreKept words' entries' shown
-  viewed shown view = record {
-    held = after;
-    view = subst (λ (h : List DrawopValue). IsView h words'.page shown) (sym same) (subst (λ (p : PageId). IsView (held_of entries ++ d ∷ []) p shown) (sym page) view);
-  }
+  viewed shown view = grind (arith, common_steps)
 
   -- the affected drawop was found, and what is shown changed with it
   pub took_in : (shown shown' : List DrawopValue) (a : DrawopValue) (show : Bool) → IsView (held_of entries) words.page shown → lookup (same_target (affected_target d)) entries' ≡ Some a → show ≡ is_shown_by words'.page a (word_on words' (own_target a)) → (IsStrictlySortedBy display_cmp shown → TiesAlone shown a → SetsShown a show shown shown') → AreKept words' entries' shown'
@@ -185,16 +171,7 @@ on_ok X F P r v e h = subst (λ (s : Result X F). OnOk s P) e h
 
 -- room made changes nothing that is kept
 pub kept_with_room : (words words' : LastWords) (entries entries' : List (Target × DrawopValue)) (shown shown' : List DrawopValue) → words'.page ≡ words.page → ((l : Target) → word_on words' l ≡ word_on words l) → entries' ≡ entries → shown' ≡ shown → AreKept words entries shown → AreKept words' entries' shown'
-kept_with_room words words' entries entries' shown shown' page same e s kept =
-    let moved : AreKept words' entries shown = record {
-      held = record {
-        names = kept.held.names;
-        keys = subst (λ (p : PageId). All (IsKeyed p) entries) (sym page) kept.held.keys;
-        last_words = λ l. subst (λ (p : PageId). IsLastWord (held_of entries) p l (word_on words' l)) (sym page) (subst (IsLastWord (held_of entries) words.page l) (sym (same l)) (kept.held.last_words l));
-      };
-      view = subst (λ (p : PageId). IsView (held_of entries) p shown) (sym page) kept.view;
-    } in
-    subst (λ (xs : List DrawopValue). AreKept words' entries' xs) (sym s) (subst (λ (es : List (Target × DrawopValue)). AreKept words' es shown) (sym e) moved)
+kept_with_room words words' entries entries' shown shown' page same e s kept = grind (arith, common_steps)
 
 -- a new drawop is held last
 pub held_more : (page : PageId) (held : List DrawopValue) (d : DrawopValue) → is_news page held d ≡ true → held_with page held d ≡ held ++ d ∷ []
@@ -235,10 +212,7 @@ put_news words roomy words' entries wider entries' shown longer shown' d v is ne
 
 -- what is news later was news before
 news_before : (page : PageId) (held : List DrawopValue) (d x : DrawopValue) → is_news page (held ++ d ∷ []) x ≡ true → is_news page held x ≡ true
-news_before page held d x e =
-    let p = and_parts (same_page x.name.page page) _ e in
-    let none = not-true _ p.1 in
-    and_from _ _ p.0 (not_from_false _ (list_any_nowhere (λ y. same_name y.name x.name) held (λ y c. nowhere_from (λ y. same_name y.name x.name) (held ++ d ∷ []) none y (Contains-append_left held (d ∷ []) y c))))
+news_before page held d x e = grind (arith, common_steps)
 
 -- a narrower test keeps no more
 filter_narrows : (p q : DrawopValue → Bool) → ((x : DrawopValue) → q x ≡ true → p x ≡ true) → (xs : List DrawopValue) → length (filter q xs) ≤ length (filter p xs)
@@ -252,9 +226,7 @@ filter_narrows p q h (x ∷ xs) = at (q x) (p x) (h x) (filter_narrows p q h xs)
 
 module _ (page : PageId) (held list : List DrawopValue) (i : ℕ) (d : DrawopValue) (h : i < length list) (is : get_or list i d ≡ d) where
   here : (b : Bool) → is_news page held d ≡ b → news_count page held (drop i list) ≡ length (cond b (d ∷ filter (is_news page held) (drop (i + 1) list)) (filter (is_news page held) (drop (i + 1) list)))
-  here b e =
-      let cut : drop i list ≡ d ∷ drop (i + 1) list = rw (add-one, drop-cons list i d, is) refl in
-      ap (news_count page held) cut ∙ ap (λ (c : Bool). length (cond c (d ∷ filter (is_news page held) (drop (i + 1) list)) (filter (is_news page held) (drop (i + 1) list)))) e
+  here b e = grind (arith, common_steps)
 
   -- a step over what is news takes one place
   pub room_taken : is_news page held d ≡ true → news_count page (held_with page held d) (drop (i + 1) list) + 1 ≤ news_count page held (drop i list)
@@ -269,9 +241,7 @@ module _ (page : PageId) (held list : List DrawopValue) (i : ℕ) (d : DrawopVal
 -- one put more
 pub held_more_puts : (page here : PageId) (start held held' list : List DrawopValue) (i : ℕ) (d : DrawopValue) → i < length list → get_or list i d ≡ d → here ≡ page
     → held ≡ held_with_all page start (take i list) → held' ≡ held_with here held d → held' ≡ held_with_all page start (take (i + 1) list)
-held_more_puts page here start held held' list i d h is at so then =
-    then ∙ ap (λ (p : PageId). held_with p held d) at ∙ ap (λ (hs : List DrawopValue). held_with page hs d) so
-    ∙ sym (fold_more (held_with page) start list i d h ∙ ap (held_with page (held_with_all page start (take i list))) is)
+held_more_puts page here start held held' list i d h is at so then = grind (arith, common_steps)
 
 -- what is no news changes nothing
 pub held_not_more : (page : PageId) (held : List DrawopValue) (d : DrawopValue) → is_news page held d ≡ false → held ≡ held_with page held d
@@ -342,16 +312,3 @@ module _ (words words' : LastWords) (entries entries' : List (Target × DrawopVa
   } where
     from : (x : DrawopValue) → IsShownIn (held_of entries') words.page x → Contains shown x ⊎ Contains touched x
     from x m = ⊎_elim (λ (c : Contains touched x). inr c) (λ (out : ¬ Contains touched x). inl ((kept.view.members x).1 ((touches.others x out).0 m))) (member_or_not touched x)
-
--- of two of one name the first is kept
-pub keeps_the_first : KeepsTheFirst
-keeps_the_first page held d e same = sym (held_not_more page (held_with page held d) e (subst (λ (n : NameValue). (same_page n.page page && not (holds_name (held_with page held d) n)) ≡ false) same (at (same_page d.name.page page) (holds_name held d.name) refl refl))) where
-  at : (here known : Bool) → same_page d.name.page page ≡ here → holds_name held d.name ≡ known → (same_page d.name.page page && not (holds_name (held_with page held d) d.name)) ≡ false
-  at false known p h = ap (λ (b : Bool). b && not (holds_name (held_with page held d) d.name)) p
-  at true true p h =
-      let none : is_news page held d ≡ false = ap (λ (b : Bool). same_page d.name.page page && not b) h ∙ and_right (same_page d.name.page page) false refl in
-      and_right (same_page d.name.page page) _ (ap (λ (hs : List DrawopValue). not (holds_name hs d.name)) (sym (held_not_more page held d none)) ∙ ap not h)
-  at true false p h =
-      let news : is_news page held d ≡ true = and_from (same_page d.name.page page) _ p (not_from_false _ h) in
-      let held_now : holds_name (held ++ d ∷ []) d.name ≡ true = list_any_here (λ x. same_name x.name d.name) (held ++ d ∷ []) d (Contains-push held d) (same_name-here d.name) in
-      and_right (same_page d.name.page page) _ (ap (λ (hs : List DrawopValue). not (holds_name hs d.name)) (held_more page held d news) ∙ ap not held_now)

@@ -1,9 +1,11 @@
 -- An index of the names of a list, into which its names go one after another.
+use Rattle.std.proofs.lemmas.Grind.{common_steps}
 use Rattle.std.proofs.Common.{◌≡◌, ℕ, ◌<◌, ◌+◌, length, take, map, List, [], ◌∷◌, ◌++◌, get_or, refl, ap, ◌∙◌, sym, subst, arith}
-use Rattle.std.specs.Prelude.{Bool, true, false, ◌&&◌, ◌||◌, nat_eq, not, if◌then◌else◌}
+use Rattle.std.specs.Prelude.{Bool, true, false, ◌&&◌, ◌||◌, nat_eq, not}
 use Rattle.std.specs.List.{list_any}
+use Rattle.std.proofs.lemmas.Bool.{not-true, not-false}
 use Rattle.std.proofs.lemmas.Bool.Decides.{nat_tests}
-use Rattle.std.proofs.lemmas.List.{map-append, take_more}
+use Rattle.std.proofs.lemmas.List.{take_more}
 use Rattle.indexmap.specs.IndexSet.{insert_key}
 use Rattle.wb_names.specs.Values.{NameValue, DrawopValue}
 use Rattle.wb_names.specs.History.{IsHistory}
@@ -26,14 +28,6 @@ known_name : (list : List DrawopValue) (n : NameValue) → list_any (alike n) (n
 known_name [] n = refl
 known_name (d ∷ ds) n = ap (λ (b : Bool). b || list_any (alike n) (names_of ds)) (alike_same n d.name) ∙ ap (λ (b : Bool). same_name d.name n || b) (known_name ds n)
 
-absent : (b known : Bool) → b ≡ not known → b ≡ true → known ≡ false
-absent b true e f = cc
-absent b false e f = refl
-
-present : (b known : Bool) → b ≡ not known → b ≡ false → known ≡ true
-present b true e f = refl
-present b false e f = cc
-
 -- `added` tells whether the index, which has the names before place i, did not have the one at place i
 module _ (list : List DrawopValue) (i : ℕ) (d : DrawopValue) (n : NameValue) (keys : List NameValue) (added : Bool) (inside : i < length list) (here : d ≡ get_or list i d) (named : n ≡ d.name) (index : keys ≡ names_of (take i list)) (told : added ≡ not (list_any (alike n) keys)) where
   known_before : list_any (alike n) keys ≡ holds_name (take i list) d.name
@@ -43,16 +37,10 @@ module _ (list : List DrawopValue) (i : ℕ) (d : DrawopValue) (n : NameValue) (
   next = take_more list i d inside ∙ ap (λ (x : DrawopValue). take i list ++ x ∷ []) (sym here)
 
   pub stands_once : added ≡ true → IsHistory (take i list) → IsHistory (take (i + 1) list)
-  stands_once new once = subst IsHistory (sym next) (names_more (take i list) d once (sym known_before ∙ absent added _ told new))
+  stands_once new once = subst IsHistory (sym next) (names_more (take i list) d once (sym known_before ∙ not-true _ (sym told ∙ new)))
 
   pub index_more : added ≡ true → (keys' : List NameValue) → keys' ≡ insert_key alike keys n → keys' ≡ names_of (take (i + 1) list)
-  index_more new keys' inserted =
-      inserted
-      ∙ ap (λ (b : Bool). if b then keys else (keys ++ n ∷ [])) (absent added _ told new)
-      ∙ ap (λ (ks : List NameValue). ks ++ n ∷ []) index
-      ∙ ap (λ (m : NameValue). names_of (take i list) ++ m ∷ []) named
-      ∙ sym (map-append (λ (e : DrawopValue). e.name) (take i list) (d ∷ []))
-      ∙ ap names_of (sym next)
+  index_more new keys' inserted = grind (arith, common_steps)
 
   pub stands_twice : added ≡ false → IsHistory list → ⊥
-  stands_twice had names = named_twice list i d inside (sym here) (sym known_before ∙ present added _ told had) names
+  stands_twice had names = named_twice list i d inside (sym here) (sym known_before ∙ not-false _ (sym told ∙ had)) names

@@ -1,10 +1,10 @@
 -- A page by itself, and what a layer holds of it.
 use Rattle.std.proofs.Common.{◌≡◌, List, [], ◌∷◌, ◌++◌, length, refl, ap, ◌∙◌, sym, subst, arith, append-nil, append_assoc, length-append}
-use Rattle.std.specs.Prelude.{Bool, true, false, not, cond, ◌&&◌, ◌||◌, Contains, filter, fold}
-use Rattle.std.specs.List.{list_any}
+use Rattle.std.specs.Prelude.{Bool, true, false, not, cond, ◌&&◌, Contains, fold}
 use Rattle.std.specs.Ordering.{is_lt}
 use Rattle.std.proofs.lemmas.List.{get_or_append_left, get_or_at}
 use Rattle.std.proofs.lemmas.List.Elements.{filter-append}
+use Rattle.std.proofs.lemmas.Map.Views.{any-filter_same}
 use Rattle.std.proofs.lemmas.Bool.{and_parts, false_from_ne_true, not-true}
 use Rattle.wb_names.specs.Values.{DrawopValue}
 use Rattle.wb_names.specs.History.{IsHistory}
@@ -15,17 +15,9 @@ use Rattle.wb_names.proofs.Orders.{same_page-is, same_name-is}
 use Rattle.wb_display.specs.Display.{is_drawing, is_delete, is_aimed_at, is_last_word, is_hidden_in, is_shown}
 use Rattle.wb_display.specs.Layer.{holds_name, is_news, held_with}
 use Rattle.wb_display.specs.Laws.{on_page, StandsAlone, HoldsItsPage, HoldsAHistory}
-use Rattle.wb_display.proofs.Deciding.{display_total, list_any_nowhere}
+use Rattle.wb_display.proofs.Deciding.{display_total, list_any_nowhere, off_page}
 use Rattle.wb_display.proofs.Convergence.{list_any_agree}
 use Rattle.wb_display.proofs.Layers.{names_more}
-
--- a test that only what is kept passes
-list_any-filter : (p q : DrawopValue → Bool) → ((x : DrawopValue) → p x ≡ true → q x ≡ true) → (xs : List DrawopValue) → list_any p (filter q xs) ≡ list_any p xs
-list_any-filter p q within [] = refl
-list_any-filter p q within (x ∷ xs) = at (q x) refl (list_any-filter p q within xs) where
-  at : (b : Bool) → q x ≡ b → list_any p (filter q xs) ≡ list_any p xs → list_any p (cond b (x ∷ filter q xs) (filter q xs)) ≡ (p x || list_any p xs)
-  at true e rest = ap (λ (t : Bool). p x || t) rest
-  at false e rest = rest ∙ ap (λ (t : Bool). t || list_any p xs) (sym (false_from_ne_true (p x) (λ (t : p x ≡ true). let f : true ≡ false = sym (within x t) ∙ e in cc)))
 
 module _ (history : List DrawopValue) (page : PageId) where
   -- what is aimed at a drawop of the page is of the page
@@ -35,19 +27,15 @@ module _ (history : List DrawopValue) (page : PageId) where
   hidden_alone : (d : DrawopValue) → d.name.page ≡ page → is_hidden_in (on_page page history) d ≡ is_hidden_in history d
   hidden_alone d on =
       list_any_agree (λ e. (is_delete e.op && is_aimed_at e d) && is_last_word (on_page page history) d e) (λ e. (is_delete e.op && is_aimed_at e d) && is_last_word history d e)
-      (λ e. ap (λ (b : Bool). (is_delete e.op && is_aimed_at e d) && not b) (list_any-filter (λ f. is_aimed_at f d && is_lt (display_cmp e f)) (λ f. same_page f.name.page page) (λ f t. aimed_here d on f (and_parts (is_aimed_at f d) _ t).0) history))
+      (λ e. ap (λ (b : Bool). (is_delete e.op && is_aimed_at e d) && not b) (any-filter_same (λ f. is_aimed_at f d && is_lt (display_cmp e f)) (λ f. same_page f.name.page page) true (λ f t. aimed_here d on f (and_parts (is_aimed_at f d) _ t).0) history))
       (on_page page history)
-      ∙ list_any-filter (λ e. (is_delete e.op && is_aimed_at e d) && is_last_word history d e) (λ f. same_page f.name.page page) (λ e t. aimed_here d on e (and_parts (is_delete e.op) _ (and_parts (is_delete e.op && is_aimed_at e d) _ t).0).1) history
+      ∙ any-filter_same (λ e. (is_delete e.op && is_aimed_at e d) && is_last_word history d e) (λ f. same_page f.name.page page) true (λ e t. aimed_here d on e (and_parts (is_delete e.op) _ (and_parts (is_delete e.op && is_aimed_at e d) _ t).0).1) history
 
   shown_alone : (d : DrawopValue) → is_shown (on_page page history) page d ≡ is_shown history page d
   shown_alone d = at (same_page d.name.page page) refl where
-    off : (a b c : Bool) → a ≡ false → ((a && b) && c) ≡ false
-    off true b c h = cc
-    off false b c h = refl
-
     at : (b : Bool) → same_page d.name.page page ≡ b → is_shown (on_page page history) page d ≡ is_shown history page d
     at true e = ap (λ (h : Bool). (same_page d.name.page page && is_drawing d.op) && not h) (hidden_alone d (same_page-is d.name.page page e))
-    at false e = off _ _ _ e ∙ sym (off _ _ _ e)
+    at false e = off_page _ _ _ e ∙ sym (off_page _ _ _ e)
 
   of_page : (d : DrawopValue) → is_shown history page d ≡ true → same_page d.name.page page ≡ true
   of_page d s = (and_parts (same_page d.name.page page) _ (and_parts (same_page d.name.page page && is_drawing d.op) _ s).0).0

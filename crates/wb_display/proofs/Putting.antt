@@ -1,4 +1,5 @@
 -- What one more drawop changes of a view.
+use Rattle.std.proofs.lemmas.Grind.{common_steps}
 use Rattle.std.proofs.Common.{◌≡◌, List, [], ◌∷◌, ◌++◌, refl, ap, ◌∙◌, sym, subst, ⊎_elim, append-nil, append_assoc, arith, ℕ, ◌<◌, length, get_or, length-append}
 use Rattle.std.proofs.lemmas.Bool.Decides.{nat_tests}
 use Rattle.std.specs.Prelude.{◌≢◌, ◌↔◌, Bool, true, false, ◌&&◌, Contains, Option, Some, None, unwrap_or, All}
@@ -11,7 +12,7 @@ use Rattle.wb_names.specs.Orders.{same_page, display_cmp}
 use Rattle.wb_names.specs.Same.{same_drawop, same_drawop-Decides, same_target, same_target-is}
 use Rattle.wb_names.specs.declared.name.PageId.{PageId}
 use Rattle.wb_names.specs.declared.parts.Op.{Op}
-use Rattle.wb_names.specs.declared.parts.Op.TheVariants.{Drawn, Text, Aimed}
+use Rattle.wb_names.specs.declared.parts.Op.TheVariants.{Aimed}
 use Rattle.wb_names.proofs.Listings.{Contains-cases, Contains-none}
 use Rattle.wb_names.proofs.Orders.{name_parts, same_page-is}
 use Rattle.wb_display.specs.Display.{is_drawing, is_shown, IsView, is_delete, has_target, is_aimed_at, is_last_word, is_hidden_in}
@@ -20,7 +21,7 @@ use Rattle.wb_display.specs.TakingIn.{IsShownIn, Touches}
 use Rattle.wb_display.specs.LastWord.{own_target, aimed_target, affected_target, word_of, later_word, speaks_of, IsLastWord, word_cmp}
 use Rattle.wb_names.specs.declared.parts.Target.{Target}
 use Rattle.wb_display.specs.declared.last_words.LastWord.{LastWord}
-use Rattle.wb_display.proofs.Deciding.{word_said, unsaid, aims_where, aims_nowhere, one_drawop, tie_names, shown_by, not_before_itself, stays_last, hidden_by, last_word-says}
+use Rattle.wb_display.proofs.Deciding.{word_said, unsaid, aims_nowhere, one_drawop, tie_names, shown_by, not_before_itself, stays_last, hidden_by, last_word-says}
 use Rattle.std.proofs.lemmas.List.{get_or_append_left}
 use Rattle.std.proofs.lemmas.List.Folds.{Any-from_list_any}
 use Rattle.wb_display.specs.Laws.{PutChanges, PutsShow}
@@ -42,24 +43,16 @@ pub last_word_of : (history : List DrawopValue) (page : PageId) (target : Target
 last_word_of history page target = more_words page target [] history (None, λ e c. absurd (Contains-none e c))
 
 pub drawing_names_nothing : (op : Op) → is_drawing op ≡ true → aimed_target op ≡ None
-drawing_names_nothing (Drawn figure s) e = refl
-drawing_names_nothing (Text x y text) e = refl
 drawing_names_nothing (Aimed change t) e = cc
+drawing_names_nothing op e = refl
 
 -- a drawop says nothing of another target than the one that it affects
 silent : (page : PageId) (d : DrawopValue) (l : Target) → same_target (affected_target d) l ≡ false → speaks_of page l d ≡ false
-silent page d l differs = at (aimed_target d.op) refl differs where
-  at : (o : Option Target) → aimed_target d.op ≡ o → same_target (unwrap_or o (own_target d)) l ≡ false → speaks_of page l d ≡ false
-  at None e f = and_right (same_page d.name.page page) _ (aims_nowhere d.op l e)
-  at (Some k) e f = and_right (same_page d.name.page page) _ (aims_where d.op k l e ∙ f)
+silent page d l differs = grind (arith, common_steps)
 
 -- nothing is touched before the first
 pub touched_none : (page : PageId) (held : List DrawopValue) → Touches page held held []
-touched_none page held = record {
-  more = λ x c. c;
-  among = λ x c. absurd (Contains-none x c);
-  others = λ x out. ((λ m. m), (λ m. m));
-}
+touched_none page held = grind (arith, common_steps)
 
 module _ (held : List DrawopValue) (d : DrawopValue) (page : PageId) (names : IsHistory held) (more : IsHistory (held ++ d ∷ [])) (here : (x : DrawopValue) → Contains (held ++ d ∷ []) x → same_page x.name.page page ≡ true) where
   -- whether a drawop of which nothing is said is shown stays

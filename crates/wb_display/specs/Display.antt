@@ -17,22 +17,17 @@ is_drawing (Text x y text) = true
 is_drawing (Aimed change t) = false
 
 abbrev pub is_delete : Op → Bool
-is_delete (Drawn figure s) = false
-is_delete (Text x y text) = false
 is_delete (Aimed Delete t) = true
-is_delete (Aimed Restore t) = false
+is_delete op = false
 
 abbrev pub is_restore : Op → Bool
-is_restore (Drawn figure s) = false
-is_restore (Text x y text) = false
-is_restore (Aimed Delete t) = false
 is_restore (Aimed Restore t) = true
+is_restore op = false
 
 -- a delete or a restore of this number of this source
 abbrev pub has_target : Op → ℕ → ℕ → Bool
-has_target (Drawn figure s) source n = false
-has_target (Text x y text) source n = false
 has_target (Aimed change t) source n = nat_eq t.source source && nat_eq t.seq n
+has_target op source n = false
 
 -- e is a delete or a restore of d: it is on the page of d and names it
 abbrev pub is_aimed_at : DrawopValue → DrawopValue → Bool

@@ -6,7 +6,7 @@ use Rattle.wb_names.specs.Values.{DrawopValue}
 use Rattle.wb_names.specs.Orders.{same_page}
 use Rattle.wb_names.specs.declared.name.PageId.{PageId}
 use Rattle.wb_names.specs.declared.parts.Op.{Op}
-use Rattle.wb_names.specs.declared.parts.Op.TheVariants.{Drawn, Text, Aimed}
+use Rattle.wb_names.specs.declared.parts.Op.TheVariants.{Aimed}
 use Rattle.wb_display.specs.Display.{is_delete, is_drawing, has_target}
 use Rattle.wb_names.specs.declared.parts.Target.{Target}
 use Rattle.wb_display.specs.declared.last_words.LastWord.{LastWord}
@@ -30,9 +30,8 @@ word_of e = record { time = e.time; source = e.name.source; seq = e.name.seq; hi
 
 -- the target that a delete or a restore names
 abbrev pub aimed_target : Op → Option Target
-aimed_target (Drawn figure s) = None
-aimed_target (Text x y text) = None
 aimed_target (Aimed change t) = Some t
+aimed_target op = None
 
 -- the one drawop whose showing d may change: its target, or itself where it has none
 abbrev pub affected_target : DrawopValue → Target

@@ -1,9 +1,10 @@
 -- A layer: what was put on a page, one drawop after another.
-use Rattle.std.specs.Prelude.{ℕ, Bool, not, ◌&&◌, List, [], ◌∷◌, ◌++◌, length, filter, fold, if◌then◌else◌}
+use Rattle.std.specs.Prelude.{ℕ, Bool, not, ◌&&◌, List, [], ◌∷◌, ◌++◌, length, filter, fold, map, if◌then◌else◌}
 use Rattle.std.specs.List.{list_any}
 use Rattle.wb_names.specs.Values.{NameValue, DrawopValue}
 use Rattle.wb_names.specs.Orders.{same_page, same_name}
 use Rattle.wb_names.specs.declared.name.PageId.{PageId}
+use Rattle.wb_names.specs.declared.parts.Target.{Target}
 
 -- a page, and the drawops that were put on it
 pub record LayerValue : Type 0 where
@@ -33,3 +34,7 @@ held_after page puts = held_with_all page [] puts
 -- how many of a list are news
 abbrev pub news_count : PageId → List DrawopValue → List DrawopValue → ℕ
 news_count page held list = length (filter (is_news page held) list)
+
+-- the drawops that a table keeps, in the order in which they were put
+abbrev pub held_of : List (Target × DrawopValue) → List DrawopValue
+held_of entries = map (λ e. e.1) entries

@@ -8,6 +8,5 @@ pub mod Walks
 pub mod Faults
 pub mod DisplayList
 pub mod Layer
-pub mod LayerFields
 pub mod TakingIn
 pub mod Laws

@@ -6,8 +6,7 @@ use Rattle.wb_names.specs.Orders.{same_page}
 use Rattle.wb_display.specs.Display.{is_shown, IsView}
 use Rattle.wb_display.specs.LastWord.{own_target}
 use Rattle.wb_display.specs.LastWords.{AreLastWords}
-use Rattle.wb_display.specs.Layer.{holds_name}
-use Rattle.wb_display.specs.LayerFields.{held_of}
+use Rattle.wb_display.specs.Layer.{holds_name, held_of}
 use Rattle.wb_names.specs.declared.name.PageId.{PageId}
 use Rattle.wb_names.specs.declared.parts.Target.{Target}
 use Rattle.wb_display.specs.declared.last_words.LastWords.{LastWords}

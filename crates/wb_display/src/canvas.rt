@@ -113,6 +113,7 @@ impl Canvas {
 
     /// Writes the rows into the sink: all of them, or those bytes of which `Stopped` tells where the
     /// sink has failed.
+    #[tactic(auto, using(crate::proofs::Sent::sent_more))]
     pub fn write_to<W: Sink>(&self, sink: &mut W) -> Result<(), Stopped>
         ensures ok { OnOk result (Appends (W.taken sink.old) (W.taken sink.new) self.now) }
         ensures part { IfErr result (λ s. Appends (W.taken sink.old) (W.taken sink.new) (take s.sent self.now)) }
@@ -132,6 +133,7 @@ impl Canvas {
 }
 
 /// Makes the cells an empty canvas: spaces, and a line feed at the end of each row.
+#[tactic(auto, using(crate::proofs::Overlaying::fed))]
 fn clear(cells: &mut [u8], size: Size)
     requires { length cells.old ≡ size.height * (size.width + 1) }
     ensures { Shows size.width size.height [] cells.new }

@@ -40,6 +40,7 @@ pub(crate) fn set_shown(list: &mut Vec<Drawop>, drawop: &Drawop, shows: bool)
 }
 
 /// Whether the list holds what ties with a drawop.
+#[tactic(auto, using(crate::proofs::ShowingAll::placed_is))]
 pub(crate) fn is_placed(list: &[Drawop], drawop: &Drawop) -> bool
     ensures { IsStrictlySortedBy display_cmp list.now → result ≡ ties_with list.now drawop.now }
 {

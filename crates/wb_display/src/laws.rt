@@ -35,11 +35,13 @@ pub fn page_stands_alone()
 {}
 
 /// A layer that was given a history holds what the history has of its page, in the same order.
+#[tactic(auto, using(crate::proofs::Pages::holds_its_page))]
 pub fn layer_holds_its_page()
     ensures { HoldsItsPage }
 {}
 
 /// Whatever is put on a layer, it holds no name twice.
+#[tactic(auto, using(crate::proofs::Pages::holds_a_history))]
 pub fn layer_holds_a_history()
     ensures { HoldsAHistory }
 {}

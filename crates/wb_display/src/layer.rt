@@ -10,8 +10,7 @@ ghost use Rattle.wb_display.specs.LastWord.{affected_target};
 ghost use Rattle.wb_names.specs.Same.{same_target};
 ghost use Rattle.std.specs.Map.{lookup};
 ghost use Rattle.wb_display.specs.Display.{IsView};
-ghost use Rattle.wb_display.specs.Layer.{held_with, held_with_all, is_news as is_news_of, news_count};
-ghost use Rattle.wb_display.specs.LayerFields.{held_of};
+ghost use Rattle.wb_display.specs.Layer.{held_of, held_with, held_with_all, is_news as is_news_of, news_count};
 
 use crate::display_list::set_shown;
 use crate::last_words::{LastWords, affected_by, naming};
@@ -30,11 +29,10 @@ pub struct Layer {
 }
 
 impl Model for Layer {
-    ghost use Rattle.wb_display.specs.Layer.{LayerValue};
+    ghost use Rattle.wb_display.specs.Layer.{LayerValue, held_of};
 
     ghost Value = { LayerValue };
 
-    ghost use Rattle.wb_display.specs.LayerFields.{held_of};
     ghost use Rattle.wb_display.specs.TakingIn.{AreKept};
 
     ghost view = { λ l. record { page = l.words.page; held = held_of l.drawops.entries } };
@@ -73,6 +71,7 @@ impl Layer {
 
     /// Puts each drawop of a list, in its order, as that many calls of `put` would. All memory is
     /// asked for before anything is changed: where it is refused, none was put.
+    #[tactic(auto, using(crate::proofs::Layers::news_none))]
     pub fn put_all(&mut self, drawops: &[Drawop]) -> Result<(), AllocError>
         ensures ok { OnOk result (self.new ≡ record self.old { held = held_with_all self.old.page self.old.held drawops.now }) }
         ensures err { OnErr result (self.new ≡ self.old) }

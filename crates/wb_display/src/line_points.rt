@@ -36,6 +36,7 @@ impl Model for Walk {
 impl Walk {
     /// A coordinate at `from`, on its way to `to` in so many steps.
     #[inline(always)]
+    #[tactic(auto, using(crate::proofs::Lines::start))]
     fn new(from: u16, to: u16, steps: u16) -> Walk
         requires { distance_of from to ≤ steps }
         ensures { result ≡ record { from = from; to = to; steps = steps; gone = 0 } }
@@ -108,6 +109,7 @@ impl Walk {
 
 /// Where a coordinate is that moves by one each step.
 #[inline(always)]
+#[tactic(auto, using(crate::proofs::Lines::back_by_one))]
 pub(crate) fn along(from: u16, to: u16, gone: usize) -> usize
     requires { gone ≤ distance_of from to }
     ensures { result ≡ line_at from to (distance_of from to) gone }
@@ -139,6 +141,7 @@ fn step_moved(distance: u16, steps: u16, moved: usize) -> usize
 }
 
 /// The steps at which a coordinate on its way from `from` to `to` is before `end`, in cells.
+#[tactic(auto, using(crate::proofs::Lines::steps_inside))]
 pub(crate) fn steps_inside(from: u16, to: u16, steps: u16, end: usize) -> Steps
     requires { distance_of from to ≤ steps }
     ensures before { (k : ℕ) → k < result.first → end ≤ line_at from to steps k }

@@ -13,10 +13,5 @@ loop-k-preserved g c = record {
   ascends = ascends_more g.E.Entry.source g.E.Entry.IsPositive _ _ _ _ _ c.loop-k.invariant.ascends c.in-Ok.ensures.above c.in-Ok.ensures.positive c.push_reserved.ensures.items c.source.ensures.source;
 }
 
-pub from_ascending-requires : goal.from_ascending-requires
-from_ascending-requires g c =
-    let a = c.loop-k.invariant.ascends in
-    record { ascending = a.ascending; positive = a.positive; few = omega arith }
-
 pub returns : goal.returns
 returns g c = c.from_ascending.ensures ∙ sym (ap listed (read_all g.E.Spelled.entry_at g.E.Entry.source _ _ _ _ _ _ c.loop-k.invariant.read (omega arith)))

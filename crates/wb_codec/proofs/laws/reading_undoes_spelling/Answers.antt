@@ -1,8 +1,5 @@
-use Rattle.wb_codec.proofs.GrammarLaws.{reading_again, one_datagram, spells_below}
+use Rattle.wb_codec.proofs.GrammarLaws.{one_datagram, spells_below}
 use Rattle.wb_codec.proofs.laws.reading_undoes_spelling.Goals as goal
-
-pub returns-clause-reads : goal.returns-clause-reads
-returns-clause-reads c = reading_again
 
 pub returns-clause-spells : goal.returns-clause-spells
 returns-clause-spells c = spells_below

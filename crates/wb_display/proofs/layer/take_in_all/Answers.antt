@@ -1,22 +1,8 @@
-use Rattle.std.proofs.Common.{rules, ◌≡◌, ◌∙◌, ◌+◌, ◌++◌, [], ◌∷◌, true, false, sym, ap, arith, length, vec_len}
-use Rattle.wb_display.specs.Layer.{is_news}
-use Rattle.wb_display.specs.LayerFields.{held_of}
+use Rattle.std.proofs.Common.{rules, ◌≡◌, ◌∙◌, ◌+◌, ◌++◌, [], ◌∷◌, true, false, sym, arith, vec_len}
+use Rattle.wb_display.specs.Layer.{is_news, held_of}
 use Rattle.wb_display.proofs.Layers.{touched_more, touched_alone, step_held, room_left, held_more_puts, held_not_more}
-use Rattle.wb_display.proofs.Putting.{touched_none}
 use Rattle.wb_display.proofs.layer.take_in_all.Goals as goal
 use Rattle.wb_display.proofs.layer.take_in_all.Goals.{then-is_news+in-Some, then-is_news+in_default, else-is_news}
-
-pub loop-drawop-init : goal.loop-drawop-init
-loop-drawop-init c = record {
-  page = search rules;
-  held = c.requires.held;
-  all = search rules;
-  touches = rw c.requires.none (touched_none c.args.words.now.page (held_of c.args.drawops.now.entries));
-  words = c.requires.words;
-  drawops = c.requires.drawops;
-  touched = omega (arith, ap length c.requires.none);
-  count = omega (arith, ap length c.requires.none);
-}
 
 pub loop-drawop-preserved : goal.loop-drawop-preserved
 loop-drawop-preserved c =
@@ -39,9 +25,7 @@ loop-drawop-preserved c =
             held = step.0;
             all = held_more_puts c.args.words.now.page words.page (held_of c.args.drawops.now.entries) (held_of entries) _ c.args.list.now i d (omega arith) is inv.page inv.all step.2;
             touches = rw (w.hold.ensures.page, grown) touches;
-            words = omega (arith, step.3);
-            drawops = omega (arith, step.3);
-            touched = omega (arith, step.3);
+            room = (omega (arith, step.3), omega (arith, step.3), omega (arith, step.3));
             count = omega (arith, step.3);
           })
       | then-is_news+in_default w ↦
@@ -53,9 +37,7 @@ loop-drawop-preserved c =
             held = step.0;
             all = held_more_puts c.args.words.now.page words.page (held_of c.args.drawops.now.entries) (held_of entries) _ c.args.list.now i d (omega arith) is inv.page inv.all step.2;
             touches = rw w.hold.ensures.page touches;
-            words = omega (arith, step.3);
-            drawops = omega (arith, step.3);
-            touched = omega (arith, step.3);
+            room = (omega (arith, step.3), omega (arith, step.3), omega (arith, step.3));
             count = omega (arith, step.3);
           })
       | else-is_news w ↦
@@ -66,9 +48,7 @@ loop-drawop-preserved c =
             held = inv.held;
             all = held_more_puts c.args.words.now.page words.page (held_of c.args.drawops.now.entries) (held_of entries) _ c.args.list.now i d (omega arith) is inv.page inv.all (held_not_more words.page (held_of entries) d known);
             touches = inv.touches;
-            words = omega (arith, room);
-            drawops = omega (arith, room);
-            touched = omega (arith, room);
+            room = (omega (arith, room), omega (arith, room), omega (arith, room));
             count = omega (arith, room);
           })
     ]

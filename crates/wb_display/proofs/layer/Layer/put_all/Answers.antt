@@ -1,21 +1,9 @@
 use Rattle.std.proofs.Common.{◌∙◌, sym}
-use Rattle.wb_display.proofs.Layers.{kept_with_room, news_none, value_stays, ties_once, shows_others, kept_after}
+use Rattle.wb_display.proofs.Layers.{kept_with_room, value_stays, ties_once, shows_others, kept_after}
 use Rattle.wb_display.proofs.layer.Layer.put_all.Goals as goal
 
 pub returns-then-count-eq0-clause-ok : goal.returns-then-count-eq0-clause-ok
 returns-then-count-eq0-clause-ok c = value_stays c.args.self.now c.args.drawops.now (sym c.count_news-count.ensures ∙ c.if-count-eq0.true)
-
-pub returns-in_err-reserve-clause-known : goal.returns-in_err-reserve-clause-known
-returns-in_err-reserve-clause-known c all = absurd (c.if-count-eq0.false (c.count_news-count.ensures ∙ news_none c.args.self.now.page c.args.self.now.held c.args.drawops.now all))
-
-pub returns-in_err-reserve-2-clause-known : goal.returns-in_err-reserve-2-clause-known
-returns-in_err-reserve-2-clause-known c all = absurd (c.if-count-eq0.false (c.count_news-count.ensures ∙ news_none c.args.self.now.page c.args.self.now.held c.args.drawops.now all))
-
-pub returns-in_err-reserve-3-clause-known : goal.returns-in_err-reserve-3-clause-known
-returns-in_err-reserve-3-clause-known c all = absurd (c.if-count-eq0.false (c.count_news-count.ensures ∙ news_none c.args.self.now.page c.args.self.now.held c.args.drawops.now all))
-
-pub returns-in_err-touched-clause-known : goal.returns-in_err-touched-clause-known
-returns-in_err-touched-clause-known c all = absurd (c.if-count-eq0.false (c.count_news-count.ensures ∙ news_none c.args.self.now.page c.args.self.now.held c.args.drawops.now all))
 
 pub show_all-requires-clause-ties : goal.show_all-requires-clause-ties
 show_all-requires-clause-ties c = ties_once c.reserve.new.self c.take_in_all.new.words c.reserve-2.new.self.entries c.take_in_all.new.drawops.entries c.reserve-3.new.self.items c.take_in_all.new.touched.items (kept_with_room c.self.inside.words c.reserve.new.self c.self.inside.drawops.entries c.reserve-2.new.self.entries c.self.inside.shown.items c.reserve-3.new.self.items c.reserve.ensures.page c.reserve.ensures.words c.reserve-2.ensures.entries c.reserve-3.ensures.items c.self.invariant) c.take_in_all.ensures.held c.take_in_all.ensures.page c.take_in_all.ensures.touched
