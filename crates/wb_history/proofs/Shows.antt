@@ -85,9 +85,6 @@ sits t h is_q is_p i same =
     let table : h.seat.table_id ≡ t.table.shared.table_id = ap (λ (v : PassValue). v.table) is_p ∙ (same ∙ sym (ap (λ (v : HistoryValue). v.table) is_q)) in
     let words = ap (λ z. z.words) table in let sized = i.1 in let of_table = t.sized in (table, (omega arith))
 
-pub as_many_cells : {p : PassValue} {q : HistoryValue} (t : CellTable) (h : Cursor) → history_of t ≡ q → view_of h ≡ p → IsHeld h → IsPassOf q p → p.cells ≡ q.cells
-as_many_cells t h is_q is_p i same = sym (ap (λ (v : PassValue). v.cells) is_p) ∙ ((sits t h is_q is_p i same).1 ∙ ap (λ (v : HistoryValue). v.cells) is_q)
-
 owns : (h : Cursor) → InOrder h → IsWhole (view_of h) → HasAllRows h.seat.me.0
 owns h o all = let b = ap length o.free in let d = ap length o.mine in omega arith
 

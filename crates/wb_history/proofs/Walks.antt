@@ -73,9 +73,6 @@ win_on h a b d place j k h' h'' o v w =
       steps = omega arith;
     }
 
-pub end_on : (cells : ℕ) (h : Cursor) (a b : List DrawopValue) (h' h'' : Cursor) → InOrder h → Walked h a 0 h' → AtEnd cells h' b h'' → AtEnd cells h (a ++ b) h''
-end_on cells h a b h' h'' o v e = ⊎_elim (λ x. inl (walk_on h a b 0 1 h' h'' o v x.0, x.1)) (λ x. inr (walk_on h a b 0 0 h' h'' o v x.0, x.1)) e
-
 pub sits_still : (t : CellTable) (h : Cursor) (a : List DrawopValue) (k : ℕ) (h' : Cursor) → SitsAt t h.seat → Walked h a k h' → SitsAt t h'.seat
 sits_still t h a k h' s w = (w.seat.0 ∙ s.0, w.cells ∙ s.1)
 
