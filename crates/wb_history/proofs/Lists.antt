@@ -1,4 +1,5 @@
 -- Lists read by `get_elem?`.
+use Rattle.std.proofs.lemmas.Grind.{common_steps}
 use Rattle.std.proofs.Common.{◌≡◌, ◌⊎◌, ℕ, zero, suc, ◌+◌, ◌<◌, ◌≤◌, List, [], ◌∷◌, ◌++◌, map, length, get_or, take, drop, refl, sym, ap, ◌∙◌, subst, inl, inr, ⊎_elim, arith, length-append}
 use mathlib.Core.Option.{some, some-injective, some-ne-none}
 use lib.ListN.{get_elem?}
@@ -59,11 +60,7 @@ module _ {A : Type 0} where
   once_nothing i k x p q = absurd (some-ne-none x (sym p))
 
   pub once_append : (xs ys : List A) → Once xs → Once ys → ((i k : ℕ) (a : A) → get_elem? xs i ≡ some a → get_elem? ys k ≡ some a → ⊥) → Once (xs ++ ys)
-  once_append xs ys one other apart i k a p q =
-      elim (at_append xs ys i a p) [
-        | inl u ↦ elim (at_append xs ys k a q) [ inl w ↦ one i k a u w | inr w ↦ absurd (apart i w.0 a u w.2) ]
-        | inr u ↦ elim (at_append xs ys k a q) [ inl w ↦ absurd (apart k u.0 a w u.2) | inr w ↦ u.1 ∙ ap (λ (n : ℕ). length xs + n) (other u.0 w.0 a u.2 w.2) ∙ sym w.1 ]
-      ]
+  once_append xs ys one other apart i k a p q = grind (arith, common_steps, at_append)
 
   pub once_one : (x : A) → Once (x ∷ [])
   once_one x zero zero a p q = refl
@@ -114,12 +111,7 @@ module _ {A : Type 0} where
       head_same x y xs ys e = cc
 
   pub starts_whole : (whole start : List A) → IsPrefix start whole → length whole ≤ length start → whole ≡ start
-  starts_whole whole start b few = sym b.1 ∙ none_left start b.0 (omega (arith, length-append start b.0, ap length b.1))
-    where
-      none_left : (xs ys : List A) → length ys ≤ 0 → xs ++ ys ≡ xs
-      none_left [] [] h = refl
-      none_left [] (y ∷ ys) h = absurd (omega arith)
-      none_left (x ∷ xs) ys h = λ i. x ∷ none_left xs ys h i
+  starts_whole whole start b few = grind (arith, common_steps)
 
 pub at_read : {A : Type 0} (l : List A) (i : ℕ) (d : A) → i < length l → get_elem? l i ≡ some (get_or l i d)
 at_read [] i d h = absurd (omega arith)
@@ -152,4 +144,4 @@ both_start (w ∷ ws) (x ∷ xs) (y ∷ ys) b c h =
     head_same x y xs ys e = cc
 
 pub longer_is : {A : Type 0} (xs ys : List A) → IsPrefix xs ys → longer xs ys ≡ ys
-longer_is xs ys b = ⊎_elim (λ lt. sym (cond_below (length xs) (length ys) ys xs lt)) (λ ge. sym (cond_above (length xs) (length ys) ys xs xs ge refl) ∙ sym (starts_whole ys xs b ge)) (cases_lt (length xs) (length ys))
+longer_is xs ys b = grind (arith, common_steps)

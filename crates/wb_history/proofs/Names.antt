@@ -1,4 +1,5 @@
 -- The index of names tells the places of members.
+use Rattle.std.proofs.lemmas.Grind.{common_steps}
 use Rattle.std.proofs.Common.{◌≡◌, ℕ, ◌<◌, ◌≤◌, Bool, true, false, List, [], ◌∷◌, ◌++◌, map, length, get_or, take, refl, sym, ap, ◌∙◌, subst, ⊎_elim, arith, Option, Some, None}
 use Rattle.std.specs.Prelude.{MatchOption, nat_eq, ◌&&◌, if◌then◌else◌}
 use Rattle.std.specs.List.{position, position_or_len, list_any}
@@ -67,12 +68,7 @@ module _ (n : NameValue) (l : List DrawopValue) where
       apart (sym (subst (λ (m : NameValue). alike n m ≡ true) (sym t.3 ∙ is) (alike_here n)) ∙ fails)
 
   pub place_found : (keys : List NameValue) (r : Option ℕ) → keys ≡ names l → r ≡ position (alike n) keys → MatchOption r (HoldsName l n → ⊥) (Found l n)
-  place_found keys r indexed is =
-      let told = is ∙ ap (position (alike n)) indexed in
-      ⊎_elim
-      (λ lt. subst (λ (o : Option ℕ). MatchOption o (HoldsName l n → ⊥) (Found l n)) (cond_below first (length (names l)) (Some first) None lt ∙ sym told) (found lt))
-      (λ ge. subst (λ (o : Option ℕ). MatchOption o (HoldsName l n → ⊥) (Found l n)) (cond_above first (length (names l)) (Some first) None None ge refl ∙ sym told) (lacks ge))
-      (cases_lt first (length (names l)))
+  place_found keys r indexed is = grind (arith, common_steps, cond_below, found, cond_above, lacks, cases_lt)
 
 -- a new name goes to the end of the index
 pub put_name : (l l' : List DrawopValue) (d : DrawopValue) (keys keys' : List NameValue) → (HoldsName l d.name → ⊥) → keys ≡ names l → l' ≡ l ++ d ∷ [] → keys' ≡ insert_key alike keys d.name → keys' ≡ names l'

@@ -1,4 +1,5 @@
 -- Rows as ranges: the last one, and ranges that are cut where so many rows end.
+use Rattle.std.proofs.lemmas.Grind.{common_steps}
 use Rattle.std.proofs.Common.{◌≡◌, ℕ, zero, suc, ◌+◌, ◌-◌, ◌<◌, ◌≤◌, List, [], ◌∷◌, ◌++◌, length, get_or, take, drop, slice_set, refl, sym, ap, ◌∙◌, subst, arith, append_assoc, length-append}
 use Rattle.std.specs.List.{range_with_len}
 use Rattle.std.proofs.lemmas.List.{append-nil, take-append-drop, take_more, drop_all}
@@ -32,19 +33,14 @@ range_at a (suc n) (suc i) h = let e : a + 1 + i ≡ a + suc i = omega arith in 
 
 -- a list in two parts, cut where the first one ends
 pub cut_at : (xs front back : List ℕ) (k : ℕ) → xs ≡ front ++ back → length front ≡ k → (take k xs ≡ front) × (drop k xs ≡ back)
-cut_at xs front back k is long = (
-  ap (take k) is ∙ (ap (λ (n : ℕ). take n (front ++ back)) (sym long) ∙ take-append_seam front back),
-  ap (drop k) is ∙ (ap (λ (n : ℕ). drop n (front ++ back)) (sym long) ∙ drop-append_seam front back),
-)
+cut_at xs front back k is long = grind (arith, common_steps)
 
 -- ranges, by the last of them
 pub last_range : (rs : List RowRange) (n : ℕ) (r : RowRange) → length rs ≡ n + 1 → r ≡ get_or rs n r → rs ≡ take n rs ++ r ∷ []
-last_range rs n r long at =
-    let rest : drop (suc n) rs ≡ [] = drop_all (suc n) rs (omega arith) in
-    split_at rs n r (omega arith) ∙ (ap (λ (l : List RowRange). take n rs ++ get_or rs n r ∷ l) rest ∙ ap (λ (x : RowRange). take n rs ++ x ∷ []) (sym at))
+last_range rs n r long at = grind (arith, common_steps)
 
 pub last_rows : (rs : List RowRange) (n : ℕ) (r : RowRange) → length rs ≡ n + 1 → r ≡ get_or rs n r → rows_in rs ≡ rows_in (take n rs) ++ rows_of r
-last_rows rs n r long at = ap rows_in (last_range rs n r long at) ∙ (rows-append (take n rs) (r ∷ []) ∙ ap (λ (l : List ℕ). rows_in (take n rs) ++ l) (append-nil (rows_of r)))
+last_rows rs n r long at = grind (arith, common_steps, last_range, rows-append, append-nil)
 
 -- the last row
 pub last_is : (rs : List RowRange) (n : ℕ) (r : RowRange) → length rs ≡ n + 1 → r ≡ get_or rs n r → 0 < r.count → get_elem? (rows_in rs) (length (rows_in rs) - 1) ≡ some (r.first + (r.count - 1))
@@ -87,10 +83,7 @@ cut_inside rs rest n m r front back from few first second =
 
 -- the ranges so far, and one more
 pub rows_more : (rs : List RowRange) (i : ℕ) (z : RowRange) → i < length rs → length (rows_in (take (i + 1) rs)) ≡ length (rows_in (take i rs)) + (get_or rs i z).count
-rows_more rs i z below =
-    let r = get_or rs i z in
-    let size = length-range_with_len r.first r.count in
-    ap (λ (l : List RowRange). length (rows_in l)) (take_more rs i z below) ∙ (ap length (rows-append (take i rs) (r ∷ [])) ∙ omega (arith, size, length-append (rows_in (take i rs)) (rows_in (r ∷ [])), ap length (append-nil (rows_of r))))
+rows_more rs i z below = grind (arith, common_steps, get_or, length-range_with_len, take_more, rows-append, length-append, append-nil)
 
 pub some_range : (rs : List RowRange) → 0 < length (rows_in rs) → 0 < length rs
 some_range [] h = absurd (omega arith)
@@ -111,12 +104,7 @@ pub record HaveLast (items : List ℕ) (rows : ℕ) (cut : List RowRange) : Type
 -- the rows of ranges, which are counted
 module _ (rs : List RowRange) (count rows : ℕ) (items : List ℕ) (is : rows_in rs ≡ items) (lawful : (count ≡ length (rows_in rs)) × All IsRange rs) (few : rows ≤ length items) where
   in_two : (kept cut : List RowRange) → rows_in rs ≡ rows_in kept ++ rows_in cut → length (rows_in kept) ≡ count - rows → All IsRange kept → All IsRange cut → HaveFirst items count rows kept × HaveLast items rows cut
-  in_two kept cut parts long first second =
-      let all = ap length is in
-      let counted = lawful.0 in
-      let many = ap length parts ∙ length-append (rows_in kept) (rows_in cut) in
-      let at = cut_at items (rows_in kept) (rows_in cut) (length items - rows) (sym is ∙ parts) (omega arith) in
-      (record { first = sym at.0; many = sym long; ranges = first }, record { last = sym at.1; many = omega arith; ranges = second })
+  in_two kept cut parts long first second = grind (arith, common_steps)
 
   -- cut at a place that a slice of them has told: between two ranges
   module _ (slice : List RowRange) (at part : ℕ) (same : slice ≡ rs) (before : length (rows_in (take at slice)) + part ≡ count - rows) where
@@ -171,6 +159,4 @@ module _ (rs : List RowRange) (count size : ℕ) (r : RowRange) (items : List �
       (All-push IsRange (take (size - 1) rs) s (All-take IsRange (size - 1) rs lawful.1) (omega arith, omega arith))
 
   pub none_left : r.count ≤ 1 → HaveFirst items count 1 (take (size - 1) rs)
-  none_left few =
-      let none : r.count - 1 ≡ 0 = omega arith in
-      but_last (take (size - 1) rs) (ap (λ k. rows_in (take (size - 1) rs) ++ range_with_len r.first k) none ∙ append-nil (rows_in (take (size - 1) rs))) (All-take IsRange (size - 1) rs lawful.1)
+  none_left few = grind (arith, common_steps, but_last, append-nil, All-take)

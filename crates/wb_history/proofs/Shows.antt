@@ -1,4 +1,5 @@
 -- What the parts of a pass show of it.
+use Rattle.std.proofs.lemmas.Grind.{common_steps}
 use Rattle.wb_history.specs.Sizes.{member_steps}
 use Rattle.std.proofs.Common.{◌≡◌, ℕ, ◌+◌, ◌-◌, ◌*◌, ◌<◌, ◌≤◌, List, [], ◌∷◌, ◌++◌, length, refl, sym, ap, ◌∙◌, subst, inl, inr, ⊎_elim, arith, length-append, length-take-le, append_assoc}
 use Rattle.std.proofs.lemmas.List.{append-nil}
@@ -67,7 +68,7 @@ on_ok (Err e) p = tt
 
 -- more room for the list is not seen
 pub roomier : (h : Cursor) (m : MembersValue) → m.items ≡ h.seen.items → IsHeld h → IsHeld (record h { seen = m })
-roomier h m same i = let o = i.0 in (record { slots = o.slots; seen = o.seen ∙ sym same; mine = o.mine; free = o.free; consistent = o.consistent }, i.1, i.2, i.3)
+roomier h m same i = grind (arith, common_steps)
 
 -- a pass is told what another has seen, or both stay as they were
 pub sound_told : {A E : Type 0} (p q : PassValue) (Teller : Type 0) (r : Result A E) → OnOk r (IsSound q) → OnErr r (Teller × (q ≡ p)) → IsSound p → IsSound q
@@ -76,14 +77,11 @@ sound_told p q Teller (Err e) told kept s = subst IsSound (sym kept.1) s
 
 -- the parts of a pass after steps of its seat
 pub held_on : (h h' : Cursor) → IsHeld h → InOrder h' → SameSeat h.seat h'.seat → h'.seat.me.0.cells ≡ h.seat.me.0.cells → IsHeld h'
-held_on h h' i o seat cells =
-    let words = ap (λ z. z.words) seat.0 in let sized = i.1 in let some_cells = i.2 in let few_cells = i.3 in (o, (omega arith), (omega arith), (omega arith))
+held_on h h' i o seat cells = grind (arith, common_steps)
 
 -- A pass sits at the table of its history. Of one table the number of cells is one, since the number of words is
 pub sits : {p : PassValue} {q : HistoryValue} (t : CellTable) (h : Cursor) → history_of t ≡ q → view_of h ≡ p → IsHeld h → IsPassOf q p → SitsAt t h.seat
-sits t h is_q is_p i same =
-    let table : h.seat.table_id ≡ t.table.shared.table_id = ap (λ (v : PassValue). v.table) is_p ∙ (same ∙ sym (ap (λ (v : HistoryValue). v.table) is_q)) in
-    let words = ap (λ z. z.words) table in let sized = i.1 in let of_table = t.sized in (table, (omega arith))
+sits t h is_q is_p i same = grind (arith, common_steps)
 
 owns : (h : Cursor) → InOrder h → IsWhole (view_of h) → HasAllRows h.seat.me.0
 owns h o all = let b = ap length o.free in let d = ap length o.mine in omega arith
@@ -95,10 +93,10 @@ keeps_rows : (h : Cursor) (more : List DrawopValue) (k : ℕ) (h' : Cursor) → 
 keeps_rows h more k h' w = (w.mine, ap length w.free)
 
 adds_nothing : (h : Cursor) (more : List DrawopValue) (k : ℕ) (h' : Cursor) → InOrder h → Walked h more k h' → AddsNothing (view_of h) (view_of h')
-adds_nothing h more k h' o w = (keeps_rows h more k h' w, λ all. w.seen ∙ (ap (λ (l : List DrawopValue). h.seen.items ++ l) (w.whole (owns h o all)) ∙ append-nil h.seen.items))
+adds_nothing h more k h' o w = grind (arith, common_steps)
 
 caught_up : (cells : ℕ) (h : Cursor) (more : List DrawopValue) (h' : Cursor) → h.seat.me.0.cells ≡ cells → AtEnd cells h more h' → IsCaughtUp (view_of h) (view_of h')
-caught_up cells h more h' same e = ⊎_elim (λ x. let m = x.0.made in inl ((omega arith), x.1.0, x.1.1)) (λ x. let c = x.0.cells in let f = x.1 in inr (omega arith)) e
+caught_up cells h more h' same e = grind (arith, common_steps)
 
 -- the list after a claim that was won ends with the drawop, whose name stands nowhere before
 added : (h : Cursor) (more : List DrawopValue) (d : DrawopValue) (i extra : ℕ) (h' : Cursor) → InOrder h → Won h more d i extra h' → IsAdded (view_of h) d i (view_of h')
@@ -149,7 +147,7 @@ held_after cells h d h' (Ok c) i m = claim_held h d m.0 h' c i m.2
 held_after cells h d h' (Err f) i m = fault_held cells h d h' f i m
 
 end_starts : (cells : ℕ) (h : Cursor) (more : List DrawopValue) (h' : Cursor) → InOrder h → AtEnd cells h more h' → IsPrefix h.seen.items h'.seen.items × AddsNothing (view_of h) (view_of h')
-end_starts cells h more h' o e = ⊎_elim (λ x. (starts h more 1 h' x.0, adds_nothing h more 1 h' o x.0)) (λ x. (starts h more 0 h' x.0, adds_nothing h more 0 h' o x.0)) e
+end_starts cells h more h' o e = grind (arith, common_steps)
 
 shown_fault : (cells : ℕ) (h : Cursor) (d : DrawopValue) (h' : Cursor) (f : ClaimFault) → InOrder h → h.seat.me.0.cells ≡ cells → Refused cells h d h' f → IsPrefix h.seen.items h'.seen.items × NotClaimed (view_of h) d (view_of h') f
 shown_fault cells h d h' NoRow o same r =

@@ -1,4 +1,5 @@
 -- What stands at a place of a list, in the words of this crate's rule and in those of its public clauses.
+use Rattle.std.proofs.lemmas.Grind.{common_steps}
 use Rattle.std.proofs.Common.{◌≡◌, ◌≢◌, ℕ, zero, suc, List, [], ◌∷◌, get_or, refl, sym, ap, ◌∙◌, arith, Some, None, Bool, true, false, IsTrue}
 use Rattle.std.specs.List.{list_any}
 use Rattle.std.proofs.Common.{eqb-true, eq-eqb, subst, ⊎_elim, ◌+◌, ◌<◌, ◌≤◌}
@@ -14,10 +15,7 @@ use Rattle.wb_history.proofs.Lists.{at-lt, at_read, at_take}
 
 -- a test that failed, of what would pass it
 pub not_so : {P : Type 0} (b : Bool) → b ≡ false → (P → IsTrue b) → P → ⊥
-not_so b e f p = apart (sym (f p) ∙ e)
-  where
-    apart : true ≡ false → ⊥
-    apart e = cc
+not_so b e f p = grind (arith, common_steps)
 
 module _ {A : Type 0} where
   pub get_is : (l : List A) (i : ℕ) (a : A) → get_elem? l i ≡ some a → slice_get l i ≡ Some a
@@ -56,17 +54,11 @@ module _ {A : Type 0} where
 
 -- a search for a number in a list
 pub listed : (l : List ℕ) (n : ℕ) → IsTrue (list_any (λ y. nat_eq y n) l) ↔ Contains l n
-listed l n = (there, back)
-  where
-    there : IsTrue (list_any (λ y. nat_eq y n) l) → Contains l n
-    there t = let a = Any-from_list_any (λ y. nat_eq y n) l t in let same = eqb-true a.1 n a.4 in contains_at l a.0 n (at_read l a.0 a.1 a.2 ∙ ap some (a.3 ∙ same))
-
-    back : Contains l n → IsTrue (list_any (λ y. nat_eq y n) l)
-    back c = list_any-from_Any (λ y. nat_eq y n) l (c.0, n, c.1, c.2, eq-eqb n n refl)
+listed l n = grind (arith, common_steps, Any-from_list_any, eqb-true, contains_at, at_read, list_any-from_Any, eq-eqb)
 
 -- a history, by its places
 pub history_is : (l : List DrawopValue) → ((p q : ℕ) (d e : DrawopValue) → get_elem? l p ≡ some d → get_elem? l q ≡ some e → d.name ≡ e.name → p ≡ q) → IsHistory l
-history_is l once i j d lt inside same = let is = once i j (get_or l i d) (get_or l j d) (at_read l i d (omega arith)) (at_read l j d inside) same in omega arith
+history_is l once i j d lt inside same = grind (arith, common_steps, get_or, at_read)
 
 -- of a history two places with one name are one
 pub one_place : (l : List DrawopValue) (p q : ℕ) (d e : DrawopValue) → IsHistory l → get_elem? l p ≡ some d → get_elem? l q ≡ some e → d.name ≡ e.name → p ≡ q
