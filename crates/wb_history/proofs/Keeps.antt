@@ -1,4 +1,5 @@
 -- Each kind of step keeps the rule.
+use Rattle.std.proofs.lemmas.Grind.{common_steps}
 use Rattle.wb_history.specs.Sizes.{row_words}
 use Rattle.std.proofs.Common.{◌≡◌, ◌≢◌, ◌⊎◌, ℕ, zero, suc, ◌+◌, ◌-◌, ◌<◌, ◌≤◌, eqb, List, [], ◌∷◌, ◌++◌, map, length, get_or, set, refl, sym, ap, ◌∙◌, subst, inl, inr, ⊎_elim, arith, length-append, length-set, get_or-set_other, get_or-set_same, eq-eqb, ne_eqb, lt_of_not-le}
 use Rattle.std.proofs.lemmas.List.{length-map}
@@ -34,8 +35,7 @@ Board = State DrawopValue Knowledge
 
 seats : (P : ℕ → Knowledge → Type 0) (vs : List Knowledge) (me : ℕ) (w : Knowledge) → P me w → ((j : ℕ) (u : Knowledge) → j ≢ me → get_elem? vs j ≡ some u → P j u)
     → (j : ℕ) (u : Knowledge) → get_elem? (set vs me w) j ≡ some u → P j u
-seats P vs me w mine others j u e = ⊎_elim (λ (t : (j ≡ me) × (w ≡ u)). subst (λ (x : ℕ × Knowledge). P x.0 x.1) (λ i. (sym t.0 i, t.1 i)) mine)
-    (λ (t : (j ≢ me) × (get_elem? vs j ≡ some u)). others j u t.0 t.1) (at_set vs me j w u e)
+seats P vs me w mine others j u e = grind (arith, common_steps, at_set)
 
 apart_rows : (cells r q k l : ℕ) → r ≢ q → k < row_words → l < row_words → address cells r k ≢ address cells q l
 apart_rows cells r q k l ne a b e = ne (omega arith)
@@ -75,7 +75,7 @@ module _ (cells : ℕ) (s : Board) (r : Lawful cells s) where
     mine_at i k e = let below = (known.mine_is i k e).0 in let few_seen = seen_few in there r.rows k (omega arith)
 
     mine_row : (i a : ℕ) → get_elem? mine_rows i ≡ some a → (k : ℕ) × (get_elem? v.mine i ≡ some k) × (get_elem? r.rows k ≡ some a)
-    mine_row i a e = let b = at_map_back (λ k. get_or r.rows k 0) v.mine i a e in (b.0, b.1, subst (λ n. get_elem? r.rows b.0 ≡ some n) b.2 (mine_at i b.0 b.1))
+    mine_row i a e = grind (arith, at_map_back, get_or, mine_at)
 
     is_own : (i a : ℕ) → get_elem? own_rows i ≡ some a → (a < cells) × (r.owner a ≡ j)
     is_own i a e =
@@ -420,11 +420,7 @@ wins cells slots id m d q unspent inside last stored_is valid_d lacks s r at fou
 -- the pass lost the exchange
 losing : (cells : ℕ) (words : List ℕ) (log : List DrawopValue) (rows : List ℕ) (owner : ℕ → ℕ) (j : ℕ) (v : Knowledge) → Knows cells words log rows owner j v → (word found : ℕ)
     → (found ≡ 0) ⊎ ((q : ℕ) × (get_elem? rows (length v.seen) ≡ some q) × (q < cells) × (found ≡ suc q)) → Knows cells words log rows owner j (after_loss v word found)
-losing cells words log rows owner j v known word found holds = let base = looking_at cells words log rows owner j v known word found holds in record {
-  sees = known.sees;
-  owns = known.owns;
-  remembers = record { looks = base.looks; reads = λ k n e. absurd (at_nothing k n e); stores = known.stores };
-}
+losing cells words log rows owner j v known word found holds = grind (arith, common_steps, looking_at, looks, at_nothing)
 
 pub publishes : (cells slots id : ℕ) (m : Known) (word new : ℕ) (d : DrawopValue) (q : ℕ) → word ≡ length m.0.seen → new ≡ q + 1 → 0 < m.0.cells → length m.0.seen < m.0.cells
     → get_elem? m.0.free (length m.0.free - 1) ≡ some q → m.0.stored ≡ row d → IsDrawop d → (HoldsName m.0.seen d.name → ⊥)

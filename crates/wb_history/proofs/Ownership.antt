@@ -1,4 +1,5 @@
 -- A split and a join keep the rule.
+use Rattle.std.proofs.lemmas.Grind.{common_steps}
 use Rattle.std.proofs.Common.{◌≡◌, ◌≢◌, ◌⊎◌, ℕ, zero, suc, ◌+◌, ◌-◌, ◌≤◌, eqb, Bool, cond, List, [], ◌∷◌, length, get_or, set, drop, refl, sym, ap, ◌∙◌, subst, inl, inr, ⊎_elim, arith, length-append, length-set, eq-eqb, ne_eqb}
 use mathlib.Core.Logic.{dite}
 use mathlib.Core.Option.{some, some-injective}
@@ -97,11 +98,10 @@ splits cells id n v s r at =
     }
 
 pub longer_cases : {A : Type 0} (xs ys : List A) → ((longer xs ys ≡ xs) × (length ys ≤ length xs)) ⊎ ((longer xs ys ≡ ys) × (length xs ≤ length ys))
-longer_cases xs ys =
-    ⊎_elim (λ lt. inr (sym (cond_below (length xs) (length ys) ys xs lt), omega arith)) (λ ge. inl (sym (cond_above (length xs) (length ys) ys xs xs ge refl), ge)) (cases_lt (length xs) (length ys))
+longer_cases xs ys = grind (arith, common_steps, cond_below, cond_above, cases_lt)
 
 pub shorter_of : {A : Type 0} (P : List A → Type 0) (xs ys : List A) → P xs → P ys → P (shorter xs ys)
-shorter_of P xs ys p q = ⊎_elim (λ lt. subst P (cond_below (length xs) (length ys) xs ys lt) p) (λ ge. subst P (cond_above (length xs) (length ys) xs ys ys ge refl) q) (cases_lt (length xs) (length ys))
+shorter_of P xs ys p q = grind (arith, common_steps, cond_below, cond_above, cases_lt)
 
 -- the rows of one pass go to another
 moved : ℕ → ℕ → (ℕ → ℕ) → ℕ → ℕ
@@ -109,8 +109,7 @@ moved from to owner r = cond (eqb (owner r) from) to (owner r)
 
 moved_cases : (from to : ℕ) (owner : ℕ → ℕ) (r : ℕ) → ((owner r ≡ from) × (moved from to owner r ≡ to)) ⊎ ((owner r ≢ from) × (moved from to owner r ≡ owner r))
 unfolding moved
-moved_cases from to owner r = dite (ℕ_discrete (owner r) from) (λ is. inl (is, ap (λ (b : Bool). cond b to (owner r)) (eq-eqb (owner r) from is)))
-    (λ other. inr (other, ap (λ (b : Bool). cond b to (owner r)) (ne_eqb (owner r) from other)))
+moved_cases from to owner r = grind (arith, common_steps, cond, eq-eqb, ne_eqb)
 
 pub joins : (cells id : ℕ) (v : Knowledge) (other : ℕ) (w : Knowledge) → Joins (Lawful cells) id v other w (united v w) spent
 joins cells id v other w s r at apart at_other =

@@ -6,10 +6,6 @@ use Rattle.wb_history.proofs.Lists.{at-lt}
 use Rattle.wb_history.proofs.Walks.{stay, answered, walk_on, answer_on, free_end}
 use Rattle.wb_history.proofs.cells.CellTable.claim_with.Goals as goal
 
-pub returns-in-Some-clause-done : goal.returns-in-Some-clause-done
-returns-in-Some-clause-done c =
-    let a = c.in-Some.ensures in
-    (0, (omega arith), answered c.args.cursor.now c.args.drawop.now 0 c.args.cursor.now c.in-Some.claim [] (stay c.args.cursor.now c.requires.cursor.1) a)
 
 pub returns-in-Ok-Some-clause-done : goal.returns-in-Ok-Some-clause-done
 returns-in-Ok-Some-clause-done c =

@@ -36,15 +36,7 @@ load-requires-2 c =
     let done = length-some _ _ _ s.read (omega arith) in
     (i.0.0 ∙ c.requires.seat.0, omega arith, reads_last _ _ _ _ _ (omega arith) (omega arith) (omega arith) (let back : c.loop-i.seat.me.0.looking - 1 ≡ c.args.row = omega arith in omega arith))
 
-pub loop-i-init : goal.loop-i-init
-loop-i-init c = ((refl, refl, refl), refl, read_none _ (0 ∷ 0 ∷ 0 ∷ []) c.requires.row.2)
 
-pub loop-i-preserved : goal.loop-i-preserved
-loop-i-preserved c =
-    let i = c.loop-i.invariant in
-    let e = c.load.ensures in
-    let wide = i.1 in
-    ((e.0 ∙ i.0.0, e.1 ∙ i.0.1, e.2.0 ∙ i.0.2), length-set c.loop-i.words c.loop-i.i c.load.result ∙ i.1, read_one _ _ _ _ _ _ _ (omega arith) i.2 e.2.1)
 
 pub unreachable-requires : goal.unreachable-requires
 unreachable-requires c =

@@ -26,13 +26,3 @@ returns-clause-answer c =
     let at = sits c.self.inside.cells c.pass.inside.cursor c.self.view_is c.pass.view_is c.pass.invariant.0 c.requires.pass in
     let s = shown c.self.inside.cells.cells (record c.pass.inside.cursor { steps = 0 }) c.args.drawop.now c.claim_with.new.cursor c.claim_with.result (fresh c.pass.inside.cursor c.pass.invariant.0).0 at.1 c.claim_with.ensures.done in
     subst (λ (p : PassValue). MatchResult c.claim_with.result (Claimed p c.args.drawop.now (view_of c.claim_with.new.cursor)) (NotClaimed p c.args.drawop.now (view_of c.claim_with.new.cursor))) c.pass.view_is (from_there (view_of c.pass.inside.cursor) 0 c.args.drawop.now (view_of c.claim_with.new.cursor) c.claim_with.result s.1)
-
-pub returns-clause-few_steps : goal.returns-clause-few_steps
-returns-clause-few_steps c =
-    let s = shown_steps c.self.inside.cells.cells (record c.pass.inside.cursor { steps = 0 }) c.args.drawop.now c.claim_with.new.cursor c.claim_with.result refl c.claim_with.ensures.done in
-    subst (λ (p : PassValue). MatchResult c.claim_with.result (ClaimSteps p (view_of c.claim_with.new.cursor)) (FaultSteps p (view_of c.claim_with.new.cursor))) c.pass.view_is s
-
-pub returns-clause-known : goal.returns-clause-known
-returns-clause-known c held =
-    let known = c.claim_with.ensures.known (subst (λ (p : PassValue). HoldsName p.seen c.args.drawop.now.name) (sym c.pass.view_is) held) in
-    (known.0, ap view_of known.1 ∙ ap (λ (p : PassValue). record p { steps = 0 }) c.pass.view_is)

@@ -7,18 +7,8 @@ use Rattle.wb_history.proofs.Shows.{sound}
 use Rattle.wb_history.proofs.Words.{get_is}
 use Rattle.wb_history.proofs.pass.Pass.place_of.Goals as goal
 
-pub overflow_cast-result : goal.overflow_cast-result
-overflow_cast-result c =
-    let i = c.self.invariant in
-    let s = (sound c.self.inside.cursor i.0).room in
-    let few = i.0.3 in
-    let lt = c.in-Some.ensures.0 in
-    omega arith
 
 pub returns-in-Some : goal.returns-in-Some
 returns-in-Some c =
     let e = c.in-Some.ensures in
     subst (λ (p : PassValue). (x : DrawopValue) × (slice_get p.seen c.in-Some.place ≡ Some x) × (x.name ≡ c.args.name.now)) c.self.view_is (e.1, get_is c.self.inside.cursor.seen.items c.in-Some.place e.1 e.2, e.3)
-
-pub returns-in-None : goal.returns-in-None
-returns-in-None c = subst (λ (p : PassValue). HoldsName p.seen c.args.name.now → ⊥) c.self.view_is c.in-None.ensures
