@@ -15,7 +15,7 @@ use Rattle.wb_history.specs.declared.knowledge.Knowledge.{Knowledge}
 use Rattle.wb_names.specs.Values.{DrawopValue}
 use mathlib.Core.List.{IsPrefix}
 use Rattle.wb_history.specs.Lists.{Once}
-use Rattle.wb_names.specs.History.{IsHistory, HoldsName}
+use Rattle.wb_names.specs.History.{HoldsName}
 use Rattle.wb_names.specs.Arrivals.{Fresh}
 use Rattle.wb_names.proofs.Arrivals.{history_with-is}
 use Rattle.std.specs.Prelude.{Contains}

@@ -4,9 +4,8 @@ use Rattle.std.proofs.Common.{◌≡◌, ◌⊎◌, ℕ, zero, suc, ◌+◌, ◌
 use mathlib.Core.Option.{some, some-injective, some-ne-none}
 use lib.ListN.{get_elem?}
 use Rattle.indexmap.proofs.IndexTableLemmas.Probe.{pigeonhole}
-use Rattle.std.proofs.lemmas.Bool.{cases_lt, cond_below, cond_above}
 use mathlib.Core.List.{IsPrefix}
-use Rattle.wb_history.specs.Lists.{Once, longer}
+use Rattle.wb_history.specs.Lists.{Once}
 
 module _ {A : Type 0} where
   pub at-lt : (l : List A) (i : ℕ) (a : A) → get_elem? l i ≡ some a → i < length l
@@ -142,6 +141,3 @@ both_start (w ∷ ws) (x ∷ xs) (y ∷ ys) b c h =
 
     head_same : {A : Type 0} (x y : A) (xs ys : List A) → x ∷ xs ≡ y ∷ ys → x ≡ y
     head_same x y xs ys e = cc
-
-pub longer_is : {A : Type 0} (xs ys : List A) → IsPrefix xs ys → longer xs ys ≡ ys
-longer_is xs ys b = grind (arith, common_steps)

@@ -7,7 +7,7 @@ use native.Mathlib.Decide.{ℕ_discrete}
 use lib.ListN.{get_elem?}
 use Rattle.std.proofs.lemmas.Bool.{cases_lt, cond_below, cond_above}
 use Rattle.atomic_table.specs.Table.{State, Splits, Joins}
-use Rattle.atomic_table.proofs.Lists.{at_set, at_longer}
+use Rattle.atomic_table.proofs.Lists.{at_set}
 use Rattle.wb_history.specs.declared.knowledge.Knowledge.{Knowledge}
 use Rattle.wb_names.specs.Values.{DrawopValue}
 use mathlib.Core.List.{IsPrefix}
@@ -16,7 +16,7 @@ use Rattle.std.proofs.lemmas.List.Elements.{Contains-append_left, Contains-appen
 use Rattle.wb_history.specs.Views.{left_part, right_part, united, spent}
 use Rattle.wb_history.specs.Lawful.{Knows, Lawful}
 use Rattle.wb_history.proofs.Rows.{nothing_remembered}
-use Rattle.wb_history.proofs.Lists.{at-lt, at_nothing, at_append, at_end, at_after, at_take, at_drop, once_nothing, once_append, once_take, once_drop, starts-le, there}
+use Rattle.wb_history.proofs.Lists.{at-lt, at_nothing, at_append, at_end, at_take, at_drop, once_nothing, once_append, once_take, once_drop, starts-le, there}
 
 abbrev Board : Type 0
 Board = State DrawopValue Knowledge

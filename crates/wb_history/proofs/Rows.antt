@@ -1,17 +1,15 @@
 -- What a pass knows while it reads or stores a row.
 use Rattle.std.proofs.lemmas.Grind.{common_steps}
 use Rattle.wb_history.specs.Sizes.{row_words}
-use Rattle.std.proofs.Common.{◌≡◌, ℕ, ◌+◌, ◌-◌, ◌<◌, ◌≤◌, List, [], ◌∷◌, ◌++◌, length, take, get_or, set, refl, sym, ap, ◌∙◌, subst, arith, length-append, length-set, length-take-le}
-use Rattle.std.proofs.lemmas.List.{take_more, take_more_set}
+use Rattle.std.proofs.Common.{◌≡◌, ℕ, ◌+◌, ◌-◌, ◌≤◌, List, [], ◌∷◌, ◌++◌, length, take, set, refl, sym, ap, ◌∙◌, subst, arith, length-set, length-take-le}
+use Rattle.std.proofs.lemmas.List.{take_more_set}
 use mathlib.Core.Option.{some}
 use lib.ListN.{get_elem?}
 use Rattle.wb_history.specs.declared.knowledge.Knowledge.{Knowledge}
 use Rattle.wb_names.specs.Values.{DrawopValue}
 use Rattle.wb_codec.specs.Rows.{row}
-use Rattle.wb_codec.proofs.RowLaws.{row_length}
 use Rattle.wb_history.specs.Lawful.{Remembers}
-use Rattle.wb_history.proofs.Lists.{at_nothing}
-use Rattle.wb_history.specs.Views.{after_read, after_member, after_store, IsMember, IsStored}
+use Rattle.wb_history.specs.Views.{after_member, IsMember}
 
 take_all : (xs : List ℕ) → take (length xs) xs ≡ xs
 take_all [] = refl
@@ -38,20 +36,10 @@ last_free free free' r same at = subst (λ (l : List ℕ). get_elem? l (length l
 pub length-some : (l words : List ℕ) (i : ℕ) → l ≡ take i words → i ≤ length words → length l ≡ i
 length-some l words i e h = ap length e ∙ length-take-le i words h
 
-pub store_none : (v : Knowledge) (words : List ℕ) → v.stored ≡ [] → IsStored v (take 0 words) v
-store_none v words none = record { cells = refl; seen = refl; mine = refl; free = refl; stored = none; made = omega arith }
 
-pub store_one : (v w w' : Knowledge) (word : ℕ) (words : List ℕ) (i : ℕ) → i < length words → IsStored v (take i words) w → w' ≡ after_store w word (get_or words i 0) → IsStored v (take (i + 1) words) w'
-store_one v w w' word words i h s e = grind (arith, common_steps)
 
-pub store_all : (v w : Knowledge) (words : List ℕ) (d : DrawopValue) (i : ℕ) → i ≡ row_words → words ≡ row d → IsStored v (take i words) w → IsStored v (row d) w
-store_all v w words d i i_is is s = grind (arith, common_steps)
 
-pub read_none : (v : Knowledge) (words : List ℕ) → v.read ≡ [] → ReadSo v (take 0 words) v
-read_none v words none = record { cells = refl; seen = refl; mine = refl; free = refl; stored = refl; looking = refl; read = none; made = omega arith }
 
-pub read_one : (v w w' : Knowledge) (word : ℕ) (words : List ℕ) (i found : ℕ) → i < length words → ReadSo v (take i words) w → w' ≡ after_read w word found → ReadSo v (take (i + 1) (set words i found)) w'
-read_one v w w' word words i found h s e = grind (arith, common_steps)
 
 -- the last word was read, and the words are the record of d
 pub read_row_is : (w : Knowledge) (words : List ℕ) (found : ℕ) (d : DrawopValue) (i : ℕ) → i + 1 ≡ row_words → length words ≡ row_words → w.read ≡ take i words → row d ≡ w.read ++ found ∷ [] → row d ≡ set words (row_words - 1) found

@@ -1,7 +1,7 @@
 -- What the parts of a pass show of it.
 use Rattle.std.proofs.lemmas.Grind.{common_steps}
 use Rattle.wb_history.specs.Sizes.{member_steps}
-use Rattle.std.proofs.Common.{◌≡◌, ℕ, ◌+◌, ◌-◌, ◌*◌, ◌<◌, ◌≤◌, List, [], ◌∷◌, ◌++◌, length, refl, sym, ap, ◌∙◌, subst, inl, inr, ⊎_elim, arith, length-append, length-take-le, append_assoc}
+use Rattle.std.proofs.Common.{◌≡◌, ℕ, ◌+◌, ◌-◌, ◌*◌, ◌<◌, ◌≤◌, List, [], ◌∷◌, ◌++◌, length, refl, sym, ap, ◌∙◌, subst, ⊎_elim, arith, length-append, length-take-le, append_assoc}
 use Rattle.std.proofs.lemmas.List.{append-nil}
 use Rattle.std.proofs.Common.{Result, Ok, Err, OnOk, OnErr, MatchResult}
 use Rattle.std.specs.Prelude.{replicate, All, Contains}
@@ -30,7 +30,7 @@ use Rattle.wb_history.specs.declared.cells.CellTable.{CellTable}
 use Rattle.wb_history.specs.Seats.{SitsAt, SameSeat}
 use Rattle.wb_history.proofs.Lists.{few}
 use Rattle.wb_history.specs.Cursors.{InOrder, Walked, Won, AtEnd, Answered, Refused}
-use Rattle.wb_history.specs.Passes.{HistoryValue, PassValue, IsPassOf, IsWhole, KeepsRows, AddsNothing, IsSound, IsCaughtUp, ReadsOn}
+use Rattle.wb_history.specs.Passes.{HistoryValue, PassValue, IsPassOf, IsWhole, AddsNothing, IsSound, IsCaughtUp, ReadsOn}
 use Rattle.wb_history.specs.Replies.{IsAdded, Claimed, NotClaimed, ClaimSteps, FaultSteps}
 use Rattle.wb_codec.specs.Ranges.{IsDrawop}
 use Rattle.wb_history.proofs.Words.{get_is, none_before, pairs_are, all_are}
@@ -89,8 +89,6 @@ owns h o all = let b = ap length o.free in let d = ap length o.mine in omega ari
 pub starts : (h : Cursor) (more : List DrawopValue) (k : ℕ) (h' : Cursor) → Walked h more k h' → IsPrefix h.seen.items h'.seen.items
 starts h more k h' w = (more, sym w.seen)
 
-keeps_rows : (h : Cursor) (more : List DrawopValue) (k : ℕ) (h' : Cursor) → Walked h more k h' → KeepsRows (view_of h) (view_of h')
-keeps_rows h more k h' w = (w.mine, ap length w.free)
 
 adds_nothing : (h : Cursor) (more : List DrawopValue) (k : ℕ) (h' : Cursor) → InOrder h → Walked h more k h' → AddsNothing (view_of h) (view_of h')
 adds_nothing h more k h' o w = grind (arith, common_steps)
@@ -215,8 +213,3 @@ claim_steps h d extra h' (Clash i) none few s = let t = s.1.steps in let b = bro
 fault_steps : (cells : ℕ) (h : Cursor) (d : DrawopValue) (h' : Cursor) (f : ClaimFault) → h.steps ≡ 0 → Refused cells h d h' f → FaultSteps (view_of h) (view_of h') f
 fault_steps cells h d h' NoRow none r = ⊎_elim (λ x. let t = x.0.steps in let b = brought_is h r.0 1 h' x.0 in omega arith) (λ x. let t = x.0.steps in let b = brought_is h r.0 0 h' x.0 in omega arith) r.1
 fault_steps cells h d h' Memory none r = let t = r.3.steps in let few = r.2 in let b = brought_is h r.0 r.1 h' r.3 in omega arith
-
-pub shown_steps : (cells : ℕ) (h : Cursor) (d : DrawopValue) (h' : Cursor) (r : Result Claim ClaimFault) → h.steps ≡ 0 → MatchResult r (λ c. (extra : ℕ) × (extra ≤ member_steps) × Answered h d extra h' c) (Refused cells h d h')
-    → MatchResult r (ClaimSteps (view_of h) (view_of h')) (FaultSteps (view_of h) (view_of h'))
-shown_steps cells h d h' (Ok c) none m = claim_steps h d m.0 h' c none m.1 m.2
-shown_steps cells h d h' (Err f) none m = fault_steps cells h d h' f none m

@@ -1,34 +1,26 @@
 -- Two cursors, and two passes, that become one.
 use Rattle.std.proofs.lemmas.Grind.{common_steps}
-use Rattle.std.proofs.Common.{◌≡◌, ℕ, ◌+◌, ◌<◌, ◌≤◌, List, [], ◌++◌, length, refl, sym, ap, ◌∙◌, subst, ⊎_elim, arith, length-append}
-use Rattle.std.proofs.lemmas.List.{append-nil}
-use Rattle.std.proofs.lemmas.Bool.{cases_lt, cond_below, cond_above}
+use Rattle.std.proofs.Common.{◌≡◌, ℕ, ◌+◌, List, ◌++◌, length, ap, ◌∙◌, subst, arith, length-append}
 use Rattle.std.specs.Prelude.{Contains}
 use Rattle.atomic_table.proofs.Lists.{at_longer}
-use Rattle.wb_history.proofs.Lists.{at_read, at_after, both_start}
+use Rattle.wb_history.proofs.Lists.{at_read, at_after}
 use mathlib.Core.Option.{some, none}
 use mathlib.Core.List.{IsPrefix}
 use Rattle.atomic_table.specs.Table.{Me, step}
 use Rattle.wb_names.specs.Values.{DrawopValue}
 use Rattle.wb_history.specs.declared.knowledge.Knowledge.{Knowledge}
 use Rattle.wb_history.specs.declared.cursor.Cursor.{Cursor}
-use Rattle.wb_history.specs.Lists.{Once, longer, shorter}
+use Rattle.wb_history.specs.Lists.{Once, longer}
 use Rattle.wb_history.specs.Cursors.{InOrder, United}
 use Rattle.wb_history.specs.Plays.{confirmed}
 use Rattle.wb_history.specs.Sharing.{IsJoined}
-use Rattle.wb_history.specs.Passes.{PassValue, IsTold, KeepsRows}
+use Rattle.wb_history.specs.Passes.{PassValue}
 use Rattle.wb_history.specs.Shown.{view_of}
-use Rattle.wb_history.specs.Views.{united, after_confirm}
+use Rattle.wb_history.specs.Views.{united}
 
-pub second_longer : {A : Type 0} (xs ys : List A) → length xs < length ys → longer xs ys ≡ ys
-second_longer xs ys lt = sym (cond_below (length xs) (length ys) ys xs lt)
 
-pub first_longer : {A : Type 0} (xs ys : List A) → length ys ≤ length xs → longer xs ys ≡ xs
-first_longer xs ys ge = sym (cond_above (length xs) (length ys) ys xs xs ge refl)
 
 -- the longer of two lists begins with each, where it begins with the shorter
-both_begin : (xs ys : List DrawopValue) → (length (shorter xs ys) ≤ length (longer xs ys) → IsPrefix (shorter xs ys) (longer xs ys)) → IsPrefix xs (longer xs ys) × IsPrefix ys (longer xs ys)
-both_begin xs ys h = grind (arith, common_steps)
 
 -- of the lists of two seats that were united each begins the longer, as a load tells
 begins : (h : Cursor) (w : Knowledge) (u : Me DrawopValue Knowledge) (word found : ℕ) (m : Me DrawopValue Knowledge) → InOrder h → u.0 ≡ united h.seat.me.0 w → confirmed (step 0 word 0 0 none) u found m
@@ -36,14 +28,8 @@ begins : (h : Cursor) (w : Knowledge) (u : Me DrawopValue Knowledge) (word found
 begins h w u word found m o is told = grind (arith, common_steps)
 
 -- the cursor has seen a front of what the other has, where that is no shorter
-pub told_front : (h : Cursor) (w : Knowledge) (u : Me DrawopValue Knowledge) (word found : ℕ) (m : Me DrawopValue Knowledge) → InOrder h → u.0 ≡ united h.seat.me.0 w → confirmed (step 0 word 0 0 none) u found m → length h.seen.items ≤ length w.seen
-    → IsPrefix h.seen.items w.seen
-told_front h w u word found m o is told few = grind (arith, common_steps)
 
 -- the cursor after its seat took in the other, and a load told what the join did not
-pub took_in : (h : Cursor) (w : Knowledge) (h' : Cursor) (u : Me DrawopValue Knowledge) (word found : ℕ) → InOrder h → u.1 ≡ h.seat.me.1 → u.0 ≡ united h.seat.me.0 w → confirmed (step 0 word 0 0 none) u found h'.seat.me
-    → h'.seat.table_id ≡ h.seat.table_id → h'.seat.id ≡ h.seat.id → h'.seen.items ≡ longer h.seen.items w.seen → h'.mine.items ≡ h.mine.items ++ w.mine → h'.free.items ≡ h.free.items ++ w.free → h'.steps ≡ h.steps → United h w h'
-took_in h w h' u word found o slots is told table id seen mine free steps = grind (arith, common_steps)
 
 -- where no element of two lists together stands twice, they share none
 shared_none : (xs ys : List ℕ) → Once (xs ++ ys) → (i : ℕ) → Contains xs i → Contains ys i → ⊥
@@ -75,9 +61,5 @@ joined p q h g h' is_p is_q o u = subst (λ (v : PassValue). IsJoined v q (view_
     long = omega (arith, length-append h.free.items g.seat.me.0.free, ap length o.free)
 
 -- a pass that took in one with no rows and no places keeps its own
-pub keeps_own : (p q r : PassValue) → q.mine ≡ [] → q.free ≡ 0 → IsJoined p q r → KeepsRows p r
-keeps_own p q r no_place no_row j = (j.mine ∙ (ap (λ (l : List ℕ). p.mine ++ l) no_place ∙ append-nil p.mine), let f = j.free in omega arith)
 
 -- a pass that stays as it was
-pub unchanged : (p q : PassValue) → q ≡ p → IsTold p q
-unchanged p q e = subst (IsTold p) (sym e) record { same = (refl, refl); rows = (refl, refl); grows = ([], append-nil p.seen); steps = refl }

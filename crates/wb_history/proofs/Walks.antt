@@ -1,8 +1,7 @@
 -- Walks of a cursor along the history.
 use Rattle.std.proofs.lemmas.Grind.{common_steps}
 use Rattle.wb_history.specs.Sizes.{member_steps}
-use Rattle.std.proofs.Common.{◌≡◌, ◌≢◌, ℕ, ◌+◌, ◌-◌, ◌*◌, ◌<◌, ◌≤◌, List, [], ◌∷◌, ◌++◌, length, refl, sym, ap, ◌∙◌, subst, inl, inr, ⊎_elim, arith, length-append, append_assoc}
-use Rattle.std.proofs.lemmas.List.{append-nil}
+use Rattle.std.proofs.Common.{◌≡◌, ◌≢◌, ℕ, ◌+◌, ◌*◌, ◌<◌, ◌≤◌, List, [], ◌∷◌, ◌++◌, length, refl, ap, subst, arith, length-append}
 use Rattle.wb_names.specs.Values.{NameValue, DrawopValue}
 use Rattle.wb_history.specs.declared.cursor.Cursor.{Cursor}
 use Rattle.wb_history.specs.declared.cells.CellTable.{CellTable}
@@ -11,16 +10,11 @@ use Rattle.wb_history.specs.Cursors.{InOrder, Walked, AtEnd, FoundFree, Won, Tel
 use Rattle.wb_history.specs.declared.claim.Claim.{Claim}
 use Rattle.wb_history.specs.declared.claim.Claim.TheVariants.{Added, Present, Clash}
 use Rattle.wb_history.specs.Seats.{SitsAt}
-use Rattle.wb_history.specs.Views.{HasAllRows}
-use Rattle.wb_history.proofs.Lists.{at_end, at-lt}
-use Rattle.wb_history.proofs.Words.{member_named, named_at, one_place}
+use Rattle.wb_history.proofs.Lists.{at-lt}
+use Rattle.wb_history.proofs.Words.{named_at, one_place}
 use Rattle.atomic_table.proofs.Lists.{at_longer, at_last}
 
-pub stay : (h : Cursor) → InOrder h → Walked h [] 0 h
-stay h o = grind (arith, common_steps)
 
-owns_still : (h : Cursor) (a : List DrawopValue) (k : ℕ) (h' : Cursor) → InOrder h → Walked h a k h' → HasAllRows h.seat.me.0 → HasAllRows h'.seat.me.0
-owns_still h a k h' o w all = grind (arith, common_steps)
 
 pub walk_on : (h : Cursor) (a b : List DrawopValue) (j k : ℕ) (h' h'' : Cursor) → InOrder h → Walked h a j h' → Walked h' b k h'' → Walked h (a ++ b) (j + k) h''
 walk_on h a b j k h' h'' o v w = grind (arith, common_steps)
@@ -28,12 +22,8 @@ walk_on h a b j k h' h'' o v w = grind (arith, common_steps)
 pub win_on : (h : Cursor) (a b : List DrawopValue) (d : DrawopValue) (place j k : ℕ) (h' h'' : Cursor) → InOrder h → Walked h a j h' → Won h' b d place k h'' → Won h (a ++ b) d place (j + k) h''
 win_on h a b d place j k h' h'' o v w = grind (arith, common_steps)
 
-pub sits_still : (t : CellTable) (h : Cursor) (a : List DrawopValue) (k : ℕ) (h' : Cursor) → SitsAt t h.seat → Walked h a k h' → SitsAt t h'.seat
-sits_still t h a k h' s w = (w.seat.0 ∙ s.0, w.cells ∙ s.1)
 
 -- a cursor has not seen more than all cells
-pub seen_within : (t : CellTable) (h : Cursor) → InOrder h → SitsAt t h.seat → length h.seen.items + length h.free.items ≤ t.cells
-seen_within t h o s = let room = o.consistent.room in let c = s.1 in let a = ap length o.seen in let b = ap length o.free in omega arith
 
 pub few_steps : (h : Cursor) (a : List DrawopValue) (h' : Cursor) → h.steps ≡ 0 → Walked h a 0 h' → h'.steps ≤ member_steps * length h'.seen.items
 few_steps h a h' none w = let s = w.steps in let l = ap length w.seen in omega (arith, length-append h.seen.items a)
@@ -41,8 +31,6 @@ few_steps h a h' none w = let s = w.steps in let l = ap length w.seen in omega (
 pub lacks_more : (l : List DrawopValue) (d : DrawopValue) (name : NameValue) → (HoldsName l name → ⊥) → d.name ≢ name → HoldsName (l ++ d ∷ []) name → ⊥
 lacks_more l d name lacks other held = grind (arith, common_steps)
 
-pub nearer : (t : CellTable) (h : Cursor) (d : DrawopValue) (h' : Cursor) → InOrder h → SitsAt t h.seat → Walked h (d ∷ []) 0 h' → t.cells - length h'.seen.items < t.cells - length h.seen.items
-nearer t h d h' o s w = grind (arith, common_steps)
 
 pub answered : (h : Cursor) (d : DrawopValue) (extra : ℕ) (h' : Cursor) (c : Claim) (more : List DrawopValue) → Walked h more extra h' → TellsNamesake h'.seen.items d c → Answered h d extra h' c
 answered h d extra h' (Added i) more w a = absurd a

@@ -1,11 +1,9 @@
 -- What stands at a place of a list, in the words of this crate's rule and in those of its public clauses.
 use Rattle.std.proofs.lemmas.Grind.{common_steps}
-use Rattle.std.proofs.Common.{◌≡◌, ◌≢◌, ℕ, zero, suc, List, [], ◌∷◌, get_or, refl, sym, ap, ◌∙◌, arith, Some, None, Bool, true, false, IsTrue}
-use Rattle.std.specs.List.{list_any}
-use Rattle.std.proofs.Common.{eqb-true, eq-eqb, subst, ⊎_elim, ◌+◌, ◌<◌, ◌≤◌}
+use Rattle.std.proofs.Common.{◌≡◌, ◌≢◌, ℕ, zero, suc, List, [], ◌∷◌, get_or, sym, ap, ◌∙◌, arith, Some, Bool, false, IsTrue}
+use Rattle.std.proofs.Common.{subst, ⊎_elim, ◌<◌, ◌≤◌}
 use Rattle.std.proofs.lemmas.Bool.{cases_lt}
-use Rattle.std.proofs.lemmas.List.Folds.{Any-from_list_any, list_any-from_Any}
-use Rattle.std.specs.Prelude.{nat_eq, ◌↔◌, All, AllPairs, Contains, slice_get, take}
+use Rattle.std.specs.Prelude.{All, AllPairs, Contains, slice_get, take}
 use mathlib.Core.Option.{some, some-injective, some-ne-none}
 use lib.ListN.{get_elem?}
 use Rattle.wb_names.specs.Values.{NameValue, DrawopValue}
@@ -23,16 +21,6 @@ module _ {A : Type 0} where
   get_is (x ∷ xs) zero a e = ap Some (some-injective x a e)
   get_is (x ∷ xs) (suc i) a e = get_is xs i a e
 
-  pub elem_is : (l : List A) (i : ℕ) (a : A) → slice_get l i ≡ Some a → get_elem? l i ≡ some a
-  elem_is [] i a e = absurd (never e)
-    where
-      never : None ≡ Some a → ⊥
-      never h = cc
-  elem_is (x ∷ xs) zero a e = ap some (same e)
-    where
-      same : Some x ≡ Some a → x ≡ a
-      same h = cc
-  elem_is (x ∷ xs) (suc i) a e = elem_is xs i a e
 
   pub read_is : (l : List A) (i : ℕ) (a d : A) → get_elem? l i ≡ some a → get_or l i d ≡ a
   read_is l i a d e = some-injective (get_or l i d) a (sym (at_read l i d (at-lt l i a e)) ∙ e)
@@ -53,8 +41,6 @@ module _ {A : Type 0} where
   all_at P l i a all e = subst P (read_is l i a a e) (all i a (at-lt l i a e))
 
 -- a search for a number in a list
-pub listed : (l : List ℕ) (n : ℕ) → IsTrue (list_any (λ y. nat_eq y n) l) ↔ Contains l n
-listed l n = grind (arith, common_steps, Any-from_list_any, eqb-true, contains_at, at_read, list_any-from_Any, eq-eqb)
 
 -- a history, by its places
 pub history_is : (l : List DrawopValue) → ((p q : ℕ) (d e : DrawopValue) → get_elem? l p ≡ some d → get_elem? l q ≡ some e → d.name ≡ e.name → p ≡ q) → IsHistory l

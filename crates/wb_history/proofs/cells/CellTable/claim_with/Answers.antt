@@ -1,9 +1,9 @@
 use Rattle.wb_history.specs.Sizes.{row_words, member_steps}
-use Rattle.std.proofs.Common.{◌+◌, [], ◌++◌, arith, subst, Option}
+use Rattle.std.proofs.Common.{◌+◌, ◌++◌, arith, subst, Option}
 use Rattle.wb_history.specs.declared.claim.Claim.{Claim}
 use Rattle.wb_history.specs.Cursors.{Sought}
 use Rattle.wb_history.proofs.Lists.{at-lt}
-use Rattle.wb_history.proofs.Walks.{stay, answered, walk_on, answer_on, free_end}
+use Rattle.wb_history.proofs.Walks.{answered, walk_on, answer_on, free_end}
 use Rattle.wb_history.proofs.cells.CellTable.claim_with.Goals as goal
 
 

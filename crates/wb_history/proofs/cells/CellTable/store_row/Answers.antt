@@ -1,6 +1,6 @@
-use Rattle.std.proofs.Common.{◌∙◌, refl, arith}
+use Rattle.std.proofs.Common.{◌∙◌, arith}
 use Rattle.wb_history.proofs.Keeps.{stores_word}
-use Rattle.wb_history.proofs.Rows.{store_none, store_one, store_all, last_free, length-some}
+use Rattle.wb_history.proofs.Rows.{last_free, length-some}
 use Rattle.wb_history.proofs.cells.CellTable.store_row.Goals as goal
 
 pub store-requires : goal.store-requires

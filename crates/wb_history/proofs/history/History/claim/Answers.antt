@@ -1,11 +1,10 @@
-use Rattle.std.proofs.Common.{refl, sym, ap, ◌∙◌, subst, MatchResult}
+use Rattle.std.proofs.Common.{sym, ◌∙◌, subst, MatchResult}
 use mathlib.Core.List.{IsPrefix}
 use Rattle.wb_history.specs.Passes.{PassValue}
-use Rattle.wb_history.specs.Replies.{Claimed, NotClaimed, ClaimSteps, FaultSteps}
-use Rattle.wb_names.specs.History.{HoldsName}
+use Rattle.wb_history.specs.Replies.{Claimed, NotClaimed}
 use Rattle.wb_history.proofs.Fronts.{fronts_on}
 use Rattle.wb_history.specs.Shown.{view_of}
-use Rattle.wb_history.proofs.Shows.{from_there, shown, shown_steps, fresh, sits, sound, held_after}
+use Rattle.wb_history.proofs.Shows.{from_there, shown, fresh, sits, sound, held_after}
 use Rattle.wb_history.proofs.history.History.claim.Goals as goal
 
 pub invariant_of-pass : goal.invariant_of-pass

@@ -1,9 +1,7 @@
-use Rattle.std.proofs.Common.{◌≡◌, subst, arith, Some}
+use Rattle.std.proofs.Common.{◌≡◌, subst, Some}
 use Rattle.std.specs.Prelude.{slice_get}
 use Rattle.wb_names.specs.Values.{DrawopValue}
-use Rattle.wb_names.specs.History.{HoldsName}
 use Rattle.wb_history.specs.Passes.{PassValue}
-use Rattle.wb_history.proofs.Shows.{sound}
 use Rattle.wb_history.proofs.Words.{get_is}
 use Rattle.wb_history.proofs.pass.Pass.place_of.Goals as goal
 
