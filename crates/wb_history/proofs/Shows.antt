@@ -204,12 +204,3 @@ reads_on h more k h' few is i w =
       steps = omega arith;
       few_steps = omega arith;
     }
-
-claim_steps : (h : Cursor) (d : DrawopValue) (extra : ℕ) (h' : Cursor) (c : Claim) → h.steps ≡ 0 → extra ≤ member_steps → Answered h d extra h' c → ClaimSteps (view_of h) (view_of h') c
-claim_steps h d extra h' (Added i) none few s = let w = s.1 in let t = w.steps in let at = w.at in let back : i - length h.seen.items ≡ length s.0 = omega arith in omega arith
-claim_steps h d extra h' (Present i) none few s = let t = s.1.steps in let b = brought_is h s.0 extra h' s.1 in omega arith
-claim_steps h d extra h' (Clash i) none few s = let t = s.1.steps in let b = brought_is h s.0 extra h' s.1 in omega arith
-
-fault_steps : (cells : ℕ) (h : Cursor) (d : DrawopValue) (h' : Cursor) (f : ClaimFault) → h.steps ≡ 0 → Refused cells h d h' f → FaultSteps (view_of h) (view_of h') f
-fault_steps cells h d h' NoRow none r = ⊎_elim (λ x. let t = x.0.steps in let b = brought_is h r.0 1 h' x.0 in omega arith) (λ x. let t = x.0.steps in let b = brought_is h r.0 0 h' x.0 in omega arith) r.1
-fault_steps cells h d h' Memory none r = let t = r.3.steps in let few = r.2 in let b = brought_is h r.0 r.1 h' r.3 in omega arith

@@ -25,8 +25,6 @@ module _ {A : Type 0} where
   pub read_is : (l : List A) (i : ℕ) (a d : A) → get_elem? l i ≡ some a → get_or l i d ≡ a
   read_is l i a d e = some-injective (get_or l i d) a (sym (at_read l i d (at-lt l i a e)) ∙ e)
 
-  pub contains_at : (l : List A) (i : ℕ) (a : A) → get_elem? l i ≡ some a → Contains l a
-  contains_at l i a e = (i, at-lt l i a e, read_is l i a a e)
 
   pub at_contained : (l : List A) (a : A) → Contains l a → (i : ℕ) × (get_elem? l i ≡ some a)
   at_contained l a c = (c.0, at_read l c.0 a c.1 ∙ ap some c.2)

@@ -1,3 +1,4 @@
+use Rattle.std.proofs.lemmas.Grind.{common_steps}
 use Rattle.std.proofs.Common.{get_or, arith}
 use Rattle.wb_history.specs.declared.ranges.RowRange.{RowRange}
 use Rattle.wb_history.proofs.Lists.{at_read}
@@ -8,13 +9,7 @@ abbrev none : RowRange
 none = record { first = 0; count = 0 }
 
 pub returns-then-left-range-clause-inside : goal.returns-then-left-range-clause-inside
-returns-then-left-range-clause-inside c =
-    let below = c.loop-i-test.true in
-    (omega arith, λ some_rows. (get_or c.args.ranges.now c.loop-i.i none, at_read c.args.ranges.now c.loop-i.i none below, c.if-left-range.true))
+returns-then-left-range-clause-inside c = grind (arith, common_steps, get_or, at_read)
 
 pub loop-i-preserved : goal.loop-i-preserved
-loop-i-preserved c =
-    let more = rows_more c.args.ranges.now c.loop-i.i none c.loop-i-test.true in
-    let so_far = c.loop-i.invariant in
-    let enough = c.if-left-range.false in
-    omega arith
+loop-i-preserved c = grind (arith, common_steps, rows_more)

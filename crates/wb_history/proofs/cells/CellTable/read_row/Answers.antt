@@ -1,3 +1,4 @@
+use Rattle.std.proofs.lemmas.Grind.{common_steps}
 use Rattle.std.proofs.Common.{◌≡◌, ◌∙◌, ◌-◌, subst, arith, Some, None}
 use Rattle.wb_history.proofs.Keeps.{reads_word, reads_last}
 use Rattle.wb_history.proofs.Rows.{read_all, read_row_is, length-some}
@@ -39,23 +40,10 @@ load-requires-2 c =
 
 
 pub unreachable-requires : goal.unreachable-requires
-unreachable-requires c =
-    let i = c.loop-i.invariant in
-    let m = c.load-2.ensures.2.1 in
-    let f = c.loop-i-test.false in
-    no_other m.0 (c.in-None.ensures.only m.0 m.2 (read_row_is c.loop-i.seat.me.0 _ _ _ c.loop-i.i (omega arith) i.1 i.2.read m.1))
-  where
-    no_other : (d : DrawopValue) → None ≡ Some d → ⊥
-    no_other d e = cc
+unreachable-requires c = grind (arith, common_steps, read_row_is)
 
 same_some : (d e : DrawopValue) → Some e ≡ Some d → d ≡ e
 same_some d e h = cc
 
 pub returns : goal.returns
-returns c =
-    let i = c.loop-i.invariant in
-    let e = c.load-2.ensures in
-    let m = e.2.1 in
-    let f = c.loop-i-test.false in
-    let same = same_some m.0 c.in-Some.drawop (c.in-Some.ensures.only m.0 m.2 (read_row_is c.loop-i.seat.me.0 _ _ _ c.loop-i.i (omega arith) i.1 i.2.read m.1)) in
-    record { seat = (e.0 ∙ i.0.0, e.1 ∙ i.0.1, e.2.0 ∙ i.0.2); member = (subst (λ (d : DrawopValue). IsMember c.args.seat.now.me.0 d c.load-2.new.seat.me.0) same (read_all _ _ _ _ _ _ c.loop-i.i m.0 (omega arith) i.1 i.2 m.3), c.in-Some.ensures.found.1, e.2.2) }
+returns c = grind (arith, common_steps, same_some, read_row_is, read_all)
