@@ -31,7 +31,7 @@ use Rattle.wb_history.specs.Seats.{SitsAt, SameSeat}
 use Rattle.wb_history.proofs.Lists.{few}
 use Rattle.wb_history.specs.Cursors.{InOrder, Walked, Won, AtEnd, Answered, Refused}
 use Rattle.wb_history.specs.Passes.{HistoryValue, PassValue, IsPassOf, IsWhole, AddsNothing, IsSound, IsCaughtUp, ReadsOn}
-use Rattle.wb_history.specs.Replies.{IsAdded, Claimed, NotClaimed, ClaimSteps, FaultSteps}
+use Rattle.wb_history.specs.Replies.{IsAdded, Claimed, NotClaimed}
 use Rattle.wb_codec.specs.Ranges.{IsDrawop}
 use Rattle.wb_history.proofs.Words.{get_is, none_before, pairs_are, all_are}
 use Rattle.wb_history.specs.Shown.{history_of, view_of, IsHeld}

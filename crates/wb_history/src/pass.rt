@@ -39,6 +39,7 @@ impl Model for Pass {
 
 impl Pass {
     /// The drawops that it has seen, in order of place.
+    #[tactic(auto, using(crate::proofs::Shows::sound))]
     pub fn list(&self) -> &[Drawop]
         ensures value { result.now ≡ self.now.seen }
         ensures sound { IsSound self.now }
@@ -76,6 +77,7 @@ impl Pass {
     }
 
     /// The number of rows that it owns and has not used.
+    #[tactic(auto, using(crate::proofs::Shows::sound))]
     pub fn rows_left(&self) -> u32
         ensures value { result ≡ self.now.free }
         ensures sound { IsSound self.now }

@@ -135,6 +135,7 @@ impl Rows {
 
 /// The range that so many rows reach into, and how many of its rows they take; past the last range if
 /// they are all rows.
+#[tactic(auto, using(crate::proofs::RowLists::rows_more, crate::proofs::Lists::at_read))]
 fn place_of(ranges: &[RowRange], rows: u32) -> (usize, u32)
     requires { rows ≤ length (rows_in ranges.now) }
     ensures before { length (rows_in (take result.0 ranges.now)) + result.1 ≡ rows }

@@ -1,9 +1,8 @@
 use Rattle.std.proofs.lemmas.Grind.{common_steps}
-use Rattle.std.proofs.Common.{◌≡◌, ◌∙◌, ◌-◌, subst, arith, Some, None}
+use Rattle.std.proofs.Common.{◌≡◌, ◌∙◌, ◌-◌, arith, Some}
 use Rattle.wb_history.proofs.Keeps.{reads_word, reads_last}
 use Rattle.wb_history.proofs.Rows.{read_all, read_row_is, length-some}
 use Rattle.wb_names.specs.Values.{DrawopValue}
-use Rattle.wb_history.specs.Views.{IsMember}
 use Rattle.wb_history.proofs.cells.CellTable.read_row.Goals as goal
 
 pub load-requires : goal.load-requires

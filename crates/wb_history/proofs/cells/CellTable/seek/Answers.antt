@@ -6,7 +6,6 @@ use lib.ListN.{get_elem?}
 use Rattle.atomic_table.proofs.Lists.{at_last}
 use Rattle.wb_names.specs.Values.{DrawopValue}
 use Rattle.wb_history.specs.Cursors.{Walked, AtEnd}
-use Rattle.wb_names.specs.History.{HoldsName}
 use Rattle.wb_history.proofs.Words.{get_is, not_so}
 use Rattle.wb_history.proofs.Walks.{walk_on, lacks_more}
 use Rattle.wb_history.proofs.cells.CellTable.seek.Goals as goal

@@ -1,9 +1,8 @@
 use Rattle.std.proofs.lemmas.Grind.{common_steps}
-use Rattle.std.proofs.Common.{refl, sym, ap, subst, arith}
+use Rattle.std.proofs.Common.{refl, ap, arith}
 use Rattle.atomic_table.specs.Table.{Me}
 use Rattle.wb_names.specs.Values.{DrawopValue}
 use Rattle.wb_history.specs.declared.knowledge.Knowledge.{Knowledge}
-use Rattle.wb_history.specs.Passes.{IsSound}
 use Rattle.wb_history.proofs.Shows.{sound, sound_pass}
 use Rattle.wb_history.proofs.Fronts.{none_are_fronts}
 use Rattle.wb_history.proofs.Unions.{same_view}

@@ -1,11 +1,8 @@
 use Rattle.std.proofs.lemmas.Grind.{common_steps}
-use Rattle.std.proofs.Common.{rules, ◌≡◌, [], ◌∷◌, length, ap, sym, ◌∙◌, subst, arith, List}
-use Rattle.std.specs.Prelude.{All}
+use Rattle.std.proofs.Common.{arith}
 use Rattle.std.proofs.lemmas.List.{append-nil}
 use Rattle.std.proofs.lemmas.List.FromFn.{length-range_with_len}
 use Rattle.std.proofs.lemmas.List.Elements.{All-nil, All-cons}
-use Rattle.wb_history.specs.declared.ranges.RowRange.{RowRange}
-use Rattle.wb_history.specs.RowRanges.{rows_of, rows_in, IsRange}
 use Rattle.wb_history.proofs.ranges.Rows.first.Goals as goal
 
 pub invariant_of-result : goal.invariant_of-result
