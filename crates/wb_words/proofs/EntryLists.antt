@@ -1,4 +1,5 @@
 -- Lists of entries, one word after another.
+use Rattle.std.proofs.lemmas.Grind.{common_steps}
 use Rattle.std.proofs.Common.{◌≡◌, ℕ, suc, ◌+◌, ◌<◌, ◌≤◌, Bool, true, false, cond, Option, Some, None, List, [], ◌∷◌, ◌++◌, length, get_or, Result, Ok, Err, refl, sym, ap, subst, ◌∙◌, append_assoc, append-nil, arith}
 use Rattle.std.specs.Prelude.{nat_lt, All, AllPairs, IfOk, map}
 use Rattle.std.proofs.lemmas.Bool.{ltb-true, lt-ltb}
@@ -92,9 +93,7 @@ module _ {X : Type 0} (entry_at : ℕ → Option ℕ → List ℕ → Result X W
   read_one : (place n : ℕ) (before : Option ℕ) (w : List ℕ) (after : List (List ℕ)) (x : X) → stops w ≡ false → n < 65535 → entry_at place before w ≡ Ok x
       → read place n before (w ∷ after) ≡ onto (x ∷ []) (read (place + 1) (n + 1) (Some (source x)) after)
   unfolding entries_at
-  read_one place n before w after x goes few e =
-      let test : nat_lt n 65535 ≡ true = lt-ltb n 65535 few in
-      rw (goes, test, e) (onto_one x (read (place + 1) (n + 1) (Some (source x)) after))
+  read_one place n before w after x goes few e = grind (arith, common_steps, true, lt-ltb, onto_one, read)
 
   pub read_more : (place : ℕ) (ws : List (List ℕ)) (before : Option ℕ) (rest : List (List ℕ)) (w : List ℕ) (after : List (List ℕ)) (xs : List X) (x : X) → HasRead place ws before rest xs → rest ≡ w ∷ after → stops w ≡ false → length xs < 65535 → entry_at (place + length xs) before w ≡ Ok x
       → HasRead place ws (Some (source x)) after (xs ++ x ∷ [])
@@ -115,35 +114,25 @@ module _ {X : Type 0} (entry_at : ℕ → Option ℕ → List ℕ → Result X W
   -- the same, of a list that was extended
   pub read_pushed : (place : ℕ) (ws : List (List ℕ)) (before : Option ℕ) (rest : List (List ℕ)) (w : List ℕ) (after : List (List ℕ)) (xs : List X) (x : X) (here last : ℕ) (ys : List X) → HasRead place ws before rest xs → rest ≡ w ∷ after → stops w ≡ false → length xs < 65535 → here ≡ place + length xs → entry_at here before w ≡ Ok x → last ≡ source x → ys ≡ xs ++ x ∷ []
       → HasRead place ws (Some last) after ys
-  read_pushed place ws before rest w after xs x here last ys h is goes few at-is e source-is pushed =
-      let read-here : entry_at (place + length xs) before w ≡ Ok x = ap (λ (p : ℕ). entry_at p before w) (sym at-is) ∙ e in
-      subst (λ (zs : List X). HasRead place ws (Some last) after zs) (sym pushed)
-      (subst (λ (s : ℕ). HasRead place ws (Some s) after (xs ++ x ∷ [])) (sym source-is) (read_more place ws before rest w after xs x h is goes few read-here))
+  read_pushed place ws before rest w after xs x here last ys h is goes few at-is e source-is pushed = grind (arith, common_steps, read_more)
 
   pub read_stops : (place : ℕ) (ws : List (List ℕ)) (before : Option ℕ) (rest : List (List ℕ)) (w : List ℕ) (after : List (List ℕ)) (xs : List X) (e : WrongWord) (here : ℕ) → HasRead place ws before rest xs → rest ≡ w ∷ after → stops w ≡ false → length xs < 65535 → here ≡ place + length xs → entry_at here before w ≡ Err e
       → entries_at entry_at source stops place 0 None ws ≡ Err e
   unfolding entries_at
-  read_stops place ws before rest w after xs e here h is goes few at-is refused =
-      let fault : entry_at (place + length xs) before w ≡ Err e = ap (λ (p : ℕ). entry_at p before w) (sym at-is) ∙ refused in
-      let test : nat_lt (length xs) 65535 ≡ true = lt-ltb (length xs) 65535 few in
-      h.so_far ∙ ap (λ (r : List (List ℕ)). onto xs (read (place + length xs) (length xs) before r)) is ∙ rw (goes, test, fault) refl
+  read_stops place ws before rest w after xs e here h is goes few at-is refused = grind (arith, common_steps, true, lt-ltb, onto, read)
 
   pub read_many : (place : ℕ) (ws : List (List ℕ)) (before : Option ℕ) (rest : List (List ℕ)) (w : List ℕ) (after : List (List ℕ)) (xs : List X) → HasRead place ws before rest xs → rest ≡ w ∷ after → stops w ≡ false → 65535 ≤ length xs
       → entries_at entry_at source stops place 0 None ws ≡ wrong (place + length xs) TooMany
   unfolding entries_at
-  read_many place ws before rest w after xs h is goes many =
-      let test : nat_lt (length xs) 65535 ≡ false = grind (arith, nat_tests) in
-      h.so_far ∙ ap (λ (r : List (List ℕ)). onto xs (read (place + length xs) (length xs) before r)) is ∙ rw (goes, test) refl
+  read_many place ws before rest w after xs h is goes many = grind (arith, common_steps, false, nat_tests, onto, read)
 
   pub read_all : (place : ℕ) (ws : List (List ℕ)) (before : Option ℕ) (rest : List (List ℕ)) (xs : List X) → HasRead place ws before rest xs → rest ≡ [] → entries_at entry_at source stops place 0 None ws ≡ Ok xs
   unfolding entries_at
-  read_all place ws before rest xs h is =
-      h.so_far ∙ ap (λ (r : List (List ℕ)). onto xs (read (place + length xs) (length xs) before r)) is ∙ ap (λ (l : List X). Ok l) (append-nil xs)
+  read_all place ws before rest xs h is = grind (arith, common_steps, onto, read, append-nil)
 
   pub read_until : (place : ℕ) (ws : List (List ℕ)) (before : Option ℕ) (rest : List (List ℕ)) (w : List ℕ) (after : List (List ℕ)) (xs : List X) → HasRead place ws before rest xs → rest ≡ w ∷ after → stops w ≡ true → entries_at entry_at source stops place 0 None ws ≡ Ok xs
   unfolding entries_at
-  read_until place ws before rest w after xs h is stop =
-      h.so_far ∙ ap (λ (r : List (List ℕ)). onto xs (read (place + length xs) (length xs) before r)) is ∙ rw stop (ap (λ (l : List X). Ok l) (append-nil xs))
+  read_until place ws before rest w after xs h is stop = grind (arith, common_steps, onto, read, append-nil)
 
   -- ---- what was read, and what is read again
 

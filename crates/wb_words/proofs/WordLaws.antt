@@ -1,4 +1,5 @@
 -- What one word says is spelled so, and what is spelled so is read.
+use Rattle.std.proofs.lemmas.Grind.{common_steps}
 use Rattle.std.proofs.Common.{◌≡◌, ℕ, ◌^◌, ◌<◌, ◌≤◌, Bool, true, false, Option, Some, None, List, [], ◌∷◌, ◌++◌, Ok, Result, refl, ap, ◌∙◌, arith}
 use Rattle.std.specs.Prelude.{nat_eq, All, decimal, is_some, IfSome}
 use Rattle.std.proofs.lemmas.List.Elements.{All-cons, All-append}
@@ -58,7 +59,7 @@ pub again32 : (n : ℕ) → n < 2 ^ 32 → number_in most32 (decimal n) ≡ Some
 again32 n lt = number_again most32 n (up_to32 n lt) (omega arith)
 
 pub again64 : (n : ℕ) → n < 2 ^ 64 → number_in most64 (decimal n) ≡ Some n
-again64 n lt = let le : n ≤ most64 = omega arith in number_again most64 n le (omega arith)
+again64 n lt = grind (arith, common_steps, number_again)
 
 -- ---- pages
 
@@ -72,10 +73,7 @@ page_finds word = some_then (parted 47 word) _ (λ p ep. some_then (number_in mo
 
 pub page_again : (p : PageId) → IsPage p → page_in (page_word p) ≡ Some p
 unfolding page_in
-page_again p fits =
-    let small : p.creator < 2 ^ 64 = omega (arith, fits.creator) in
-    let parts = parted_again 47 [] (decimal p.creator) (decimal p.number) (decimal_lacks 47 p.creator (omega arith) small) in
-    rw (parts, again32 p.creator fits.creator, again32 p.number fits.number) refl
+page_again p fits = grind (arith, common_steps, parted_again, decimal_lacks, again32)
 
 -- ---- marks
 
@@ -89,10 +87,7 @@ mark_finds word = some_then (parted 61 word) _ (λ p ep. some_then (number_in mo
 
 mark_again : (m : MarkValue) → IsMark m → mark_in (mark_word m) ≡ Some m
 unfolding mark_in
-mark_again m fits =
-    let small : m.source < 2 ^ 64 = omega (arith, fits.source) in
-    let parts = parted_again 61 [] (decimal m.source) (decimal m.high) (decimal_lacks 61 m.source (omega arith) small) in
-    rw (parts, again32 m.source fits.source, again32 m.high fits.high) refl
+mark_again m fits = grind (arith, common_steps, parted_again, decimal_lacks, again32)
 
 -- ---- echoes
 
@@ -108,11 +103,7 @@ echo_finds word = some_then (parted 64 word) _ (λ p ep. some_then (parted 43 p.
 
 echo_again : (e : Echo) → IsEcho e → echo_in (echo_word e) ≡ Some e
 unfolding echo_in
-echo_again v fits =
-    let small : v.source < 2 ^ 64 = omega (arith, fits.source) in
-    let parts = parted_again 64 [] (decimal v.source) (decimal v.sent ++ 43 ∷ decimal v.held) (decimal_lacks 64 v.source (omega arith) small) in
-    let moments = parted_again 43 [] (decimal v.sent) (decimal v.held) (decimal_lacks 43 v.sent (omega arith) fits.sent) in
-    rw (parts, moments, again32 v.source fits.source, again64 v.sent fits.sent, again64 v.held fits.held) refl
+echo_again v fits = grind (arith, common_steps, parted_again, decimal_lacks, again32, again64)
 
 -- ---- entries of lists
 
@@ -126,7 +117,7 @@ mark_reads place before word = said_step _ _ _ (mark_finds word) (λ m t. ranged
 
 pub mark_spelled : (place : ℕ) (before : Option ℕ) (m : MarkValue) → MarkFits m → is_above before (mark_source m) ≡ true → mark_at place before (mark_word m) ≡ Ok m
 unfolding mark_at
-mark_spelled place before m fits above = rw (mark_again m fits.ranges, seq_free m.high fits.positive, above) refl
+mark_spelled place before m fits above = grind (arith, common_steps, mark_again, seq_free)
 
 pub echo_reads : (stops : List ℕ → Bool) (place : ℕ) (before : Option ℕ) (word : List ℕ) → Reads (EntryTaken echo_at echo_source stops echo_word EchoFits before word) (echo_at place before word)
 unfolding echo_at
@@ -146,9 +137,7 @@ mark_goes m fits =
     ap is_some (parted_none 64 [] (mark_word m) none)
 
 pub echo_stops : (v : Echo) → IsEcho v → is_echo (echo_word v) ≡ true
-echo_stops v fits =
-    let small : v.source < 2 ^ 64 = omega (arith, fits.source) in
-    ap is_some (parted_again 64 [] (decimal v.source) (decimal v.sent ++ 43 ∷ decimal v.held) (decimal_lacks 64 v.source (omega arith) small))
+echo_stops v fits = grind (arith, common_steps, parted_again, decimal_lacks)
 
 -- no word but a text has a space
 
@@ -156,13 +145,13 @@ pub decimal_space : (n : ℕ) → n < 2 ^ 64 → NoSpace (decimal n)
 decimal_space n lt = decimal_lacks 32 n (omega arith) lt
 
 two_space : (mark m n : ℕ) → nat_eq mark 32 ≡ false → m < 2 ^ 64 → n < 2 ^ 64 → NoSpace (decimal m ++ mark ∷ decimal n)
-two_space mark m n other hm hn = All-append (λ b. nat_eq b 32 ≡ false) (decimal m) (mark ∷ decimal n) (decimal_space m hm) (All-cons (λ b. nat_eq b 32 ≡ false) mark (decimal n) other (decimal_space n hn))
+two_space mark m n other hm hn = grind (arith, common_steps, All-append, false, decimal_space, All-cons)
 
 pub page_space : (p : PageId) → IsPage p → NoSpace (page_word p)
-page_space p fits = two_space 47 p.creator p.number refl (omega (arith, fits.creator)) (omega (arith, fits.number))
+page_space p fits = grind (arith, common_steps, two_space)
 
 pub mark_space : (m : MarkValue) → IsMark m → NoSpace (mark_word m)
-mark_space m fits = two_space 61 m.source m.high refl (omega (arith, fits.source)) (omega (arith, fits.high))
+mark_space m fits = grind (arith, common_steps, two_space)
 
 pub echo_space : (v : Echo) → IsEcho v → NoSpace (echo_word v)
 echo_space v fits = All-append (λ b. nat_eq b 32 ≡ false) (decimal v.source) (64 ∷ (decimal v.sent ++ 43 ∷ decimal v.held)) (decimal_space v.source (omega (arith, fits.source)))
