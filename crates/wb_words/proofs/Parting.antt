@@ -1,4 +1,5 @@
 -- What stands before and after the first byte that is a mark, and the words of a line.
+use Rattle.std.proofs.lemmas.Grind.{common_steps}
 use Rattle.std.proofs.Common.{◌≡◌, ℕ, ◌<◌, ◌≤◌, ◌^◌, Bool, true, false, cond, Some, None, List, [], ◌∷◌, ◌++◌, refl, sym, ap, ◌∙◌, append_assoc, arith, subst}
 use Rattle.std.specs.Prelude.{nat_eq, All, map, decimal}
 use Rattle.std.specs.Char.{digit_value}
@@ -31,39 +32,20 @@ some_is x y e = cc
 module _ (mark : ℕ) where
   pub parted_takes : (passed word before after : List ℕ) → parted_after passed mark word ≡ Some (before, after) → passed ++ word ≡ before ++ mark ∷ after
   parted_takes passed [] before after e = absurd cc
-  parted_takes passed (b ∷ bytes) before after e = by (parted_takes (passed ++ b ∷ []) bytes before after) (nat_eq b mark) refl where
-    by : (parted_after (passed ++ b ∷ []) mark bytes ≡ Some (before, after) → (passed ++ b ∷ []) ++ bytes ≡ before ++ mark ∷ after) → (t : Bool) → nat_eq b mark ≡ t → passed ++ b ∷ bytes ≡ before ++ mark ∷ after
-    by later true h =
-        let made : Some (passed, bytes) ≡ Some (before, after) = (chosen (nat_eq b mark) _ _ _ e).first h in
-        let parts = some_is (passed, bytes) (before, after) made in
-        let one : passed ≡ before = ap (λ p. p.0) parts in
-        let two : bytes ≡ after = ap (λ p. p.1) parts in
-        let same : b ≡ mark = eqb-true b mark h in
-        cc
-    by later false h = sym (append_assoc passed (b ∷ []) bytes) ∙ later ((chosen (nat_eq b mark) _ _ _ e).second h)
+  parted_takes passed (b ∷ bytes) before after e = grind (arith, common_steps, true, chosen, some_is, eqb-true, false, append_assoc, parted_takes (passed ++ b ∷ []) bytes before after)
 
   pub parted_again : (passed before after : List ℕ) → All (λ b. nat_eq b mark ≡ false) before → parted_after passed mark (before ++ mark ∷ after) ≡ Some (passed ++ before, after)
-  parted_again passed [] after none = let same : nat_eq mark mark ≡ true = grind (arith, nat_tests) in rw (same, append-nil) refl
-  parted_again passed (b ∷ before) after none =
-      let other : nat_eq b mark ≡ false = All-head (λ c. nat_eq c mark ≡ false) b before none in
-      rw other (parted_again (passed ++ b ∷ []) before after (All-tail (λ c. nat_eq c mark ≡ false) b before none) ∙ ap (λ t. Some (t, after)) (append_assoc passed (b ∷ []) before))
+  parted_again passed [] after none = grind (arith, common_steps, true, nat_tests, append-nil)
+  parted_again passed (b ∷ before) after none = grind (arith, common_steps, false, All-head, All-tail, append_assoc, parted_again (passed ++ b ∷ []) before after (All-tail (λ c. nat_eq c mark ≡ false) b before none))
 
   pub parted_none : (passed word : List ℕ) → All (λ b. nat_eq b mark ≡ false) word → parted_after passed mark word ≡ None
   parted_none passed [] none = refl
-  parted_none passed (b ∷ bytes) none =
-      let other : nat_eq b mark ≡ false = All-head (λ c. nat_eq c mark ≡ false) b bytes none in
-      rw other (parted_none (passed ++ b ∷ []) bytes (All-tail (λ c. nat_eq c mark ≡ false) b bytes none))
+  parted_none passed (b ∷ bytes) none = grind (arith, common_steps, false, All-head, All-tail, parted_none (passed ++ b ∷ []) bytes (All-tail (λ c. nat_eq c mark ≡ false) b bytes none))
 
 -- no digit is such a mark
 pub digits_lack : (mark : ℕ) → 10 ≤ digit_value mark → (ds : List ℕ) → AllDigits 10 ds → All (λ b. nat_eq b mark ≡ false) ds
 digits_lack mark far [] d = All-nil (λ b. nat_eq b mark ≡ false)
-digits_lack mark far (c ∷ cs) d =
-    let other : nat_eq c mark ≡ false = no_match (nat_eq c mark) refl in
-    All-cons (λ b. nat_eq b mark ≡ false) c cs other (digits_lack mark far cs d.1)
-  where
-    no_match : (t : Bool) → nat_eq c mark ≡ t → nat_eq c mark ≡ false
-    no_match false h = h
-    no_match true h = let same : c ≡ mark = eqb-true c mark h in let low : digit_value mark < 10 = subst (λ x. digit_value x < 10) same d.0 in absurd (omega arith)
+digits_lack mark far (c ∷ cs) d = grind (arith, common_steps, false, All-cons, true, eqb-true, digits_lack mark far cs d.1)
 
 pub decimal_lacks : (mark n : ℕ) → 10 ≤ digit_value mark → n < 2 ^ 64 → All (λ b. nat_eq b mark ≡ false) (decimal n)
 decimal_lacks mark n far small = digits_lack mark far (decimal n) (decimal_digits n small)
@@ -71,10 +53,10 @@ decimal_lacks mark n far small = digits_lack mark far (decimal n) (decimal_digit
 -- ---- words: parting at spaces
 
 words_space : (b : ℕ) (bytes : List ℕ) → nat_eq b 32 ≡ true → words (b ∷ bytes) ≡ [] ∷ words bytes
-words_space b bytes h = ap (λ (t : Bool). cond t ([] ∷ words bytes) (onto_first b (words bytes))) h
+words_space b bytes h = grind (arith, common_steps)
 
 words_other : (b : ℕ) (bytes : List ℕ) → nat_eq b 32 ≡ false → words (b ∷ bytes) ≡ onto_first b (words bytes)
-words_other b bytes h = ap (λ (t : Bool). cond t ([] ∷ words bytes) (onto_first b (words bytes))) h
+words_other b bytes h = grind (arith, common_steps)
 
 -- each line has a word, be it empty
 pub record HasWord (ws : List (List ℕ)) : Type 0 where
@@ -116,8 +98,8 @@ one_word : (passed bytes : List ℕ) → parted_after passed 32 bytes ≡ None �
 one_word passed [] e = refl
 one_word passed (b ∷ bytes) e = by (one_word (passed ++ b ∷ []) bytes) (nat_eq b 32) refl where
   by : (parted_after (passed ++ b ∷ []) 32 bytes ≡ None → words bytes ≡ bytes ∷ []) → (t : Bool) → nat_eq b 32 ≡ t → words (b ∷ bytes) ≡ (b ∷ bytes) ∷ []
-  by later true h = let made : Some (passed, bytes) ≡ None = (chosen (nat_eq b 32) _ _ _ e).first h in absurd cc
-  by later false h = words_other b bytes h ∙ ap (onto_first b) (later ((chosen (nat_eq b 32) _ _ _ e).second h))
+  by later true h = grind (arith, common_steps, chosen)
+  by later false h = grind (arith, common_steps, words_other, chosen)
 
 pub words_whole : (line : List ℕ) → parted 32 line ≡ None → words line ≡ line ∷ []
 words_whole line e = one_word [] line e
@@ -135,10 +117,10 @@ NoSpaces (w ∷ ws) = NoSpace w × NoSpaces ws
 
 pub words_joined : (w : List ℕ) (ws : List (List ℕ)) → NoSpaces (w ∷ ws) → words (joined (w ∷ ws)) ≡ w ∷ ws
 words_joined w [] none = slice_split_none is_space w none.0
-words_joined w (v ∷ ws) none = slice_split_at is_space w 32 (joined (v ∷ ws)) none.0 refl ∙ ap (λ rest. w ∷ rest) (words_joined v ws none.1)
+words_joined w (v ∷ ws) none = grind (arith, common_steps, slice_split_at, words_joined v ws none.1)
 
 NoSpaces-onto : (b : ℕ) (ws : List (List ℕ)) → nat_eq b 32 ≡ false → NoSpaces ws → NoSpaces (onto_first b ws)
-NoSpaces-onto b [] other none = (All-cons (λ c. nat_eq c 32 ≡ false) b [] other (All-nil (λ c. nat_eq c 32 ≡ false)), tt)
+NoSpaces-onto b [] other none = grind (arith, common_steps, All-cons, false, All-nil)
 NoSpaces-onto b (w ∷ ws) other none = (All-cons (λ c. nat_eq c 32 ≡ false) b w other none.0, none.1)
 
 pub NoSpaces-words : (line : List ℕ) → NoSpaces (words line)
