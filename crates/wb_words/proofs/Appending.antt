@@ -5,7 +5,7 @@ use Rattle.std.proofs.lemmas.Grind.{flat_map-append}
 use Rattle.wb_words.specs.Words.{words, joined}
 use Rattle.wb_names.specs.declared.parts.Stroke.{Stroke}
 use Rattle.wb_words.specs.Spelling.{stroke_words, quoted, tailed}
-use Rattle.wb_words.proofs.Parting.{has_word, joined_words}
+use Rattle.wb_words.proofs.Splitting.{has_word, joined_words}
 
 -- a text added, and another behind it
 pub glued : (o a b text tail whole : List ℕ) → a ≡ o ++ text → b ≡ a ++ tail → text ++ tail ≡ whole → b ≡ o ++ whole

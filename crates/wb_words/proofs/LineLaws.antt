@@ -30,7 +30,7 @@ use Rattle.wb_words.specs.Words.{words, joined, most32, most64, number_in, glyph
 use Rattle.wb_words.specs.Spelling.{page_word, mark_word, echo_word, quoted, stroke_words, kind_word, field_words, op_words, name_words, word_list}
 use Rattle.wb_words.specs.Reading.{◌>>=◌, said, in_range, word_at, end_at, number_at, page_at, glyph_at, text_at, name_at, drawn, stroke_at, figure_at, written_at, change_at, kind_in, fields_at, op_at, drawop_at, mark_at, echo_at, is_echo, left_at, marks_at, echoes_at, draw_at, session_at, request_at, ask_pages_at, page_state_at, datagram_at, reading_of}
 use Rattle.wb_words.proofs.Numerals.{number_again}
-use Rattle.wb_words.proofs.Parting.{NoSpaces, words_joined, text_words}
+use Rattle.wb_words.proofs.Splitting.{NoSpaces, words_joined, text_words}
 use Rattle.wb_words.proofs.TextLaws.{text_takes, text_again}
 use Rattle.wb_words.proofs.EntryLists.{Reads, found, gives, weaker, step, list_reads, entries_back, Stopped}
 use Rattle.wb_words.proofs.WordLaws.{said_step, ranged, again32, again64, number_finds, page_finds, page_again, mark_reads, mark_spelled, echo_reads, echo_spelled, mark_goes, echo_stops}

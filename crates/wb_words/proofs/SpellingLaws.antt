@@ -25,7 +25,7 @@ use Rattle.wb_words.specs.Spelling.{page_word, mark_word, echo_word, quoted, str
 use Rattle.wb_words.specs.Reading.{MayGive, datagram_at, reading_of, reading}
 use Rattle.wb_words.specs.Grammar.{Says}
 use Rattle.wb_words.proofs.EntryLists.{ok_is}
-use Rattle.wb_words.proofs.Parting.{NoSpace, NoSpaces, NoSpaces-words, NoSpaces-append, NoSpaces-map, words_joined, joined_words}
+use Rattle.wb_words.proofs.Splitting.{NoSpace, NoSpaces, NoSpaces-words, NoSpaces-append, NoSpaces-map, words_joined, joined_words}
 use Rattle.wb_words.proofs.WordLaws.{decimal_space, page_space, mark_space, echo_space}
 use Rattle.wb_words.proofs.LineLaws.{reading_takes, reading_again}
 

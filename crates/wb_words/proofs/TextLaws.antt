@@ -5,7 +5,7 @@ use Rattle.std.proofs.lemmas.Bool.{eqb-true, or_from, or_parts}
 use Rattle.std.proofs.lemmas.List.{nil_from_length}
 use Rattle.wb_words.specs.Words.{is_special, text_after, text_in}
 use Rattle.wb_words.specs.Spelling.{escaped, quoted}
-use Rattle.wb_words.proofs.Parting.{chosen, some_is}
+use Rattle.wb_words.proofs.Splitting.{chosen, some_is}
 
 escaped_special : (b : ℕ) → is_special b ≡ true → escaped b ≡ 92 ∷ b ∷ []
 escaped_special b e = ap (λ (t : Bool). cond t (92 ∷ b ∷ []) (b ∷ [])) e

@@ -15,12 +15,12 @@ use Rattle.wb_codec.proofs.EntryLaws.{MarkFits, EchoFits, mark_source, echo_sour
 use Rattle.wb_words.specs.declared.fault.WordFault.{WordFault}
 use Rattle.wb_words.specs.declared.fault.WrongWord.{WrongWord}
 use Rattle.wb_words.specs.declared.fault.WordFault.TheVariants.{Order}
-use Rattle.wb_words.specs.Words.{◌>>=◌, parted, most32, most64, number_in, page_in, mark_in, echo_in}
+use Rattle.wb_words.specs.Words.{◌>>=◌, split_once, most32, most64, number_in, page_in, mark_in, echo_in}
 use Rattle.wb_words.specs.Spelling.{page_word, mark_word, echo_word}
 use Rattle.wb_words.specs.Reading
 use Rattle.wb_words.specs.Reading.{said, in_range, mark_at, echo_at, is_echo}
 use Rattle.wb_words.proofs.Numerals.{number_takes, number_again}
-use Rattle.wb_words.proofs.Parting.{parted_takes, parted_again, parted_none, decimal_lacks, NoSpace}
+use Rattle.wb_words.proofs.Splitting.{split_once_takes, split_once_again, split_once_none, decimal_lacks, NoSpace}
 use Rattle.wb_words.proofs.EntryLists.{EntryTaken, Reads, requires}
 
 -- what was found has P
@@ -65,45 +65,45 @@ again64 n lt = grind (arith, common_steps, number_again)
 
 pub page_finds : (word : List ℕ) → Finds (λ p. (word ≡ page_word p) × IsPage p) (page_in word)
 unfolding page_in
-page_finds word = some_then (parted 47 word) _ (λ p ep. some_then (number_in most32 p.0) _ (λ a ea. some_then (number_in most32 p.1) _ (λ b eb.
+page_finds word = some_then (split_once 47 word) _ (λ p ep. some_then (number_in most32 p.0) _ (λ a ea. some_then (number_in most32 p.1) _ (λ b eb.
     let ta = number_takes most32 a p.0 ea in
     let tb = number_takes most32 b p.1 eb in
-    let spelled : word ≡ decimal a ++ 47 ∷ decimal b = parted_takes 47 [] word p.0 p.1 ep ∙ ap (λ t. t ++ 47 ∷ p.1) ta.0 ∙ ap (λ t. decimal a ++ 47 ∷ t) tb.0 in
+    let spelled : word ≡ decimal a ++ 47 ∷ decimal b = split_once_takes 47 [] word p.0 p.1 ep ∙ ap (λ t. t ++ 47 ∷ p.1) ta.0 ∙ ap (λ t. decimal a ++ 47 ∷ t) tb.0 in
     says _ (spelled, record { creator = below32 a ta.1; number = below32 b tb.1 }))))
 
 pub page_again : (p : PageId) → IsPage p → page_in (page_word p) ≡ Some p
 unfolding page_in
-page_again p fits = grind (arith, common_steps, parted_again, decimal_lacks, again32)
+page_again p fits = grind (arith, common_steps, split_once_again, decimal_lacks, again32)
 
 -- ---- marks
 
 mark_finds : (word : List ℕ) → Finds (λ m. (word ≡ mark_word m) × IsMark m) (mark_in word)
 unfolding mark_in
-mark_finds word = some_then (parted 61 word) _ (λ p ep. some_then (number_in most32 p.0) _ (λ a ea. some_then (number_in most32 p.1) _ (λ b eb.
+mark_finds word = some_then (split_once 61 word) _ (λ p ep. some_then (number_in most32 p.0) _ (λ a ea. some_then (number_in most32 p.1) _ (λ b eb.
     let ta = number_takes most32 a p.0 ea in
     let tb = number_takes most32 b p.1 eb in
-    let spelled : word ≡ decimal a ++ 61 ∷ decimal b = parted_takes 61 [] word p.0 p.1 ep ∙ ap (λ t. t ++ 61 ∷ p.1) ta.0 ∙ ap (λ t. decimal a ++ 61 ∷ t) tb.0 in
+    let spelled : word ≡ decimal a ++ 61 ∷ decimal b = split_once_takes 61 [] word p.0 p.1 ep ∙ ap (λ t. t ++ 61 ∷ p.1) ta.0 ∙ ap (λ t. decimal a ++ 61 ∷ t) tb.0 in
     says _ (spelled, record { source = below32 a ta.1; high = below32 b tb.1 }))))
 
 mark_again : (m : MarkValue) → IsMark m → mark_in (mark_word m) ≡ Some m
 unfolding mark_in
-mark_again m fits = grind (arith, common_steps, parted_again, decimal_lacks, again32)
+mark_again m fits = grind (arith, common_steps, split_once_again, decimal_lacks, again32)
 
 -- ---- echoes
 
 echo_finds : (word : List ℕ) → Finds (λ v. (word ≡ echo_word v) × IsEcho v) (echo_in word)
 unfolding echo_in
-echo_finds word = some_then (parted 64 word) _ (λ p ep. some_then (parted 43 p.1) _ (λ m em. some_then (number_in most32 p.0) _ (λ a ea. some_then (number_in most64 m.0) _ (λ b eb. some_then (number_in most64 m.1) _ (λ c ec.
+echo_finds word = some_then (split_once 64 word) _ (λ p ep. some_then (split_once 43 p.1) _ (λ m em. some_then (number_in most32 p.0) _ (λ a ea. some_then (number_in most64 m.0) _ (λ b eb. some_then (number_in most64 m.1) _ (λ c ec.
     let ta = number_takes most32 a p.0 ea in
     let tb = number_takes most64 b m.0 eb in
     let tc = number_takes most64 c m.1 ec in
-    let moments : p.1 ≡ decimal b ++ 43 ∷ decimal c = parted_takes 43 [] p.1 m.0 m.1 em ∙ ap (λ t. t ++ 43 ∷ m.1) tb.0 ∙ ap (λ t. decimal b ++ 43 ∷ t) tc.0 in
-    let spelled : word ≡ decimal a ++ 64 ∷ (decimal b ++ 43 ∷ decimal c) = parted_takes 64 [] word p.0 p.1 ep ∙ ap (λ t. t ++ 64 ∷ p.1) ta.0 ∙ ap (λ t. decimal a ++ 64 ∷ t) moments in
+    let moments : p.1 ≡ decimal b ++ 43 ∷ decimal c = split_once_takes 43 [] p.1 m.0 m.1 em ∙ ap (λ t. t ++ 43 ∷ m.1) tb.0 ∙ ap (λ t. decimal b ++ 43 ∷ t) tc.0 in
+    let spelled : word ≡ decimal a ++ 64 ∷ (decimal b ++ 43 ∷ decimal c) = split_once_takes 64 [] word p.0 p.1 ep ∙ ap (λ t. t ++ 64 ∷ p.1) ta.0 ∙ ap (λ t. decimal a ++ 64 ∷ t) moments in
     says _ (spelled, record { source = below32 a ta.1; sent = omega (arith, tb.1); held = omega (arith, tc.1) }))))))
 
 echo_again : (e : Echo) → IsEcho e → echo_in (echo_word e) ≡ Some e
 unfolding echo_in
-echo_again v fits = grind (arith, common_steps, parted_again, decimal_lacks, again32, again64)
+echo_again v fits = grind (arith, common_steps, split_once_again, decimal_lacks, again32, again64)
 
 -- ---- entries of lists
 
@@ -134,10 +134,10 @@ mark_goes m fits =
     let source : m.source < 2 ^ 64 = omega (arith, fits.ranges.source) in
     let high : m.high < 2 ^ 64 = omega (arith, fits.ranges.high) in
     let none : All (λ b. nat_eq b 64 ≡ false) (mark_word m) = All-append (λ b. nat_eq b 64 ≡ false) (decimal m.source) (61 ∷ decimal m.high) (decimal_lacks 64 m.source (omega arith) source) (All-cons (λ b. nat_eq b 64 ≡ false) 61 (decimal m.high) refl (decimal_lacks 64 m.high (omega arith) high)) in
-    ap is_some (parted_none 64 [] (mark_word m) none)
+    ap is_some (split_once_none 64 [] (mark_word m) none)
 
 pub echo_stops : (v : Echo) → IsEcho v → is_echo (echo_word v) ≡ true
-echo_stops v fits = grind (arith, common_steps, parted_again, decimal_lacks)
+echo_stops v fits = grind (arith, common_steps, split_once_again, decimal_lacks)
 
 -- no word but a text has a space
 

@@ -24,12 +24,12 @@ abbrev pub ◌>>=◌ : {A B : Type 0} → Option A → (A → Option B) → Opti
 None >>= f = None
 
 -- what stands before and after the first byte that is the mark, where some bytes before it have been passed
-abbrev pub parted_after : List ℕ → ℕ → List ℕ → Option (List ℕ × List ℕ)
-parted_after passed mark [] = None
-parted_after passed mark (b ∷ bytes) = if nat_eq b mark then Some (passed, bytes) else parted_after (passed ++ b ∷ []) mark bytes
+abbrev pub split_after : List ℕ → ℕ → List ℕ → Option (List ℕ × List ℕ)
+split_after passed mark [] = None
+split_after passed mark (b ∷ bytes) = if nat_eq b mark then Some (passed, bytes) else split_after (passed ++ b ∷ []) mark bytes
 
-abbrev pub parted : ℕ → List ℕ → Option (List ℕ × List ℕ)
-parted mark word = parted_after [] mark word
+abbrev pub split_once : ℕ → List ℕ → Option (List ℕ × List ℕ)
+split_once mark word = split_after [] mark word
 
 -- the number up to a greatest one whose decimal digits are the word: no sign, no zero in front
 unfoldable pub number_in : ℕ → List ℕ → Option ℕ
@@ -50,7 +50,7 @@ most64 = 2 ^ 64 - 1
 -- `CREATOR/NUMBER`
 unfoldable pub page_in : List ℕ → Option PageId
 page_in word = do
-  parts ← parted 47 word
+  parts ← split_once 47 word
   creator ← number_in most32 parts.0
   number ← number_in most32 parts.1
   Some (record { creator = creator; number = number })
@@ -64,7 +64,7 @@ glyph_in (b ∷ c ∷ bytes) = None
 -- `SOURCE=HIGH`
 unfoldable pub mark_in : List ℕ → Option MarkValue
 mark_in word = do
-  parts ← parted 61 word
+  parts ← split_once 61 word
   source ← number_in most32 parts.0
   high ← number_in most32 parts.1
   Some (record { source = source; high = high })
@@ -72,8 +72,8 @@ mark_in word = do
 -- `SOURCE@SENT+HELD`
 unfoldable pub echo_in : List ℕ → Option Echo
 echo_in word = do
-  parts ← parted 64 word
-  moments ← parted 43 parts.1
+  parts ← split_once 64 word
+  moments ← split_once 43 parts.1
   source ← number_in most32 parts.0
   sent ← number_in most64 moments.0
   held ← number_in most64 moments.1

@@ -11,7 +11,7 @@ ghost use Rattle.wb_words.specs.Reading.{MayGive, mark_at, echo_at, is_echo, lef
 use crate::fault::{WordFault, WordsFault, WrongWord};
 use crate::fields::u32_in;
 use crate::number::number_in;
-use crate::rest::{Rest, first_word, parted};
+use crate::rest::{Rest, first_word, split_once};
 use std::alloc::{AllocError, Global};
 use wb_names::{Echo, Entries, Entry, MAX_ENTRIES, Mark};
 
@@ -52,7 +52,7 @@ struct MarkFields {
 fn mark_in(word: &[u8]) -> Option<MarkFields>
     ensures { option_map (λ m. record { source = m.source; high = m.high }) result ≡ mark_in_word word.now }
 {
-    let (source, high) = parted(word, b'=')?;
+    let (source, high) = split_once(word, b'=')?;
     let source = u32_in(source)?;
     let high = u32_in(high)?;
     Some(MarkFields { source, high })
@@ -62,8 +62,8 @@ fn mark_in(word: &[u8]) -> Option<MarkFields>
 fn echo_in(word: &[u8]) -> Option<Echo>
     ensures { result ≡ echo_in_word word.now }
 {
-    let (source, moments) = parted(word, b'@')?;
-    let (sent, held) = parted(moments, b'+')?;
+    let (source, moments) = split_once(word, b'@')?;
+    let (sent, held) = split_once(moments, b'+')?;
     let source = u32_in(source)?;
     let sent = number_in(sent, u64::MAX)?;
     let held = number_in(held, u64::MAX)?;
@@ -96,7 +96,7 @@ impl Worded for Mark {
 
     /// An echo ends a list of marks, by its `@`.
     fn ends(word: &[u8]) -> bool {
-        parted(word, b'@').is_some()
+        split_once(word, b'@').is_some()
     }
 
     fn put(&self, alloc: Global, out: &mut Vec<u8>) -> Result<(), AllocError> {

@@ -7,7 +7,7 @@ ghost use Rattle.wb_words.specs.Reading.{Gives, number_at, page_at, glyph_at, na
 
 use crate::fault::{WordFault, WrongWord};
 use crate::number::number_in;
-use crate::rest::{Rest, next_word, parted};
+use crate::rest::{Rest, next_word, split_once};
 use wb_names::{Name, PageId};
 
 // Each of these reads a field from the word at a place, and gives what follows it.
@@ -60,7 +60,7 @@ pub(crate) fn u32_in(word: &[u8]) -> Option<u32>
 fn page_in(word: &[u8]) -> Option<PageId>
     ensures { result ≡ page_in_word word.now }
 {
-    let (creator, number) = parted(word, b'/')?;
+    let (creator, number) = split_once(word, b'/')?;
     let creator = u32_in(creator)?;
     let number = u32_in(number)?;
     Some(PageId { creator, number })

@@ -1,7 +1,7 @@
 use Rattle.std.proofs.Common.{ap, sym, ◌∙◌}
 use Rattle.wb_words.specs.declared.fault.WordFault.TheVariants.{Text}
 use Rattle.wb_words.specs.Reading.{said}
-use Rattle.wb_words.proofs.Parting.{text_words}
+use Rattle.wb_words.proofs.Splitting.{text_words}
 use Rattle.wb_words.proofs.drawing.text_of.Goals as goal
 
 pub returns-in-Some : goal.returns-in-Some

@@ -10,7 +10,7 @@ use Rattle.std.proofs.lemmas.Bool.Decides.{nat_tests}
 use Rattle.std.proofs.lemmas.List.{append-nil}
 use Rattle.std.proofs.lemmas.List.Elements.{All-cons, All-head, All-tail, All-nil}
 use Rattle.std.proofs.lemmas.List.Splits.{slice_split_at, slice_split_none, join_with_byte-slice_split}
-use Rattle.wb_words.specs.Words.{is_space, words, joined, parted_after, parted, text_in}
+use Rattle.wb_words.specs.Words.{is_space, words, joined, split_after, split_once, text_in}
 use Rattle.wb_words.specs.declared.fault.WordFault.TheVariants.{Text}
 use Rattle.wb_words.specs.Reading.{said, text_at}
 use Rattle.wb_words.proofs.Numerals.{decimal_digits}
@@ -27,20 +27,20 @@ chosen false x y z e = record { first = λ h. absurd cc; second = λ h. e }
 pub some_is : {A : Type 0} (x y : A) → Some x ≡ Some y → x ≡ y
 some_is x y e = cc
 
--- ---- parting at a mark
+-- ---- splitting at a mark
 
 module _ (mark : ℕ) where
-  pub parted_takes : (passed word before after : List ℕ) → parted_after passed mark word ≡ Some (before, after) → passed ++ word ≡ before ++ mark ∷ after
-  parted_takes passed [] before after e = absurd cc
-  parted_takes passed (b ∷ bytes) before after e = grind (arith, common_steps, true, chosen, some_is, eqb-true, false, append_assoc, parted_takes (passed ++ b ∷ []) bytes before after)
+  pub split_once_takes : (passed word before after : List ℕ) → split_after passed mark word ≡ Some (before, after) → passed ++ word ≡ before ++ mark ∷ after
+  split_once_takes passed [] before after e = absurd cc
+  split_once_takes passed (b ∷ bytes) before after e = grind (arith, common_steps, true, chosen, some_is, eqb-true, false, append_assoc, split_once_takes (passed ++ b ∷ []) bytes before after)
 
-  pub parted_again : (passed before after : List ℕ) → All (λ b. nat_eq b mark ≡ false) before → parted_after passed mark (before ++ mark ∷ after) ≡ Some (passed ++ before, after)
-  parted_again passed [] after none = grind (arith, common_steps, true, nat_tests, append-nil)
-  parted_again passed (b ∷ before) after none = grind (arith, common_steps, false, All-head, All-tail, append_assoc, parted_again (passed ++ b ∷ []) before after (All-tail (λ c. nat_eq c mark ≡ false) b before none))
+  pub split_once_again : (passed before after : List ℕ) → All (λ b. nat_eq b mark ≡ false) before → split_after passed mark (before ++ mark ∷ after) ≡ Some (passed ++ before, after)
+  split_once_again passed [] after none = grind (arith, common_steps, true, nat_tests, append-nil)
+  split_once_again passed (b ∷ before) after none = grind (arith, common_steps, false, All-head, All-tail, append_assoc, split_once_again (passed ++ b ∷ []) before after (All-tail (λ c. nat_eq c mark ≡ false) b before none))
 
-  pub parted_none : (passed word : List ℕ) → All (λ b. nat_eq b mark ≡ false) word → parted_after passed mark word ≡ None
-  parted_none passed [] none = refl
-  parted_none passed (b ∷ bytes) none = grind (arith, common_steps, false, All-head, All-tail, parted_none (passed ++ b ∷ []) bytes (All-tail (λ c. nat_eq c mark ≡ false) b bytes none))
+  pub split_once_none : (passed word : List ℕ) → All (λ b. nat_eq b mark ≡ false) word → split_after passed mark word ≡ None
+  split_once_none passed [] none = refl
+  split_once_none passed (b ∷ bytes) none = grind (arith, common_steps, false, All-head, All-tail, split_once_none (passed ++ b ∷ []) bytes (All-tail (λ c. nat_eq c mark ≡ false) b bytes none))
 
 -- no digit is such a mark
 pub digits_lack : (mark : ℕ) → 10 ≤ digit_value mark → (ds : List ℕ) → AllDigits 10 ds → All (λ b. nat_eq b mark ≡ false) ds
@@ -50,7 +50,7 @@ digits_lack mark far (c ∷ cs) d = grind (arith, common_steps, false, All-cons,
 pub decimal_lacks : (mark n : ℕ) → 10 ≤ digit_value mark → n < 2 ^ 64 → All (λ b. nat_eq b mark ≡ false) (decimal n)
 decimal_lacks mark n far small = digits_lack mark far (decimal n) (decimal_digits n small)
 
--- ---- words: parting at spaces
+-- ---- words: splitting at spaces
 
 words_space : (b : ℕ) (bytes : List ℕ) → nat_eq b 32 ≡ true → words (b ∷ bytes) ≡ [] ∷ words bytes
 words_space b bytes h = grind (arith, common_steps)
@@ -77,10 +77,10 @@ record Split (passed bytes before after : List ℕ) : Type 0 where
   is : before ≡ passed ++ front
   parts : words bytes ≡ front ∷ words after
 
-split : (passed bytes before after : List ℕ) → parted_after passed 32 bytes ≡ Some (before, after) → Split passed bytes before after
+split : (passed bytes before after : List ℕ) → split_after passed 32 bytes ≡ Some (before, after) → Split passed bytes before after
 split passed [] before after e = absurd cc
 split passed (b ∷ bytes) before after e = by (split (passed ++ b ∷ []) bytes before after) (nat_eq b 32) refl where
-  by : (parted_after (passed ++ b ∷ []) 32 bytes ≡ Some (before, after) → Split (passed ++ b ∷ []) bytes before after) → (t : Bool) → nat_eq b 32 ≡ t → Split passed (b ∷ bytes) before after
+  by : (split_after (passed ++ b ∷ []) 32 bytes ≡ Some (before, after) → Split (passed ++ b ∷ []) bytes before after) → (t : Bool) → nat_eq b 32 ≡ t → Split passed (b ∷ bytes) before after
   by later true h =
       let made : Some (passed, bytes) ≡ Some (before, after) = (chosen (nat_eq b 32) _ _ _ e).first h in
       let parts = some_is (passed, bytes) (before, after) made in
@@ -91,17 +91,17 @@ split passed (b ∷ bytes) before after e = by (split (passed ++ b ∷ []) bytes
       let rest = later ((chosen (nat_eq b 32) _ _ _ e).second h) in
       record { front = b ∷ rest.front; is = rest.is ∙ append_assoc passed (b ∷ []) rest.front; parts = words_other b bytes h ∙ ap (onto_first b) rest.parts }
 
-pub words_parted : (line before after : List ℕ) → parted 32 line ≡ Some (before, after) → words line ≡ before ∷ words after
-words_parted line before after e = let s = split [] line before after e in s.parts ∙ ap (λ t. t ∷ words after) (sym s.is)
+pub words_split_once : (line before after : List ℕ) → split_once 32 line ≡ Some (before, after) → words line ≡ before ∷ words after
+words_split_once line before after e = let s = split [] line before after e in s.parts ∙ ap (λ t. t ∷ words after) (sym s.is)
 
-one_word : (passed bytes : List ℕ) → parted_after passed 32 bytes ≡ None → words bytes ≡ bytes ∷ []
+one_word : (passed bytes : List ℕ) → split_after passed 32 bytes ≡ None → words bytes ≡ bytes ∷ []
 one_word passed [] e = refl
 one_word passed (b ∷ bytes) e = by (one_word (passed ++ b ∷ []) bytes) (nat_eq b 32) refl where
-  by : (parted_after (passed ++ b ∷ []) 32 bytes ≡ None → words bytes ≡ bytes ∷ []) → (t : Bool) → nat_eq b 32 ≡ t → words (b ∷ bytes) ≡ (b ∷ bytes) ∷ []
+  by : (split_after (passed ++ b ∷ []) 32 bytes ≡ None → words bytes ≡ bytes ∷ []) → (t : Bool) → nat_eq b 32 ≡ t → words (b ∷ bytes) ≡ (b ∷ bytes) ∷ []
   by later true h = grind (arith, common_steps, chosen)
   by later false h = grind (arith, common_steps, words_other, chosen)
 
-pub words_whole : (line : List ℕ) → parted 32 line ≡ None → words line ≡ line ∷ []
+pub words_whole : (line : List ℕ) → split_once 32 line ≡ None → words line ≡ line ∷ []
 words_whole line e = one_word [] line e
 
 pub joined_words : (line : List ℕ) → joined (words line) ≡ line
