@@ -7,7 +7,7 @@ use Rattle.std.proofs.lemmas.Slice.Eq.{bytes_eq-Decides}
 use Rattle.std.proofs.lemmas.List.Elements.{All-head}
 use Rattle.wb_names.specs.Values.{NameValue, DrawopValue, MarkValue}
 use Rattle.wb_names.specs.Drawing.{IsLawful, seq_fault, stroke_fault, text_fault, target_fault}
-use Rattle.wb_names.specs.Kinds.{op_kind, kind_with-key, kind_with-is}
+use Rattle.wb_names.specs.Kinds.{op_kind, kind_with-key}
 use Rattle.wb_names.specs.declared.name.PageId.{PageId}
 use Rattle.wb_names.specs.declared.echo.Echo.{Echo}
 use Rattle.wb_names.specs.declared.fault.FieldFault.{FieldFault}

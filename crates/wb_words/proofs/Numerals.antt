@@ -1,7 +1,7 @@
 -- Numbers, and the words that spell them.
 use Rattle.std.proofs.lemmas.Grind.{common_steps}
-use Rattle.std.proofs.Common.{◌≡◌, ℕ, ◌+◌, ◌*◌, ◌-◌, ◌^◌, ◌<◌, ◌≤◌, Bool, true, false, cond, Option, Some, None, List, [], ◌∷◌, inl, inr, length, get_or, drop, refl, sym, ap, subst, ◌∙◌, arith}
-use Rattle.std.specs.Prelude.{◌&&◌, nat_le, not, decimal}
+use Rattle.std.proofs.Common.{◌≡◌, ℕ, ◌+◌, ◌*◌, ◌-◌, ◌^◌, ◌<◌, ◌≤◌, Bool, true, false, cond, Option, Some, None, List, [], ◌∷◌, length, get_or, drop, refl, sym, ap, subst, ◌∙◌, arith}
+use Rattle.std.specs.Prelude.{nat_le, not, decimal}
 use Rattle.std.specs.Char.{digit_value, is_ascii_digit}
 use Rattle.std.specs.Str.{bytes_eq}
 use Rattle.std.specs.Str.Parse.{AllDigits, digits_value, digits_value_after}
@@ -88,8 +88,6 @@ pub record Walked (word : List ℕ) (i value : ℕ) : Type 0 where
   pub digits : AllDigits 10 (drop i word) → AllDigits 10 word
   pub back : AllDigits 10 word → AllDigits 10 (drop i word)
 
-pub walked_none : (word : List ℕ) → Walked word 0 0
-walked_none word = record { so_far = refl; digits = λ d. d; back = λ d. d }
 
 pub walked_more : (word : List ℕ) (i value b more : ℕ) → Walked word i value → i < length word → b ≡ get_or word i 0 → 48 ≤ b → b ≤ 57 → more ≡ value * 10 + (b - 48) → Walked word (i + 1) more
 walked_more word i value b more h lt is low high new =

@@ -30,6 +30,7 @@ pub fn split_once(bytes: &[u8], mark: u8) -> Option<(&[u8], &[u8])>
 }
 
 /// The first word of some bytes, and what follows it.
+#[tactic(auto, using(crate::proofs::Splitting::words_split_once, crate::proofs::Splitting::words_whole))]
 pub(crate) fn first_word(bytes: &[u8]) -> (&[u8], Rest<'_>)
     ensures { words bytes.now ≡ result.0.now ∷ words_left result.1 }
 {

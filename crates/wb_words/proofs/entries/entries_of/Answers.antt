@@ -1,10 +1,8 @@
 use Rattle.std.proofs.lemmas.Grind.{common_steps}
-use Rattle.std.proofs.Common.{◌≡◌, ◌<◌, ◌≤◌, ◌+◌, ℕ, length, sym, ap, ◌∙◌, arith, Ok}
+use Rattle.std.proofs.Common.{◌≡◌, ◌<◌, ◌+◌, ℕ, length, sym, ap, ◌∙◌, arith}
 use Rattle.std.proofs.lemmas.Result.{err_from_is_err_and}
 use Rattle.wb_codec.proofs.EntryLists.{ascends_more}
-use Rattle.wb_words.specs.declared.fault.WordFault.TheVariants.{TooMany}
 use Rattle.wb_words.specs.Rests.{words_left}
-use Rattle.wb_words.specs.Reading.{wrong}
 use Rattle.wb_words.proofs.EntryLists.{read_pushed, read_stops, read_many, read_all, read_until}
 use Rattle.wb_words.proofs.entries.entries_of.Goals as goal
 use Rattle.wb_words.proofs.entries.entries_of.Goals.{in-Words+then-ends, in_default}

@@ -1,5 +1,5 @@
 use Rattle.std.proofs.lemmas.Grind.{common_steps}
-use Rattle.std.proofs.Common.{◌<◌, ◌+◌, ◌-◌, ◌*◌, get_or, refl, sym, ◌∙◌, arith}
+use Rattle.std.proofs.Common.{◌<◌, ◌+◌, ◌-◌, ◌*◌, get_or, refl, sym, arith}
 use Rattle.std.proofs.lemmas.Bool.Decides.{nat_tests}
 use Rattle.wb_words.proofs.Numerals.{not_plain, walked_stops, walked_past, walked_all, not_digit, a_digit}
 use Rattle.wb_words.proofs.number.number_in.Goals as goal
