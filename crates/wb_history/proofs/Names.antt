@@ -34,7 +34,7 @@ alike_same true b c e = e
 alike_same false b c e = cc
 
 alike-is : (m n : NameValue) → alike m n ≡ true → m ≡ n
-alike-is m n e = same_name-is m n (alike_same (nat_eq m.source n.source) (same_page m.page n.page) (nat_eq m.seq n.seq) e)
+alike-is m n e = grind (arith, common_steps, same_name-is, alike_same)
 
 apart : true ≡ false → ⊥
 apart e = cc
@@ -90,4 +90,4 @@ put_name l l' d keys keys' absent indexed put inserted =
 
 -- the last names leave the index
 pub take_names : (n : ℕ) (l l' : List DrawopValue) (keys keys' : List NameValue) → keys ≡ names l → l' ≡ take n l → keys' ≡ take n keys → keys' ≡ names l'
-take_names n l l' keys keys' indexed taken cut = cut ∙ (ap (take n) indexed ∙ (take-map (λ (d : DrawopValue). d.name) n l ∙ sym (ap names taken)))
+take_names n l l' keys keys' indexed taken cut = grind (arith, common_steps, take-map, names)

@@ -16,10 +16,10 @@ use Rattle.wb_history.proofs.Lists.{at_after}
 
 pub rows-append : (rs ss : List RowRange) → rows_in (rs ++ ss) ≡ rows_in rs ++ rows_in ss
 rows-append [] ss = refl
-rows-append (r ∷ rs) ss = ap (λ (l : List ℕ). rows_of r ++ l) (rows-append rs ss) ∙ sym (append_assoc (rows_of r) (rows_in rs) (rows_in ss))
+rows-append (r ∷ rs) ss = grind (arith, common_steps, append_assoc, rows-append rs ss)
 
 range-append : (a m n : ℕ) → range_with_len a (m + n) ≡ range_with_len a m ++ range_with_len (a + m) n
-range-append a zero n = let e : 0 + n ≡ n = omega arith in let f : a ≡ a + 0 = omega arith in ap (λ k. range_with_len a k) e ∙ ap (λ k. range_with_len k n) f
+range-append a zero n = grind (arith, common_steps)
 range-append a (suc m) n =
     let e : suc m + n ≡ suc (m + n) = omega arith in
     let f : a + 1 + m ≡ a + suc m = omega arith in
@@ -28,7 +28,7 @@ range-append a (suc m) n =
 range_at : (a n i : ℕ) → i < n → get_elem? (range_with_len a n) i ≡ some (a + i)
 range_at a zero i h = absurd (omega arith)
 range_at a (suc n) zero h = let e : a ≡ a + 0 = omega arith in ap some e
-range_at a (suc n) (suc i) h = let e : a + 1 + i ≡ a + suc i = omega arith in range_at (a + 1) n i (omega arith) ∙ ap some e
+range_at a (suc n) (suc i) h = grind (arith, common_steps, range_at (a + 1) n i (omega arith))
 
 -- a list in two parts, cut where the first one ends
 pub cut_at : (xs front back : List ℕ) (k : ℕ) → xs ≡ front ++ back → length front ≡ k → (take k xs ≡ front) × (drop k xs ≡ back)
@@ -108,7 +108,7 @@ module _ (rs : List RowRange) (count rows : ℕ) (items : List ℕ) (is : rows_i
   -- cut at a place that a slice of them has told: between two ranges
   module _ (slice : List RowRange) (at part : ℕ) (same : slice ≡ rs) (before : length (rows_in (take at slice)) + part ≡ count - rows) where
     here : length (rows_in (take at rs)) + part ≡ count - rows
-    here = subst (λ (l : List RowRange). length (rows_in (take at l)) + part ≡ count - rows) same before
+    here = grind (arith, common_steps)
 
     pub parts_between : part ≡ 0 → HaveFirst items count rows (take at rs) × HaveLast items rows (drop at rs)
     parts_between none = let kept = here in in_two (take at rs) (drop at rs) (cut_between rs at) (omega arith) (All-take IsRange at rs lawful.1) (All-drop IsRange at rs lawful.1)
@@ -137,10 +137,10 @@ module _ (rs : List RowRange) (count rows : ℕ) (items : List ℕ) (is : rows_i
 -- without the last row: the last range has one less, or had it alone
 module _ (rs : List RowRange) (count size : ℕ) (r : RowRange) (items : List ℕ) (is : rows_in rs ≡ items) (lawful : (count ≡ length (rows_in rs)) × All IsRange rs) (some_rows : 0 < length items) (sized : size ≡ length rs) (at : r ≡ get_or rs (size - 1) r) where
   long : length rs ≡ (size - 1) + 1
-  long = let all = ap length is in let some = some_range rs (omega arith) in omega arith
+  long = grind (arith, common_steps, some_range)
 
   one : IsRange r
-  one = let l = long in subst IsRange (sym at) (lawful.1 (size - 1) r (omega arith))
+  one = grind (arith, common_steps, long)
 
   but_last : (kept : List RowRange) → rows_in (take (size - 1) rs) ++ range_with_len r.first (r.count - 1) ≡ rows_in kept → All IsRange kept → HaveFirst items count 1 kept
   but_last kept same ranges =

@@ -31,7 +31,7 @@ pub record ReadSo (v : Knowledge) (words : List ℕ) (w : Knowledge) : Type 0 wh
   pub made : w.made ≡ v.made + length words
 
 pub last_free : (free free' : List ℕ) (r : ℕ) → free' ≡ free → get_elem? free (length free - 1) ≡ some r → get_elem? free' (length free' - 1) ≡ some r
-last_free free free' r same at = subst (λ (l : List ℕ). get_elem? l (length l - 1) ≡ some r) (sym same) at
+last_free free free' r same at = grind (arith, common_steps)
 
 pub length-some : (l words : List ℕ) (i : ℕ) → l ≡ take i words → i ≤ length words → length l ≡ i
 length-some l words i e h = ap length e ∙ length-take-le i words h

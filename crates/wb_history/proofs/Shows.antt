@@ -155,7 +155,7 @@ first_order h cells some_cells me seen mine free = record {
 }
 
 brought_is : (h : Cursor) (more : List DrawopValue) (k : ℕ) (h' : Cursor) → Walked h more k h' → length h'.seen.items - length h.seen.items ≡ length more
-brought_is h more k h' w = let l = ap length w.seen in omega (arith, length-append h.seen.items more)
+brought_is h more k h' w = grind (arith, common_steps, length-append)
 
 -- the pass after its cursor has read on
 pub reads_on : {p : PassValue} (h : Cursor) (more : List DrawopValue) (k : ℕ) (h' : Cursor) → k ≤ 1 → view_of h ≡ p → IsHeld h → Walked (record h { steps = 0 }) more k h' → ReadsOn p (view_of h')

@@ -26,7 +26,7 @@ win_on h a b d place j k h' h'' o v w = grind (arith, common_steps)
 -- a cursor has not seen more than all cells
 
 pub few_steps : (h : Cursor) (a : List DrawopValue) (h' : Cursor) → h.steps ≡ 0 → Walked h a 0 h' → h'.steps ≤ member_steps * length h'.seen.items
-few_steps h a h' none w = let s = w.steps in let l = ap length w.seen in omega (arith, length-append h.seen.items a)
+few_steps h a h' none w = grind (arith, common_steps, length-append)
 
 pub lacks_more : (l : List DrawopValue) (d : DrawopValue) (name : NameValue) → (HoldsName l name → ⊥) → d.name ≢ name → HoldsName (l ++ d ∷ []) name → ⊥
 lacks_more l d name lacks other held = grind (arith, common_steps)
@@ -38,7 +38,7 @@ answered h d extra h' (Present i) more w a = (more, w, a)
 answered h d extra h' (Clash i) more w a = (more, w, a)
 
 pub answer_on : (h : Cursor) (a : List DrawopValue) (d : DrawopValue) (j k : ℕ) (h' h'' : Cursor) (c : Claim) → InOrder h → Walked h a j h' → Answered h' d k h'' c → Answered h d (j + k) h'' c
-answer_on h a d j k h' h'' (Added i) o v s = (a ++ s.0, subst (λ n. Won h (a ++ s.0) d i n h'') (omega arith) (win_on h a s.0 d i j (k + 1) h' h'' o v s.1))
+answer_on h a d j k h' h'' (Added i) o v s = grind (arith, common_steps, win_on)
 answer_on h a d j k h' h'' (Present i) o v s = (a ++ s.0, walk_on h a s.0 j k h' h'' o v s.1, s.2)
 answer_on h a d j k h' h'' (Clash i) o v s = (a ++ s.0, walk_on h a s.0 j k h' h'' o v s.1, s.2)
 

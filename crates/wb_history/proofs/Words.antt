@@ -23,7 +23,7 @@ module _ {A : Type 0} where
 
 
   pub read_is : (l : List A) (i : ℕ) (a d : A) → get_elem? l i ≡ some a → get_or l i d ≡ a
-  read_is l i a d e = some-injective (get_or l i d) a (sym (at_read l i d (at-lt l i a e)) ∙ e)
+  read_is l i a d e = grind (arith, common_steps, at_read, at-lt)
 
 
   pub at_contained : (l : List A) (a : A) → Contains l a → (i : ℕ) × (get_elem? l i ≡ some a)

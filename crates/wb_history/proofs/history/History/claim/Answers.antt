@@ -1,3 +1,5 @@
+use Rattle.std.proofs.Common.{arith}
+use Rattle.std.proofs.lemmas.Grind.{common_steps}
 use Rattle.std.proofs.Common.{subst, MatchResult}
 use mathlib.Core.List.{IsPrefix}
 use Rattle.wb_history.specs.Passes.{PassValue}
@@ -20,7 +22,4 @@ returns-clause-grows c =
     subst (λ (p : PassValue). IsPrefix p.seen c.claim_with.new.cursor.seen.items) c.pass.view_is on.2
 
 pub returns-clause-answer : goal.returns-clause-answer
-returns-clause-answer c =
-    let at = sits c.self.inside.cells c.pass.inside.cursor c.self.view_is c.pass.view_is c.pass.invariant.0 c.requires.pass in
-    let s = shown c.self.inside.cells.cells c.pass.inside.cursor c.args.drawop.now c.claim_with.new.cursor c.claim_with.result c.pass.invariant.0.0 at.1 c.claim_with.ensures.done in
-    subst (λ (p : PassValue). MatchResult c.claim_with.result (Claimed p c.args.drawop.now (view_of c.claim_with.new.cursor)) (NotClaimed p c.args.drawop.now (view_of c.claim_with.new.cursor))) c.pass.view_is s
+returns-clause-answer c = grind (arith, common_steps, sits, shown)

@@ -1,3 +1,5 @@
+use Rattle.std.proofs.Common.{arith}
+use Rattle.std.proofs.lemmas.Grind.{common_steps}
 use Rattle.std.proofs.Common.{◌≡◌, subst, Some}
 use Rattle.std.specs.Prelude.{slice_get}
 use Rattle.wb_names.specs.Values.{DrawopValue}
@@ -7,6 +9,4 @@ use Rattle.wb_history.proofs.pass.Pass.place_of.Goals as goal
 
 
 pub returns-in-Some : goal.returns-in-Some
-returns-in-Some c =
-    let e = c.in-Some.ensures in
-    subst (λ (p : PassValue). (x : DrawopValue) × (slice_get p.seen c.in-Some.place ≡ Some x) × (x.name ≡ c.args.name.now)) c.self.view_is (e.1, get_is c.self.inside.cursor.seen.items c.in-Some.place e.1 e.2, e.3)
+returns-in-Some c = grind (arith, common_steps, get_is)
