@@ -1,7 +1,7 @@
 -- What a pass knows while it reads or stores a row.
 use Rattle.std.proofs.lemmas.Grind.{common_steps}
 use Rattle.wb_history.specs.Sizes.{row_words}
-use Rattle.std.proofs.Common.{◌≡◌, ℕ, ◌+◌, ◌-◌, ◌≤◌, List, [], ◌∷◌, ◌++◌, length, take, set, refl, sym, ap, ◌∙◌, subst, arith, length-set, length-take-le}
+use Rattle.std.proofs.Common.{◌≡◌, ℕ, ◌+◌, ◌-◌, ◌≤◌, List, [], ◌∷◌, ◌++◌, length, take, set, refl, sym, ap, ◌∙◌, arith, length-set, length-take-le}
 use Rattle.std.proofs.lemmas.List.{take_more_set}
 use mathlib.Core.Option.{some}
 use lib.ListN.{get_elem?}

@@ -203,6 +203,7 @@ impl History {
 
     /// Both passes have then seen the same list, the longer of their two: the shorter grows where it
     /// lies, by its own allocator. A refused call changes nothing.
+    #[tactic(auto, using(crate::proofs::Shows::sound_pass, crate::proofs::Shows::sound_told))]
     pub fn meet(
         &self,
         _alloc: Global,

@@ -48,6 +48,7 @@ impl Pass {
     }
 
     /// The place of the drawop with this name, by one look-up.
+    #[tactic(auto, using(crate::proofs::Words::get_is))]
     pub fn place_of(&self, name: &Name) -> Option<u32>
         ensures { MatchOption result (¬ HoldsName self.now.seen name.now) (λ i. (d : DrawopValue) × (slice_get self.now.seen i ≡ Some d) × (d.name ≡ name.now)) }
     {

@@ -52,6 +52,7 @@ impl Rows {
     }
 
     /// The row that is used next.
+    #[tactic(auto, using(crate::proofs::RowLists::last_is))]
     pub(crate) fn last(&self) -> Option<u32>
         ensures { MatchOption result (self.now.items ≡ []) (λ r. get_elem? self.now.items (length self.now.items - 1) ≡ some r) }
     {
@@ -64,6 +65,7 @@ impl Rows {
     }
 
     /// Takes the last row out.
+    #[tactic(auto, using(crate::proofs::RowLists::one_less, crate::proofs::RowLists::none_left))]
     pub(crate) fn take_last(&mut self)
         requires { 0 < length self.old.items }
         ensures { self.new.items ≡ take (length self.old.items - 1) self.old.items }

@@ -1,10 +1,8 @@
 use Rattle.std.proofs.Common.{arith}
 use Rattle.std.proofs.lemmas.Grind.{common_steps}
-use Rattle.std.proofs.Common.{subst, MatchResult}
+use Rattle.std.proofs.Common.{subst}
 use mathlib.Core.List.{IsPrefix}
 use Rattle.wb_history.specs.Passes.{PassValue}
-use Rattle.wb_history.specs.Replies.{Claimed, NotClaimed}
-use Rattle.wb_history.specs.Shown.{view_of}
 use Rattle.wb_history.proofs.Shows.{shown, sits, sound, pass_on, held_after}
 use Rattle.wb_history.proofs.history.History.claim.Goals as goal
 

@@ -1,7 +1,6 @@
 use Rattle.std.proofs.Common.{arith}
 use Rattle.std.proofs.lemmas.Grind.{common_steps}
-use Rattle.std.proofs.Common.{◌∙◌, refl, sym, subst}
-use Rattle.wb_history.specs.Passes.{IsSound}
+use Rattle.std.proofs.Common.{◌∙◌, refl, sym}
 use Rattle.wb_history.proofs.Fronts.{fronts_on}
 use Rattle.wb_history.proofs.Shows.{sound, sound_pass, held_on}
 use Rattle.wb_history.proofs.Unions.{joined, same_view}
