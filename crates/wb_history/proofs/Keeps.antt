@@ -215,7 +215,7 @@ reads_last cells slots id m word unspent some_row long is s r _ at small =
     let d = member.0 in
     let w = after_member v d word found in
     let knows : Knows cells s.words r.log r.rows r.owner id w = record {
-      sees = record { sized = known.sized; begins = next_member r.log v.seen d known.begins member.1; told_begins = known.told_begins };
+      sees = record { sized = known.sized; begins = next_member r.log v.seen d known.begins member.1; joined_begins = known.joined_begins };
       owns = record {
         free_is = known.free_is;
         free_once = known.free_once;
@@ -333,7 +333,7 @@ module _ (cells : ℕ) (s : Board) (r : Lawful cells s) (id q : ℕ) (d : Drawop
 
   others_after_win : (j : ℕ) (u : Knowledge) → j ≢ id → length u.seen ≤ length r.rows → Knows cells s.words r.log r.rows r.owner j u → Knows cells filled_words log_after rows_after r.owner j u
   others_after_win j u other few_seen known = record {
-    sees = record { sized = known.sized; begins = starts_more r.log u.seen (d ∷ []) known.begins; told_begins = starts_more r.log u.told (d ∷ []) known.told_begins };
+    sees = record { sized = known.sized; begins = starts_more r.log u.seen (d ∷ []) known.begins; joined_begins = starts_more r.log u.joined (d ∷ []) known.joined_begins };
     owns = record {
       free_is = λ i a e. let f = known.free_is i a e in
           (f.0, f.1, λ p h. ⊎_elim (λ old. f.2 p old) (λ t. other (sym f.1 ∙ (ap r.owner (sym t.1) ∙ own))) (at_end r.rows q p a h));
@@ -372,7 +372,7 @@ wins cells slots id m d q unspent inside last stored_is valid_d lacks s r at fou
     let word' = other_word cells s r id q d mine.1 mine.0 mine.2 inside' in
     let begins' : IsPrefix (v.seen ++ d ∷ []) log' = next_member log' v.seen d (starts_more r.log v.seen (d ∷ []) known.begins) (at_last' r.log d (length v.seen) (omega arith)) in
     let knows : Knows cells words' log' rows' r.owner id w = record {
-      sees = record { sized = known.sized; begins = begins'; told_begins = starts_more r.log v.told (d ∷ []) known.told_begins };
+      sees = record { sized = known.sized; begins = begins'; joined_begins = starts_more r.log v.joined (d ∷ []) known.joined_begins };
       owns = record {
         free_is = λ i a e. let t = at_take (length v.free - 1) v.free i a e in let f = known.free_is i a t.1 in let lt = t.0 in
             (f.0, f.1, λ p h. ⊎_elim (λ old. f.2 p old) (λ c. let same = known.free_once i (length v.free - 1) q (subst (λ z. get_elem? v.free i ≡ some z) (sym c.1) t.1) last in absurd (omega arith)) (at_end r.rows q p a h));
@@ -469,8 +469,8 @@ confirms cells slots id m word unspent s r _ at small =
     let found = get_or s.words word 0 in
     let w = after_confirm v word found in
     let knows : Knows cells s.words r.log r.rows r.owner id w = record {
-      sees = record { sized = known.sized; begins = known.begins; told_begins = (r.log, refl) };
+      sees = record { sized = known.sized; begins = known.begins; joined_begins = (r.log, refl) };
       owns = known.owns;
       remembers = known.remembers;
     } in
-    (w, keeps, tt, unmoved cells s r word id m.1 w knows, (refl, refl, (λ h. both_start r.log v.seen v.told known.begins known.told_begins h), unmoved_consistent cells slots id m unspent s r at word w unspent knows))
+    (w, keeps, tt, unmoved cells s r word id m.1 w knows, (refl, refl, (λ h. both_start r.log v.seen v.joined known.begins known.joined_begins h), unmoved_consistent cells slots id m unspent s r at word w unspent knows))

@@ -63,7 +63,7 @@ splits cells id n v s r at =
       remembers = nothing_remembered _ _ _ _ _;
     } in
     let right : Knows cells s.words r.log r.rows owner' new (right_part n v) = record {
-      sees = record { sized = known.sized; begins = known.begins; told_begins = (r.log, refl) };
+      sees = record { sized = known.sized; begins = known.begins; joined_begins = (r.log, refl) };
       owns = record {
         free_is = λ i q e. let f = known.free_is (keep + i) q (at_drop keep v.free i q e) in (f.0, ⊎_elim (λ g. g.1) (λ g. absurd (g.0 i e)) (given_cases gone new r.owner q), f.2);
         free_once = once_drop keep v.free known.free_once;
@@ -130,7 +130,7 @@ joins cells id v other w s r at apart at_other =
       sees = record {
         sized = known.sized;
         begins = ⊎_elim (λ t. subst (λ (l : List DrawopValue). IsPrefix l r.log) (sym t.0) known.begins) (λ t. subst (λ (l : List DrawopValue). IsPrefix l r.log) (sym t.0) known_w.begins) (longer_cases v.seen w.seen);
-        told_begins = shorter_of (λ (l : List DrawopValue). IsPrefix l r.log) v.seen w.seen known.begins known_w.begins;
+        joined_begins = shorter_of (λ (l : List DrawopValue). IsPrefix l r.log) v.seen w.seen known.begins known_w.begins;
       };
       owns = record {
         free_is = λ i q e. ⊎_elim (λ h. let f = known.free_is i q h in (f.0, now_own q f.1, f.2)) (λ t. let f = known_w.free_is t.0 q t.2 in (f.0, now_own' q f.1, f.2)) (at_append v.free w.free i q e);
@@ -144,7 +144,7 @@ joins cells id v other w s r at apart at_other =
       remembers = nothing_remembered _ _ _ _ _;
     } in
     let gone : Knows cells s.words r.log r.rows owner' other spent = record {
-      sees = record { sized = λ h. absurd (omega arith); begins = (r.log, refl); told_begins = (r.log, refl) };
+      sees = record { sized = λ h. absurd (omega arith); begins = (r.log, refl); joined_begins = (r.log, refl) };
       owns = record {
         free_is = λ i q e. absurd (at_nothing i q e);
         free_once = once_nothing;

@@ -105,7 +105,7 @@ module _ (rs : List RowRange) (count rows : ℕ) (items : List ℕ) (is : rows_i
   in_two : (kept cut : List RowRange) → rows_in rs ≡ rows_in kept ++ rows_in cut → length (rows_in kept) ≡ count - rows → All IsRange kept → All IsRange cut → HaveFirst items count rows kept × HaveLast items rows cut
   in_two kept cut parts long first second = grind (arith, common_steps)
 
-  -- cut at a place that a slice of them has told: between two ranges
+  -- cut at a place that a slice of them tells: between two ranges
   module _ (slice : List RowRange) (at part : ℕ) (same : slice ≡ rs) (before : length (rows_in (take at slice)) + part ≡ count - rows) where
     here : length (rows_in (take at rs)) + part ≡ count - rows
     here = grind (arith, common_steps)

@@ -36,11 +36,6 @@ last_free free free' r same at = grind (arith, common_steps)
 pub length-some : (l words : List ℕ) (i : ℕ) → l ≡ take i words → i ≤ length words → length l ≡ i
 length-some l words i e h = ap length e ∙ length-take-le i words h
 
-
-
-
-
-
 -- the last word was read, and the words are the record of d
 pub read_row_is : (w : Knowledge) (words : List ℕ) (found : ℕ) (d : DrawopValue) (i : ℕ) → i + 1 ≡ row_words → length words ≡ row_words → w.read ≡ take i words → row d ≡ w.read ++ found ∷ [] → row d ≡ set words (row_words - 1) found
 read_row_is w words found d i last long is e =

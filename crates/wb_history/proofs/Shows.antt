@@ -71,10 +71,10 @@ on_ok (Err e) p = tt
 pub roomier : (h : Cursor) (m : MembersValue) → m.items ≡ h.seen.items → IsHeld h → IsHeld (record h { seen = m })
 roomier h m same i = grind (arith, common_steps)
 
--- a pass is told what another has seen, or both stay as they were
-pub sound_told : {A E : Type 0} (p q : PassValue) (Teller : Type 0) (r : Result A E) → OnOk r (IsSound q) → OnErr r (Teller × (q ≡ p)) → IsSound p → IsSound q
-sound_told p q Teller (Ok u) told kept s = told
-sound_told p q Teller (Err e) told kept s = subst IsSound (sym kept.1) s
+-- a pass hears what another has seen, or both stay as they were
+pub sound_heard : {A E : Type 0} (p q : PassValue) (Teller : Type 0) (r : Result A E) → OnOk r (IsSound q) → OnErr r (Teller × (q ≡ p)) → IsSound p → IsSound q
+sound_heard p q Teller (Ok u) heard kept s = heard
+sound_heard p q Teller (Err e) heard kept s = subst IsSound (sym kept.1) s
 
 -- the parts of a pass after steps of its seat
 pub held_on : (h h' : Cursor) → IsHeld h → InOrder h' → SameSeat h.seat h'.seat → h'.seat.me.0.cells ≡ h.seat.me.0.cells → IsHeld h'

@@ -4,32 +4,15 @@ use Rattle.std.proofs.Common.{◌≡◌, ℕ, ◌+◌, List, ◌++◌, length, a
 use Rattle.std.specs.Prelude.{Contains}
 use Rattle.atomic_table.proofs.Lists.{at_longer}
 use Rattle.wb_history.proofs.Lists.{at_read, at_after}
-use mathlib.Core.Option.{some, none}
+use mathlib.Core.Option.{some}
 use mathlib.Core.List.{IsPrefix}
-use Rattle.atomic_table.specs.Table.{Me, step}
 use Rattle.wb_names.specs.Values.{DrawopValue}
-use Rattle.wb_history.specs.declared.knowledge.Knowledge.{Knowledge}
 use Rattle.wb_history.specs.declared.cursor.Cursor.{Cursor}
 use Rattle.wb_history.specs.Lists.{Once, longer}
 use Rattle.wb_history.specs.Cursors.{InOrder, United}
-use Rattle.wb_history.specs.Plays.{confirmed}
 use Rattle.wb_history.specs.Sharing.{IsJoined}
 use Rattle.wb_history.specs.Passes.{PassValue}
 use Rattle.wb_history.specs.Shown.{view_of}
-use Rattle.wb_history.specs.Views.{united}
-
-
-
--- the longer of two lists begins with each, where it begins with the shorter
-
--- of the lists of two seats that were united each begins the longer, as a load tells
-begins : (h : Cursor) (w : Knowledge) (u : Me DrawopValue Knowledge) (word found : ℕ) (m : Me DrawopValue Knowledge) → InOrder h → u.0 ≡ united h.seat.me.0 w → confirmed (step 0 word 0 0 none) u found m
-    → IsPrefix h.seen.items (longer h.seen.items w.seen) × IsPrefix w.seen (longer h.seen.items w.seen)
-begins h w u word found m o is told = grind (arith, common_steps)
-
--- the cursor has seen a front of what the other has, where that is no shorter
-
--- the cursor after its seat took in the other, and a load told what the join did not
 
 -- where no element of two lists together stands twice, they share none
 shared_none : (xs ys : List ℕ) → Once (xs ++ ys) → (i : ℕ) → Contains xs i → Contains ys i → ⊥
@@ -59,7 +42,3 @@ joined p q h g h' is_p is_q o u = subst (λ (v : PassValue). IsJoined v q (view_
 
     long : length (h.free.items ++ g.seat.me.0.free) ≡ length h.free.items + length g.free.items
     long = omega (arith, length-append h.free.items g.seat.me.0.free, ap length o.free)
-
--- a pass that took in one with no rows and no places keeps its own
-
--- a pass that stays as it was

@@ -1,7 +1,6 @@
 -- Walks of a cursor along the history.
 use Rattle.std.proofs.lemmas.Grind.{common_steps}
-use Rattle.wb_history.specs.Sizes.{member_steps}
-use Rattle.std.proofs.Common.{◌≡◌, ◌≢◌, ℕ, ◌+◌, ◌*◌, ◌<◌, ◌≤◌, List, [], ◌∷◌, ◌++◌, length, refl, arith, length-append}
+use Rattle.std.proofs.Common.{◌≢◌, ℕ, ◌+◌, ◌<◌, List, [], ◌∷◌, ◌++◌, length, refl, arith}
 use Rattle.wb_names.specs.Values.{NameValue, DrawopValue}
 use Rattle.wb_history.specs.declared.cursor.Cursor.{Cursor}
 use Rattle.wb_history.specs.declared.cells.CellTable.{CellTable}
@@ -14,8 +13,6 @@ use Rattle.wb_history.proofs.Lists.{at-lt}
 use Rattle.wb_history.proofs.Words.{named_at, one_place}
 use Rattle.atomic_table.proofs.Lists.{at_longer, at_last}
 
-
-
 pub walk_on : (h : Cursor) (a b : List DrawopValue) (j k : ℕ) (h' h'' : Cursor) → InOrder h → Walked h a j h' → Walked h' b k h'' → Walked h (a ++ b) (j + k) h''
 walk_on h a b j k h' h'' o v w = grind (arith, common_steps)
 
@@ -23,14 +20,8 @@ pub win_on : (h : Cursor) (a b : List DrawopValue) (d : DrawopValue) (place j k 
 win_on h a b d place j k h' h'' o v w = grind (arith, common_steps)
 
 
--- a cursor has not seen more than all cells
-
-pub few_steps : (h : Cursor) (a : List DrawopValue) (h' : Cursor) → h.steps ≡ 0 → Walked h a 0 h' → h'.steps ≤ member_steps * length h'.seen.items
-few_steps h a h' none w = grind (arith, common_steps, length-append)
-
 pub lacks_more : (l : List DrawopValue) (d : DrawopValue) (name : NameValue) → (HoldsName l name → ⊥) → d.name ≢ name → HoldsName (l ++ d ∷ []) name → ⊥
 lacks_more l d name lacks other held = grind (arith, common_steps)
-
 
 pub answered : (h : Cursor) (d : DrawopValue) (extra : ℕ) (h' : Cursor) (c : Claim) (more : List DrawopValue) → Walked h more extra h' → TellsNamesake h'.seen.items d c → Answered h d extra h' c
 answered h d extra h' (Added i) more w a = absurd a

@@ -21,10 +21,8 @@ module _ {A : Type 0} where
   get_is (x ∷ xs) zero a e = ap Some (some-injective x a e)
   get_is (x ∷ xs) (suc i) a e = get_is xs i a e
 
-
   pub read_is : (l : List A) (i : ℕ) (a d : A) → get_elem? l i ≡ some a → get_or l i d ≡ a
   read_is l i a d e = grind (arith, common_steps, at_read, at-lt)
-
 
   pub at_contained : (l : List A) (a : A) → Contains l a → (i : ℕ) × (get_elem? l i ≡ some a)
   at_contained l a c = (c.0, at_read l c.0 a c.1 ∙ ap some c.2)
@@ -37,8 +35,6 @@ module _ {A : Type 0} where
 
   pub all_at : (P : A → Type 0) (l : List A) (i : ℕ) (a : A) → All P l → get_elem? l i ≡ some a → P a
   all_at P l i a all e = subst P (read_is l i a a e) (all i a (at-lt l i a e))
-
--- a search for a number in a list
 
 -- a history, by its places
 pub history_is : (l : List DrawopValue) → ((p q : ℕ) (d e : DrawopValue) → get_elem? l p ≡ some d → get_elem? l q ≡ some e → d.name ≡ e.name → p ≡ q) → IsHistory l

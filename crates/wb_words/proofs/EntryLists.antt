@@ -59,7 +59,6 @@ abbrev pub onto : {X : Type 0} → List X → Result (List X) WrongWord → Resu
 onto xs (Ok read) = Ok (xs ++ read)
 onto xs (Err fault) = Err fault
 
-
 onto_onto : {X : Type 0} (xs ys : List X) (r : Result (List X) WrongWord) → onto xs (onto ys r) ≡ onto (xs ++ ys) r
 onto_onto xs ys (Ok zs) = ap (λ (l : List _). Ok l) (sym (append_assoc xs ys zs))
 onto_onto xs ys (Err fault) = refl
@@ -81,7 +80,6 @@ module _ {X : Type 0} (entry_at : ℕ → Option ℕ → List ℕ → Result X W
   pub record HasRead (place : ℕ) (ws : List (List ℕ)) (before : Option ℕ) (rest : List (List ℕ)) (xs : List X) : Type 0 where
     pub so_far : entries_at entry_at source stops place 0 None ws ≡ onto xs (entries_at entry_at source stops (place + length xs) (length xs) before rest)
     pub few : length xs ≤ 65535
-
 
   read_one : (place n : ℕ) (before : Option ℕ) (w : List ℕ) (after : List (List ℕ)) (x : X) → stops w ≡ false → n < 65535 → entry_at place before w ≡ Ok x
       → read place n before (w ∷ after) ≡ onto (x ∷ []) (read (place + 1) (n + 1) (Some (source x)) after)

@@ -88,7 +88,6 @@ pub record Walked (word : List ℕ) (i value : ℕ) : Type 0 where
   pub digits : AllDigits 10 (drop i word) → AllDigits 10 word
   pub back : AllDigits 10 word → AllDigits 10 (drop i word)
 
-
 pub walked_more : (word : List ℕ) (i value b more : ℕ) → Walked word i value → i < length word → b ≡ get_or word i 0 → 48 ≤ b → b ≤ 57 → more ≡ value * 10 + (b - 48) → Walked word (i + 1) more
 walked_more word i value b more h lt is low high new =
     let split : drop i word ≡ b ∷ drop (i + 1) word = drop_more word i 0 lt ∙ ap (λ c. c ∷ drop (i + 1) word) (sym is) in

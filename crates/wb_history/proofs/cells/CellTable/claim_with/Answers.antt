@@ -7,7 +7,6 @@ use Rattle.wb_history.proofs.Lists.{at-lt}
 use Rattle.wb_history.proofs.Walks.{answered, walk_on, answer_on, free_end}
 use Rattle.wb_history.proofs.cells.CellTable.claim_with.Goals as goal
 
-
 pub returns-in-Ok-Some-clause-done : goal.returns-in-Ok-Some-clause-done
 returns-in-Ok-Some-clause-done c = grind (arith, common_steps, answered)
 

@@ -36,8 +36,6 @@ load-requires-2 c =
     let done = length-some _ _ _ s.read (omega arith) in
     (i.0.0 ∙ c.requires.seat.0, omega arith, reads_last _ _ _ _ _ (omega arith) (omega arith) (omega arith) (let back : c.loop-i.seat.me.0.looking - 1 ≡ c.args.row = omega arith in omega arith))
 
-
-
 pub unreachable-requires : goal.unreachable-requires
 unreachable-requires c = grind (arith, common_steps, read_row_is)
 
