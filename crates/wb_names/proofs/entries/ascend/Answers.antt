@@ -1,5 +1,5 @@
 use Rattle.std.proofs.lemmas.Grind.{common_steps}
-use Rattle.std.proofs.Common.{◌≡◌, ◌-◌, length, ap, arith, subst}
+use Rattle.std.proofs.Common.{◌≡◌, length, arith, subst}
 use Rattle.std.proofs.lemmas.List.{get_or_read}
 use Rattle.wb_names.proofs.Ascents.{Climbs, climb, climbed, descends_read}
 use Rattle.wb_names.proofs.entries.ascend.Goals as goal
