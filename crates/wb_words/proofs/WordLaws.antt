@@ -15,7 +15,7 @@ use Rattle.wb_codec.proofs.EntryLaws.{MarkFits, EchoFits, mark_source, echo_sour
 use Rattle.wb_words.specs.declared.fault.WordFault.{WordFault}
 use Rattle.wb_words.specs.declared.fault.WrongWord.{WrongWord}
 use Rattle.wb_words.specs.declared.fault.WordFault.TheVariants.{Order}
-use Rattle.wb_words.specs.Words.{◌>>=◌, split_once, most32, most64, number_in, page_in, mark_in, echo_in}
+use Rattle.wb_words.specs.Words.{◌>>=◌, split_once, most32, most64, number_in, pair_in, page_in, mark_in, echo_in}
 use Rattle.wb_words.specs.Spelling.{page_word, mark_word, echo_word}
 use Rattle.wb_words.specs.Reading
 use Rattle.wb_words.specs.Reading.{said, in_range, mark_at, echo_at, is_echo}
@@ -61,42 +61,40 @@ again32 n lt = number_again most32 n (up_to32 n lt) (omega arith)
 pub again64 : (n : ℕ) → n < 2 ^ 64 → number_in most64 (decimal n) ≡ Some n
 again64 n lt = grind (arith, common_steps, number_again)
 
--- ---- pages
+-- ---- two numbers with a mark between them, as pages and marks are
+
+found_then : {A B : Type 0} {P : A → Type 0} {Q : B → Type 0} {o : Option A} (f : A → Option B) → Finds P o → ((x : A) → P x → Finds Q (f x)) → Finds Q (o >>= f)
+found_then {o = Some x} f h k = k x h.it
+found_then {o = None} f h k = record { it = tt }
+
+pair_finds : (mark : ℕ) (word : List ℕ) → Finds (λ p. (word ≡ decimal p.0 ++ mark ∷ decimal p.1) × (p.0 < 2 ^ 32) × (p.1 < 2 ^ 32)) (pair_in mark word)
+unfolding pair_in
+pair_finds mark word = some_then (split_once mark word) _ (λ p ep. found_then _ (number_finds most32 p.0) (λ a ta. found_then _ (number_finds most32 p.1) (λ b tb.
+    let spelled : word ≡ decimal a ++ mark ∷ decimal b = split_once_takes mark [] word p.0 p.1 ep ∙ ap (λ t. t ++ mark ∷ p.1) ta.0 ∙ ap (λ t. decimal a ++ mark ∷ t) tb.0 in
+    says _ (spelled, below32 a ta.1, below32 b tb.1))))
 
 pub page_finds : (word : List ℕ) → Finds (λ p. (word ≡ page_word p) × IsPage p) (page_in word)
 unfolding page_in
-page_finds word = some_then (split_once 47 word) _ (λ p ep. some_then (number_in most32 p.0) _ (λ a ea. some_then (number_in most32 p.1) _ (λ b eb.
-    let ta = number_takes most32 a p.0 ea in
-    let tb = number_takes most32 b p.1 eb in
-    let spelled : word ≡ decimal a ++ 47 ∷ decimal b = split_once_takes 47 [] word p.0 p.1 ep ∙ ap (λ t. t ++ 47 ∷ p.1) ta.0 ∙ ap (λ t. decimal a ++ 47 ∷ t) tb.0 in
-    says _ (spelled, record { creator = below32 a ta.1; number = below32 b tb.1 }))))
+page_finds word = found_then _ (pair_finds 47 word) (λ p t. says _ (t.0, record { creator = t.1; number = t.2 }))
 
 pub page_again : (p : PageId) → IsPage p → page_in (page_word p) ≡ Some p
-unfolding page_in
+unfolding page_in pair_in
 page_again p fits = grind (arith, common_steps, split_once_again, decimal_lacks, again32)
-
--- ---- marks
 
 mark_finds : (word : List ℕ) → Finds (λ m. (word ≡ mark_word m) × IsMark m) (mark_in word)
 unfolding mark_in
-mark_finds word = some_then (split_once 61 word) _ (λ p ep. some_then (number_in most32 p.0) _ (λ a ea. some_then (number_in most32 p.1) _ (λ b eb.
-    let ta = number_takes most32 a p.0 ea in
-    let tb = number_takes most32 b p.1 eb in
-    let spelled : word ≡ decimal a ++ 61 ∷ decimal b = split_once_takes 61 [] word p.0 p.1 ep ∙ ap (λ t. t ++ 61 ∷ p.1) ta.0 ∙ ap (λ t. decimal a ++ 61 ∷ t) tb.0 in
-    says _ (spelled, record { source = below32 a ta.1; high = below32 b tb.1 }))))
+mark_finds word = found_then _ (pair_finds 61 word) (λ p t. says _ (t.0, record { source = t.1; high = t.2 }))
 
 mark_again : (m : MarkValue) → IsMark m → mark_in (mark_word m) ≡ Some m
-unfolding mark_in
+unfolding mark_in pair_in
 mark_again m fits = grind (arith, common_steps, split_once_again, decimal_lacks, again32)
 
 -- ---- echoes
 
 echo_finds : (word : List ℕ) → Finds (λ v. (word ≡ echo_word v) × IsEcho v) (echo_in word)
 unfolding echo_in
-echo_finds word = some_then (split_once 64 word) _ (λ p ep. some_then (split_once 43 p.1) _ (λ m em. some_then (number_in most32 p.0) _ (λ a ea. some_then (number_in most64 m.0) _ (λ b eb. some_then (number_in most64 m.1) _ (λ c ec.
-    let ta = number_takes most32 a p.0 ea in
-    let tb = number_takes most64 b m.0 eb in
-    let tc = number_takes most64 c m.1 ec in
+echo_finds word = some_then (split_once 64 word) _ (λ p ep. some_then (split_once 43 p.1) _ (λ m em.
+    found_then _ (number_finds most32 p.0) (λ a ta. found_then _ (number_finds most64 m.0) (λ b tb. found_then _ (number_finds most64 m.1) (λ c tc.
     let moments : p.1 ≡ decimal b ++ 43 ∷ decimal c = split_once_takes 43 [] p.1 m.0 m.1 em ∙ ap (λ t. t ++ 43 ∷ m.1) tb.0 ∙ ap (λ t. decimal b ++ 43 ∷ t) tc.0 in
     let spelled : word ≡ decimal a ++ 64 ∷ (decimal b ++ 43 ∷ decimal c) = split_once_takes 64 [] word p.0 p.1 ep ∙ ap (λ t. t ++ 64 ∷ p.1) ta.0 ∙ ap (λ t. decimal a ++ 64 ∷ t) moments in
     says _ (spelled, record { source = below32 a ta.1; sent = omega (arith, tb.1); held = omega (arith, tc.1) }))))))

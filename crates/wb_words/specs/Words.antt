@@ -47,13 +47,19 @@ most32 = 2 ^ 32 - 1
 abbrev pub most64 : ℕ
 most64 = 2 ^ 64 - 1
 
+-- two numbers of 32 bits, with the mark between them
+unfoldable pub pair_in : ℕ → List ℕ → Option (ℕ × ℕ)
+pair_in mark word = do
+  parts ← split_once mark word
+  first ← number_in most32 parts.0
+  second ← number_in most32 parts.1
+  Some (first, second)
+
 -- `CREATOR/NUMBER`
 unfoldable pub page_in : List ℕ → Option PageId
 page_in word = do
-  parts ← split_once 47 word
-  creator ← number_in most32 parts.0
-  number ← number_in most32 parts.1
-  Some (record { creator = creator; number = number })
+  pair ← pair_in 47 word
+  Some (record { creator = pair.0; number = pair.1 })
 
 -- one byte
 abbrev pub glyph_in : List ℕ → Option ℕ
@@ -64,10 +70,8 @@ glyph_in (b ∷ c ∷ bytes) = None
 -- `SOURCE=HIGH`
 unfoldable pub mark_in : List ℕ → Option MarkValue
 mark_in word = do
-  parts ← split_once 61 word
-  source ← number_in most32 parts.0
-  high ← number_in most32 parts.1
-  Some (record { source = source; high = high })
+  pair ← pair_in 61 word
+  Some (record { source = pair.0; high = pair.1 })
 
 -- `SOURCE@SENT+HELD`
 unfoldable pub echo_in : List ℕ → Option Echo
