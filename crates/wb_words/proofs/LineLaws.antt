@@ -1,6 +1,6 @@
 -- What the words of a line say is spelled so, and what is spelled so is read.
 use Rattle.std.proofs.lemmas.Grind.{common_steps}
-use Rattle.std.proofs.Common.{◌≡◌, ℕ, ◌+◌, ◌^◌, ◌<◌, ◌≤◌, Bool, true, false, cond, Option, Some, None, List, [], ◌∷◌, ◌++◌, length, Result, Ok, refl, sym, ap, subst, ◌∙◌, append-nil, arith}
+use Rattle.std.proofs.Common.{◌≡◌, ℕ, ◌+◌, ◌^◌, ◌<◌, ◌≤◌, Bool, false, cond, Option, Some, None, List, [], ◌∷◌, ◌++◌, length, Result, Ok, refl, sym, ap, subst, ◌∙◌, append-nil, arith}
 use Rattle.std.specs.Prelude.{All, map, decimal, codes}
 use Rattle.std.specs.Str.{bytes_eq}
 use Rattle.std.proofs.lemmas.Slice.Eq.{bytes_eq-Decides}
@@ -183,7 +183,7 @@ fields_read (kinds.Aimed change) name time ws none = step _ (number_reads 7 most
 
 -- a choice by the first word
 by_word : {A : Type 0} (P : List ℕ → A → Type 0) (word text : List ℕ) (x y : Result A WrongWord) → Reads (P text) x → Reads (P word) y → Reads (P word) (cond (bytes_eq word text) x y)
-by_word P word text x y first second = grind (arith, common_steps, true, bytes_eq-Decides, false)
+by_word P word text x y first second = grind (arith, common_steps, bytes_eq-Decides)
 
 kind_again : (kind : OpKind) → kind_in (kind_word kind) ≡ Some kind
 unfolding kind_in

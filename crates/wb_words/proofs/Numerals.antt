@@ -19,7 +19,7 @@ use Rattle.wb_words.specs.Words.{number_in, is_plain}
 
 pub number_again : (most n : ℕ) → n ≤ most → most < 2 ^ 64 → number_in most (decimal n) ≡ Some n
 unfolding number_in
-number_again most n le small = grind (arith, common_steps, decimal_is_IsNumeral, true, bytes_eq-Decides, le-leb)
+number_again most n le small = grind (arith, common_steps, decimal_is_IsNumeral, bytes_eq-Decides, le-leb)
 
 chosen : (b : Bool) (v n : ℕ) → cond b (Some v) None ≡ Some n → (b ≡ true) × (v ≡ n)
 chosen true v n e = (refl, cc)
@@ -70,7 +70,7 @@ decimal_plain : (n : ℕ) → n < 2 ^ 64 → is_plain (decimal n) ≡ true
 decimal_plain n small = grind (arith, common_steps, cases_lt, is_plain_first, first_decimal, decimal_digit)
 
 pub not_plain : (most : ℕ) (word : List ℕ) → most < 2 ^ 64 → is_plain word ≡ false → number_in most word ≡ None
-not_plain most word small e = grind (arith, common_steps, no_number, true, decimal_plain)
+not_plain most word small e = grind (arith, common_steps, no_number, decimal_plain)
 
 pub not_digits : (most : ℕ) (word : List ℕ) → most < 2 ^ 64 → (AllDigits 10 word → ⊥) → number_in most word ≡ None
 not_digits most word small not = grind (arith, common_steps, no_number, decimal_digits)
@@ -117,7 +117,7 @@ walked_all most word i value small h le plain =
 
 -- what the test of a byte tells
 pub not_digit : (b : ℕ) (test : Bool) → test ≡ is_ascii_digit b → test ≡ false → 48 ≤ b → b ≤ 57 → ⊥
-not_digit b test is no_digit low high = grind (arith, common_steps, true, le-leb)
+not_digit b test is no_digit low high = grind (arith, common_steps, le-leb)
 
 pub a_digit : (b : ℕ) (test : Bool) → test ≡ is_ascii_digit b → test ≡ true → (48 ≤ b) × (b ≤ 57)
 a_digit b test is passes = grind (arith, common_steps, and_parts, leb-true)

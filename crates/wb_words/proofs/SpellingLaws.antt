@@ -48,7 +48,7 @@ visible : (s : Stroke) → stroke_fault s ≡ None → nat_eq s.glyph 32 ≡ fal
 visible s e = grind (arith, nat_tests)
 
 stroke_space : (s : Stroke) → stroke_fault s ≡ None → NoSpaces (stroke_words s)
-stroke_space s e = grind (arith, common_steps, lawful_stroke, space12, All-cons, false, visible, All-nil)
+stroke_space s e = grind (arith, common_steps, lawful_stroke, space12, All-cons, visible, All-nil)
 
 kind_space : (kind : OpKind) → NoSpace (kind_word kind)
 kind_space kind = grind (arith, common_steps, tested, other)

@@ -32,20 +32,20 @@ some_is x y e = cc
 module _ (mark : ℕ) where
   pub split_once_takes : (passed word before after : List ℕ) → split_after passed mark word ≡ Some (before, after) → passed ++ word ≡ before ++ mark ∷ after
   split_once_takes passed [] before after e = absurd cc
-  split_once_takes passed (b ∷ bytes) before after e = grind (arith, common_steps, true, chosen, some_is, eqb-true, false, append_assoc, split_once_takes (passed ++ b ∷ []) bytes before after)
+  split_once_takes passed (b ∷ bytes) before after e = grind (arith, common_steps, chosen, some_is, eqb-true, append_assoc, split_once_takes (passed ++ b ∷ []) bytes before after)
 
   pub split_once_again : (passed before after : List ℕ) → All (λ b. nat_eq b mark ≡ false) before → split_after passed mark (before ++ mark ∷ after) ≡ Some (passed ++ before, after)
-  split_once_again passed [] after none = grind (arith, common_steps, true, nat_tests, append-nil)
-  split_once_again passed (b ∷ before) after none = grind (arith, common_steps, false, All-head, All-tail, append_assoc, split_once_again (passed ++ b ∷ []) before after (All-tail (λ c. nat_eq c mark ≡ false) b before none))
+  split_once_again passed [] after none = grind (arith, common_steps, nat_tests, append-nil)
+  split_once_again passed (b ∷ before) after none = grind (arith, common_steps, All-head, All-tail, append_assoc, split_once_again (passed ++ b ∷ []) before after (All-tail (λ c. nat_eq c mark ≡ false) b before none))
 
   pub split_once_none : (passed word : List ℕ) → All (λ b. nat_eq b mark ≡ false) word → split_after passed mark word ≡ None
   split_once_none passed [] none = refl
-  split_once_none passed (b ∷ bytes) none = grind (arith, common_steps, false, All-head, All-tail, split_once_none (passed ++ b ∷ []) bytes (All-tail (λ c. nat_eq c mark ≡ false) b bytes none))
+  split_once_none passed (b ∷ bytes) none = grind (arith, common_steps, All-head, All-tail, split_once_none (passed ++ b ∷ []) bytes (All-tail (λ c. nat_eq c mark ≡ false) b bytes none))
 
 -- no digit is such a mark
 pub digits_lack : (mark : ℕ) → 10 ≤ digit_value mark → (ds : List ℕ) → AllDigits 10 ds → All (λ b. nat_eq b mark ≡ false) ds
 digits_lack mark far [] d = All-nil (λ b. nat_eq b mark ≡ false)
-digits_lack mark far (c ∷ cs) d = grind (arith, common_steps, false, All-cons, true, eqb-true, digits_lack mark far cs d.1)
+digits_lack mark far (c ∷ cs) d = grind (arith, common_steps, All-cons, eqb-true, digits_lack mark far cs d.1)
 
 pub decimal_lacks : (mark n : ℕ) → 10 ≤ digit_value mark → n < 2 ^ 64 → All (λ b. nat_eq b mark ≡ false) (decimal n)
 decimal_lacks mark n far small = digits_lack mark far (decimal n) (decimal_digits n small)
@@ -120,7 +120,7 @@ words_joined w [] none = slice_split_none is_space w none.0
 words_joined w (v ∷ ws) none = grind (arith, common_steps, slice_split_at, words_joined v ws none.1)
 
 NoSpaces-onto : (b : ℕ) (ws : List (List ℕ)) → nat_eq b 32 ≡ false → NoSpaces ws → NoSpaces (onto_first b ws)
-NoSpaces-onto b [] other none = grind (arith, common_steps, All-cons, false, All-nil)
+NoSpaces-onto b [] other none = grind (arith, common_steps, All-cons, All-nil)
 NoSpaces-onto b (w ∷ ws) other none = (All-cons (λ c. nat_eq c 32 ≡ false) b w other none.0, none.1)
 
 pub NoSpaces-words : (line : List ℕ) → NoSpaces (words line)

@@ -35,7 +35,7 @@ one_more passed b bytes text front e u = record {
 
 unquoted : (passed : List ℕ) (front : Bool) (bytes text : List ℕ) → text_after passed front bytes ≡ Some text → Unquoted passed front bytes text
 unquoted passed front [] text e = absurd cc
-unquoted passed true (b ∷ bytes) text e = grind (arith, common_steps, nat_tests, false, one_more, escaped_special, chosen, unquoted (passed ++ b ∷ []) false bytes text)
+unquoted passed true (b ∷ bytes) text e = grind (arith, common_steps, nat_tests, one_more, escaped_special, chosen, unquoted (passed ++ b ∷ []) false bytes text)
 unquoted passed false (b ∷ bytes) text e = by (unquoted passed true bytes text) (unquoted (passed ++ b ∷ []) false bytes text) (nat_eq b 34) refl (nat_eq b 92) refl where
   closed : (t : Bool) → nat_eq (length bytes) 0 ≡ t → cond t (Some passed) None ≡ Some text → (bytes ≡ []) × (passed ≡ text)
   closed true h f = (nil_from_length bytes (eqb-true (length bytes) 0 h), some_is passed text f)

@@ -143,7 +143,7 @@ pub decimal_space : (n : ℕ) → n < 2 ^ 64 → NoSpace (decimal n)
 decimal_space n lt = decimal_lacks 32 n (omega arith) lt
 
 two_space : (mark m n : ℕ) → nat_eq mark 32 ≡ false → m < 2 ^ 64 → n < 2 ^ 64 → NoSpace (decimal m ++ mark ∷ decimal n)
-two_space mark m n other hm hn = grind (arith, common_steps, All-append, false, decimal_space, All-cons)
+two_space mark m n other hm hn = grind (arith, common_steps, All-append, decimal_space, All-cons)
 
 pub page_space : (p : PageId) → IsPage p → NoSpace (page_word p)
 page_space p fits = grind (arith, common_steps, two_space)

@@ -29,4 +29,4 @@ loop-left-preserved g c =
     }
 
 pub returns : goal.returns
-returns g c = grind (arith, common_steps, read_until, in_default, read_all)
+returns g c = grind (arith, common_steps, read_until, read_all)
