@@ -75,7 +75,7 @@ module _ (cells : ℕ) (s : Board) (r : Lawful cells s) where
     mine_at i k e = let below = (known.mine_is i k e).0 in let few_seen = seen_few in there r.rows k (omega arith)
 
     mine_row : (i a : ℕ) → get_elem? mine_rows i ≡ some a → (k : ℕ) × (get_elem? v.mine i ≡ some k) × (get_elem? r.rows k ≡ some a)
-    mine_row i a e = grind (arith, at_map_back, get_or, mine_at)
+    mine_row i a e = grind (arith, at_map_back, mine_at)
 
     is_own : (i a : ℕ) → get_elem? own_rows i ≡ some a → (a < cells) × (r.owner a ≡ j)
     is_own i a e =
@@ -420,7 +420,7 @@ wins cells slots id m d q unspent inside last stored_is valid_d lacks s r at fou
 -- the pass lost the exchange
 losing : (cells : ℕ) (words : List ℕ) (log : List DrawopValue) (rows : List ℕ) (owner : ℕ → ℕ) (j : ℕ) (v : Knowledge) → Knows cells words log rows owner j v → (word found : ℕ)
     → (found ≡ 0) ⊎ ((q : ℕ) × (get_elem? rows (length v.seen) ≡ some q) × (q < cells) × (found ≡ suc q)) → Knows cells words log rows owner j (after_loss v word found)
-losing cells words log rows owner j v known word found holds = grind (arith, common_steps, looking_at, looks, at_nothing)
+losing cells words log rows owner j v known word found holds = grind (arith, common_steps, looking_at, at_nothing)
 
 pub publishes : (cells slots id : ℕ) (m : Known) (word new : ℕ) (d : DrawopValue) (q : ℕ) → word ≡ length m.0.seen → new ≡ q + 1 → 0 < m.0.cells → length m.0.seen < m.0.cells
     → get_elem? m.0.free (length m.0.free - 1) ≡ some q → m.0.stored ≡ row d → IsDrawop d → (HoldsName m.0.seen d.name → ⊥)

@@ -90,4 +90,4 @@ put_name l l' d keys keys' absent indexed put inserted =
 
 -- the last names leave the index
 pub take_names : (n : ℕ) (l l' : List DrawopValue) (keys keys' : List NameValue) → keys ≡ names l → l' ≡ take n l → keys' ≡ take n keys → keys' ≡ names l'
-take_names n l l' keys keys' indexed taken cut = grind (arith, common_steps, take-map, names)
+take_names n l l' keys keys' indexed taken cut = grind (arith, common_steps, take-map)

@@ -109,7 +109,7 @@ moved from to owner r = cond (eqb (owner r) from) to (owner r)
 
 moved_cases : (from to : ℕ) (owner : ℕ → ℕ) (r : ℕ) → ((owner r ≡ from) × (moved from to owner r ≡ to)) ⊎ ((owner r ≢ from) × (moved from to owner r ≡ owner r))
 unfolding moved
-moved_cases from to owner r = grind (arith, common_steps, cond, eq-eqb, ne_eqb)
+moved_cases from to owner r = grind (arith, common_steps, eq-eqb, ne_eqb)
 
 pub joins : (cells id : ℕ) (v : Knowledge) (other : ℕ) (w : Knowledge) → Joins (Lawful cells) id v other w (united v w) spent
 joins cells id v other w s r at apart at_other =

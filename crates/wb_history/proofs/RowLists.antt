@@ -82,7 +82,7 @@ cut_inside rs rest n m r front back from few first second =
 
 -- the ranges so far, and one more
 pub rows_more : (rs : List RowRange) (i : ℕ) (z : RowRange) → i < length rs → length (rows_in (take (i + 1) rs)) ≡ length (rows_in (take i rs)) + (get_or rs i z).count
-rows_more rs i z below = grind (arith, common_steps, get_or, length-range_with_len, take_more, rows-append, length-append, append-nil)
+rows_more rs i z below = grind (arith, common_steps, length-range_with_len, take_more, rows-append, length-append, append-nil)
 
 pub some_range : (rs : List RowRange) → 0 < length (rows_in rs) → 0 < length rs
 some_range [] h = absurd (omega arith)

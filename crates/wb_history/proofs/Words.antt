@@ -38,7 +38,7 @@ module _ {A : Type 0} where
 
 -- a history, by its places
 pub history_is : (l : List DrawopValue) → ((p q : ℕ) (d e : DrawopValue) → get_elem? l p ≡ some d → get_elem? l q ≡ some e → d.name ≡ e.name → p ≡ q) → IsHistory l
-history_is l once i j d lt inside same = grind (arith, common_steps, get_or, at_read)
+history_is l once i j d lt inside same = grind (arith, common_steps, at_read)
 
 -- of a history two places with one name are one
 pub one_place : (l : List DrawopValue) (p q : ℕ) (d e : DrawopValue) → IsHistory l → get_elem? l p ≡ some d → get_elem? l q ≡ some e → d.name ≡ e.name → p ≡ q

@@ -34,7 +34,7 @@ looked_past cells i (y ∷ h) d none =
 -- the first member that has it is found
 found : (cells i : ℕ) (h : List DrawopValue) (d : DrawopValue) (k : ℕ) (x : DrawopValue) → slice_get h k ≡ Some x → NoneBefore h d.name k → same_name x.name d.name ≡ true → outcome_from cells i h d ≡ (if same_drawop x d then Known (i + k) else Clashed (i + k))
 found cells i [] d k x e none same = cc
-found cells i (y ∷ h) d zero x e none same = grind (arith, common_steps, true)
+found cells i (y ∷ h) d zero x e none same = grind (arith, common_steps)
 found cells i (y ∷ h) d (suc k) x e none same =
     let other : same_name y.name d.name ≡ false = none 0 y (omega arith) refl in
     let place : i + 1 + k ≡ i + suc k = omega arith in
@@ -53,7 +53,7 @@ none_earlier h n k x once e named j y lt e' =
     (ap (λ (d : DrawopValue). d.name) (get_or_from_slice_get h j y x e') ∙ same_name-is y.name n same ∙ sym named ∙ sym (ap (λ (d : DrawopValue). d.name) (get_or_from_slice_get h k x x e))))
 
 same_name-here : (m n : NameValue) → m ≡ n → same_name m n ≡ true
-same_name-here m n e = grind (arith, common_steps, true, nat_tests)
+same_name-here m n e = grind (arith, common_steps, nat_tests)
 
 -- the one outcome of an arrival
 pub outcome_is : (cells : ℕ) (h : List DrawopValue) (d : DrawopValue) (o : Outcome) → IsHistory h → IsTaken cells h d o → o ≡ outcome_of cells h d

@@ -79,7 +79,7 @@ is_listed (Aimed Restore) = refl
 
 -- what all kinds of the list pass, every kind passes
 pub every_kind : (test : OpKind → Bool) → list_all test op_kinds ≡ true → (kind : OpKind) → test kind ≡ true
-every_kind test e kind = grind (arith, nat_tests, op_kinds, is_listed, same_kind, and_parts, same_kind-is)
+every_kind test e kind = grind (arith, nat_tests, is_listed, and_parts, same_kind-is)
 
 -- a key is of its kind alone
 abbrev pub tells : {X : Type 0} → (X → X → Bool) → (OpKind → X) → OpKind → Bool

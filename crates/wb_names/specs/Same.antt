@@ -60,7 +60,7 @@ same_op-is a b e = cc
 
 -- the test tells whether they are equal
 pub same_op-Decides : (a b : Op) → Decides (same_op a b) (a ≡ b)
-same_op-Decides a b = grind (arith, nat_tests, same_op-is, same_op, same_op-here)
+same_op-Decides a b = grind (arith, nat_tests, same_op-is, same_op-here)
 
 one_page : (a b m n : ℕ) → a ≡ b → m ≡ n → let p : PageId = record { creator = a; number = m } in let q : PageId = record { creator = b; number = n } in p ≡ q
 one_page a b m n e f = cc
@@ -84,7 +84,7 @@ same_drawop-is d e h =
     one_drawop _ _ _ _ _ _ _ _ _ _ (eqb-true _ _ s.0) (one_page _ _ _ _ (eqb-true _ _ t.0) (eqb-true _ _ t.1)) (eqb-true _ _ r.1) (eqb-true _ _ q.1) (same_op-is d.op e.op p.1)
 
 pub same_drawop-Decides : (d e : DrawopValue) → Decides (same_drawop d e) (d ≡ e)
-same_drawop-Decides d e = grind (arith, nat_tests, same_drawop-is, same_drawop, same_drawop-here)
+same_drawop-Decides d e = grind (arith, nat_tests, same_drawop-is, same_drawop-here)
 
 pub same_op_laws : IsEquivalence same_op
 same_op_laws = decided same_op same_op-Decides

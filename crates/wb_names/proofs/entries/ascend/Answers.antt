@@ -9,7 +9,7 @@ pub returns-then-source : goal.returns-then-source
 returns-then-source g c = descends_read g.E.Entry.source _ c.loop-place.place _ _ (omega arith) (omega arith) c.index-entries-place.is c.index-entries-place-then-place-gt0.is (omega (arith, c.source-source.ensures.source, c.source.ensures.source))
 
 pub loop-place-preserved : goal.loop-place-preserved
-loop-place-preserved g c = grind (arith, common_steps, climb, get_or_read, else-place-gt0-via-else-place-gt0)
+loop-place-preserved g c = grind (arith, common_steps, climb, get_or_read)
 
 pub returns : goal.returns
 returns g c =

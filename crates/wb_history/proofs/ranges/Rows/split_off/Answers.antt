@@ -50,7 +50,7 @@ invariant_of-self-2 c =
     subst (λ (l : List RowRange). (c.self.inside.count - c.args.rows ≡ length (rows_in l)) × All IsRange l) (sym is) (h.2.many, h.2.ranges)
 
 pub returns-clause-items : goal.returns-clause-items
-returns-clause-items c = grind (arith, common_steps, get_or, parts_inside)
+returns-clause-items c = grind (arith, common_steps, parts_inside)
 
 pub returns-clause-tail : goal.returns-clause-tail
 returns-clause-tail c =
