@@ -4,8 +4,8 @@ use Rattle.std.specs.Prelude.{nat_eq, codes, if◌then◌else◌}
 use Rattle.std.specs.Str.{bytes_eq}
 use Rattle.std.proofs.lemmas.Slice.Eq.{bytes_eq-Decides}
 use Rattle.wb_lines.specs.Words.{words, words_after}
-use Rattle.wb_words.specs.Words.{parted_after}
-use Rattle.wb_words.proofs.Parting.{chosen, some_is}
+use Rattle.wb_words.specs.Words.{split_after}
+use Rattle.wb_words.proofs.Splitting.{chosen, some_is}
 use Rattle.wb_script.specs.declared.command.Command.{Command}
 use Rattle.wb_script.specs.declared.fault.LineFault.{LineFault}
 use Rattle.wb_script.specs.declared.fault.LineFault.TheVariants as faults
@@ -64,10 +64,10 @@ begins_other opener word arguments l none e = at (bytes_eq word opener) refl whe
 abbrev pub first_and : List ℕ → List (List ℕ) → List (List ℕ)
 first_and word more = if nat_eq (length word) 0 then more else word ∷ more
 
-pub words_split : (begun bytes front rest : List ℕ) → parted_after begun 32 bytes ≡ Some (front, rest) → words_after begun bytes ≡ first_and front (words rest)
+pub words_split : (begun bytes front rest : List ℕ) → split_after begun 32 bytes ≡ Some (front, rest) → words_after begun bytes ≡ first_and front (words rest)
 words_split begun [] front rest e = absurd cc
 words_split begun (b ∷ bytes) front rest e = by (words_split (begun ++ b ∷ []) bytes front rest) (nat_eq b 32) refl where
-  by : (parted_after (begun ++ b ∷ []) 32 bytes ≡ Some (front, rest) → words_after (begun ++ b ∷ []) bytes ≡ first_and front (words rest)) → (t : Bool) → nat_eq b 32 ≡ t → words_after begun (b ∷ bytes) ≡ first_and front (words rest)
+  by : (split_after (begun ++ b ∷ []) 32 bytes ≡ Some (front, rest) → words_after (begun ++ b ∷ []) bytes ≡ first_and front (words rest)) → (t : Bool) → nat_eq b 32 ≡ t → words_after begun (b ∷ bytes) ≡ first_and front (words rest)
   by later true h =
       let made : Some (begun, bytes) ≡ Some (front, rest) = (chosen (nat_eq b 32) _ _ _ e).first h in
       let parts = some_is (begun, bytes) (front, rest) made in
@@ -76,10 +76,10 @@ words_split begun (b ∷ bytes) front rest e = by (words_split (begun ++ b ∷ [
       rw h (ap (λ (w : List ℕ). first_and w (words bytes)) one ∙ ap (λ (r : List ℕ). first_and front (words r)) two)
   by later false h = rw h (later ((chosen (nat_eq b 32) _ _ _ e).second h))
 
-pub words_none : (begun bytes : List ℕ) → parted_after begun 32 bytes ≡ None → words_after begun bytes ≡ first_and (begun ++ bytes) []
+pub words_none : (begun bytes : List ℕ) → split_after begun 32 bytes ≡ None → words_after begun bytes ≡ first_and (begun ++ bytes) []
 words_none begun [] e = ap (λ (w : List ℕ). first_and w []) (sym (append-nil begun))
 words_none begun (b ∷ bytes) e = by (words_none (begun ++ b ∷ []) bytes) (nat_eq b 32) refl where
-  by : (parted_after (begun ++ b ∷ []) 32 bytes ≡ None → words_after (begun ++ b ∷ []) bytes ≡ first_and ((begun ++ b ∷ []) ++ bytes) []) → (t : Bool) → nat_eq b 32 ≡ t → words_after begun (b ∷ bytes) ≡ first_and (begun ++ b ∷ bytes) []
+  by : (split_after (begun ++ b ∷ []) 32 bytes ≡ None → words_after (begun ++ b ∷ []) bytes ≡ first_and ((begun ++ b ∷ []) ++ bytes) []) → (t : Bool) → nat_eq b 32 ≡ t → words_after begun (b ∷ bytes) ≡ first_and (begun ++ b ∷ bytes) []
   by later true h = let made : ◌≡◌ {A = Option (List ℕ × List ℕ)} (Some (begun, bytes)) None = (chosen (nat_eq b 32) _ _ _ e).first h in absurd cc
   by later false h = rw h (later ((chosen (nat_eq b 32) _ _ _ e).second h) ∙ ap (λ (w : List ℕ). first_and w []) (append_assoc begun (b ∷ []) bytes))
 

@@ -4,9 +4,9 @@ use Rattle.std.specs.Prelude.{nat_eq, length, codes}
 use Rattle.std.specs.Str.{bytes_eq}
 use Rattle.wb_lines.specs.Words.{words}
 use Rattle.wb_words.specs.declared.fault.WordFault.TheVariants as word_faults
-use Rattle.wb_words.specs.Words.{parted, words as parts_of}
+use Rattle.wb_words.specs.Words.{split_once, words as parts_of}
 use Rattle.wb_words.specs.Reading.{reading, wrong, datagram_at}
-use Rattle.wb_words.proofs.Parting.{words_parted, words_whole}
+use Rattle.wb_words.proofs.Splitting.{words_split_once, words_whole}
 use Rattle.wb_words.proofs.SpellingLaws.{first_read}
 use Rattle.wb_script.specs.declared.command.Command.{Command}
 use Rattle.wb_script.specs.Parsing.{line_of as script_line_of, line_of_words as script_line_of_words}
@@ -54,9 +54,9 @@ in_words : (line word : List ℕ) (more others : List (List ℕ)) (l : Command) 
 in_words line word more others l e first parts = ap (came_in line) (first_read line word others parts ∙ no_datagram line word more others l e first) ∙ by_its_words line l e
 
 pub script_lines_are_read : ScriptLinesAreRead
-script_lines_are_read line l e = at (parted 32 line) refl where
-  at : (parts : Option (List ℕ × List ℕ)) → parted 32 line ≡ parts → line_behind line (said_part parts) ≡ Ok (Script l)
+script_lines_are_read line l e = at (split_once 32 line) refl where
+  at : (parts : Option (List ℕ × List ℕ)) → split_once 32 line ≡ parts → line_behind line (said_part parts) ≡ Ok (Script l)
   at None is = in_words line line [] [] l e (words_none [] line is) (words_whole line is)
   at (Some (word, rest)) is =
       let first : words line ≡ first_and word (words rest) = words_split [] line word rest is in
-      rw (opens_other (codes "say") line word (words rest) l unknown.say refl first e) (in_words line word (words rest) (parts_of rest) l e first (words_parted line word rest is))
+      rw (opens_other (codes "say") line word (words rest) l unknown.say refl first e) (in_words line word (words rest) (parts_of rest) l e first (words_split_once line word rest is))

@@ -4,7 +4,7 @@ use Rattle.std.specs.Str.{bytes_eq}
 use Rattle.wb_names.specs.Values.{NameValue}
 use Rattle.wb_codec.specs.declared.datagram.Datagram.{Datagram as DatagramValue}
 use Rattle.wb_words.specs.declared.fault.WrongWord.{WrongWord}
-use Rattle.wb_words.specs.Words.{parted}
+use Rattle.wb_words.specs.Words.{split_once}
 use Rattle.wb_words.specs.Reading.{reading as reading_words}
 use Rattle.wb_lines.specs.Words.{words}
 use Rattle.wb_codec.specs.declared.datagram.Datagram.TheVariants as datagrams
@@ -88,7 +88,7 @@ line_behind line (Some rest) = said_by (reading_words rest)
 
 -- the line, which stands without its end
 abbrev pub line_of : List ℕ → Result DriverLine Refusal
-line_of line = line_behind line (said_part (parted 32 line))
+line_of line = line_behind line (said_part (split_once 32 line))
 
 -- ---- what the code answers
 

@@ -1,7 +1,7 @@
 //! What a line of a driver says.
 ghost use Rattle.std.specs.Prelude.{◌≡◌, IfOk};
 ghost use Rattle.std.specs.Option.{option_map};
-ghost use Rattle.wb_words.specs.Words.{parted};
+ghost use Rattle.wb_words.specs.Words.{split_once};
 ghost use Rattle.wb_words.specs.Reading.{reading as reading_words};
 ghost use Rattle.wb_lines.specs.Words.{words};
 ghost use Rattle.wb_script.specs.Parsing.{line_of as script_line_of};
@@ -16,13 +16,13 @@ use wb_names::{Name, PageId};
 use wb_script::{
     Command, LineFault, ParseFault, datagram, four_words, no_words, page, parse_line, u32_word,
 };
-use wb_words::{WordsFault, parted, read_words};
+use wb_words::{WordsFault, read_words, split_once};
 
 /// What stands behind the word `say`, where a line begins with it.
 fn said_part(line: &[u8]) -> Option<&[u8]>
-    ensures { option_map (λ x. x.now) result ≡ said_part (parted 32 line.now) }
+    ensures { option_map (λ x. x.now) result ≡ said_part (split_once 32 line.now) }
 {
-    match parted(line, b' ') {
+    match split_once(line, b' ') {
         Some((word, rest)) => {
             if word == b"say".as_slice() {
                 Some(rest)

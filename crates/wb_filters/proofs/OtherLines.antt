@@ -4,9 +4,9 @@ use Rattle.std.specs.Prelude.{Option, All, codes}
 use Rattle.std.specs.Str.{bytes_eq}
 use Rattle.std.proofs.lemmas.Slice.Eq.{bytes_eq-Decides}
 use Rattle.wb_words.specs.declared.fault.WordFault.TheVariants as word_faults
-use Rattle.wb_words.specs.Words.{words, parted}
+use Rattle.wb_words.specs.Words.{words, split_once}
 use Rattle.wb_words.specs.Reading.{wrong, datagram_at}
-use Rattle.wb_words.proofs.Parting.{words_parted}
+use Rattle.wb_words.proofs.Splitting.{words_split_once}
 use Rattle.wb_words.proofs.SpellingLaws.{first_read}
 use Rattle.wb_filters.specs.Turning.{carrier_of, sent_part, hexed_by, hexed_in, worded_by, worded_at, worded}
 use Rattle.wb_filters.specs.Laws.{openers, OtherLinesStay}
@@ -34,20 +34,20 @@ not_sent : (word : List ℕ) → IsNoOpener word → bytes_eq word (codes "send"
 not_sent word h = differ word (codes "send") (h 7 [] (omega arith))
 
 -- what stands before the first space is the first word
-parted_first : (line word w rest : List ℕ) (others : List (List ℕ)) → words line ≡ word ∷ others → parted 32 line ≡ Some (w, rest) → word ≡ w
-parted_first line word w rest others e p = first_of word w others (words rest) (sym e ∙ words_parted line w rest p)
+split_once_first : (line word w rest : List ℕ) (others : List (List ℕ)) → words line ≡ word ∷ others → split_once 32 line ≡ Some (w, rest) → word ≡ w
+split_once_first line word w rest others e p = first_of word w others (words rest) (sym e ∙ words_split_once line w rest p)
 
-none_sent : (line word : List ℕ) (others : List (List ℕ)) → words line ≡ word ∷ others → IsNoOpener word → sent_part (parted 32 line) ≡ None
-none_sent line word others e h = at (parted 32 line) refl where
-  at : (parts : Option (List ℕ × List ℕ)) → parted 32 line ≡ parts → sent_part parts ≡ None
+none_sent : (line word : List ℕ) (others : List (List ℕ)) → words line ≡ word ∷ others → IsNoOpener word → sent_part (split_once 32 line) ≡ None
+none_sent line word others e h = at (split_once 32 line) refl where
+  at : (parts : Option (List ℕ × List ℕ)) → split_once 32 line ≡ parts → sent_part parts ≡ None
   at None p = refl
-  at (Some (w, rest)) p = rw (not_sent w (subst IsNoOpener (parted_first line word w rest others e p) h)) refl
+  at (Some (w, rest)) p = rw (not_sent w (subst IsNoOpener (split_once_first line word w rest others e p) h)) refl
 
 left_by_words : (line word : List ℕ) (others : List (List ℕ)) → words line ≡ word ∷ others → IsNoOpener word → worded line ≡ Ok line
-left_by_words line word others e h = at (parted 32 line) refl where
-  at : (parts : Option (List ℕ × List ℕ)) → parted 32 line ≡ parts → worded_at line parts ≡ Ok line
+left_by_words line word others e h = at (split_once 32 line) refl where
+  at : (parts : Option (List ℕ × List ℕ)) → split_once 32 line ≡ parts → worded_at line parts ≡ Ok line
   at None p = refl
-  at (Some (w, rest)) p = ap (worded_by line rest) (no_carrier w (subst IsNoOpener (parted_first line word w rest others e p) h))
+  at (Some (w, rest)) p = ap (worded_by line rest) (no_carrier w (subst IsNoOpener (split_once_first line word w rest others e p) h))
 
 pub other_lines_stay : OtherLinesStay
 other_lines_stay line word others e h = (ap (hexed_by line) (none_sent line word others e h) ∙ ap (hexed_in line) (first_read line word others e ∙ no_kind word others h), left_by_words line word others e h)

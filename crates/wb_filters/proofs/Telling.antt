@@ -4,7 +4,7 @@ use Rattle.wb_codec.specs.declared.datagram.Datagram.{Datagram}
 use Rattle.wb_codec.specs.Reading.{reading}
 use Rattle.wb_codec.specs.Grammar.{Spells}
 use Rattle.wb_codec.proofs.GrammarLaws.{reading_again}
-use Rattle.wb_words.specs.Words.{parted}
+use Rattle.wb_words.specs.Words.{split_once}
 use Rattle.wb_lines.specs.Words.{is_hex}
 use Rattle.wb_lines.proofs.HexWords.{unhex-not_hex}
 use Rattle.wb_filters.specs.declared.carrier.Carrier.{Carrier}
@@ -20,5 +20,5 @@ told_kind carrier bytes v s e = ap (told carrier) (read_so bytes v s) ∙ rw e r
 pub told_words : (carrier : Carrier) (bytes : List ℕ) (v : Datagram) → Spells bytes v → takes carrier v ≡ true → told carrier (reading bytes) ≡ Ok (words_behind carrier v)
 told_words carrier bytes v s e = ap (told carrier) (read_so bytes v s) ∙ rw e refl
 
-pub no_digits : (line word rest : List ℕ) (carrier : Carrier) → parted 32 line ≡ Some (word, rest) → carrier_of word ≡ Some carrier → is_hex rest ≡ false → worded line ≡ without_digits line rest
+pub no_digits : (line word rest : List ℕ) (carrier : Carrier) → split_once 32 line ≡ Some (word, rest) → carrier_of word ≡ Some carrier → is_hex rest ≡ false → worded line ≡ without_digits line rest
 no_digits line word rest carrier e named no_hex = rw (e, named, unhex-not_hex rest no_hex) refl

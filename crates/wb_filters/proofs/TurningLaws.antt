@@ -8,7 +8,7 @@ use Rattle.wb_codec.specs.declared.datagram.Datagram.TheVariants.{Draw, Session,
 use Rattle.wb_codec.specs.Ranges.{IsDatagram}
 use Rattle.wb_codec.specs.Spelling.{spelling}
 use Rattle.wb_codec.proofs.GrammarLaws.{reading_again}
-use Rattle.wb_words.specs.Words.{parted}
+use Rattle.wb_words.specs.Words.{split_once}
 use Rattle.wb_words.specs.Spelling.{spelled}
 use Rattle.wb_words.proofs.SpellingLaws.{read_again}
 use Rattle.wb_lines.specs.Words.{unhex}
@@ -20,7 +20,7 @@ use Rattle.wb_codec.proofs.SpelledBytes.{spelled_bytes}
 
 -- ---- words to digits
 
-not_sent : (v : Datagram) → sent_part (parted 32 (spelled v)) ≡ None
+not_sent : (v : Datagram) → sent_part (split_once 32 (spelled v)) ≡ None
 not_sent (Draw d) = refl
 not_sent (Session sender sent page marks echoes) = refl
 not_sent (Request asker name) = refl

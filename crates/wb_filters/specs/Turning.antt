@@ -8,7 +8,7 @@ use Rattle.wb_codec.specs.declared.fault.ReadFault.{ReadFault}
 use Rattle.wb_codec.specs.Spelling.{spelling}
 use Rattle.wb_codec.specs.Reading.{reading}
 use Rattle.wb_words.specs.declared.fault.WrongWord.{WrongWord}
-use Rattle.wb_words.specs.Words.{parted}
+use Rattle.wb_words.specs.Words.{split_once}
 use Rattle.wb_words.specs.Spelling.{spelled}
 use Rattle.wb_words.specs.Reading.{reading as reading_words}
 use Rattle.wb_lines.specs.Words.{unhex}
@@ -91,7 +91,7 @@ hexed_by line (Some rest) = hexed_sent line (reading_words rest)
 
 -- the line with the bytes of the datagram that a line says, or its first word that is wrong; a line that says none stays
 abbrev pub hexed : List ℕ → Result (List ℕ) LineFault
-hexed line = hexed_by line (sent_part (parted 32 line))
+hexed line = hexed_by line (sent_part (split_once 32 line))
 
 -- ---- from digits to words
 
@@ -102,7 +102,7 @@ told carrier (Err e) = Err (faults.Datagram e)
 
 -- One word that is no even number of digits is wrong. A line of more words carries nothing, and stays.
 abbrev pub without_digits : List ℕ → List ℕ → Result (List ℕ) LineFault
-without_digits line rest = if is_some (parted 32 rest) then Ok line else Err faults.Hex
+without_digits line rest = if is_some (split_once 32 rest) then Ok line else Err faults.Hex
 
 abbrev pub worded_digits : List ℕ → List ℕ → Carrier → Option (List ℕ) → Result (List ℕ) LineFault
 worded_digits line rest carrier None = without_digits line rest
@@ -118,7 +118,7 @@ worded_at line (Some parts) = worded_by line parts.1 (carrier_of parts.0)
 
 -- the words of the datagram that a line carries, or what is wrong with its digits or bytes; a line that carries none stays
 abbrev pub worded : List ℕ → Result (List ℕ) LineFault
-worded line = worded_at line (parted 32 line)
+worded line = worded_at line (split_once 32 line)
 
 -- ---- what the code answers
 

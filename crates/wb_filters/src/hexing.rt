@@ -2,7 +2,7 @@
 
 ghost use Rattle.std.specs.Prelude.{◌≡◌, IfOk};
 ghost use Rattle.std.specs.Option.{option_map};
-ghost use Rattle.wb_words.specs.Words.{parted};
+ghost use Rattle.wb_words.specs.Words.{split_once};
 ghost use Rattle.wb_filters.specs.Turning.{MayTurn, sent_part, digits_line, hexed};
 
 use crate::carrier::{Carrier, carrier_for, front};
@@ -10,7 +10,7 @@ use crate::fault::{LineFault, TurnFault};
 use crate::line::copy;
 use std::alloc::{AllocError, Global};
 use wb_codec::{Datagram, write};
-use wb_words::{WordsFault, parted, read_words};
+use wb_words::{WordsFault, read_words, split_once};
 
 /// The line that carries the bytes of a datagram.
 fn digits_line(alloc: Global, carrier: Carrier, datagram: &Datagram) -> Result<Vec<u8>, AllocError>
@@ -26,9 +26,9 @@ fn digits_line(alloc: Global, carrier: Carrier, datagram: &Datagram) -> Result<V
 
 /// What follows the word `send`, where a line begins with it.
 fn sent_part(line: &[u8]) -> Option<&[u8]>
-    ensures { option_map (λ x. x.now) result ≡ sent_part (parted 32 line.now) }
+    ensures { option_map (λ x. x.now) result ≡ sent_part (split_once 32 line.now) }
 {
-    match parted(line, b' ') {
+    match split_once(line, b' ') {
         Some((word, rest)) => {
             if word == b"send".as_slice() {
                 Some(rest)

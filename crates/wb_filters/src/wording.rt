@@ -10,7 +10,7 @@ use crate::line::copy;
 use std::alloc::{AllocError, Global};
 use wb_codec::{Datagram, ReadFault, read};
 use wb_lines::unhex;
-use wb_words::{parted, write_words};
+use wb_words::{split_once, write_words};
 
 /// The words of a datagram, behind `send` where it is sent.
 fn words_behind(alloc: Global, carrier: Carrier, datagram: &Datagram) -> Result<Vec<u8>, AllocError>
@@ -49,7 +49,7 @@ fn told(alloc: Global, carrier: Carrier, bytes: &[u8]) -> Result<Vec<u8>, TurnFa
 fn without_digits(alloc: Global, line: &[u8], rest: &[u8]) -> Result<Vec<u8>, TurnFault>
     ensures { MayTurn (λ text. text.items) result (without_digits line.now rest.now) }
 {
-    if parted(rest, b' ').is_none() {
+    if split_once(rest, b' ').is_none() {
         return Err(TurnFault::Line(LineFault::Hex));
     }
     Ok(copy(alloc, line)?)
@@ -62,7 +62,7 @@ fn without_digits(alloc: Global, line: &[u8], rest: &[u8]) -> Result<Vec<u8>, Tu
 pub fn words_line(alloc: Global, line: &[u8]) -> Result<Vec<u8>, TurnFault>
     ensures { MayTurn (λ text. text.items) result (worded line.now) }
 {
-    let Some((word, rest)) = parted(line, b' ') else {
+    let Some((word, rest)) = split_once(line, b' ') else {
         return Ok(copy(alloc, line)?);
     };
     let Some(carrier) = carrier_of(word) else {

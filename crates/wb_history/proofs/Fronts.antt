@@ -1,4 +1,6 @@
 -- Spare lists stay fronts of what their pass has seen.
+use Rattle.std.proofs.Common.{arith}
+use Rattle.std.proofs.lemmas.Grind.{common_steps}
 use Rattle.std.proofs.Common.{◌≡◌, Bool, true, false, List, [], ◌∷◌, ◌++◌, sym, ap, subst, ◌∙◌, append_assoc}
 use Rattle.std.specs.Prelude.{if◌then◌else◌}
 use Rattle.std.proofs.lemmas.List.Elements.{All-nil, All-same, All-push, All-weaker}
@@ -7,7 +9,7 @@ use Rattle.wb_names.specs.Values.{DrawopValue}
 use Rattle.wb_history.specs.Indexed.{MembersValue, AreFronts}
 
 pub none_are_fronts : (lists : List MembersValue) (whole : List DrawopValue) → lists ≡ [] → AreFronts lists whole
-none_are_fronts lists whole none = All-same (λ (m : MembersValue). IsPrefix m.items whole) lists [] none (All-nil (λ (m : MembersValue). IsPrefix m.items whole))
+none_are_fronts lists whole none = grind (arith, common_steps, All-same, All-nil)
 
 -- the pass has seen more
 pub fronts_on : (lists : List MembersValue) (l whole : List DrawopValue) → IsPrefix l whole → AreFronts lists l → AreFronts lists whole

@@ -1,4 +1,5 @@
 -- Each kind of step keeps the rule.
+use Rattle.std.proofs.lemmas.Grind.{common_steps}
 use Rattle.wb_history.specs.Sizes.{row_words}
 use Rattle.std.proofs.Common.{◌≡◌, ◌≢◌, ◌⊎◌, ℕ, zero, suc, ◌+◌, ◌-◌, ◌<◌, ◌≤◌, eqb, List, [], ◌∷◌, ◌++◌, map, length, get_or, set, refl, sym, ap, ◌∙◌, subst, inl, inr, ⊎_elim, arith, length-append, length-set, get_or-set_other, get_or-set_same, eq-eqb, ne_eqb, lt_of_not-le}
 use Rattle.std.proofs.lemmas.List.{length-map}
@@ -14,7 +15,7 @@ use Rattle.wb_history.specs.declared.knowledge.Knowledge.{Knowledge}
 use Rattle.wb_names.specs.Values.{DrawopValue}
 use mathlib.Core.List.{IsPrefix}
 use Rattle.wb_history.specs.Lists.{Once}
-use Rattle.wb_names.specs.History.{IsHistory, HoldsName}
+use Rattle.wb_names.specs.History.{HoldsName}
 use Rattle.wb_names.specs.Arrivals.{Fresh}
 use Rattle.wb_names.proofs.Arrivals.{history_with-is}
 use Rattle.std.specs.Prelude.{Contains}
@@ -34,8 +35,7 @@ Board = State DrawopValue Knowledge
 
 seats : (P : ℕ → Knowledge → Type 0) (vs : List Knowledge) (me : ℕ) (w : Knowledge) → P me w → ((j : ℕ) (u : Knowledge) → j ≢ me → get_elem? vs j ≡ some u → P j u)
     → (j : ℕ) (u : Knowledge) → get_elem? (set vs me w) j ≡ some u → P j u
-seats P vs me w mine others j u e = ⊎_elim (λ (t : (j ≡ me) × (w ≡ u)). subst (λ (x : ℕ × Knowledge). P x.0 x.1) (λ i. (sym t.0 i, t.1 i)) mine)
-    (λ (t : (j ≢ me) × (get_elem? vs j ≡ some u)). others j u t.0 t.1) (at_set vs me j w u e)
+seats P vs me w mine others j u e = grind (arith, common_steps, at_set)
 
 apart_rows : (cells r q k l : ℕ) → r ≢ q → k < row_words → l < row_words → address cells r k ≢ address cells q l
 apart_rows cells r q k l ne a b e = ne (omega arith)
@@ -75,7 +75,7 @@ module _ (cells : ℕ) (s : Board) (r : Lawful cells s) where
     mine_at i k e = let below = (known.mine_is i k e).0 in let few_seen = seen_few in there r.rows k (omega arith)
 
     mine_row : (i a : ℕ) → get_elem? mine_rows i ≡ some a → (k : ℕ) × (get_elem? v.mine i ≡ some k) × (get_elem? r.rows k ≡ some a)
-    mine_row i a e = let b = at_map_back (λ k. get_or r.rows k 0) v.mine i a e in (b.0, b.1, subst (λ n. get_elem? r.rows b.0 ≡ some n) b.2 (mine_at i b.0 b.1))
+    mine_row i a e = grind (arith, at_map_back, mine_at)
 
     is_own : (i a : ℕ) → get_elem? own_rows i ≡ some a → (a < cells) × (r.owner a ≡ j)
     is_own i a e =
@@ -215,7 +215,7 @@ reads_last cells slots id m word unspent some_row long is s r _ at small =
     let d = member.0 in
     let w = after_member v d word found in
     let knows : Knows cells s.words r.log r.rows r.owner id w = record {
-      sees = record { sized = known.sized; begins = next_member r.log v.seen d known.begins member.1; told_begins = known.told_begins };
+      sees = record { sized = known.sized; begins = next_member r.log v.seen d known.begins member.1; joined_begins = known.joined_begins };
       owns = record {
         free_is = known.free_is;
         free_once = known.free_once;
@@ -333,7 +333,7 @@ module _ (cells : ℕ) (s : Board) (r : Lawful cells s) (id q : ℕ) (d : Drawop
 
   others_after_win : (j : ℕ) (u : Knowledge) → j ≢ id → length u.seen ≤ length r.rows → Knows cells s.words r.log r.rows r.owner j u → Knows cells filled_words log_after rows_after r.owner j u
   others_after_win j u other few_seen known = record {
-    sees = record { sized = known.sized; begins = starts_more r.log u.seen (d ∷ []) known.begins; told_begins = starts_more r.log u.told (d ∷ []) known.told_begins };
+    sees = record { sized = known.sized; begins = starts_more r.log u.seen (d ∷ []) known.begins; joined_begins = starts_more r.log u.joined (d ∷ []) known.joined_begins };
     owns = record {
       free_is = λ i a e. let f = known.free_is i a e in
           (f.0, f.1, λ p h. ⊎_elim (λ old. f.2 p old) (λ t. other (sym f.1 ∙ (ap r.owner (sym t.1) ∙ own))) (at_end r.rows q p a h));
@@ -372,7 +372,7 @@ wins cells slots id m d q unspent inside last stored_is valid_d lacks s r at fou
     let word' = other_word cells s r id q d mine.1 mine.0 mine.2 inside' in
     let begins' : IsPrefix (v.seen ++ d ∷ []) log' = next_member log' v.seen d (starts_more r.log v.seen (d ∷ []) known.begins) (at_last' r.log d (length v.seen) (omega arith)) in
     let knows : Knows cells words' log' rows' r.owner id w = record {
-      sees = record { sized = known.sized; begins = begins'; told_begins = starts_more r.log v.told (d ∷ []) known.told_begins };
+      sees = record { sized = known.sized; begins = begins'; joined_begins = starts_more r.log v.joined (d ∷ []) known.joined_begins };
       owns = record {
         free_is = λ i a e. let t = at_take (length v.free - 1) v.free i a e in let f = known.free_is i a t.1 in let lt = t.0 in
             (f.0, f.1, λ p h. ⊎_elim (λ old. f.2 p old) (λ c. let same = known.free_once i (length v.free - 1) q (subst (λ z. get_elem? v.free i ≡ some z) (sym c.1) t.1) last in absurd (omega arith)) (at_end r.rows q p a h));
@@ -420,11 +420,7 @@ wins cells slots id m d q unspent inside last stored_is valid_d lacks s r at fou
 -- the pass lost the exchange
 losing : (cells : ℕ) (words : List ℕ) (log : List DrawopValue) (rows : List ℕ) (owner : ℕ → ℕ) (j : ℕ) (v : Knowledge) → Knows cells words log rows owner j v → (word found : ℕ)
     → (found ≡ 0) ⊎ ((q : ℕ) × (get_elem? rows (length v.seen) ≡ some q) × (q < cells) × (found ≡ suc q)) → Knows cells words log rows owner j (after_loss v word found)
-losing cells words log rows owner j v known word found holds = let base = looking_at cells words log rows owner j v known word found holds in record {
-  sees = known.sees;
-  owns = known.owns;
-  remembers = record { looks = base.looks; reads = λ k n e. absurd (at_nothing k n e); stores = known.stores };
-}
+losing cells words log rows owner j v known word found holds = grind (arith, common_steps, looking_at, at_nothing)
 
 pub publishes : (cells slots id : ℕ) (m : Known) (word new : ℕ) (d : DrawopValue) (q : ℕ) → word ≡ length m.0.seen → new ≡ q + 1 → 0 < m.0.cells → length m.0.seen < m.0.cells
     → get_elem? m.0.free (length m.0.free - 1) ≡ some q → m.0.stored ≡ row d → IsDrawop d → (HoldsName m.0.seen d.name → ⊥)
@@ -473,8 +469,8 @@ confirms cells slots id m word unspent s r _ at small =
     let found = get_or s.words word 0 in
     let w = after_confirm v word found in
     let knows : Knows cells s.words r.log r.rows r.owner id w = record {
-      sees = record { sized = known.sized; begins = known.begins; told_begins = (r.log, refl) };
+      sees = record { sized = known.sized; begins = known.begins; joined_begins = (r.log, refl) };
       owns = known.owns;
       remembers = known.remembers;
     } in
-    (w, keeps, tt, unmoved cells s r word id m.1 w knows, (refl, refl, (λ h. both_start r.log v.seen v.told known.begins known.told_begins h), unmoved_consistent cells slots id m unspent s r at word w unspent knows))
+    (w, keeps, tt, unmoved cells s r word id m.1 w knows, (refl, refl, (λ h. both_start r.log v.seen v.joined known.begins known.joined_begins h), unmoved_consistent cells slots id m unspent s r at word w unspent knows))

@@ -1,11 +1,11 @@
 -- Lists read by `get_elem?`.
-use Rattle.std.proofs.Common.{◌≡◌, ◌⊎◌, ℕ, zero, suc, ◌+◌, ◌<◌, ◌≤◌, List, [], ◌∷◌, ◌++◌, map, length, get_or, take, drop, refl, sym, ap, ◌∙◌, subst, inl, inr, ⊎_elim, arith, length-append}
+use Rattle.std.proofs.lemmas.Grind.{common_steps}
+use Rattle.std.proofs.Common.{◌≡◌, ◌⊎◌, ℕ, zero, suc, ◌+◌, ◌<◌, ◌≤◌, List, [], ◌∷◌, ◌++◌, map, length, get_or, take, drop, refl, sym, ap, ◌∙◌, inl, inr, ⊎_elim, arith, length-append}
 use mathlib.Core.Option.{some, some-injective, some-ne-none}
 use lib.ListN.{get_elem?}
 use Rattle.indexmap.proofs.IndexTableLemmas.Probe.{pigeonhole}
-use Rattle.std.proofs.lemmas.Bool.{cases_lt, cond_below, cond_above}
 use mathlib.Core.List.{IsPrefix}
-use Rattle.wb_history.specs.Lists.{Once, longer}
+use Rattle.wb_history.specs.Lists.{Once}
 
 module _ {A : Type 0} where
   pub at-lt : (l : List A) (i : ℕ) (a : A) → get_elem? l i ≡ some a → i < length l
@@ -27,7 +27,7 @@ module _ {A : Type 0} where
   pub at_append : (xs ys : List A) (i : ℕ) (a : A) → get_elem? (xs ++ ys) i ≡ some a → (get_elem? xs i ≡ some a) ⊎ ((k : ℕ) × (i ≡ length xs + k) × (get_elem? ys k ≡ some a))
   at_append [] ys i a e = inr (i, omega arith, e)
   at_append (x ∷ xs) ys zero a e = inl e
-  at_append (x ∷ xs) ys (suc i) a e = ⊎_elim (λ h. inl h) (λ t. let q = t.1 in inr (t.0, (omega arith), t.2)) (at_append xs ys i a e)
+  at_append (x ∷ xs) ys (suc i) a e = grind (arith, common_steps, at_append xs ys i a e)
 
   pub at_end : (xs : List A) (x : A) (i : ℕ) (a : A) → get_elem? (xs ++ x ∷ []) i ≡ some a → (get_elem? xs i ≡ some a) ⊎ ((i ≡ length xs) × (x ≡ a))
   at_end [] x zero a e = inr (refl, some-injective x a e)
@@ -36,8 +36,8 @@ module _ {A : Type 0} where
   at_end (y ∷ ys) x (suc i) a e = ⊎_elim (λ h. inl h) (λ t. inr (ap suc t.0, t.1)) (at_end ys x i a e)
 
   pub at_after : (xs ys : List A) (k : ℕ) (a : A) → get_elem? ys k ≡ some a → get_elem? (xs ++ ys) (length xs + k) ≡ some a
-  at_after [] ys k a e = let same : 0 + k ≡ k = omega arith in subst (λ n. get_elem? ys n ≡ some a) (sym same) e
-  at_after (x ∷ xs) ys k a e = let same : suc (length xs) + k ≡ suc (length xs + k) = omega arith in subst (λ n. get_elem? (x ∷ (xs ++ ys)) n ≡ some a) (sym same) (at_after xs ys k a e)
+  at_after [] ys k a e = grind (arith, common_steps)
+  at_after (x ∷ xs) ys k a e = grind (arith, common_steps, at_after xs ys k a e)
 
   pub at_take : (n : ℕ) (l : List A) (i : ℕ) (a : A) → get_elem? (take n l) i ≡ some a → (i < n) × (get_elem? l i ≡ some a)
   at_take zero l i a e = absurd (some-ne-none a (sym e))
@@ -46,9 +46,9 @@ module _ {A : Type 0} where
   at_take (suc n) (x ∷ xs) (suc i) a e = let t = at_take n xs i a e in let b = t.0 in (omega arith, t.1)
 
   pub at_drop : (n : ℕ) (l : List A) (i : ℕ) (a : A) → get_elem? (drop n l) i ≡ some a → get_elem? l (n + i) ≡ some a
-  at_drop zero l i a e = let same : 0 + i ≡ i = omega arith in subst (λ m. get_elem? l m ≡ some a) (sym same) e
+  at_drop zero l i a e = grind (arith, common_steps)
   at_drop (suc n) [] i a e = absurd (some-ne-none a (sym e))
-  at_drop (suc n) (x ∷ xs) i a e = let same : suc n + i ≡ suc (n + i) = omega arith in subst (λ m. get_elem? (x ∷ xs) m ≡ some a) (sym same) (at_drop n xs i a e)
+  at_drop (suc n) (x ∷ xs) i a e = grind (arith, common_steps, at_drop n xs i a e)
 
   pub at_map_back : {B : Type 0} (f : A → B) (l : List A) (i : ℕ) (b : B) → get_elem? (map f l) i ≡ some b → (a : A) × (get_elem? l i ≡ some a) × (f a ≡ b)
   at_map_back f [] i b e = absurd (some-ne-none b (sym e))
@@ -59,11 +59,7 @@ module _ {A : Type 0} where
   once_nothing i k x p q = absurd (some-ne-none x (sym p))
 
   pub once_append : (xs ys : List A) → Once xs → Once ys → ((i k : ℕ) (a : A) → get_elem? xs i ≡ some a → get_elem? ys k ≡ some a → ⊥) → Once (xs ++ ys)
-  once_append xs ys one other apart i k a p q =
-      elim (at_append xs ys i a p) [
-        | inl u ↦ elim (at_append xs ys k a q) [ inl w ↦ one i k a u w | inr w ↦ absurd (apart i w.0 a u w.2) ]
-        | inr u ↦ elim (at_append xs ys k a q) [ inl w ↦ absurd (apart k u.0 a w u.2) | inr w ↦ u.1 ∙ ap (λ (n : ℕ). length xs + n) (other u.0 w.0 a u.2 w.2) ∙ sym w.1 ]
-      ]
+  once_append xs ys one other apart i k a p q = grind (arith, common_steps, at_append)
 
   pub once_one : (x : A) → Once (x ∷ [])
   once_one x zero zero a p q = refl
@@ -74,7 +70,7 @@ module _ {A : Type 0} where
   once_take n l once i k a p q = once i k a (at_take n l i a p).1 (at_take n l k a q).1
 
   pub once_drop : (n : ℕ) (l : List A) → Once l → Once (drop n l)
-  once_drop n l once i k a p q = let e = once (n + i) (n + k) a (at_drop n l i a p) (at_drop n l k a q) in omega arith
+  once_drop n l once i k a p q = grind (arith, common_steps, at_drop)
 
   pub same_list : (xs ys : List A) → length xs ≡ length ys → ((k : ℕ) (a b : A) → get_elem? xs k ≡ some a → get_elem? ys k ≡ some b → a ≡ b) → xs ≡ ys
   same_list [] [] e h = refl
@@ -114,12 +110,7 @@ module _ {A : Type 0} where
       head_same x y xs ys e = cc
 
   pub starts_whole : (whole start : List A) → IsPrefix start whole → length whole ≤ length start → whole ≡ start
-  starts_whole whole start b few = sym b.1 ∙ none_left start b.0 (omega (arith, length-append start b.0, ap length b.1))
-    where
-      none_left : (xs ys : List A) → length ys ≤ 0 → xs ++ ys ≡ xs
-      none_left [] [] h = refl
-      none_left [] (y ∷ ys) h = absurd (omega arith)
-      none_left (x ∷ xs) ys h = λ i. x ∷ none_left xs ys h i
+  starts_whole whole start b few = grind (arith, common_steps)
 
 pub at_read : {A : Type 0} (l : List A) (i : ℕ) (d : A) → i < length l → get_elem? l i ≡ some (get_or l i d)
 at_read [] i d h = absurd (omega arith)
@@ -150,6 +141,3 @@ both_start (w ∷ ws) (x ∷ xs) (y ∷ ys) b c h =
 
     head_same : {A : Type 0} (x y : A) (xs ys : List A) → x ∷ xs ≡ y ∷ ys → x ≡ y
     head_same x y xs ys e = cc
-
-pub longer_is : {A : Type 0} (xs ys : List A) → IsPrefix xs ys → longer xs ys ≡ ys
-longer_is xs ys b = ⊎_elim (λ lt. sym (cond_below (length xs) (length ys) ys xs lt)) (λ ge. sym (cond_above (length xs) (length ys) ys xs xs ge refl) ∙ sym (starts_whole ys xs b ge)) (cases_lt (length xs) (length ys))

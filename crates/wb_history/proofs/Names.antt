@@ -1,5 +1,6 @@
 -- The index of names tells the places of members.
-use Rattle.std.proofs.Common.{◌≡◌, ℕ, ◌<◌, ◌≤◌, Bool, true, false, List, [], ◌∷◌, ◌++◌, map, length, get_or, take, refl, sym, ap, ◌∙◌, subst, ⊎_elim, arith, Option, Some, None}
+use Rattle.std.proofs.lemmas.Grind.{common_steps}
+use Rattle.std.proofs.Common.{◌≡◌, ℕ, ◌<◌, ◌≤◌, Bool, true, false, List, [], ◌∷◌, ◌++◌, map, length, get_or, take, refl, sym, ap, ◌∙◌, subst, arith, Option}
 use Rattle.std.specs.Prelude.{MatchOption, nat_eq, ◌&&◌, if◌then◌else◌}
 use Rattle.std.specs.List.{position, position_or_len, list_any}
 use Rattle.std.proofs.lemmas.Bool.{cases_lt, cond_below, cond_above}
@@ -33,7 +34,7 @@ alike_same true b c e = e
 alike_same false b c e = cc
 
 alike-is : (m n : NameValue) → alike m n ≡ true → m ≡ n
-alike-is m n e = same_name-is m n (alike_same (nat_eq m.source n.source) (same_page m.page n.page) (nat_eq m.seq n.seq) e)
+alike-is m n e = grind (arith, common_steps, same_name-is, alike_same)
 
 apart : true ≡ false → ⊥
 apart e = cc
@@ -67,12 +68,7 @@ module _ (n : NameValue) (l : List DrawopValue) where
       apart (sym (subst (λ (m : NameValue). alike n m ≡ true) (sym t.3 ∙ is) (alike_here n)) ∙ fails)
 
   pub place_found : (keys : List NameValue) (r : Option ℕ) → keys ≡ names l → r ≡ position (alike n) keys → MatchOption r (HoldsName l n → ⊥) (Found l n)
-  place_found keys r indexed is =
-      let told = is ∙ ap (position (alike n)) indexed in
-      ⊎_elim
-      (λ lt. subst (λ (o : Option ℕ). MatchOption o (HoldsName l n → ⊥) (Found l n)) (cond_below first (length (names l)) (Some first) None lt ∙ sym told) (found lt))
-      (λ ge. subst (λ (o : Option ℕ). MatchOption o (HoldsName l n → ⊥) (Found l n)) (cond_above first (length (names l)) (Some first) None None ge refl ∙ sym told) (lacks ge))
-      (cases_lt first (length (names l)))
+  place_found keys r indexed is = grind (arith, common_steps, cond_below, found, cond_above, lacks, cases_lt)
 
 -- a new name goes to the end of the index
 pub put_name : (l l' : List DrawopValue) (d : DrawopValue) (keys keys' : List NameValue) → (HoldsName l d.name → ⊥) → keys ≡ names l → l' ≡ l ++ d ∷ [] → keys' ≡ insert_key alike keys d.name → keys' ≡ names l'
@@ -94,4 +90,4 @@ put_name l l' d keys keys' absent indexed put inserted =
 
 -- the last names leave the index
 pub take_names : (n : ℕ) (l l' : List DrawopValue) (keys keys' : List NameValue) → keys ≡ names l → l' ≡ take n l → keys' ≡ take n keys → keys' ≡ names l'
-take_names n l l' keys keys' indexed taken cut = cut ∙ (ap (take n) indexed ∙ (take-map (λ (d : DrawopValue). d.name) n l ∙ sym (ap names taken)))
+take_names n l l' keys keys' indexed taken cut = grind (arith, common_steps, take-map)

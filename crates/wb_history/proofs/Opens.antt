@@ -1,6 +1,7 @@
 -- The table at the start keeps the rule.
+use Rattle.std.proofs.lemmas.Grind.{common_steps}
 use Rattle.wb_history.specs.Sizes.{member_steps}
-use Rattle.std.proofs.Common.{◌≡◌, ℕ, zero, suc, ◌+◌, ◌*◌, ◌<◌, List, [], ◌∷◌, length, get_or, refl, sym, ap, ◌∙◌, subst, arith}
+use Rattle.std.proofs.Common.{◌≡◌, ℕ, zero, suc, ◌+◌, ◌*◌, ◌<◌, List, [], ◌∷◌, length, get_or, refl, sym, ap, ◌∙◌, arith}
 use Rattle.std.specs.Prelude.{replicate}
 use mathlib.Core.Option.{some, some-injective, some-ne-none}
 use lib.ListN.{get_elem?}
@@ -15,7 +16,7 @@ use Rattle.wb_history.proofs.Lists.{at_nothing, once_nothing}
 at_range : (a n i r : ℕ) → get_elem? (range_with_len a n) i ≡ some r → (a + i ≡ r) × (i < n)
 at_range a zero i r e = absurd (some-ne-none r (sym e))
 at_range a (suc n) zero r e = let is = some-injective a r e in (omega arith, omega arith)
-at_range a (suc n) (suc i) r e = let t = at_range (a + 1) n i r e in let is = t.0 in let few = t.1 in (omega arith, omega arith)
+at_range a (suc n) (suc i) r e = grind (arith, common_steps, at_range (a + 1) n i r e)
 
 get_or-replicate : (n i : ℕ) → get_or {A = ℕ} (replicate n 0) i 0 ≡ 0
 get_or-replicate zero i = refl
@@ -42,18 +43,8 @@ opens cells words n zeros len size = record {
 }
   where
     first : Knows cells words [] [] (λ _. 0) 0 (whole_pass cells)
-    first = record {
-      sees = record { sized = λ _. refl; begins = ([], refl); told_begins = ([], refl) };
-      owns = record {
-        free_is = λ i q e. let t = at_range 0 cells i q e in let is = t.0 in let few = t.1 in (omega arith, refl, λ p h. at_nothing p q h);
-        free_once = λ i k q e f. let t = (at_range 0 cells i q e).0 in let u = (at_range 0 cells k q f).0 in omega arith;
-        mine_is = λ i p e. absurd (at_nothing i p e);
-        mine_once = once_nothing;
-        mine_all = λ p q e _. absurd (at_nothing p q e);
-      };
-      remembers = nothing_remembered _ _ _ _ _;
-    }
+    first = grind (arith, common_steps, at_range, at_nothing, once_nothing, nothing_remembered)
 
     one : (j : ℕ) (v : Knowledge) → get_elem? (whole_pass cells ∷ []) j ≡ some v → Knows cells words [] [] (λ _. 0) j v
-    one zero v e = subst (Knows cells words [] [] (λ _. 0) 0) (some-injective (whole_pass cells) v e) first
+    one zero v e = grind (arith, common_steps, first)
     one (suc j) v e = absurd (some-ne-none v (sym e))

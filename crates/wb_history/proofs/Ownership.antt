@@ -1,4 +1,5 @@
 -- A split and a join keep the rule.
+use Rattle.std.proofs.lemmas.Grind.{common_steps}
 use Rattle.std.proofs.Common.{◌≡◌, ◌≢◌, ◌⊎◌, ℕ, zero, suc, ◌+◌, ◌-◌, ◌≤◌, eqb, Bool, cond, List, [], ◌∷◌, length, get_or, set, drop, refl, sym, ap, ◌∙◌, subst, inl, inr, ⊎_elim, arith, length-append, length-set, eq-eqb, ne_eqb}
 use mathlib.Core.Logic.{dite}
 use mathlib.Core.Option.{some, some-injective}
@@ -6,7 +7,7 @@ use native.Mathlib.Decide.{ℕ_discrete}
 use lib.ListN.{get_elem?}
 use Rattle.std.proofs.lemmas.Bool.{cases_lt, cond_below, cond_above}
 use Rattle.atomic_table.specs.Table.{State, Splits, Joins}
-use Rattle.atomic_table.proofs.Lists.{at_set, at_longer}
+use Rattle.atomic_table.proofs.Lists.{at_set}
 use Rattle.wb_history.specs.declared.knowledge.Knowledge.{Knowledge}
 use Rattle.wb_names.specs.Values.{DrawopValue}
 use mathlib.Core.List.{IsPrefix}
@@ -15,7 +16,7 @@ use Rattle.std.proofs.lemmas.List.Elements.{Contains-append_left, Contains-appen
 use Rattle.wb_history.specs.Views.{left_part, right_part, united, spent}
 use Rattle.wb_history.specs.Lawful.{Knows, Lawful}
 use Rattle.wb_history.proofs.Rows.{nothing_remembered}
-use Rattle.wb_history.proofs.Lists.{at-lt, at_nothing, at_append, at_end, at_after, at_take, at_drop, once_nothing, once_append, once_take, once_drop, starts-le, there}
+use Rattle.wb_history.proofs.Lists.{at-lt, at_nothing, at_append, at_end, at_take, at_drop, once_nothing, once_append, once_take, once_drop, starts-le, there}
 
 abbrev Board : Type 0
 Board = State DrawopValue Knowledge
@@ -62,7 +63,7 @@ splits cells id n v s r at =
       remembers = nothing_remembered _ _ _ _ _;
     } in
     let right : Knows cells s.words r.log r.rows owner' new (right_part n v) = record {
-      sees = record { sized = known.sized; begins = known.begins; told_begins = (r.log, refl) };
+      sees = record { sized = known.sized; begins = known.begins; joined_begins = (r.log, refl) };
       owns = record {
         free_is = λ i q e. let f = known.free_is (keep + i) q (at_drop keep v.free i q e) in (f.0, ⊎_elim (λ g. g.1) (λ g. absurd (g.0 i e)) (given_cases gone new r.owner q), f.2);
         free_once = once_drop keep v.free known.free_once;
@@ -97,11 +98,10 @@ splits cells id n v s r at =
     }
 
 pub longer_cases : {A : Type 0} (xs ys : List A) → ((longer xs ys ≡ xs) × (length ys ≤ length xs)) ⊎ ((longer xs ys ≡ ys) × (length xs ≤ length ys))
-longer_cases xs ys =
-    ⊎_elim (λ lt. inr (sym (cond_below (length xs) (length ys) ys xs lt), omega arith)) (λ ge. inl (sym (cond_above (length xs) (length ys) ys xs xs ge refl), ge)) (cases_lt (length xs) (length ys))
+longer_cases xs ys = grind (arith, common_steps, cond_below, cond_above, cases_lt)
 
 pub shorter_of : {A : Type 0} (P : List A → Type 0) (xs ys : List A) → P xs → P ys → P (shorter xs ys)
-shorter_of P xs ys p q = ⊎_elim (λ lt. subst P (cond_below (length xs) (length ys) xs ys lt) p) (λ ge. subst P (cond_above (length xs) (length ys) xs ys ys ge refl) q) (cases_lt (length xs) (length ys))
+shorter_of P xs ys p q = grind (arith, common_steps, cond_below, cond_above, cases_lt)
 
 -- the rows of one pass go to another
 moved : ℕ → ℕ → (ℕ → ℕ) → ℕ → ℕ
@@ -109,8 +109,7 @@ moved from to owner r = cond (eqb (owner r) from) to (owner r)
 
 moved_cases : (from to : ℕ) (owner : ℕ → ℕ) (r : ℕ) → ((owner r ≡ from) × (moved from to owner r ≡ to)) ⊎ ((owner r ≢ from) × (moved from to owner r ≡ owner r))
 unfolding moved
-moved_cases from to owner r = dite (ℕ_discrete (owner r) from) (λ is. inl (is, ap (λ (b : Bool). cond b to (owner r)) (eq-eqb (owner r) from is)))
-    (λ other. inr (other, ap (λ (b : Bool). cond b to (owner r)) (ne_eqb (owner r) from other)))
+moved_cases from to owner r = grind (arith, common_steps, eq-eqb, ne_eqb)
 
 pub joins : (cells id : ℕ) (v : Knowledge) (other : ℕ) (w : Knowledge) → Joins (Lawful cells) id v other w (united v w) spent
 joins cells id v other w s r at apart at_other =
@@ -131,7 +130,7 @@ joins cells id v other w s r at apart at_other =
       sees = record {
         sized = known.sized;
         begins = ⊎_elim (λ t. subst (λ (l : List DrawopValue). IsPrefix l r.log) (sym t.0) known.begins) (λ t. subst (λ (l : List DrawopValue). IsPrefix l r.log) (sym t.0) known_w.begins) (longer_cases v.seen w.seen);
-        told_begins = shorter_of (λ (l : List DrawopValue). IsPrefix l r.log) v.seen w.seen known.begins known_w.begins;
+        joined_begins = shorter_of (λ (l : List DrawopValue). IsPrefix l r.log) v.seen w.seen known.begins known_w.begins;
       };
       owns = record {
         free_is = λ i q e. ⊎_elim (λ h. let f = known.free_is i q h in (f.0, now_own q f.1, f.2)) (λ t. let f = known_w.free_is t.0 q t.2 in (f.0, now_own' q f.1, f.2)) (at_append v.free w.free i q e);
@@ -145,7 +144,7 @@ joins cells id v other w s r at apart at_other =
       remembers = nothing_remembered _ _ _ _ _;
     } in
     let gone : Knows cells s.words r.log r.rows owner' other spent = record {
-      sees = record { sized = λ h. absurd (omega arith); begins = (r.log, refl); told_begins = (r.log, refl) };
+      sees = record { sized = λ h. absurd (omega arith); begins = (r.log, refl); joined_begins = (r.log, refl) };
       owns = record {
         free_is = λ i q e. absurd (at_nothing i q e);
         free_once = once_nothing;

@@ -1,5 +1,6 @@
 -- The cursors after a split, and after a join.
-use Rattle.std.proofs.Common.{◌≡◌, ℕ, ◌+◌, ◌-◌, ◌≤◌, List, [], length, take, drop, sym, ap, ◌∙◌, subst, arith, length-drop}
+use Rattle.std.proofs.lemmas.Grind.{common_steps}
+use Rattle.std.proofs.Common.{◌≡◌, ℕ, ◌-◌, ◌≤◌, List, [], length, take, drop, sym, ap, ◌∙◌, subst, arith, length-drop}
 use Rattle.std.proofs.lemmas.List.{length-take}
 use Rattle.atomic_table.specs.Table.{Me}
 use Rattle.wb_names.specs.Values.{DrawopValue}
@@ -14,34 +15,10 @@ take_few : (n : ℕ) (l : List ℕ) → length (take n l) ≤ length l
 take_few n l = omega (arith, length-take n l)
 
 consistent_left : (n : ℕ) (v : Knowledge) → IsConsistent v → IsConsistent (left_part n v)
-consistent_left n v s =
-    let few = take_few (length v.free - n) v.free in
-    let room = s.room in
-    let own = s.own in record {
-      valid = s.valid;
-      names_once = s.names_once;
-      room = omega arith;
-      own = omega arith;
-      rows = λ i q e. s.rows i q (at_take (length v.free - n) v.free i q e).1;
-      mine_is = s.mine_is;
-      mine_once = s.mine_once;
-      whole = λ all p below. s.whole (omega arith) p below;
-    }
+consistent_left n v s = grind (arith, common_steps, take_few, at_take)
 
 consistent_right : (n : ℕ) (v : Knowledge) → IsConsistent v → IsConsistent (right_part n v)
-consistent_right n v s =
-    let few = length-drop (length v.free - n) v.free in
-    let room = s.room in
-    let own = s.own in record {
-      valid = s.valid;
-      names_once = s.names_once;
-      room = omega arith;
-      own = omega arith;
-      rows = λ i q e. s.rows (length v.free - n + i) q (at_drop (length v.free - n) v.free i q e);
-      mine_is = λ i p e. absurd (at_nothing i p e);
-      mine_once = once_nothing;
-      whole = λ all p below. absurd (omega arith);
-    }
+consistent_right n v s = grind (arith, common_steps, length-drop, at_drop, at_nothing, once_nothing)
 
 pub left_order : (h h' : Cursor) (n : ℕ) → InOrder h → h'.seat.me.1 ≡ h.seat.me.1 → h'.seat.me.0 ≡ left_part n h.seat.me.0 → h'.seen.items ≡ h.seen.items → h'.mine.items ≡ h.mine.items → h'.free.items ≡ take (length h.free.items - n) h.free.items → InOrder h'
 left_order h h' n o slots is seen mine free = record {

@@ -1,9 +1,9 @@
 -- Rows as ranges: the last one, and ranges that are cut where so many rows end.
+use Rattle.std.proofs.lemmas.Grind.{common_steps}
 use Rattle.std.proofs.Common.{◌≡◌, ℕ, zero, suc, ◌+◌, ◌-◌, ◌<◌, ◌≤◌, List, [], ◌∷◌, ◌++◌, length, get_or, take, drop, slice_set, refl, sym, ap, ◌∙◌, subst, arith, append_assoc, length-append}
 use Rattle.std.specs.List.{range_with_len}
-use Rattle.std.proofs.lemmas.List.{append-nil, take-append-drop, take_more, drop_all}
+use Rattle.std.proofs.lemmas.List.{append-nil, take-append-drop, take_more}
 use Rattle.std.proofs.lemmas.List.FromFn.{length-range_with_len}
-use Rattle.std.proofs.Math.Seq.{split_at, take-append_seam, drop-append_seam}
 use mathlib.Core.Option.{some}
 use lib.ListN.{get_elem?}
 use Rattle.std.specs.Prelude.{All}
@@ -16,10 +16,10 @@ use Rattle.wb_history.proofs.Lists.{at_after}
 
 pub rows-append : (rs ss : List RowRange) → rows_in (rs ++ ss) ≡ rows_in rs ++ rows_in ss
 rows-append [] ss = refl
-rows-append (r ∷ rs) ss = ap (λ (l : List ℕ). rows_of r ++ l) (rows-append rs ss) ∙ sym (append_assoc (rows_of r) (rows_in rs) (rows_in ss))
+rows-append (r ∷ rs) ss = grind (arith, common_steps, append_assoc, rows-append rs ss)
 
 range-append : (a m n : ℕ) → range_with_len a (m + n) ≡ range_with_len a m ++ range_with_len (a + m) n
-range-append a zero n = let e : 0 + n ≡ n = omega arith in let f : a ≡ a + 0 = omega arith in ap (λ k. range_with_len a k) e ∙ ap (λ k. range_with_len k n) f
+range-append a zero n = grind (arith, common_steps)
 range-append a (suc m) n =
     let e : suc m + n ≡ suc (m + n) = omega arith in
     let f : a + 1 + m ≡ a + suc m = omega arith in
@@ -28,23 +28,18 @@ range-append a (suc m) n =
 range_at : (a n i : ℕ) → i < n → get_elem? (range_with_len a n) i ≡ some (a + i)
 range_at a zero i h = absurd (omega arith)
 range_at a (suc n) zero h = let e : a ≡ a + 0 = omega arith in ap some e
-range_at a (suc n) (suc i) h = let e : a + 1 + i ≡ a + suc i = omega arith in range_at (a + 1) n i (omega arith) ∙ ap some e
+range_at a (suc n) (suc i) h = grind (arith, common_steps, range_at (a + 1) n i (omega arith))
 
 -- a list in two parts, cut where the first one ends
 pub cut_at : (xs front back : List ℕ) (k : ℕ) → xs ≡ front ++ back → length front ≡ k → (take k xs ≡ front) × (drop k xs ≡ back)
-cut_at xs front back k is long = (
-  ap (take k) is ∙ (ap (λ (n : ℕ). take n (front ++ back)) (sym long) ∙ take-append_seam front back),
-  ap (drop k) is ∙ (ap (λ (n : ℕ). drop n (front ++ back)) (sym long) ∙ drop-append_seam front back),
-)
+cut_at xs front back k is long = grind (arith, common_steps)
 
 -- ranges, by the last of them
 pub last_range : (rs : List RowRange) (n : ℕ) (r : RowRange) → length rs ≡ n + 1 → r ≡ get_or rs n r → rs ≡ take n rs ++ r ∷ []
-last_range rs n r long at =
-    let rest : drop (suc n) rs ≡ [] = drop_all (suc n) rs (omega arith) in
-    split_at rs n r (omega arith) ∙ (ap (λ (l : List RowRange). take n rs ++ get_or rs n r ∷ l) rest ∙ ap (λ (x : RowRange). take n rs ++ x ∷ []) (sym at))
+last_range rs n r long at = grind (arith, common_steps)
 
 pub last_rows : (rs : List RowRange) (n : ℕ) (r : RowRange) → length rs ≡ n + 1 → r ≡ get_or rs n r → rows_in rs ≡ rows_in (take n rs) ++ rows_of r
-last_rows rs n r long at = ap rows_in (last_range rs n r long at) ∙ (rows-append (take n rs) (r ∷ []) ∙ ap (λ (l : List ℕ). rows_in (take n rs) ++ l) (append-nil (rows_of r)))
+last_rows rs n r long at = grind (arith, common_steps, last_range, rows-append, append-nil)
 
 -- the last row
 pub last_is : (rs : List RowRange) (n : ℕ) (r : RowRange) → length rs ≡ n + 1 → r ≡ get_or rs n r → 0 < r.count → get_elem? (rows_in rs) (length (rows_in rs) - 1) ≡ some (r.first + (r.count - 1))
@@ -87,10 +82,7 @@ cut_inside rs rest n m r front back from few first second =
 
 -- the ranges so far, and one more
 pub rows_more : (rs : List RowRange) (i : ℕ) (z : RowRange) → i < length rs → length (rows_in (take (i + 1) rs)) ≡ length (rows_in (take i rs)) + (get_or rs i z).count
-rows_more rs i z below =
-    let r = get_or rs i z in
-    let size = length-range_with_len r.first r.count in
-    ap (λ (l : List RowRange). length (rows_in l)) (take_more rs i z below) ∙ (ap length (rows-append (take i rs) (r ∷ [])) ∙ omega (arith, size, length-append (rows_in (take i rs)) (rows_in (r ∷ [])), ap length (append-nil (rows_of r))))
+rows_more rs i z below = grind (arith, common_steps, length-range_with_len, take_more, rows-append, length-append, append-nil)
 
 pub some_range : (rs : List RowRange) → 0 < length (rows_in rs) → 0 < length rs
 some_range [] h = absurd (omega arith)
@@ -111,17 +103,12 @@ pub record HaveLast (items : List ℕ) (rows : ℕ) (cut : List RowRange) : Type
 -- the rows of ranges, which are counted
 module _ (rs : List RowRange) (count rows : ℕ) (items : List ℕ) (is : rows_in rs ≡ items) (lawful : (count ≡ length (rows_in rs)) × All IsRange rs) (few : rows ≤ length items) where
   in_two : (kept cut : List RowRange) → rows_in rs ≡ rows_in kept ++ rows_in cut → length (rows_in kept) ≡ count - rows → All IsRange kept → All IsRange cut → HaveFirst items count rows kept × HaveLast items rows cut
-  in_two kept cut parts long first second =
-      let all = ap length is in
-      let counted = lawful.0 in
-      let many = ap length parts ∙ length-append (rows_in kept) (rows_in cut) in
-      let at = cut_at items (rows_in kept) (rows_in cut) (length items - rows) (sym is ∙ parts) (omega arith) in
-      (record { first = sym at.0; many = sym long; ranges = first }, record { last = sym at.1; many = omega arith; ranges = second })
+  in_two kept cut parts long first second = grind (arith, common_steps)
 
-  -- cut at a place that a slice of them has told: between two ranges
+  -- cut at a place that a slice of them tells: between two ranges
   module _ (slice : List RowRange) (at part : ℕ) (same : slice ≡ rs) (before : length (rows_in (take at slice)) + part ≡ count - rows) where
     here : length (rows_in (take at rs)) + part ≡ count - rows
-    here = subst (λ (l : List RowRange). length (rows_in (take at l)) + part ≡ count - rows) same before
+    here = grind (arith, common_steps)
 
     pub parts_between : part ≡ 0 → HaveFirst items count rows (take at rs) × HaveLast items rows (drop at rs)
     parts_between none = let kept = here in in_two (take at rs) (drop at rs) (cut_between rs at) (omega arith) (All-take IsRange at rs lawful.1) (All-drop IsRange at rs lawful.1)
@@ -150,10 +137,10 @@ module _ (rs : List RowRange) (count rows : ℕ) (items : List ℕ) (is : rows_i
 -- without the last row: the last range has one less, or had it alone
 module _ (rs : List RowRange) (count size : ℕ) (r : RowRange) (items : List ℕ) (is : rows_in rs ≡ items) (lawful : (count ≡ length (rows_in rs)) × All IsRange rs) (some_rows : 0 < length items) (sized : size ≡ length rs) (at : r ≡ get_or rs (size - 1) r) where
   long : length rs ≡ (size - 1) + 1
-  long = let all = ap length is in let some = some_range rs (omega arith) in omega arith
+  long = grind (arith, common_steps, some_range)
 
   one : IsRange r
-  one = let l = long in subst IsRange (sym at) (lawful.1 (size - 1) r (omega arith))
+  one = grind (arith, common_steps, long)
 
   but_last : (kept : List RowRange) → rows_in (take (size - 1) rs) ++ range_with_len r.first (r.count - 1) ≡ rows_in kept → All IsRange kept → HaveFirst items count 1 kept
   but_last kept same ranges =
@@ -171,6 +158,4 @@ module _ (rs : List RowRange) (count size : ℕ) (r : RowRange) (items : List �
       (All-push IsRange (take (size - 1) rs) s (All-take IsRange (size - 1) rs lawful.1) (omega arith, omega arith))
 
   pub none_left : r.count ≤ 1 → HaveFirst items count 1 (take (size - 1) rs)
-  none_left few =
-      let none : r.count - 1 ≡ 0 = omega arith in
-      but_last (take (size - 1) rs) (ap (λ k. rows_in (take (size - 1) rs) ++ range_with_len r.first k) none ∙ append-nil (rows_in (take (size - 1) rs))) (All-take IsRange (size - 1) rs lawful.1)
+  none_left few = grind (arith, common_steps, but_last, append-nil, All-take)

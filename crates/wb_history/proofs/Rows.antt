@@ -1,16 +1,15 @@
 -- What a pass knows while it reads or stores a row.
+use Rattle.std.proofs.lemmas.Grind.{common_steps}
 use Rattle.wb_history.specs.Sizes.{row_words}
-use Rattle.std.proofs.Common.{◌≡◌, ℕ, ◌+◌, ◌-◌, ◌<◌, ◌≤◌, List, [], ◌∷◌, ◌++◌, length, take, get_or, set, refl, sym, ap, ◌∙◌, subst, arith, length-append, length-set, length-take-le}
-use Rattle.std.proofs.lemmas.List.{take_more, take_more_set}
+use Rattle.std.proofs.Common.{◌≡◌, ℕ, ◌+◌, ◌-◌, ◌≤◌, List, [], ◌∷◌, ◌++◌, length, take, set, refl, sym, ap, ◌∙◌, arith, length-set, length-take-le}
+use Rattle.std.proofs.lemmas.List.{take_more_set}
 use mathlib.Core.Option.{some}
 use lib.ListN.{get_elem?}
 use Rattle.wb_history.specs.declared.knowledge.Knowledge.{Knowledge}
 use Rattle.wb_names.specs.Values.{DrawopValue}
 use Rattle.wb_codec.specs.Rows.{row}
-use Rattle.wb_codec.proofs.RowLaws.{row_length}
 use Rattle.wb_history.specs.Lawful.{Remembers}
-use Rattle.wb_history.proofs.Lists.{at_nothing}
-use Rattle.wb_history.specs.Views.{after_read, after_member, after_store, IsMember, IsStored}
+use Rattle.wb_history.specs.Views.{after_member, IsMember}
 
 take_all : (xs : List ℕ) → take (length xs) xs ≡ xs
 take_all [] = refl
@@ -18,7 +17,7 @@ take_all (x ∷ xs) = λ i. x ∷ take_all xs i
 
 -- inside no call nothing is remembered
 pub nothing_remembered : (cells : ℕ) (words rows : List ℕ) (seen : ℕ) (free : List ℕ) → Remembers cells words rows seen free 0 [] []
-nothing_remembered cells words rows seen free = record { looks = λ h. absurd (omega arith); reads = λ k n e. absurd (at_nothing k n e); stores = λ k n q e _. absurd (at_nothing k n e) }
+nothing_remembered cells words rows seen free = grind (arith, common_steps)
 
 -- the view w after these words were read
 pub record ReadSo (v : Knowledge) (words : List ℕ) (w : Knowledge) : Type 0 where
@@ -32,50 +31,10 @@ pub record ReadSo (v : Knowledge) (words : List ℕ) (w : Knowledge) : Type 0 wh
   pub made : w.made ≡ v.made + length words
 
 pub last_free : (free free' : List ℕ) (r : ℕ) → free' ≡ free → get_elem? free (length free - 1) ≡ some r → get_elem? free' (length free' - 1) ≡ some r
-last_free free free' r same at = subst (λ (l : List ℕ). get_elem? l (length l - 1) ≡ some r) (sym same) at
+last_free free free' r same at = grind (arith, common_steps)
 
 pub length-some : (l words : List ℕ) (i : ℕ) → l ≡ take i words → i ≤ length words → length l ≡ i
 length-some l words i e h = ap length e ∙ length-take-le i words h
-
-pub store_none : (v : Knowledge) (words : List ℕ) → v.stored ≡ [] → IsStored v (take 0 words) v
-store_none v words none = record { cells = refl; seen = refl; mine = refl; free = refl; stored = none; made = omega arith }
-
-pub store_one : (v w w' : Knowledge) (word : ℕ) (words : List ℕ) (i : ℕ) → i < length words → IsStored v (take i words) w → w' ≡ after_store w word (get_or words i 0) → IsStored v (take (i + 1) words) w'
-store_one v w w' word words i h s e =
-    let front = length-take-le i words (omega arith) in
-    let front' = length-take-le (i + 1) words (omega arith) in
-    let made : w'.made ≡ w.made + 1 = ap (λ (k : Knowledge). k.made) e in
-    let was = s.made in record {
-      cells = ap (λ (k : Knowledge). k.cells) e ∙ s.cells;
-      seen = ap (λ (k : Knowledge). k.seen) e ∙ s.seen;
-      mine = ap (λ (k : Knowledge). k.mine) e ∙ s.mine;
-      free = ap (λ (k : Knowledge). k.free) e ∙ s.free;
-      stored = ap (λ (k : Knowledge). k.stored) e ∙ (ap (λ (l : List ℕ). l ++ get_or words i 0 ∷ []) s.stored ∙ sym (take_more words i 0 h));
-      made = omega arith;
-    }
-
-pub store_all : (v w : Knowledge) (words : List ℕ) (d : DrawopValue) (i : ℕ) → i ≡ row_words → words ≡ row d → IsStored v (take i words) w → IsStored v (row d) w
-store_all v w words d i i_is is s = subst (λ l. IsStored v l w) (ap (λ n. take n words) i_is ∙ (ap (λ (l : List ℕ). take row_words l) is ∙ (ap (λ n. take n (row d)) (sym (row_length d)) ∙ take_all (row d)))) s
-
-pub read_none : (v : Knowledge) (words : List ℕ) → v.read ≡ [] → ReadSo v (take 0 words) v
-read_none v words none = record { cells = refl; seen = refl; mine = refl; free = refl; stored = refl; looking = refl; read = none; made = omega arith }
-
-pub read_one : (v w w' : Knowledge) (word : ℕ) (words : List ℕ) (i found : ℕ) → i < length words → ReadSo v (take i words) w → w' ≡ after_read w word found → ReadSo v (take (i + 1) (set words i found)) w'
-read_one v w w' word words i found h s e =
-    let front = length-take-le i words (omega arith) in
-    let front' = take_more_set words i found h in
-    let made : w'.made ≡ w.made + 1 = ap (λ (k : Knowledge). k.made) e in
-    let was = s.made in
-    let long : length (take (i + 1) (set words i found)) ≡ i + 1 = ap length front' ∙ omega (arith, length-append (take i words) (found ∷ [])) in record {
-      cells = ap (λ (k : Knowledge). k.cells) e ∙ s.cells;
-      seen = ap (λ (k : Knowledge). k.seen) e ∙ s.seen;
-      mine = ap (λ (k : Knowledge). k.mine) e ∙ s.mine;
-      free = ap (λ (k : Knowledge). k.free) e ∙ s.free;
-      stored = ap (λ (k : Knowledge). k.stored) e ∙ s.stored;
-      looking = ap (λ (k : Knowledge). k.looking) e ∙ s.looking;
-      read = ap (λ (k : Knowledge). k.read) e ∙ (ap (λ (l : List ℕ). l ++ found ∷ []) s.read ∙ sym front');
-      made = omega arith;
-    }
 
 -- the last word was read, and the words are the record of d
 pub read_row_is : (w : Knowledge) (words : List ℕ) (found : ℕ) (d : DrawopValue) (i : ℕ) → i + 1 ≡ row_words → length words ≡ row_words → w.read ≡ take i words → row d ≡ w.read ++ found ∷ [] → row d ≡ set words (row_words - 1) found
@@ -85,14 +44,4 @@ read_row_is w words found d i last long is e =
     e ∙ (ap (λ (l : List ℕ). l ++ found ∷ []) is ∙ (sym (take_more_set words i found (omega arith)) ∙ (all ∙ ap (λ n. set words n found) back)))
 
 pub read_all : (v w w' : Knowledge) (word found : ℕ) (words : List ℕ) (i : ℕ) (d : DrawopValue) → i + 1 ≡ row_words → length words ≡ row_words → ReadSo v (take i words) w → w' ≡ after_member w d word found → IsMember v d w'
-read_all v w w' word found words i d i_is long s e =
-    let front = length-take-le i words (omega arith) in
-    let made : w'.made ≡ w.made + 1 = ap (λ (k : Knowledge). k.made) e in
-    let was = s.made in record {
-      cells = ap (λ (k : Knowledge). k.cells) e ∙ s.cells;
-      seen = ap (λ (k : Knowledge). k.seen) e ∙ ap (λ (l : List DrawopValue). l ++ d ∷ []) s.seen;
-      mine = ap (λ (k : Knowledge). k.mine) e ∙ s.mine;
-      free = ap (λ (k : Knowledge). k.free) e ∙ s.free;
-      stored = ap (λ (k : Knowledge). k.stored) e ∙ s.stored;
-      made = omega arith;
-    }
+read_all v w w' word found words i d i_is long s e = grind (arith, common_steps)

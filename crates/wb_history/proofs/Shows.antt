@@ -1,6 +1,7 @@
 -- What the parts of a pass show of it.
+use Rattle.std.proofs.lemmas.Grind.{common_steps}
 use Rattle.wb_history.specs.Sizes.{member_steps}
-use Rattle.std.proofs.Common.{◌≡◌, ℕ, ◌+◌, ◌-◌, ◌*◌, ◌<◌, ◌≤◌, List, [], ◌∷◌, ◌++◌, length, refl, sym, ap, ◌∙◌, subst, inl, inr, ⊎_elim, arith, length-append, length-take-le, append_assoc}
+use Rattle.std.proofs.Common.{◌≡◌, ℕ, ◌+◌, ◌-◌, ◌*◌, ◌<◌, ◌≤◌, List, [], ◌∷◌, ◌++◌, length, refl, sym, ap, ◌∙◌, subst, arith, length-append, length-take-le}
 use Rattle.std.proofs.lemmas.List.{append-nil}
 use Rattle.std.proofs.Common.{Result, Ok, Err, OnOk, OnErr, MatchResult}
 use Rattle.std.specs.Prelude.{replicate, All, Contains}
@@ -23,14 +24,15 @@ use Rattle.wb_history.specs.declared.claim.ClaimFault.TheVariants.{NoRow, Memory
 use mathlib.Core.List.{IsPrefix}
 use Rattle.wb_history.specs.Lists.{Once}
 use Rattle.wb_names.specs.History.{IsHistory}
-use Rattle.wb_history.specs.Indexed.{MembersValue}
+use Rattle.wb_history.specs.Indexed.{MembersValue, AreFronts}
+use Rattle.wb_history.proofs.Fronts.{fronts_on}
 use Rattle.wb_history.specs.Lawful.{IsConsistent}
 use Rattle.wb_history.specs.declared.cells.CellTable.{CellTable}
 use Rattle.wb_history.specs.Seats.{SitsAt, SameSeat}
 use Rattle.wb_history.proofs.Lists.{few}
 use Rattle.wb_history.specs.Cursors.{InOrder, Walked, Won, AtEnd, Answered, Refused}
-use Rattle.wb_history.specs.Passes.{HistoryValue, PassValue, IsPassOf, IsWhole, KeepsRows, AddsNothing, IsSound, IsCaughtUp, ReadsOn}
-use Rattle.wb_history.specs.Replies.{IsAdded, Claimed, NotClaimed, ClaimSteps, FaultSteps}
+use Rattle.wb_history.specs.Passes.{HistoryValue, PassValue, IsPassOf, IsWhole, IsSound, ReadsOn}
+use Rattle.wb_history.specs.Replies.{IsAdded, Claimed, NotClaimed}
 use Rattle.wb_codec.specs.Ranges.{IsDrawop}
 use Rattle.wb_history.proofs.Words.{get_is, none_before, pairs_are, all_are}
 use Rattle.wb_history.specs.Shown.{history_of, view_of, IsHeld}
@@ -67,44 +69,26 @@ on_ok (Err e) p = tt
 
 -- more room for the list is not seen
 pub roomier : (h : Cursor) (m : MembersValue) → m.items ≡ h.seen.items → IsHeld h → IsHeld (record h { seen = m })
-roomier h m same i = let o = i.0 in (record { slots = o.slots; seen = o.seen ∙ sym same; mine = o.mine; free = o.free; consistent = o.consistent }, i.1, i.2, i.3)
+roomier h m same i = grind (arith, common_steps)
 
--- a pass is told what another has seen, or both stay as they were
-pub sound_told : {A E : Type 0} (p q : PassValue) (Teller : Type 0) (r : Result A E) → OnOk r (IsSound q) → OnErr r (Teller × (q ≡ p)) → IsSound p → IsSound q
-sound_told p q Teller (Ok u) told kept s = told
-sound_told p q Teller (Err e) told kept s = subst IsSound (sym kept.1) s
+-- a pass hears what another has seen, or both stay as they were
+pub sound_heard : {A E : Type 0} (p q : PassValue) (Teller : Type 0) (r : Result A E) → OnOk r (IsSound q) → OnErr r (Teller × (q ≡ p)) → IsSound p → IsSound q
+sound_heard p q Teller (Ok u) heard kept s = heard
+sound_heard p q Teller (Err e) heard kept s = subst IsSound (sym kept.1) s
 
 -- the parts of a pass after steps of its seat
 pub held_on : (h h' : Cursor) → IsHeld h → InOrder h' → SameSeat h.seat h'.seat → h'.seat.me.0.cells ≡ h.seat.me.0.cells → IsHeld h'
-held_on h h' i o seat cells =
-    let words = ap (λ z. z.words) seat.0 in let sized = i.1 in let some_cells = i.2 in let few_cells = i.3 in (o, (omega arith), (omega arith), (omega arith))
+held_on h h' i o seat cells = grind (arith, common_steps)
 
 -- A pass sits at the table of its history. Of one table the number of cells is one, since the number of words is
 pub sits : {p : PassValue} {q : HistoryValue} (t : CellTable) (h : Cursor) → history_of t ≡ q → view_of h ≡ p → IsHeld h → IsPassOf q p → SitsAt t h.seat
-sits t h is_q is_p i same =
-    let table : h.seat.table_id ≡ t.table.shared.table_id = ap (λ (v : PassValue). v.table) is_p ∙ (same ∙ sym (ap (λ (v : HistoryValue). v.table) is_q)) in
-    let words = ap (λ z. z.words) table in let sized = i.1 in let of_table = t.sized in (table, (omega arith))
-
-pub as_many_cells : {p : PassValue} {q : HistoryValue} (t : CellTable) (h : Cursor) → history_of t ≡ q → view_of h ≡ p → IsHeld h → IsPassOf q p → p.cells ≡ q.cells
-as_many_cells t h is_q is_p i same = sym (ap (λ (v : PassValue). v.cells) is_p) ∙ ((sits t h is_q is_p i same).1 ∙ ap (λ (v : HistoryValue). v.cells) is_q)
+sits t h is_q is_p i same = grind (arith, common_steps)
 
 owns : (h : Cursor) → InOrder h → IsWhole (view_of h) → HasAllRows h.seat.me.0
 owns h o all = let b = ap length o.free in let d = ap length o.mine in omega arith
 
-pub starts : (h : Cursor) (more : List DrawopValue) (k : ℕ) (h' : Cursor) → Walked h more k h' → IsPrefix h.seen.items h'.seen.items
-starts h more k h' w = (more, sym w.seen)
-
-keeps_rows : (h : Cursor) (more : List DrawopValue) (k : ℕ) (h' : Cursor) → Walked h more k h' → KeepsRows (view_of h) (view_of h')
-keeps_rows h more k h' w = (w.mine, ap length w.free)
-
-adds_nothing : (h : Cursor) (more : List DrawopValue) (k : ℕ) (h' : Cursor) → InOrder h → Walked h more k h' → AddsNothing (view_of h) (view_of h')
-adds_nothing h more k h' o w = (keeps_rows h more k h' w, λ all. w.seen ∙ (ap (λ (l : List DrawopValue). h.seen.items ++ l) (w.whole (owns h o all)) ∙ append-nil h.seen.items))
-
-caught_up : (cells : ℕ) (h : Cursor) (more : List DrawopValue) (h' : Cursor) → h.seat.me.0.cells ≡ cells → AtEnd cells h more h' → IsCaughtUp (view_of h) (view_of h')
-caught_up cells h more h' same e = ⊎_elim (λ x. let m = x.0.made in inl ((omega arith), x.1.0, x.1.1)) (λ x. let c = x.0.cells in let f = x.1 in inr (omega arith)) e
-
 -- the list after a claim that was won ends with the drawop, whose name stands nowhere before
-added : (h : Cursor) (more : List DrawopValue) (d : DrawopValue) (i extra : ℕ) (h' : Cursor) → InOrder h → Won h more d i extra h' → IsAdded (view_of h) d i (view_of h')
+added : (h : Cursor) (more : List DrawopValue) (d : DrawopValue) (i extra : ℕ) (h' : Cursor) → InOrder h → Won (record h { steps = 0 }) more d i extra h' → IsAdded (view_of h) d i (view_of h')
 added h more d i extra h' o w =
     let place = w.at in
     let long = ap length w.seen in
@@ -122,57 +106,38 @@ added h more d i extra h' o w =
       alone = λ all. w.seen ∙ ap (λ (l : List DrawopValue). l ++ d ∷ []) (ap (λ (l : List DrawopValue). h.seen.items ++ l) (w.whole (owns h o all)) ∙ append-nil h.seen.items);
     }
 
-shown_claim : (h : Cursor) (d : DrawopValue) (extra : ℕ) (h' : Cursor) (c : Claim) → InOrder h → Answered h d extra h' c → IsPrefix h.seen.items h'.seen.items × Claimed (view_of h) d (view_of h') c
-shown_claim h d extra h' (Added i) o s = ((s.0 ++ d ∷ [], sym (s.1.seen ∙ append_assoc h.seen.items s.0 (d ∷ []))), added h s.0 d i (extra + 1) h' o s.1)
-shown_claim h d extra h' (Present i) o s = (starts h s.0 extra h' s.1, (s.2, adds_nothing h s.0 extra h' o s.1))
-shown_claim h d extra h' (Clash i) o s = (starts h s.0 extra h' s.1, (s.2, adds_nothing h s.0 extra h' o s.1))
-
 -- the parts of a pass after a call that reads or adds: they agree, and it has seen all that it had seen
 abbrev pub GoesOn : Cursor → Cursor → Type 0
 GoesOn h h' = IsHeld h' × (h'.seat.me.0.cells ≡ h.seat.me.0.cells) × IsPrefix h.seen.items h'.seen.items
 
-pub walked_held : (h : Cursor) (more : List DrawopValue) (k : ℕ) (h' : Cursor) → IsHeld h → Walked h more k h' → GoesOn h h'
-walked_held h more k h' i w = (held_on h h' i w.order w.seat w.cells, w.cells, starts h more k h' w)
+-- what is so of all parts of a pass stays so, where they go on
+pub pass_on : (lists : List MembersValue) (cells : ℕ) (h h' : Cursor) → IsHeld h × (cells ≡ h.seat.me.0.cells) × AreFronts lists h.seen.items → GoesOn h h' → IsHeld h' × (cells ≡ h'.seat.me.0.cells) × AreFronts lists h'.seen.items
+pass_on lists cells h h' i on = (on.0, i.1 ∙ sym on.1, fronts_on lists h.seen.items h'.seen.items on.2 i.2)
 
-pub end_held : (cells : ℕ) (h : Cursor) (more : List DrawopValue) (h' : Cursor) → IsHeld h → AtEnd cells h more h' → GoesOn h h'
-end_held cells h more h' i e = ⊎_elim (λ x. walked_held h more 1 h' i x.0) (λ x. walked_held h more 0 h' i x.0) e
+pub walked_held : (h : Cursor) (more : List DrawopValue) (k : ℕ) (h' : Cursor) → IsHeld h → Walked (record h { steps = 0 }) more k h' → GoesOn h h'
+walked_held h more k h' i w = grind (arith, common_steps)
 
-claim_held : (h : Cursor) (d : DrawopValue) (extra : ℕ) (h' : Cursor) (c : Claim) → IsHeld h → Answered h d extra h' c → GoesOn h h'
-claim_held h d extra h' (Added k) i s = (held_on h h' i s.1.order s.1.seat s.1.cells, s.1.cells, (s.0 ++ d ∷ [], sym (s.1.seen ∙ append_assoc h.seen.items s.0 (d ∷ []))))
-claim_held h d extra h' (Present k) i s = walked_held h s.0 extra h' i s.1
-claim_held h d extra h' (Clash k) i s = walked_held h s.0 extra h' i s.1
-
-fault_held : (cells : ℕ) (h : Cursor) (d : DrawopValue) (h' : Cursor) (f : ClaimFault) → IsHeld h → Refused cells h d h' f → GoesOn h h'
-fault_held cells h d h' NoRow i r = end_held cells h r.0 h' i r.1
-fault_held cells h d h' Memory i r = walked_held h r.0 r.1 h' i r.3
+pub end_held : (cells : ℕ) (h : Cursor) (more : List DrawopValue) (h' : Cursor) → IsHeld h → AtEnd cells (record h { steps = 0 }) more h' → GoesOn h h'
+end_held cells h more h' i e = grind (arith, common_steps)
 
 -- the parts of a pass after a claim
-pub held_after : (cells : ℕ) (h : Cursor) (d : DrawopValue) (h' : Cursor) (r : Result Claim ClaimFault) → IsHeld h → MatchResult r (λ c. (extra : ℕ) × (extra ≤ member_steps) × Answered h d extra h' c) (Refused cells h d h') → GoesOn h h'
-held_after cells h d h' (Ok c) i m = claim_held h d m.0 h' c i m.2
-held_after cells h d h' (Err f) i m = fault_held cells h d h' f i m
-
-end_starts : (cells : ℕ) (h : Cursor) (more : List DrawopValue) (h' : Cursor) → InOrder h → AtEnd cells h more h' → IsPrefix h.seen.items h'.seen.items × AddsNothing (view_of h) (view_of h')
-end_starts cells h more h' o e = ⊎_elim (λ x. (starts h more 1 h' x.0, adds_nothing h more 1 h' o x.0)) (λ x. (starts h more 0 h' x.0, adds_nothing h more 0 h' o x.0)) e
-
-shown_fault : (cells : ℕ) (h : Cursor) (d : DrawopValue) (h' : Cursor) (f : ClaimFault) → InOrder h → h.seat.me.0.cells ≡ cells → Refused cells h d h' f → IsPrefix h.seen.items h'.seen.items × NotClaimed (view_of h) d (view_of h') f
-shown_fault cells h d h' NoRow o same r =
-    let e = end_starts cells h r.0 h' o r.1 in
-    (e.0, record { none_left = e.1.0.1 ∙ ap length r.3; absent = r.2; end = caught_up cells h r.0 h' same r.1; kept = e.1 })
-shown_fault cells h d h' Memory o same r = (starts h r.0 r.1 h' r.3, adds_nothing h r.0 r.1 h' o r.3)
+pub held_after : (cells : ℕ) (h : Cursor) (d : DrawopValue) (h' : Cursor) (r : Result Claim ClaimFault) → IsHeld h
+    → MatchResult r (λ c. (extra : ℕ) × (extra ≤ member_steps) × Answered (record h { steps = 0 }) d extra h' c) (Refused cells (record h { steps = 0 }) d h') → GoesOn h h'
+held_after cells h d h' (Ok (Added k)) i m = grind (arith, common_steps)
+held_after cells h d h' (Ok (Present k)) i m = walked_held h m.2.0 m.0 h' i m.2.1
+held_after cells h d h' (Ok (Clash k)) i m = walked_held h m.2.0 m.0 h' i m.2.1
+held_after cells h d h' (Err NoRow) i m = end_held cells h m.0 h' i m.1
+held_after cells h d h' (Err Memory) i m = walked_held h m.0 m.1 h' i m.3
 
 -- what a claim with a cursor says of what is seen of the cursor
-pub shown : (cells : ℕ) (h : Cursor) (d : DrawopValue) (h' : Cursor) (r : Result Claim ClaimFault) → InOrder h → h.seat.me.0.cells ≡ cells → MatchResult r (λ c. (extra : ℕ) × (extra ≤ member_steps) × Answered h d extra h' c) (Refused cells h d h')
-    → IsPrefix h.seen.items h'.seen.items × MatchResult r (Claimed (view_of h) d (view_of h')) (NotClaimed (view_of h) d (view_of h'))
-shown cells h d h' (Ok c) o same m = shown_claim h d m.0 h' c o m.2
-shown cells h d h' (Err f) o same m = shown_fault cells h d h' f o same m
-
--- the steps of the call before do not matter to an answer
-pub from_there : (p : PassValue) (n : ℕ) (d : DrawopValue) (q : PassValue) (r : Result Claim ClaimFault) → MatchResult r (Claimed (record p { steps = n }) d q) (NotClaimed (record p { steps = n }) d q) → MatchResult r (Claimed p d q) (NotClaimed p d q)
-from_there p n d q (Ok (Added i)) m = record { new = m.new; member = m.member; last = m.last; later = m.later; gains = m.gains; row = m.row; alone = m.alone }
-from_there p n d q (Ok (Present i)) m = m
-from_there p n d q (Ok (Clash i)) m = m
-from_there p n d q (Err NoRow) m = record { none_left = m.none_left; absent = m.absent; end = m.end; kept = m.kept }
-from_there p n d q (Err Memory) m = m
+pub shown : (cells : ℕ) (h : Cursor) (d : DrawopValue) (h' : Cursor) (r : Result Claim ClaimFault) → InOrder h → h.seat.me.0.cells ≡ cells
+    → MatchResult r (λ c. (extra : ℕ) × (extra ≤ member_steps) × Answered (record h { steps = 0 }) d extra h' c) (Refused cells (record h { steps = 0 }) d h')
+    → MatchResult r (Claimed (view_of h) d (view_of h')) (NotClaimed (view_of h) d (view_of h'))
+shown cells h d h' (Ok (Added i)) o same m = added h m.2.0 d i (m.0 + 1) h' o m.2.1
+shown cells h d h' (Ok (Present i)) o same m = (m.2.2, grind (arith, common_steps))
+shown cells h d h' (Ok (Clash i)) o same m = (m.2.2, grind (arith, common_steps))
+shown cells h d h' (Err NoRow) o same m = grind (arith, common_steps)
+shown cells h d h' (Err Memory) o same m = grind (arith, common_steps)
 
 pub first_consistent : (cells : ℕ) → 0 < cells → IsConsistent (whole_pass cells)
 first_consistent cells h =
@@ -189,12 +154,8 @@ first_order h cells some_cells me seen mine free = record {
   consistent = subst (λ (m : Me DrawopValue Knowledge). IsConsistent m.0) (sym me) (first_consistent cells some_cells);
 }
 
--- the parts of a pass as a call begins, which counts its own steps
-pub fresh : (h : Cursor) → IsHeld h → IsHeld (record h { steps = 0 })
-fresh h i = let o = i.0 in (record { slots = o.slots; seen = o.seen; mine = o.mine; free = o.free; consistent = o.consistent }, i.1, i.2, i.3)
-
 brought_is : (h : Cursor) (more : List DrawopValue) (k : ℕ) (h' : Cursor) → Walked h more k h' → length h'.seen.items - length h.seen.items ≡ length more
-brought_is h more k h' w = let l = ap length w.seen in omega (arith, length-append h.seen.items more)
+brought_is h more k h' w = grind (arith, common_steps, length-append)
 
 -- the pass after its cursor has read on
 pub reads_on : {p : PassValue} (h : Cursor) (more : List DrawopValue) (k : ℕ) (h' : Cursor) → k ≤ 1 → view_of h ≡ p → IsHeld h → Walked (record h { steps = 0 }) more k h' → ReadsOn p (view_of h')
@@ -205,23 +166,9 @@ reads_on h more k h' few is i w =
     let b = brought_is begun more k h' w in
     subst (λ (v : PassValue). ReadsOn v (view_of h')) is record {
       same = (w.seat.0, w.cells);
-      sound = sound h' (walked_held begun more k h' (fresh h i) w).0;
-      grows = starts begun more k h' w;
-      nothing = adds_nothing begun more k h' (fresh h i).0 w;
+      sound = sound h' (walked_held h more k h' i w).0;
+      grows = (more, sym w.seen);
+      nothing = grind (arith, common_steps);
       steps = omega arith;
       few_steps = omega arith;
     }
-
-claim_steps : (h : Cursor) (d : DrawopValue) (extra : ℕ) (h' : Cursor) (c : Claim) → h.steps ≡ 0 → extra ≤ member_steps → Answered h d extra h' c → ClaimSteps (view_of h) (view_of h') c
-claim_steps h d extra h' (Added i) none few s = let w = s.1 in let t = w.steps in let at = w.at in let back : i - length h.seen.items ≡ length s.0 = omega arith in omega arith
-claim_steps h d extra h' (Present i) none few s = let t = s.1.steps in let b = brought_is h s.0 extra h' s.1 in omega arith
-claim_steps h d extra h' (Clash i) none few s = let t = s.1.steps in let b = brought_is h s.0 extra h' s.1 in omega arith
-
-fault_steps : (cells : ℕ) (h : Cursor) (d : DrawopValue) (h' : Cursor) (f : ClaimFault) → h.steps ≡ 0 → Refused cells h d h' f → FaultSteps (view_of h) (view_of h') f
-fault_steps cells h d h' NoRow none r = ⊎_elim (λ x. let t = x.0.steps in let b = brought_is h r.0 1 h' x.0 in omega arith) (λ x. let t = x.0.steps in let b = brought_is h r.0 0 h' x.0 in omega arith) r.1
-fault_steps cells h d h' Memory none r = let t = r.3.steps in let few = r.2 in let b = brought_is h r.0 r.1 h' r.3 in omega arith
-
-pub shown_steps : (cells : ℕ) (h : Cursor) (d : DrawopValue) (h' : Cursor) (r : Result Claim ClaimFault) → h.steps ≡ 0 → MatchResult r (λ c. (extra : ℕ) × (extra ≤ member_steps) × Answered h d extra h' c) (Refused cells h d h')
-    → MatchResult r (ClaimSteps (view_of h) (view_of h')) (FaultSteps (view_of h) (view_of h'))
-shown_steps cells h d h' (Ok c) none m = claim_steps h d m.0 h' c none m.1 m.2
-shown_steps cells h d h' (Err f) none m = fault_steps cells h d h' f none m

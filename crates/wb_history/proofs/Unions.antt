@@ -1,76 +1,18 @@
 -- Two cursors, and two passes, that become one.
-use Rattle.std.proofs.Common.{◌≡◌, ℕ, ◌+◌, ◌<◌, ◌≤◌, List, [], ◌++◌, length, refl, sym, ap, ◌∙◌, subst, ⊎_elim, arith, length-append}
-use Rattle.std.proofs.lemmas.List.{append-nil}
-use Rattle.std.proofs.lemmas.Bool.{cases_lt, cond_below, cond_above}
+use Rattle.std.proofs.lemmas.Grind.{common_steps}
+use Rattle.std.proofs.Common.{◌≡◌, ℕ, ◌+◌, List, ◌++◌, length, ap, ◌∙◌, subst, arith, length-append}
 use Rattle.std.specs.Prelude.{Contains}
 use Rattle.atomic_table.proofs.Lists.{at_longer}
-use Rattle.wb_history.proofs.Lists.{at_read, at_after, both_start}
-use mathlib.Core.Option.{some, none}
+use Rattle.wb_history.proofs.Lists.{at_read, at_after}
+use mathlib.Core.Option.{some}
 use mathlib.Core.List.{IsPrefix}
-use Rattle.atomic_table.specs.Table.{Me, step}
 use Rattle.wb_names.specs.Values.{DrawopValue}
-use Rattle.wb_history.specs.declared.knowledge.Knowledge.{Knowledge}
 use Rattle.wb_history.specs.declared.cursor.Cursor.{Cursor}
-use Rattle.wb_history.specs.Lists.{Once, longer, shorter}
+use Rattle.wb_history.specs.Lists.{Once, longer}
 use Rattle.wb_history.specs.Cursors.{InOrder, United}
-use Rattle.wb_history.specs.Plays.{confirmed}
 use Rattle.wb_history.specs.Sharing.{IsJoined}
-use Rattle.wb_history.specs.Passes.{PassValue, IsTold, KeepsRows}
+use Rattle.wb_history.specs.Passes.{PassValue}
 use Rattle.wb_history.specs.Shown.{view_of}
-use Rattle.wb_history.specs.Views.{united, after_confirm}
-
-pub second_longer : {A : Type 0} (xs ys : List A) → length xs < length ys → longer xs ys ≡ ys
-second_longer xs ys lt = sym (cond_below (length xs) (length ys) ys xs lt)
-
-pub first_longer : {A : Type 0} (xs ys : List A) → length ys ≤ length xs → longer xs ys ≡ xs
-first_longer xs ys ge = sym (cond_above (length xs) (length ys) ys xs xs ge refl)
-
--- the longer of two lists begins with each, where it begins with the shorter
-both_begin : (xs ys : List DrawopValue) → (length (shorter xs ys) ≤ length (longer xs ys) → IsPrefix (shorter xs ys) (longer xs ys)) → IsPrefix xs (longer xs ys) × IsPrefix ys (longer xs ys)
-both_begin xs ys h = ⊎_elim
-    (λ lt. let l = second_longer xs ys lt in let s = sym (cond_below (length xs) (length ys) xs ys lt) in
-    let b = subst (λ (z : List DrawopValue). IsPrefix z ys) s (subst (λ (z : List DrawopValue). IsPrefix (shorter xs ys) z) l (h (let a = ap length l in let c = ap length s in omega arith))) in
-    (subst (λ (z : List DrawopValue). IsPrefix xs z) (sym l) b, subst (λ (z : List DrawopValue). IsPrefix ys z) (sym l) ([], append-nil ys)))
-    (λ ge. let l = first_longer xs ys ge in let s = sym (cond_above (length xs) (length ys) xs ys ys ge refl) in
-    let b = subst (λ (z : List DrawopValue). IsPrefix z xs) s (subst (λ (z : List DrawopValue). IsPrefix (shorter xs ys) z) l (h (let a = ap length l in let c = ap length s in omega arith))) in
-    (subst (λ (z : List DrawopValue). IsPrefix xs z) (sym l) ([], append-nil xs), subst (λ (z : List DrawopValue). IsPrefix ys z) (sym l) b))
-    (cases_lt (length xs) (length ys))
-
--- of the lists of two seats that were united each begins the longer, as a load tells
-begins : (h : Cursor) (w : Knowledge) (u : Me DrawopValue Knowledge) (word found : ℕ) (m : Me DrawopValue Knowledge) → InOrder h → u.0 ≡ united h.seat.me.0 w → confirmed (step 0 word 0 0 none) u found m
-    → IsPrefix h.seen.items (longer h.seen.items w.seen) × IsPrefix w.seen (longer h.seen.items w.seen)
-begins h w u word found m o is told =
-    let starts = subst (λ (v : Knowledge). length v.told ≤ length v.seen → IsPrefix v.told v.seen) is told.2 in
-    both_begin h.seen.items w.seen (subst (λ (l : List DrawopValue). length (shorter l w.seen) ≤ length (longer l w.seen) → IsPrefix (shorter l w.seen) (longer l w.seen)) o.seen starts)
-
--- the cursor has seen a front of what the other has, where that is no shorter
-pub told_front : (h : Cursor) (w : Knowledge) (u : Me DrawopValue Knowledge) (word found : ℕ) (m : Me DrawopValue Knowledge) → InOrder h → u.0 ≡ united h.seat.me.0 w → confirmed (step 0 word 0 0 none) u found m → length h.seen.items ≤ length w.seen
-    → IsPrefix h.seen.items w.seen
-told_front h w u word found m o is told few = let b = begins h w u word found m o is told in both_start (longer h.seen.items w.seen) w.seen h.seen.items b.1 b.0 few
-
--- the cursor after its seat took in the other, and a load told what the join did not
-pub took_in : (h : Cursor) (w : Knowledge) (h' : Cursor) (u : Me DrawopValue Knowledge) (word found : ℕ) → InOrder h → u.1 ≡ h.seat.me.1 → u.0 ≡ united h.seat.me.0 w → confirmed (step 0 word 0 0 none) u found h'.seat.me
-    → h'.seat.table_id ≡ h.seat.table_id → h'.seat.id ≡ h.seat.id → h'.seen.items ≡ longer h.seen.items w.seen → h'.mine.items ≡ h.mine.items ++ w.mine → h'.free.items ≡ h.free.items ++ w.free → h'.steps ≡ h.steps → United h w h'
-took_in h w h' u word found o slots is told table id seen mine free steps =
-    let after : h'.seat.me.0 ≡ after_confirm (united h.seat.me.0 w) word found = told.1 ∙ ap (λ (v : Knowledge). after_confirm v word found) is in
-    let b = begins h w u word found h'.seat.me o is told in
-    record {
-      order = record {
-        slots = told.0 ∙ (slots ∙ o.slots);
-        seen = ap (λ (v : Knowledge). v.seen) after ∙ (ap (λ (l : List DrawopValue). longer l w.seen) o.seen ∙ sym seen);
-        mine = ap (λ (v : Knowledge). v.mine) after ∙ (ap (λ (l : List ℕ). l ++ w.mine) o.mine ∙ sym mine);
-        free = ap (λ (v : Knowledge). v.free) after ∙ (ap (λ (l : List ℕ). l ++ w.free) o.free ∙ sym free);
-        consistent = told.3;
-      };
-      seat = (table, id, told.0 ∙ slots);
-      cells = ap (λ (v : Knowledge). v.cells) after;
-      seen = seen;
-      first = subst (λ (l : List DrawopValue). IsPrefix h.seen.items l) (sym seen) b.0;
-      second = subst (λ (l : List DrawopValue). IsPrefix w.seen l) (sym seen) b.1;
-      mine = mine;
-      free = free;
-      steps = steps;
-    }
 
 -- where no element of two lists together stands twice, they share none
 shared_none : (xs ys : List ℕ) → Once (xs ++ ys) → (i : ℕ) → Contains xs i → Contains ys i → ⊥
@@ -83,17 +25,7 @@ shared_none xs ys once i a b =
 
 -- more capacity is not seen
 pub same_view : (h k : Cursor) → h.seat ≡ k.seat → h.seen ≡ k.seen → h.mine.items ≡ k.mine.items → h.free.items ≡ k.free.items → h.steps ≡ k.steps → view_of h ≡ view_of k
-same_view h k seat seen mine free steps = λ i. record {
-  table = (seat i).table_id;
-  cells = (seat i).me.0.cells;
-  seen = (seen i).items;
-  mine = mine i;
-  free = length (free i);
-  made = (seat i).me.0.made;
-  last_word = (seat i).me.0.last_word;
-  last_found = (seat i).me.0.last_found;
-  steps = steps i;
-}
+same_view h k seat seen mine free steps = grind (arith, common_steps)
 
 pub joined : (p q : PassValue) (h g h' : Cursor) → view_of h ≡ p → view_of g ≡ q → InOrder g → United h g.seat.me.0 h' → IsJoined p q (view_of h')
 joined p q h g h' is_p is_q o u = subst (λ (v : PassValue). IsJoined v q (view_of h')) is_p (subst (λ (v : PassValue). IsJoined (view_of h) v (view_of h')) is_q record {
@@ -110,11 +42,3 @@ joined p q h g h' is_p is_q o u = subst (λ (v : PassValue). IsJoined v q (view_
 
     long : length (h.free.items ++ g.seat.me.0.free) ≡ length h.free.items + length g.free.items
     long = omega (arith, length-append h.free.items g.seat.me.0.free, ap length o.free)
-
--- a pass that took in one with no rows and no places keeps its own
-pub keeps_own : (p q r : PassValue) → q.mine ≡ [] → q.free ≡ 0 → IsJoined p q r → KeepsRows p r
-keeps_own p q r no_place no_row j = (j.mine ∙ (ap (λ (l : List ℕ). p.mine ++ l) no_place ∙ append-nil p.mine), let f = j.free in omega arith)
-
--- a pass that stays as it was
-pub unchanged : (p q : PassValue) → q ≡ p → IsTold p q
-unchanged p q e = subst (IsTold p) (sym e) record { same = (refl, refl); rows = (refl, refl); grows = ([], append-nil p.seen); steps = refl }

@@ -1,7 +1,6 @@
 -- Walks of a cursor along the history.
-use Rattle.wb_history.specs.Sizes.{member_steps}
-use Rattle.std.proofs.Common.{◌≡◌, ◌≢◌, ℕ, ◌+◌, ◌-◌, ◌*◌, ◌<◌, ◌≤◌, List, [], ◌∷◌, ◌++◌, length, refl, sym, ap, ◌∙◌, subst, inl, inr, ⊎_elim, arith, length-append, append_assoc}
-use Rattle.std.proofs.lemmas.List.{append-nil}
+use Rattle.std.proofs.lemmas.Grind.{common_steps}
+use Rattle.std.proofs.Common.{◌≢◌, ℕ, ◌+◌, ◌<◌, List, [], ◌∷◌, ◌++◌, length, refl, arith}
 use Rattle.wb_names.specs.Values.{NameValue, DrawopValue}
 use Rattle.wb_history.specs.declared.cursor.Cursor.{Cursor}
 use Rattle.wb_history.specs.declared.cells.CellTable.{CellTable}
@@ -10,88 +9,19 @@ use Rattle.wb_history.specs.Cursors.{InOrder, Walked, AtEnd, FoundFree, Won, Tel
 use Rattle.wb_history.specs.declared.claim.Claim.{Claim}
 use Rattle.wb_history.specs.declared.claim.Claim.TheVariants.{Added, Present, Clash}
 use Rattle.wb_history.specs.Seats.{SitsAt}
-use Rattle.wb_history.specs.Views.{HasAllRows}
-use Rattle.wb_history.proofs.Lists.{at_end, at-lt}
-use Rattle.wb_history.proofs.Words.{member_named, named_at, one_place}
+use Rattle.wb_history.proofs.Lists.{at-lt}
+use Rattle.wb_history.proofs.Words.{named_at, one_place}
 use Rattle.atomic_table.proofs.Lists.{at_longer, at_last}
 
-pub stay : (h : Cursor) → InOrder h → Walked h [] 0 h
-stay h o = record {
-  order = o;
-  seat = (refl, refl, refl);
-  cells = refl;
-  mine = refl;
-  free = refl;
-  seen = sym (append-nil h.seen.items);
-  whole = λ _. refl;
-  made = omega arith;
-  steps = omega arith;
-}
-
-owns_still : (h : Cursor) (a : List DrawopValue) (k : ℕ) (h' : Cursor) → InOrder h → Walked h a k h' → HasAllRows h.seat.me.0 → HasAllRows h'.seat.me.0
-owns_still h a k h' o w all =
-    let free = ap length (w.order.free ∙ (w.free ∙ sym o.free)) in let mine = ap length (w.order.mine ∙ (w.mine ∙ sym o.mine)) in let cells = w.cells in omega arith
-
 pub walk_on : (h : Cursor) (a b : List DrawopValue) (j k : ℕ) (h' h'' : Cursor) → InOrder h → Walked h a j h' → Walked h' b k h'' → Walked h (a ++ b) (j + k) h''
-walk_on h a b j k h' h'' o v w =
-    let long = length-append a b in
-    let m = v.made in
-    let n = w.made in
-    let s = v.steps in
-    let t = w.steps in record {
-      order = w.order;
-      seat = (w.seat.0 ∙ v.seat.0, w.seat.1 ∙ v.seat.1, w.seat.2 ∙ v.seat.2);
-      cells = w.cells ∙ v.cells;
-      mine = w.mine ∙ v.mine;
-      free = w.free ∙ v.free;
-      seen = w.seen ∙ (ap (λ (l : List DrawopValue). l ++ b) v.seen ∙ append_assoc h.seen.items a b);
-      whole = λ all. ap (λ (l : List DrawopValue). l ++ b) (v.whole all) ∙ w.whole (owns_still h a j h' o v all);
-      made = omega arith;
-      steps = omega arith;
-    }
+walk_on h a b j k h' h'' o v w = grind (arith, common_steps)
 
 pub win_on : (h : Cursor) (a b : List DrawopValue) (d : DrawopValue) (place j k : ℕ) (h' h'' : Cursor) → InOrder h → Walked h a j h' → Won h' b d place k h'' → Won h (a ++ b) d place (j + k) h''
-win_on h a b d place j k h' h'' o v w =
-    let long = length-append a b in
-    let m = v.made in
-    let n = w.made in
-    let s = v.steps in
-    let t = w.steps in
-    let i = w.at in
-    let l = ap length v.seen in
-    let f = ap length v.free in
-    let g = w.free in record {
-      order = w.order;
-      seat = (w.seat.0 ∙ v.seat.0, w.seat.1 ∙ v.seat.1, w.seat.2 ∙ v.seat.2);
-      cells = w.cells ∙ v.cells;
-      at = omega (arith, length-append h.seen.items a);
-      mine = w.mine ∙ ap (λ (l : List ℕ). l ++ place ∷ []) v.mine;
-      free = omega arith;
-      seen = w.seen ∙ ap (λ (l : List DrawopValue). l ++ d ∷ []) (ap (λ (l : List DrawopValue). l ++ b) v.seen ∙ append_assoc h.seen.items a b);
-      whole = λ all. ap (λ (l : List DrawopValue). l ++ b) (v.whole all) ∙ w.whole (owns_still h a j h' o v all);
-      made = omega arith;
-      steps = omega arith;
-    }
+win_on h a b d place j k h' h'' o v w = grind (arith, common_steps)
 
-pub end_on : (cells : ℕ) (h : Cursor) (a b : List DrawopValue) (h' h'' : Cursor) → InOrder h → Walked h a 0 h' → AtEnd cells h' b h'' → AtEnd cells h (a ++ b) h''
-end_on cells h a b h' h'' o v e = ⊎_elim (λ x. inl (walk_on h a b 0 1 h' h'' o v x.0, x.1)) (λ x. inr (walk_on h a b 0 0 h' h'' o v x.0, x.1)) e
-
-pub sits_still : (t : CellTable) (h : Cursor) (a : List DrawopValue) (k : ℕ) (h' : Cursor) → SitsAt t h.seat → Walked h a k h' → SitsAt t h'.seat
-sits_still t h a k h' s w = (w.seat.0 ∙ s.0, w.cells ∙ s.1)
-
--- a cursor has not seen more than all cells
-pub seen_within : (t : CellTable) (h : Cursor) → InOrder h → SitsAt t h.seat → length h.seen.items + length h.free.items ≤ t.cells
-seen_within t h o s = let room = o.consistent.room in let c = s.1 in let a = ap length o.seen in let b = ap length o.free in omega arith
-
-pub few_steps : (h : Cursor) (a : List DrawopValue) (h' : Cursor) → h.steps ≡ 0 → Walked h a 0 h' → h'.steps ≤ member_steps * length h'.seen.items
-few_steps h a h' none w = let s = w.steps in let l = ap length w.seen in omega (arith, length-append h.seen.items a)
 
 pub lacks_more : (l : List DrawopValue) (d : DrawopValue) (name : NameValue) → (HoldsName l name → ⊥) → d.name ≢ name → HoldsName (l ++ d ∷ []) name → ⊥
-lacks_more l d name lacks other held = let t = named_at (l ++ d ∷ []) name held in ⊎_elim (λ old. lacks (member_named l name t.0 t.1 old t.3)) (λ c. other (ap (λ (o : DrawopValue). o.name) c.1 ∙ t.3)) (at_end l d t.0 t.1 t.2)
-
-pub nearer : (t : CellTable) (h : Cursor) (d : DrawopValue) (h' : Cursor) → InOrder h → SitsAt t h.seat → Walked h (d ∷ []) 0 h' → t.cells - length h'.seen.items < t.cells - length h.seen.items
-nearer t h d h' o s w =
-    let a = ap length w.seen in let b = seen_within t h' w.order (sits_still t h (d ∷ []) 0 h' s w) in omega (arith, length-append h.seen.items (d ∷ []))
+lacks_more l d name lacks other held = grind (arith, common_steps)
 
 pub answered : (h : Cursor) (d : DrawopValue) (extra : ℕ) (h' : Cursor) (c : Claim) (more : List DrawopValue) → Walked h more extra h' → TellsNamesake h'.seen.items d c → Answered h d extra h' c
 answered h d extra h' (Added i) more w a = absurd a
@@ -99,13 +29,13 @@ answered h d extra h' (Present i) more w a = (more, w, a)
 answered h d extra h' (Clash i) more w a = (more, w, a)
 
 pub answer_on : (h : Cursor) (a : List DrawopValue) (d : DrawopValue) (j k : ℕ) (h' h'' : Cursor) (c : Claim) → InOrder h → Walked h a j h' → Answered h' d k h'' c → Answered h d (j + k) h'' c
-answer_on h a d j k h' h'' (Added i) o v s = (a ++ s.0, subst (λ n. Won h (a ++ s.0) d i n h'') (omega arith) (win_on h a s.0 d i j (k + 1) h' h'' o v s.1))
+answer_on h a d j k h' h'' (Added i) o v s = grind (arith, common_steps, win_on)
 answer_on h a d j k h' h'' (Present i) o v s = (a ++ s.0, walk_on h a s.0 j k h' h'' o v s.1, s.2)
 answer_on h a d j k h' h'' (Clash i) o v s = (a ++ s.0, walk_on h a s.0 j k h' h'' o v s.1, s.2)
 
 -- after the end was found free
 pub free_end : (t : CellTable) (h : Cursor) (more : List DrawopValue) (h' : Cursor) → SitsAt t h.seat → AtEnd t.cells h more h' → 0 < length h'.free.items → Walked h more 1 h' × FoundFree h'
-free_end t h more h' s e some_free = ⊎_elim (λ x. x) (λ x. let b = seen_within t h' x.0.order (sits_still t h more 0 h' s x.0) in let full = x.1 in absurd (omega arith)) e
+free_end t h more h' s e some_free = grind (arith, common_steps)
 
 -- of a history, no member before the last has its name
 pub new_name : (l : List DrawopValue) (d : DrawopValue) → IsHistory (l ++ d ∷ []) → HoldsName l d.name → ⊥

@@ -1,10 +1,9 @@
 -- What stands at a place of a list, in the words of this crate's rule and in those of its public clauses.
-use Rattle.std.proofs.Common.{◌≡◌, ◌≢◌, ℕ, zero, suc, List, [], ◌∷◌, get_or, refl, sym, ap, ◌∙◌, arith, Some, None, Bool, true, false, IsTrue}
-use Rattle.std.specs.List.{list_any}
-use Rattle.std.proofs.Common.{eqb-true, eq-eqb, subst, ⊎_elim, ◌+◌, ◌<◌, ◌≤◌}
+use Rattle.std.proofs.lemmas.Grind.{common_steps}
+use Rattle.std.proofs.Common.{◌≡◌, ◌≢◌, ℕ, zero, suc, List, [], ◌∷◌, get_or, sym, ap, ◌∙◌, arith, Some, Bool, false, IsTrue}
+use Rattle.std.proofs.Common.{subst, ⊎_elim, ◌<◌, ◌≤◌}
 use Rattle.std.proofs.lemmas.Bool.{cases_lt}
-use Rattle.std.proofs.lemmas.List.Folds.{Any-from_list_any, list_any-from_Any}
-use Rattle.std.specs.Prelude.{nat_eq, ◌↔◌, All, AllPairs, Contains, slice_get, take}
+use Rattle.std.specs.Prelude.{All, AllPairs, Contains, slice_get, take}
 use mathlib.Core.Option.{some, some-injective, some-ne-none}
 use lib.ListN.{get_elem?}
 use Rattle.wb_names.specs.Values.{NameValue, DrawopValue}
@@ -14,10 +13,7 @@ use Rattle.wb_history.proofs.Lists.{at-lt, at_read, at_take}
 
 -- a test that failed, of what would pass it
 pub not_so : {P : Type 0} (b : Bool) → b ≡ false → (P → IsTrue b) → P → ⊥
-not_so b e f p = apart (sym (f p) ∙ e)
-  where
-    apart : true ≡ false → ⊥
-    apart e = cc
+not_so b e f p = grind (arith, common_steps)
 
 module _ {A : Type 0} where
   pub get_is : (l : List A) (i : ℕ) (a : A) → get_elem? l i ≡ some a → slice_get l i ≡ Some a
@@ -25,22 +21,8 @@ module _ {A : Type 0} where
   get_is (x ∷ xs) zero a e = ap Some (some-injective x a e)
   get_is (x ∷ xs) (suc i) a e = get_is xs i a e
 
-  pub elem_is : (l : List A) (i : ℕ) (a : A) → slice_get l i ≡ Some a → get_elem? l i ≡ some a
-  elem_is [] i a e = absurd (never e)
-    where
-      never : None ≡ Some a → ⊥
-      never h = cc
-  elem_is (x ∷ xs) zero a e = ap some (same e)
-    where
-      same : Some x ≡ Some a → x ≡ a
-      same h = cc
-  elem_is (x ∷ xs) (suc i) a e = elem_is xs i a e
-
   pub read_is : (l : List A) (i : ℕ) (a d : A) → get_elem? l i ≡ some a → get_or l i d ≡ a
-  read_is l i a d e = some-injective (get_or l i d) a (sym (at_read l i d (at-lt l i a e)) ∙ e)
-
-  pub contains_at : (l : List A) (i : ℕ) (a : A) → get_elem? l i ≡ some a → Contains l a
-  contains_at l i a e = (i, at-lt l i a e, read_is l i a a e)
+  read_is l i a d e = grind (arith, common_steps, at_read, at-lt)
 
   pub at_contained : (l : List A) (a : A) → Contains l a → (i : ℕ) × (get_elem? l i ≡ some a)
   at_contained l a c = (c.0, at_read l c.0 a c.1 ∙ ap some c.2)
@@ -54,19 +36,9 @@ module _ {A : Type 0} where
   pub all_at : (P : A → Type 0) (l : List A) (i : ℕ) (a : A) → All P l → get_elem? l i ≡ some a → P a
   all_at P l i a all e = subst P (read_is l i a a e) (all i a (at-lt l i a e))
 
--- a search for a number in a list
-pub listed : (l : List ℕ) (n : ℕ) → IsTrue (list_any (λ y. nat_eq y n) l) ↔ Contains l n
-listed l n = (there, back)
-  where
-    there : IsTrue (list_any (λ y. nat_eq y n) l) → Contains l n
-    there t = let a = Any-from_list_any (λ y. nat_eq y n) l t in let same = eqb-true a.1 n a.4 in contains_at l a.0 n (at_read l a.0 a.1 a.2 ∙ ap some (a.3 ∙ same))
-
-    back : Contains l n → IsTrue (list_any (λ y. nat_eq y n) l)
-    back c = list_any-from_Any (λ y. nat_eq y n) l (c.0, n, c.1, c.2, eq-eqb n n refl)
-
 -- a history, by its places
 pub history_is : (l : List DrawopValue) → ((p q : ℕ) (d e : DrawopValue) → get_elem? l p ≡ some d → get_elem? l q ≡ some e → d.name ≡ e.name → p ≡ q) → IsHistory l
-history_is l once i j d lt inside same = let is = once i j (get_or l i d) (get_or l j d) (at_read l i d (omega arith)) (at_read l j d inside) same in omega arith
+history_is l once i j d lt inside same = grind (arith, common_steps, at_read)
 
 -- of a history two places with one name are one
 pub one_place : (l : List DrawopValue) (p q : ℕ) (d e : DrawopValue) → IsHistory l → get_elem? l p ≡ some d → get_elem? l q ≡ some e → d.name ≡ e.name → p ≡ q

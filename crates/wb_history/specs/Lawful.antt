@@ -18,11 +18,11 @@ use Rattle.wb_history.specs.Views.{HasAllRows}
 abbrev pub address : ℕ → ℕ → ℕ → ℕ
 address cells r k = cells + r * row_words + k
 
--- what a pass with so many cells has seen, and what it was told at its last join, are beginnings of the history
-pub record Sees (cells : ℕ) (log : List DrawopValue) (own_cells : ℕ) (seen told : List DrawopValue) : Type 0 where
+-- what a pass with so many cells has seen, and the shorter list of its last join, are beginnings of the history
+pub record Sees (cells : ℕ) (log : List DrawopValue) (own_cells : ℕ) (seen joined : List DrawopValue) : Type 0 where
   pub sized : 0 < own_cells → own_cells ≡ cells
   pub begins : IsPrefix seen log
-  pub told_begins : IsPrefix told log
+  pub joined_begins : IsPrefix joined log
 
 -- The free rows of the pass j, and its places among so many that it has seen, are its own and all of them. `rows` are the row
 -- numbers of the filled cells, and `owner` says whose a row is
@@ -42,7 +42,7 @@ pub record Remembers (cells : ℕ) (words rows : List ℕ) (seen : ℕ) (free : 
 
 -- what the pass j knows is so
 pub record Knows (cells : ℕ) (words : List ℕ) (log : List DrawopValue) (rows : List ℕ) (owner : ℕ → ℕ) (j : ℕ) (v : Knowledge) : Type 0 where
-  pub sees : Sees cells log v.cells v.seen v.told
+  pub sees : Sees cells log v.cells v.seen v.joined
   pub open sees use *
   pub owns : Owns cells rows owner j (length v.seen) v.free v.mine
   pub open owns use *

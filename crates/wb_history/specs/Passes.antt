@@ -74,8 +74,8 @@ pub record IsOpened (cells : ℕ) (h : HistoryValue) (p : PassValue) : Type 0 wh
   pub free : p.free ≡ cells
   pub steps : p.steps ≡ 0
 
--- the pass may have been told of more, and is otherwise as it was
-pub record IsTold (p q : PassValue) : Type 0 where
+-- the pass may have heard of more, and is otherwise as it was
+pub record HearsMore (p q : PassValue) : Type 0 where
   pub same : IsSamePass p q
   pub rows : KeepsRows p q
   pub grows : IsPrefix p.seen q.seen

@@ -30,6 +30,6 @@ published st m found m' =
     (m'.1 ≡ m.1) × (found ≡ 0 → (d : DrawopValue) × (st.said ≡ some d) × (m'.0 ≡ after_win m.0 d st.word)) × (found ≢ 0 → m'.0 ≡ after_loss m.0 st.word found) × (found ≤ m.0.cells)
     × (HasAllRows m.0 → found ≡ 0) × IsConsistent m'.0
 
--- what was seen begins with what the pass was told at the last join, where that is not longer
+-- what was seen begins with the shorter list of the last join, where that is not longer
 abbrev pub confirmed : Step DrawopValue → Known → ℕ → Known → Type 0
-confirmed st m found m' = (m'.1 ≡ m.1) × (m'.0 ≡ after_confirm m.0 st.word found) × (length m.0.told ≤ length m.0.seen → IsPrefix m.0.told m.0.seen) × IsConsistent m'.0
+confirmed st m found m' = (m'.1 ≡ m.1) × (m'.0 ≡ after_confirm m.0 st.word found) × (length m.0.joined ≤ length m.0.seen → IsPrefix m.0.joined m.0.seen) × IsConsistent m'.0

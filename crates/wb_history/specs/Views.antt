@@ -8,14 +8,14 @@ use Rattle.std.specs.List.{range_with_len}
 
 -- the first pass: it has seen nothing, and all rows are its own
 abbrev pub whole_pass : ℕ → Knowledge
-whole_pass cells = record { cells = cells; seen = []; told = []; mine = []; free = range_with_len 0 cells; looking = 0; read = []; stored = []; made = 0; last_word = 0; last_found = 0 }
+whole_pass cells = record { cells = cells; seen = []; joined = []; mine = []; free = range_with_len 0 cells; looking = 0; read = []; stored = []; made = 0; last_word = 0; last_found = 0 }
 
 abbrev pub HasAllRows : Knowledge → Type 0
 HasAllRows v = length v.free + length v.mine ≡ v.cells
 
 -- a load that only confirms what the pass knows
 abbrev pub after_confirm : Knowledge → ℕ → ℕ → Knowledge
-after_confirm v word found = record v { told = []; made = v.made + 1; last_word = word; last_found = found }
+after_confirm v word found = record v { joined = []; made = v.made + 1; last_word = word; last_found = found }
 
 abbrev pub after_look : Knowledge → ℕ → ℕ → Knowledge
 after_look v word found = record v { looking = found; read = []; stored = []; made = v.made + 1; last_word = word; last_found = found }
@@ -68,11 +68,11 @@ abbrev pub left_part : ℕ → Knowledge → Knowledge
 left_part n v = record v { free = take (length v.free - n) v.free; looking = 0; read = []; stored = [] }
 
 abbrev pub right_part : ℕ → Knowledge → Knowledge
-right_part n v = record { cells = v.cells; seen = v.seen; told = []; mine = []; free = drop (length v.free - n) v.free; looking = 0; read = []; stored = []; made = 0; last_word = 0; last_found = 0 }
+right_part n v = record { cells = v.cells; seen = v.seen; joined = []; mine = []; free = drop (length v.free - n) v.free; looking = 0; read = []; stored = []; made = 0; last_word = 0; last_found = 0 }
 
 abbrev pub united : Knowledge → Knowledge → Knowledge
-united v w = record v { seen = longer v.seen w.seen; told = shorter v.seen w.seen; mine = v.mine ++ w.mine; free = v.free ++ w.free; looking = 0; read = []; stored = [] }
+united v w = record v { seen = longer v.seen w.seen; joined = shorter v.seen w.seen; mine = v.mine ++ w.mine; free = v.free ++ w.free; looking = 0; read = []; stored = [] }
 
 -- a pass that was joined to another
 abbrev pub spent : Knowledge
-spent = record { cells = 0; seen = []; told = []; mine = []; free = []; looking = 0; read = []; stored = []; made = 0; last_word = 0; last_found = 0 }
+spent = record { cells = 0; seen = []; joined = []; mine = []; free = []; looking = 0; read = []; stored = []; made = 0; last_word = 0; last_found = 0 }

@@ -27,6 +27,7 @@ impl CellTable {
     ghost use Rattle.std.specs.Prelude.{[]};
 
     /// A table of free cells and rows that no cell names, with the seat that owns all rows.
+    #[tactic(auto, using(crate::proofs::Opens::opens))]
     pub(crate) fn make(alloc: Global, cells: u32) -> Result<(CellTable, HistorySeat), AllocError>
         requires { (0 < cells) × (cells ≤ 65535) }
         ensures { IfOk result (λ t. (t.0.cells ≡ cells) × (t.1.table_id ≡ t.0.table.shared.table_id) × (t.1.me ≡ (whole_pass cells, []))) }

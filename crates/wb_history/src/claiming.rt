@@ -129,6 +129,7 @@ impl CellTable {
 }
 
 /// The answer to a claim of a drawop whose name one of these members has.
+#[tactic(auto, using(atomic_table::proofs::Lists::at_index, crate::proofs::Lists::at_same, crate::proofs::Words::get_is))]
 fn known(members: &Members, drawop: &Drawop) -> Option<Claim>
     requires { length members.now.items ≤ 65535 }
     ensures { MatchOption result (¬ HoldsName members.now.items drawop.now.name) (λ c. TellsNamesake members.now.items drawop.now c) }

@@ -9,7 +9,7 @@ pub struct Knowledge {
     /// The members of the history that were seen.
     pub seen: LinkedList<Drawop>,
     /// The shorter of the two lists at the last join, until the next step.
-    pub told: LinkedList<Drawop>,
+    pub joined: LinkedList<Drawop>,
     /// The places of the members that this pass added.
     pub mine: LinkedList<u64>,
     /// The rows that it owns and has not published. The last one is used next.

@@ -57,6 +57,7 @@ impl Members {
     }
 
     /// The place of the member with this name.
+    #[tactic(auto, using(crate::proofs::Names::place_found))]
     pub(crate) fn place_of(&self, name: &Name) -> Option<usize>
         ensures { MatchOption result (¬ HoldsName self.now.items name.now) (λ i. (i < length self.now.items) × (d : DrawopValue) × (get_elem? self.now.items i ≡ some d) × (d.name ≡ name.now)) }
     {
@@ -96,6 +97,7 @@ impl Members {
     }
 
     /// Puts in what a longer list has more, for which there is room.
+    #[tactic(auto, using(crate::proofs::Words::none_before, atomic_table::proofs::Lists::at_index))]
     pub(crate) fn extend_to(&mut self, longer: &[Drawop])
         requires front { IsPrefix self.old.items longer.now × IsHistory longer.now }
         requires room { length longer.now ≤ length self.old.items + self.old.room }

@@ -6,7 +6,7 @@ ghost use Rattle.wb_history.specs.Lists.{longer};
 ghost use Rattle.wb_names.specs.History.{IsHistory};
 ghost use Rattle.wb_history.specs.Seats.{SitsAt};
 ghost use Rattle.wb_history.specs.Sharing.{IsSplit, IsSplitFault, IsJoined};
-ghost use Rattle.wb_history.specs.Passes.{IsPassOf, IsSamePass, IsSound, IsTold, KeepsRows};
+ghost use Rattle.wb_history.specs.Passes.{IsPassOf, IsSamePass, IsSound, HearsMore, KeepsRows};
 ghost use Rattle.wb_history.specs.declared.parts.SplitFault.TheVariants as fault;
 
 use crate::cells::{CellTable, HistorySeat};
@@ -190,7 +190,7 @@ impl History {
         ensures same { IsSamePass teller.old teller.new × IsSamePass hearer.old hearer.new }
         ensures sound { IsSound teller.new × OnOk result (IsSound hearer.new) }
         ensures teller { KeepsRows teller.old teller.new × (teller.new.seen ≡ teller.old.seen) × (teller.new.steps ≡ teller.old.steps) }
-        ensures told { OnOk result (KeepsRows hearer.old hearer.new × (hearer.new.seen ≡ longer hearer.old.seen teller.old.seen) × IsPrefix hearer.old.seen hearer.new.seen × IsPrefix teller.old.seen hearer.new.seen × (hearer.new.steps ≡ hearer.old.steps)) }
+        ensures hearer { OnOk result (KeepsRows hearer.old hearer.new × (hearer.new.seen ≡ longer hearer.old.seen teller.old.seen) × IsPrefix hearer.old.seen hearer.new.seen × IsPrefix teller.old.seen hearer.new.seen × (hearer.new.steps ≡ hearer.old.steps)) }
         ensures refused { OnErr result ((teller.new ≡ teller.old) × (hearer.new ≡ hearer.old)) }
     {
         let more = teller.cursor.seen.len() - hearer.cursor.seen.len();
@@ -203,6 +203,7 @@ impl History {
 
     /// Both passes have then seen the same list, the longer of their two: the shorter grows where it
     /// lies, by its own allocator. A refused call changes nothing.
+    #[tactic(auto, using(crate::proofs::Shows::sound_pass, crate::proofs::Shows::sound_heard))]
     pub fn meet(
         &self,
         _alloc: Global,
@@ -211,8 +212,8 @@ impl History {
     ) -> Result<(), AllocError>
         requires passes { IsPassOf self.now first.old × IsPassOf self.now second.old }
         ensures sound { IsSound first.new × IsSound second.new }
-        ensures first { IsTold first.old first.new }
-        ensures second { IsTold second.old second.new }
+        ensures first { HearsMore first.old first.new }
+        ensures second { HearsMore second.old second.new }
         ensures met { OnOk result ((first.new.seen ≡ second.new.seen) × (second.new.seen ≡ longer second.old.seen first.old.seen)) }
         ensures refused { OnErr result ((first.new ≡ first.old) × (second.new ≡ second.old)) }
     {

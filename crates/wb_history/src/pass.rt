@@ -39,6 +39,7 @@ impl Model for Pass {
 
 impl Pass {
     /// The drawops that it has seen, in order of place.
+    #[tactic(auto, using(crate::proofs::Shows::sound))]
     pub fn list(&self) -> &[Drawop]
         ensures value { result.now ≡ self.now.seen }
         ensures sound { IsSound self.now }
@@ -47,6 +48,7 @@ impl Pass {
     }
 
     /// The place of the drawop with this name, by one look-up.
+    #[tactic(auto, using(crate::proofs::Words::get_is))]
     pub fn place_of(&self, name: &Name) -> Option<u32>
         ensures { MatchOption result (¬ HoldsName self.now.seen name.now) (λ i. (d : DrawopValue) × (slice_get self.now.seen i ≡ Some d) × (d.name ≡ name.now)) }
     {
@@ -76,6 +78,7 @@ impl Pass {
     }
 
     /// The number of rows that it owns and has not used.
+    #[tactic(auto, using(crate::proofs::Shows::sound))]
     pub fn rows_left(&self) -> u32
         ensures value { result ≡ self.now.free }
         ensures sound { IsSound self.now }

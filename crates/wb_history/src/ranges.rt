@@ -52,6 +52,7 @@ impl Rows {
     }
 
     /// The row that is used next.
+    #[tactic(auto, using(crate::proofs::RowLists::last_is))]
     pub(crate) fn last(&self) -> Option<u32>
         ensures { MatchOption result (self.now.items ≡ []) (λ r. get_elem? self.now.items (length self.now.items - 1) ≡ some r) }
     {
@@ -64,6 +65,7 @@ impl Rows {
     }
 
     /// Takes the last row out.
+    #[tactic(auto, using(crate::proofs::RowLists::one_less, crate::proofs::RowLists::none_left))]
     pub(crate) fn take_last(&mut self)
         requires { 0 < length self.old.items }
         ensures { self.new.items ≡ take (length self.old.items - 1) self.old.items }
@@ -135,6 +137,7 @@ impl Rows {
 
 /// The range that so many rows reach into, and how many of its rows they take; past the last range if
 /// they are all rows.
+#[tactic(auto, using(crate::proofs::RowLists::rows_more, crate::proofs::Lists::at_read))]
 fn place_of(ranges: &[RowRange], rows: u32) -> (usize, u32)
     requires { rows ≤ length (rows_in ranges.now) }
     ensures before { length (rows_in (take result.0 ranges.now)) + result.1 ≡ rows }

@@ -116,6 +116,7 @@ impl CellTable {
     }
 
     /// Gives the last rows to a new seat, which has seen the same.
+    #[tactic(auto, using(crate::proofs::Ownership::splits))]
     pub(crate) fn cut<B: Portion>(&self, seat: &mut HistorySeat, rows: usize) -> HistorySeat
         requires seat { SitsAt self.now seat.old }
         requires rows { B.rows ≡ rows }
@@ -126,6 +127,7 @@ impl CellTable {
     }
 
     /// Takes in another seat, with what it has seen and its rows and places.
+    #[tactic(auto, using(crate::proofs::Ownership::joins))]
     pub(crate) fn unite(&self, seat: &mut HistorySeat, other: HistorySeat)
         requires seat { SitsAt self.now seat.old }
         requires other { SitsAt self.now other × (other.me.1 ≡ []) }

@@ -3,7 +3,7 @@ ghost use Rattle.std.specs.Prelude.{◌≡◌, ◌≢◌, ◌+◌, ◌*◌, ◌<
 ghost use mathlib.Core.List.{IsPrefix};
 ghost use Rattle.wb_names.specs.History.{HoldsName};
 ghost use Rattle.wb_history.specs.Lists.{longer};
-ghost use Rattle.wb_history.specs.Passes.{IsOpened, IsPassOf, IsSamePass, IsSound, IsTold, IsCaughtUp, ReadsOn};
+ghost use Rattle.wb_history.specs.Passes.{IsOpened, IsPassOf, IsSamePass, IsSound, HearsMore, IsCaughtUp, ReadsOn};
 ghost use Rattle.wb_history.specs.Sharing.{IsSplit, IsSplitFault, IsJoined};
 ghost use Rattle.wb_history.specs.declared.history.OpenFault.TheVariants as opening;
 ghost use Rattle.wb_history.specs.declared.parts.SplitFault.TheVariants as splitting;
@@ -82,8 +82,8 @@ impl Board {
     pub fn meet(&self, alloc: Global, first: &mut Desk, second: &mut Desk) -> Result<(), AllocError>
         requires desks { IsPassOf self.now first.old × IsPassOf self.now second.old }
         ensures sound { IsSound first.new × IsSound second.new }
-        ensures first { IsTold first.old first.new }
-        ensures second { IsTold second.old second.new }
+        ensures first { HearsMore first.old first.new }
+        ensures second { HearsMore second.old second.new }
         ensures met { OnOk result ((first.new.seen ≡ second.new.seen) × (second.new.seen ≡ longer second.old.seen first.old.seen)) }
         ensures refused { OnErr result ((first.new ≡ first.old) × (second.new ≡ second.old)) }
     {

@@ -1,5 +1,6 @@
 -- One thread has one answer to arrivals: the outcome, the history after them, and the counts are functions.
-use Rattle.std.proofs.Common.{◌≡◌, ◌≢◌, ℕ, suc, zero, ◌+◌, ◌<◌, Bool, true, false, List, [], ◌∷◌, length, get_or, refl, sym, ap, ◌∙◌, subst, arith}
+use Rattle.std.proofs.lemmas.Grind.{common_steps}
+use Rattle.std.proofs.Common.{◌≡◌, ◌≢◌, ℕ, suc, zero, ◌+◌, ◌<◌, Bool, true, false, List, [], ◌∷◌, length, get_or, refl, sym, ap, ◌∙◌, arith}
 use Rattle.std.specs.Prelude.{Some, slice_get, nat_lt, if◌then◌else◌}
 use Rattle.std.proofs.lemmas.Bool.Decides.{nat_tests}
 use Rattle.std.proofs.lemmas.List.Quantifiers.{all_pairs_push}
@@ -24,7 +25,7 @@ later y h n k none j z lt e = none (suc j) z (omega arith) e
 
 -- a name that no member has is looked for up to the end
 looked_past : (cells i : ℕ) (h : List DrawopValue) (d : DrawopValue) → NoneBefore h d.name (length h) → outcome_from cells i h d ≡ (if nat_lt (i + length h) cells then Fresh (i + length h) else Left)
-looked_past cells i [] d none = let e : i ≡ i + 0 = omega arith in ap (λ (k : ℕ). if nat_lt k cells then Fresh k else Left) e
+looked_past cells i [] d none = grind (arith, common_steps)
 looked_past cells i (y ∷ h) d none =
     let e : i + 1 + length h ≡ i + length (y ∷ h) = omega arith in
     let other : same_name y.name d.name ≡ false = none 0 y (omega arith) refl in
@@ -33,12 +34,7 @@ looked_past cells i (y ∷ h) d none =
 -- the first member that has it is found
 found : (cells i : ℕ) (h : List DrawopValue) (d : DrawopValue) (k : ℕ) (x : DrawopValue) → slice_get h k ≡ Some x → NoneBefore h d.name k → same_name x.name d.name ≡ true → outcome_from cells i h d ≡ (if same_drawop x d then Known (i + k) else Clashed (i + k))
 found cells i [] d k x e none same = cc
-found cells i (y ∷ h) d zero x e none same =
-    let here : y ≡ x = cc in
-    let place : i ≡ i + 0 = omega arith in
-    let named : same_name y.name d.name ≡ true = subst (λ (z : DrawopValue). same_name z.name d.name ≡ true) (sym here) same in
-    ap (λ (b : Bool). if b then (if same_drawop y d then Known i else Clashed i) else outcome_from cells (i + 1) h d) named
-    ∙ ap (λ (z : DrawopValue). if same_drawop z d then Known i else Clashed i) here ∙ ap (λ (n : ℕ). if same_drawop x d then Known n else Clashed n) place
+found cells i (y ∷ h) d zero x e none same = grind (arith, common_steps)
 found cells i (y ∷ h) d (suc k) x e none same =
     let other : same_name y.name d.name ≡ false = none 0 y (omega arith) refl in
     let place : i + 1 + k ≡ i + suc k = omega arith in
@@ -57,7 +53,7 @@ none_earlier h n k x once e named j y lt e' =
     (ap (λ (d : DrawopValue). d.name) (get_or_from_slice_get h j y x e') ∙ same_name-is y.name n same ∙ sym named ∙ sym (ap (λ (d : DrawopValue). d.name) (get_or_from_slice_get h k x x e))))
 
 same_name-here : (m n : NameValue) → m ≡ n → same_name m n ≡ true
-same_name-here m n e = subst (λ (k : NameValue). same_name m k ≡ true) e (grind (arith, nat_tests))
+same_name-here m n e = grind (arith, common_steps, nat_tests)
 
 -- the one outcome of an arrival
 pub outcome_is : (cells : ℕ) (h : List DrawopValue) (d : DrawopValue) (o : Outcome) → IsHistory h → IsTaken cells h d o → o ≡ outcome_of cells h d
@@ -103,6 +99,4 @@ are_one cells h (d ∷ ds) (o ∷ os) after once t =
     }
 
 pub batch_is : (cells : ℕ) (h ds after : List DrawopValue) (n : Counts) → IsHistory h → IsBatch cells h ds after n → (after ≡ history_after cells h ds) × (n ≡ counts_of (outcomes_of cells h ds))
-batch_is cells h ds after n once b =
-    let one = are_one cells h ds b.0 after once b.1 in
-    (one.history, sym b.2 ∙ ap counts_of one.outcomes)
+batch_is cells h ds after n once b = grind (arith, common_steps, are_one)

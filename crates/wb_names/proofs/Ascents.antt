@@ -1,4 +1,5 @@
 -- Lists that ascend from each member to the next.
+use Rattle.std.proofs.lemmas.Grind.{common_steps}
 use Rattle.std.proofs.Common.{◌≡◌, ℕ, zero, suc, ◌+◌, ◌-◌, ◌<◌, ◌≤◌, List, [], ◌∷◌, length, get_or, arith, subst, ap, ⊎_elim}
 use Rattle.std.specs.Prelude.{map, All, AllPairs}
 use Rattle.std.proofs.lemmas.Bool.{cases_lt}
@@ -9,12 +10,7 @@ module _ {X : Type 0} (f : X → ℕ) (xs : List X) where
   -- where each is below the next, each is below all later ones
   climbs : ((k : ℕ) (d : X) → k + 1 < length xs → f (get_or xs k d) < f (get_or xs (k + 1) d)) → (n i : ℕ) (d : X) → i + suc n < length xs → f (get_or xs i d) < f (get_or xs (i + suc n) d)
   climbs up zero i d h = up i d h
-  climbs up (suc n) i d h =
-      let low : f (get_or xs i d) < f (get_or xs (i + suc n) d) = climbs up n i d (omega arith) in
-      let high : f (get_or xs (i + suc n) d) < f (get_or xs (i + suc n + 1) d) = up (i + suc n) d (omega arith) in
-      let same : i + suc n + 1 ≡ i + suc (suc n) = omega arith in
-      let there : f (get_or xs (i + suc n) d) < f (get_or xs (i + suc (suc n)) d) = subst (λ (j : ℕ). f (get_or xs (i + suc n) d) < f (get_or xs j d)) same high in
-      omega arith
+  climbs up (suc n) i d h = grind (arith, common_steps, climbs up n i d (omega arith))
 
   pub all_pairs_from_adjacent : ((k : ℕ) (d : X) → k + 1 < length xs → f (get_or xs k d) < f (get_or xs (k + 1) d)) → AllPairs (λ a b. f a < f b) xs
   all_pairs_from_adjacent up i j d lt h =

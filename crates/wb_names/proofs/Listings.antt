@@ -1,4 +1,5 @@
 -- Laws of `Lists`: there is one such list; a sorted rearrangement of a filter is one.
+use Rattle.std.proofs.lemmas.Grind.{common_steps}
 use Rattle.std.proofs.Common.{◌≡◌, zero, suc, ◌+◌, Bool, true, false, cond, List, [], ◌∷◌, refl, ap, ◌∙◌, sym, subst, arith, ◌⊎◌, inl, inr, ⊎_elim, true≢false}
 use Rattle.std.specs.Prelude.{Contains, AllPairs, Any, map, filter, IsTrue, IsPermutation}
 use Rattle.std.specs.List.{IsDistinct, dedup}
@@ -45,7 +46,7 @@ module _ {X : Type 0} where
 
 module _ {X : Type 0} {R : X → X → Ordering} (o : IsTotalOrder R) where
   no_loop : (x y : X) → R x y ≡ Less → R y x ≡ Less → ⊥
-  no_loop x y p q = let e = o.antisymm x y in let f : Less ≡ Greater = sym p ∙ e ∙ ap ordering_reverse q in cc
+  no_loop x y p q = grind (arith, common_steps)
 
   pub below_all : (x z : X) (xs : List X) → IsStrictlySortedBy R (x ∷ xs) → Contains xs z → R x z ≡ Less
   below_all x z xs s h = All-contains (λ y. R x y ≡ Less) xs z (All-from_recursion _ xs (sorted_head R x xs s)) h
@@ -85,11 +86,7 @@ module _ {X : Type 0} {R : X → X → Ordering} (o : IsTotalOrder R) where
   strictly_sorted (x ∷ xs) s a = sorted_from_all_adjacent o (x ∷ xs) x (λ k h. not_greater _ (subst (λ (r : Ordering). is_lt r ≡ false) (o.antisymm _ _) (s k x (omega arith) h)) (apart_from_distinct (eq_by_cmp R) (x ∷ xs) k (k + 1) x a (omega arith) h))
 
   eq_flips : (x y : X) → eq_by_cmp R x y ≡ eq_by_cmp R y x
-  eq_flips x y = ap is_eq (o.antisymm x y) ∙ reverse_eq (R y x) where
-    reverse_eq : (r : Ordering) → is_eq (ordering_reverse r) ≡ is_eq r
-    reverse_eq Less = refl
-    reverse_eq Equal = refl
-    reverse_eq Greater = refl
+  eq_flips x y = grind (arith, common_steps)
 
   -- a sorted rearrangement of what passes a test, no two of which tie
   pub lists_from_sorted : (p : X → Bool) (all xs : List X) → AllPairs (λ x y. eq_by_cmp R x y ≡ false) (filter p all) → IsPermutation (filter p all) xs → IsSorted R xs → Lists R (λ x. Contains all x × IsTrue (p x)) xs
@@ -107,10 +104,7 @@ module _ {X : Type 0} {R : X → X → Ordering} (o : IsTotalOrder R) where
 
   -- the same list, by a property that says the same
   pub lists_same : (P Q : X → Type 0) (xs : List X) → ((x : X) → P x → Q x) → ((x : X) → Q x → P x) → Lists R P xs → Lists R Q xs
-  lists_same P Q xs f g l = record {
-    rising = l.rising;
-    members = λ x. ((λ h. f x ((l.members x).0 h)), (λ q. (l.members x).1 (g x q)));
-  }
+  lists_same P Q xs f g l = grind (arith, common_steps)
 
 module _ {X Y : Type 0} (f : X → Y) where
   pub Any-from_map : (xs : List X) (y : Y) → Contains (map f xs) y → Any (λ x. f x ≡ y) xs
@@ -119,5 +113,5 @@ module _ {X Y : Type 0} (f : X → Y) where
 
   pub Contains-map : (xs : List X) (y : Y) → Any (λ x. f x ≡ y) xs → Contains (map f xs) y
   Contains-map [] y (k, x, h, e, p) = absurd (omega arith)
-  Contains-map (x ∷ xs) y (zero, w, h, e, p) = subst (λ (v : Y). Contains (map f (x ∷ xs)) v) (ap f e ∙ p) (Contains-here (f x) (map f xs))
+  Contains-map (x ∷ xs) y (zero, w, h, e, p) = grind (arith, common_steps, Contains-here)
   Contains-map (x ∷ xs) y (suc k, w, h, e, p) = Contains-there (f x) y (map f xs) (Contains-map xs y (k, w, omega arith, e, p))

@@ -1,4 +1,5 @@
 -- Lists of marks that ascend by source, and their look-ups, which tell them.
+use Rattle.std.proofs.lemmas.Grind.{common_steps}
 use Rattle.std.proofs.Common.{◌≡◌, ℕ, suc, ◌<◌, ◌≤◌, List, [], ◌∷◌, refl, ◌∙◌, sym, arith, ⊎_elim}
 use Rattle.std.specs.Prelude.{◌≢◌, All, AllPairs}
 use Rattle.std.proofs.lemmas.Bool.{cases_lt}
@@ -32,12 +33,10 @@ there m marks s n = grind (arith, nat_tests)
 -- at a source below all marks there is none
 pub none_above : (marks : List MarkValue) (s : ℕ) → Above s marks → mark_of marks s ≡ 0
 none_above [] s above = refl
-none_above (m ∷ marks) s above =
-    let lt : s < m.source = All-head (λ (m : MarkValue). s < m.source) m marks above in
-    there m marks s (omega arith) ∙ none_above marks s (All-tail (λ (m : MarkValue). s < m.source) m marks above)
+none_above (m ∷ marks) s above = grind (arith, common_steps, All-head, there, All-tail, none_above marks s (All-tail (λ (m : MarkValue). s < m.source) m marks above))
 
 pub above_less : (a b : ℕ) (marks : List MarkValue) → a ≤ b → Above b marks → Above a marks
-above_less a b marks le above = All-weaker (λ (m : MarkValue). b < m.source) (λ (m : MarkValue). a < m.source) (λ m lt. omega arith) marks above
+above_less a b marks le above = grind (arith, common_steps, All-weaker)
 
 abbrev High : MarkValue → Type 0
 High m = 1 ≤ m.high

@@ -1,7 +1,8 @@
 -- Laws of the orders of pages and names.
-use Rattle.std.proofs.Common.{◌≡◌, ℕ, Bool, true, false, refl, ap, ◌∙◌, sym, arith, eqb-true}
+use Rattle.std.proofs.lemmas.Grind.{common_steps}
+use Rattle.std.proofs.Common.{◌≡◌, ℕ, Bool, true, false, refl, arith, eqb-true}
 use Rattle.std.specs.Prelude.{nat_eq, ◌&&◌}
-use Rattle.std.specs.Cmp.{IsTotalOrder, IsEquivalence, nat_cmp_total, eq_by_cmp_equiv}
+use Rattle.std.specs.Cmp.{IsTotalOrder, IsEquivalence, nat_cmp_total}
 use Rattle.std.specs.Ordering.{eq_by_cmp, is_eq, nat_cmp, ordering_then}
 use Rattle.std.specs.declared.cmp.Ordering.{Ordering}
 use Rattle.std.specs.declared.cmp.Ordering.TheVariants.{Less, Equal, Greater}
@@ -12,7 +13,7 @@ use Rattle.wb_names.specs.Orders.{page_cmp, same_page, name_cmp, same_name}
 use Rattle.wb_names.specs.declared.name.PageId.{PageId}
 
 pub page_total : IsTotalOrder page_cmp
-page_total = then_total (on_total (λ (p : PageId). p.creator) nat_cmp_total) (on_total (λ (p : PageId). p.number) nat_cmp_total)
+page_total = grind (arith, common_steps, then_total, on_total)
 
 pub name_total : IsTotalOrder name_cmp
 name_total = then_total (on_total (λ (n : NameValue). n.source) nat_cmp_total) (then_total (on_total (λ (n : NameValue). n.page) page_total) (on_total (λ (n : NameValue). n.seq) nat_cmp_total))
@@ -37,23 +38,14 @@ name_parts a b p q m n e f g = cc
 
 -- what the test of pages and names means
 pub same_page-is : (p q : PageId) → same_page p q ≡ true → p ≡ q
-same_page-is p q e = let h = and_both _ _ e in page_parts _ _ _ _ (eqb-true p.creator q.creator h.0) (eqb-true p.number q.number h.1)
+same_page-is p q e = grind (arith, common_steps, and_both, page_parts, eqb-true)
 
 pub same_name-is : (m n : NameValue) → same_name m n ≡ true → m ≡ n
-same_name-is m n e =
-    let h = and_both (nat_eq m.source n.source && same_page m.page n.page) _ e in
-    let g = and_both (nat_eq m.source n.source) _ h.0 in
-    name_parts _ _ _ _ _ _ (eqb-true m.source n.source g.0) (same_page-is m.page n.page g.1) (eqb-true m.seq n.seq h.1)
+same_name-is m n e = grind (arith, common_steps, and_both, name_parts, eqb-true, same_page-is)
 
 pub page_ties : (p q : PageId) → same_page p q ≡ eq_by_cmp page_cmp p q
-page_ties p q = ap (λ (b : Bool). b && nat_eq p.number q.number) (nat_ties p.creator q.creator) ∙ ap (λ (b : Bool). is_eq (nat_cmp p.creator q.creator) && b) (nat_ties p.number q.number) ∙ sym (then_is _ _)
+page_ties p q = grind (arith, common_steps, nat_ties, then_is)
 
 -- a test that agrees with an order is an equality
 pub equality : {X : Type 0} {R : X → X → Ordering} (o : IsTotalOrder R) (E : X → X → Bool) → ((x y : X) → E x y ≡ eq_by_cmp R x y) → IsEquivalence E
-equality {X} {R} o E ties =
-    let l = eq_by_cmp_equiv o in
-    record {
-      refl = λ x. ties x x ∙ l.refl x;
-      symm = λ x y. ties x y ∙ l.symm x y ∙ sym (ties y x);
-      congr = λ x y z e. ties x z ∙ l.congr x y z (sym (ties x y) ∙ e) ∙ sym (ties y z);
-    }
+equality {X} {R} o E ties = grind (arith, common_steps)

@@ -1,6 +1,8 @@
 -- The kinds of operations: what each does, without its fields. A key of a kind, as its number or its word, tells it.
-use Rattle.std.specs.Prelude.{◌≡◌, Bool, true, false, ◌&&◌, ◌||◌, List, [], ◌∷◌, Option, Some, None, find, cond, refl}
-use Rattle.std.proofs.Common.{ap, ◌∙◌}
+use Rattle.std.proofs.lemmas.Bool.{and_parts}
+use Rattle.std.proofs.Common.{arith}
+use Rattle.std.proofs.lemmas.Bool.Decides.{nat_tests}
+use Rattle.std.specs.Prelude.{◌≡◌, Bool, true, false, List, [], ◌∷◌, Option, Some, None, find, cond, refl}
 use Rattle.std.specs.List.{list_all, list_any}
 use Rattle.std.specs.Option.{option_map_or}
 use Rattle.wb_names.specs.declared.parts.Figure.{Figure}
@@ -68,10 +70,6 @@ same_kind-is k l e = cc
 
 -- ---- kinds by a key
 
-pub both : (a b : Bool) → (a && b) ≡ true → (a ≡ true) × (b ≡ true)
-both true b e = (refl, e)
-both false b e = cc
-
 is_listed : (kind : OpKind) → list_any (same_kind kind) op_kinds ≡ true
 is_listed (Drawn Line) = refl
 is_listed (Drawn Frame) = refl
@@ -81,13 +79,7 @@ is_listed (Aimed Restore) = refl
 
 -- what all kinds of the list pass, every kind passes
 pub every_kind : (test : OpKind → Bool) → list_all test op_kinds ≡ true → (kind : OpKind) → test kind ≡ true
-every_kind test e kind = among op_kinds e (is_listed kind) where
-  among : (kinds : List OpKind) → list_all test kinds ≡ true → list_any (same_kind kind) kinds ≡ true → test kind ≡ true
-  among [] all any = cc
-  among (k ∷ kinds) all any = at (same_kind kind k) refl (λ any'. among kinds (both (test k) _ all).1 any') any where
-    at : (b : Bool) → same_kind kind k ≡ b → (list_any (same_kind kind) kinds ≡ true → test kind ≡ true) → (b || list_any (same_kind kind) kinds) ≡ true → test kind ≡ true
-    at true is more any' = let e' = same_kind-is kind k is in ap test e' ∙ (both (test k) _ all).0
-    at false is more any' = more any'
+every_kind test e kind = grind (arith, nat_tests, is_listed, and_parts, same_kind-is)
 
 -- a key is of its kind alone
 abbrev pub tells : {X : Type 0} → (X → X → Bool) → (OpKind → X) → OpKind → Bool

@@ -3,11 +3,12 @@ use Rattle.std.specs.Prelude.{◌≡◌, ℕ, Bool, true, false, ◌&&◌, List,
 use Rattle.std.specs.Bool.{Decides}
 use Rattle.std.specs.Cmp.{IsEquivalence, decided}
 use Rattle.std.specs.Cmp.Lexicographic.{pointwise, bytes_decides}
-use Rattle.std.proofs.Common.{arith, subst, eqb-true}
+use Rattle.std.proofs.Common.{arith, eqb-true}
+use Rattle.std.proofs.lemmas.Bool.{and_parts}
 use Rattle.std.proofs.lemmas.Bool.Decides.{nat_tests}
 use Rattle.wb_names.specs.Values.{DrawopValue}
 use Rattle.wb_names.specs.Orders.{same_name, same_page}
-use Rattle.wb_names.specs.Kinds.{both, same_figure, same_figure-here, same_figure-is, same_change, same_change-here, same_change-is}
+use Rattle.wb_names.specs.Kinds.{same_figure, same_figure-here, same_change, same_change-here}
 use Rattle.wb_names.specs.declared.name.PageId.{PageId}
 use Rattle.wb_names.specs.declared.parts.Stroke.{Stroke}
 use Rattle.wb_names.specs.declared.parts.Target.{Target}
@@ -30,17 +31,10 @@ abbrev pub same_drawop : DrawopValue → DrawopValue → Bool
 same_drawop d e = same_name d.name e.name && nat_eq d.time e.time && same_op d.op e.op
 
 same_stroke-is : (s t : Stroke) → same_stroke s t ≡ true → s ≡ t
-same_stroke-is s t e =
-    let p = both _ (nat_eq s.glyph t.glyph) e in
-    let q = both _ (nat_eq s.y1 t.y1) p.0 in
-    let r = both _ (nat_eq s.x1 t.x1) q.0 in
-    let o = both _ (nat_eq s.y0 t.y0) r.0 in
-    one _ _ _ _ _ _ _ _ _ _ (eqb-true _ _ o.0) (eqb-true _ _ o.1) (eqb-true _ _ r.1) (eqb-true _ _ q.1) (eqb-true _ _ p.1) where
-      one : (x0 y0 x1 y1 g a0 b0 a1 b1 h : ℕ) → x0 ≡ a0 → y0 ≡ b0 → x1 ≡ a1 → y1 ≡ b1 → g ≡ h → let v : Stroke = record { x0 = x0; y0 = y0; x1 = x1; y1 = y1; glyph = g } in let w : Stroke = record { x0 = a0; y0 = b0; x1 = a1; y1 = b1; glyph = h } in v ≡ w
-      one x0 y0 x1 y1 g a0 b0 a1 b1 h i j k l m = cc
+same_stroke-is s t e = grind (arith, nat_tests, eqb-true)
 
 pub same_target-is : (t u : Target) → same_target t u ≡ true → t ≡ u
-same_target-is t u e = let p = both (nat_eq t.source u.source) _ e in one _ _ _ _ (eqb-true _ _ p.0) (eqb-true _ _ p.1) where
+same_target-is t u e = let p = and_parts (nat_eq t.source u.source) _ e in one _ _ _ _ (eqb-true _ _ p.0) (eqb-true _ _ p.1) where
   one : (s n a b : ℕ) → s ≡ a → n ≡ b → let v : Target = record { source = s; seq = n } in let w : Target = record { source = a; seq = b } in v ≡ w
   one s n a b e f = cc
 
@@ -53,28 +47,20 @@ same_op-here (Text x y text) = simp (same_bytes text) (grind (arith, nat_tests))
 same_op-here (Aimed change t) = simp (same_change-here change) (grind (arith, nat_tests))
 
 same_op-is : (a b : Op) → same_op a b ≡ true → a ≡ b
-same_op-is (Drawn figure s) (Drawn f t) e =
-    let p = both (same_figure figure f) _ e in
-    let h : figure ≡ f = same_figure-is figure f p.0 in
-    let k : s ≡ t = same_stroke-is s t p.1 in
-    cc
+same_op-is (Drawn figure s) (Drawn f t) e = grind (arith, nat_tests, same_stroke-is)
 same_op-is (Text x y text) (Text a b bytes) e =
-    let p = both (nat_eq x a && nat_eq y b) _ e in
-    let q = both (nat_eq x a) _ p.0 in
+    let p = and_parts (nat_eq x a && nat_eq y b) _ e in
+    let q = and_parts (nat_eq x a) _ p.0 in
     let h : x ≡ a = eqb-true x a q.0 in
     let k : y ≡ b = eqb-true y b q.1 in
     let l : text ≡ bytes = (bytes_decides text bytes).0 p.1 in
     cc
-same_op-is (Aimed change t) (Aimed c u) e =
-    let p = both (same_change change c) _ e in
-    let h : change ≡ c = same_change-is change c p.0 in
-    let k : t ≡ u = same_target-is t u p.1 in
-    cc
+same_op-is (Aimed change t) (Aimed c u) e = grind (arith, nat_tests, same_target-is)
 same_op-is a b e = cc
 
 -- the test tells whether they are equal
 pub same_op-Decides : (a b : Op) → Decides (same_op a b) (a ≡ b)
-same_op-Decides a b = (same_op-is a b, λ e. subst (λ (o : Op). same_op a o ≡ true) e (same_op-here a))
+same_op-Decides a b = grind (arith, nat_tests, same_op-is, same_op-here)
 
 one_page : (a b m n : ℕ) → a ≡ b → m ≡ n → let p : PageId = record { creator = a; number = m } in let q : PageId = record { creator = b; number = n } in p ≡ q
 one_page a b m n e f = cc
@@ -90,15 +76,15 @@ same_drawop-here d = simp (same_op-here d.op) (grind (arith, nat_tests))
 
 same_drawop-is : (d e : DrawopValue) → same_drawop d e ≡ true → d ≡ e
 same_drawop-is d e h =
-    let p = both (same_name d.name e.name && nat_eq d.time e.time) _ h in
-    let q = both (same_name d.name e.name) _ p.0 in
-    let r = both (nat_eq d.name.source e.name.source && same_page d.name.page e.name.page) _ q.0 in
-    let s = both (nat_eq d.name.source e.name.source) _ r.0 in
-    let t = both (nat_eq d.name.page.creator e.name.page.creator) _ s.1 in
+    let p = and_parts (same_name d.name e.name && nat_eq d.time e.time) _ h in
+    let q = and_parts (same_name d.name e.name) _ p.0 in
+    let r = and_parts (nat_eq d.name.source e.name.source && same_page d.name.page e.name.page) _ q.0 in
+    let s = and_parts (nat_eq d.name.source e.name.source) _ r.0 in
+    let t = and_parts (nat_eq d.name.page.creator e.name.page.creator) _ s.1 in
     one_drawop _ _ _ _ _ _ _ _ _ _ (eqb-true _ _ s.0) (one_page _ _ _ _ (eqb-true _ _ t.0) (eqb-true _ _ t.1)) (eqb-true _ _ r.1) (eqb-true _ _ q.1) (same_op-is d.op e.op p.1)
 
 pub same_drawop-Decides : (d e : DrawopValue) → Decides (same_drawop d e) (d ≡ e)
-same_drawop-Decides d e = (same_drawop-is d e, λ h. subst (λ (o : DrawopValue). same_drawop d o ≡ true) h (same_drawop-here d))
+same_drawop-Decides d e = grind (arith, nat_tests, same_drawop-is, same_drawop-here)
 
 pub same_op_laws : IsEquivalence same_op
 same_op_laws = decided same_op same_op-Decides

@@ -8,11 +8,11 @@ use Rattle.wb_codec.specs.declared.datagram.Datagram.TheVariants as datagrams
 use Rattle.wb_lines.specs.Handling.{Met, whole, too_long}
 use Rattle.wb_lines.specs.Input.{content}
 use Rattle.wb_lines.specs.Words.{words}
-use Rattle.wb_words.specs.Words.{words as words_of_text, parted}
+use Rattle.wb_words.specs.Words.{words as words_of_text, split_once}
 use Rattle.wb_words.specs.Reading.{reading}
 use Rattle.wb_words.specs.declared.fault.WrongWord.{WrongWord}
 use Rattle.wb_words.proofs.LineLaws.{reading_takes}
-use Rattle.wb_words.proofs.Parting.{NoSpaces-words}
+use Rattle.wb_words.proofs.Splitting.{NoSpaces-words}
 use Rattle.wb_script.specs.Parsing.{number, four_of, none_of, or_fault, page as page_of, datagram, line_of as script_line_of}
 use Rattle.wb_script.specs.declared.fault.LineFault.{LineFault}
 use Rattle.wb_script.specs.declared.fault.LineFault.TheVariants as faults
@@ -118,7 +118,7 @@ module _ (P : Datagram → Type 0) where
     part_fits (Some rest) = said_fits P (reading rest) (reading_fits rest)
 
     pub text_fits : IfOk (line_of line) Has
-    text_fits = part_fits (said_part (parted 32 line))
+    text_fits = part_fits (said_part (split_once 32 line))
 
 -- ---- what it carries is in range
 

@@ -5,7 +5,7 @@ use Rattle.std.proofs.lemmas.Grind.{flat_map-append}
 use Rattle.wb_words.specs.Words.{words, joined}
 use Rattle.wb_names.specs.declared.parts.Stroke.{Stroke}
 use Rattle.wb_words.specs.Spelling.{stroke_words, quoted, tailed}
-use Rattle.wb_words.proofs.Parting.{has_word, joined_words}
+use Rattle.wb_words.proofs.Splitting.{has_word, joined_words}
 
 -- a text added, and another behind it
 pub glued : (o a b text tail whole : List ℕ) → a ≡ o ++ text → b ≡ a ++ tail → text ++ tail ≡ whole → b ≡ o ++ whole
@@ -32,24 +32,15 @@ text_text word x y text = ap (λ t. (codes " " ++ (word ++ (codes " " ++ (decima
 
 pub draw_text : (source creator number seq time : ℕ) (op : List (List ℕ)) → (codes "draw " ++ (decimal source ++ (codes " " ++ (decimal creator ++ (codes "/" ++ (decimal number ++ (codes " " ++ (decimal seq ++ (codes " " ++ decimal time))))))))) ++ tailed op
     ≡ joined (codes "draw" ∷ decimal source ∷ (decimal creator ++ 47 ∷ decimal number) ∷ decimal seq ∷ decimal time ∷ op)
-draw_text source creator number seq time op =
-    let ws : List (List ℕ) = decimal source ∷ (decimal creator ++ 47 ∷ decimal number) ∷ decimal seq ∷ decimal time ∷ op in
-    let flat : (codes "draw " ++ (decimal source ++ (codes " " ++ (decimal creator ++ (codes "/" ++ (decimal number ++ (codes " " ++ (decimal seq ++ (codes " " ++ decimal time))))))))) ++ tailed op ≡ codes "draw" ++ tailed ws = simp append_assoc in
-    flat ∙ sym (joined_tailed (codes "draw") ws)
+draw_text source creator number seq time op = rw joined_tailed (simp append_assoc)
 
 pub session_text : (sender sent creator number : ℕ) (marks echoes : List (List ℕ)) → ((codes "session-message " ++ (decimal sender ++ (codes " " ++ (decimal sent ++ (codes " " ++ (decimal creator ++ (codes "/" ++ decimal number))))))) ++ tailed marks) ++ tailed echoes
     ≡ joined (codes "session-message" ∷ decimal sender ∷ decimal sent ∷ (decimal creator ++ 47 ∷ decimal number) ∷ (marks ++ echoes))
-session_text sender sent creator number marks echoes =
-    let ws : List (List ℕ) = decimal sender ∷ decimal sent ∷ (decimal creator ++ 47 ∷ decimal number) ∷ (marks ++ echoes) in
-    let flat : ((codes "session-message " ++ (decimal sender ++ (codes " " ++ (decimal sent ++ (codes " " ++ (decimal creator ++ (codes "/" ++ decimal number))))))) ++ tailed marks) ++ tailed echoes ≡ codes "session-message" ++ tailed ws = simp (append_assoc, flat_map-append) in
-    flat ∙ sym (joined_tailed (codes "session-message") ws)
+session_text sender sent creator number marks echoes = rw joined_tailed (simp (append_assoc, flat_map-append))
 
 pub page_state_text : (sender creator number : ℕ) (marks : List (List ℕ)) → (codes "page-state " ++ (decimal sender ++ (codes " " ++ (decimal creator ++ (codes "/" ++ decimal number))))) ++ tailed marks
     ≡ joined (codes "page-state" ∷ decimal sender ∷ (decimal creator ++ 47 ∷ decimal number) ∷ marks)
-page_state_text sender creator number marks =
-    let ws : List (List ℕ) = decimal sender ∷ (decimal creator ++ 47 ∷ decimal number) ∷ marks in
-    let flat : (codes "page-state " ++ (decimal sender ++ (codes " " ++ (decimal creator ++ (codes "/" ++ decimal number))))) ++ tailed marks ≡ codes "page-state" ++ tailed ws = simp append_assoc in
-    flat ∙ sym (joined_tailed (codes "page-state") ws)
+page_state_text sender creator number marks = rw joined_tailed (simp append_assoc)
 
 pub ok_then : {A E P Q : Type 0} (r : Result A E) → (P → Q) → OnOk r P → OnOk r Q
 ok_then (Ok x) f h = f h

@@ -1,4 +1,5 @@
 -- Lists of entries, one word after another.
+use Rattle.std.proofs.lemmas.Grind.{common_steps}
 use Rattle.std.proofs.Common.{◌≡◌, ℕ, suc, ◌+◌, ◌<◌, ◌≤◌, Bool, true, false, cond, Option, Some, None, List, [], ◌∷◌, ◌++◌, length, get_or, Result, Ok, Err, refl, sym, ap, subst, ◌∙◌, append_assoc, append-nil, arith}
 use Rattle.std.specs.Prelude.{nat_lt, All, AllPairs, IfOk, map}
 use Rattle.std.proofs.lemmas.Bool.{ltb-true, lt-ltb}
@@ -58,10 +59,6 @@ abbrev pub onto : {X : Type 0} → List X → Result (List X) WrongWord → Resu
 onto xs (Ok read) = Ok (xs ++ read)
 onto xs (Err fault) = Err fault
 
-onto_none : {X : Type 0} (r : Result (List X) WrongWord) → r ≡ onto [] r
-onto_none (Ok xs) = refl
-onto_none (Err fault) = refl
-
 onto_onto : {X : Type 0} (xs ys : List X) (r : Result (List X) WrongWord) → onto xs (onto ys r) ≡ onto (xs ++ ys) r
 onto_onto xs ys (Ok zs) = ap (λ (l : List _). Ok l) (sym (append_assoc xs ys zs))
 onto_onto xs ys (Err fault) = refl
@@ -84,66 +81,39 @@ module _ {X : Type 0} (entry_at : ℕ → Option ℕ → List ℕ → Result X W
     pub so_far : entries_at entry_at source stops place 0 None ws ≡ onto xs (entries_at entry_at source stops (place + length xs) (length xs) before rest)
     pub few : length xs ≤ 65535
 
-  pub read_none : (place : ℕ) (ws : List (List ℕ)) → HasRead place ws None ws []
-  read_none place ws =
-      let same : place + 0 ≡ place = omega arith in
-      record { so_far = onto_none (read place 0 None ws) ∙ ap (λ (p : ℕ). onto [] (read p 0 None ws)) (sym same); few = omega arith }
-
   read_one : (place n : ℕ) (before : Option ℕ) (w : List ℕ) (after : List (List ℕ)) (x : X) → stops w ≡ false → n < 65535 → entry_at place before w ≡ Ok x
       → read place n before (w ∷ after) ≡ onto (x ∷ []) (read (place + 1) (n + 1) (Some (source x)) after)
   unfolding entries_at
-  read_one place n before w after x goes few e =
-      let test : nat_lt n 65535 ≡ true = lt-ltb n 65535 few in
-      rw (goes, test, e) (onto_one x (read (place + 1) (n + 1) (Some (source x)) after))
+  read_one place n before w after x goes few e = grind (arith, common_steps, lt-ltb, onto_one)
 
-  pub read_more : (place : ℕ) (ws : List (List ℕ)) (before : Option ℕ) (rest : List (List ℕ)) (w : List ℕ) (after : List (List ℕ)) (xs : List X) (x : X) → HasRead place ws before rest xs → rest ≡ w ∷ after → stops w ≡ false → length xs < 65535 → entry_at (place + length xs) before w ≡ Ok x
-      → HasRead place ws (Some (source x)) after (xs ++ x ∷ [])
-  read_more place ws before rest w after xs x h is goes few e =
-      let len = length-append xs (x ∷ []) in
-      let place-is : place + length xs + 1 ≡ place + length (xs ++ x ∷ []) = omega (arith, len) in
-      let count-is : length xs + 1 ≡ length (xs ++ x ∷ []) = omega (arith, len) in
-      record {
-        so_far = h.so_far
-            ∙ ap (λ (r : List (List ℕ)). onto xs (read (place + length xs) (length xs) before r)) is
-            ∙ ap (onto xs) (read_one (place + length xs) (length xs) before w after x goes few e)
-            ∙ onto_onto xs (x ∷ []) (read (place + length xs + 1) (length xs + 1) (Some (source x)) after)
-            ∙ ap (λ (p : ℕ). onto (xs ++ x ∷ []) (read p (length xs + 1) (Some (source x)) after)) place-is
-            ∙ ap (λ (n : ℕ). onto (xs ++ x ∷ []) (read (place + length (xs ++ x ∷ [])) n (Some (source x)) after)) count-is;
-        few = omega (arith, len);
-      }
-
-  -- the same, of a list that was extended
+  -- one entry more was read, and put to the others
   pub read_pushed : (place : ℕ) (ws : List (List ℕ)) (before : Option ℕ) (rest : List (List ℕ)) (w : List ℕ) (after : List (List ℕ)) (xs : List X) (x : X) (here last : ℕ) (ys : List X) → HasRead place ws before rest xs → rest ≡ w ∷ after → stops w ≡ false → length xs < 65535 → here ≡ place + length xs → entry_at here before w ≡ Ok x → last ≡ source x → ys ≡ xs ++ x ∷ []
       → HasRead place ws (Some last) after ys
   read_pushed place ws before rest w after xs x here last ys h is goes few at-is e source-is pushed =
-      let read-here : entry_at (place + length xs) before w ≡ Ok x = ap (λ (p : ℕ). entry_at p before w) (sym at-is) ∙ e in
-      subst (λ (zs : List X). HasRead place ws (Some last) after zs) (sym pushed)
-      (subst (λ (s : ℕ). HasRead place ws (Some s) after (xs ++ x ∷ [])) (sym source-is) (read_more place ws before rest w after xs x h is goes few read-here))
+      let entry : entry_at (place + length xs) before w ≡ Ok x = ap (λ (p : ℕ). entry_at p before w) (sym at-is) ∙ e in
+      let one = read_one (place + length xs) (length xs) before w after x goes few entry in
+      let both = onto_onto xs (x ∷ []) (read (place + length xs + 1) (length xs + 1) (Some (source x)) after) in
+      let count : length xs + 1 ≡ length ys = omega (arith, ap length pushed, length-append xs (x ∷ [])) in
+      let there : place + length xs + 1 ≡ place + length ys = omega arith in
+      record { so_far = cc; few = omega arith }
 
   pub read_stops : (place : ℕ) (ws : List (List ℕ)) (before : Option ℕ) (rest : List (List ℕ)) (w : List ℕ) (after : List (List ℕ)) (xs : List X) (e : WrongWord) (here : ℕ) → HasRead place ws before rest xs → rest ≡ w ∷ after → stops w ≡ false → length xs < 65535 → here ≡ place + length xs → entry_at here before w ≡ Err e
       → entries_at entry_at source stops place 0 None ws ≡ Err e
   unfolding entries_at
-  read_stops place ws before rest w after xs e here h is goes few at-is refused =
-      let fault : entry_at (place + length xs) before w ≡ Err e = ap (λ (p : ℕ). entry_at p before w) (sym at-is) ∙ refused in
-      let test : nat_lt (length xs) 65535 ≡ true = lt-ltb (length xs) 65535 few in
-      h.so_far ∙ ap (λ (r : List (List ℕ)). onto xs (read (place + length xs) (length xs) before r)) is ∙ rw (goes, test, fault) refl
+  read_stops place ws before rest w after xs e here h is goes few at-is refused = grind (arith, common_steps, lt-ltb)
 
   pub read_many : (place : ℕ) (ws : List (List ℕ)) (before : Option ℕ) (rest : List (List ℕ)) (w : List ℕ) (after : List (List ℕ)) (xs : List X) → HasRead place ws before rest xs → rest ≡ w ∷ after → stops w ≡ false → 65535 ≤ length xs
       → entries_at entry_at source stops place 0 None ws ≡ wrong (place + length xs) TooMany
   unfolding entries_at
-  read_many place ws before rest w after xs h is goes many =
-      let test : nat_lt (length xs) 65535 ≡ false = grind (arith, nat_tests) in
-      h.so_far ∙ ap (λ (r : List (List ℕ)). onto xs (read (place + length xs) (length xs) before r)) is ∙ rw (goes, test) refl
+  read_many place ws before rest w after xs h is goes many = grind (arith, common_steps, nat_tests)
 
   pub read_all : (place : ℕ) (ws : List (List ℕ)) (before : Option ℕ) (rest : List (List ℕ)) (xs : List X) → HasRead place ws before rest xs → rest ≡ [] → entries_at entry_at source stops place 0 None ws ≡ Ok xs
   unfolding entries_at
-  read_all place ws before rest xs h is =
-      h.so_far ∙ ap (λ (r : List (List ℕ)). onto xs (read (place + length xs) (length xs) before r)) is ∙ ap (λ (l : List X). Ok l) (append-nil xs)
+  read_all place ws before rest xs h is = grind (arith, common_steps, append-nil)
 
   pub read_until : (place : ℕ) (ws : List (List ℕ)) (before : Option ℕ) (rest : List (List ℕ)) (w : List ℕ) (after : List (List ℕ)) (xs : List X) → HasRead place ws before rest xs → rest ≡ w ∷ after → stops w ≡ true → entries_at entry_at source stops place 0 None ws ≡ Ok xs
   unfolding entries_at
-  read_until place ws before rest w after xs h is stop =
-      h.so_far ∙ ap (λ (r : List (List ℕ)). onto xs (read (place + length xs) (length xs) before r)) is ∙ rw stop (ap (λ (l : List X). Ok l) (append-nil xs))
+  read_until place ws before rest w after xs h is stop = grind (arith, common_steps, append-nil)
 
   -- ---- what was read, and what is read again
 

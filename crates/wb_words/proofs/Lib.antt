@@ -1,5 +1,5 @@
 pub mod Numerals
-pub mod Parting
+pub mod Splitting
 pub mod EntryLists
 pub mod WordLaws
 pub mod TextLaws

@@ -1,12 +1,13 @@
 -- What the words of a line say is spelled so, and what is spelled so is read.
-use Rattle.std.proofs.Common.{◌≡◌, ℕ, ◌+◌, ◌^◌, ◌<◌, ◌≤◌, Bool, true, false, cond, Option, Some, None, List, [], ◌∷◌, ◌++◌, length, Result, Ok, refl, sym, ap, subst, ◌∙◌, append-nil, arith}
+use Rattle.std.proofs.lemmas.Grind.{common_steps}
+use Rattle.std.proofs.Common.{◌≡◌, ℕ, ◌+◌, ◌^◌, ◌<◌, ◌≤◌, Bool, false, cond, Option, Some, None, List, [], ◌∷◌, ◌++◌, length, Result, Ok, refl, sym, ap, subst, ◌∙◌, append-nil, arith}
 use Rattle.std.specs.Prelude.{All, map, decimal, codes}
 use Rattle.std.specs.Str.{bytes_eq}
 use Rattle.std.proofs.lemmas.Slice.Eq.{bytes_eq-Decides}
 use Rattle.std.proofs.lemmas.List.Elements.{All-head}
 use Rattle.wb_names.specs.Values.{NameValue, DrawopValue, MarkValue}
 use Rattle.wb_names.specs.Drawing.{IsLawful, seq_fault, stroke_fault, text_fault, target_fault}
-use Rattle.wb_names.specs.Kinds.{op_kind, kind_with-key, kind_with-is}
+use Rattle.wb_names.specs.Kinds.{op_kind, kind_with-key}
 use Rattle.wb_names.specs.declared.name.PageId.{PageId}
 use Rattle.wb_names.specs.declared.echo.Echo.{Echo}
 use Rattle.wb_names.specs.declared.fault.FieldFault.{FieldFault}
@@ -29,7 +30,7 @@ use Rattle.wb_words.specs.Words.{words, joined, most32, most64, number_in, glyph
 use Rattle.wb_words.specs.Spelling.{page_word, mark_word, echo_word, quoted, stroke_words, kind_word, field_words, op_words, name_words, word_list}
 use Rattle.wb_words.specs.Reading.{◌>>=◌, said, in_range, word_at, end_at, number_at, page_at, glyph_at, text_at, name_at, drawn, stroke_at, figure_at, written_at, change_at, kind_in, fields_at, op_at, drawop_at, mark_at, echo_at, is_echo, left_at, marks_at, echoes_at, draw_at, session_at, request_at, ask_pages_at, page_state_at, datagram_at, reading_of}
 use Rattle.wb_words.proofs.Numerals.{number_again}
-use Rattle.wb_words.proofs.Parting.{NoSpaces, words_joined, text_words}
+use Rattle.wb_words.proofs.Splitting.{NoSpaces, words_joined, text_words}
 use Rattle.wb_words.proofs.TextLaws.{text_takes, text_again}
 use Rattle.wb_words.proofs.EntryLists.{Reads, found, gives, weaker, step, list_reads, entries_back, Stopped}
 use Rattle.wb_words.proofs.WordLaws.{said_step, ranged, again32, again64, number_finds, page_finds, page_again, mark_reads, mark_spelled, echo_reads, echo_spelled, mark_goes, echo_stops}
@@ -82,7 +83,7 @@ one_byte (b ∷ c ∷ bytes) g e = absurd cc
 
 glyph_reads : (place : ℕ) (ws : List (List ℕ)) → Reads (λ x. ws ≡ (x.0 ∷ []) ∷ x.1) (glyph_at place ws)
 unfolding glyph_at
-glyph_reads place ws = word_then place ws _ (λ w rest is. says_then _ _ (glyph_in w) _ (λ g e. gives _ (is ∙ ap (λ v. v ∷ rest) (one_byte w g e))))
+glyph_reads place ws = grind (arith, common_steps, word_then, says_then, gives, one_byte)
 
 glyph_back : (place g : ℕ) (ws : List (List ℕ)) → glyph_at place ((g ∷ []) ∷ ws) ≡ Ok (g, ws)
 unfolding glyph_at
@@ -117,7 +118,7 @@ name_reads place ws = step _ (number_reads place most32 ws) (λ s ts. step _ (pa
 
 name_back : (place : ℕ) (n : NameValue) (rest : List (List ℕ)) → IsName n → name_at place (name_words n rest) ≡ Ok (n, rest)
 unfolding name_at
-name_back place n rest fits = rw (back32 place n.source (page_word n.page ∷ decimal n.seq ∷ rest) fits.source, page_back (place + 1) n.page (decimal n.seq ∷ rest) fits.page, back32 (place + 2) n.seq rest fits.seq) refl
+name_back place n rest fits = grind (arith, common_steps, back32, page_back)
 
 name_is : (ws : List (List ℕ)) (n : NameValue) (rest : List (List ℕ)) → NameRead ws n rest → seq_fault n.seq ≡ None → IsName n
 name_is ws n rest r e = record { source = r.source; page = r.page; positive = seq_counted n.seq e; seq = r.seq }
@@ -145,11 +146,11 @@ stroke_reads ws = step _ (number_reads 7 4095 ws) (λ a ta. step _ (number_reads
     ∙ ap (λ v. decimal a.0 ∷ decimal b.0 ∷ decimal c.0 ∷ decimal d.0 ∷ v) tg))))))
 
 back12 : (place n : ℕ) (ws : List (List ℕ)) → n < 2 ^ 12 → number_at place 4095 (decimal n ∷ ws) ≡ Ok (n, ws)
-back12 place n ws lt = let le : n ≤ 4095 = omega arith in number_back place 4095 n ws (number_again 4095 n le (omega arith))
+back12 place n ws lt = grind (arith, common_steps, number_back, number_again)
 
 stroke_back : (s : Stroke) → IsStroke s → stroke_at (stroke_words s) ≡ Ok (s, [])
 unfolding stroke_at
-stroke_back s fits = rw (back12 7 s.x0 (decimal s.y0 ∷ decimal s.x1 ∷ decimal s.y1 ∷ (s.glyph ∷ []) ∷ []) fits.x0-fits, back12 8 s.y0 (decimal s.x1 ∷ decimal s.y1 ∷ (s.glyph ∷ []) ∷ []) fits.y0-fits, back12 9 s.x1 (decimal s.y1 ∷ (s.glyph ∷ []) ∷ []) fits.x1-fits, back12 10 s.y1 ((s.glyph ∷ []) ∷ []) fits.y1-fits, glyph_back 11 s.glyph []) refl
+stroke_back s fits = grind (arith, common_steps, back12, glyph_back)
 
 fields_read : (kind : OpKind) (name : NameValue) (time : ℕ) (ws : List (List ℕ)) → NoSpaces ws → Reads (OpRead name time (kind_word kind) ws) (fields_at kind name time ws)
 unfolding figure_at written_at change_at
@@ -182,10 +183,7 @@ fields_read (kinds.Aimed change) name time ws none = step _ (number_reads 7 most
 
 -- a choice by the first word
 by_word : {A : Type 0} (P : List ℕ → A → Type 0) (word text : List ℕ) (x y : Result A WrongWord) → Reads (P text) x → Reads (P word) y → Reads (P word) (cond (bytes_eq word text) x y)
-by_word P word text x y first second = by (bytes_eq word text) refl where
-  by : (t : Bool) → bytes_eq word text ≡ t → Reads (P word) (cond t x y)
-  by true h = subst (λ w. Reads (P w) x) (sym ((bytes_eq-Decides word text).0 h)) first
-  by false h = second
+by_word P word text x y first second = grind (arith, common_steps, bytes_eq-Decides)
 
 kind_again : (kind : OpKind) → kind_in (kind_word kind) ≡ Some kind
 unfolding kind_in
@@ -193,7 +191,7 @@ kind_again kind = kind_with-key bytes_eq kind_word refl kind
 
 kind_is : (word : List ℕ) (kind : OpKind) → kind_in word ≡ Some kind → word ≡ kind_word kind
 unfolding kind_in
-kind_is word kind e = kind_with-is bytes_eq kind_word (λ v w. (bytes_eq-Decides v w).0) word kind e
+kind_is word kind e = grind (arith, common_steps, bytes_eq-Decides)
 
 op_reads : (name : NameValue) (time : ℕ) (word : List ℕ) (ws : List (List ℕ)) → NoSpaces ws → Reads (OpRead name time word ws) (op_at name time word ws)
 unfolding op_at
@@ -202,14 +200,12 @@ op_reads name time word ws none = says_then _ _ (kind_in word) _ (λ kind e. sub
 fields_back : (name : NameValue) (time : ℕ) (op : Op) → IsLawful name op → HasTarget op → fields_at (op_kind op) name time (field_words op) ≡ Ok (record { name = name; time = time; op = op })
 unfolding figure_at written_at change_at
 fields_back name time (Drawn figure s) lawful target = rw (stroke_back s (lawful_stroke s lawful), drawn_back 11 name time (Drawn figure s) lawful) refl
-fields_back name time (Text x y text) lawful target =
-    let t = lawful_text x y text lawful in
-    rw (back12 7 x (decimal y ∷ words (quoted text)) t.x-fits, back12 8 y (words (quoted text)) t.y-fits, text_back 9 text, drawn_back 9 name time (Text x y text) lawful) refl
-fields_back name time (Aimed change t) lawful target = rw (back32 7 t.source (decimal t.seq ∷ []) target.0, back32 8 t.seq [] target.1, drawn_back 8 name time (Aimed change t) lawful) refl
+fields_back name time (Text x y text) lawful target = grind (arith, common_steps, lawful_text, back12, text_back, drawn_back)
+fields_back name time (Aimed change t) lawful target = grind (arith, common_steps, back32, drawn_back)
 
 op_back : (name : NameValue) (time : ℕ) (op : Op) → IsLawful name op → HasTarget op → (word_at 6 (op_words op) >>= λ word. op_at name time word.0 word.1) ≡ Ok (record { name = name; time = time; op = op })
 unfolding op_at
-op_back name time op lawful target = ap (λ (o : Option OpKind). said 6 faults.Operation o >>= λ kind. fields_at kind name time (field_words op)) (kind_again (op_kind op)) ∙ fields_back name time op lawful target
+op_back name time op lawful target = grind (arith, common_steps, kind_again, fields_back)
 
 -- ---- drawops
 
@@ -225,7 +221,7 @@ drawop_reads ws none = step _ (name_reads 2 ws) (λ n tn. ranged 4 (seq_fault n.
 
 drawop_back : (d : DrawopValue) → IsDrawop d → drawop_at (name_words d.name (decimal d.time ∷ op_words d.op)) ≡ Ok d
 unfolding drawop_at
-drawop_back d fits = rw (name_back 2 d.name (decimal d.time ∷ op_words d.op) fits.name, seq_free d.name.seq fits.name.positive, back64 5 d.time (op_words d.op) fits.time) (op_back d.name d.time d.op fits.lawful fits.target)
+drawop_back d fits = grind (arith, common_steps, name_back, seq_free, back64, op_back)
 
 -- ---- lists
 
@@ -300,11 +296,8 @@ reading_takes ws v none e = found v (line_reads ws none) e
 pub reading_again : (v : Datagram) → IsDatagram v → reading_of (word_list v) ≡ Ok v
 unfolding reading_of datagram_at draw_at session_at request_at ask_pages_at page_state_at
 reading_again (datagrams.Draw d) fits = rw (drawop_back d fits) refl
-reading_again (datagrams.Session sender sent page marks echoes) fits =
-    let rest = map mark_word marks ++ map echo_word echoes in
-    let m = marks_back 5 marks (map echo_word echoes) (echoes_end echoes fits.echoes-fit.ranges) fits.marks-fit in
-    rw (back32 2 sender (decimal sent ∷ page_word page ∷ rest) fits.sender-fits, back64 3 sent (page_word page ∷ rest) fits.sent-fits, page_back 4 page rest fits.page-fits, m.0, m.1, echoes_back (5 + length marks) echoes fits.echoes-fit) refl
-reading_again (datagrams.Request asker name) fits = rw (back32 2 asker (name_words name []) fits.0, name_back 3 name [] fits.1, seq_free name.seq fits.1.positive) refl
+reading_again (datagrams.Session sender sent page marks echoes) fits = grind (arith, common_steps, marks_back, echoes_end, back32, back64, page_back, echoes_back)
+reading_again (datagrams.Request asker name) fits = grind (arith, common_steps, back32, name_back, seq_free)
 reading_again (datagrams.AskPages asker) fits = rw (back32 2 asker [] fits) refl
 reading_again (datagrams.PageState sender page marks) fits =
     let m = marks_back 4 marks [] tt fits.marks-fit in

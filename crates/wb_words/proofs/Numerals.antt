@@ -1,6 +1,7 @@
 -- Numbers, and the words that spell them.
-use Rattle.std.proofs.Common.{◌≡◌, ℕ, ◌+◌, ◌*◌, ◌-◌, ◌^◌, ◌<◌, ◌≤◌, Bool, true, false, cond, Option, Some, None, List, [], ◌∷◌, inl, inr, length, get_or, drop, refl, sym, ap, subst, ◌∙◌, arith}
-use Rattle.std.specs.Prelude.{◌&&◌, nat_le, not, decimal}
+use Rattle.std.proofs.lemmas.Grind.{common_steps}
+use Rattle.std.proofs.Common.{◌≡◌, ℕ, ◌+◌, ◌*◌, ◌-◌, ◌^◌, ◌<◌, ◌≤◌, Bool, true, false, cond, Option, Some, None, List, [], ◌∷◌, length, get_or, drop, refl, sym, ap, subst, ◌∙◌, arith}
+use Rattle.std.specs.Prelude.{nat_le, not, decimal}
 use Rattle.std.specs.Char.{digit_value, is_ascii_digit}
 use Rattle.std.specs.Str.{bytes_eq}
 use Rattle.std.specs.Str.Parse.{AllDigits, digits_value, digits_value_after}
@@ -18,11 +19,7 @@ use Rattle.wb_words.specs.Words.{number_in, is_plain}
 
 pub number_again : (most n : ℕ) → n ≤ most → most < 2 ^ 64 → number_in most (decimal n) ≡ Some n
 unfolding number_in
-number_again most n le small =
-    let value : digits_value 10 (decimal n) ≡ n = (decimal_is_IsNumeral n (omega arith)).1 in
-    let same : bytes_eq (decimal n) (decimal n) ≡ true = (bytes_eq-Decides (decimal n) (decimal n)).1 refl in
-    let fits : nat_le n most ≡ true = le-leb n most le in
-    rw (value, same, fits) refl
+number_again most n le small = grind (arith, common_steps, decimal_is_IsNumeral, bytes_eq-Decides, le-leb)
 
 chosen : (b : Bool) (v n : ℕ) → cond b (Some v) None ≡ Some n → (b ≡ true) × (v ≡ n)
 chosen true v n e = (refl, cc)
@@ -30,13 +27,7 @@ chosen false v n e = absurd cc
 
 pub number_takes : (most n : ℕ) (word : List ℕ) → number_in most word ≡ Some n → (word ≡ decimal n) × (n ≤ most)
 unfolding number_in
-number_takes most n word e =
-    let v = digits_value 10 word in
-    let t = chosen (bytes_eq (decimal v) word && nat_le v most) v n e in
-    let p = and_parts (bytes_eq (decimal v) word) (nat_le v most) t.0 in
-    let spelled : decimal v ≡ word = (bytes_eq-Decides (decimal v) word).0 p.0 in
-    let few : v ≤ most = leb-true v most p.1 in
-    (sym spelled ∙ ap decimal t.1, subst (λ (m : ℕ). m ≤ most) t.1 few)
+number_takes most n word e = grind (arith, common_steps, chosen, and_parts, bytes_eq-Decides, leb-true)
 
 pub decimal_digits : (n : ℕ) → n < 2 ^ 64 → AllDigits 10 (decimal n)
 decimal_digits n small = (decimal_is_IsNumeral n small).0.1
@@ -76,16 +67,13 @@ is_plain_first (b ∷ []) h = refl
 is_plain_first (b ∷ c ∷ bytes) h = grind (arith, nat_tests)
 
 decimal_plain : (n : ℕ) → n < 2 ^ 64 → is_plain (decimal n) ≡ true
-decimal_plain n small = elim (cases_lt 0 n) [
-  | inl some ↦ is_plain_first (decimal n) (first_decimal n some small)
-  | inr none ↦ let zero : n ≡ 0 = omega arith in ap is_plain (ap decimal zero ∙ decimal_digit 0 (omega arith))
-]
+decimal_plain n small = grind (arith, common_steps, cases_lt, is_plain_first, first_decimal, decimal_digit)
 
 pub not_plain : (most : ℕ) (word : List ℕ) → most < 2 ^ 64 → is_plain word ≡ false → number_in most word ≡ None
-not_plain most word small e = no_number most word small (λ n is le same. let plain : is_plain word ≡ true = ap is_plain is ∙ decimal_plain n (omega arith) in cc)
+not_plain most word small e = grind (arith, common_steps, no_number, decimal_plain)
 
 pub not_digits : (most : ℕ) (word : List ℕ) → most < 2 ^ 64 → (AllDigits 10 word → ⊥) → number_in most word ≡ None
-not_digits most word small not = no_number most word small (λ n is le same. not (subst (AllDigits 10) (sym is) (decimal_digits n (omega arith))))
+not_digits most word small not = grind (arith, common_steps, no_number, decimal_digits)
 
 pub too_large : (most : ℕ) (word : List ℕ) → most < 2 ^ 64 → most < digits_value 10 word → number_in most word ≡ None
 too_large most word small large = no_number most word small (λ n is le same. omega arith)
@@ -99,9 +87,6 @@ pub record Walked (word : List ℕ) (i value : ℕ) : Type 0 where
   pub so_far : digits_value 10 word ≡ digits_value_after 10 value (drop i word)
   pub digits : AllDigits 10 (drop i word) → AllDigits 10 word
   pub back : AllDigits 10 word → AllDigits 10 (drop i word)
-
-pub walked_none : (word : List ℕ) → Walked word 0 0
-walked_none word = record { so_far = refl; digits = λ d. d; back = λ d. d }
 
 pub walked_more : (word : List ℕ) (i value b more : ℕ) → Walked word i value → i < length word → b ≡ get_or word i 0 → 48 ≤ b → b ≤ 57 → more ≡ value * 10 + (b - 48) → Walked word (i + 1) more
 walked_more word i value b more h lt is low high new =
@@ -117,15 +102,11 @@ walked_more word i value b more h lt is low high new =
 
 -- a byte that is no digit
 pub walked_stops : (most : ℕ) (word : List ℕ) (i value b : ℕ) → most < 2 ^ 64 → Walked word i value → i < length word → b ≡ get_or word i 0 → (48 ≤ b → b ≤ 57 → ⊥) → number_in most word ≡ None
-walked_stops most word i value b small h lt is other =
-    let split : drop i word ≡ b ∷ drop (i + 1) word = drop_more word i 0 lt ∙ ap (λ c. c ∷ drop (i + 1) word) (sym is) in
-    not_digits most word small (λ d. let first = (subst (AllDigits 10) split (h.back d)).0 in let r = digit_from_value b first in other r.0 r.1)
+walked_stops most word i value b small h lt is other = grind (arith, common_steps, drop_more, not_digits, digit_from_value)
 
 -- the digits so far and the next are too large a number already
 pub walked_past : (most : ℕ) (word : List ℕ) (i value b : ℕ) → most < 2 ^ 64 → Walked word i value → i < length word → b ≡ get_or word i 0 → 48 ≤ b → b ≤ 57 → most < value * 10 + (b - 48) → number_in most word ≡ None
-walked_past most word i value b small h lt is low high past =
-    let more = walked_more word i value b (value * 10 + (b - 48)) h lt is low high refl in
-    too_large most word small (omega (arith, more.so_far, le_value (value * 10 + (b - 48)) (drop (i + 1) word)))
+walked_past most word i value b small h lt is low high past = grind (arith, common_steps, walked_more, too_large, le_value)
 
 pub walked_all : (most : ℕ) (word : List ℕ) (i value : ℕ) → value < 2 ^ 64 → Walked word i value → length word ≤ i → is_plain word ≡ true → number_in most word ≡ cond (nat_le value most) (Some value) None
 walked_all most word i value small h le plain =
@@ -136,7 +117,7 @@ walked_all most word i value small h le plain =
 
 -- what the test of a byte tells
 pub not_digit : (b : ℕ) (test : Bool) → test ≡ is_ascii_digit b → test ≡ false → 48 ≤ b → b ≤ 57 → ⊥
-not_digit b test is no_digit low high = let yes_low : nat_le 48 b ≡ true = le-leb 48 b low in let yes_high : nat_le b 57 ≡ true = le-leb b 57 high in let passes : is_ascii_digit b ≡ true = rw (yes_low, yes_high) refl in absurd cc
+not_digit b test is no_digit low high = grind (arith, common_steps, le-leb)
 
 pub a_digit : (b : ℕ) (test : Bool) → test ≡ is_ascii_digit b → test ≡ true → (48 ≤ b) × (b ≤ 57)
-a_digit b test is passes = let t = and_parts (nat_le 48 b) (nat_le b 57) (sym is ∙ passes) in (leb-true 48 b t.0, leb-true b 57 t.1)
+a_digit b test is passes = grind (arith, common_steps, and_parts, leb-true)

@@ -1,4 +1,5 @@
 -- The two laws of the readable form: what is read is spelled so, and what is spelled so is read.
+use Rattle.std.proofs.lemmas.Grind.{common_steps}
 use Rattle.std.proofs.Common.{◌≡◌, ℕ, ◌^◌, ◌<◌, Bool, true, false, None, List, [], ◌∷◌, ◌++◌, Result, Ok, Err, refl, sym, ap, ◌∙◌, arith, inl, inr}
 use Rattle.std.specs.Prelude.{map, nat_eq, not, codes, decimal, ◌⊎◌, IfOk}
 use Rattle.std.specs.List.{list_all}
@@ -8,7 +9,7 @@ use Rattle.std.proofs.lemmas.Bool.{and_parts, not-true}
 use Rattle.wb_names.specs.Values.{NameValue}
 use Rattle.wb_names.specs.Drawing.{IsLawful, stroke_fault}
 use Rattle.wb_names.specs.declared.parts.Stroke.{Stroke}
-use Rattle.wb_names.specs.Kinds.{op_kind, every_kind}
+use Rattle.wb_names.specs.Kinds.{op_kind}
 use Rattle.wb_names.specs.declared.parts.OpKind.{OpKind}
 use Rattle.wb_names.specs.declared.parts.Op.{Op}
 use Rattle.wb_names.specs.declared.parts.Op.TheVariants.{Drawn, Text, Aimed}
@@ -20,11 +21,11 @@ use Rattle.wb_words.specs.declared.fault.WordsFault.{WordsFault}
 use Rattle.wb_words.specs.declared.fault.WordsFault.TheVariants.{Word, Memory}
 use Rattle.wb_words.specs.declared.fault.WrongWord.{WrongWord}
 use Rattle.wb_words.specs.Words.{words, joined}
-use Rattle.wb_words.specs.Spelling.{page_word, mark_word, echo_word, quoted, stroke_words, kind_word, field_words, op_words, name_words, word_list, spelled}
+use Rattle.wb_words.specs.Spelling.{page_word, mark_word, echo_word, stroke_words, kind_word, field_words, op_words, name_words, word_list, spelled}
 use Rattle.wb_words.specs.Reading.{MayGive, datagram_at, reading_of, reading}
 use Rattle.wb_words.specs.Grammar.{Says}
 use Rattle.wb_words.proofs.EntryLists.{ok_is}
-use Rattle.wb_words.proofs.Parting.{NoSpace, NoSpaces, NoSpaces-words, NoSpaces-append, NoSpaces-map, words_joined, joined_words}
+use Rattle.wb_words.proofs.Splitting.{NoSpace, NoSpaces, NoSpaces-words, NoSpaces-append, NoSpaces-map, words_joined, joined_words}
 use Rattle.wb_words.proofs.WordLaws.{decimal_space, page_space, mark_space, echo_space}
 use Rattle.wb_words.proofs.LineLaws.{reading_takes, reading_again}
 
@@ -47,23 +48,21 @@ visible : (s : Stroke) → stroke_fault s ≡ None → nat_eq s.glyph 32 ≡ fal
 visible s e = grind (arith, nat_tests)
 
 stroke_space : (s : Stroke) → stroke_fault s ≡ None → NoSpaces (stroke_words s)
-stroke_space s e =
-    let f = lawful_stroke s e in
-    (space12 s.x0 f.x0-fits, (space12 s.y0 f.y0-fits, (space12 s.x1 f.x1-fits, (space12 s.y1 f.y1-fits, (All-cons (λ b. nat_eq b 32 ≡ false) s.glyph [] (visible s e) (All-nil (λ b. nat_eq b 32 ≡ false)), tt)))))
+stroke_space s e = grind (arith, common_steps, lawful_stroke, space12, All-cons, visible, All-nil)
 
 kind_space : (kind : OpKind) → NoSpace (kind_word kind)
-kind_space kind = tested (kind_word kind) (every_kind (λ k. list_all other (kind_word k)) refl kind)
+kind_space kind = grind (arith, common_steps, tested, other)
 
 fields_space : (name : NameValue) (op : Op) → IsLawful name op → HasTarget op → NoSpaces (field_words op)
 fields_space name (Drawn figure s) lawful target = stroke_space s lawful
-fields_space name (Text x y text) lawful target = let t = lawful_text x y text lawful in (space12 x t.x-fits, (space12 y t.y-fits, NoSpaces-words (quoted text)))
+fields_space name (Text x y text) lawful target = grind (arith, common_steps, lawful_text, space12, NoSpaces-words)
 fields_space name (Aimed change t) lawful target = (space32 t.source target.0, (space32 t.seq target.1, tt))
 
 op_space : (name : NameValue) (op : Op) → IsLawful name op → HasTarget op → NoSpaces (op_words op)
 op_space name op lawful target = (kind_space (op_kind op), fields_space name op lawful target)
 
 name_space : (n : NameValue) (more : List (List ℕ)) → IsName n → NoSpaces more → NoSpaces (name_words n more)
-name_space n more fits h = (space32 n.source fits.source, (page_space n.page fits.page, (space32 n.seq fits.seq, h)))
+name_space n more fits h = grind (arith, common_steps, space32, page_space)
 
 pub words_spelled : (v : Datagram) → IsDatagram v → words (spelled v) ≡ word_list v
 words_spelled (Draw d) fits = words_joined (codes "draw") (name_words d.name (decimal d.time ∷ op_words d.op)) (tested (codes "draw") refl, name_space d.name (decimal d.time ∷ op_words d.op) fits.name (decimal_space d.time fits.time, op_space d.name d.op fits.lawful fits.target))
@@ -82,7 +81,7 @@ said_so line v e =
     (t.1, sym (joined_words line) ∙ ap joined t.0)
 
 pub read_again : (line : List ℕ) (v : Datagram) → Says line v → reading line ≡ Ok v
-read_again line v says = ap reading says.1 ∙ ap reading_of (words_spelled v says.0) ∙ reading_again v says.0
+read_again line v says = grind (arith, common_steps, words_spelled, reading_again)
 
 -- one line, one datagram
 pub one_spelling : (v w : Datagram) → IsDatagram v → IsDatagram w → spelled v ≡ spelled w → v ≡ w

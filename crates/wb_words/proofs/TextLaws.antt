@@ -1,11 +1,14 @@
 -- Texts in quotes: what is read is the text that was quoted, and what was quoted is read again.
+use Rattle.std.proofs.Common.{arith}
+use Rattle.std.proofs.lemmas.Grind.{common_steps}
+use Rattle.std.proofs.lemmas.Bool.Decides.{nat_tests}
 use Rattle.std.proofs.Common.{◌≡◌, ℕ, Bool, true, false, cond, Some, None, List, [], ◌∷◌, ◌++◌, length, refl, sym, ap, ◌∙◌, append_assoc, append-nil}
 use Rattle.std.specs.Prelude.{nat_eq, flat_map}
 use Rattle.std.proofs.lemmas.Bool.{eqb-true, or_from, or_parts}
 use Rattle.std.proofs.lemmas.List.{nil_from_length}
 use Rattle.wb_words.specs.Words.{is_special, text_after, text_in}
 use Rattle.wb_words.specs.Spelling.{escaped, quoted}
-use Rattle.wb_words.proofs.Parting.{chosen, some_is}
+use Rattle.wb_words.proofs.Splitting.{chosen, some_is}
 
 escaped_special : (b : ℕ) → is_special b ≡ true → escaped b ≡ 92 ∷ b ∷ []
 escaped_special b e = ap (λ (t : Bool). cond t (92 ∷ b ∷ []) (b ∷ [])) e
@@ -32,10 +35,7 @@ one_more passed b bytes text front e u = record {
 
 unquoted : (passed : List ℕ) (front : Bool) (bytes text : List ℕ) → text_after passed front bytes ≡ Some text → Unquoted passed front bytes text
 unquoted passed front [] text e = absurd cc
-unquoted passed true (b ∷ bytes) text e = by (unquoted (passed ++ b ∷ []) false bytes text) (is_special b) refl where
-  by : (text_after (passed ++ b ∷ []) false bytes ≡ Some text → Unquoted (passed ++ b ∷ []) false bytes text) → (t : Bool) → is_special b ≡ t → Unquoted passed true (b ∷ bytes) text
-  by later true h = one_more passed b bytes text true (sym (escaped_special b h)) (later ((chosen (is_special b) _ _ _ e).first h))
-  by later false h = let none = (chosen (is_special b) _ _ _ e).second h in absurd cc
+unquoted passed true (b ∷ bytes) text e = grind (arith, common_steps, nat_tests, one_more, escaped_special, chosen, unquoted (passed ++ b ∷ []) false bytes text)
 unquoted passed false (b ∷ bytes) text e = by (unquoted passed true bytes text) (unquoted (passed ++ b ∷ []) false bytes text) (nat_eq b 34) refl (nat_eq b 92) refl where
   closed : (t : Bool) → nat_eq (length bytes) 0 ≡ t → cond t (Some passed) None ≡ Some text → (bytes ≡ []) × (passed ≡ text)
   closed true h f = (nil_from_length bytes (eqb-true (length bytes) 0 h), some_is passed text f)
@@ -51,9 +51,7 @@ unquoted passed false (b ∷ bytes) text e = by (unquoted passed true bytes text
       let rest = slash ((chosen (nat_eq b 92) _ _ _ ((chosen (nat_eq b 34) _ _ _ e).second h)).first k) in
       let backslash : b ≡ 92 = eqb-true b 92 k in
       record { rest = rest.rest; is = rest.is; spelled = ap (λ c. c ∷ bytes) backslash ∙ rest.spelled }
-  by slash later false h false k =
-      let plain : is_special b ≡ false = or_from (nat_eq b 34) (nat_eq b 92) h k in
-      one_more passed b bytes text false (sym (escaped_plain b plain)) (later ((chosen (nat_eq b 92) _ _ _ ((chosen (nat_eq b 34) _ _ _ e).second h)).second k))
+  by slash later false h false k = grind (arith, common_steps, nat_tests, or_from, one_more, escaped_plain, chosen)
 
 pub text_takes : (bytes text : List ℕ) → text_in bytes ≡ Some text → bytes ≡ quoted text
 text_takes [] text e = absurd cc
@@ -72,7 +70,7 @@ quoted_again passed (b ∷ text) =
   where
     by : (rest : List ℕ) (t : Bool) → is_special b ≡ t → text_after passed false (escaped b ++ rest) ≡ text_after (passed ++ b ∷ []) false rest
     by rest true h = ap (λ t. text_after passed false (t ++ rest)) (escaped_special b h) ∙ rw h refl
-    by rest false h = let n = or_parts (nat_eq b 34) (nat_eq b 92) h in ap (λ t. text_after passed false (t ++ rest)) (escaped_plain b h) ∙ rw (n.0, n.1) refl
+    by rest false h = grind (arith, common_steps, nat_tests, or_parts, escaped_plain)
 
 pub text_again : (text : List ℕ) → text_in (quoted text) ≡ Some text
 text_again text = quoted_again [] text

@@ -22,7 +22,7 @@ use Rattle.wb_words.specs.declared.fault.WordFault.TheVariants as faults
 use Rattle.wb_words.specs.declared.fault.WrongWord.{WrongWord}
 use Rattle.wb_words.specs.declared.fault.WordsFault.{WordsFault}
 use Rattle.wb_words.specs.declared.fault.WordsFault.TheVariants as words_faults
-use Rattle.wb_words.specs.Words.{words, joined, parted, most32, most64, number_in, page_in, glyph_in, mark_in, echo_in, text_in}
+use Rattle.wb_words.specs.Words.{words, joined, split_once, most32, most64, number_in, page_in, glyph_in, mark_in, echo_in, text_in}
 use Rattle.wb_words.specs.Spelling.{kind_word}
 
 infixl 10 ◌>>=◌
@@ -190,7 +190,7 @@ echo_at place before word = do
 
 -- an echo has an `@`
 abbrev pub is_echo : List ℕ → Bool
-is_echo word = is_some (parted 64 word)
+is_echo word = is_some (split_once 64 word)
 
 -- the marks before the first echo
 abbrev pub marks_at : ℕ → List (List ℕ) → Result (List MarkValue) WrongWord

@@ -24,12 +24,12 @@ abbrev pub ◌>>=◌ : {A B : Type 0} → Option A → (A → Option B) → Opti
 None >>= f = None
 
 -- what stands before and after the first byte that is the mark, where some bytes before it have been passed
-abbrev pub parted_after : List ℕ → ℕ → List ℕ → Option (List ℕ × List ℕ)
-parted_after passed mark [] = None
-parted_after passed mark (b ∷ bytes) = if nat_eq b mark then Some (passed, bytes) else parted_after (passed ++ b ∷ []) mark bytes
+abbrev pub split_after : List ℕ → ℕ → List ℕ → Option (List ℕ × List ℕ)
+split_after passed mark [] = None
+split_after passed mark (b ∷ bytes) = if nat_eq b mark then Some (passed, bytes) else split_after (passed ++ b ∷ []) mark bytes
 
-abbrev pub parted : ℕ → List ℕ → Option (List ℕ × List ℕ)
-parted mark word = parted_after [] mark word
+abbrev pub split_once : ℕ → List ℕ → Option (List ℕ × List ℕ)
+split_once mark word = split_after [] mark word
 
 -- the number up to a greatest one whose decimal digits are the word: no sign, no zero in front
 unfoldable pub number_in : ℕ → List ℕ → Option ℕ
@@ -47,13 +47,19 @@ most32 = 2 ^ 32 - 1
 abbrev pub most64 : ℕ
 most64 = 2 ^ 64 - 1
 
+-- two numbers of 32 bits, with the mark between them
+unfoldable pub pair_in : ℕ → List ℕ → Option (ℕ × ℕ)
+pair_in mark word = do
+  parts ← split_once mark word
+  first ← number_in most32 parts.0
+  second ← number_in most32 parts.1
+  Some (first, second)
+
 -- `CREATOR/NUMBER`
 unfoldable pub page_in : List ℕ → Option PageId
 page_in word = do
-  parts ← parted 47 word
-  creator ← number_in most32 parts.0
-  number ← number_in most32 parts.1
-  Some (record { creator = creator; number = number })
+  pair ← pair_in 47 word
+  Some (record { creator = pair.0; number = pair.1 })
 
 -- one byte
 abbrev pub glyph_in : List ℕ → Option ℕ
@@ -64,16 +70,14 @@ glyph_in (b ∷ c ∷ bytes) = None
 -- `SOURCE=HIGH`
 unfoldable pub mark_in : List ℕ → Option MarkValue
 mark_in word = do
-  parts ← parted 61 word
-  source ← number_in most32 parts.0
-  high ← number_in most32 parts.1
-  Some (record { source = source; high = high })
+  pair ← pair_in 61 word
+  Some (record { source = pair.0; high = pair.1 })
 
 -- `SOURCE@SENT+HELD`
 unfoldable pub echo_in : List ℕ → Option Echo
 echo_in word = do
-  parts ← parted 64 word
-  moments ← parted 43 parts.1
+  parts ← split_once 64 word
+  moments ← split_once 43 parts.1
   source ← number_in most32 parts.0
   sent ← number_in most64 moments.0
   held ← number_in most64 moments.1

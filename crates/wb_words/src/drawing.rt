@@ -55,6 +55,7 @@ fn figure_of(figure: Figure, name: Name, time: u64, rest: Rest<'_>) -> Result<Dr
 }
 
 /// The text in quotes that all words from a place on are.
+#[tactic(auto, using(crate::proofs::Splitting::text_words))]
 fn text_of(alloc: Global, place: u32, rest: Rest<'_>) -> Result<Vec<u8>, WordsFault>
     ensures { MayGive (λ text. text.items) result (text_at place (words_left rest.entry)) }
 {

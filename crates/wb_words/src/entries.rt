@@ -3,15 +3,15 @@
 ghost use Rattle.std.specs.Prelude.{◌≡◌, ◌≤◌, ◌∷◌, ◌++◌, ℕ, Bool, true, false, List, Option, Result, None, IfOk, OnOk, option_map, map};
 ghost use Rattle.wb_names.specs.Ascending.{is_above as above};
 ghost use Rattle.wb_words.specs.declared.fault.WrongWord.{WrongWord as WrongWordValue};
-ghost use Rattle.wb_words.specs.Words.{mark_in as mark_in_word, echo_in as echo_in_word};
+ghost use Rattle.wb_words.specs.Words.{echo_in as echo_in_word};
 ghost use Rattle.wb_words.specs.Rests.{words_left};
 ghost use Rattle.wb_words.specs.Spelling.{mark_word, echo_word, tailed};
 ghost use Rattle.wb_words.specs.Reading.{MayGive, mark_at, echo_at, is_echo, left_at, entries_at};
 
 use crate::fault::{WordFault, WordsFault, WrongWord};
-use crate::fields::u32_in;
+use crate::fields::{pair_in, u32_in};
 use crate::number::number_in;
-use crate::rest::{Rest, first_word, parted};
+use crate::rest::{Rest, first_word, split_once};
 use std::alloc::{AllocError, Global};
 use wb_names::{Echo, Entries, Entry, MAX_ENTRIES, Mark};
 
@@ -41,29 +41,12 @@ pub(crate) trait Worded: Entry {
         ensures { OnOk result (out.new.items ≡ out.old.items ++ 32 ∷ entry_word self.now) };
 }
 
-/// The fields of a mark, whose number may be 0.
-#[derive(Clone, Copy)]
-struct MarkFields {
-    source: u32,
-    high: u32,
-}
-
-#[tactic(auto, unfolding(crate::specs::Words::mark_in))]
-fn mark_in(word: &[u8]) -> Option<MarkFields>
-    ensures { option_map (λ m. record { source = m.source; high = m.high }) result ≡ mark_in_word word.now }
-{
-    let (source, high) = parted(word, b'=')?;
-    let source = u32_in(source)?;
-    let high = u32_in(high)?;
-    Some(MarkFields { source, high })
-}
-
 #[tactic(auto, unfolding(crate::specs::Words::echo_in))]
 fn echo_in(word: &[u8]) -> Option<Echo>
     ensures { result ≡ echo_in_word word.now }
 {
-    let (source, moments) = parted(word, b'@')?;
-    let (sent, held) = parted(moments, b'+')?;
+    let (source, moments) = split_once(word, b'@')?;
+    let (sent, held) = split_once(moments, b'+')?;
     let source = u32_in(source)?;
     let sent = number_in(sent, u64::MAX)?;
     let held = number_in(held, u64::MAX)?;
@@ -77,12 +60,12 @@ impl Worded for Mark {
 
     ghost entry_word = { mark_word };
 
-    #[tactic(auto, unfolding(crate::specs::Reading::mark_at))]
+    #[tactic(auto, unfolding(crate::specs::Reading::mark_at, crate::specs::Words::mark_in))]
     fn read(place: u32, before: Option<u32>, word: &[u8]) -> Result<Mark, WrongWord> {
-        let Some(fields) = mark_in(word) else {
+        let Some((source, high)) = pair_in(word, b'=') else {
             return Err(WordFault::Mark.at(place));
         };
-        match Mark::new(fields.source, fields.high) {
+        match Mark::new(source, high) {
             Ok(mark) => {
                 if mark.is_above(before) {
                     Ok(mark)
@@ -96,7 +79,7 @@ impl Worded for Mark {
 
     /// An echo ends a list of marks, by its `@`.
     fn ends(word: &[u8]) -> bool {
-        parted(word, b'@').is_some()
+        split_once(word, b'@').is_some()
     }
 
     fn put(&self, alloc: Global, out: &mut Vec<u8>) -> Result<(), AllocError> {

@@ -1,13 +1,13 @@
 //! The fields of a datagram from words.
 
 ghost use Rattle.std.specs.Prelude.{◌≡◌, ◌≤◌, IfOk};
-ghost use Rattle.wb_words.specs.Words.{number_in, page_in as page_in_word, most32, most64};
+ghost use Rattle.wb_words.specs.Words.{number_in, pair_in, most32, most64};
 ghost use Rattle.wb_words.specs.Rests.{words_left};
 ghost use Rattle.wb_words.specs.Reading.{Gives, number_at, page_at, glyph_at, name_at, named};
 
 use crate::fault::{WordFault, WrongWord};
 use crate::number::number_in;
-use crate::rest::{Rest, next_word, parted};
+use crate::rest::{Rest, next_word, split_once};
 use wb_names::{Name, PageId};
 
 // Each of these reads a field from the word at a place, and gives what follows it.
@@ -56,24 +56,23 @@ pub(crate) fn u32_in(word: &[u8]) -> Option<u32>
     Some(number as u32)
 }
 
-#[tactic(auto, unfolding(crate::specs::Words::page_in))]
-fn page_in(word: &[u8]) -> Option<PageId>
-    ensures { result ≡ page_in_word word.now }
+/// The two numbers of 32 bits that a word is, with the mark between them.
+#[tactic(auto, unfolding(crate::specs::Words::pair_in))]
+pub(crate) fn pair_in(word: &[u8], mark: u8) -> Option<(u32, u32)>
+    ensures { result ≡ pair_in mark word.now }
 {
-    let (creator, number) = parted(word, b'/')?;
-    let creator = u32_in(creator)?;
-    let number = u32_in(number)?;
-    Some(PageId { creator, number })
+    let (first, second) = split_once(word, mark)?;
+    Some((u32_in(first)?, u32_in(second)?))
 }
 
 /// A page.
-#[tactic(auto, unfolding(crate::specs::Reading::page_at))]
+#[tactic(auto, unfolding(crate::specs::Reading::page_at, crate::specs::Words::page_in))]
 pub(crate) fn page_of(place: u32, rest: Rest<'_>) -> Result<(PageId, Rest<'_>), WrongWord>
     ensures { Gives (λ x. (x.0, words_left x.1)) result (page_at place (words_left rest.entry)) }
 {
     let (word, rest) = next_word(place, rest)?;
-    match page_in(word) {
-        Some(page) => Ok((page, rest)),
+    match pair_in(word, b'/') {
+        Some((creator, number)) => Ok((PageId { creator, number }, rest)),
         None => Err(WordFault::Page.at(place)),
     }
 }

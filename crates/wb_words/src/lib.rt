@@ -20,5 +20,5 @@ mod writing;
 pub use fault::{WordFault, WordsFault, WrongWord};
 pub use fault_text::wrong_text;
 pub use reading::read_words;
-pub use rest::parted;
+pub use rest::split_once;
 pub use writing::write_words;

@@ -2,7 +2,7 @@
 
 ghost use Rattle.std.specs.Prelude.{◌≡◌, ◌∷◌};
 ghost use Rattle.std.specs.Option.{option_map};
-ghost use Rattle.wb_words.specs.Words.{words, parted};
+ghost use Rattle.wb_words.specs.Words.{words, split_once};
 ghost use Rattle.wb_words.specs.Rests.{words_left};
 ghost use Rattle.wb_words.specs.Reading.{Gives, word_at, end_at};
 
@@ -18,8 +18,8 @@ pub(crate) enum Rest<'a> {
 }
 
 /// What stands before and after the first byte that is the mark.
-pub fn parted(bytes: &[u8], mark: u8) -> Option<(&[u8], &[u8])>
-    ensures { option_map (λ x. (x.0.now, x.1.now)) result ≡ parted mark bytes.now }
+pub fn split_once(bytes: &[u8], mark: u8) -> Option<(&[u8], &[u8])>
+    ensures { option_map (λ x. (x.0.now, x.1.now)) result ≡ split_once mark bytes.now }
 {
     for (place, byte) in bytes.iter().enumerate() {
         if *byte == mark {
@@ -30,10 +30,11 @@ pub fn parted(bytes: &[u8], mark: u8) -> Option<(&[u8], &[u8])>
 }
 
 /// The first word of some bytes, and what follows it.
+#[tactic(auto, using(crate::proofs::Splitting::words_split_once, crate::proofs::Splitting::words_whole))]
 pub(crate) fn first_word(bytes: &[u8]) -> (&[u8], Rest<'_>)
     ensures { words bytes.now ≡ result.0.now ∷ words_left result.1 }
 {
-    match parted(bytes, b' ') {
+    match split_once(bytes, b' ') {
         Some((word, after)) => (word, Rest::Words(after)),
         None => (bytes, Rest::End),
     }

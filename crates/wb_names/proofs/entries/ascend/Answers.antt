@@ -1,4 +1,5 @@
-use Rattle.std.proofs.Common.{◌≡◌, ◌-◌, length, ap, arith, subst}
+use Rattle.std.proofs.lemmas.Grind.{common_steps}
+use Rattle.std.proofs.Common.{◌≡◌, length, arith, subst}
 use Rattle.std.proofs.lemmas.List.{get_or_read}
 use Rattle.wb_names.proofs.Ascents.{Climbs, climb, climbed, descends_read}
 use Rattle.wb_names.proofs.entries.ascend.Goals as goal
@@ -8,14 +9,7 @@ pub returns-then-source : goal.returns-then-source
 returns-then-source g c = descends_read g.E.Entry.source _ c.loop-place.place _ _ (omega arith) (omega arith) c.index-entries-place.is c.index-entries-place-then-place-gt0.is (omega (arith, c.source-source.ensures.source, c.source.ensures.source))
 
 pub loop-place-preserved : goal.loop-place-preserved
-loop-place-preserved g c =
-    climb g.E.Entry.source g.E.Entry.IsPositive c.args.entries.now c.loop-place.place _ (omega arith) c.loop-place.invariant c.index-entries-place.is c.source-source.ensures.positive (λ d pos.
-    elim c.else-place-gt0.branch [
-      | else-place-gt0-via-then-place-gt0+else-source w ↦
-          let read = ap g.E.Entry.source (get_or_read c.args.entries.now (c.loop-place.place - 1) w.index-entries-place-then-place-gt0.result (omega arith) w.index-entries-place-then-place-gt0.is d) in
-          omega (arith, read, w.source.ensures.source, c.source-source.ensures.source)
-      | else-place-gt0-via-else-place-gt0 w ↦ omega arith
-    ])
+loop-place-preserved g c = grind (arith, common_steps, climb, get_or_read)
 
 pub returns : goal.returns
 returns g c =

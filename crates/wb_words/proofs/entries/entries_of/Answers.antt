@@ -1,19 +1,14 @@
-use Rattle.std.proofs.Common.{◌≡◌, ◌<◌, ◌≤◌, ◌+◌, ℕ, length, sym, ap, ◌∙◌, arith, Ok}
+use Rattle.std.proofs.lemmas.Grind.{common_steps}
+use Rattle.std.proofs.Common.{◌≡◌, ◌<◌, ◌+◌, ℕ, length, sym, ap, ◌∙◌, arith}
 use Rattle.std.proofs.lemmas.Result.{err_from_is_err_and}
 use Rattle.wb_codec.proofs.EntryLists.{ascends_more}
-use Rattle.wb_words.specs.declared.fault.WordFault.TheVariants.{TooMany}
 use Rattle.wb_words.specs.Rests.{words_left}
-use Rattle.wb_words.specs.Reading.{wrong}
 use Rattle.wb_words.proofs.EntryLists.{read_pushed, read_stops, read_many, read_all, read_until}
 use Rattle.wb_words.proofs.entries.entries_of.Goals as goal
 use Rattle.wb_words.proofs.entries.entries_of.Goals.{in-Words+then-ends, in_default}
 
 pub returns-then-len-eq-MAX_ENTRIES : goal.returns-then-len-eq-MAX_ENTRIES
-returns-then-len-eq-MAX_ENTRIES g c =
-    let is = ap words_left c.in-Words.is ∙ c.first_word.ensures in
-    let count : length c.loop-left.entries.items ≡ c.len.result = omega (arith, c.len.ensures, c.loop-left.entries.ok) in
-    let many : 65535 ≤ length c.loop-left.entries.items = omega (arith, c.len-in-Words.ensures, c.loop-left.entries.ok) in
-    rw c.at.ensures (read_many g.E.Worded.entry_at g.E.Entry.source g.E.Worded.stops _ _ _ _ _ _ _ c.loop-left.invariant.read is (sym c.ends.ensures ∙ c.if-ends.false) many ∙ ap (λ (n : ℕ). wrong (c.args.place + n) TooMany) count)
+returns-then-len-eq-MAX_ENTRIES g c = grind (arith, common_steps, read_many)
 
 pub returns-in_err-entry : goal.returns-in_err-entry
 returns-in_err-entry g c =
@@ -34,9 +29,4 @@ loop-left-preserved g c =
     }
 
 pub returns : goal.returns
-returns g c = elim c.match-left.branch [
-  | in-Words+then-ends w ↦
-      let is = ap words_left w.in-Words.is ∙ w.first_word.ensures in
-      read_until g.E.Worded.entry_at g.E.Entry.source g.E.Worded.stops _ _ _ _ _ _ _ c.loop-left.invariant.read is (sym w.ends.ensures ∙ w.if-ends.true) ∙ ap (λ l. Ok l) (sym c.from_ascending.ensures)
-  | in_default w ↦ read_all g.E.Worded.entry_at g.E.Entry.source g.E.Worded.stops _ _ _ _ _ c.loop-left.invariant.read (ap words_left w.in_default.is) ∙ ap (λ l. Ok l) (sym c.from_ascending.ensures)
-]
+returns g c = grind (arith, common_steps, read_until, read_all)

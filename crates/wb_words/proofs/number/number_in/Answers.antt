@@ -1,10 +1,11 @@
-use Rattle.std.proofs.Common.{◌<◌, ◌+◌, ◌-◌, ◌*◌, get_or, refl, sym, ◌∙◌, arith}
+use Rattle.std.proofs.lemmas.Grind.{common_steps}
+use Rattle.std.proofs.Common.{◌<◌, ◌+◌, ◌-◌, ◌*◌, get_or, refl, sym, arith}
 use Rattle.std.proofs.lemmas.Bool.Decides.{nat_tests}
 use Rattle.wb_words.proofs.Numerals.{not_plain, walked_stops, walked_past, walked_all, not_digit, a_digit}
 use Rattle.wb_words.proofs.number.number_in.Goals as goal
 
 pub returns-then-not-is_plain-clause-value : goal.returns-then-not-is_plain-clause-value
-returns-then-not-is_plain-clause-value c = sym (not_plain c.args.most c.args.word.now (omega arith) (sym c.is_plain.ensures ∙ c.if-not-is_plain.true))
+returns-then-not-is_plain-clause-value c = grind (arith, common_steps, not_plain)
 
 pub returns-then-not-is_ascii_digit-clause-value : goal.returns-then-not-is_ascii_digit-clause-value
 returns-then-not-is_ascii_digit-clause-value c =
@@ -25,11 +26,7 @@ returns-in_err-value-clause-value c =
     rw c.from_residual-in_err-value.ensures (sym (walked_past c.args.most c.args.word.now c.loop-byte.byte-index c.loop-byte.value b (omega arith) c.loop-byte.invariant.0 c.loop-byte-test.true refl digit.0 digit.1 large))
 
 pub returns-then-value-most-clause-value : goal.returns-then-value-most-clause-value
-returns-then-value-most-clause-value c =
-    let whole = walked_all c.args.most c.args.word.now c.loop-byte.byte-index c.loop-byte.value c.loop-byte.invariant.1 c.loop-byte.invariant.0 c.loop-byte-test.false (sym c.is_plain.ensures ∙ c.if-not-is_plain.false) in
-    sym (whole ∙ grind (arith, nat_tests))
+returns-then-value-most-clause-value c = grind (arith, common_steps, walked_all, nat_tests)
 
 pub returns-else-value-most-clause-value : goal.returns-else-value-most-clause-value
-returns-else-value-most-clause-value c =
-    let whole = walked_all c.args.most c.args.word.now c.loop-byte.byte-index c.loop-byte.value c.loop-byte.invariant.1 c.loop-byte.invariant.0 c.loop-byte-test.false (sym c.is_plain.ensures ∙ c.if-not-is_plain.false) in
-    sym (whole ∙ grind (arith, nat_tests))
+returns-else-value-most-clause-value c = grind (arith, common_steps, walked_all, nat_tests)

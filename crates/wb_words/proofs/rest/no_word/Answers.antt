@@ -1,6 +1,6 @@
 use Rattle.std.proofs.Common.{ap}
 use Rattle.wb_words.specs.Reading.{end_at}
-use Rattle.wb_words.proofs.Parting.{has_word}
+use Rattle.wb_words.proofs.Splitting.{has_word}
 use Rattle.wb_words.proofs.rest.no_word.Goals as goal
 
 pub returns-in-Words : goal.returns-in-Words

@@ -1,20 +1,14 @@
+use Rattle.std.proofs.lemmas.Grind.{common_steps}
 use Rattle.wb_history.specs.Sizes.{row_words, member_steps}
-use Rattle.std.proofs.Common.{◌+◌, [], ◌++◌, arith, subst, Option}
+use Rattle.std.proofs.Common.{◌+◌, ◌++◌, arith, subst, Option}
 use Rattle.wb_history.specs.declared.claim.Claim.{Claim}
 use Rattle.wb_history.specs.Cursors.{Sought}
 use Rattle.wb_history.proofs.Lists.{at-lt}
-use Rattle.wb_history.proofs.Walks.{stay, answered, walk_on, answer_on, free_end}
+use Rattle.wb_history.proofs.Walks.{answered, walk_on, answer_on, free_end}
 use Rattle.wb_history.proofs.cells.CellTable.claim_with.Goals as goal
 
-pub returns-in-Some-clause-done : goal.returns-in-Some-clause-done
-returns-in-Some-clause-done c =
-    let a = c.in-Some.ensures in
-    (0, (omega arith), answered c.args.cursor.now c.args.drawop.now 0 c.args.cursor.now c.in-Some.claim [] (stay c.args.cursor.now c.requires.cursor.1) a)
-
 pub returns-in-Ok-Some-clause-done : goal.returns-in-Ok-Some-clause-done
-returns-in-Ok-Some-clause-done c =
-    let s = subst (λ (o : Option Claim). Sought c.args.self.now.cells c.args.cursor.now c.args.drawop.now c.seek.new.cursor o) c.in-Ok-Some.field-0-is c.in-Ok-Some.ensures.done in
-    (0, (omega arith), answered c.args.cursor.now c.args.drawop.now 0 c.seek.new.cursor c.in-Ok-Some.claim s.0 s.1 s.2)
+returns-in-Ok-Some-clause-done c = grind (arith, common_steps, answered)
 
 pub returns-in-Ok-clause-done : goal.returns-in-Ok-clause-done
 returns-in-Ok-clause-done c =

@@ -1,8 +1,8 @@
-use Rattle.std.proofs.Common.{◌≡◌, ◌∙◌, ◌-◌, [], ◌∷◌, refl, subst, arith, length-set, Some, None}
+use Rattle.std.proofs.lemmas.Grind.{common_steps}
+use Rattle.std.proofs.Common.{◌≡◌, ◌∙◌, ◌-◌, arith, Some}
 use Rattle.wb_history.proofs.Keeps.{reads_word, reads_last}
-use Rattle.wb_history.proofs.Rows.{read_none, read_one, read_all, read_row_is, length-some}
+use Rattle.wb_history.proofs.Rows.{read_all, read_row_is, length-some}
 use Rattle.wb_names.specs.Values.{DrawopValue}
-use Rattle.wb_history.specs.Views.{IsMember}
 use Rattle.wb_history.proofs.cells.CellTable.read_row.Goals as goal
 
 pub load-requires : goal.load-requires
@@ -36,34 +36,11 @@ load-requires-2 c =
     let done = length-some _ _ _ s.read (omega arith) in
     (i.0.0 ∙ c.requires.seat.0, omega arith, reads_last _ _ _ _ _ (omega arith) (omega arith) (omega arith) (let back : c.loop-i.seat.me.0.looking - 1 ≡ c.args.row = omega arith in omega arith))
 
-pub loop-i-init : goal.loop-i-init
-loop-i-init c = ((refl, refl, refl), refl, read_none _ (0 ∷ 0 ∷ 0 ∷ []) c.requires.row.2)
-
-pub loop-i-preserved : goal.loop-i-preserved
-loop-i-preserved c =
-    let i = c.loop-i.invariant in
-    let e = c.load.ensures in
-    let wide = i.1 in
-    ((e.0 ∙ i.0.0, e.1 ∙ i.0.1, e.2.0 ∙ i.0.2), length-set c.loop-i.words c.loop-i.i c.load.result ∙ i.1, read_one _ _ _ _ _ _ _ (omega arith) i.2 e.2.1)
-
 pub unreachable-requires : goal.unreachable-requires
-unreachable-requires c =
-    let i = c.loop-i.invariant in
-    let m = c.load-2.ensures.2.1 in
-    let f = c.loop-i-test.false in
-    no_other m.0 (c.in-None.ensures.only m.0 m.2 (read_row_is c.loop-i.seat.me.0 _ _ _ c.loop-i.i (omega arith) i.1 i.2.read m.1))
-  where
-    no_other : (d : DrawopValue) → None ≡ Some d → ⊥
-    no_other d e = cc
+unreachable-requires c = grind (arith, common_steps, read_row_is)
 
 same_some : (d e : DrawopValue) → Some e ≡ Some d → d ≡ e
 same_some d e h = cc
 
 pub returns : goal.returns
-returns c =
-    let i = c.loop-i.invariant in
-    let e = c.load-2.ensures in
-    let m = e.2.1 in
-    let f = c.loop-i-test.false in
-    let same = same_some m.0 c.in-Some.drawop (c.in-Some.ensures.only m.0 m.2 (read_row_is c.loop-i.seat.me.0 _ _ _ c.loop-i.i (omega arith) i.1 i.2.read m.1)) in
-    record { seat = (e.0 ∙ i.0.0, e.1 ∙ i.0.1, e.2.0 ∙ i.0.2); member = (subst (λ (d : DrawopValue). IsMember c.args.seat.now.me.0 d c.load-2.new.seat.me.0) same (read_all _ _ _ _ _ _ c.loop-i.i m.0 (omega arith) i.1 i.2 m.3), c.in-Some.ensures.found.1, e.2.2) }
+returns c = grind (arith, common_steps, same_some, read_row_is, read_all)

@@ -1,6 +1,6 @@
-use Rattle.std.proofs.Common.{◌∙◌, refl, arith}
+use Rattle.std.proofs.Common.{◌∙◌, arith}
 use Rattle.wb_history.proofs.Keeps.{stores_word}
-use Rattle.wb_history.proofs.Rows.{store_none, store_one, store_all, last_free, length-some}
+use Rattle.wb_history.proofs.Rows.{last_free, length-some}
 use Rattle.wb_history.proofs.cells.CellTable.store_row.Goals as goal
 
 pub store-requires : goal.store-requires
@@ -17,16 +17,3 @@ store-requires c =
     let wide = c.to_row-words.ensures.len in
     let done = length-some _ _ _ s.stored (omega arith) in
     (i.0.0 ∙ c.requires.seat.0, omega arith, stores_word _ _ _ _ _ _ c.args.row (omega arith) (last_free _ _ c.args.row s.free r.1) (omega arith) (omega arith))
-
-pub loop-i-init : goal.loop-i-init
-loop-i-init c = ((refl, refl, refl), store_none _ c.to_row-words.result c.requires.row.2, c.requires.consistent)
-
-pub loop-i-preserved : goal.loop-i-preserved
-loop-i-preserved c =
-    let i = c.loop-i.invariant in
-    let e = c.store.ensures in
-    let wide = c.to_row-words.ensures.len in
-    ((e.0 ∙ i.0.0, e.1 ∙ i.0.1, e.2.0 ∙ i.0.2), store_one _ _ _ _ _ _ (omega arith) i.1 e.2.1, e.2.2)
-
-pub returns : goal.returns
-returns c = let i = c.loop-i.invariant in let f = c.loop-i-test.false in record { seat = i.0; stored = (store_all _ _ _ c.args.drawop.now c.loop-i.i (omega arith) c.to_row-words.ensures.«record» i.1, i.2); lawful = c.to_row-words.ensures.drawop }

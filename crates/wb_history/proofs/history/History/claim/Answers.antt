@@ -1,38 +1,23 @@
-use Rattle.std.proofs.Common.{refl, sym, ap, ◌∙◌, subst, MatchResult}
+use Rattle.std.proofs.Common.{arith}
+use Rattle.std.proofs.lemmas.Grind.{common_steps}
+use Rattle.std.proofs.Common.{subst}
 use mathlib.Core.List.{IsPrefix}
 use Rattle.wb_history.specs.Passes.{PassValue}
-use Rattle.wb_history.specs.Replies.{Claimed, NotClaimed, ClaimSteps, FaultSteps}
-use Rattle.wb_names.specs.History.{HoldsName}
-use Rattle.wb_history.proofs.Fronts.{fronts_on}
-use Rattle.wb_history.specs.Shown.{view_of}
-use Rattle.wb_history.proofs.Shows.{from_there, shown, shown_steps, fresh, sits, sound, held_after}
+use Rattle.wb_history.proofs.Shows.{shown, sits, sound, pass_on, held_after}
 use Rattle.wb_history.proofs.history.History.claim.Goals as goal
 
 pub invariant_of-pass : goal.invariant_of-pass
 invariant_of-pass c =
-    let on = held_after c.self.inside.cells.cells (record c.pass.inside.cursor { steps = 0 }) c.args.drawop.now c.claim_with.new.cursor c.claim_with.result (fresh c.pass.inside.cursor c.pass.invariant.0) c.claim_with.ensures.done in
-    (on.0, c.pass.invariant.1 ∙ sym on.1, fronts_on c.pass.inside.spares.items c.pass.inside.cursor.seen.items c.claim_with.new.cursor.seen.items on.2 c.pass.invariant.2)
+    pass_on c.pass.inside.spares.items c.pass.inside.cells c.pass.inside.cursor c.claim_with.new.cursor c.pass.invariant
+    (held_after c.self.inside.cells.cells c.pass.inside.cursor c.args.drawop.now c.claim_with.new.cursor c.claim_with.result c.pass.invariant.0 c.claim_with.ensures.done)
 
 pub returns-clause-sound : goal.returns-clause-sound
 returns-clause-sound c = sound c.claim_with.new.cursor (invariant_of-pass c).0
 
 pub returns-clause-grows : goal.returns-clause-grows
 returns-clause-grows c =
-    let on = held_after c.self.inside.cells.cells (record c.pass.inside.cursor { steps = 0 }) c.args.drawop.now c.claim_with.new.cursor c.claim_with.result (fresh c.pass.inside.cursor c.pass.invariant.0) c.claim_with.ensures.done in
+    let on = held_after c.self.inside.cells.cells c.pass.inside.cursor c.args.drawop.now c.claim_with.new.cursor c.claim_with.result c.pass.invariant.0 c.claim_with.ensures.done in
     subst (λ (p : PassValue). IsPrefix p.seen c.claim_with.new.cursor.seen.items) c.pass.view_is on.2
 
 pub returns-clause-answer : goal.returns-clause-answer
-returns-clause-answer c =
-    let at = sits c.self.inside.cells c.pass.inside.cursor c.self.view_is c.pass.view_is c.pass.invariant.0 c.requires.pass in
-    let s = shown c.self.inside.cells.cells (record c.pass.inside.cursor { steps = 0 }) c.args.drawop.now c.claim_with.new.cursor c.claim_with.result (fresh c.pass.inside.cursor c.pass.invariant.0).0 at.1 c.claim_with.ensures.done in
-    subst (λ (p : PassValue). MatchResult c.claim_with.result (Claimed p c.args.drawop.now (view_of c.claim_with.new.cursor)) (NotClaimed p c.args.drawop.now (view_of c.claim_with.new.cursor))) c.pass.view_is (from_there (view_of c.pass.inside.cursor) 0 c.args.drawop.now (view_of c.claim_with.new.cursor) c.claim_with.result s.1)
-
-pub returns-clause-few_steps : goal.returns-clause-few_steps
-returns-clause-few_steps c =
-    let s = shown_steps c.self.inside.cells.cells (record c.pass.inside.cursor { steps = 0 }) c.args.drawop.now c.claim_with.new.cursor c.claim_with.result refl c.claim_with.ensures.done in
-    subst (λ (p : PassValue). MatchResult c.claim_with.result (ClaimSteps p (view_of c.claim_with.new.cursor)) (FaultSteps p (view_of c.claim_with.new.cursor))) c.pass.view_is s
-
-pub returns-clause-known : goal.returns-clause-known
-returns-clause-known c held =
-    let known = c.claim_with.ensures.known (subst (λ (p : PassValue). HoldsName p.seen c.args.drawop.now.name) (sym c.pass.view_is) held) in
-    (known.0, ap view_of known.1 ∙ ap (λ (p : PassValue). record p { steps = 0 }) c.pass.view_is)
+returns-clause-answer c = grind (arith, common_steps, sits, shown)

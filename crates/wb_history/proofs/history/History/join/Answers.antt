@@ -1,5 +1,6 @@
-use Rattle.std.proofs.Common.{◌∙◌, refl, sym, subst}
-use Rattle.wb_history.specs.Passes.{IsSound}
+use Rattle.std.proofs.Common.{arith}
+use Rattle.std.proofs.lemmas.Grind.{common_steps}
+use Rattle.std.proofs.Common.{◌∙◌, refl, sym}
 use Rattle.wb_history.proofs.Fronts.{fronts_on}
 use Rattle.wb_history.proofs.Shows.{sound, sound_pass, held_on}
 use Rattle.wb_history.proofs.Unions.{joined, same_view}
@@ -19,14 +20,10 @@ returns-clause-joined c =
     joined c.args.pass.now c.args.other _ c.other.inside.cursor c.take_in-shorter.new.cursor (p ∙ c.pass.view_is) c.other.view_is c.other.invariant.0.0 c.take_in-shorter.ensures.united
 
 pub returns-then-is_err-clause-sound : goal.returns-then-is_err-clause-sound
-returns-then-is_err-clause-sound c =
-    let same = same_view (record c.pass.inside.cursor { mine = c.reserve.new.self }) c.pass.inside.cursor refl refl c.reserve.ensures.items refl refl in
-    (subst IsSound (sym same) (sound c.pass.inside.cursor c.pass.invariant.0), sound_pass c.other.inside.cursor c.other.view_is c.other.invariant.0)
+returns-then-is_err-clause-sound c = grind (arith, common_steps, same_view, sound, sound_pass)
 
 pub returns-then-is_err-2-clause-sound : goal.returns-then-is_err-2-clause-sound
-returns-then-is_err-2-clause-sound c =
-    let same = same_view (record c.pass.inside.cursor { mine = c.reserve.new.self; free = c.reserve-2.new.self }) c.pass.inside.cursor refl refl c.reserve.ensures.items c.reserve-2.ensures.items refl in
-    (subst IsSound (sym same) (sound c.pass.inside.cursor c.pass.invariant.0), sound_pass c.other.inside.cursor c.other.view_is c.other.invariant.0)
+returns-then-is_err-2-clause-sound c = grind (arith, common_steps, same_view, sound, sound_pass)
 
 pub returns-clause-sound : goal.returns-clause-sound
 returns-clause-sound c = (sound c.take_in-shorter.new.cursor (invariant_of-pass-2 c).0, tt)

@@ -1,4 +1,5 @@
-use Rattle.std.proofs.Common.{length, refl, sym, ap, ◌∙◌, arith}
+use Rattle.std.proofs.lemmas.Grind.{common_steps}
+use Rattle.std.proofs.Common.{sym, ap, arith}
 use Rattle.atomic_table.specs.Table.{Me}
 use Rattle.wb_names.specs.Values.{DrawopValue}
 use Rattle.wb_history.specs.declared.knowledge.Knowledge.{Knowledge}
@@ -22,7 +23,4 @@ invariant_of-pass c =
     )
 
 pub returns-clause-opened : goal.returns-clause-opened
-returns-clause-opened c =
-    let m = c.in-Ok-make.ensures in
-    let cells = ap (λ (x : Me DrawopValue Knowledge). x.0.cells) m.2 in
-    record { pass = m.1; sized = (m.0, cells); seen = c.new.ensures; mine = c.new-2.ensures.items; free = ap length c.in-Ok.ensures ∙ length-range_with_len 0 c.args.cells; steps = refl; sound = sound (record { seat = c.in-Ok-make.seat; seen = c.new.result; mine = c.new-2.result; free = c.in-Ok.free; steps = 0 }) (invariant_of-pass c).0 }
+returns-clause-opened c = grind (arith, common_steps, length-range_with_len, sound, invariant_of-pass)

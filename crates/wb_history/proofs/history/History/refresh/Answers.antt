@@ -1,19 +1,16 @@
-use Rattle.std.proofs.Common.{sym, ◌∙◌, arith, ⊎_elim}
-use Rattle.wb_history.proofs.Fronts.{fronts_on}
-use Rattle.wb_history.proofs.Shows.{fresh, walked_held, end_held, reads_on}
+use Rattle.std.proofs.Common.{arith, ⊎_elim}
+use Rattle.wb_history.proofs.Shows.{pass_on, walked_held, end_held, reads_on}
 use Rattle.wb_history.proofs.history.History.refresh.Goals as goal
 
 pub invariant_of-pass : goal.invariant_of-pass
 invariant_of-pass c =
     let w = c.in_err-catch_up.ensures.done in
-    let on = walked_held (record c.pass.inside.cursor { steps = 0 }) w.0 1 c.catch_up.new.cursor (fresh c.pass.inside.cursor c.pass.invariant.0) w.1 in
-    (on.0, c.pass.invariant.1 ∙ sym on.1, fronts_on c.pass.inside.spares.items c.pass.inside.cursor.seen.items c.catch_up.new.cursor.seen.items on.2 c.pass.invariant.2)
+    pass_on _ _ c.pass.inside.cursor c.catch_up.new.cursor c.pass.invariant (walked_held c.pass.inside.cursor w.0 1 c.catch_up.new.cursor c.pass.invariant.0 w.1)
 
 pub invariant_of-pass-2 : goal.invariant_of-pass-2
 invariant_of-pass-2 c =
     let e = c.in_ok-catch_up.ensures.done in
-    let on = end_held c.self.inside.cells.cells (record c.pass.inside.cursor { steps = 0 }) e.0 c.catch_up.new.cursor (fresh c.pass.inside.cursor c.pass.invariant.0) e.1 in
-    (on.0, c.pass.invariant.1 ∙ sym on.1, fronts_on c.pass.inside.spares.items c.pass.inside.cursor.seen.items c.catch_up.new.cursor.seen.items on.2 c.pass.invariant.2)
+    pass_on _ _ c.pass.inside.cursor c.catch_up.new.cursor c.pass.invariant (end_held c.self.inside.cells.cells c.pass.inside.cursor e.0 c.catch_up.new.cursor c.pass.invariant.0 e.1)
 
 pub returns-in_err-catch_up-clause-reads : goal.returns-in_err-catch_up-clause-reads
 returns-in_err-catch_up-clause-reads c = let w = c.in_err-catch_up.ensures.done in reads_on c.pass.inside.cursor w.0 1 c.catch_up.new.cursor (omega arith) c.pass.view_is c.pass.invariant.0 w.1

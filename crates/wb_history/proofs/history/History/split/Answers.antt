@@ -1,8 +1,8 @@
-use Rattle.std.proofs.Common.{refl, sym, ap, subst, arith}
+use Rattle.std.proofs.lemmas.Grind.{common_steps}
+use Rattle.std.proofs.Common.{refl, ap, arith}
 use Rattle.atomic_table.specs.Table.{Me}
 use Rattle.wb_names.specs.Values.{DrawopValue}
 use Rattle.wb_history.specs.declared.knowledge.Knowledge.{Knowledge}
-use Rattle.wb_history.specs.Passes.{IsSound}
 use Rattle.wb_history.proofs.Shows.{sound, sound_pass}
 use Rattle.wb_history.proofs.Fronts.{none_are_fronts}
 use Rattle.wb_history.proofs.Unions.{same_view}
@@ -55,12 +55,10 @@ pub returns-then-have-rows-clause-sound : goal.returns-then-have-rows-clause-sou
 returns-then-have-rows-clause-sound c = (sound_pass c.pass.inside.cursor c.pass.view_is c.pass.invariant.0, tt)
 
 pub returns-in_default-clause-sound : goal.returns-in_default-clause-sound
-returns-in_default-clause-sound c = (sound c.pass.inside.cursor c.pass.invariant.0, tt)
+returns-in_default-clause-sound c = grind (arith, common_steps, sound)
 
 pub returns-in_default-split_off-clause-sound : goal.returns-in_default-split_off-clause-sound
-returns-in_default-split_off-clause-sound c =
-    let same = same_view (record c.pass.inside.cursor { free = c.split_off.new.self }) c.pass.inside.cursor refl refl refl (λ i. (c.in_default-split_off.ensures.err i).items) refl in
-    (subst IsSound (sym same) (sound c.pass.inside.cursor c.pass.invariant.0), tt)
+returns-in_default-split_off-clause-sound c = grind (arith, common_steps, same_view, sound)
 
 pub returns-clause-sound : goal.returns-clause-sound
 returns-clause-sound c = (

@@ -1,3 +1,4 @@
+use Rattle.std.proofs.lemmas.Grind.{common_steps}
 use Rattle.std.proofs.Common.{List, ◌-◌, length, ◌∙◌, ap, subst, refl, sym, arith, take_all}
 use Rattle.wb_names.specs.Values.{DrawopValue}
 use Rattle.wb_history.specs.declared.knowledge.Knowledge.{Knowledge}
@@ -14,10 +15,7 @@ invariant_of-hearer c =
     (roomier c.hearer.inside.cursor c.reserve.new.self same i.0, i.1, subst (λ (l : List DrawopValue). AreFronts c.hearer.inside.spares.items l) (sym same) i.2)
 
 pub returns-in_err-reserve-clause-sound : goal.returns-in_err-reserve-clause-sound
-returns-in_err-reserve-clause-sound c = (
-  sound_pass c.teller.inside.cursor c.teller.view_is c.teller.invariant.0,
-  on_ok c.from_residual.result (sound (record c.hearer.inside.cursor { seen = c.reserve.new.self }) (invariant_of-hearer c).0),
-)
+returns-in_err-reserve-clause-sound c = grind (arith, common_steps, sound_pass, on_ok, sound, invariant_of-hearer)
 
 pub invariant_of-teller : goal.invariant_of-teller
 invariant_of-teller c =
@@ -47,4 +45,4 @@ invariant_of-hearer-2 c =
     )
 
 pub returns-clause-sound : goal.returns-clause-sound
-returns-clause-sound c = (sound (record c.teller.inside.cursor { seat = c.cut-message.new.seat }) (invariant_of-teller c).0, sound c.hear.new.cursor (invariant_of-hearer-2 c).0)
+returns-clause-sound c = grind (arith, common_steps, sound, invariant_of-teller, invariant_of-hearer-2)

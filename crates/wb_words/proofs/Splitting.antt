@@ -1,5 +1,6 @@
 -- What stands before and after the first byte that is a mark, and the words of a line.
-use Rattle.std.proofs.Common.{◌≡◌, ℕ, ◌<◌, ◌≤◌, ◌^◌, Bool, true, false, cond, Some, None, List, [], ◌∷◌, ◌++◌, refl, sym, ap, ◌∙◌, append_assoc, arith, subst}
+use Rattle.std.proofs.lemmas.Grind.{common_steps}
+use Rattle.std.proofs.Common.{◌≡◌, ℕ, ◌<◌, ◌≤◌, ◌^◌, Bool, true, false, cond, Some, None, List, [], ◌∷◌, ◌++◌, refl, sym, ap, ◌∙◌, append_assoc, arith}
 use Rattle.std.specs.Prelude.{nat_eq, All, map, decimal}
 use Rattle.std.specs.Char.{digit_value}
 use Rattle.std.specs.List.{onto_first}
@@ -9,7 +10,7 @@ use Rattle.std.proofs.lemmas.Bool.Decides.{nat_tests}
 use Rattle.std.proofs.lemmas.List.{append-nil}
 use Rattle.std.proofs.lemmas.List.Elements.{All-cons, All-head, All-tail, All-nil}
 use Rattle.std.proofs.lemmas.List.Splits.{slice_split_at, slice_split_none, join_with_byte-slice_split}
-use Rattle.wb_words.specs.Words.{is_space, words, joined, parted_after, parted, text_in}
+use Rattle.wb_words.specs.Words.{is_space, words, joined, split_after, split_once, text_in}
 use Rattle.wb_words.specs.declared.fault.WordFault.TheVariants.{Text}
 use Rattle.wb_words.specs.Reading.{said, text_at}
 use Rattle.wb_words.proofs.Numerals.{decimal_digits}
@@ -26,55 +27,36 @@ chosen false x y z e = record { first = λ h. absurd cc; second = λ h. e }
 pub some_is : {A : Type 0} (x y : A) → Some x ≡ Some y → x ≡ y
 some_is x y e = cc
 
--- ---- parting at a mark
+-- ---- splitting at a mark
 
 module _ (mark : ℕ) where
-  pub parted_takes : (passed word before after : List ℕ) → parted_after passed mark word ≡ Some (before, after) → passed ++ word ≡ before ++ mark ∷ after
-  parted_takes passed [] before after e = absurd cc
-  parted_takes passed (b ∷ bytes) before after e = by (parted_takes (passed ++ b ∷ []) bytes before after) (nat_eq b mark) refl where
-    by : (parted_after (passed ++ b ∷ []) mark bytes ≡ Some (before, after) → (passed ++ b ∷ []) ++ bytes ≡ before ++ mark ∷ after) → (t : Bool) → nat_eq b mark ≡ t → passed ++ b ∷ bytes ≡ before ++ mark ∷ after
-    by later true h =
-        let made : Some (passed, bytes) ≡ Some (before, after) = (chosen (nat_eq b mark) _ _ _ e).first h in
-        let parts = some_is (passed, bytes) (before, after) made in
-        let one : passed ≡ before = ap (λ p. p.0) parts in
-        let two : bytes ≡ after = ap (λ p. p.1) parts in
-        let same : b ≡ mark = eqb-true b mark h in
-        cc
-    by later false h = sym (append_assoc passed (b ∷ []) bytes) ∙ later ((chosen (nat_eq b mark) _ _ _ e).second h)
+  pub split_once_takes : (passed word before after : List ℕ) → split_after passed mark word ≡ Some (before, after) → passed ++ word ≡ before ++ mark ∷ after
+  split_once_takes passed [] before after e = absurd cc
+  split_once_takes passed (b ∷ bytes) before after e = grind (arith, common_steps, chosen, some_is, eqb-true, append_assoc, split_once_takes (passed ++ b ∷ []) bytes before after)
 
-  pub parted_again : (passed before after : List ℕ) → All (λ b. nat_eq b mark ≡ false) before → parted_after passed mark (before ++ mark ∷ after) ≡ Some (passed ++ before, after)
-  parted_again passed [] after none = let same : nat_eq mark mark ≡ true = grind (arith, nat_tests) in rw (same, append-nil) refl
-  parted_again passed (b ∷ before) after none =
-      let other : nat_eq b mark ≡ false = All-head (λ c. nat_eq c mark ≡ false) b before none in
-      rw other (parted_again (passed ++ b ∷ []) before after (All-tail (λ c. nat_eq c mark ≡ false) b before none) ∙ ap (λ t. Some (t, after)) (append_assoc passed (b ∷ []) before))
+  pub split_once_again : (passed before after : List ℕ) → All (λ b. nat_eq b mark ≡ false) before → split_after passed mark (before ++ mark ∷ after) ≡ Some (passed ++ before, after)
+  split_once_again passed [] after none = grind (arith, common_steps, nat_tests, append-nil)
+  split_once_again passed (b ∷ before) after none = grind (arith, common_steps, All-head, All-tail, append_assoc, split_once_again (passed ++ b ∷ []) before after (All-tail (λ c. nat_eq c mark ≡ false) b before none))
 
-  pub parted_none : (passed word : List ℕ) → All (λ b. nat_eq b mark ≡ false) word → parted_after passed mark word ≡ None
-  parted_none passed [] none = refl
-  parted_none passed (b ∷ bytes) none =
-      let other : nat_eq b mark ≡ false = All-head (λ c. nat_eq c mark ≡ false) b bytes none in
-      rw other (parted_none (passed ++ b ∷ []) bytes (All-tail (λ c. nat_eq c mark ≡ false) b bytes none))
+  pub split_once_none : (passed word : List ℕ) → All (λ b. nat_eq b mark ≡ false) word → split_after passed mark word ≡ None
+  split_once_none passed [] none = refl
+  split_once_none passed (b ∷ bytes) none = grind (arith, common_steps, All-head, All-tail, split_once_none (passed ++ b ∷ []) bytes (All-tail (λ c. nat_eq c mark ≡ false) b bytes none))
 
 -- no digit is such a mark
 pub digits_lack : (mark : ℕ) → 10 ≤ digit_value mark → (ds : List ℕ) → AllDigits 10 ds → All (λ b. nat_eq b mark ≡ false) ds
 digits_lack mark far [] d = All-nil (λ b. nat_eq b mark ≡ false)
-digits_lack mark far (c ∷ cs) d =
-    let other : nat_eq c mark ≡ false = no_match (nat_eq c mark) refl in
-    All-cons (λ b. nat_eq b mark ≡ false) c cs other (digits_lack mark far cs d.1)
-  where
-    no_match : (t : Bool) → nat_eq c mark ≡ t → nat_eq c mark ≡ false
-    no_match false h = h
-    no_match true h = let same : c ≡ mark = eqb-true c mark h in let low : digit_value mark < 10 = subst (λ x. digit_value x < 10) same d.0 in absurd (omega arith)
+digits_lack mark far (c ∷ cs) d = grind (arith, common_steps, All-cons, eqb-true, digits_lack mark far cs d.1)
 
 pub decimal_lacks : (mark n : ℕ) → 10 ≤ digit_value mark → n < 2 ^ 64 → All (λ b. nat_eq b mark ≡ false) (decimal n)
 decimal_lacks mark n far small = digits_lack mark far (decimal n) (decimal_digits n small)
 
--- ---- words: parting at spaces
+-- ---- words: splitting at spaces
 
 words_space : (b : ℕ) (bytes : List ℕ) → nat_eq b 32 ≡ true → words (b ∷ bytes) ≡ [] ∷ words bytes
-words_space b bytes h = ap (λ (t : Bool). cond t ([] ∷ words bytes) (onto_first b (words bytes))) h
+words_space b bytes h = grind (arith, common_steps)
 
 words_other : (b : ℕ) (bytes : List ℕ) → nat_eq b 32 ≡ false → words (b ∷ bytes) ≡ onto_first b (words bytes)
-words_other b bytes h = ap (λ (t : Bool). cond t ([] ∷ words bytes) (onto_first b (words bytes))) h
+words_other b bytes h = grind (arith, common_steps)
 
 -- each line has a word, be it empty
 pub record HasWord (ws : List (List ℕ)) : Type 0 where
@@ -95,10 +77,10 @@ record Split (passed bytes before after : List ℕ) : Type 0 where
   is : before ≡ passed ++ front
   parts : words bytes ≡ front ∷ words after
 
-split : (passed bytes before after : List ℕ) → parted_after passed 32 bytes ≡ Some (before, after) → Split passed bytes before after
+split : (passed bytes before after : List ℕ) → split_after passed 32 bytes ≡ Some (before, after) → Split passed bytes before after
 split passed [] before after e = absurd cc
 split passed (b ∷ bytes) before after e = by (split (passed ++ b ∷ []) bytes before after) (nat_eq b 32) refl where
-  by : (parted_after (passed ++ b ∷ []) 32 bytes ≡ Some (before, after) → Split (passed ++ b ∷ []) bytes before after) → (t : Bool) → nat_eq b 32 ≡ t → Split passed (b ∷ bytes) before after
+  by : (split_after (passed ++ b ∷ []) 32 bytes ≡ Some (before, after) → Split (passed ++ b ∷ []) bytes before after) → (t : Bool) → nat_eq b 32 ≡ t → Split passed (b ∷ bytes) before after
   by later true h =
       let made : Some (passed, bytes) ≡ Some (before, after) = (chosen (nat_eq b 32) _ _ _ e).first h in
       let parts = some_is (passed, bytes) (before, after) made in
@@ -109,17 +91,17 @@ split passed (b ∷ bytes) before after e = by (split (passed ++ b ∷ []) bytes
       let rest = later ((chosen (nat_eq b 32) _ _ _ e).second h) in
       record { front = b ∷ rest.front; is = rest.is ∙ append_assoc passed (b ∷ []) rest.front; parts = words_other b bytes h ∙ ap (onto_first b) rest.parts }
 
-pub words_parted : (line before after : List ℕ) → parted 32 line ≡ Some (before, after) → words line ≡ before ∷ words after
-words_parted line before after e = let s = split [] line before after e in s.parts ∙ ap (λ t. t ∷ words after) (sym s.is)
+pub words_split_once : (line before after : List ℕ) → split_once 32 line ≡ Some (before, after) → words line ≡ before ∷ words after
+words_split_once line before after e = let s = split [] line before after e in s.parts ∙ ap (λ t. t ∷ words after) (sym s.is)
 
-one_word : (passed bytes : List ℕ) → parted_after passed 32 bytes ≡ None → words bytes ≡ bytes ∷ []
+one_word : (passed bytes : List ℕ) → split_after passed 32 bytes ≡ None → words bytes ≡ bytes ∷ []
 one_word passed [] e = refl
 one_word passed (b ∷ bytes) e = by (one_word (passed ++ b ∷ []) bytes) (nat_eq b 32) refl where
-  by : (parted_after (passed ++ b ∷ []) 32 bytes ≡ None → words bytes ≡ bytes ∷ []) → (t : Bool) → nat_eq b 32 ≡ t → words (b ∷ bytes) ≡ (b ∷ bytes) ∷ []
-  by later true h = let made : Some (passed, bytes) ≡ None = (chosen (nat_eq b 32) _ _ _ e).first h in absurd cc
-  by later false h = words_other b bytes h ∙ ap (onto_first b) (later ((chosen (nat_eq b 32) _ _ _ e).second h))
+  by : (split_after (passed ++ b ∷ []) 32 bytes ≡ None → words bytes ≡ bytes ∷ []) → (t : Bool) → nat_eq b 32 ≡ t → words (b ∷ bytes) ≡ (b ∷ bytes) ∷ []
+  by later true h = grind (arith, common_steps, chosen)
+  by later false h = grind (arith, common_steps, words_other, chosen)
 
-pub words_whole : (line : List ℕ) → parted 32 line ≡ None → words line ≡ line ∷ []
+pub words_whole : (line : List ℕ) → split_once 32 line ≡ None → words line ≡ line ∷ []
 words_whole line e = one_word [] line e
 
 pub joined_words : (line : List ℕ) → joined (words line) ≡ line
@@ -135,10 +117,10 @@ NoSpaces (w ∷ ws) = NoSpace w × NoSpaces ws
 
 pub words_joined : (w : List ℕ) (ws : List (List ℕ)) → NoSpaces (w ∷ ws) → words (joined (w ∷ ws)) ≡ w ∷ ws
 words_joined w [] none = slice_split_none is_space w none.0
-words_joined w (v ∷ ws) none = slice_split_at is_space w 32 (joined (v ∷ ws)) none.0 refl ∙ ap (λ rest. w ∷ rest) (words_joined v ws none.1)
+words_joined w (v ∷ ws) none = grind (arith, common_steps, slice_split_at, words_joined v ws none.1)
 
 NoSpaces-onto : (b : ℕ) (ws : List (List ℕ)) → nat_eq b 32 ≡ false → NoSpaces ws → NoSpaces (onto_first b ws)
-NoSpaces-onto b [] other none = (All-cons (λ c. nat_eq c 32 ≡ false) b [] other (All-nil (λ c. nat_eq c 32 ≡ false)), tt)
+NoSpaces-onto b [] other none = grind (arith, common_steps, All-cons, All-nil)
 NoSpaces-onto b (w ∷ ws) other none = (All-cons (λ c. nat_eq c 32 ≡ false) b w other none.0, none.1)
 
 pub NoSpaces-words : (line : List ℕ) → NoSpaces (words line)
