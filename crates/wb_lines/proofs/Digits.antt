@@ -7,8 +7,7 @@ use Rattle.wb_lines.specs.Words.{is_digit, number_after}
 
 past : (a b : Bool) (n : ℕ) → b ≡ false → cond (a && b) (Some n) None ≡ None
 past true true n e = absurd cc
-past true false n e = refl
-past false b n e = refl
+past a b n e = refl
 
 either : (b : Bool) (x : Option ℕ) → x ≡ None → cond b x None ≡ None
 either true x e = e

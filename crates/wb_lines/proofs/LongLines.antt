@@ -58,8 +58,7 @@ pub record Went {S F : Type 0} (is_at : S → Type 0) (printed : List ℕ) (step
 
 went : {S F : Type 0} (is_at : S → Type 0) (printed : List ℕ) (step : Step S F) → Does {U = Unit {0}} is_at printed (Ok tt) step → Went is_at printed step
 went is_at printed (goes text next) d = record { next = next; at = d.1; leads = λ number rest. Leads-before (rest next) text printed d.0 }
-went is_at printed (stops text e) d = absurd d
-went is_at printed (ends text) d = absurd d
+went is_at printed step d = absurd d
 
 -- the line was read to its end
 read_whole : (front rest bytes given more after : List ℕ) → bytes ++ given ≡ rest ++ 10 ∷ after → (front ++ (bytes ++ given)) ++ more ≡ (front ++ rest) ++ 10 ∷ (after ++ more)
