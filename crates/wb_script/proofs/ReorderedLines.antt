@@ -1,6 +1,5 @@
 -- Batches, arrivals that may change places, and one line by one thread.
-use Rattle.std.proofs.Common.{◌≡◌, ℕ, ◌+◌, Bool, true, false, cond, List, [], ◌∷◌, ◌++◌, length, map, Result, Ok, Err, refl, sym, ap, subst, ◌∙◌, append_assoc, arith}
-use Rattle.std.specs.Prelude.{Option, Some, None, IsPermutation, filter, nat_le, nat_lt, unwrap_or, ◌&&◌, ◌||◌, not}
+use Rattle.std.proofs.Common.{◌≡◌, ℕ, ◌+◌, Bool, true, false, cond, List, [], ◌∷◌, ◌++◌, length, map, Result, Ok, Err, refl, sym, ap, subst, ◌∙◌, append_assoc, arith, Option, Some, None, IsPermutation, filter, nat_le, nat_lt, unwrap_or, ◌&&◌, ◌||◌, not}
 use Rattle.std.specs.List.{list_any}
 use Rattle.std.proofs.lemmas.List.{nil_from_length}
 use Rattle.std.proofs.lemmas.List.Sorted.{IsPermutation-refl, IsPermutation-map, IsPermutation-append_left, length_permutation, list_any-IsPermutation}
