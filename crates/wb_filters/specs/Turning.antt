@@ -2,7 +2,7 @@
 use Rattle.std.specs.Prelude.{◌≡◌, ℕ, Bool, true, false, List, ◌++◌, Option, Some, None, Result, Ok, Err, nat_eq, codes, is_some, if◌then◌else◌, bytes_eq}
 use Rattle.hex.specs.Hex.{encode_lower}
 use Rattle.wb_codec.specs.declared.datagram.Datagram.{Datagram}
-use Rattle.wb_codec.specs.declared.datagram.Datagram.TheVariants.{Draw, Session, Request, AskPages, PageState}
+use Rattle.wb_codec.specs.declared.datagram.Datagram.TheVariants.{Draw}
 use Rattle.wb_codec.specs.declared.fault.ReadFault.{ReadFault}
 use Rattle.wb_codec.specs.Spelling.{spelling}
 use Rattle.wb_codec.specs.Reading.{reading}

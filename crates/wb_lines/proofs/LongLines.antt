@@ -7,7 +7,7 @@ use Rattle.wb_lines.specs.declared.line_reader.Found.{Found}
 use Rattle.wb_lines.specs.declared.line_reader.Found.TheVariants as founds
 use Rattle.wb_lines.specs.Ahead.{Ahead, NoLineFeed, PassesOver}
 use Rattle.wb_lines.specs.Input.{InputLine, input_lines, most_bytes}
-use Rattle.wb_lines.specs.Handling.{too_long, Step, goes, stops, ends, Does}
+use Rattle.wb_lines.specs.Handling.{too_long, Step, goes, Does}
 use Rattle.wb_lines.specs.Taking.{most_passed, is_passed}
 use Rattle.wb_lines.specs.Driving.{Rules, Outcome, writes, stop, proceed, outcome_from}
 use Rattle.wb_lines.specs.Steps.{fault_of, StartsLong, Leads, Begins, ahead, Stops, TakesLine}

@@ -16,7 +16,7 @@ use Rattle.wb_host.specs.Missing.{wanted, names_in_gaps}
 use Rattle.wb_host.specs.Ticks.{sends_for}
 use Rattle.wb_script.specs.declared.fault.LineFault.TheVariants as faults
 use Rattle.wb_script.specs.declared.command.Command.{Command}
-use Rattle.wb_script.specs.declared.command.Command.TheVariants.{Skip, Board, Arrive, Hear as HearLine, Distance, Tick, Look, Session, Show, Gaps, Report, Pages}
+use Rattle.wb_script.specs.declared.command.Command.TheVariants.{Hear as HearLine, Tick, Look, Session, Show, Gaps, Report, Pages}
 use Rattle.wb_script.specs.declared.query.Query.{Query}
 use Rattle.wb_script.specs.declared.query.Query.TheVariants as queries
 use Rattle.wb_script.specs.Hosts.{Opened, present, calling, Act, does, fails, events, due_count, stopped, sent_by, ticked, wanted_of, looked, words_for, word_at, heard, asked, reported, act}

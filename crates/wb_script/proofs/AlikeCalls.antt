@@ -20,7 +20,7 @@ use Rattle.wb_recovery.specs.declared.timers.Timers.{Timers}
 use Rattle.wb_recovery.specs.declared.tuning.Tuning.{Tuning}
 use Rattle.wb_recovery.proofs.StoppedNames.{names_receipts}
 use Rattle.wb_host.specs.Hearing.{marks_reported, marks_heard}
-use Rattle.wb_host.specs.Keeper.{KeeperCall, SetDelay, Hear, Arrive, Miss, GoOn, Report, GiveUp, newest, now_of, delay_given, delay_to, session_heard, senders_of, remember, heard_by, last_heard, received_of, missed_of, asked_by, timer_calls, events_of}
+use Rattle.wb_host.specs.Keeper.{KeeperCall, Hear, Arrive, Miss, GoOn, GiveUp, newest, now_of, delay_given, delay_to, session_heard, senders_of, remember, heard_by, last_heard, received_of, missed_of, asked_by, timer_calls, events_of}
 use Rattle.wb_host.specs.declared.keeper.Heard.{Heard}
 use Rattle.wb_host.proofs.FreeArrivals.{comes, timers_alike}
 

@@ -11,7 +11,7 @@ use Rattle.wb_names.specs.declared.gap.Gap.{Gap}
 use Rattle.wb_names.proofs.Listings.{Contains-filter, Contains-from_filter, Any-from_map, Contains-map, one_list, lists_same}
 use Rattle.wb_names.proofs.Orders.{nat_ties}
 use Rattle.wb_codec.specs.declared.datagram.Datagram.{Datagram}
-use Rattle.wb_codec.specs.declared.datagram.Datagram.TheVariants.{Draw, Session, Request, AskPages, PageState}
+use Rattle.wb_codec.specs.declared.datagram.Datagram.TheVariants.{Draw, Request}
 use Rattle.wb_display.specs.Canvas.{canvas_text}
 use Rattle.wb_display.proofs.Convergence.{converges}
 use Rattle.wb_gaps.specs.Answers.{sources_of, top_mark, gaps_of, report_of, pages_of, reports_of}

@@ -5,7 +5,6 @@ use Rattle.std.specs.Str.Lines.{strip_carriage_return}
 use Rattle.std.proofs.lemmas.Bool.Decides.{nat_tests}
 use Rattle.hex.specs.Hex.{is_hex_digit}
 use Rattle.wb_names.specs.Values.{DrawopValue}
-use Rattle.wb_names.specs.declared.name.PageId.{PageId}
 use Rattle.wb_lines.specs.Words.{words_after, is_hex, unhex}
 use Rattle.wb_lines.proofs.HexWords.{unhex-not_hex}
 use Rattle.wb_lines.proofs.StandingLines.{stripped}
@@ -15,7 +14,7 @@ use Rattle.wb_codec.specs.Reading.{reading}
 use Rattle.wb_script.specs.declared.fault.LineFault.{LineFault}
 use Rattle.wb_script.specs.declared.fault.LineFault.TheVariants as faults
 use Rattle.wb_script.specs.declared.command.Command.{Command}
-use Rattle.wb_script.specs.declared.command.Command.TheVariants.{Arrive, Skip, Board, Hear, Distance, Tick, Look, Session, Show, Gaps, Report, Pages}
+use Rattle.wb_script.specs.declared.command.Command.TheVariants.{Arrive, Skip, Board, Distance, Tick, Look, Session, Show, Gaps, Report, Pages}
 use Rattle.wb_script.specs.Parsing.{◌>>=◌, or_fault, number, none_of, one_of, two_of, four_of, page, spelled, datagram, board, arrived, heard, arrive, hear, show, distance, tick, pages, page_line, command, begins_comment, line_of_words, line_of}
 use Rattle.wb_script.specs.Script.{Arrival, part_of}
 

@@ -1,7 +1,7 @@
 -- That the counts of a batch add up, and that what is held stays.
 use Rattle.std.proofs.Common.{◌≡◌, ◌+◌, List, [], ◌∷◌, ◌++◌, length, refl, sym, ap, ◌∙◌, append_assoc, arith, append-nil, length-append}
 use Rattle.wb_names.specs.Values.{DrawopValue}
-use Rattle.wb_names.specs.Arrivals.{Outcome, Fresh, Known, Clashed, Left, history_with, Counts, counted, counts_of, outcome_of, outcomes_of}
+use Rattle.wb_names.specs.Arrivals.{Outcome, Fresh, history_with, Counts, counted, counts_of, outcome_of, outcomes_of}
 use Rattle.wb_script.specs.ScriptLaws.{total, CountsAddUp, HeldStays}
 
 one_more : (a : Outcome) (n : Counts) → total (counted a n) ≡ total n + 1

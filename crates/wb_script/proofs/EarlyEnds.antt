@@ -11,7 +11,7 @@ use Rattle.wb_lines.specs.Ahead.{Ahead, IsLine}
 use Rattle.wb_script.specs.Inside.Lines.{LinesValue, EndsWith, Fronts}
 use Rattle.wb_script.specs.Hosts.{Opened, host_after, batch_text, Act, does, fails, act}
 use Rattle.wb_lines.specs.Input.{InputLine, input_lines, content, MayFollow}
-use Rattle.wb_script.specs.Script.{IsOutcomeFrom, State, MayBeTaken, Closing, Opens, Acts, Faulty, Part, Arrival, Nothing, End, part_of, part_in, refused, by_host, after_batch, closing_text, step_by, closing_step, part_step, Outcome, prints, before, answer, finish, Finishes, Proceeds, fault_at, Continues}
+use Rattle.wb_script.specs.Script.{IsOutcomeFrom, State, MayBeTaken, Closing, Opens, Acts, Faulty, Part, End, part_of, part_in, refused, by_host, after_batch, closing_text, step_by, closing_step, part_step, Outcome, prints, before, answer, finish, Finishes, Proceeds, fault_at, Continues}
 use Rattle.wb_script.specs.Inside.Passing.{Leads, Passes}
 use Rattle.wb_script.specs.Inside.Reading.{IsOpen, EndsBatchBefore, IsBatchEnd}
 use Rattle.wb_script.specs.Inside.Parts.{EndsBatchAt}

@@ -5,7 +5,7 @@ use Rattle.wb_names.specs.Values.{DrawopValue, MarkValue}
 use Rattle.wb_names.specs.Faults.{first_of, fault_unless}
 use Rattle.wb_names.specs.declared.name.PageId.{PageId}
 use Rattle.wb_codec.specs.declared.datagram.Datagram.{Datagram}
-use Rattle.wb_codec.specs.declared.datagram.Datagram.TheVariants.{Draw, Session, Request, AskPages, PageState}
+use Rattle.wb_codec.specs.declared.datagram.Datagram.TheVariants.{Session, Request, PageState}
 use Rattle.wb_gaps.specs.Merging.{source_count}
 use Rattle.rand_pcg.specs.Lcg.{Lcg}
 use Rattle.wb_host.specs.Hearing.{answers_to, asks_for_held, has_room, hear_fault, marks_heard}

@@ -4,7 +4,7 @@ use Rattle.wb_names.specs.Values.{DrawopValue}
 use Rattle.wb_script.specs.declared.fault.RunFault.{RunFault}
 use Rattle.wb_lines.specs.Input.{InputLine, input_lines}
 use Rattle.wb_script.specs.Hosts.{Opened, host_after, batch_text, Act, does, fails, act}
-use Rattle.wb_script.specs.Script.{State, start, IsAlone, by_host, Closing, Opens, Acts, Faulty, Part, Arrival, Nothing, End, part_in, step_by, closing_step, part_step, finish, outcome}
+use Rattle.wb_script.specs.Script.{State, start, IsAlone, by_host, Closing, Opens, Acts, Faulty, Part, Arrival, End, part_in, step_by, closing_step, part_step, finish, outcome}
 use Rattle.wb_script.specs.ScriptLaws.{workers_on, first_of, workers_at_end, OneThreadIsOutcome, OneWorkerIsOneThread, OneThreadIsFree}
 use Rattle.wb_script.proofs.Outcomes.{one_thread}
 use Rattle.wb_script.proofs.Simulations.{EndsAlike, StepsAlike, Simulates, simulated}

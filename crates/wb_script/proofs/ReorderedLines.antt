@@ -9,10 +9,10 @@ use Rattle.wb_host.specs.Keeper.{KeeperCall, Arrive as arrives, holds}
 use Rattle.wb_host.proofs.FreeArrivals.{comes}
 use Rattle.wb_script.specs.declared.fault.RunFault.{RunFault}
 use Rattle.wb_script.specs.declared.fault.RunFault.TheVariants as run_faults
-use Rattle.wb_script.specs.Hosts.{Opened, opened, present, names_of, board_after, calls_after, host_after, batch_text, Act, does, fails, act}
+use Rattle.wb_script.specs.Hosts.{Opened, present, names_of, board_after, calls_after, host_after, batch_text, Act, does, fails, act}
 use Rattle.wb_script.specs.Reordering.{part_unless, part_at, other_than, onto_batch, AreRearranged}
 use Rattle.wb_lines.specs.Input.{InputLine, content, most_bytes}
-use Rattle.wb_script.specs.Script.{State, by_host, MayBeTaken, Closing, Opens, Acts, Faulty, Part, Arrival, Nothing, End, part_in, Step, goes, refused, step_by, part_step, finish, proceed, continue, most_lines, outcome_from, fault_at}
+use Rattle.wb_script.specs.Script.{State, by_host, Closing, Opens, Acts, Faulty, Part, Arrival, Nothing, End, part_in, step_by, part_step, finish, proceed, continue, most_lines, outcome_from, fault_at}
 use Rattle.wb_script.proofs.AlikeCalls.{TellAlike, arrive_alike, tell_same}
 use Rattle.wb_script.proofs.AlikeHosts.{told, ActsAlike, acts_alike}
 use Rattle.wb_script.proofs.Simulations.{EndsAlike, StepsAlike}

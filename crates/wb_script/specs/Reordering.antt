@@ -2,7 +2,7 @@
 use Rattle.std.specs.Prelude.{◌≡◌, ℕ, ◌+◌, ◌≤◌, List, [], ◌∷◌, ◌++◌, map, Bool, Option, Some, None, IsPermutation}
 use Rattle.wb_script.specs.declared.fault.RunFault.{RunFault}
 use Rattle.wb_lines.specs.Input.{InputLine, input_lines, content}
-use Rattle.wb_script.specs.Script.{Part, Arrival, Nothing, End, part_in, Outcome, outcome, fault_at, IsOutcome}
+use Rattle.wb_script.specs.Script.{Part, Arrival, Nothing, part_in, Outcome, outcome, fault_at, IsOutcome}
 use Rattle.wb_script.specs.ScriptLaws.{EachEnds}
 
 -- What a line is to its batch, where it is taken: one that passes a limit or is cut off is not.

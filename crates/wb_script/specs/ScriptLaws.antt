@@ -8,7 +8,7 @@ use Rattle.wb_script.specs.declared.command.Command.TheVariants.{Skip}
 use Rattle.wb_script.specs.declared.summary.Summary.{Summary}
 use Rattle.wb_lines.specs.Ahead.{IsLine}
 use Rattle.wb_script.specs.Parsing.{line_of}
-use Rattle.wb_script.specs.Script.{Begins, IsAlone, Opens, Acts, Faulty, Part, Arrival, Nothing, End, part_in, most_lines, Outcome, prints, outcome, IsOutcome}
+use Rattle.wb_script.specs.Script.{Begins, IsAlone, Opens, Part, Arrival, Nothing, End, part_in, most_lines, Outcome, prints, outcome, IsOutcome}
 use Rattle.wb_lines.specs.Input.{InputLine, input_lines}
 
 -- a line feed ends each line

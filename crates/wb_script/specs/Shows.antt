@@ -12,7 +12,7 @@ use Rattle.wb_script.specs.Laws.{NoneClash, HasCells}
 use Rattle.wb_script.specs.Parsing.{line_of}
 use Rattle.wb_script.specs.Queries.{view_of}
 use Rattle.wb_lines.specs.Input.{InputLine, input_lines}
-use Rattle.wb_script.specs.Script.{Opens, Acts, Faulty, Part, Arrival, Nothing, End, part_in, prints, outcome}
+use Rattle.wb_script.specs.Script.{Opens, Part, Arrival, End, part_in, prints, outcome}
 use Rattle.wb_script.specs.ScriptLaws.{EachEnds}
 
 -- the drawop that a line hands in
