@@ -1,7 +1,5 @@
 -- Lines that neither filter turns.
-use Rattle.std.proofs.Common.{◌≡◌, ◌≢◌, ℕ, Bool, true, false, List, [], ◌∷◌, Ok, Some, None, refl, sym, ap, subst, ◌∙◌, arith}
-use Rattle.std.specs.Prelude.{Option, All, codes}
-use Rattle.std.specs.Str.{bytes_eq}
+use Rattle.std.proofs.Common.{◌≡◌, ◌≢◌, ℕ, Bool, true, false, List, [], ◌∷◌, Ok, Some, None, refl, sym, ap, subst, ◌∙◌, arith, Option, All, codes, bytes_eq}
 use Rattle.std.proofs.lemmas.Slice.Eq.{bytes_eq-Decides}
 use Rattle.wb_words.specs.declared.fault.WordFault.TheVariants as word_faults
 use Rattle.wb_words.specs.Words.{words, split_once}

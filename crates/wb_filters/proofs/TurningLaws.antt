@@ -22,10 +22,7 @@ use Rattle.wb_codec.proofs.SpelledBytes.{spelled_bytes}
 
 not_sent : (v : Datagram) → sent_part (split_once 32 (spelled v)) ≡ None
 not_sent (Draw d) = refl
-not_sent (Session sender sent page marks echoes) = refl
-not_sent (Request asker name) = refl
-not_sent (AskPages asker) = refl
-not_sent (PageState sender page marks) = refl
+not_sent v = refl
 
 comes_in : (v : Datagram) → IsDatagram v → hexed (spelled v) ≡ Ok (digits_line (carrier_for v) v)
 comes_in v fits = ap (hexed_by (spelled v)) (not_sent v) ∙ ap (hexed_in (spelled v)) (read_again (spelled v) v (fits, refl))
@@ -34,17 +31,13 @@ is_sent : (v : Datagram) → IsDatagram v → hexed (words_behind Send v) ≡ Ok
 is_sent v fits = ap (hexed_sent (words_behind Send v)) (read_again (spelled v) v (fits, refl))
 
 pub words_are_turned : WordsAreTurned
-words_are_turned Arrive (Draw d) fits takes = comes_in (Draw d) fits
 words_are_turned Arrive (Session sender sent page marks echoes) fits takes = absurd cc
 words_are_turned Arrive (Request asker name) fits takes = absurd cc
 words_are_turned Arrive (AskPages asker) fits takes = absurd cc
 words_are_turned Arrive (PageState sender page marks) fits takes = absurd cc
 words_are_turned Hear (Draw d) fits takes = absurd cc
-words_are_turned Hear (Session sender sent page marks echoes) fits takes = comes_in (Session sender sent page marks echoes) fits
-words_are_turned Hear (Request asker name) fits takes = comes_in (Request asker name) fits
-words_are_turned Hear (AskPages asker) fits takes = comes_in (AskPages asker) fits
-words_are_turned Hear (PageState sender page marks) fits takes = comes_in (PageState sender page marks) fits
 words_are_turned Send v fits takes = is_sent v fits
+words_are_turned carrier v fits takes = comes_in v fits
 
 -- ---- digits to words
 
@@ -60,5 +53,4 @@ carried carrier v line fits e =
 
 pub digits_are_turned : DigitsAreTurned
 digits_are_turned Arrive v fits e = carried Arrive v (digits_line Arrive v) fits e
-digits_are_turned Hear v fits e = carried Hear v (digits_line Hear v) fits e
-digits_are_turned Send v fits e = carried Send v (digits_line Send v) fits e
+digits_are_turned carrier v fits e = carried carrier v (digits_line carrier v) fits e

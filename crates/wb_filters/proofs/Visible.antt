@@ -1,6 +1,5 @@
 -- Each byte of a line in words, and of one in digits, is a space or above it.
-use Rattle.std.proofs.Common.{◌≡◌, ◌≢◌, ℕ, zero, suc, ◌<◌, ◌≤◌, ◌%◌, ◌/◌, ◌^◌, Bool, true, false, None, Some, List, [], ◌∷◌, ◌++◌, refl, sym, subst, arith}
-use Rattle.std.specs.Prelude.{slice_index, All, map, flat_map, decimal, codes, nat_le, if◌then◌else◌}
+use Rattle.std.proofs.Common.{◌≡◌, ◌≢◌, ℕ, zero, suc, ◌<◌, ◌≤◌, ◌%◌, ◌/◌, ◌^◌, Bool, true, false, None, Some, List, [], ◌∷◌, ◌++◌, refl, sym, subst, arith, slice_index, All, map, flat_map, decimal, codes, nat_le, if◌then◌else◌}
 use Rattle.std.specs.Char.{digit_value}
 use Rattle.std.specs.List.{list_all}
 use Rattle.std.specs.Str.Parse.{AllDigits}
@@ -98,8 +97,7 @@ digits_visible carrier v fits = cat (front carrier) (encode_lower (spelling v)) 
 
 pub digits_some : (carrier : Carrier) (v : Datagram) → digits_line carrier v ≢ []
 digits_some Arrive v = λ h. absurd cc
-digits_some Hear v = λ h. absurd cc
-digits_some Send v = λ h. absurd cc
+digits_some carrier v = λ h. absurd cc
 
 -- ---- words
 
@@ -225,18 +223,13 @@ spelled_visible (PageState sender p marks) fits =
     (before (decimal sender ∷ page_word p ∷ []) (map mark_word marks) (number32 sender fits.sender-fits, (page p fits.page-fits, tt)) (marks_alone marks fits.marks-fit.ranges))
 
 pub words_visible : (carrier : Carrier) (v : Datagram) → IsDatagram v → Visible (words_behind carrier v)
-words_visible Arrive v fits = spelled_visible v fits
-words_visible Hear v fits = spelled_visible v fits
 words_visible Send v fits = cat (codes "send ") (spelled v) (text_of (codes "send ") refl) (spelled_visible v fits)
+words_visible carrier v fits = spelled_visible v fits
 
 spelled_some : (v : Datagram) → spelled v ≢ []
 spelled_some (Draw d) = λ h. absurd cc
-spelled_some (Session sender sent p marks echoes) = λ h. absurd cc
-spelled_some (Request asker name) = λ h. absurd cc
-spelled_some (AskPages asker) = λ h. absurd cc
-spelled_some (PageState sender p marks) = λ h. absurd cc
+spelled_some v = λ h. absurd cc
 
 pub words_some : (carrier : Carrier) (v : Datagram) → words_behind carrier v ≢ []
-words_some Arrive v = spelled_some v
-words_some Hear v = spelled_some v
 words_some Send v = λ h. absurd cc
+words_some carrier v = spelled_some v

@@ -1,6 +1,5 @@
 -- A whole script, and what a filter makes of it, line beside line.
-use Rattle.std.proofs.Common.{◌≡◌, ◌≢◌, ℕ, ◌+◌, ◌<◌, ◌≤◌, Bool, false, List, [], ◌∷◌, ◌++◌, length, Result, Ok, inl, inr, ◌⊎◌, refl, sym, ap, subst, ◌∙◌, arith}
-use Rattle.std.specs.Prelude.{All}
+use Rattle.std.proofs.Common.{◌≡◌, ◌≢◌, ℕ, ◌+◌, ◌<◌, ◌≤◌, Bool, false, List, [], ◌∷◌, ◌++◌, length, Result, Ok, inl, inr, ◌⊎◌, refl, sym, ap, subst, ◌∙◌, arith, All}
 use Rattle.std.proofs.lemmas.List.Elements.{All-nil, All-cons, All-head, All-tail}
 use Rattle.wb_lines.specs.Ahead.{NoLineFeed}
 use Rattle.wb_lines.specs.Input.{InputLine, input_lines, content, most_bytes}
@@ -31,9 +30,8 @@ record Twin (d d' : Direction) (line twin : InputLine) : Type 0 where
 
 abbrev Twins : Direction → Direction → List InputLine → List InputLine → Type 0
 Twins d d' [] [] = Unit {0}
-Twins d d' [] (twin ∷ twins) = ⊥
-Twins d d' (line ∷ lines) [] = ⊥
 Twins d d' (line ∷ lines) (twin ∷ twins) = Twin d d' line twin × Twins d d' lines twins
+Twins d d' lines twins = ⊥
 
 -- what is written of a line is its twin as it stands
 said_there : (d d' : Direction) (keeps : Bool) (number : ℕ) (line twin : InputLine) → Twin d d' line twin → said_of (record { direction = d; keeps_going = keeps }) number line ≡ Ok (standing twin)
@@ -63,22 +61,20 @@ next filter n line lines text rest m few short said others = short_line_taken (r
 there : (d d' : Direction) (keeps : Bool) (n m : ℕ) (lines twins : List InputLine) → Twins d d' lines twins → n + length lines ≡ m → m ≤ most_lines → All IsShort lines
     → after (record { direction = d; keeps_going = keeps }) n lines ≡ writes (all_bytes twins) (Ok m)
 there d d' keeps n m [] [] t count few short = let same : n ≡ m = omega (arith, count) in ap (λ (k : ℕ). writes [] (Ok k)) same
-there d d' keeps n m [] (twin ∷ twins) t count few short = absurd t
-there d d' keeps n m (line ∷ lines) [] t count few short = absurd t
 there d d' keeps n m (line ∷ lines) (twin ∷ twins) t count few short =
     let filter : Filter = record { direction = d; keeps_going = keeps } in
     next filter n line lines (standing twin) (all_bytes twins) m (omega (arith, count, few)) (All-head IsShort line lines short) (said_there d d' keeps (n + 1) line twin t.0)
     (there d d' keeps (n + 1) m lines twins t.1 (omega (arith, count)) few (All-tail IsShort line lines short))
+there d d' keeps n m lines twins t count few short = absurd t
 
 back : (d d' : Direction) (keeps : Bool) (n m : ℕ) (lines twins : List InputLine) → Twins d d' lines twins → n + length twins ≡ m → m ≤ most_lines → All IsShort twins
     → after (record { direction = d'; keeps_going = keeps }) n twins ≡ writes (all_bytes lines) (Ok m)
 back d d' keeps n m [] [] t count few short = let same : n ≡ m = omega (arith, count) in ap (λ (k : ℕ). writes [] (Ok k)) same
-back d d' keeps n m [] (twin ∷ twins) t count few short = absurd t
-back d d' keeps n m (line ∷ lines) [] t count few short = absurd t
 back d d' keeps n m (line ∷ lines) (twin ∷ twins) t count few short =
     let filter : Filter = record { direction = d'; keeps_going = keeps } in
     next filter n twin twins (standing line) (all_bytes lines) m (omega (arith, count, few)) (All-head IsShort twin twins short) (said_back d d' keeps (n + 1) line twin t.0)
     (back d d' keeps (n + 1) m lines twins t.1 (omega (arith, count)) few (All-tail IsShort twin twins short))
+back d d' keeps n m lines twins t count few short = absurd t
 
 -- twins stand as their lines do
 no_twins : (d d' : Direction) (lines twins : List InputLine) → lines ≡ [] → Twins d d' lines twins → twins ≡ []
@@ -88,10 +84,9 @@ no_twins d d' (line ∷ lines) twins e t = absurd cc
 
 twins_stand : (d d' : Direction) (lines twins : List InputLine) → AreLines lines → Twins d d' lines twins → AreLines twins
 twins_stand d d' [] [] are t = tt
-twins_stand d d' [] (twin ∷ twins) are t = absurd t
-twins_stand d d' (line ∷ lines) [] are t = absurd t
 twins_stand d d' (line ∷ lines) (twin ∷ twins) are t =
     (record { free = t.0.free; last = λ h. (t.0.some h, no_twins d d' lines twins (are.0.last (sym t.0.ended ∙ h)).1 t.1) }, twins_stand d d' lines twins are.1 t.1)
+twins_stand d d' lines twins are t = absurd t
 
 -- ---- scripts
 

@@ -4,8 +4,7 @@ use Rattle.wb_lines.specs.declared.handler.Stop.{Stop}
 use Rattle.wb_lines.specs.declared.handler.Stop.TheVariants as handler_stops
 use Rattle.wb_lines.specs.Input.{InputLine, content}
 use Rattle.wb_lines.specs.Handling.{Met, whole, too_long, Step, goes, stops, ends}
-use Rattle.wb_lines.specs.Driving.{Outcome, rules_of}
-use Rattle.wb_lines.specs.Driving.{outcome as outcome_of}
+use Rattle.wb_lines.specs.Driving.{Outcome, rules_of, outcome as outcome_of}
 use Rattle.wb_filters.specs.declared.fault.LineFault.{LineFault}
 use Rattle.wb_filters.specs.declared.filtering.Direction.{Direction}
 use Rattle.wb_filters.specs.declared.filtering.Direction.TheVariants.{Hex, Words}

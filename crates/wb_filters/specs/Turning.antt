@@ -1,9 +1,8 @@
 -- What becomes of one line, which stands without its end.
-use Rattle.std.specs.Prelude.{◌≡◌, ℕ, Bool, true, false, List, ◌++◌, Option, Some, None, Result, Ok, Err, nat_eq, codes, is_some, if◌then◌else◌}
-use Rattle.std.specs.Str.{bytes_eq}
+use Rattle.std.specs.Prelude.{◌≡◌, ℕ, Bool, true, false, List, ◌++◌, Option, Some, None, Result, Ok, Err, nat_eq, codes, is_some, if◌then◌else◌, bytes_eq}
 use Rattle.hex.specs.Hex.{encode_lower}
 use Rattle.wb_codec.specs.declared.datagram.Datagram.{Datagram}
-use Rattle.wb_codec.specs.declared.datagram.Datagram.TheVariants.{Draw, Session, Request, AskPages, PageState}
+use Rattle.wb_codec.specs.declared.datagram.Datagram.TheVariants.{Draw}
 use Rattle.wb_codec.specs.declared.fault.ReadFault.{ReadFault}
 use Rattle.wb_codec.specs.Spelling.{spelling}
 use Rattle.wb_codec.specs.Reading.{reading}
@@ -31,10 +30,7 @@ carrier_of word =
 -- a drawop that comes in arrives, and every other datagram is heard
 abbrev pub carrier_for : Datagram → Carrier
 carrier_for (Draw d) = Arrive
-carrier_for (Session sender sent page marks echoes) = Hear
-carrier_for (Request asker name) = Hear
-carrier_for (AskPages asker) = Hear
-carrier_for (PageState sender page marks) = Hear
+carrier_for v = Hear
 
 abbrev pub front : Carrier → List ℕ
 front Arrive = codes "arrive "
@@ -43,10 +39,7 @@ front Send = codes "send "
 
 abbrev pub is_arrival : Datagram → Bool
 is_arrival (Draw d) = true
-is_arrival (Session sender sent page marks echoes) = false
-is_arrival (Request asker name) = false
-is_arrival (AskPages asker) = false
-is_arrival (PageState sender page marks) = false
+is_arrival v = false
 
 -- drawops alone arrive, what is heard is none, and each datagram may be sent
 abbrev pub takes : Carrier → Datagram → Bool
@@ -63,8 +56,7 @@ digits_line carrier v = front carrier ++ encode_lower (spelling v)
 -- the words of a datagram, behind `send` where it is sent
 abbrev pub words_behind : Carrier → Datagram → List ℕ
 words_behind Send v = codes "send " ++ spelled v
-words_behind Arrive v = spelled v
-words_behind Hear v = spelled v
+words_behind carrier v = spelled v
 
 -- ---- from words to digits
 

@@ -1,7 +1,6 @@
 //! Lines whose datagram stands in words, turned into lines with its bytes.
 
-ghost use Rattle.std.specs.Prelude.{◌≡◌, IfOk};
-ghost use Rattle.std.specs.Option.{option_map};
+ghost use Rattle.std.specs.Prelude.{◌≡◌, IfOk, option_map};
 ghost use Rattle.wb_words.specs.Words.{split_once};
 ghost use Rattle.wb_filters.specs.Turning.{MayTurn, sent_part, digits_line, hexed};
 

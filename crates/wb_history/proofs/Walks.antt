@@ -19,7 +19,6 @@ walk_on h a b j k h' h'' o v w = grind (arith, common_steps)
 pub win_on : (h : Cursor) (a b : List DrawopValue) (d : DrawopValue) (place j k : ℕ) (h' h'' : Cursor) → InOrder h → Walked h a j h' → Won h' b d place k h'' → Won h (a ++ b) d place (j + k) h''
 win_on h a b d place j k h' h'' o v w = grind (arith, common_steps)
 
-
 pub lacks_more : (l : List DrawopValue) (d : DrawopValue) (name : NameValue) → (HoldsName l name → ⊥) → d.name ≢ name → HoldsName (l ++ d ∷ []) name → ⊥
 lacks_more l d name lacks other held = grind (arith, common_steps)
 

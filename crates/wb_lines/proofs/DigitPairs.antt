@@ -1,6 +1,5 @@
 -- Hexadecimal digits, two by two.
-use Rattle.std.proofs.Common.{◌≡◌, ℕ, suc, ◌+◌, ◌-◌, ◌*◌, ◌/◌, ◌%◌, ◌<◌, ◌≤◌, Bool, true, false, cond, List, [], ◌∷◌, ◌++◌, length, get_or, drop, refl, sym, ap, ◌∙◌, append_assoc, Ok, arith}
-use Rattle.std.specs.Prelude.{Some, None, is_some, nat_le, ◌&&◌}
+use Rattle.std.proofs.Common.{◌≡◌, ℕ, suc, ◌+◌, ◌-◌, ◌*◌, ◌/◌, ◌%◌, ◌<◌, ◌≤◌, Bool, true, false, cond, List, [], ◌∷◌, ◌++◌, length, get_or, drop, refl, sym, ap, ◌∙◌, append_assoc, Ok, arith, Some, None, is_some, nat_le, ◌&&◌}
 use Rattle.std.specs.List.{list_all}
 use Rattle.std.proofs.lemmas.Bool.Decides.{nat_tests}
 use Rattle.std.proofs.lemmas.List.{drop_more, drop_all, append-nil}
@@ -28,14 +27,12 @@ value_of c h = one_of_three (nat_le 65 c && nat_le c 70) (nat_le 97 c && nat_le 
 
 -- the bytes of pairs
 abbrev pub bytes_of : List ℕ → List ℕ
-bytes_of [] = []
-bytes_of (h ∷ []) = []
 bytes_of (h ∷ l ∷ rest) = (digit_of h * 16 + digit_of l) ∷ bytes_of rest
+bytes_of digits = []
 
 both : (a b : Bool) → a && b ≡ true → (a ≡ true) × (b ≡ true)
 both true true h = (refl, refl)
-both true false h = absurd cc
-both false b h = absurd cc
+both a b h = absurd cc
 
 odd : (n : ℕ) → suc (suc n) % 2 ≡ 0 → n % 2 ≡ 0
 odd n h = omega arith
@@ -66,8 +63,7 @@ pair_read word done i lt so_far =
 
 regrouped : (ok a b rest : Bool) → ((ok && a) && b) && rest ≡ ok && (a && (b && rest))
 regrouped true true b rest = refl
-regrouped true false b rest = refl
-regrouped false a b rest = refl
+regrouped ok a b rest = refl
 
 pub digits_read : (word : List ℕ) (ok all : Bool) (i : ℕ) → 2 * i + 1 < length word → (ok && list_all is_hex_digit (drop (2 * i) word)) ≡ all
     → ((ok && is_hex_digit (get_or word (2 * i) 0)) && is_hex_digit (get_or word (2 * i + 1) 0)) && list_all is_hex_digit (drop (2 * (i + 1)) word) ≡ all

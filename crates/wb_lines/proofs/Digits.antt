@@ -1,14 +1,12 @@
 -- Digits, read from the front.
-use Rattle.std.proofs.Common.{◌≡◌, ℕ, ◌+◌, ◌-◌, ◌*◌, ◌<◌, Bool, true, false, cond, List, [], ◌∷◌, length, get_or, drop, refl, ap, ◌∙◌, arith}
-use Rattle.std.specs.Prelude.{Option, Some, None, ◌&&◌, nat_le}
+use Rattle.std.proofs.Common.{◌≡◌, ℕ, ◌+◌, ◌-◌, ◌*◌, ◌<◌, Bool, true, false, cond, List, [], ◌∷◌, length, get_or, drop, refl, ap, ◌∙◌, arith, Option, Some, None, ◌&&◌, nat_le}
 use Rattle.std.proofs.lemmas.Bool.Decides.{nat_tests}
 use Rattle.std.proofs.lemmas.List.{drop_more}
 use Rattle.wb_lines.specs.Words.{is_digit, number_after}
 
 past : (a b : Bool) (n : ℕ) → b ≡ false → cond (a && b) (Some n) None ≡ None
 past true true n e = absurd cc
-past true false n e = refl
-past false b n e = refl
+past a b n e = refl
 
 either : (b : Bool) (x : Option ℕ) → x ≡ None → cond b x None ≡ None
 either true x e = e

@@ -1,9 +1,7 @@
 -- From all lines of a driver to its outcome.
-use Rattle.std.proofs.Common.{subst, ◌≡◌, ℕ, Bool, true, false, List, [], ◌++◌, Result, Ok, Err, inl, inr, refl, sym, ap, ◌∙◌, append_assoc}
-use Rattle.std.specs.Prelude.{Option, Some, None}
+use Rattle.std.proofs.Common.{subst, ◌≡◌, ℕ, Bool, true, false, List, [], ◌++◌, Result, Ok, Err, inl, inr, refl, sym, ap, ◌∙◌, append_assoc, Option, Some, None, append-nil}
 use Rattle.std.specs.Io.KnownBytes.{Consumes, IsAtEnd}
 use Rattle.std.proofs.lemmas.Bool.{false≢true}
-use Rattle.std.proofs.lemmas.List.{append-nil}
 use Rattle.wb_lines.specs.declared.fault.DriveFault.{DriveFault}
 use Rattle.wb_lines.specs.declared.fault.DriveFault.TheVariants as faults
 use Rattle.wb_lines.specs.Ahead.{Ahead, Pulls}
@@ -44,10 +42,9 @@ follows ended failed more working may = λ e. (may.none_after_end e, working e)
 takes_err : {S F : Type 0} (rules : Rules S F) (s : S) (r : Ahead) (failed : Bool) (given w w1 left : List ℕ) (e : DriveFault F) (result : Result ℕ (DriveFault F)) → (r.ended ≡ true → failed ≡ false)
     → TakesLines rules s given w r failed (Err e) → Closes (Err e) w1 left result → TakesAll rules s r.ended failed given (w ++ w1) left result
 takes_err rules s r failed given w w1 left faults.Read result working p q = takes_read rules s r failed given w w1 left result p q
-takes_err rules s r failed given w w1 left faults.Memory result working p q = λ more may. settles_stop (outcome rules failed s (given ++ more)) w w1 left faults.Memory result (p more failed (follows r.ended failed more working may)) tt q.0 q.1
-takes_err rules s r failed given w w1 left faults.Write result working p q = λ more may. settles_stop (outcome rules failed s (given ++ more)) w w1 left faults.Write result (p more failed (follows r.ended failed more working may)) tt q.0 q.1
 takes_err rules s r failed given w w1 left faults.Endless result working p q = λ more may. settles_then (outcome rules failed s (given ++ more)) (stop (Err faults.Endless)) w w1 left result (p more failed (follows r.ended failed more working may)) q
 takes_err rules s r failed given w w1 left (faults.Line n e) result working p q = λ more may. settles_then (outcome rules failed s (given ++ more)) (stop (Err (faults.Line n e))) w w1 left result (p more failed (follows r.ended failed more working may)) q
+takes_err rules s r failed given w w1 left e result working p q = λ more may. settles_stop (outcome rules failed s (given ++ more)) w w1 left e result (p more failed (follows r.ended failed more working may)) tt q.0 q.1
 
 takes_all : {S F : Type 0} (rules : Rules S F) (s : S) (r : Ahead) (failed : Bool) (given w w1 left : List ℕ) (ending result : Result ℕ (DriveFault F)) → (r.ended ≡ true → failed ≡ false)
     → TakesLines rules s given w r failed ending → Closes ending w1 left result → TakesAll rules s r.ended failed given (w ++ w1) left result

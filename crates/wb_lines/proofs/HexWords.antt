@@ -1,9 +1,7 @@
 -- Which words stand for bytes.
-use Rattle.std.proofs.Common.{◌≡◌, ℕ, ◌%◌, List, Bool, true, false, Ok, Err, refl, ap, sym, ◌∙◌, arith, length}
-use Rattle.std.specs.Prelude.{Some, None, ◌&&◌, nat_eq}
+use Rattle.std.proofs.Common.{◌≡◌, ℕ, ◌%◌, List, Bool, true, false, Ok, Err, refl, ap, sym, ◌∙◌, arith, length, Some, None, ◌&&◌, nat_eq, true≢false}
 use Rattle.std.specs.List.{list_all}
 use Rattle.std.specs.Result.{result_ok}
-use Rattle.std.proofs.lemmas.Bool.{true≢false}
 use Rattle.std.proofs.lemmas.Bool.Decides.{nat_tests}
 use Rattle.std.proofs.lemmas.List.Sums.{AllPass-from_list_all, list_all-from_AllPass}
 use Rattle.hex.specs.Hex.{decode_of, is_hex_digit}

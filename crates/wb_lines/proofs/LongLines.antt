@@ -1,15 +1,13 @@
 -- Lines that are too long: told, and passed over.
-use Rattle.std.proofs.Common.{◌≡◌, ◌⊎◌, inl, inr, ℕ, ◌+◌, ◌-◌, ◌^◌, ◌<◌, ◌≤◌, Bool, true, false, List, [], ◌∷◌, ◌++◌, length, Ok, Err, refl, sym, ap, subst, ◌∙◌, append_assoc, arith}
-use Rattle.std.specs.Prelude.{nat_le, nat_lt, if◌then◌else◌}
+use Rattle.std.proofs.Common.{◌≡◌, ◌⊎◌, inl, inr, ℕ, ◌+◌, ◌-◌, ◌^◌, ◌<◌, ◌≤◌, Bool, true, false, List, [], ◌∷◌, ◌++◌, length, Ok, Err, refl, sym, ap, subst, ◌∙◌, append_assoc, arith, nat_le, nat_lt, if◌then◌else◌, append-nil, length-append}
 use Rattle.std.proofs.lemmas.Bool.Decides.{nat_tests}
-use Rattle.std.proofs.lemmas.List.{append-nil, length-append}
 use Rattle.wb_lines.specs.declared.handler.Stop.{Stop}
 use Rattle.wb_lines.specs.declared.fault.DriveFault.TheVariants as faults
 use Rattle.wb_lines.specs.declared.line_reader.Found.{Found}
 use Rattle.wb_lines.specs.declared.line_reader.Found.TheVariants as founds
 use Rattle.wb_lines.specs.Ahead.{Ahead, NoLineFeed, PassesOver}
 use Rattle.wb_lines.specs.Input.{InputLine, input_lines, most_bytes}
-use Rattle.wb_lines.specs.Handling.{too_long, Step, goes, stops, ends, Does}
+use Rattle.wb_lines.specs.Handling.{too_long, Step, goes, Does}
 use Rattle.wb_lines.specs.Taking.{most_passed, is_passed}
 use Rattle.wb_lines.specs.Driving.{Rules, Outcome, writes, stop, proceed, outcome_from}
 use Rattle.wb_lines.specs.Steps.{fault_of, StartsLong, Leads, Begins, ahead, Stops, TakesLine}
@@ -58,8 +56,7 @@ pub record Went {S F : Type 0} (is_at : S → Type 0) (printed : List ℕ) (step
 
 went : {S F : Type 0} (is_at : S → Type 0) (printed : List ℕ) (step : Step S F) → Does {U = Unit {0}} is_at printed (Ok tt) step → Went is_at printed step
 went is_at printed (goes text next) d = record { next = next; at = d.1; leads = λ number rest. Leads-before (rest next) text printed d.0 }
-went is_at printed (stops text e) d = absurd d
-went is_at printed (ends text) d = absurd d
+went is_at printed step d = absurd d
 
 -- the line was read to its end
 read_whole : (front rest bytes given more after : List ℕ) → bytes ++ given ≡ rest ++ 10 ∷ after → (front ++ (bytes ++ given)) ++ more ≡ (front ++ rest) ++ 10 ∷ (after ++ more)

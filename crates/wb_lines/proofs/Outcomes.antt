@@ -1,9 +1,7 @@
 -- What a driver does, one line after the other.
-use Rattle.std.proofs.Common.{◌≡◌, ◌≢◌, ℕ, ◌+◌, ◌<◌, ◌≤◌, Bool, true, false, List, [], ◌∷◌, ◌++◌, length, Result, Ok, Err, refl, sym, ap, subst, ◌∙◌, append_assoc, arith}
-use Rattle.std.specs.Prelude.{nat_eq, nat_le, nat_lt, ◌||◌}
+use Rattle.std.proofs.Common.{◌≡◌, ◌≢◌, ℕ, ◌+◌, ◌<◌, ◌≤◌, Bool, true, false, List, [], ◌∷◌, ◌++◌, length, Result, Ok, Err, refl, sym, ap, subst, ◌∙◌, append_assoc, arith, nat_eq, nat_le, nat_lt, ◌||◌, append-nil}
 use Rattle.std.proofs.lemmas.Bool.{false≢true}
 use Rattle.std.proofs.lemmas.Bool.Decides.{nat_tests}
-use Rattle.std.proofs.lemmas.List.{append-nil}
 use Rattle.wb_lines.specs.declared.handler.Stop.{Stop}
 use Rattle.wb_lines.specs.declared.handler.Stop.TheVariants as handler_stops
 use Rattle.wb_lines.specs.declared.fault.DriveFault.{DriveFault}
@@ -67,19 +65,16 @@ OfStep number step o = (rest : _) × (o ≡ proceed number step rest)
 -- a handler that stops stops the driver, whatever follows
 pub halts : {S F : Type 0} (rules : Rules S F) (n : ℕ) (s : S) (read printed : List ℕ) (reader : Ahead) (failed : Bool) (is_at : S → Type 0) (step : Step S F) (e : Stop F)
     → Always rules n s read reader (OfStep (n + 1) step) → Does {U = Unit {0}} is_at printed (Err e) step → Stops rules n s read printed reader failed (fault_of (n + 1) e)
-halts rules n s read printed reader failed is_at (goes text next) (handler_stops.Fault f) h d = absurd d
 halts rules n s read printed reader failed is_at (stops text g) (handler_stops.Fault f) h d = λ more cut may.
     let o = h more cut may in
     rw (o.1, d.1) (Leads-before (stop (Err (faults.Line (n + 1) g))) text printed d.0)
-halts rules n s read printed reader failed is_at (ends text) (handler_stops.Fault f) h d = absurd d
-halts rules n s read printed reader failed is_at (goes text next) handler_stops.Endless h d = absurd d
-halts rules n s read printed reader failed is_at (stops text g) handler_stops.Endless h d = absurd d
 halts rules n s read printed reader failed is_at (ends text) handler_stops.Endless h d = λ more cut may.
     let o = h more cut may in
     rw o.1 (Leads-before (stop (Err faults.Endless)) text printed d)
 halts rules n s read printed reader failed is_at step handler_stops.Memory h d = λ more cut may.
     let o = h more cut may in
     rw o.1 (Begins-proceed (n + 1) step o.0 printed d)
+halts rules n s read printed reader failed is_at step e h d = absurd d
 
 -- ---- a line that is not too long
 
@@ -92,9 +87,8 @@ Meant rules n s read reader step =
 pub takes : {S F : Type 0} (rules : Rules S F) (is_at : S → Type 0) (n : ℕ) (s : S) (read printed : List ℕ) (reader : Ahead) (failed : Bool) (step : Step S F) (answer : Result (Unit {0}) (Stop F))
     → Meant rules n s read reader step → Does is_at printed answer step → TakesLine rules is_at n s read printed reader failed (driven (n + 1) answer)
 takes rules is_at n s read printed reader failed (goes text next) (Ok u) h d = (next, d.1, λ more cut may. rw (h more cut may) (Leads-before (ahead rules cut (n + 1) next (reader.bytes ++ more)) text printed d.0))
-takes rules is_at n s read printed reader failed (stops text g) (Ok u) h d = absurd d
-takes rules is_at n s read printed reader failed (ends text) (Ok u) h d = absurd d
 takes rules is_at n s read printed reader failed step (Err e) h d = halts rules n s read printed reader failed is_at step e (λ more cut may. (λ next. ahead rules cut (n + 1) next (reader.bytes ++ more), h more cut may)) d
+takes rules is_at n s read printed reader failed step (Ok u) h d = absurd d
 
 few_lines : (most n : ℕ) → n < most → nat_lt n most ≡ true
 few_lines most n few = grind (arith, nat_tests)
@@ -203,12 +197,11 @@ leads_then rules a b s t mid reader read given w w1 last j p q = λ more cut may
 
 then_stops : {S F : Type 0} (rules : Rules S F) (a b : ℕ) (s t : S) (mid reader : Ahead) (read given w w1 : List ℕ) (failed : Bool) (e : DriveFault F)
     → Joins mid reader given → Passes rules a s read w b t mid → Stops rules b t (mid.bytes ++ given) w1 reader failed e → Stops rules a s (read ++ given) (w ++ w1) reader failed e
-then_stops rules a b s t mid reader read given w w1 failed faults.Memory j p q = begins_then rules a b s t mid reader read given w w1 j p q
-then_stops rules a b s t mid reader read given w w1 failed faults.Write j p q = begins_then rules a b s t mid reader read given w w1 j p q
 then_stops rules a b s t mid reader read given w w1 failed faults.Endless j p q = leads_then rules a b s t mid reader read given w w1 (stop (Err faults.Endless)) j p q
 then_stops rules a b s t mid reader read given w w1 failed (faults.Line k e) j p q = leads_then rules a b s t mid reader read given w w1 (stop (Err (faults.Line k e))) j p q
 then_stops rules a b s t mid reader read given w w1 failed faults.Read j p q =
     (q.0, q.1, Leads-then (ahead rules true a s (read ++ given)) (ahead rules true b t (mid.bytes ++ given)) (stop (Err faults.Read)) w w1 (p given true (λ e. absurd (false≢true (sym q.1 ∙ j.1 e)))) q.2)
+then_stops rules a b s t mid reader read given w w1 failed e j p q = begins_then rules a b s t mid reader read given w w1 j p q
 
 -- ---- from the start on
 

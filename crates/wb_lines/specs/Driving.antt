@@ -59,16 +59,12 @@ Gave None rest failed input = Unit {0}
 abbrev pub IsStop : {F : Type 0} → DriveFault F → Type 0
 IsStop faults.Memory = Unit {0}
 IsStop faults.Write = Unit {0}
-IsStop faults.Read = ⊥
-IsStop faults.Endless = ⊥
-IsStop (faults.Line n e) = ⊥
+IsStop e = ⊥
 
 abbrev pub is_stop : {F : Type 0} → DriveFault F → Bool
 is_stop faults.Memory = true
 is_stop faults.Write = true
-is_stop faults.Read = false
-is_stop faults.Endless = false
-is_stop (faults.Line n e) = false
+is_stop e = false
 
 abbrev pub IsStopped : {F : Type 0} → Result ℕ (DriveFault F) → Type 0
 IsStopped (Ok n) = ⊥

@@ -23,12 +23,7 @@ text_of (ends text) = text
 -- What the code did for a step, where it is at some states afterwards: all of the step; or memory ran out, and it printed a front of the text.
 abbrev pub Does : {S F U : Type 0} → (S → Type 0) → List ℕ → Result U (Stop F) → Step S F → Type 0
 Does is_at printed (Ok u) (goes text next) = (printed ≡ text) × is_at next
-Does is_at printed (Ok u) (stops text e) = ⊥
-Does is_at printed (Ok u) (ends text) = ⊥
-Does is_at printed (Err (Fault f)) (goes text next) = ⊥
 Does is_at printed (Err (Fault f)) (stops text e) = (printed ≡ text) × (f ≡ e)
-Does is_at printed (Err (Fault f)) (ends text) = ⊥
-Does is_at printed (Err Endless) (goes text next) = ⊥
-Does is_at printed (Err Endless) (stops text e) = ⊥
 Does is_at printed (Err Endless) (ends text) = printed ≡ text
 Does is_at printed (Err Memory) step = BeginsWith (text_of step) printed
+Does is_at printed answer step = ⊥

@@ -45,10 +45,9 @@ Always rules n s read reader P = (more : List ℕ) (cut : Bool) → MayFollow re
 abbrev pub Stops : {S F : Type 0} → Rules S F → ℕ → S → List ℕ → List ℕ → Ahead → Bool → DriveFault F → Type 0
 Stops rules n s read written reader failed faults.Read =
     (failed ≡ true) × (reader.ended ≡ false) × Leads (ahead rules true n s read) written (stop (Err faults.Read))
-Stops rules n s read written reader failed faults.Memory = Always rules n s read reader (λ o. Begins o written)
-Stops rules n s read written reader failed faults.Write = Always rules n s read reader (λ o. Begins o written)
 Stops rules n s read written reader failed faults.Endless = Always rules n s read reader (λ o. Leads o written (stop (Err faults.Endless)))
 Stops rules n s read written reader failed (faults.Line k e) = Always rules n s read reader (λ o. Leads o written (stop (Err (faults.Line k e))))
+Stops rules n s read written reader failed e = Always rules n s read reader (λ o. Begins o written)
 
 -- The end of the input.
 abbrev pub Ends : {S F : Type 0} → Rules S F → ℕ → S → List ℕ → List ℕ → ℕ → Ahead → Type 0

@@ -1,8 +1,6 @@
 -- What a host does and then is, from what its keeper did.
-use Rattle.std.proofs.Common.{◌≡◌, ℕ, ◌<◌, ◌≤◌, true, false, List, [], ◌∷◌, ◌++◌, length, Result, Ok, Err, inl, inr, refl, sym, ap, subst, ◌∙◌, arith}
-use Rattle.std.specs.Prelude.{OnOk, IfErr, nat_lt}
+use Rattle.std.proofs.Common.{◌≡◌, ℕ, ◌<◌, ◌≤◌, true, false, List, [], ◌∷◌, ◌++◌, length, Result, Ok, Err, inl, inr, refl, sym, ap, subst, ◌∙◌, arith, OnOk, IfErr, nat_lt, append-nil}
 use Rattle.std.proofs.lemmas.Bool.Decides.{nat_tests}
-use Rattle.std.proofs.lemmas.List.{append-nil}
 use Rattle.wb_names.specs.Values.{NameValue, DrawopValue, MarkValue}
 use Rattle.wb_names.specs.declared.name.PageId.{PageId}
 use Rattle.wb_codec.specs.declared.datagram.Datagram.{Datagram}
@@ -52,10 +50,8 @@ called b k k' g g' host call call' count at keeps e words = record {
 -- ---- a question
 
 same_answer : (one other : PageId → List MarkValue) (history : List DrawopValue) (query : Query) → ((page : PageId) → one page ≡ other page) → answer_text one history query ≡ answer_text other history query
-same_answer one other history (queries.Canvas page width height) same = refl
 same_answer one other history (queries.Gaps page) same = ap (λ (marks : List MarkValue). gaps_text (gaps_of history page marks)) (same page)
-same_answer one other history (queries.Report page) same = refl
-same_answer one other history queries.Pages same = refl
+same_answer one other history query same = refl
 
 pub asked_done : (r : Result (Unit {0}) RunFault) (b b' : Held) (k : KeeperValue) (g : Lcg) (query : Query) (old new : List ℕ) → b' ≡ b → OnOk r (new ≡ old ++ answer_text (marks_at k.marks) b.drawops query) → IfErr r (λ e. (e ≡ run_faults.Memory) × (new ≡ old))
     → (x : List ℕ) × (new ≡ old ++ x) × ((host : Opened) → IsOpenAt (member b k g) host → (number : ℕ) → DoesAct number host (member b' k g) x r (asked query host))

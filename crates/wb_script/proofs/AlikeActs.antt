@@ -1,7 +1,5 @@
 -- Two hosts that differ in the order of what they hold, at most: each line prints the same there, and leads to two such hosts.
-use Rattle.std.proofs.Common.{◌≡◌, ℕ, Bool, true, false, cond, List, [], ◌∷◌, length, Option, refl, sym, ap, ◌∙◌}
-use Rattle.std.specs.Prelude.{filter, map, nat_lt, ◌||◌}
-use Rattle.std.specs.List.{filter_map}
+use Rattle.std.proofs.Common.{◌≡◌, ℕ, Bool, true, false, cond, List, [], ◌∷◌, length, Option, refl, sym, ap, ◌∙◌, filter, map, nat_lt, ◌||◌, filter_map}
 use Rattle.wb_names.specs.Values.{NameValue, DrawopValue, MarkValue}
 use Rattle.wb_names.specs.declared.name.PageId.{PageId}
 use Rattle.wb_names.specs.declared.gap.Gap.{Gap}
@@ -18,7 +16,7 @@ use Rattle.wb_host.specs.Missing.{wanted, names_in_gaps}
 use Rattle.wb_host.specs.Ticks.{sends_for}
 use Rattle.wb_script.specs.declared.fault.LineFault.TheVariants as faults
 use Rattle.wb_script.specs.declared.command.Command.{Command}
-use Rattle.wb_script.specs.declared.command.Command.TheVariants.{Skip, Board, Arrive, Hear as HearLine, Distance, Tick, Look, Session, Show, Gaps, Report, Pages}
+use Rattle.wb_script.specs.declared.command.Command.TheVariants.{Hear as HearLine, Tick, Look, Session, Show, Gaps, Report, Pages}
 use Rattle.wb_script.specs.declared.query.Query.{Query}
 use Rattle.wb_script.specs.declared.query.Query.TheVariants as queries
 use Rattle.wb_script.specs.Hosts.{Opened, present, calling, Act, does, fails, events, due_count, stopped, sent_by, ticked, wanted_of, looked, words_for, word_at, heard, asked, reported, act}
@@ -34,8 +32,7 @@ holding host drawops = record { me = host.me; constants = host.constants; board 
 abbrev pub DoAlike : Opened → List DrawopValue → Act → Act → Type 0
 DoAlike host drawops (does next text) (does next' text') = (next.board ≡ host.board) × (next' ≡ holding next drawops) × (text ≡ text')
 DoAlike host drawops (fails e) (fails e') = e ≡ e'
-DoAlike host drawops (does next text) (fails e) = ⊥
-DoAlike host drawops (fails e) (does next text) = ⊥
+DoAlike host drawops one other = ⊥
 
 -- ---- as time goes on
 
@@ -112,10 +109,7 @@ act_alike (Gaps page) host drawops a = asked_alike (queries.Gaps page) host draw
 act_alike (Report page) host drawops a = asked_alike (queries.Report page) host drawops a
 act_alike Pages host drawops a = asked_alike queries.Pages host drawops a
 act_alike (HearLine v) host drawops a = hears_alike v host drawops a
-act_alike (Distance source micros) host drawops a = (refl, refl, refl)
 act_alike (Tick moment) host drawops a = ticks_alike moment host drawops a
 act_alike (Look page) host drawops a = looks_alike page host drawops a
 act_alike (Session page) host drawops a = session_alike page host drawops a
-act_alike Skip host drawops a = (refl, refl, refl)
-act_alike (Board member cells workers seed) host drawops a = (refl, refl, refl)
-act_alike (Arrive d) host drawops a = (refl, refl, refl)
+act_alike line host drawops a = (refl, refl, refl)

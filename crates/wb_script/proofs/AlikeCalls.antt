@@ -1,7 +1,6 @@
 -- Calls that tell a keeper the same: an arrival of names may be told in any order.
-use Rattle.std.proofs.Common.{◌≡◌, ℕ, Bool, true, false, cond, Option, None, List, [], ◌∷◌, refl, ap, ap₂, ◌∙◌, sym, subst}
+use Rattle.std.proofs.Common.{◌≡◌, ℕ, Bool, true, false, cond, Option, None, List, [], ◌∷◌, refl, ap, ap₂, ◌∙◌, sym, subst, nat_eq, unwrap_or}
 use Rattle.std.proofs.Math.Path.{fun_ext}
-use Rattle.std.specs.Prelude.{nat_eq, unwrap_or}
 use Rattle.std.specs.BTreeSet.{insert_key}
 use Rattle.std.specs.List.{list_any}
 use Rattle.std.specs.Option.{option_or}
@@ -21,7 +20,7 @@ use Rattle.wb_recovery.specs.declared.timers.Timers.{Timers}
 use Rattle.wb_recovery.specs.declared.tuning.Tuning.{Tuning}
 use Rattle.wb_recovery.proofs.StoppedNames.{names_receipts}
 use Rattle.wb_host.specs.Hearing.{marks_reported, marks_heard}
-use Rattle.wb_host.specs.Keeper.{KeeperCall, SetDelay, Hear, Arrive, Miss, GoOn, Report, GiveUp, newest, now_of, delay_given, delay_to, session_heard, senders_of, remember, heard_by, last_heard, received_of, missed_of, asked_by, timer_calls, events_of}
+use Rattle.wb_host.specs.Keeper.{KeeperCall, Hear, Arrive, Miss, GoOn, GiveUp, newest, now_of, delay_given, delay_to, session_heard, senders_of, remember, heard_by, last_heard, received_of, missed_of, asked_by, timer_calls, events_of}
 use Rattle.wb_host.specs.declared.keeper.Heard.{Heard}
 use Rattle.wb_host.proofs.FreeArrivals.{comes, timers_alike}
 
@@ -90,14 +89,12 @@ asked_alike me delays now (AskPages asker) word held a b p = p
 asked_alike me delays now (PageState sender page marks) word held a b p = p
 
 timer_calls_alike : (me : ℕ) (delays : ℕ → ℕ) (call : KeeperCall) (a b : List Event) → TimeAlike a b → TimeAlike (timer_calls me delays call a) (timer_calls me delays call b)
-timer_calls_alike me delays (SetDelay source micros) a b p = p
 timer_calls_alike me delays (Hear now datagram word held) a b p = asked_alike me delays now datagram word held a b p
 timer_calls_alike me delays (Arrive now held) a b p = time_receipts now (received_of delays held) a b p
 timer_calls_alike me delays (Miss now names words) a b p = time_notices now (missed_of delays names words) a b p
 timer_calls_alike me delays (GoOn now words stopped) a b p = time_more (Tick now words) (receipts now a (received_of delays stopped)) (receipts now b (received_of delays stopped)) (time_receipts now (received_of delays stopped) a b p)
-timer_calls_alike me delays (Report now) a b p = p
 timer_calls_alike me delays (GiveUp now name true) a b p = time_more (Got name now 0) a b p
-timer_calls_alike me delays (GiveUp now name false) a b p = p
+timer_calls_alike me delays call a b p = p
 
 -- ---- calls of a keeper
 

@@ -1,9 +1,6 @@
 -- Two histories with the same drawops: what a script's lines read off them is the same.
-use Rattle.std.proofs.Common.{◌≡◌, ℕ, Bool, List, Option, refl, sym, ap, ◌∙◌, ⊎_elim, eqb-true}
-use Rattle.std.specs.Prelude.{Contains, Any, IsPermutation, map, filter, nat_lt}
+use Rattle.std.proofs.Common.{◌≡◌, ℕ, Bool, List, Option, refl, sym, ap, ◌∙◌, ⊎_elim, eqb-true, Contains, Any, IsPermutation, map, filter, nat_lt, option_map, is_eq, nat_cmp}
 use Rattle.std.specs.Cmp.{nat_cmp_total}
-use Rattle.std.specs.Option.{option_map}
-use Rattle.std.specs.Ordering.{is_eq, nat_cmp}
 use Rattle.std.proofs.Math.Path.{fun_ext}
 use Rattle.std.proofs.lemmas.List.Sorted.{Contains-permutation, IsPermutation-sym, list_any-IsPermutation}
 use Rattle.wb_names.specs.Values.{NameValue, DrawopValue, MarkValue}
@@ -14,7 +11,7 @@ use Rattle.wb_names.specs.declared.gap.Gap.{Gap}
 use Rattle.wb_names.proofs.Listings.{Contains-filter, Contains-from_filter, Any-from_map, Contains-map, one_list, lists_same}
 use Rattle.wb_names.proofs.Orders.{nat_ties}
 use Rattle.wb_codec.specs.declared.datagram.Datagram.{Datagram}
-use Rattle.wb_codec.specs.declared.datagram.Datagram.TheVariants.{Draw, Session, Request, AskPages, PageState}
+use Rattle.wb_codec.specs.declared.datagram.Datagram.TheVariants.{Draw, Request}
 use Rattle.wb_display.specs.Canvas.{canvas_text}
 use Rattle.wb_display.proofs.Convergence.{converges}
 use Rattle.wb_gaps.specs.Answers.{sources_of, top_mark, gaps_of, report_of, pages_of, reports_of}
@@ -73,10 +70,7 @@ sent_alike me one other a = fun_ext each where
 
 pub asks_alike : (one other : List DrawopValue) (v : Datagram) → AreAlike one other → asks_for_held one v ≡ asks_for_held other v
 asks_alike one other (Request asker name) a = ap (λ (held : NameValue → Bool). held name) (holds_alike one other a)
-asks_alike one other (Draw d) a = refl
-asks_alike one other (Session sender sent page marks echoes) a = refl
-asks_alike one other (AskPages asker) a = refl
-asks_alike one other (PageState sender page marks) a = refl
+asks_alike one other v a = refl
 
 -- ---- gaps, reports and pages
 

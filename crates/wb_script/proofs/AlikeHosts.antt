@@ -1,9 +1,6 @@
 -- Hosts whose keepers were told the same do the same.
-use Rattle.std.proofs.Common.{◌≡◌, ℕ, Bool, true, false, cond, Option, List, [], ◌∷◌, length, refl, ap, ap₂, ◌∙◌, sym, subst}
+use Rattle.std.proofs.Common.{◌≡◌, ℕ, Bool, true, false, cond, Option, List, [], ◌∷◌, length, refl, ap, ap₂, ◌∙◌, sym, subst, filter, map, nat_lt, unwrap_or, ◌-◌, ◌++◌, ◌||◌, filter_map, option_map}
 use Rattle.std.proofs.Math.Path.{fun_ext}
-use Rattle.std.specs.Prelude.{filter, map, nat_lt, unwrap_or, ◌-◌, ◌++◌, ◌||◌}
-use Rattle.std.specs.List.{filter_map}
-use Rattle.std.specs.Option.{option_map}
 use Rattle.wb_names.specs.Values.{NameValue, MarkValue}
 use Rattle.wb_names.specs.declared.echo.Echo.{Echo}
 use Rattle.wb_names.specs.declared.name.PageId.{PageId}
@@ -40,8 +37,7 @@ told calls host = record { me = host.me; constants = host.constants; board = hos
 abbrev pub ActsAlike : Act → Act → Type 0
 ActsAlike (does next text) (does other printed) = (calls : List KeeperCall) × (other ≡ told calls next) × TellAlike next.me next.calls calls × (printed ≡ text)
 ActsAlike (fails e) (fails f) = f ≡ e
-ActsAlike (does next text) (fails f) = ⊥
-ActsAlike (fails e) (does other printed) = ⊥
+ActsAlike one other = ⊥
 
 module _ (host : Opened) (calls : List KeeperCall) (alike : TellAlike host.me host.calls calls) where
   abbrev other : Opened
@@ -150,6 +146,4 @@ module _ (host : Opened) (calls : List KeeperCall) (alike : TellAlike host.me ho
   acts_alike (lines.Tick moment) = ticks_alike moment
   acts_alike (lines.Look page) = looks_alike page
   acts_alike (lines.Session page) = reports_alike page
-  acts_alike lines.Skip = stays_alike
-  acts_alike (lines.Board member cells workers seed) = stays_alike
-  acts_alike (lines.Arrive d) = stays_alike
+  acts_alike line = stays_alike

@@ -1,6 +1,5 @@
 -- Two states that differ in the order of what is held, at most: each line prints the same there, whatever the order of the batch that it ends.
-use Rattle.std.proofs.Common.{◌≡◌, ℕ, List, [], ◌∷◌, ◌++◌, Result, Ok, Err, refl, sym, ap, subst, ◌∙◌, ⊎_elim}
-use Rattle.std.specs.Prelude.{Option, Some, None, Contains, IsPermutation}
+use Rattle.std.proofs.Common.{◌≡◌, ℕ, List, [], ◌∷◌, ◌++◌, Result, Ok, Err, refl, sym, ap, subst, ◌∙◌, ⊎_elim, Option, Some, None, Contains, IsPermutation}
 use Rattle.std.proofs.lemmas.List.Elements.{Contains-push_cases}
 use Rattle.std.proofs.lemmas.List.Sorted.{IsPermutation-refl, length_permutation}
 use Rattle.wb_names.specs.Values.{DrawopValue}
@@ -35,8 +34,7 @@ pub record HostsAlike (cells : ℕ) (all : List DrawopValue) (one other : Opened
 abbrev pub MayBeAlike : ℕ → List DrawopValue → Option Opened → Option Opened → Type 0
 MayBeAlike cells all None None = Unit {0}
 MayBeAlike cells all (Some one) (Some other) = HostsAlike cells all one other
-MayBeAlike cells all None (Some other) = ⊥
-MayBeAlike cells all (Some one) None = ⊥
+MayBeAlike cells all one other = ⊥
 
 -- the board is open, or the lines that follow open it with so many cells
 abbrev pub AreCells : ℕ → Option Opened → ℕ → Type 0
@@ -52,8 +50,7 @@ pub record StatesAlike (cells : ℕ) (all : List DrawopValue) (s t : State) : Ty
 abbrev pub StepsAlike : ℕ → List DrawopValue → ℕ → Step → Step → Type 0
 StepsAlike cells all later (goes s text) (goes t text') = StatesAlike cells all s t × AreCells cells s.host later × (text ≡ text')
 StepsAlike cells all later (refused s text e) (refused t text' e') = StatesAlike cells all s t × (text ≡ text') × (e ≡ e')
-StepsAlike cells all later (goes s text) (refused t text' e) = ⊥
-StepsAlike cells all later (refused s text e) (goes t text') = ⊥
+StepsAlike cells all later one other = ⊥
 
 -- ---- a line at a host
 
@@ -73,8 +70,7 @@ module _ (cells : ℕ) (all : List DrawopValue) (clash : NoneClash all) (room : 
     ap (λ (t : List ℕ). t ++ printed) same ∙ ap (λ (t : List ℕ). text' ++ t) d.2,
   )
   act_done later k j text text' one other (fails e) (fails e') h same d = (record { hosts = h; waiting = refl; within = none_among all }, same, d)
-  act_done later k j text text' one other (does next printed) (fails e) h same d = absurd d
-  act_done later k j text text' one other (fails e) (does next printed) h same d = absurd d
+  act_done later k j text text' one other a b h same d = absurd d
 
   line_done : (later : ℕ) (k j : Option ℕ) (text text' : List ℕ) (line : Command) (one other : Opened) → HostsAlike cells all one other → text ≡ text' → StepsAlike cells all later (step_by k text (act line one) one) (step_by j text' (act line other) other)
   line_done later k j text text' line one other h same =
@@ -110,13 +106,12 @@ module _ (cells : ℕ) (all : List DrawopValue) (clash : NoneClash all) (room : 
       → StepsAlike cells all later (closing_step (state k one []) text c) (closing_step (state j other []) text' c)
   closes_alike later k j None None text text' (Opens member cells' workers seed) h opens same =
       (record { hosts = hosts_alike (opened member cells' seed) (opened member cells' seed) [] refl nothing_held opens (none_among all); waiting = refl; within = none_among all }, tt, same)
-  closes_alike later k j (Some one) (Some other) text text' (Opens member cells' workers seed) h opens same = (record { hosts = h; waiting = refl; within = none_among all }, same, refl)
   closes_alike later k j None None text text' (Acts line) h opens same = (record { hosts = tt; waiting = refl; within = none_among all }, same, refl)
   closes_alike later k j (Some one) (Some other) text text' (Acts line) h opens same = line_done later k j text text' line one other h same
   closes_alike later k j None None text text' (Faulty e) h opens same = (record { hosts = tt; waiting = refl; within = none_among all }, same, refl)
-  closes_alike later k j (Some one) (Some other) text text' (Faulty e) h opens same = (record { hosts = h; waiting = refl; within = none_among all }, same, refl)
   closes_alike later k j None (Some other) text text' c h opens same = absurd h
   closes_alike later k j (Some one) None text text' c h opens same = absurd h
+  closes_alike later k j (Some one) (Some other) text text' c h opens same = (record { hosts = h; waiting = refl; within = none_among all }, same, refl)
 
   arrives_alike : (later : ℕ) (k j : Option ℕ) (one other : Option Opened) (waiting order order' : List DrawopValue) (d : DrawopValue) → MayBeAlike cells all one other → Among waiting all → Among (d ∷ []) all
       → StepsAlike cells all later (part_step (state k one waiting) order (Arrival d)) (part_step (state j other waiting) order' (Arrival d))
@@ -130,8 +125,7 @@ module _ (cells : ℕ) (all : List DrawopValue) (clash : NoneClash all) (room : 
     tt,
     refl,
   )
-  arrives_alike later k j None (Some other) waiting order order' d h within more = absurd h
-  arrives_alike later k j (Some one) None waiting order order' d h within more = absurd h
+  arrives_alike later k j one other waiting order order' d h within more = absurd h
 
   -- by the hosts, at the end of a batch
   ended_alike : (later : ℕ) (k j : Option ℕ) (one other : Option Opened) (waiting order order' : List DrawopValue) (c : Closing) → MayBeAlike cells all one other → AreCells cells one (cells_by (End c) later) → Among order all → IsPermutation order order'
@@ -140,8 +134,7 @@ module _ (cells : ℕ) (all : List DrawopValue) (clash : NoneClash all) (room : 
   ended_alike later k j (Some one) (Some other) waiting order order' c h opens here moved =
       closes_alike later k j (Some (host_after one waiting order)) (Some (host_after other waiting order')) (batch_text one.board order) (batch_text other.board order') c
       (batch_ended one other waiting order order' h here moved) tt (same_text one other order order' h here moved)
-  ended_alike later k j None (Some other) waiting order order' c h opens here moved = absurd h
-  ended_alike later k j (Some one) None waiting order order' c h opens here moved = absurd h
+  ended_alike later k j one other waiting order order' c h opens here moved = absurd h
 
   pub part_alike : (later : ℕ) (k j : Option ℕ) (one other : Option Opened) (waiting order order' : List DrawopValue) (part : Part) → MayBeAlike cells all one other → AreCells cells one (cells_by part later)
       → Among waiting all → Among (arrived_by part) all → Among order all → IsPermutation order order' → StepsAlike cells all later (part_step (state k one waiting) order part) (part_step (state j other waiting) order' part)
@@ -153,8 +146,6 @@ module _ (cells : ℕ) (all : List DrawopValue) (clash : NoneClash all) (room : 
 
   pub ends_alike : (k j : Option ℕ) (one other : Option Opened) (waiting order order' : List DrawopValue) (ending : Result ℕ RunFault) → MayBeAlike cells all one other → Among order all → IsPermutation order order'
       → finish (state k one waiting) order ending ≡ finish (state j other waiting) order' ending
-  ends_alike k j None None waiting order order' (Ok n) h here moved = refl
-  ends_alike k j None None waiting order order' (Err e) h here moved = refl
   ends_alike k j (Some one) (Some other) waiting order order' (Err e) h here moved = ap (λ (text : List ℕ). prints text (Err e)) (same_text one other order order' h here moved)
   ends_alike k j (Some one) (Some other) waiting order order' (Ok n) h here moved =
       let ended : HostsAlike cells all (host_after one waiting order) (host_after other waiting order') = batch_ended one other waiting order order' h here moved in
@@ -162,3 +153,4 @@ module _ (cells : ℕ) (all : List DrawopValue) (clash : NoneClash all) (room : 
       ∙ ap (λ (held : ℕ). let sum : Summary = record { lines = n; held = held } in prints (batch_text other.board order') (Ok sum)) (sym (length_permutation (host_after one waiting order).board.drawops (host_after other waiting order').board.drawops ended.held.moved))
   ends_alike k j None (Some other) waiting order order' ending h here moved = absurd h
   ends_alike k j (Some one) None waiting order order' ending h here moved = absurd h
+  ends_alike k j None None waiting order order' ending h here moved = refl

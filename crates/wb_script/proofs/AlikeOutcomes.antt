@@ -1,6 +1,5 @@
 -- Where no arrivals clash and there are cells for all names, every order of the workers has the outcome of one thread.
-use Rattle.std.proofs.Common.{◌≡◌, ℕ, ◌+◌, Bool, List, refl, sym, subst, ◌∙◌}
-use Rattle.std.specs.Prelude.{IsPermutation}
+use Rattle.std.proofs.Common.{◌≡◌, ℕ, ◌+◌, Bool, List, refl, sym, subst, ◌∙◌, IsPermutation}
 use Rattle.std.proofs.lemmas.List.Elements.{Contains-append_left, Contains-append_right}
 use Rattle.std.proofs.lemmas.List.Sorted.{IsPermutation-sym, Contains-permutation}
 use Rattle.wb_names.specs.Values.{DrawopValue}
@@ -31,8 +30,7 @@ module _ (cells : ℕ) (all : List DrawopValue) (clash : NoneClash all) (room : 
   alike_on : (n : ℕ) (lines : List InputLine) (step other : Step) → Among (arrivals_of lines) all → LinesAlike cells all (cells_of lines) step other → StepsAlike (Alike n lines) step other
   alike_on n lines (goes s text) (goes t text') more a = ((a.0, a.1, more), a.2)
   alike_on n lines (refused s text e) (refused t text' e') more a = (ends_within s t a.0, a.1, a.2)
-  alike_on n lines (goes s text) (refused t text' e) more a = absurd a
-  alike_on n lines (refused s text e) (goes t text') more a = absurd a
+  alike_on n lines step other more a = absurd a
 
   alike_simulates : (cut : Bool) → Simulates cut Alike
   alike_simulates cut = record {

@@ -1,13 +1,10 @@
 -- A line that hands in an arrival has no carriage return at its end.
-use Rattle.std.proofs.Common.{◌≡◌, ℕ, ◌-◌, ◌^◌, ◌%◌, ◌⊎◌, Bool, true, false, cond, List, [], ◌∷◌, ◌++◌, length, Result, Ok, Err, inl, inr, refl, sym, ap, ◌∙◌, arith, length-append}
-use Rattle.std.specs.Prelude.{Option, Some, None, nat_eq, ◌&&◌, codes}
+use Rattle.std.proofs.Common.{◌≡◌, ℕ, ◌-◌, ◌^◌, ◌%◌, ◌⊎◌, Bool, true, false, cond, List, [], ◌∷◌, ◌++◌, length, Result, Ok, Err, inl, inr, refl, sym, ap, subst, ◌∙◌, arith, length-append, Option, Some, None, nat_eq, ◌&&◌, codes, bytes_eq}
 use Rattle.std.specs.List.{list_all}
-use Rattle.std.specs.Str.{bytes_eq}
 use Rattle.std.specs.Str.Lines.{strip_carriage_return}
 use Rattle.std.proofs.lemmas.Bool.Decides.{nat_tests}
 use Rattle.hex.specs.Hex.{is_hex_digit}
 use Rattle.wb_names.specs.Values.{DrawopValue}
-use Rattle.wb_names.specs.declared.name.PageId.{PageId}
 use Rattle.wb_lines.specs.Words.{words_after, is_hex, unhex}
 use Rattle.wb_lines.proofs.HexWords.{unhex-not_hex}
 use Rattle.wb_lines.proofs.StandingLines.{stripped}
@@ -17,7 +14,7 @@ use Rattle.wb_codec.specs.Reading.{reading}
 use Rattle.wb_script.specs.declared.fault.LineFault.{LineFault}
 use Rattle.wb_script.specs.declared.fault.LineFault.TheVariants as faults
 use Rattle.wb_script.specs.declared.command.Command.{Command}
-use Rattle.wb_script.specs.declared.command.Command.TheVariants.{Arrive, Skip, Board, Hear, Distance, Tick, Look, Session, Show, Gaps, Report, Pages}
+use Rattle.wb_script.specs.declared.command.Command.TheVariants.{Arrive, Skip, Board, Distance, Tick, Look, Session, Show, Gaps, Report, Pages}
 use Rattle.wb_script.specs.Parsing.{◌>>=◌, or_fault, number, none_of, one_of, two_of, four_of, page, spelled, datagram, board, arrived, heard, arrive, hear, show, distance, tick, pages, page_line, command, begins_comment, line_of_words, line_of}
 use Rattle.wb_script.specs.Script.{Arrival, part_of}
 
@@ -56,97 +53,59 @@ no_digits w bytes e =
 
 -- ---- the words of a line that hands in an arrival
 
--- no line of this kind hands one in
-abbrev Never : Result Command LineFault → Type 0
-Never said = (d : DrawopValue) → said ≡ Ok (Arrive d) → ⊥
+-- it hands in none
+abbrev HandsInNone : Result Command LineFault → Type 0
+HandsInNone (Ok (Arrive d)) = ⊥
+HandsInNone said = Unit {0}
 
-never_then : {A : Type 0} → (r : Result A LineFault) (f : A → Result Command LineFault) → ((x : A) → Never (f x)) → Never (r >>= f)
-never_then (Ok x) f never = never x
-never_then (Err e) f never = λ d h. absurd cc
+none_then : {A : Type 0} → (r : Result A LineFault) (f : A → Result Command LineFault) → ((x : A) → HandsInNone (f x)) → HandsInNone (r >>= f)
+none_then (Ok x) f none = none x
+none_then (Err e) f none = tt
 
-board_never : (member cells workers seed : ℕ) → Never (Ok (Board member cells workers seed))
-board_never member cells workers seed = λ d h. absurd cc
-
-never_board : (ws : List (List ℕ)) → Never (board ws)
+no_board : (ws : List (List ℕ)) → HandsInNone (board ws)
 unfolding board
-never_board ws =
-    never_then (or_fault faults.Words (four_of ws)) _ (λ w.
-    never_then (number 0 (2 ^ 32 - 1) w.0) _ (λ member.
-    never_then (number 1 65535 w.1) _ (λ cells.
-    never_then (number 1 8 w.2) _ (λ workers.
-    never_then (number 0 (2 ^ 64 - 1) w.3) (λ seed. Ok (Board member cells workers seed)) (λ seed. board_never member cells workers seed)))))
+no_board ws =
+    none_then (or_fault faults.Words (four_of ws)) _ (λ w.
+    none_then (number 0 (2 ^ 32 - 1) w.0) _ (λ member.
+    none_then (number 1 65535 w.1) _ (λ cells.
+    none_then (number 1 8 w.2) _ (λ workers.
+    none_then (number 0 (2 ^ 64 - 1) w.3) (λ seed. Ok (Board member cells workers seed)) (λ seed. tt)))))
 
-show_never : (p : PageId) (width height : ℕ) → Never (Ok (Show p width height))
-show_never p width height = λ d h. absurd cc
-
-never_show : (ws : List (List ℕ)) → Never (show ws)
+no_show : (ws : List (List ℕ)) → HandsInNone (show ws)
 unfolding show
-never_show ws =
-    never_then (or_fault faults.Words (four_of ws)) _ (λ w.
-    never_then (number 0 (2 ^ 32 - 1) w.0) _ (λ creator.
-    never_then (number 0 (2 ^ 32 - 1) w.1) _ (λ of_page.
-    never_then (number 1 200 w.2) _ (λ width.
-    never_then (number 1 100 w.3) (λ height. Ok (Show (record { creator = creator; number = of_page }) width height)) (λ height. show_never (record { creator = creator; number = of_page }) width height)))))
+no_show ws =
+    none_then (or_fault faults.Words (four_of ws)) _ (λ w.
+    none_then (number 0 (2 ^ 32 - 1) w.0) _ (λ creator.
+    none_then (number 0 (2 ^ 32 - 1) w.1) _ (λ of_page.
+    none_then (number 1 200 w.2) _ (λ width.
+    none_then (number 1 100 w.3) (λ height. Ok (Show (record { creator = creator; number = of_page }) width height)) (λ height. tt)))))
 
-distance_never : (source micros : ℕ) → Never (Ok (Distance source micros))
-distance_never source micros = λ d h. absurd cc
-
-never_distance : (ws : List (List ℕ)) → Never (distance ws)
+no_distance : (ws : List (List ℕ)) → HandsInNone (distance ws)
 unfolding distance
-never_distance ws =
-    never_then (or_fault faults.Words (two_of ws)) _ (λ w.
-    never_then (number 0 (2 ^ 32 - 1) w.0) _ (λ source.
-    never_then (number 0 (2 ^ 24 - 1) w.1) (λ micros. Ok (Distance source micros)) (λ micros. distance_never source micros)))
+no_distance ws =
+    none_then (or_fault faults.Words (two_of ws)) _ (λ w.
+    none_then (number 0 (2 ^ 32 - 1) w.0) _ (λ source.
+    none_then (number 0 (2 ^ 24 - 1) w.1) (λ micros. Ok (Distance source micros)) (λ micros. tt)))
 
-tick_never : (moment : ℕ) → Never (Ok (Tick moment))
-tick_never moment = λ d h. absurd cc
-
-never_tick : (ws : List (List ℕ)) → Never (tick ws)
+no_tick : (ws : List (List ℕ)) → HandsInNone (tick ws)
 unfolding tick
-never_tick ws =
-    never_then (or_fault faults.Words (one_of ws)) _ (λ w.
-    never_then (number 0 (2 ^ 48 - 1) w) (λ moment. Ok (Tick moment)) (λ moment. tick_never moment))
+no_tick ws =
+    none_then (or_fault faults.Words (one_of ws)) _ (λ w.
+    none_then (number 0 (2 ^ 48 - 1) w) (λ moment. Ok (Tick moment)) (λ moment. tt))
 
-never_heard : (v : Datagram) → Never (heard v)
-never_heard (datagrams.Draw e) = λ d h. absurd cc
-never_heard (datagrams.Session sender sent page marks echoes) = λ d h. absurd cc
-never_heard (datagrams.Request asker name) = λ d h. absurd cc
-never_heard (datagrams.AskPages asker) = λ d h. absurd cc
-never_heard (datagrams.PageState sender page marks) = λ d h. absurd cc
+none_heard : (v : Datagram) → HandsInNone (heard v)
+none_heard (datagrams.Draw e) = tt
+none_heard v = tt
 
-pages_never : Never (Ok Pages)
-pages_never = λ d h. absurd cc
-
-never_pages : (ws : List (List ℕ)) → Never (pages ws)
-never_pages ws = never_then (or_fault faults.Words (none_of ws)) (λ nothing. Ok Pages) (λ nothing. pages_never)
-
-page_never : (ws : List (List ℕ)) (line : PageId → Command) → ((p : PageId) → Never (Ok (line p))) → Never (page ws >>= (λ p. Ok (line p)))
-page_never ws line never = never_then (page ws) (λ p. Ok (line p)) never
-
-look_never : (p : PageId) → Never (Ok (Look p))
-look_never p = λ d h. absurd cc
-
-session_never : (p : PageId) → Never (Ok (Session p))
-session_never p = λ d h. absurd cc
-
-gaps_never : (p : PageId) → Never (Ok (Gaps p))
-gaps_never p = λ d h. absurd cc
-
-report_never : (p : PageId) → Never (Ok (Report p))
-report_never p = λ d h. absurd cc
-
-fault_never : (e : LineFault) → Never (Err e)
-fault_never e = λ d h. absurd cc
-
-never_page : (word : List ℕ) (ws : List (List ℕ)) → Never (page_line word ws)
+no_page : (word : List ℕ) (ws : List (List ℕ)) → HandsInNone (page_line word ws)
 unfolding page_line
-never_page word ws = at (bytes_eq word (codes "look")) (bytes_eq word (codes "session")) (bytes_eq word (codes "gaps")) (bytes_eq word (codes "report")) where
-  at : (a b c e : Bool) → Never (cond a (page ws >>= (λ p. Ok (Look p))) (cond b (page ws >>= (λ p. Ok (Session p))) (cond c (page ws >>= (λ p. Ok (Gaps p))) (cond e (page ws >>= (λ p. Ok (Report p))) (Err faults.Unknown)))))
-  at true b c e = page_never ws Look look_never
-  at false true c e = page_never ws Session session_never
-  at false false true e = page_never ws Gaps gaps_never
-  at false false false true = page_never ws Report report_never
-  at false false false false = fault_never faults.Unknown
+no_page word ws = at (bytes_eq word (codes "look")) (bytes_eq word (codes "session")) (bytes_eq word (codes "gaps")) (bytes_eq word (codes "report")) where
+  at : (a b c e : Bool) → HandsInNone (cond a (page ws >>= (λ p. Ok (Look p))) (cond b (page ws >>= (λ p. Ok (Session p))) (cond c (page ws >>= (λ p. Ok (Gaps p))) (cond e (page ws >>= (λ p. Ok (Report p))) (Err faults.Unknown)))))
+  at true b c e = none_then (page ws) (λ p. Ok (Look p)) (λ p. tt)
+  at false true c e = none_then (page ws) (λ p. Ok (Session p)) (λ p. tt)
+  at false false true e = none_then (page ws) (λ p. Ok (Gaps p)) (λ p. tt)
+  at false false false true = none_then (page ws) (λ p. Ok (Report p)) (λ p. tt)
+  at false false false false = tt
 
 -- a datagram is one word of digits
 abbrev HasDigits : List (List ℕ) → Type 0
@@ -154,12 +113,11 @@ HasDigits ws = (digits : List ℕ) × (bytes : List ℕ) × (ws ≡ digits ∷ [
 
 digits_of : (ws : List (List ℕ)) (v : Datagram) → datagram ws ≡ Ok v → HasDigits ws
 unfolding datagram
-digits_of [] v e = absurd cc
-digits_of (a ∷ b ∷ more) v e = absurd cc
 digits_of (a ∷ []) v e = at (unhex a) refl e where
   at : (r : Option (List ℕ)) → unhex a ≡ r → (or_fault faults.Hex r >>= (λ bytes. spelled (reading bytes))) ≡ Ok v → HasDigits (a ∷ [])
   at None is f = absurd cc
   at (Some bytes) is f = (a, bytes, refl, is)
+digits_of ws v e = absurd cc
 
 arrives_with : (ws : List (List ℕ)) (d : DrawopValue) → arrive ws ≡ Ok (Arrive d) → HasDigits ws
 arrives_with ws d e = at (datagram ws) refl e where
@@ -171,15 +129,18 @@ has_digits : (word : List ℕ) (ws : List (List ℕ)) (d : DrawopValue) → comm
 unfolding command
 has_digits word ws d e =
     at (bytes_eq word (codes "board")) (bytes_eq word (codes "arrive")) (bytes_eq word (codes "hear")) (bytes_eq word (codes "show")) (bytes_eq word (codes "distance")) (bytes_eq word (codes "tick")) (bytes_eq word (codes "pages")) e where
+      none : (said : Result Command LineFault) → HandsInNone said → said ≡ Ok (Arrive d) → HasDigits ws
+      none said is e = absurd (subst HandsInNone e is)
+
       at : (a b c f g i j : Bool) → cond a (board ws) (cond b (arrive ws) (cond c (hear ws) (cond f (show ws) (cond g (distance ws) (cond i (tick ws) (cond j (pages ws) (page_line word ws))))))) ≡ Ok (Arrive d) → HasDigits ws
-      at true b c f g i j e = absurd (never_board ws d e)
+      at true b c f g i j e = none (board ws) (no_board ws) e
       at false true c f g i j e = arrives_with ws d e
-      at false false true f g i j e = absurd (never_then (datagram ws) heard never_heard d e)
-      at false false false true g i j e = absurd (never_show ws d e)
-      at false false false false true i j e = absurd (never_distance ws d e)
-      at false false false false false true j e = absurd (never_tick ws d e)
-      at false false false false false false true e = absurd (never_pages ws d e)
-      at false false false false false false false e = absurd (never_page word ws d e)
+      at false false true f g i j e = none (hear ws) (none_then (datagram ws) heard none_heard) e
+      at false false false true g i j e = none (show ws) (no_show ws) e
+      at false false false false true i j e = none (distance ws) (no_distance ws) e
+      at false false false false false true j e = none (tick ws) (no_tick ws) e
+      at false false false false false false true e = none (pages ws) (none_then (or_fault faults.Words (none_of ws)) (λ nothing. Ok Pages) (λ nothing. tt)) e
+      at false false false false false false false e = none (page_line word ws) (no_page word ws) e
 
 words_arrive : (word : List ℕ) (ws : List (List ℕ)) (d : DrawopValue) → line_of_words (word ∷ ws) ≡ Ok (Arrive d) → HasDigits ws
 words_arrive word ws d e = at (begins_comment word) e where
@@ -209,18 +170,7 @@ no_arrival (word ∷ a ∷ front) w d e =
 
 said_arrival : (said : Result Command LineFault) (d : DrawopValue) → part_of said ≡ Arrival d → said ≡ Ok (Arrive d)
 said_arrival (Ok (Arrive e)) d p = let same : e ≡ d = cc in ap (λ (x : DrawopValue). Ok (Arrive x)) same
-said_arrival (Ok Skip) d p = absurd cc
-said_arrival (Ok (Board member cells workers seed)) d p = absurd cc
-said_arrival (Ok (Hear v)) d p = absurd cc
-said_arrival (Ok (Distance source micros)) d p = absurd cc
-said_arrival (Ok (Tick moment)) d p = absurd cc
-said_arrival (Ok (Look page)) d p = absurd cc
-said_arrival (Ok (Session page)) d p = absurd cc
-said_arrival (Ok (Show page width height)) d p = absurd cc
-said_arrival (Ok (Gaps page)) d p = absurd cc
-said_arrival (Ok (Report page)) d p = absurd cc
-said_arrival (Ok Pages) d p = absurd cc
-said_arrival (Err f) d p = absurd cc
+said_arrival said d p = absurd cc
 
 no_return : (xs : List ℕ) (d : DrawopValue) → part_of (line_of (xs ++ 13 ∷ [])) ≡ Arrival d → ⊥
 no_return xs d p =

@@ -1,6 +1,5 @@
 -- From the outcome of a driver to the answer of a check.
-use Rattle.std.proofs.Common.{◌≡◌, ◌≢◌, ℕ, ◌+◌, ◌≤◌, Bool, true, false, cond, List, [], ◌∷◌, Result, Ok, Err, inl, inr, refl, sym, ap, ◌∙◌, subst, arith}
-use Rattle.std.specs.Prelude.{nat_lt}
+use Rattle.std.proofs.Common.{◌≡◌, ◌≢◌, ℕ, ◌+◌, ◌≤◌, Bool, true, false, cond, List, [], ◌∷◌, Result, Ok, Err, inl, inr, refl, sym, ap, ◌∙◌, subst, arith, nat_lt}
 use Rattle.std.proofs.lemmas.Bool.Decides.{nat_tests}
 use Rattle.wb_lines.specs.declared.fault.DriveFault.{DriveFault}
 use Rattle.wb_lines.specs.declared.fault.DriveFault.TheVariants as faults
@@ -51,10 +50,7 @@ ends_counted cut n (line ∷ lines) =
 
 stopped_counted : (e : DriveFault LineFault) → IsStopped (Err e) → IsCounted most_lines e
 stopped_counted (faults.Line number f) h = absurd h
-stopped_counted faults.Read h = tt
-stopped_counted faults.Write h = tt
-stopped_counted faults.Memory h = tt
-stopped_counted faults.Endless h = tt
+stopped_counted e h = tt
 
 counted_as : (e : DriveFault LineFault) (text : List ℕ) (end : Result ℕ (DriveFault LineFault)) → Err e ≡ end → EndsCounted (writes text end) → IsCounted most_lines e
 counted_as e text (Ok n) is h = absurd cc
@@ -70,12 +66,9 @@ is_counted cut input written e m = meets_counted (outcome (rules_of check_step m
 -- ---- the answer
 
 checks_stopped : (cut : Bool) (input : List ℕ) (result : Result ℕ (DriveFault LineFault)) → result ≢ Err faults.Write → IsStopped result → Checks cut input (answer_of result)
-checks_stopped cut input (Ok n) unwritten h = absurd h
-checks_stopped cut input (Err (faults.Line number f)) unwritten h = absurd h
-checks_stopped cut input (Err faults.Read) unwritten h = absurd h
-checks_stopped cut input (Err faults.Endless) unwritten h = absurd h
 checks_stopped cut input (Err faults.Write) unwritten h = absurd (unwritten refl)
 checks_stopped cut input (Err faults.Memory) unwritten h = inr refl
+checks_stopped cut input result unwritten h = absurd h
 
 checks_met : (cut : Bool) (input written : List ℕ) (o : Outcome LineFault) (result : Result ℕ (DriveFault LineFault)) → outcome (rules_of check_step most_lines) cut tt input ≡ o → result ≢ Err faults.Write
     → Meets o written result → Checks cut input (answer_of result)
@@ -91,15 +84,9 @@ pub same_fault : {X : Type 0} (e f : RunFault) (x y : Result X RunFault) → x �
 same_fault e f x y p q h = cc
 
 pub fault_reads : (e : DriveFault LineFault) → fault_of e ≡ run_faults.Read → e ≡ faults.Read
-fault_reads (faults.Line number l) h = absurd cc
 fault_reads faults.Read h = refl
-fault_reads faults.Write h = absurd cc
-fault_reads faults.Memory h = absurd cc
-fault_reads faults.Endless h = absurd cc
+fault_reads e h = absurd cc
 
 pub fault_writes : (e : DriveFault LineFault) → fault_of e ≡ run_faults.Write → e ≡ faults.Write
-fault_writes (faults.Line number l) h = absurd cc
-fault_writes faults.Read h = absurd cc
 fault_writes faults.Write h = refl
-fault_writes faults.Memory h = absurd cc
-fault_writes faults.Endless h = absurd cc
+fault_writes e h = absurd cc

@@ -1,6 +1,5 @@
 -- That a check counts the lines where each of them parses.
-use Rattle.std.proofs.Common.{◌≡◌, ℕ, ◌+◌, ◌<◌, ◌≤◌, Bool, true, false, cond, List, [], ◌∷◌, length, Result, Ok, Err, refl, ap, ◌∙◌, arith}
-use Rattle.std.specs.Prelude.{nat_le, nat_lt, ◌||◌, not, All, IsOk}
+use Rattle.std.proofs.Common.{◌≡◌, ℕ, ◌+◌, ◌<◌, ◌≤◌, Bool, true, false, cond, List, [], ◌∷◌, length, Result, Ok, Err, refl, ap, ◌∙◌, arith, nat_le, nat_lt, ◌||◌, not, All, IsOk}
 use Rattle.std.proofs.lemmas.Bool.Decides.{nat_tests}
 use Rattle.std.proofs.lemmas.List.Elements.{All-nil, All-cons, All-head, All-tail}
 use Rattle.wb_lines.specs.declared.fault.DriveFault.TheVariants as drive_faults
@@ -63,10 +62,7 @@ goes_on true true passed number does line (Err f) rest m p e = absurd (let h = r
 passes : (few short passed : Bool) (number : ℕ) (does : Does) (line : InputLine) (said : Result Command LineFault) (rest : Outcome LineFault)
     → Parses does line said → few ≡ true → short ≡ true → passed ≡ true → IsOk said → answer_at_end (course few short passed number does line rest) ≡ answer_at_end rest
 passes true true true number does line (Ok parsed) rest p few short passed parses = rw (taken_on line.ended true, p.on_whole) (answer_before [] rest)
-passes true true true number does line (Err f) rest p few short passed parses = absurd cc
-passes false short passed number does line said rest p few is_short is_passed parses = absurd cc
-passes true false passed number does line said rest p few is_short is_passed parses = absurd cc
-passes true true false number does line said rest p few is_short is_passed parses = absurd cc
+passes few short passed number does line said rest p is_few is_short is_passed parses = absurd cc
 
 -- ---- all lines
 

@@ -1,6 +1,5 @@
 -- What one thread prints for a reordered script is an outcome by two workers or more.
-use Rattle.std.proofs.Common.{◌≡◌, ℕ, ◌+◌, ◌≤◌, Bool, cond, List, [], ◌∷◌, ◌++◌, map, Result, Ok, Err, refl, sym, ap, ap₂, subst, ◌∙◌, append-nil, arith}
-use Rattle.std.specs.Prelude.{Option, Some, None, IsPermutation}
+use Rattle.std.proofs.Common.{◌≡◌, ℕ, ◌+◌, ◌≤◌, Bool, cond, List, [], ◌∷◌, ◌++◌, map, Result, Ok, Err, refl, sym, ap, ap₂, subst, ◌∙◌, append-nil, arith, Option, Some, None, IsPermutation}
 use Rattle.std.proofs.lemmas.List.{map-append}
 use Rattle.std.proofs.lemmas.List.Sorted.{IsPermutation-refl, IsPermutation-map}
 use Rattle.wb_names.specs.Values.{DrawopValue}
@@ -9,11 +8,11 @@ use Rattle.wb_script.specs.declared.fault.LineFault.{LineFault}
 use Rattle.wb_script.specs.declared.fault.LineFault.TheVariants as faults
 use Rattle.wb_script.specs.declared.fault.RunFault.{RunFault}
 use Rattle.wb_script.specs.declared.fault.RunFault.TheVariants as run_faults
-use Rattle.wb_script.specs.Hosts.{Opened, opened, calls_after, host_after, batch_text, Act, does, fails, act}
+use Rattle.wb_script.specs.Hosts.{Opened}
 use Rattle.wb_script.specs.Parsing.{line_of}
 use Rattle.wb_script.specs.Reordering.{part_unless, part_at, other_than, others_of, onto_batch, batches_with, batches_of, AreRearranged, EachReorderingIsOutcome}
 use Rattle.wb_lines.specs.Input.{InputLine, input_lines, content}
-use Rattle.wb_script.specs.Script.{State, MayBeTaken, Closing, Opens, Acts, Faulty, Part, Arrival, Nothing, End, part_of, part_in, Step, goes, refused, step_by, part_step, Outcome, before, finish, proceed, continue, outcome_from, Finishes, Proceeds, fault_at, Continues, IsOutcomeFrom}
+use Rattle.wb_script.specs.Script.{State, MayBeTaken, Closing, Part, Arrival, Nothing, End, part_of, part_in, Step, refused, part_step, Outcome, before, finish, proceed, continue, outcome_from, Finishes, Proceeds, fault_at, Continues, IsOutcomeFrom}
 use Rattle.wb_script.proofs.Lifted.{lifted}
 use Rattle.wb_script.proofs.Simulations.{proceeds_back}
 use Rattle.wb_script.proofs.ReorderedLines.{onto_onto, Taken, drawops_in, no_fault, part_here, same_line, Arrives, arrived, first_same, others_same, line_course, alone, ToldAlike, state, finish_alike, AreBehind, closes_alike}

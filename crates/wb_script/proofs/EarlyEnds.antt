@@ -1,7 +1,5 @@
 -- A batch may end as soon as it is known that no arrival follows: what is printed then, and what follows, is the same.
-use Rattle.std.proofs.Common.{◌≡◌, ℕ, ◌+◌, Bool, true, false, List, [], ◌∷◌, ◌++◌, Result, Ok, Err, refl, sym, ap, subst, ◌∙◌, append_assoc}
-use Rattle.std.specs.Prelude.{Option, Some, None, if◌then◌else◌}
-use Rattle.std.proofs.lemmas.List.{append-nil}
+use Rattle.std.proofs.Common.{◌≡◌, ℕ, ◌+◌, Bool, true, false, List, [], ◌∷◌, ◌++◌, Result, Ok, Err, refl, sym, ap, subst, ◌∙◌, append_assoc, Option, Some, None, if◌then◌else◌, append-nil}
 use Rattle.std.proofs.lemmas.List.Sorted.{length_permutation}
 use Rattle.wb_names.specs.Values.{DrawopValue}
 use Rattle.wb_script.specs.declared.fault.LineFault.{LineFault}
@@ -12,9 +10,8 @@ use Rattle.wb_script.specs.Parsing.{line_of}
 use Rattle.wb_lines.specs.Ahead.{Ahead, IsLine}
 use Rattle.wb_script.specs.Inside.Lines.{LinesValue, EndsWith, Fronts}
 use Rattle.wb_script.specs.Hosts.{Opened, host_after, batch_text, Act, does, fails, act}
-use Rattle.wb_lines.specs.Input.{InputLine, input_lines, content}
-use Rattle.wb_script.specs.Script.{IsOutcomeFrom, State, MayBeTaken, Closing, Opens, Acts, Faulty, Part, Arrival, Nothing, End, part_of, part_in, refused, by_host, after_batch, closing_text, step_by, closing_step, part_step, Outcome, prints, before, answer, finish, Finishes, Proceeds, fault_at, Continues}
-use Rattle.wb_lines.specs.Input.{MayFollow}
+use Rattle.wb_lines.specs.Input.{InputLine, input_lines, content, MayFollow}
+use Rattle.wb_script.specs.Script.{IsOutcomeFrom, State, MayBeTaken, Closing, Opens, Acts, Faulty, Part, End, part_of, part_in, refused, by_host, after_batch, closing_text, step_by, closing_step, part_step, Outcome, prints, before, answer, finish, Finishes, Proceeds, fault_at, Continues}
 use Rattle.wb_script.specs.Inside.Passing.{Leads, Passes}
 use Rattle.wb_script.specs.Inside.Reading.{IsOpen, EndsBatchBefore, IsBatchEnd}
 use Rattle.wb_script.specs.Inside.Parts.{EndsBatchAt}
@@ -79,13 +76,12 @@ closes_behind number Rest k (Some host) text (Faulty e) o opened p = refused_beh
 -- a line that ends a batch, after it
 step_behind : (number : ℕ) (Rest : State → Outcome → Type 0) (s : State) (order : List DrawopValue) (part : Part) (o : Outcome) → IsOpen s.host → EndsBatchAt part
     → Proceeds number Rest o (part_step (after_batch s order) [] part) → Proceeds number Rest (before (closing_text s order) o) (part_step s order part)
-step_behind number Rest s order (Arrival d) o opened ends p = absurd ends
-step_behind number Rest s order Nothing o opened ends p = absurd ends
 step_behind number Rest s order (End c) o opened ends p =
     let t : State = after_batch s order in
     let there = opened_after s order opened in
     let here : Proceeds number Rest o (closing_step t (closing_text t []) c) = subst (λ (u : State). Proceeds number Rest o (closing_step u (closing_text t []) c)) (after_none t there refl) p in
     closes_behind number Rest s.workers t.host (closing_text s order) c o there (subst (λ (text : List ℕ). Proceeds number Rest o (closing_step t text c)) (text_none t there) here)
+step_behind number Rest s order part o opened ends p = absurd ends
 
 continues_behind : (fault : Option RunFault) (number : ℕ) (Rest : State → Outcome → Type 0) (s : State) (order : List DrawopValue) (bytes : List ℕ) (o : Outcome) → IsOpen s.host → MayBeTaken s.workers s.waiting order → EndsBatchAt (part_of (line_of bytes))
     → Continues fault number (after_batch s order) bytes Rest o → Continues fault number s bytes Rest (before (closing_text s order) o)

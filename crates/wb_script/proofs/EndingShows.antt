@@ -1,10 +1,7 @@
 -- What a script shows at its end is the canvas of all its arrivals.
-use Rattle.std.proofs.Common.{◌≡◌, ℕ, ◌+◌, Bool, true, false, cond, List, [], ◌∷◌, ◌++◌, length, Result, Ok, Err, refl, sym, ap, ◌∙◌, subst, append_assoc}
-use Rattle.std.specs.Prelude.{Option, Some, None, IsPermutation, nat_lt, ◌||◌}
+use Rattle.std.proofs.Common.{◌≡◌, ℕ, ◌+◌, Bool, true, false, cond, List, [], ◌∷◌, ◌++◌, length, Result, Ok, Err, refl, sym, ap, ◌∙◌, subst, append_assoc, Option, Some, None, IsPermutation, nat_lt, ◌||◌, unwrap_or, append-nil}
 use Rattle.std.specs.Str.Lines.{strip_carriage_return}
-use Rattle.std.proofs.lemmas.List.{append-nil}
 use Rattle.std.proofs.lemmas.List.Sorted.{IsPermutation-refl}
-use Rattle.std.specs.Prelude.{unwrap_or}
 use Rattle.wb_names.specs.Values.{DrawopValue}
 use Rattle.wb_names.specs.Arrivals.{history_after}
 use Rattle.wb_names.specs.declared.name.PageId.{PageId}
@@ -15,7 +12,7 @@ use Rattle.wb_script.specs.declared.fault.LineFault.TheVariants as faults
 use Rattle.wb_script.specs.declared.fault.RunFault.{RunFault}
 use Rattle.wb_script.specs.declared.fault.RunFault.TheVariants as run_faults
 use Rattle.wb_script.specs.declared.command.Command.{Command}
-use Rattle.wb_script.specs.declared.command.Command.TheVariants.{Skip, Board, Arrive, Hear, Distance, Tick, Look, Session, Show, Gaps, Report, Pages}
+use Rattle.wb_script.specs.declared.command.Command.TheVariants.{Hear, Distance, Tick, Look, Session, Show}
 use Rattle.wb_script.specs.declared.running.Summary.{Summary}
 use Rattle.wb_host.specs.Keeper.{SetDelay, Hear, Miss, GoOn, Report as Reported, is_own}
 use Rattle.wb_host.specs.Hearing.{marks_heard, has_room, answers_to, asks_for_held}
@@ -27,7 +24,7 @@ use Rattle.wb_script.specs.Laws.{NoneClash, HasCells}
 use Rattle.wb_script.specs.Parsing.{line_of}
 use Rattle.wb_script.specs.Queries.{view_of}
 use Rattle.wb_lines.specs.Input.{InputLine, input_lines, content}
-use Rattle.wb_script.specs.Script.{State, start, closing_text, after_batch, Closing, Opens, Acts, Faulty, Part, Arrival, Nothing, End, part_of, part_in, Step, goes, refused, step_by, part_step, step_of, Outcome, prints, before, answer, finish, proceed, outcome_from}
+use Rattle.wb_script.specs.Script.{State, start, closing_text, after_batch, Closing, Opens, Acts, Part, Arrival, Nothing, End, part_of, part_in, Step, goes, refused, step_by, part_step, step_of, Outcome, prints, before, answer, finish, proceed, outcome_from}
 use Rattle.wb_script.specs.ScriptLaws.{EachEnds}
 use Rattle.wb_script.specs.Shows.{arrived_by, arrivals_of, cells_by, cells_of, EndsWith, canvas_after, ShowsArrivals, ShowsAreFree}
 use Rattle.wb_script.proofs.FreeArrivals.{batches_are_one, free_on, once_held}
@@ -65,13 +62,6 @@ same_host : (host next : Opened) (text printed : List ℕ) → does host text �
 same_host host next text printed e = cc
 
 pub act_board : (line : Command) (host next : Opened) (printed : List ℕ) → act line host ≡ does next printed → next.board ≡ host.board
-act_board Skip host next printed e = ap (λ (h : Opened). h.board) (sym (same_host host next _ printed e))
-act_board (Arrive d) host next printed e = ap (λ (h : Opened). h.board) (sym (same_host host next _ printed e))
-act_board (Board member cells workers seed) host next printed e = ap (λ (h : Opened). h.board) (sym (same_host host next _ printed e))
-act_board (Show page width height) host next printed e = ap (λ (h : Opened). h.board) (sym (same_host host next _ printed e))
-act_board (Gaps page) host next printed e = ap (λ (h : Opened). h.board) (sym (same_host host next _ printed e))
-act_board (Report page) host next printed e = ap (λ (h : Opened). h.board) (sym (same_host host next _ printed e))
-act_board Pages host next printed e = ap (λ (h : Opened). h.board) (sym (same_host host next _ printed e))
 act_board (Hear v) host next printed e = at (is_own host.me v || has_room (marks_heard host.me host.calls) v) e where
   at : (room : Bool) → cond room (does (calling (Hear (present host) v (word_at v host.random) (asks_for_held host.board.drawops v)) (words_for v) host) (sends_text (answers_to host.me host.board.drawops v))) (fails faults.TooMany) ≡ does next printed → next.board ≡ host.board
   at true f = ap (λ (h : Opened). h.board) (sym (same_host (calling (Hear (present host) v (word_at v host.random) (asks_for_held host.board.drawops v)) (words_for v) host) next _ printed f))
@@ -83,6 +73,7 @@ act_board (Tick moment) host next printed e = at (nat_lt moment (present host)) 
   at false f = ap (λ (h : Opened). h.board) (sym (same_host (calling (GoOn moment (words_of host.random (due_count moment host)) (stopped host)) (due_count moment host) host) next _ printed f))
 act_board (Look page) host next printed e = ap (λ (h : Opened). h.board) (sym (same_host (calling (Miss (present host) (wanted_of page host) (words_of host.random (length (wanted_of page host)))) (length (wanted_of page host)) host) next _ printed e))
 act_board (Session page) host next printed e = ap (λ (h : Opened). h.board) (sym (same_host (calling (Reported (present host)) 0 host) next _ printed e))
+act_board line host next printed e = ap (λ (h : Opened). h.board) (sym (same_host host next _ printed e))
 
 -- the same board, once a batch was taken
 act_kept : (k : Option ℕ) (first host : Opened) (waiting ds : List DrawopValue) (line : Command) (text : List ℕ) (t : State) (y : List ℕ) → Leads (Some first) waiting ds → host.board ≡ board_after first.board waiting
@@ -102,11 +93,9 @@ closes_kept : (k : Option ℕ) (host : Option Opened) (waiting ds : List DrawopV
 closes_kept k None waiting ds (Opens member cells workers seed) t y h e =
     kept_by None ds (End (Opens member cells workers seed)) (state (Some (unwrap_or k workers)) (Some (opened member cells seed)) []) t [] y
     (record { leads = ap (history_after cells []) (sym (ap (λ (l : List DrawopValue). l ++ []) h)); cells = λ later. refl }) e
-closes_kept k (Some host) waiting ds (Opens member cells workers seed) t y h e = absurd cc
-closes_kept k None waiting ds (Acts line) t y h e = absurd cc
 closes_kept k (Some host) waiting ds (Acts line) t y h e =
     act_kept k host (host_after host waiting waiting) waiting ds line (batch_text host.board waiting) t y h refl (act line (host_after host waiting waiting)) refl e
-closes_kept k host waiting ds (Faulty f) t y h e = absurd cc
+closes_kept k host waiting ds c t y h e = absurd cc
 
 arrives_kept : (k : Option ℕ) (host : Option Opened) (waiting ds : List DrawopValue) (d : DrawopValue) (t : State) (y : List ℕ) → Leads host waiting ds → part_step (state k host waiting) waiting (Arrival d) ≡ goes t y → Kept host ds (Arrival d) t
 arrives_kept k None waiting ds d t y h e = absurd cc

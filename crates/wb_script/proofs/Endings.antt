@@ -1,17 +1,13 @@
 -- From all lines of a run to its outcome.
-use Rattle.std.proofs.Common.{subst, ◌≡◌, ℕ, Bool, true, false, List, [], ◌++◌, Result, Ok, Err, inl, inr, refl, sym, ap, ◌∙◌, append_assoc}
-use Rattle.std.specs.Prelude.{Option}
+use Rattle.std.proofs.Common.{subst, ◌≡◌, ℕ, Bool, true, false, List, [], ◌++◌, Result, Ok, Err, inl, inr, refl, sym, ap, ◌∙◌, append_assoc, Option, append-nil}
 use Rattle.std.proofs.lemmas.Bool.{false≢true}
-use Rattle.std.proofs.lemmas.List.{append-nil}
 use Rattle.wb_script.specs.declared.fault.RunFault.{RunFault}
 use Rattle.wb_script.specs.declared.fault.RunFault.TheVariants as run_faults
 use Rattle.wb_script.specs.declared.running.Summary.{Summary}
 use Rattle.wb_lines.specs.Ahead.{Ahead, Pulls}
-use Rattle.wb_lines.specs.Input.{input_lines}
-use Rattle.wb_script.specs.Script.{State, start, Outcome, prints, before, outcome, Finishes, IsOutcome, IsStop}
-use Rattle.wb_lines.specs.Input.{MayFollow, MayRemain}
-use Rattle.wb_script.specs.Inside.Passing.{Leads, MayBegin, RunsLines, RunsAll, Settles, Closes}
-use Rattle.wb_script.specs.Script.{Begins, Meets}
+use Rattle.wb_lines.specs.Input.{input_lines, MayFollow, MayRemain}
+use Rattle.wb_script.specs.Script.{State, start, Outcome, prints, before, outcome, Finishes, IsOutcome, is_stop, IsStop, Begins, Meets}
+use Rattle.wb_script.specs.Inside.Passing.{Leads, StopsBehind, RunsLines, RunsAll, Settles, ClosesAfter, Closes}
 use Rattle.wb_script.specs.Runs.{Runs}
 use Rattle.wb_lines.proofs.Endings.{fresh, input_from}
 use Rattle.wb_script.proofs.Outcomes.{one_thread}
@@ -34,8 +30,10 @@ SettlesOne Is written left result = (o : Outcome) × Is o × Settles o written l
 meets_then : (A B : Outcome → Type 0) (x y left : List ℕ) (result : Result Summary RunFault) → Leads A x B → SettlesOne B y left result → SettlesOne A (x ++ y) left result
 meets_then A B x y left result p m = (before x m.0, p m.0 m.1, settles_behind m.0 x y left result m.2)
 
-meets_stop : (A : Outcome → Type 0) (x y left : List ℕ) (e : RunFault) (result : Result Summary RunFault) → MayBegin A x → IsStop e → y ≡ [] → result ≡ Err e → SettlesOne A (x ++ y) left result
-meets_stop A x y left e result b stop none is = (b.0, b.1, settles_stop b.0 x y left e result b.2 stop none is)
+-- by whether a fault is a stop
+meets_fault : (stops : Bool) (A : Outcome → Type 0) (s : State) (x y left : List ℕ) (e : RunFault) (result : Result Summary RunFault) → is_stop e ≡ stops → StopsBehind stops A x s e → ClosesAfter stops s e y left result → SettlesOne A (x ++ y) left result
+meets_fault true A s x y left e result stop b q = (b.0, b.1, settles_stop b.0 x y left e result b.2 stop q.0 q.1)
+meets_fault false A s x y left e result going p q = meets_then A (Finishes s (Err e)) x y left result p q
 
 runs_ok : (k : Option ℕ) (s : State) (r : Ahead) (failed : Bool) (given w w1 left : List ℕ) (m : ℕ) (result : Result Summary RunFault) → (r.ended ≡ true → failed ≡ false) → RunsLines (start k) fresh given w s r failed (Ok m) → Closes s (Ok m) w1 left result → RunsAll k r.ended failed given (w ++ w1) left result
 runs_ok k s r failed given w w1 left m result working p q = λ more may.
@@ -52,11 +50,7 @@ follows ended failed more working may = λ e. (may.none_after_end e, working e)
 
 runs_err : (k : Option ℕ) (s : State) (r : Ahead) (failed : Bool) (given w w1 left : List ℕ) (e : RunFault) (result : Result Summary RunFault) → (r.ended ≡ true → failed ≡ false) → RunsLines (start k) fresh given w s r failed (Err e) → Closes s (Err e) w1 left result → RunsAll k r.ended failed given (w ++ w1) left result
 runs_err k s r failed given w w1 left run_faults.Read result working p q = runs_read k s r failed given w w1 left result p q
-runs_err k s r failed given w w1 left run_faults.Start result working p q = λ more may. meets_stop (IsOutcome k failed (given ++ more)) w w1 left run_faults.Start result (p more failed (follows r.ended failed more working may)) tt q.0 q.1
-runs_err k s r failed given w w1 left run_faults.Memory result working p q = λ more may. meets_stop (IsOutcome k failed (given ++ more)) w w1 left run_faults.Memory result (p more failed (follows r.ended failed more working may)) tt q.0 q.1
-runs_err k s r failed given w w1 left run_faults.Write result working p q = λ more may. meets_stop (IsOutcome k failed (given ++ more)) w w1 left run_faults.Write result (p more failed (follows r.ended failed more working may)) tt q.0 q.1
-runs_err k s r failed given w w1 left run_faults.Endless result working p q = λ more may. meets_then (IsOutcome k failed (given ++ more)) (Finishes s (Err run_faults.Endless)) w w1 left result (p more failed (follows r.ended failed more working may)) q
-runs_err k s r failed given w w1 left (run_faults.Line n e) result working p q = λ more may. meets_then (IsOutcome k failed (given ++ more)) (Finishes s (Err (run_faults.Line n e))) w w1 left result (p more failed (follows r.ended failed more working may)) q
+runs_err k s r failed given w w1 left e result working p q = λ more may. meets_fault (is_stop e) (IsOutcome k failed (given ++ more)) s w w1 left e result refl (p more failed (follows r.ended failed more working may)) q
 
 runs_all : (k : Option ℕ) (s : State) (r : Ahead) (failed : Bool) (given w w1 left : List ℕ) (ending : Result ℕ RunFault) (result : Result Summary RunFault) → (r.ended ≡ true → failed ≡ false) → RunsLines (start k) fresh given w s r failed ending → Closes s ending w1 left result → RunsAll k r.ended failed given (w ++ w1) left result
 runs_all k s r failed given w w1 left (Ok m) result working p q = runs_ok k s r failed given w w1 left m result working p q
@@ -93,7 +87,7 @@ read_failed s t r r' given w failed ending p e = (subst (λ (x : Result ℕ RunF
 
 -- before anything was read, memory may have run out
 meets_nothing : (o : Outcome) → Meets o [] (Err run_faults.Memory)
-meets_nothing (prints text end) = inr (tt, (text, refl))
+meets_nothing (prints text end) = inr (refl, (text, refl))
 
 pub runs_nothing : (k : Option ℕ) (cut : Bool) (input : List ℕ) → Runs k cut input [] (Err run_faults.Memory)
 runs_nothing k cut input = runs_so k cut input [] (Err run_faults.Memory) (outcome k cut input) (one_thread cut 0 (start k) (input_lines input)) (meets_nothing (outcome k cut input))

@@ -1,12 +1,11 @@
 -- What a host sends at once for a datagram, and when it refuses one.
-use Rattle.std.proofs.Common.{◌≡◌, ℕ, ◌<◌, ◌^◌, Bool, true, false, List, [], ◌∷◌, Result, Ok, Err, inr, refl, sym, ap, ◌∙◌, arith}
-use Rattle.std.specs.Prelude.{Option, nat_le, nat_lt, ◌||◌}
+use Rattle.std.proofs.Common.{◌≡◌, ℕ, ◌<◌, ◌^◌, Bool, true, false, List, [], ◌∷◌, Result, Ok, Err, inr, refl, sym, ap, ◌∙◌, arith, Option, nat_le, nat_lt, ◌||◌}
 use Rattle.std.proofs.lemmas.Bool.Decides.{nat_tests}
 use Rattle.wb_names.specs.Values.{DrawopValue, MarkValue}
 use Rattle.wb_names.specs.Faults.{first_of, fault_unless}
 use Rattle.wb_names.specs.declared.name.PageId.{PageId}
 use Rattle.wb_codec.specs.declared.datagram.Datagram.{Datagram}
-use Rattle.wb_codec.specs.declared.datagram.Datagram.TheVariants.{Draw, Session, Request, AskPages, PageState}
+use Rattle.wb_codec.specs.declared.datagram.Datagram.TheVariants.{Session, Request, PageState}
 use Rattle.wb_gaps.specs.Merging.{source_count}
 use Rattle.rand_pcg.specs.Lcg.{Lcg}
 use Rattle.wb_host.specs.Hearing.{answers_to, asks_for_held, has_room, hear_fault, marks_heard}
@@ -29,44 +28,30 @@ use Rattle.wb_script.proofs.Acts.{member, same_history, called}
 same_room : (one other : PageId → List MarkValue) (v : Datagram) → ((page : PageId) → one page ≡ other page) → has_room one v ≡ has_room other v
 same_room one other (Session sender sent page marks echoes) same = ap (λ (m : List MarkValue). nat_le (source_count m marks) 65535) (same page)
 same_room one other (PageState sender page marks) same = ap (λ (m : List MarkValue). nat_le (source_count m marks) 65535) (same page)
-same_room one other (Draw d) same = refl
-same_room one other (Request asker name) same = refl
-same_room one other (AskPages asker) same = refl
+same_room one other v same = refl
 
 -- a datagram that tells no marks has room, and takes the words that it takes
 no_words : (me : ℕ) (h : PageId → List MarkValue) (v : Datagram) → is_own me v || has_room h v ≡ false → words_for v ≡ 0
-no_words me h (Session sender sent page marks echoes) e = refl
-no_words me h (PageState sender page marks) e = refl
-no_words me h (Draw d) e = refl
-no_words me h (AskPages asker) e = refl
 no_words me h (Request asker name) e = absurd (either (is_own me (Request asker name)) e) where
   either : (b : Bool) → b || true ≡ false → ⊥
   either true f = cc
   either false f = cc
+no_words me h v e = refl
 
 abbrev faults_at : Bool → Bool → Bool → Option KeepFault
 faults_at early soon room = first_of (fault_unless early keeping.BackInTime ∷ fault_unless soon keeping.Range ∷ fault_unless room keeping.TooMany ∷ [])
 
 room_left : {X : Type 0} (early soon room : Bool) (x : X) → early ≡ true → soon ≡ true → IsKeptBy (faults_at early soon room) (Ok x) → room ≡ true
 room_left true true true x e f k = refl
-room_left true true false x e f k = absurd cc
-room_left true false room x e f k = absurd cc
-room_left false soon room x e f k = absurd cc
+room_left early soon room x e f k = absurd cc
 
 no_room : {X : Type 0} (early soon room : Bool) (r : Result X KeepFault) → r ≡ Err keeping.TooMany → early ≡ true → soon ≡ true → IsKeptBy (faults_at early soon room) r → room ≡ false
-no_room true true true (Ok x) is e f k = absurd cc
-no_room true true true (Err fault) is e f k = absurd cc
 no_room true true false r is e f k = refl
-no_room true false room r is e f k = absurd cc
-no_room false soon room r is e f k = absurd cc
+no_room true true true (Ok x) is e f k = absurd cc
+no_room early soon room r is e f k = absurd cc
 
-record Same (k : KeeperValue) (host : Opened) (v : Datagram) : Type 0 where
-  room : is_own k.me v || has_room (marks_at k.marks) v ≡ is_own host.me v || has_room (marks_heard host.me host.calls) v
-
-same_tests : (b : Held) (k : KeeperValue) (g : Lcg) (host : Opened) (v : Datagram) → IsOpenAt (member b k g) host → Same k host v
-same_tests b k g host v at = record {
-  room = ap (λ (me : ℕ). is_own me v || has_room (marks_at k.marks) v) at.keeper.me_is ∙ ap (λ (t : Bool). is_own host.me v || t) (same_room (marks_at k.marks) (marks_heard host.me host.calls) v at.keeper.merged);
-}
+same_room_at : (b : Held) (k : KeeperValue) (g : Lcg) (host : Opened) (v : Datagram) → IsOpenAt (member b k g) host → is_own k.me v || has_room (marks_at k.marks) v ≡ is_own host.me v || has_room (marks_heard host.me host.calls) v
+same_room_at b k g host v at = ap (λ (me : ℕ). is_own me v || has_room (marks_at k.marks) v) at.keeper.me_is ∙ ap (λ (t : Bool). is_own host.me v || t) (same_room (marks_at k.marks) (marks_heard host.me host.calls) v at.keeper.merged)
 
 moment_tests : (m : ℕ) → m < 2 ^ 48 → (nat_le m m ≡ true) × (nat_lt m (2 ^ 48) ≡ true)
 moment_tests m early = (grind (arith, nat_tests), grind (arith, nat_tests))
@@ -79,7 +64,7 @@ pub hear_done : {X : Type 0} (x : X) (number : ℕ) (b : Held) (k k' : KeeperVal
 hear_done x number b k k' g g' host v word sent text at early kept words left told keeps printed =
     let tests = moment_tests k.moment early in
     let room : is_own host.me v || has_room (marks_heard host.me host.calls) v ≡ true =
-    sym (same_tests b k g host v at).room ∙ room_left (nat_le k.moment k.moment) (nat_lt k.moment (2 ^ 48)) (is_own k.me v || has_room (marks_at k.marks) v) x tests.0 tests.1 kept in
+    sym (same_room_at b k g host v at) ∙ room_left (nat_le k.moment k.moment) (nat_lt k.moment (2 ^ 48)) (is_own k.me v || has_room (marks_at k.marks) v) x tests.0 tests.1 kept in
     let ds = same_history b k g host at in
     let is : sent ≡ answers_to host.me host.board.drawops v =
     told ∙ ap (λ (me : ℕ). answers_to me b.drawops v) at.keeper.me_is ∙ ap (λ (l : List DrawopValue). answers_to host.me l v) ds in
@@ -95,6 +80,6 @@ pub hear_refused : {X : Type 0} (r : Result X KeepFault) (number : ℕ) (b : Hel
 hear_refused r number b k g g' host v at early fault kept left =
     let tests = moment_tests k.moment early in
     let full : is_own host.me v || has_room (marks_heard host.me host.calls) v ≡ false =
-    sym (same_tests b k g host v at).room ∙ no_room (nat_le k.moment k.moment) (nat_lt k.moment (2 ^ 48)) (is_own k.me v || has_room (marks_at k.marks) v) r fault tests.0 tests.1 kept in
+    sym (same_room_at b k g host v at) ∙ no_room (nat_le k.moment k.moment) (nat_lt k.moment (2 ^ 48)) (is_own k.me v || has_room (marks_at k.marks) v) r fault tests.0 tests.1 kept in
     let words : g' ≡ host.random = left ∙ ap (after_words g) (no_words host.me (marks_heard host.me host.calls) v full) ∙ at.words in
     rw full (inr (refl, record { board = at.board; keeper = at.keeper; words = words }, refl))

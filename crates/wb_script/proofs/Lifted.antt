@@ -1,19 +1,16 @@
 -- A list is rearranged as what is read off its members.
-use Rattle.std.proofs.Common.{◌≡◌, ℕ, zero, suc, List, [], ◌∷◌, map, refl, sym, ap, ap₂, subst, ◌∙◌}
-use Rattle.std.specs.Prelude.{slice_set, slice_index_or, swap, IsPermutation}
+use Rattle.std.proofs.Common.{◌≡◌, ℕ, suc, List, [], ◌∷◌, map, refl, sym, ap, ap₂, subst, ◌∙◌, slice_set, slice_index_or, swap, IsPermutation}
 use Rattle.std.specs.List.Sorted.{apply_swaps, SwapsInRange}
 use Rattle.std.proofs.lemmas.List.{length-map}
 
 module _ {X Y : Type 0} (f : X → Y) where
   map_set : (xs : List X) (i : ℕ) (x : X) → map f (slice_set xs i x) ≡ slice_set (map f xs) i (f x)
-  map_set [] i x = refl
-  map_set (y ∷ xs) zero x = refl
   map_set (y ∷ xs) (suc i) x = ap (λ (l : List Y). f y ∷ l) (map_set xs i x)
+  map_set xs i x = refl
 
   map_index : (xs : List X) (i : ℕ) (d : X) → f (slice_index_or xs i d) ≡ slice_index_or (map f xs) i (f d)
-  map_index [] i d = refl
-  map_index (x ∷ xs) zero d = refl
   map_index (x ∷ xs) (suc i) d = map_index xs i d
+  map_index xs i d = refl
 
   map_swap : (xs : List X) (i j : ℕ) → map f (swap xs i j) ≡ swap (map f xs) i j
   map_swap [] i j = refl

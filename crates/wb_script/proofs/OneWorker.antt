@@ -1,11 +1,10 @@
 -- By one worker a script has one outcome: that of one thread.
-use Rattle.std.proofs.Common.{◌≡◌, ℕ, ◌+◌, Bool, List, [], ◌∷◌, Result, Ok, Err, refl, sym, ap, subst, ◌∙◌, arith}
-use Rattle.std.specs.Prelude.{Option, Some, None, unwrap_or}
+use Rattle.std.proofs.Common.{◌≡◌, ℕ, ◌+◌, Bool, List, [], ◌∷◌, Result, Ok, Err, refl, sym, ap, subst, ◌∙◌, arith, Option, Some, None, unwrap_or}
 use Rattle.wb_names.specs.Values.{DrawopValue}
 use Rattle.wb_script.specs.declared.fault.RunFault.{RunFault}
 use Rattle.wb_lines.specs.Input.{InputLine, input_lines}
 use Rattle.wb_script.specs.Hosts.{Opened, host_after, batch_text, Act, does, fails, act}
-use Rattle.wb_script.specs.Script.{State, start, IsAlone, by_host, Closing, Opens, Acts, Faulty, Part, Arrival, Nothing, End, part_in, step_by, closing_step, part_step, finish, outcome}
+use Rattle.wb_script.specs.Script.{State, start, IsAlone, by_host, Closing, Opens, Acts, Faulty, Part, Arrival, End, part_in, step_by, closing_step, part_step, finish, outcome}
 use Rattle.wb_script.specs.ScriptLaws.{workers_on, first_of, workers_at_end, OneThreadIsOutcome, OneWorkerIsOneThread, OneThreadIsFree}
 use Rattle.wb_script.proofs.Outcomes.{one_thread}
 use Rattle.wb_script.proofs.Simulations.{EndsAlike, StepsAlike, Simulates, simulated}
@@ -64,9 +63,8 @@ module _ (k j : Option ℕ) (n : ℕ) (lines : List InputLine) where
   steps : (part : Part) (host : Option Opened) (waiting : List DrawopValue) → IsAlone (workers_at_end (first_of k (workers_on part)) lines)
       → StepsAlike (Alone n lines) (part_step (state k host waiting) waiting part) (part_step (state j host waiting) waiting part)
   steps (Arrival d) None waiting alone = (ends k j None waiting (alone_first k None lines alone), refl, refl)
-  steps (Arrival d) (Some host) waiting alone = ((subst (λ (k : Option ℕ). IsAlone (workers_at_end k lines)) (sym (first_none k)) alone, refl, refl), refl)
-  steps Nothing host waiting alone = ((subst (λ (k : Option ℕ). IsAlone (workers_at_end k lines)) (sym (first_none k)) alone, refl, refl), refl)
   steps (End c) host waiting alone = closes c (by_host host None (λ host. Some (host_after host waiting waiting))) (by_host host [] (λ host. batch_text host.board waiting)) alone
+  steps part host waiting alone = ((subst (λ (k : Option ℕ). IsAlone (workers_at_end k lines)) (sym (first_none k)) alone, refl, refl), refl)
 
 alone_simulates : (cut : Bool) → Simulates cut Alone
 alone_simulates cut = record {

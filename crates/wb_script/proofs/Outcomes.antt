@@ -1,8 +1,6 @@
 -- What a script does, one line after the other.
-use Rattle.std.proofs.Common.{◌≡◌, ◌≢◌, ℕ, ◌+◌, ◌<◌, ◌≤◌, Bool, true, false, cond, List, [], ◌∷◌, ◌++◌, length, Result, Ok, Err, inl, inr, refl, sym, ap, subst, ◌∙◌, append_assoc, arith}
-use Rattle.std.specs.Prelude.{Option, Some, None, nat_eq, nat_le, nat_lt, ◌&&◌, ◌||◌, not}
+use Rattle.std.proofs.Common.{◌≡◌, ◌≢◌, ℕ, ◌+◌, ◌<◌, ◌≤◌, Bool, true, false, cond, List, [], ◌∷◌, ◌++◌, length, Result, Ok, Err, inl, inr, refl, sym, ap, subst, ◌∙◌, append_assoc, arith, Option, Some, None, nat_eq, nat_le, nat_lt, ◌&&◌, ◌||◌, not, append-nil}
 use Rattle.std.proofs.lemmas.Bool.{false≢true, true≢false}
-use Rattle.std.proofs.lemmas.List.{append-nil}
 use Rattle.std.proofs.lemmas.List.Sorted.{IsPermutation-refl}
 use Rattle.wb_names.specs.Values.{DrawopValue}
 use Rattle.wb_script.specs.declared.fault.LineFault.{LineFault}
@@ -10,12 +8,10 @@ use Rattle.wb_script.specs.declared.fault.RunFault.{RunFault}
 use Rattle.wb_script.specs.declared.fault.RunFault.TheVariants as run_faults
 use Rattle.wb_script.specs.declared.running.Summary.{Summary}
 use Rattle.wb_lines.specs.Ahead.{Ahead, NoLineFeed, IsLine}
-use Rattle.wb_lines.specs.Input.{InputLine, input_lines, content, most_bytes, BeginsWith}
-use Rattle.wb_script.specs.Script.{State, MayBeTaken, InSomeOrder, Step, goes, refused, step_of, Outcome, prints, before, finish, proceed, continue, most_lines, outcome_from, Finishes, Proceeds, fault_at, Continues, IsOutcomeFrom, IsStop}
+use Rattle.wb_lines.specs.Input.{InputLine, input_lines, content, most_bytes, BeginsWith, MayFollow}
+use Rattle.wb_script.specs.Script.{State, MayBeTaken, InSomeOrder, Step, goes, refused, step_of, Outcome, prints, before, finish, proceed, continue, most_lines, outcome_from, Finishes, Proceeds, fault_at, Continues, IsOutcomeFrom, is_stop, IsStop, Begins}
 use Rattle.wb_script.specs.Inside.Steps.{HostValue, IsAt, IsLeftAt, DoesStep, MayDoStep}
-use Rattle.wb_lines.specs.Input.{MayFollow}
-use Rattle.wb_script.specs.Inside.Passing.{Leads, MayBegin, IsAhead, Passes, Stops, Ends}
-use Rattle.wb_script.specs.Script.{Begins}
+use Rattle.wb_script.specs.Inside.Passing.{Leads, MayBegin, IsAhead, Passes, StopsBehind, Stops, Ends}
 use Rattle.wb_lines.proofs.InputLines.{input_lines-whole, input_lines-last, starts_line, whole_line, last_line, regrouped, fits, past_length, has_line, past_count}
 
 -- ---- what was written before
@@ -48,8 +44,10 @@ begins_within (prints rest end) text written b = (b.0 ++ rest, ap (λ (t : List 
 begins_behind : (o : Outcome) (x y : List ℕ) → Begins o y → Begins (before x o) (x ++ y)
 begins_behind (prints text end) x y b = (b.0, ap (λ (t : List ℕ). x ++ t) b.1 ∙ sym (append_assoc x y b.0))
 
-pub MayBegin-then : (A B : Outcome → Type 0) (x y : List ℕ) → Leads A x B → MayBegin B y → MayBegin A (x ++ y)
-MayBegin-then A B x y p b = (before x b.0, p b.0 b.1, begins_behind b.0 x y b.2)
+-- a stop, further on
+StopsBehind-then : (stops : Bool) (A B : Outcome → Type 0) (x y : List ℕ) (t : State) (e : RunFault) → Leads A x B → StopsBehind stops B y t e → StopsBehind stops A (x ++ y) t e
+StopsBehind-then true A B x y t e p b = (before x b.0, p b.0 b.1, begins_behind b.0 x y b.2)
+StopsBehind-then false A B x y t e p q = Leads-then A B (Finishes t (Err e)) x y p q
 
 -- ---- what one thread prints is an outcome
 
@@ -119,57 +117,32 @@ ok_proceeds : (number : ℕ) (Rest : State → Outcome → Type 0) (new : HostVa
 ok_proceeds number Rest new written u (goes t text) o d h = (o, h, ap (λ (x : List ℕ). before x o) d.1)
 ok_proceeds number Rest new written u (refused t text e) o d h = absurd d
 
--- what is known after a line that stopped a run
+-- what is known after a line that stopped a run: it was no failure to read
 abbrev AfterFault : (Outcome → Type 0) → List ℕ → State → RunFault → Type 0
-AfterFault Whole written t run_faults.Memory = MayBegin Whole written
-AfterFault Whole written t run_faults.Write = MayBegin Whole written
-AfterFault Whole written t run_faults.Start = MayBegin Whole written
-AfterFault Whole written t (run_faults.Line n e) = Leads Whole written (Finishes t (Err (run_faults.Line n e)))
-AfterFault Whole written t run_faults.Read = ⊥
-AfterFault Whole written t run_faults.Endless = ⊥
+AfterFault Whole written t f = (f ≢ run_faults.Read) × StopsBehind (is_stop f) Whole written t f
 
 after_stop : (Whole : Outcome → Type 0) (written : List ℕ) (t : State) (f : RunFault) → IsStop f → MayBegin Whole written → AfterFault Whole written t f
-after_stop Whole written t run_faults.Memory stop b = b
-after_stop Whole written t run_faults.Write stop b = b
-after_stop Whole written t run_faults.Start stop b = b
-after_stop Whole written t (run_faults.Line n e) stop b = absurd stop
-after_stop Whole written t run_faults.Read stop b = absurd stop
-after_stop Whole written t run_faults.Endless stop b = absurd stop
+after_stop Whole written t f stop b = (λ read. true≢false (sym stop ∙ ap is_stop read), rw stop b)
 
 after_refusal : (Whole : Outcome → Type 0) (number : ℕ) (e : LineFault) (t : State) (written : List ℕ) (f : RunFault) → f ≡ run_faults.Line number e → Leads Whole written (Finishes t (Err (run_faults.Line number e))) → AfterFault Whole written t f
-after_refusal Whole number e t written f is leads = subst (λ (g : RunFault). AfterFault Whole written t g) (sym is) leads
-
--- of more outcomes
-after_fault : (A B : Outcome → Type 0) (written : List ℕ) (t : State) (f : RunFault) → ((o : Outcome) → A o → B o) → AfterFault A written t f → AfterFault B written t f
-after_fault A B written t run_faults.Memory on b = (b.0, on b.0 b.1, b.2)
-after_fault A B written t run_faults.Write on b = (b.0, on b.0 b.1, b.2)
-after_fault A B written t run_faults.Start on b = (b.0, on b.0 b.1, b.2)
-after_fault A B written t (run_faults.Line n e) on p = λ o h. on (before written o) (p o h)
-after_fault A B written t run_faults.Read on b = absurd b
-after_fault A B written t run_faults.Endless on b = absurd b
+after_refusal Whole number e t written f is leads = subst (λ (g : RunFault). AfterFault Whole written t g) (sym is) (λ read. cc, leads)
 
 pub never_left : (new : HostValue) (t : State) (f : RunFault) → IsStop f → IsLeftAt {X = Unit {0}} new (Err f) t
-never_left new t run_faults.Memory stop = λ e. absurd (true≢false e)
-never_left new t run_faults.Write stop = λ e. absurd (true≢false e)
-never_left new t run_faults.Start stop = λ e. absurd (true≢false e)
-never_left new t (run_faults.Line n e) stop = absurd stop
-never_left new t run_faults.Read stop = absurd stop
-never_left new t run_faults.Endless stop = absurd stop
+never_left new t f stop = λ going. absurd (true≢false (sym stop ∙ going))
 
 err_at : (number : ℕ) (new : HostValue) (written : List ℕ) (f : RunFault) (step : Step) → DoesStep {U = Unit {0}} number new written (Err f) step → IsLeftAt {X = Unit {0}} new (Err f) (target step)
 err_at number new written f (goes t text) d = never_left new t f d.0
 err_at number new written f (refused t text e) (inl d) = never_left new t f d.0
 err_at number new written f (refused t text e) (inr d) = λ going. d.1
 
-err_proceeds : (number : ℕ) (Rest : State → Outcome → Type 0) (rest : State → Outcome) (new : HostValue) (written : List ℕ) (f : RunFault) (step : Step) → ((t : State) → Rest t (rest t)) → DoesStep {U = Unit {0}} number new written (Err f) step
-    → AfterFault (λ o. Proceeds number Rest o step) written (target step) f
-err_proceeds number Rest rest new written f (goes t text) all d =
-    after_stop (λ o. Proceeds number Rest o (goes t text)) written t f d.0 (before text (rest t), (rest t, all t, refl), begins_within (rest t) text written d.1)
-err_proceeds number Rest rest new written f (refused t text e) all (inl d) =
+err_proceeds : (number : ℕ) (Rest : State → Outcome → Type 0) (rest : State → Outcome) (new : HostValue) (written : List ℕ) (f : RunFault) (step : Step) (Whole : Outcome → Type 0) → ((o : Outcome) → Proceeds number Rest o step → Whole o)
+    → ((t : State) → Rest t (rest t)) → DoesStep {U = Unit {0}} number new written (Err f) step → AfterFault Whole written (target step) f
+err_proceeds number Rest rest new written f (goes t text) Whole on all d = after_stop Whole written t f d.0 (before text (rest t), on (before text (rest t)) (rest t, all t, refl), begins_within (rest t) text written d.1)
+err_proceeds number Rest rest new written f (refused t text e) Whole on all (inl d) =
     let last : Outcome = finish t t.waiting (Err (run_faults.Line number e)) in
-    after_stop (λ o. Proceeds number Rest o (refused t text e)) written t f d.0 (before text last, (last, finishes t (Err (run_faults.Line number e)), refl), begins_within last text written d.1)
-err_proceeds number Rest rest new written f (refused t text e) all (inr d) =
-    after_refusal (λ o. Proceeds number Rest o (refused t text e)) number e t written f d.0 (λ o h. (o, h, ap (λ (x : List ℕ). before x o) d.2))
+    after_stop Whole written t f d.0 (before text last, on (before text last) (last, finishes t (Err (run_faults.Line number e)), refl), begins_within last text written d.1)
+err_proceeds number Rest rest new written f (refused t text e) Whole on all (inr d) =
+    after_refusal Whole number e t written f d.0 (λ o h. on (before written o) (o, h, ap (λ (x : List ℕ). before x o) d.2))
 
 pub whole_passes : (n : ℕ) (s : State) (new : HostValue) (reader reader' : Ahead) (given written line : List ℕ) (u : Unit {0}) → n < most_lines → IsLine line → reader.bytes ++ given ≡ line ++ 10 ∷ reader'.bytes
     → MayDoStep s (n + 1) new written (Ok u) (λ order. step_of s order (content (whole_line line))) → (t : State) × IsAt new t × Passes n s reader given written (n + 1) t reader'
@@ -199,12 +172,8 @@ last_passes n s new reader reader' given written line u few is some e none ended
 -- a fault of a line stops the run, whatever follows
 stops_by : (n : ℕ) (s t : State) (reader reader' : Ahead) (given written : List ℕ) (failed : Bool) (f : RunFault)
     → ((more : List ℕ) (cut : Bool) → MayFollow reader'.ended more cut → AfterFault (IsAhead cut n s reader (given ++ more)) written t f) → Stops n s reader given written t reader' failed f
-stops_by n s t reader reader' given written failed run_faults.Memory h = h
-stops_by n s t reader reader' given written failed run_faults.Write h = h
-stops_by n s t reader reader' given written failed run_faults.Start h = h
-stops_by n s t reader reader' given written failed (run_faults.Line k e) h = h
-stops_by n s t reader reader' given written failed run_faults.Endless h = λ more cut may. absurd (h more cut may)
-stops_by n s t reader reader' given written failed run_faults.Read h = absurd (h [] false (λ e. (refl, refl)))
+stops_by n s t reader reader' given written failed run_faults.Read h = absurd ((h [] false (λ e. (refl, refl))).0 refl)
+stops_by n s t reader reader' given written failed f h = λ more cut may. (h more cut may).1
 
 pub whole_stops : (n : ℕ) (s : State) (new : HostValue) (reader reader' : Ahead) (given written line : List ℕ) (failed : Bool) (f : RunFault) → n < most_lines → IsLine line → reader.bytes ++ given ≡ line ++ 10 ∷ reader'.bytes
     → MayDoStep {U = Unit {0}} s (n + 1) new written (Err f) (λ order. step_of s order (content (whole_line line))) → (t : State) × IsLeftAt {X = Unit {0}} new (Err f) t × Stops n s reader given written t reader' failed f
@@ -213,9 +182,8 @@ whole_stops n s new reader reader' given written line failed f few is e m =
       target step,
       err_at (n + 1) new written f step m.2,
       stops_by n s (target step) reader reader' given written failed f (λ more cut may.
-          after_fault (λ o. AfterLine cut n reader' more o step) (IsAhead cut n s reader (given ++ more)) written (target step) f
-          (λ o h. whole_ahead cut n s reader reader' given line more o few is e (m.0, m.1, h))
-          (err_proceeds (n + 1) (λ t next. IsAhead cut (n + 1) t reader' more next) (λ t. outcome_from cut (n + 1) t (input_lines (reader'.bytes ++ more))) new written f step (λ t. ahead cut (n + 1) t reader' more) m.2)),
+          err_proceeds (n + 1) (λ t next. IsAhead cut (n + 1) t reader' more next) (λ t. outcome_from cut (n + 1) t (input_lines (reader'.bytes ++ more))) new written f step (IsAhead cut n s reader (given ++ more))
+          (λ o h. whole_ahead cut n s reader reader' given line more o few is e (m.0, m.1, h)) (λ t. ahead cut (n + 1) t reader' more) m.2),
     )
 
 pub last_stops : (n : ℕ) (s : State) (new : HostValue) (reader reader' : Ahead) (given written line : List ℕ) (failed : Bool) (f : RunFault) → n < most_lines → IsLine line → line ≢ [] → reader.bytes ++ given ≡ line → reader'.bytes ≡ [] → reader'.ended ≡ true
@@ -227,31 +195,16 @@ last_stops n s new reader reader' given written line failed f few is some e none
       stops_by n s (target step) reader reader' given written failed f (λ more cut may.
           let follows = may ended in
           let at_end : AfterFault (IsAhead false n s reader (given ++ [])) written (target step) f =
-          after_fault (λ o. AfterLine false n reader' [] o step) (IsAhead false n s reader (given ++ [])) written (target step) f
-          (λ o h. last_ahead n s reader reader' given line o few is some e none (m.0, m.1, h))
-          (err_proceeds (n + 1) (λ t next. IsAhead false (n + 1) t reader' [] next) (λ t. outcome_from false (n + 1) t (input_lines (reader'.bytes ++ []))) new written f step (λ t. ahead false (n + 1) t reader' []) m.2) in
+          err_proceeds (n + 1) (λ t next. IsAhead false (n + 1) t reader' [] next) (λ t. outcome_from false (n + 1) t (input_lines (reader'.bytes ++ []))) new written f step (IsAhead false n s reader (given ++ []))
+          (λ o h. last_ahead n s reader reader' given line o few is some e none (m.0, m.1, h)) (λ t. ahead false (n + 1) t reader' []) m.2 in
           rw (follows.0, follows.1) at_end),
     )
 
 -- before anything was written
-begins_now : (cut : Bool) (n : ℕ) (s : State) (reader : Ahead) (pulled : List ℕ) → MayBegin (IsAhead cut n s reader pulled) []
-begins_now cut n s reader pulled =
-    let o : Outcome = outcome_from cut n s (input_lines (reader.bytes ++ pulled)) in
-    (o, ahead cut n s reader pulled, begins_nil o)
-
-pub memory_stops : (n : ℕ) (s t : State) (reader reader' : Ahead) (given : List ℕ) (failed : Bool) → Stops n s reader given [] t reader' failed run_faults.Memory
-memory_stops n s t reader reader' given failed = λ more cut may. begins_now cut n s reader (given ++ more)
-
-pub unwritten_stops : (n : ℕ) (s t : State) (reader reader' : Ahead) (given : List ℕ) (failed : Bool) → Stops n s reader given [] t reader' failed run_faults.Write
-unwritten_stops n s t reader reader' given failed = λ more cut may. begins_now cut n s reader (given ++ more)
-
 pub stops_at_once : (n : ℕ) (s t : State) (reader reader' : Ahead) (given : List ℕ) (failed : Bool) (f : RunFault) → IsStop f → Stops n s reader given [] t reader' failed f
-stops_at_once n s t reader reader' given failed run_faults.Memory stop = memory_stops n s t reader reader' given failed
-stops_at_once n s t reader reader' given failed run_faults.Write stop = unwritten_stops n s t reader reader' given failed
-stops_at_once n s t reader reader' given failed run_faults.Start stop = λ more cut may. begins_now cut n s reader (given ++ more)
-stops_at_once n s t reader reader' given failed run_faults.Read stop = absurd stop
-stops_at_once n s t reader reader' given failed run_faults.Endless stop = absurd stop
-stops_at_once n s t reader reader' given failed (run_faults.Line k e) stop = absurd stop
+stops_at_once n s t reader reader' given failed f stop = stops_by n s t reader reader' given [] failed f (λ more cut may.
+    let o : Outcome = outcome_from cut n s (input_lines (reader.bytes ++ (given ++ more))) in
+    after_stop (IsAhead cut n s reader (given ++ more)) [] t f stop (o, ahead cut n s reader (given ++ more), begins_nil o))
 
 cut_off : (n : ℕ) (s : State) (line : List ℕ) (o : Outcome) → n < most_lines → IsLine line → Finishes s (Err run_faults.Read) o → IsOutcomeFrom true n s (input_lines line) o
 cut_off n s [] o few is h = h
@@ -313,23 +266,9 @@ pub Passes-ends : (a b m : ℕ) (s t u : State) (r r' r'' : Ahead) (g g1 w w1 : 
 Passes-ends a b m s t u r r' r'' g g1 w w1 none p q =
     (q.0, Leads-then (IsAhead false a s r (g ++ g1)) (IsAhead false b t r' g1) (Finishes u (Ok m)) w w1 (p g1 false (λ e. (none e, refl))) q.1)
 
-leads_stops : (a b : ℕ) (s t u : State) (r r' r'' : Ahead) (g g1 w w1 : List ℕ) (fault : RunFault) → (r'.ended ≡ true → g1 ≡ []) → (r'.ended ≡ true → r''.ended ≡ true) → Passes a s r g w b t r'
-    → ((more : List ℕ) (cut : Bool) → MayFollow r''.ended more cut → Leads (IsAhead cut b t r' (g1 ++ more)) w1 (Finishes u (Err fault))) → (more : List ℕ) (cut : Bool) → MayFollow r''.ended more cut → Leads (IsAhead cut a s r ((g ++ g1) ++ more)) (w ++ w1) (Finishes u (Err fault))
-leads_stops a b s t u r r' r'' g g1 w w1 fault none stays p q more cut may =
-    subst (λ (x : List ℕ). Leads (IsAhead cut a s r x) (w ++ w1) (Finishes u (Err fault))) (sym (append_assoc g g1 more))
-    (Leads-then (IsAhead cut a s r (g ++ (g1 ++ more))) (IsAhead cut b t r' (g1 ++ more)) (Finishes u (Err fault)) w w1 (p (g1 ++ more) cut (follows_more r' r'' g1 more cut none stays may)) (q more cut may))
-
-begins_stops : (a b : ℕ) (s t : State) (r r' r'' : Ahead) (g g1 w w1 : List ℕ) → (r'.ended ≡ true → g1 ≡ []) → (r'.ended ≡ true → r''.ended ≡ true) → Passes a s r g w b t r'
-    → ((more : List ℕ) (cut : Bool) → MayFollow r''.ended more cut → MayBegin (IsAhead cut b t r' (g1 ++ more)) w1) → (more : List ℕ) (cut : Bool) → MayFollow r''.ended more cut → MayBegin (IsAhead cut a s r ((g ++ g1) ++ more)) (w ++ w1)
-begins_stops a b s t r r' r'' g g1 w w1 none stays p q more cut may =
-    subst (λ (x : List ℕ). MayBegin (IsAhead cut a s r x) (w ++ w1)) (sym (append_assoc g g1 more))
-    (MayBegin-then (IsAhead cut a s r (g ++ (g1 ++ more))) (IsAhead cut b t r' (g1 ++ more)) w w1 (p (g1 ++ more) cut (follows_more r' r'' g1 more cut none stays may)) (q more cut may))
-
 pub Passes-stops : (a b : ℕ) (s t u : State) (r r' r'' : Ahead) (g g1 w w1 : List ℕ) (failed : Bool) (f : RunFault) → (r'.ended ≡ true → g1 ≡ []) → (r'.ended ≡ true → r''.ended ≡ true) → Passes a s r g w b t r' → Stops b t r' g1 w1 u r'' failed f → Stops a s r (g ++ g1) (w ++ w1) u r'' failed f
-Passes-stops a b s t u r r' r'' g g1 w w1 failed run_faults.Memory none stays p q = begins_stops a b s t r r' r'' g g1 w w1 none stays p q
-Passes-stops a b s t u r r' r'' g g1 w w1 failed run_faults.Write none stays p q = begins_stops a b s t r r' r'' g g1 w w1 none stays p q
-Passes-stops a b s t u r r' r'' g g1 w w1 failed run_faults.Start none stays p q = begins_stops a b s t r r' r'' g g1 w w1 none stays p q
-Passes-stops a b s t u r r' r'' g g1 w w1 failed run_faults.Endless none stays p q = leads_stops a b s t u r r' r'' g g1 w w1 run_faults.Endless none stays p q
-Passes-stops a b s t u r r' r'' g g1 w w1 failed (run_faults.Line n e) none stays p q = leads_stops a b s t u r r' r'' g g1 w w1 (run_faults.Line n e) none stays p q
 Passes-stops a b s t u r r' r'' g g1 w w1 failed run_faults.Read none stays p q =
     (q.0, q.1, Leads-then (IsAhead true a s r (g ++ g1)) (IsAhead true b t r' g1) (Finishes u (Err run_faults.Read)) w w1 (p g1 true (λ e. absurd (false≢true (sym q.1 ∙ stays e)))) q.2)
+Passes-stops a b s t u r r' r'' g g1 w w1 failed f none stays p q = λ more cut may.
+    subst (λ (x : List ℕ). StopsBehind (is_stop f) (IsAhead cut a s r x) (w ++ w1) u f) (sym (append_assoc g g1 more))
+    (StopsBehind-then (is_stop f) (IsAhead cut a s r (g ++ (g1 ++ more))) (IsAhead cut b t r' (g1 ++ more)) w w1 u f (p (g1 ++ more) cut (follows_more r' r'' g1 more cut none stays may)) (q more cut may))

@@ -1,8 +1,5 @@
 -- The view of a page that a script shows is what wb_display defines.
-use Rattle.std.proofs.Common.{◌≡◌, true, List, ap}
-use Rattle.std.specs.Prelude.{Contains, filter, ◌&&◌, not, IsTrue}
-use Rattle.std.specs.Ordering.{is_eq}
-use Rattle.std.specs.declared.cmp.Ordering.TheVariants.{Equal}
+use Rattle.std.proofs.Common.{◌≡◌, true, List, ap, Contains, filter, ◌&&◌, not, IsTrue, is_eq, Equal}
 use Rattle.wb_names.specs.Values.{DrawopValue}
 use Rattle.wb_names.specs.Orders.{same_page, display_cmp}
 use Rattle.wb_names.specs.History.{IsHistory}

@@ -1,7 +1,5 @@
 -- A script that is read on, before anything is done with its host.
-use Rattle.std.proofs.Common.{◌≡◌, ℕ, ◌+◌, ◌<◌, Bool, true, false, List, [], ◌∷◌, ◌++◌, refl, sym, ap, subst, ◌∙◌, append_assoc}
-use Rattle.std.specs.Prelude.{Option, Some, None}
-use Rattle.std.proofs.lemmas.List.{append-nil}
+use Rattle.std.proofs.Common.{◌≡◌, ℕ, ◌+◌, ◌<◌, Bool, true, false, List, [], ◌∷◌, ◌++◌, refl, sym, ap, subst, ◌∙◌, append_assoc, Option, Some, None, append-nil}
 use Rattle.wb_names.specs.Values.{DrawopValue}
 use Rattle.wb_script.specs.Hosts.{Opened}
 use Rattle.wb_lines.specs.Ahead.{Ahead, IsLine}

@@ -1,6 +1,5 @@
 -- Batches, arrivals that may change places, and one line by one thread.
-use Rattle.std.proofs.Common.{◌≡◌, ℕ, ◌+◌, Bool, true, false, cond, List, [], ◌∷◌, ◌++◌, length, map, Result, Ok, Err, refl, sym, ap, subst, ◌∙◌, append_assoc, arith}
-use Rattle.std.specs.Prelude.{Option, Some, None, IsPermutation, filter, nat_le, nat_lt, unwrap_or, ◌&&◌, ◌||◌, not}
+use Rattle.std.proofs.Common.{◌≡◌, ℕ, ◌+◌, Bool, true, false, cond, List, [], ◌∷◌, ◌++◌, length, map, Result, Ok, Err, refl, sym, ap, subst, ◌∙◌, append_assoc, arith, Option, Some, None, IsPermutation, filter, nat_le, nat_lt, unwrap_or, ◌&&◌, ◌||◌, not}
 use Rattle.std.specs.List.{list_any}
 use Rattle.std.proofs.lemmas.List.{nil_from_length}
 use Rattle.std.proofs.lemmas.List.Sorted.{IsPermutation-refl, IsPermutation-map, IsPermutation-append_left, length_permutation, list_any-IsPermutation}
@@ -10,10 +9,10 @@ use Rattle.wb_host.specs.Keeper.{KeeperCall, Arrive as arrives, holds}
 use Rattle.wb_host.proofs.FreeArrivals.{comes}
 use Rattle.wb_script.specs.declared.fault.RunFault.{RunFault}
 use Rattle.wb_script.specs.declared.fault.RunFault.TheVariants as run_faults
-use Rattle.wb_script.specs.Hosts.{Opened, opened, present, names_of, board_after, calls_after, host_after, batch_text, Act, does, fails, act}
+use Rattle.wb_script.specs.Hosts.{Opened, present, names_of, board_after, calls_after, host_after, batch_text, Act, does, fails, act}
 use Rattle.wb_script.specs.Reordering.{part_unless, part_at, other_than, onto_batch, AreRearranged}
 use Rattle.wb_lines.specs.Input.{InputLine, content, most_bytes}
-use Rattle.wb_script.specs.Script.{State, by_host, MayBeTaken, Closing, Opens, Acts, Faulty, Part, Arrival, Nothing, End, part_in, Step, goes, refused, step_by, part_step, finish, proceed, continue, most_lines, outcome_from, fault_at}
+use Rattle.wb_script.specs.Script.{State, by_host, Closing, Opens, Acts, Faulty, Part, Arrival, Nothing, End, part_in, step_by, part_step, finish, proceed, continue, most_lines, outcome_from, fault_at}
 use Rattle.wb_script.proofs.AlikeCalls.{TellAlike, arrive_alike, tell_same}
 use Rattle.wb_script.proofs.AlikeHosts.{told, ActsAlike, acts_alike}
 use Rattle.wb_script.proofs.Simulations.{EndsAlike, StepsAlike}

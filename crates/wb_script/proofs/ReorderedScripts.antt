@@ -1,6 +1,5 @@
 -- Lines that are reordered inside their batches, as a script: an arrival gets the end of the line whose place it takes.
-use Rattle.std.proofs.Common.{◌≡◌, ℕ, ◌+◌, Bool, true, false, cond, List, [], ◌∷◌, ◌++◌, length, map, inl, inr, ◌⊎◌, refl, sym, ap, ap₂, subst, ◌∙◌, arith, length-append}
-use Rattle.std.specs.Prelude.{Option, Some, None, nat_le, All}
+use Rattle.std.proofs.Common.{◌≡◌, ℕ, ◌+◌, Bool, true, false, cond, List, [], ◌∷◌, ◌++◌, length, map, inl, inr, ◌⊎◌, refl, sym, ap, ap₂, subst, ◌∙◌, arith, length-append, Option, Some, None, nat_le, All}
 use Rattle.std.specs.Str.Lines.{strip_carriage_return}
 use Rattle.std.proofs.lemmas.Bool.Decides.{nat_tests}
 use Rattle.std.proofs.lemmas.List.Elements.{All-nil, All-cons, All-head, All-tail}
@@ -12,7 +11,7 @@ use Rattle.wb_lines.proofs.StandingLines.{all_bytes, AreLines, reads, lines_agai
 use Rattle.wb_script.specs.declared.fault.RunFault.{RunFault}
 use Rattle.wb_script.specs.Parsing.{line_of}
 use Rattle.wb_script.specs.Reordering.{part_at, other_than, others_of, batches_with, batches_of, AreRearranged, IsReorderedBy, WorkersAreOneThread}
-use Rattle.wb_script.specs.Script.{State, start, Outcome, Arrival, Nothing, End, Part, part_of, part_in, Step, goes, refused, step_of, before, proceed, continue, outcome_from, fault_at}
+use Rattle.wb_script.specs.Script.{State, start, Outcome, Arrival, Part, part_of, part_in, Step, goes, refused, step_of, before, proceed, continue, outcome_from, fault_at}
 use Rattle.wb_script.specs.ScriptLaws.{EachEnds}
 use Rattle.wb_script.proofs.ArriveWords.{unreturned, some_bytes}
 use Rattle.wb_script.proofs.Reordered.{entire, reorders}
@@ -23,9 +22,8 @@ abbrev placed : InputLine → InputLine → InputLine
 placed place line = record { bytes = cond place.ended line.bytes (content line); ended = place.ended }
 
 abbrev placed_all : List InputLine → List InputLine → List InputLine
-placed_all [] lines = []
-placed_all (place ∷ places) [] = []
 placed_all (place ∷ places) (line ∷ lines) = placed place line ∷ placed_all places lines
+placed_all places lines = []
 
 -- ---- the same line, or two arrivals
 
@@ -36,9 +34,7 @@ matches : (cut : Bool) (n : ℕ) (place line : InputLine) → other_than (part_a
 matches cut n place line e = at (other_than (part_at cut n place) place) refl where
   same_of : (part : Option Part) (l : InputLine) → other_than part place ≡ Some l → other_than part place ≡ Some place
   same_of (Some (Arrival d)) l h = absurd cc
-  same_of (Some Nothing) l h = refl
-  same_of (Some (End c)) l h = refl
-  same_of None l h = refl
+  same_of part l h = refl
 
   at : (other : Option InputLine) → other_than (part_at cut n place) place ≡ other → Matches cut n place line
   at None h = inr (arrived cut n place h, arrived cut n line (e ∙ h))
@@ -54,9 +50,8 @@ content_placed : (place line : InputLine) (d : DrawopValue) → part_in line ≡
 content_placed place line d said = at place.ended line.bytes line.ended said where
   at : (here : Bool) (bytes : List ℕ) (ended : Bool) → part_in (record { bytes = bytes; ended = ended }) ≡ Arrival d
       → content (placed (record { bytes = []; ended = here }) (record { bytes = bytes; ended = ended })) ≡ content (record { bytes = bytes; ended = ended })
-  at true bytes true p = refl
   at true bytes false p = unreturned bytes d p
-  at false bytes ended p = refl
+  at here bytes ended p = refl
 
 shorter : (bytes : List ℕ) → nat_le (length bytes) most_bytes ≡ true → nat_le (length (strip_carriage_return bytes)) most_bytes ≡ true
 shorter bytes short = at (stripped bytes) where
@@ -69,9 +64,8 @@ shorter bytes short = at (stripped bytes) where
 short_placed : (place line : InputLine) → nat_le (length line.bytes) most_bytes ≡ true → nat_le (length (placed place line).bytes) most_bytes ≡ true
 short_placed place line short = at place.ended line.ended where
   at : (here ended : Bool) → nat_le (length (cond here line.bytes (content (record { bytes = line.bytes; ended = ended })))) most_bytes ≡ true
-  at true ended = short
   at false true = shorter line.bytes short
-  at false false = short
+  at here ended = short
 
 free_placed : (cut : Bool) (n : ℕ) (place line : InputLine) → Arrives cut n place → Arrives cut n line → fault_at cut n (placed place line) ≡ None
 free_placed cut n place line a b =
@@ -92,14 +86,12 @@ is_placed cut n place line (inr m) =
 abbrev ArePlaced : Bool → ℕ → List InputLine → List InputLine → Type 0
 ArePlaced cut n [] [] = Unit {0}
 ArePlaced cut n (line ∷ lines) (new ∷ news) = IsPlaced cut n line new × ArePlaced cut (n + 1) lines news
-ArePlaced cut n [] (new ∷ news) = ⊥
-ArePlaced cut n (line ∷ lines) [] = ⊥
+ArePlaced cut n lines news = ⊥
 
 are_placed : (cut : Bool) (n : ℕ) (places lines : List InputLine) → others_of cut n lines ≡ others_of cut n places → ArePlaced cut n lines (placed_all places lines)
 are_placed cut n [] [] e = tt
-are_placed cut n [] (line ∷ lines) e = absurd cc
-are_placed cut n (place ∷ places) [] e = absurd cc
 are_placed cut n (place ∷ places) (line ∷ lines) e = (is_placed cut n place line (matches cut n place line (first_same _ _ _ _ e)), are_placed cut (n + 1) places lines (others_same _ _ _ _ e))
+are_placed cut n places lines e = absurd cc
 
 -- ---- what stays
 
@@ -126,11 +118,10 @@ continue_same None number s bytes one other same = proceeds_same number (step_of
 
 outcome_stays : (cut : Bool) (n : ℕ) (s : State) (lines news : List InputLine) → ArePlaced cut n lines news → outcome_from cut n s lines ≡ outcome_from cut n s news
 outcome_stays cut n s [] [] p = refl
-outcome_stays cut n s [] (new ∷ news) p = absurd p
-outcome_stays cut n s (line ∷ lines) [] p = absurd p
 outcome_stays cut n s (line ∷ lines) (new ∷ news) p =
     ap₂ (λ (f : Option RunFault) (b : List ℕ). continue f (n + 1) s b (λ t. outcome_from cut (n + 1) t lines)) (sym (fault_stays cut n line new p.0)) (sym (content_stays cut n line new p.0))
     ∙ continue_same (fault_at cut n new) (n + 1) s (content new) (λ t. outcome_from cut (n + 1) t lines) (λ t. outcome_from cut (n + 1) t news) (λ t. outcome_stays cut (n + 1) t lines news p.1)
+outcome_stays cut n s lines news p = absurd p
 
 other_stays : (cut : Bool) (n : ℕ) (line new : InputLine) → IsPlaced cut n line new → other_than (part_at cut n new) new ≡ other_than (part_at cut n line) line
 other_stays cut n line new (inl e) = ap (λ (l : InputLine). other_than (part_at cut n l) l) e
@@ -139,26 +130,21 @@ other_stays cut n line new (inr p) =
 
 others_stay : (cut : Bool) (n : ℕ) (lines news : List InputLine) → ArePlaced cut n lines news → others_of cut n news ≡ others_of cut n lines
 others_stay cut n [] [] p = refl
-others_stay cut n [] (new ∷ news) p = absurd p
-others_stay cut n (line ∷ lines) [] p = absurd p
 others_stay cut n (line ∷ lines) (new ∷ news) p = ap₂ (λ (x : Option InputLine) (xs : List (Option InputLine)). x ∷ xs) (other_stays cut n line new p.0) (others_stay cut (n + 1) lines news p.1)
+others_stay cut n lines news p = absurd p
 
 batches_stay : (cut : Bool) (n : ℕ) (lines news : List InputLine) → ArePlaced cut n lines news → batches_of content cut n news ≡ batches_of content cut n lines
 batches_stay cut n [] [] p = refl
-batches_stay cut n [] (new ∷ news) p = absurd p
-batches_stay cut n (line ∷ lines) [] p = absurd p
 batches_stay cut n (line ∷ lines) (new ∷ news) p =
     ap₂ (λ (part : Option Part) (b : List ℕ). batches_with part b (batches_of content cut (n + 1) news)) (part_stays cut n line new p.0) (content_stays cut n line new p.0)
     ∙ ap (batches_with (part_at cut n line) (content line)) (batches_stay cut (n + 1) lines news p.1)
+batches_stay cut n lines news p = absurd p
 
 -- ---- the contents of the arrivals of each batch
 
 with_contents : (part : Option Part) (line : InputLine) (batches : List (List InputLine)) → map (map content) (batches_with part line batches) ≡ batches_with part (content line) (map (map content) batches)
 with_contents (Some (Arrival d)) line [] = refl
-with_contents (Some (Arrival d)) line (batch ∷ batches) = refl
-with_contents (Some Nothing) line batches = refl
-with_contents (Some (End c)) line batches = refl
-with_contents None line batches = refl
+with_contents part line batches = refl
 
 contents_of : (cut : Bool) (n : ℕ) (lines : List InputLine) → batches_of content cut n lines ≡ map (map content) (batches_of entire cut n lines)
 contents_of cut n [] = refl
@@ -166,9 +152,8 @@ contents_of cut n (line ∷ lines) = ap (batches_with (part_at cut n line) (cont
 
 contents_move : (one other : List (List InputLine)) → AreRearranged one other → AreRearranged (map (map content) one) (map (map content) other)
 contents_move [] [] p = tt
-contents_move [] (c ∷ other) p = absurd p
-contents_move (b ∷ one) [] p = absurd p
 contents_move (b ∷ one) (c ∷ other) p = (IsPermutation-map content b c p.0, contents_move one other p.1)
+contents_move one other p = absurd p
 
 -- ---- the bytes
 
@@ -185,9 +170,8 @@ no_feed_content bytes none = at (stripped bytes) where
 no_feed_placed : (place line : InputLine) → NoLineFeed line.bytes → NoLineFeed (placed place line).bytes
 no_feed_placed place line none = at place.ended line.ended where
   at : (here ended : Bool) → NoLineFeed (cond here line.bytes (content (record { bytes = line.bytes; ended = ended })))
-  at true ended = none
   at false true = no_feed_content line.bytes none
-  at false false = none
+  at here ended = none
 
 -- where no line feed ends the place, some bytes stand there
 some_placed : (cut : Bool) (n : ℕ) (place line : InputLine) → Matches cut n place line → place.ended ≡ false → (place.bytes ≡ [] → ⊥) → (placed place line).bytes ≡ [] → ⊥
@@ -199,8 +183,6 @@ abbrev IsFree : InputLine → Type 0
 IsFree line = NoLineFeed line.bytes
 
 are_lines : (cut : Bool) (n : ℕ) (places lines : List InputLine) → others_of cut n lines ≡ others_of cut n places → AreLines places → All IsFree lines → AreLines (placed_all places lines)
-are_lines cut n [] lines e are free = tt
-are_lines cut n (place ∷ places) [] e are free = tt
 are_lines cut n (place ∷ places) (line ∷ lines) e are free = (
   record {
     free = no_feed_placed place line (All-head IsFree line lines free);
@@ -208,6 +190,7 @@ are_lines cut n (place ∷ places) (line ∷ lines) e are free = (
   },
   are_lines cut (n + 1) places lines (others_same _ _ _ _ e) are.1 (All-tail IsFree line lines free),
 )
+are_lines cut n places lines e are free = tt
 
 all_free : (lines : List InputLine) → AreLines lines → All IsFree lines
 all_free [] are = All-nil IsFree
@@ -228,14 +211,13 @@ all_ended (line ∷ lines) ends = All-cons IsEnded line lines ends.0 (all_ended 
 
 whole_placed : (cut : Bool) (n : ℕ) (places lines : List InputLine) → others_of cut n lines ≡ others_of cut n places → EachEnds places → All IsEnded lines → placed_all places lines ≡ lines
 whole_placed cut n [] [] e ends all = refl
-whole_placed cut n [] (line ∷ lines) e ends all = absurd cc
-whole_placed cut n (place ∷ places) [] e ends all = absurd cc
 whole_placed cut n (place ∷ places) (line ∷ lines) e ends all =
     let here : line.ended ≡ true = All-head IsEnded line lines all in
     let same : placed place line ≡ line =
     ap (λ (ended : Bool). let l : InputLine = record { bytes = cond ended line.bytes (content line); ended = ended } in l) ends.0
     ∙ ap (λ (ended : Bool). let l : InputLine = record { bytes = line.bytes; ended = ended } in l) (sym here) in
     ap₂ (λ (l : InputLine) (ls : List InputLine). l ∷ ls) same (whole_placed cut (n + 1) places lines (others_same _ _ _ _ e) ends.1 (All-tail IsEnded line lines all))
+whole_placed cut n places lines e ends all = absurd cc
 
 -- ---- the script
 

@@ -1,11 +1,7 @@
 -- What whole lines print, whatever follows them.
-use Rattle.std.proofs.Common.{◌≡◌, ℕ, ◌+◌, ◌<◌, Bool, true, false, cond, List, [], ◌∷◌, ◌++◌, length, Result, Ok, Err, inl, inr, ⊎_elim, ◌⊎◌, refl, sym, ap, subst, ◌∙◌, arith}
-use Rattle.std.specs.Prelude.{Option, Some, None, nat_eq, nat_le, nat_lt, ◌&&◌, ◌||◌, not}
+use Rattle.std.proofs.Common.{◌≡◌, ℕ, ◌+◌, ◌<◌, Bool, true, false, cond, List, [], ◌∷◌, ◌++◌, length, Result, Ok, Err, inl, inr, ⊎_elim, ◌⊎◌, refl, sym, ap, subst, ◌∙◌, arith, Option, Some, None, nat_eq, nat_le, nat_lt, ◌&&◌, unwrap_or, true≢false, append-nil, length-append}
 use Rattle.std.specs.Str.Lines.{strip_carriage_return}
-use Rattle.std.proofs.lemmas.Bool.{true≢false}
 use Rattle.std.proofs.lemmas.Bool.Decides.{nat_tests}
-use Rattle.std.proofs.lemmas.List.{append-nil, length-append}
-use Rattle.std.specs.Prelude.{unwrap_or}
 use Rattle.wb_script.specs.declared.fault.LineFault.{LineFault}
 use Rattle.wb_script.specs.declared.fault.RunFault.{RunFault}
 use Rattle.wb_script.specs.declared.fault.RunFault.TheVariants as run_faults
@@ -15,9 +11,8 @@ use Rattle.wb_script.specs.declared.running.Summary.{Summary}
 use Rattle.wb_lines.specs.Ahead.{IsLine}
 use Rattle.wb_script.specs.Hosts.{Opened, opened, Act, does, fails, act}
 use Rattle.wb_script.specs.Parsing.{line_of}
-use Rattle.wb_script.specs.Script.{Begins}
+use Rattle.wb_script.specs.Script.{Begins, State, start, closing_text, after_batch, Closing, Opens, Acts, Part, Arrival, Nothing, End, part_of, part_in, Step, goes, refused, step_by, closing_step, part_step, step_of, Outcome, prints, before, answer, finish, proceed, continue, most_lines, outcome_from, outcome}
 use Rattle.wb_lines.specs.Input.{InputLine, onto_first, input_lines, content, most_bytes}
-use Rattle.wb_script.specs.Script.{State, start, closing_text, after_batch, Closing, Opens, Acts, Faulty, Part, Arrival, Nothing, End, part_of, part_in, Step, goes, refused, step_by, closing_step, part_step, step_of, Outcome, prints, before, answer, finish, proceed, continue, most_lines, outcome_from, outcome}
 use Rattle.wb_script.specs.ScriptLaws.{EachEnds, waits_after, waits_at_end, text_of, RefusedStays, PrintedStays, SkippedPrintsNothing}
 use Rattle.wb_lines.proofs.InputLines.{input_lines-whole, whole_line, fits}
 use Rattle.wb_script.proofs.Outcomes.{before-nil, before-before, too_many, text_of as same_text, end_of}
@@ -59,10 +54,8 @@ quiet_act k text (fails f) host t y e = absurd cc
 -- by the host
 quiet_after : (k : Option ℕ) (host : Option Opened) (text : List ℕ) (c : Closing) (t : State) (y : List ℕ) → closing_step (record { host = host; workers = k; waiting = [] }) text c ≡ goes t y → closing t ≡ []
 quiet_after k None text (Opens member cells workers seed) t y e = let u : State = record { host = Some (opened member cells seed); workers = Some (unwrap_or k workers); waiting = [] } in ap closing (sym (state_of u t text y e))
-quiet_after k (Some host) text (Opens member cells workers seed) t y e = absurd cc
-quiet_after k None text (Acts line) t y e = absurd cc
 quiet_after k (Some host) text (Acts line) t y e = quiet_act k text (act line host) host t y e
-quiet_after k host text (Faulty f) t y e = absurd cc
+quiet_after k host text c t y e = absurd cc
 
 quiet_line : (s t : State) (part : Part) (y : List ℕ) (waits : Bool) → (waits ≡ false → closing s ≡ []) → part_step s s.waiting part ≡ goes t y → waits_after waits part ≡ false → closing t ≡ []
 quiet_line s t Nothing y waits quiet e calm = ap closing (sym (state_of s t [] y e)) ∙ quiet calm

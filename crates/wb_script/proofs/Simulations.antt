@@ -1,12 +1,11 @@
 -- Two states that are alike before each line: each outcome from the one is what one thread prints from the other.
-use Rattle.std.proofs.Common.{◌≡◌, ℕ, ◌+◌, Bool, cond, List, [], ◌∷◌, Result, Ok, Err, refl, sym, ap, ◌∙◌}
-use Rattle.std.specs.Prelude.{Option, Some, None}
+use Rattle.std.proofs.Common.{◌≡◌, ℕ, ◌+◌, Bool, cond, List, [], ◌∷◌, Result, Ok, Err, refl, sym, ap, ◌∙◌, Option, Some, None}
 use Rattle.wb_names.specs.Values.{DrawopValue}
 use Rattle.wb_script.specs.declared.fault.LineFault.{LineFault}
 use Rattle.wb_script.specs.declared.fault.RunFault.{RunFault}
 use Rattle.wb_script.specs.declared.fault.RunFault.TheVariants as run_faults
 use Rattle.wb_lines.specs.Input.{InputLine, content}
-use Rattle.wb_script.specs.Script.{State, MayBeTaken, part_in, Step, goes, refused, part_step, step_of, Outcome, before, finish, proceed, continue, outcome_from, Finishes, Proceeds, fault_at, Continues, IsOutcomeFrom}
+use Rattle.wb_script.specs.Script.{State, MayBeTaken, part_in, Step, goes, refused, part_step, Outcome, before, finish, proceed, continue, outcome_from, Finishes, Proceeds, fault_at, Continues, IsOutcomeFrom}
 use Rattle.wb_script.proofs.Outcomes.{as_it_came, finishes as finishes_now}
 
 -- A script that ends here prints the same and answers the same, in whatever order the one takes its batch.

@@ -1,8 +1,5 @@
 -- What a line does, from what its parts do.
-use Rattle.std.proofs.Common.{◌≡◌, ℕ, ◌<◌, Bool, false, List, [], ◌∷◌, ◌++◌, length, Result, Ok, Err, inl, inr, refl, sym, ap, subst, ◌∙◌, append_assoc, arith}
-use Rattle.std.specs.Prelude.{Option, Some, None, filter, IsPermutation}
-use Rattle.std.specs.Prelude.{unwrap_or}
-use Rattle.std.proofs.lemmas.List.{append-nil}
+use Rattle.std.proofs.Common.{◌≡◌, ℕ, ◌<◌, Bool, false, List, [], ◌∷◌, ◌++◌, length, Result, Ok, Err, inl, inr, refl, sym, ap, subst, ◌∙◌, append_assoc, arith, Option, Some, None, filter, IsPermutation, unwrap_or, append-nil}
 use Rattle.std.proofs.lemmas.List.Sorted.{length_permutation}
 use Rattle.wb_names.specs.Values.{NameValue, DrawopValue}
 use Rattle.wb_names.specs.Arrivals.{Counts, counts_of, outcomes_of}
@@ -27,7 +24,7 @@ use Rattle.wb_script.proofs.Outcomes.{as_it_came}
 
 -- before a text has begun
 pub at_once : (text : List ℕ) → StopsWithin text [] run_faults.Memory
-at_once text = (tt, (text, refl))
+at_once text = (refl, (text, refl))
 
 -- within the second of two texts
 pub stops_behind : (text more written : List ℕ) (f : RunFault) → StopsWithin more written f → StopsWithin (text ++ more) (text ++ written) f
@@ -112,9 +109,8 @@ opens_twice number old s order v member cells workers seed ends open_now = go (a
 -- of a batch without arrivals
 empty_member : (v : Option MemberValue) (host : Option Opened) → MayBeOpenAt v host → MayBeOpenAt v (by_host host None (λ host. Some (host_after host [] [])))
 empty_member None None o = o
-empty_member None (Some host) o = absurd o
-empty_member (Some v) None o = absurd o
 empty_member (Some v) (Some host) o = record { board = o.board; keeper = o.keeper; words = o.words }
+empty_member v host o = absurd o
 
 empty_text : (host : Option Opened) → [] ≡ by_host host [] (λ host. batch_text host.board [])
 empty_text None = refl
@@ -167,7 +163,7 @@ ClosesTo s ending written waiting result = (o : Outcome) × Finishes s ending o 
 
 -- what was printed could not be written
 pub closes_unwritten : (s : State) (ending : Result ℕ RunFault) (host : HostValue) (waiting : List ℕ) → IsAt host s → ClosesTo s ending [] waiting (Err run_faults.Write)
-closes_unwritten s ending host waiting at = let b = ends_empty host s at in (finish s b.0 ending, (b.0, b.1, refl), inr (tt, (closing_text s b.0, refl)))
+closes_unwritten s ending host waiting at = let b = ends_empty host s at in (finish s b.0 ending, (b.0, b.1, refl), inr (refl, (closing_text s b.0, refl)))
 
 pub closes_after : (s : State) (f : RunFault) (written waiting : List ℕ) (result : Result Summary RunFault) → is_stop f ≡ false → ClosesTo s (Err f) written waiting result → Closes s (Err f) written waiting result
 closes_after s f written waiting result going met = subst (λ (stops : Bool). ClosesAfter stops s f written waiting result) (sym going) met

@@ -1,9 +1,6 @@
 -- What a batch that was read from a script comes to.
-use Rattle.std.proofs.Common.{◌≡◌, ◌≢◌, ◌≤◌, ◌<◌, ℕ, List, [], ◌∷◌, ◌++◌, length, Bool, true, false, Result, Ok, Err, refl, sym, ap, subst, ◌∙◌, arith}
-use Rattle.std.specs.Prelude.{Option, Some, None, filter}
-use Rattle.std.specs.Option.{is_some}
+use Rattle.std.proofs.Common.{◌≡◌, ◌≢◌, ◌≤◌, ◌<◌, ℕ, List, [], ◌∷◌, ◌++◌, length, Bool, true, false, Result, Ok, Err, refl, sym, ap, subst, ◌∙◌, arith, Option, Some, None, filter, is_some, append-nil}
 use Rattle.std.proofs.lemmas.Bool.{false≢true, true≢false}
-use Rattle.std.proofs.lemmas.List.{append-nil}
 use Rattle.wb_names.specs.Values.{DrawopValue}
 use Rattle.wb_feed.specs.Batches.{counts_in}
 use Rattle.wb_host.specs.Keeper.{Arrive, holds}
@@ -16,8 +13,8 @@ use Rattle.wb_script.specs.Answers.{batch_line}
 use Rattle.wb_lines.specs.Ahead.{Ahead}
 use Rattle.wb_script.specs.Hosts.{Opened, opened, batch_text, names_of}
 use Rattle.wb_script.specs.Inside.Lines.{LinesValue}
-use Rattle.wb_script.specs.Script.{State, IsAlone, MayBeTaken, by_host, after_batch, closing_text, Finishes, is_stop, IsStop}
-use Rattle.wb_script.specs.Inside.Passing.{IsAhead, Passes, Stops}
+use Rattle.wb_script.specs.Script.{State, IsAlone, MayBeTaken, by_host, after_batch, closing_text, Outcome, Finishes, is_stop}
+use Rattle.wb_script.specs.Inside.Passing.{Leads, IsAhead, Passes, StopsBehind, Stops}
 use Rattle.wb_script.specs.Members.{MemberValue, IsOpenAt}
 use Rattle.wb_script.specs.Inside.Steps.{TakesBatch}
 use Rattle.wb_script.specs.Inside.Reading.{IsOpen, IsBatchEnd, with_waiting, BatchReading, listed, GetsTo, ReadsOn}
@@ -27,14 +24,6 @@ use Rattle.wb_script.proofs.Outcomes.{Leads-then, Passes-then}
 use Rattle.wb_script.proofs.Steps.{taken}
 
 -- ---- how it ended
-
-pub stop_is : (f : RunFault) → is_stop f ≡ true → IsStop f
-stop_is run_faults.Memory e = tt
-stop_is run_faults.Write e = tt
-stop_is run_faults.Start e = tt
-stop_is run_faults.Read e = absurd (false≢true e)
-stop_is run_faults.Endless e = absurd (false≢true e)
-stop_is (run_faults.Line n l) e = absurd (false≢true e)
 
 abbrev err_of : (X : Type 0) → RunFault → Result X RunFault
 err_of X e = Err e
@@ -97,17 +86,16 @@ takes_arrivals member workers old new first arrived r (Err f) is t = t
 -- ---- the batch is taken
 
 -- where the script can't be read on, the batch is taken before that is said
+goes_behind : (stops : Bool) (A : Outcome → Type 0) (text : List ℕ) (s t : State) (f : RunFault) → stops ≡ false → StopsBehind stops A [] s f → Leads (Finishes s (Err f)) text (Finishes t (Err f)) → StopsBehind stops A text t f
+goes_behind true A text s t f going p leads = absurd (true≢false going)
+goes_behind false A text s t f going p leads = Leads-then A (Finishes s (Err f)) (Finishes t (Err f)) [] text p leads
+
 stops_after : (n : ℕ) (s t : State) (order : List DrawopValue) (r r' : Ahead) (given : List ℕ) (failed : Bool) (f : RunFault) → is_stop f ≡ false → IsOpen t.host → MayBeTaken t.workers t.waiting order
     → Stops n s r given [] t r' failed f → Stops n s r given (closing_text t order) (after_batch t order) r' failed f
-stops_after n s t order r r' given failed run_faults.Memory going opened may p = absurd (true≢false going)
-stops_after n s t order r r' given failed run_faults.Write going opened may p = absurd (true≢false going)
-stops_after n s t order r r' given failed run_faults.Start going opened may p = absurd (true≢false going)
 stops_after n s t order r r' given failed run_faults.Read going opened may p =
     (p.0, p.1, Leads-then (IsAhead true n s r given) (Finishes t (Err run_faults.Read)) (Finishes (after_batch t order) (Err run_faults.Read)) [] (closing_text t order) p.2 (finish_leads t order (Err run_faults.Read) opened may))
-stops_after n s t order r r' given failed run_faults.Endless going opened may p = λ more cut follow.
-    Leads-then (IsAhead cut n s r (given ++ more)) (Finishes t (Err run_faults.Endless)) (Finishes (after_batch t order) (Err run_faults.Endless)) [] (closing_text t order) (p more cut follow) (finish_leads t order (Err run_faults.Endless) opened may)
-stops_after n s t order r r' given failed (run_faults.Line number e) going opened may p = λ more cut follow.
-    Leads-then (IsAhead cut n s r (given ++ more)) (Finishes t (Err (run_faults.Line number e))) (Finishes (after_batch t order) (Err (run_faults.Line number e))) [] (closing_text t order) (p more cut follow) (finish_leads t order (Err (run_faults.Line number e)) opened may)
+stops_after n s t order r r' given failed f going opened may p = λ more cut follow.
+    goes_behind (is_stop f) (IsAhead cut n s r (given ++ more)) (closing_text t order) t (after_batch t order) f going (p more cut follow) (finish_leads t order (Err f) opened may)
 
 passes_after : (n m : ℕ) (s t : State) (order : List DrawopValue) (r : Ahead) (new : LinesValue) (given : List ℕ) → IsOpen t.host → MayBeTaken t.workers t.waiting order → IsBatchEnd new
     → Passes n s r given [] m t new.ahead → Passes n s r given (closing_text t order) m (after_batch t order) new.ahead

@@ -1,6 +1,5 @@
 -- What a script prints for its batches and its questions.
-use Rattle.std.specs.Prelude.{◌≡◌, ℕ, true, List, ◌++◌, length, codes}
-use Rattle.std.specs.List.{flat_map}
+use Rattle.std.specs.Prelude.{◌≡◌, ℕ, true, List, ◌++◌, length, codes, flat_map}
 use Rattle.std.specs.Fmt.{decimal}
 use Rattle.wb_names.specs.Values.{DrawopValue, MarkValue}
 use Rattle.wb_names.specs.declared.name.PageId.{PageId}
@@ -44,6 +43,4 @@ answer_text marks history Pages = pages_text (pages_of history)
 -- a canvas that is asked for is not too large
 abbrev pub IsAnswerable : Query → Type 0
 IsAnswerable (Canvas page width height) = is_canvas_size width height ≡ true
-IsAnswerable (Gaps page) = Unit {0}
-IsAnswerable (Report page) = Unit {0}
-IsAnswerable Pages = Unit {0}
+IsAnswerable query = Unit {0}

@@ -62,7 +62,4 @@ CountsLines = (input : List ℕ) (n : ℕ) → (checked false input ≡ Ok n) �
 -- A line that stops a driver of at most so many lines is one of those.
 abbrev pub IsCounted : ℕ → DriveFault LineFault → Type 0
 IsCounted most (drive_faults.Line number e) = number ≤ most
-IsCounted most drive_faults.Read = Unit {0}
-IsCounted most drive_faults.Write = Unit {0}
-IsCounted most drive_faults.Memory = Unit {0}
-IsCounted most drive_faults.Endless = Unit {0}
+IsCounted most e = Unit {0}

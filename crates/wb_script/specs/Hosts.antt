@@ -5,7 +5,7 @@ use Rattle.wb_names.specs.Arrivals.{outcomes_of, counts_of, history_after}
 use Rattle.wb_recovery.specs.declared.tuning.Tuning.{Tuning}
 use Rattle.wb_names.specs.declared.name.PageId.{PageId}
 use Rattle.wb_codec.specs.declared.datagram.Datagram.{Datagram}
-use Rattle.wb_codec.specs.declared.datagram.Datagram.TheVariants.{Draw, Session, Request, AskPages, PageState}
+use Rattle.wb_codec.specs.declared.datagram.Datagram.TheVariants.{Request}
 use Rattle.wb_recovery.specs.Events.{Event, due_asks, timers_of, names_of as timer_names}
 use Rattle.rand_pcg.specs.Lcg.{Lcg}
 use Rattle.wb_host.specs.Keeper.{KeeperCall, SetDelay, Hear, Arrive, Miss, GoOn, moment_at, Report, is_own, events_of, holds}
@@ -118,17 +118,11 @@ looked page host = does (calling (Miss (present host) (wanted_of page host) (wor
 -- A request takes a random word, and no other datagram does.
 abbrev pub words_for : Datagram → ℕ
 words_for (Request asker name) = 1
-words_for (Draw d) = 0
-words_for (Session sender sent page marks echoes) = 0
-words_for (AskPages asker) = 0
-words_for (PageState sender page marks) = 0
+words_for v = 0
 
 abbrev pub word_at : Datagram → Lcg → ℕ
 word_at (Request asker name) random = word_of random
-word_at (Draw d) random = 0
-word_at (Session sender sent page marks echoes) random = 0
-word_at (AskPages asker) random = 0
-word_at (PageState sender page marks) random = 0
+word_at v random = 0
 
 -- A datagram is heard, unless the marks of its page would be too many.
 abbrev pub heard : Datagram → Opened → Act
@@ -152,6 +146,4 @@ act (lines.Distance source micros) host = does (calling (SetDelay source micros)
 act (lines.Tick moment) host = ticked moment host
 act (lines.Look page) host = looked page host
 act (lines.Session page) host = reported page host
-act lines.Skip host = does host []
-act (lines.Board member cells workers seed) host = does host []
-act (lines.Arrive d) host = does host []
+act line host = does host []

@@ -25,8 +25,7 @@ pub record IsOpenAt (v : MemberValue) (host : Opened) : Type 0 where
 abbrev pub MayBeOpenAt : Option MemberValue → Option Opened → Type 0
 MayBeOpenAt None None = Unit {0}
 MayBeOpenAt (Some v) (Some host) = IsOpenAt v host
-MayBeOpenAt None (Some host) = ⊥
-MayBeOpenAt (Some v) None = ⊥
+MayBeOpenAt member host = ⊥
 
 -- ---- what it does
 

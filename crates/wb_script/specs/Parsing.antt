@@ -1,6 +1,5 @@
 -- What a line of a script says, or its first fault.
-use Rattle.std.specs.Prelude.{◌≡◌, ◌<◌, ◌≤◌, IfErr, MatchResult, ℕ, ◌-◌, ◌^◌, List, [], ◌∷◌, Bool, true, false, nat_eq, Option, Some, None, Result, Ok, Err, if◌then◌else◌, codes}
-use Rattle.std.specs.Str.{bytes_eq}
+use Rattle.std.specs.Prelude.{◌≡◌, ◌<◌, ◌≤◌, IfErr, MatchResult, ℕ, ◌-◌, ◌^◌, List, [], ◌∷◌, Bool, true, false, nat_eq, Option, Some, None, Result, Ok, Err, if◌then◌else◌, codes, bytes_eq}
 use Rattle.wb_names.specs.declared.name.PageId.{PageId}
 use Rattle.wb_codec.specs.Reading.{reading}
 use Rattle.wb_codec.specs.declared.datagram.Datagram.{Datagram}
@@ -35,23 +34,16 @@ none_of [] = Some tt
 none_of (a ∷ more) = None
 
 abbrev pub one_of : List (List ℕ) → Option (List ℕ)
-one_of [] = None
 one_of (a ∷ []) = Some a
-one_of (a ∷ b ∷ more) = None
+one_of ws = None
 
 abbrev pub two_of : List (List ℕ) → Option (List ℕ × List ℕ)
-two_of [] = None
-two_of (a ∷ []) = None
 two_of (a ∷ b ∷ []) = Some (a, b)
-two_of (a ∷ b ∷ c ∷ more) = None
+two_of ws = None
 
 abbrev pub four_of : List (List ℕ) → Option (List ℕ × List ℕ × List ℕ × List ℕ)
-four_of [] = None
-four_of (a ∷ []) = None
-four_of (a ∷ b ∷ []) = None
-four_of (a ∷ b ∷ c ∷ []) = None
 four_of (a ∷ b ∷ c ∷ d ∷ []) = Some (a, b, c, d)
-four_of (a ∷ b ∷ c ∷ d ∷ e ∷ more) = None
+four_of ws = None
 
 -- the member, the cells, the workers and the seed of a board
 unfoldable pub board : List (List ℕ) → Result Command LineFault
@@ -114,17 +106,11 @@ datagram arguments = do
 -- drawops arrive, and every other datagram is heard
 abbrev pub arrived : Datagram → Result Command LineFault
 arrived (datagrams.Draw d) = Ok (Arrive d)
-arrived (datagrams.Session sender sent page marks echoes) = Err faults.Kind
-arrived (datagrams.Request asker name) = Err faults.Kind
-arrived (datagrams.AskPages asker) = Err faults.Kind
-arrived (datagrams.PageState sender page marks) = Err faults.Kind
+arrived v = Err faults.Kind
 
 abbrev pub heard : Datagram → Result Command LineFault
 heard (datagrams.Draw d) = Err faults.Kind
-heard (datagrams.Session sender sent page marks echoes) = Ok (Hear (datagrams.Session sender sent page marks echoes))
-heard (datagrams.Request asker name) = Ok (Hear (datagrams.Request asker name))
-heard (datagrams.AskPages asker) = Ok (Hear (datagrams.AskPages asker))
-heard (datagrams.PageState sender page marks) = Ok (Hear (datagrams.PageState sender page marks))
+heard v = Ok (Hear v)
 
 abbrev pub arrive : List (List ℕ) → Result Command LineFault
 arrive arguments = datagram arguments >>= arrived
@@ -171,31 +157,15 @@ line_of bytes = line_of_words (words bytes)
 abbrev pub IsWithin : Command → Type 0
 IsWithin (Board member cells workers seed) = (0 < cells) × (cells ≤ 65535)
 IsWithin (Show page width height) = is_canvas_size width height ≡ true
-IsWithin Skip = Unit {0}
-IsWithin (Arrive d) = Unit {0}
-IsWithin (Hear v) = Unit {0}
 IsWithin (Distance source micros) = micros < 2 ^ 24
 IsWithin (Tick moment) = moment < 2 ^ 48
-IsWithin (Look page) = Unit {0}
-IsWithin (Session page) = Unit {0}
-IsWithin (Gaps page) = Unit {0}
-IsWithin (Report page) = Unit {0}
-IsWithin Pages = Unit {0}
+IsWithin line = Unit {0}
 
 -- A line that carries a datagram, for which memory is taken.
 abbrev pub CarriesDatagram : Command → Type 0
 CarriesDatagram (Arrive d) = Unit {0}
 CarriesDatagram (Hear v) = Unit {0}
-CarriesDatagram Skip = ⊥
-CarriesDatagram (Board member cells workers seed) = ⊥
-CarriesDatagram (Distance source micros) = ⊥
-CarriesDatagram (Tick moment) = ⊥
-CarriesDatagram (Look page) = ⊥
-CarriesDatagram (Session page) = ⊥
-CarriesDatagram (Show page width height) = ⊥
-CarriesDatagram (Gaps page) = ⊥
-CarriesDatagram (Report page) = ⊥
-CarriesDatagram Pages = ⊥
+CarriesDatagram line = ⊥
 
 -- What parsing answers to the words of a line: what they say, the first fault, or want of memory, once the digits have been looked at.
 abbrev pub Parses : {X : Type 0} → Result X ParseFault → Result X LineFault → Type 0

@@ -2,7 +2,7 @@
 use Rattle.std.specs.Prelude.{◌≡◌, ℕ, ◌+◌, ◌≤◌, List, [], ◌∷◌, ◌++◌, map, Bool, Option, Some, None, IsPermutation}
 use Rattle.wb_script.specs.declared.fault.RunFault.{RunFault}
 use Rattle.wb_lines.specs.Input.{InputLine, input_lines, content}
-use Rattle.wb_script.specs.Script.{Part, Arrival, Nothing, End, part_in, Outcome, outcome, fault_at, IsOutcome}
+use Rattle.wb_script.specs.Script.{Part, Arrival, Nothing, part_in, Outcome, outcome, fault_at, IsOutcome}
 use Rattle.wb_script.specs.ScriptLaws.{EachEnds}
 
 -- What a line is to its batch, where it is taken: one that passes a limit or is cut off is not.
@@ -17,9 +17,7 @@ part_at cut n line = part_unless (fault_at cut n line) line
 -- a line that is no arrival
 abbrev pub other_than : Option Part → InputLine → Option InputLine
 other_than (Some (Arrival d)) line = None
-other_than (Some Nothing) line = Some line
-other_than (Some (End c)) line = Some line
-other_than None line = Some line
+other_than part line = Some line
 
 -- at each place the line that stands there, or that it is an arrival
 abbrev pub others_of : Bool → ℕ → List InputLine → List (Option InputLine)
@@ -34,8 +32,7 @@ onto_batch xs (batch ∷ batches) = (xs ++ batch) ∷ batches
 abbrev pub batches_with : {X : Type 0} → Option Part → X → List (List X) → List (List X)
 batches_with (Some (Arrival d)) x batches = onto_batch (x ∷ []) batches
 batches_with (Some Nothing) x batches = batches
-batches_with (Some (End c)) x batches = [] ∷ batches
-batches_with None x batches = [] ∷ batches
+batches_with part x batches = [] ∷ batches
 
 -- the arrivals of each batch, of which the last may have none, and of each of them this
 abbrev pub batches_of : {X : Type 0} → (InputLine → X) → Bool → ℕ → List InputLine → List (List X)
@@ -45,9 +42,8 @@ batches_of form cut n (line ∷ lines) = batches_with (part_at cut n line) (form
 -- there are as many, and each has the same in some order
 abbrev pub AreRearranged : {X : Type 0} → List (List X) → List (List X) → Type 0
 AreRearranged [] [] = Unit {0}
-AreRearranged [] (other ∷ others) = ⊥
-AreRearranged (batch ∷ batches) [] = ⊥
 AreRearranged (batch ∷ batches) (other ∷ others) = IsPermutation batch other × AreRearranged batches others
+AreRearranged batches others = ⊥
 
 -- Inside each batch its arrivals change places with one another, as far as this is told of them, and every other line stays where it is.
 pub record IsReorderedBy {X : Type 0} (form : InputLine → X) (cut : Bool) (lines reordered : List InputLine) : Type 0 where

@@ -3,8 +3,7 @@ use Rattle.std.specs.Prelude.{ℕ, List, Bool, Option, Result}
 use Rattle.wb_script.specs.declared.fault.RunFault.{RunFault}
 use Rattle.wb_script.specs.declared.running.Summary.{Summary}
 use Rattle.wb_lines.specs.Input.{input_lines}
-use Rattle.wb_script.specs.Script.{IsAlone, Outcome, outcome, IsOutcome}
-use Rattle.wb_script.specs.Script.{Meets}
+use Rattle.wb_script.specs.Script.{IsAlone, Outcome, outcome, IsOutcome, Meets}
 use Rattle.wb_script.specs.ScriptLaws.{workers_at_end}
 use Rattle.wb_script.specs.Reordering.{IsReordered}
 

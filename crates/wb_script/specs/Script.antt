@@ -1,6 +1,5 @@
 -- What a script prints, and how it ends.
-use Rattle.std.specs.Prelude.{◌≡◌, ℕ, ◌+◌, ◌≤◌, ◌^◌, List, [], ◌∷◌, ◌++◌, length, Bool, true, false, nat_le, nat_lt, ◌&&◌, ◌||◌, not, Option, Some, None, Result, Ok, Err, if◌then◌else◌, IsPermutation}
-use Rattle.std.specs.Prelude.{◌⊎◌, unwrap_or}
+use Rattle.std.specs.Prelude.{◌≡◌, ℕ, ◌+◌, ◌≤◌, ◌^◌, List, [], ◌∷◌, ◌++◌, length, Bool, true, false, nat_le, nat_lt, ◌&&◌, ◌||◌, not, Option, Some, None, Result, Ok, Err, if◌then◌else◌, IsPermutation, ◌⊎◌, unwrap_or}
 use Rattle.wb_names.specs.Values.{DrawopValue}
 use Rattle.wb_script.specs.declared.fault.LineFault.{LineFault}
 use Rattle.wb_script.specs.declared.fault.LineFault.TheVariants as faults
@@ -201,17 +200,10 @@ abbrev pub is_stop : RunFault → Bool
 is_stop run_faults.Memory = true
 is_stop run_faults.Write = true
 is_stop run_faults.Start = true
-is_stop run_faults.Read = false
-is_stop run_faults.Endless = false
-is_stop (run_faults.Line n e) = false
+is_stop e = false
 
 abbrev pub IsStop : RunFault → Type 0
-IsStop run_faults.Memory = Unit {0}
-IsStop run_faults.Write = Unit {0}
-IsStop run_faults.Start = Unit {0}
-IsStop run_faults.Read = ⊥
-IsStop run_faults.Endless = ⊥
-IsStop (run_faults.Line n e) = ⊥
+IsStop e = is_stop e ≡ true
 
 -- the run stops within a text
 abbrev pub StopsWithin : List ℕ → List ℕ → RunFault → Type 0

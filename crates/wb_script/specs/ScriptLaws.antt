@@ -8,9 +8,8 @@ use Rattle.wb_script.specs.declared.command.Command.TheVariants.{Skip}
 use Rattle.wb_script.specs.declared.running.Summary.{Summary}
 use Rattle.wb_lines.specs.Ahead.{IsLine}
 use Rattle.wb_script.specs.Parsing.{line_of}
-use Rattle.wb_script.specs.Script.{Begins}
+use Rattle.wb_script.specs.Script.{Begins, IsAlone, Opens, Part, Arrival, Nothing, End, part_in, most_lines, Outcome, prints, outcome, IsOutcome}
 use Rattle.wb_lines.specs.Input.{InputLine, input_lines}
-use Rattle.wb_script.specs.Script.{IsAlone, Opens, Acts, Faulty, Part, Arrival, Nothing, End, part_in, most_lines, Outcome, prints, outcome, IsOutcome}
 
 -- a line feed ends each line
 abbrev pub EachEnds : List InputLine → Type 0
@@ -64,11 +63,8 @@ HeldStays = (cells : ℕ) (held arrivals : List DrawopValue) → (added : List D
 
 -- the number of workers that a line names
 abbrev pub workers_on : Part → Option ℕ
-workers_on (Arrival d) = None
-workers_on Nothing = None
 workers_on (End (Opens member cells workers seed)) = Some workers
-workers_on (End (Acts line)) = None
-workers_on (End (Faulty e)) = None
+workers_on part = None
 
 -- the first of two numbers that is known
 abbrev pub first_of : Option ℕ → Option ℕ → Option ℕ

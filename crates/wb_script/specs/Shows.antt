@@ -12,14 +12,13 @@ use Rattle.wb_script.specs.Laws.{NoneClash, HasCells}
 use Rattle.wb_script.specs.Parsing.{line_of}
 use Rattle.wb_script.specs.Queries.{view_of}
 use Rattle.wb_lines.specs.Input.{InputLine, input_lines}
-use Rattle.wb_script.specs.Script.{Opens, Acts, Faulty, Part, Arrival, Nothing, End, part_in, prints, outcome}
+use Rattle.wb_script.specs.Script.{Opens, Part, Arrival, End, part_in, prints, outcome}
 use Rattle.wb_script.specs.ScriptLaws.{EachEnds}
 
 -- the drawop that a line hands in
 abbrev pub arrived_by : Part → List DrawopValue
 arrived_by (Arrival d) = d ∷ []
-arrived_by Nothing = []
-arrived_by (End c) = []
+arrived_by part = []
 
 -- the arrivals of some lines, of whatever batches
 abbrev pub arrivals_of : List InputLine → List DrawopValue
@@ -28,11 +27,8 @@ arrivals_of (line ∷ lines) = arrived_by (part_in line) ++ arrivals_of lines
 
 -- the cells that a line opens a board with; else those of what follows
 abbrev pub cells_by : Part → ℕ → ℕ
-cells_by (Arrival d) later = later
-cells_by Nothing later = later
 cells_by (End (Opens member cells workers seed)) later = cells
-cells_by (End (Acts line)) later = later
-cells_by (End (Faulty e)) later = later
+cells_by part later = later
 
 -- the cells of the first board that is opened, or 0
 abbrev pub cells_of : List InputLine → ℕ

@@ -1,6 +1,6 @@
 //! The board of a script with the keeper at it, and what lines do to them.
 ghost use Rattle.std.specs.Prelude.{◌≡◌, ◌≢◌, ◌<◌, ◌≤◌, ◌^◌, ◌++◌, List, [], ℕ, length, Err, true, filter, IfOk, OnOk, IfErr};
-ghost use Rattle.wb_script.specs.Answers.{IsAnswerable};
+ghost use Rattle.wb_script.specs.Answers.{IsAnswerable, batch_line};
 ghost use Rattle.wb_script.specs.Hosts.{Opened, opened_with, names_of, asked, ticked, looked, words_for, word_at, heard, reported, act};
 ghost use Rattle.wb_script.specs.Parsing.{IsWithin};
 ghost use Rattle.wb_script.specs.Random.{after_words};
@@ -11,7 +11,6 @@ ghost use Rattle.wb_recovery.specs.Timing.{are_constants};
 ghost use Rattle.wb_feed.specs.Batches.{counts_in};
 ghost use Rattle.wb_host.specs.Keeper.{Arrive, holds};
 ghost use Rattle.wb_host.specs.Keeping.{Keeps};
-ghost use Rattle.wb_script.specs.Answers.{batch_line};
 
 mod driving;
 

@@ -7,9 +7,8 @@ use Rattle.wb_script.specs.Script.{Part, Arrival, Nothing, End, part_in}
 
 -- It is neither skipped nor an arrival.
 abbrev pub EndsBatchAt : Part → Type 0
-EndsBatchAt (Arrival d) = ⊥
-EndsBatchAt Nothing = ⊥
 EndsBatchAt (End c) = Unit {0}
+EndsBatchAt part = ⊥
 
 -- what a line is to a batch
 abbrev pub IsPart : ReadPart → Part → Type 0

@@ -25,20 +25,17 @@ Passes n old reader given written m new reader' =
     (more : List ℕ) (cut : Bool) → MayFollow reader'.ended more cut
     → Leads (IsAhead cut n old reader (given ++ more)) written (IsAhead cut m new reader' more)
 
+-- Where a run stops with a fault, the text of some outcome begins with what was written; or the end of the present batch, with this fault, follows it.
+abbrev pub StopsBehind : Bool → (Outcome → Type 0) → List ℕ → State → RunFault → Type 0
+StopsBehind true Whole written new e = MayBegin Whole written
+StopsBehind false Whole written new e = Leads Whole written (Finishes new (Err e))
+
 -- A run stops with a fault, before the end of the present batch.
 abbrev pub Stops : ℕ → State → Ahead → List ℕ → List ℕ → State → Ahead → Bool → RunFault → Type 0
 Stops n old reader given written new reader' failed run_faults.Read =
     (failed ≡ true) × (reader'.ended ≡ false) × Leads (IsAhead true n old reader given) written (Finishes new (Err run_faults.Read))
-Stops n old reader given written new reader' failed run_faults.Memory =
-    (more : List ℕ) (cut : Bool) → MayFollow reader'.ended more cut → MayBegin (IsAhead cut n old reader (given ++ more)) written
-Stops n old reader given written new reader' failed run_faults.Write =
-    (more : List ℕ) (cut : Bool) → MayFollow reader'.ended more cut → MayBegin (IsAhead cut n old reader (given ++ more)) written
-Stops n old reader given written new reader' failed run_faults.Start =
-    (more : List ℕ) (cut : Bool) → MayFollow reader'.ended more cut → MayBegin (IsAhead cut n old reader (given ++ more)) written
-Stops n old reader given written new reader' failed run_faults.Endless =
-    (more : List ℕ) (cut : Bool) → MayFollow reader'.ended more cut → Leads (IsAhead cut n old reader (given ++ more)) written (Finishes new (Err run_faults.Endless))
-Stops n old reader given written new reader' failed (run_faults.Line number e) =
-    (more : List ℕ) (cut : Bool) → MayFollow reader'.ended more cut → Leads (IsAhead cut n old reader (given ++ more)) written (Finishes new (Err (run_faults.Line number e)))
+Stops n old reader given written new reader' failed e =
+    (more : List ℕ) (cut : Bool) → MayFollow reader'.ended more cut → StopsBehind (is_stop e) (IsAhead cut n old reader (given ++ more)) written new e
 
 -- The end of the input, before the end of the present batch.
 abbrev pub Ends : ℕ → State → Ahead → List ℕ → List ℕ → ℕ → State → Ahead → Type 0

@@ -1,5 +1,4 @@
-use Rattle.std.proofs.Common.{[], ◌++◌}
-use Rattle.std.proofs.lemmas.List.{append-nil}
+use Rattle.std.proofs.Common.{[], ◌++◌, append-nil}
 use Rattle.wb_lines.specs.Driving.{rules_of}
 use Rattle.wb_lines.proofs.KnownBytes.{Sends-more, Sends-then}
 use Rattle.wb_lines.proofs.LineBytes.{Pulls-none}

@@ -1,5 +1,4 @@
-use Rattle.std.proofs.Common.{[], ◌∙◌, sym}
-use Rattle.std.specs.Prelude.{Ok, Err}
+use Rattle.std.proofs.Common.{[], ◌∙◌, sym, Ok, Err}
 use Rattle.std.proofs.lemmas.Result.{err_from_is_err_and}
 use Rattle.wb_script.specs.declared.fault.RunFault.TheVariants as run_faults
 use Rattle.wb_script.proofs.Steps.{closes, closes_unwritten, closes_after, closes_refused}

@@ -1,5 +1,4 @@
-use Rattle.std.proofs.Common.{[], ◌++◌}
-use Rattle.std.specs.Prelude.{Ok, Err}
+use Rattle.std.proofs.Common.{[], ◌++◌, Ok, Err}
 use Rattle.std.proofs.lemmas.Result.{err_from_is_err_and}
 use Rattle.wb_lines.proofs.KnownBytes.{Sends-then}
 use Rattle.wb_lines.proofs.LineBytes.{Pulls-then}

@@ -1,6 +1,5 @@
-use Rattle.std.proofs.Common.{◌≡◌, take}
+use Rattle.std.proofs.Common.{◌≡◌, take, flat_map}
 use Rattle.std.specs.String.{string_bytes}
-use Rattle.std.specs.List.{flat_map}
 use Rattle.wb_script.specs.SentLines.{send_line}
 use Rattle.wb_script.proofs.sent_lines.sends_text.Given as goal
 

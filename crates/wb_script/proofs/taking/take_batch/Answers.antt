@@ -1,5 +1,4 @@
-use Rattle.std.proofs.Common.{[], List, refl, subst}
-use Rattle.std.specs.Prelude.{filter}
+use Rattle.std.proofs.Common.{[], List, refl, subst, filter}
 use Rattle.wb_names.specs.Values.{DrawopValue}
 use Rattle.wb_feed.specs.Batches.{counts_in}
 use Rattle.wb_host.specs.Keeper.{Arrive, holds}

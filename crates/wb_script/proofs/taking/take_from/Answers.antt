@@ -3,7 +3,7 @@ use Rattle.std.proofs.lemmas.Result.{err_from_is_err_and}
 use Rattle.wb_script.specs.declared.fault.RunFault.{RunFault}
 use Rattle.wb_script.specs.declared.fault.RunFault.TheVariants as run_faults
 use Rattle.wb_script.proofs.Following.{starts}
-use Rattle.wb_script.proofs.TakingArrivals.{stop_is, ended_well, ended_badly, not_ended, same_fault}
+use Rattle.wb_script.proofs.TakingArrivals.{ended_well, ended_badly, not_ended, same_fault}
 use Rattle.wb_script.proofs.taking.take_from.Goals.{in-Some-Err-2, in-Some-Ok, in-Some-Ok-2}
 use Rattle.wb_script.proofs.taking.take_from.Goals as goal
 
@@ -16,7 +16,7 @@ returns-in_err-member-clause-reads g c =
 pub returns-in-Some-Err-clause-reads : goal.returns-in-Some-Err-clause-reads
 returns-in-Some-Err-clause-reads g c =
     let gives = c.take_arrivals-taken.ensures.arrived in
-    (gives.0, gives.1.3 (record { at = record { lines = c.args.arriving.now.progress.now.lines; first = c.args.arriving.now.first }; over = c.args.arriving.now.over; left = g.R.Source.left c.args.arriving.now.source.now; failed = g.R.Source.has_failed c.args.arriving.now.source.now; output = c.args.arriving.now.progress.now.output; taken = g.W.Sink.taken c.args.arriving.now.sink.now; stuck = g.W.Sink.has_failed c.args.arriving.now.sink.now }) [] (starts (record { at = record { lines = c.args.arriving.now.progress.now.lines; first = c.args.arriving.now.first }; over = c.args.arriving.now.over; left = g.R.Source.left c.args.arriving.now.source.now; failed = g.R.Source.has_failed c.args.arriving.now.source.now; output = c.args.arriving.now.progress.now.output; taken = g.W.Sink.taken c.args.arriving.now.sink.now; stuck = g.W.Sink.has_failed c.args.arriving.now.sink.now }) c.requires.start), stop_is c.in-Some-Err.fault (sym c.is_stop.ensures ∙ c.if-is_stop.true))
+    (gives.0, gives.1.3 (record { at = record { lines = c.args.arriving.now.progress.now.lines; first = c.args.arriving.now.first }; over = c.args.arriving.now.over; left = g.R.Source.left c.args.arriving.now.source.now; failed = g.R.Source.has_failed c.args.arriving.now.source.now; output = c.args.arriving.now.progress.now.output; taken = g.W.Sink.taken c.args.arriving.now.sink.now; stuck = g.W.Sink.has_failed c.args.arriving.now.sink.now }) [] (starts (record { at = record { lines = c.args.arriving.now.progress.now.lines; first = c.args.arriving.now.first }; over = c.args.arriving.now.over; left = g.R.Source.left c.args.arriving.now.source.now; failed = g.R.Source.has_failed c.args.arriving.now.source.now; output = c.args.arriving.now.progress.now.output; taken = g.W.Sink.taken c.args.arriving.now.sink.now; stuck = g.W.Sink.has_failed c.args.arriving.now.sink.now }) c.requires.start), sym c.is_stop.ensures ∙ c.if-is_stop.true)
 
 pub returns-in-Some-Err-clause-failed : goal.returns-in-Some-Err-clause-failed
 returns-in-Some-Err-clause-failed g c = λ e.

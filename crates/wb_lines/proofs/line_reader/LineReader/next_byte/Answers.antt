@@ -1,5 +1,4 @@
-use Rattle.std.proofs.Common.{[], ◌∙◌}
-use Rattle.std.proofs.lemmas.List.{append-nil}
+use Rattle.std.proofs.Common.{[], ◌∙◌, append-nil}
 use Rattle.wb_lines.proofs.LineBytes.{Pulls-none, Pulls-on}
 use Rattle.wb_lines.proofs.line_reader.LineReader.next_byte.Goals as goal
 

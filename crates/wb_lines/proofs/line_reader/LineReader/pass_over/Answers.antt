@@ -1,5 +1,4 @@
-use Rattle.std.proofs.Common.{ℕ, [], ◌∷◌, ◌++◌, refl, sym, ap, ◌∙◌, append_assoc, arith}
-use Rattle.std.proofs.lemmas.List.{append-nil, length-append}
+use Rattle.std.proofs.Common.{ℕ, [], ◌∷◌, ◌++◌, refl, sym, ap, ◌∙◌, append_assoc, arith, append-nil, length-append}
 use Rattle.wb_lines.proofs.KnownBytes.{Sends-none, Sends-then}
 use Rattle.wb_lines.proofs.LineBytes.{Pulls-none, Pulls-then, pulled-then, NoLineFeed-push}
 use Rattle.wb_lines.proofs.line_reader.LineReader.pass_over.Goals as goal

@@ -1,5 +1,4 @@
-use Rattle.std.proofs.Common.{◌≡◌, ◌+◌, ◌-◌, [], ◌++◌, List, ℕ, length, take, drop, ap, sym, ◌∙◌, arith}
-use Rattle.std.proofs.lemmas.List.{append-nil, drop-drop, take_all, length-drop, length-append, take-append-drop}
+use Rattle.std.proofs.Common.{◌≡◌, ◌+◌, ◌-◌, [], ◌++◌, List, ℕ, length, take, drop, ap, sym, ◌∙◌, arith, append-nil, drop-drop, take_all, length-drop, length-append, take-append-drop}
 use Rattle.wb_lines.proofs.KnownBytes.{Sends-then}
 use Rattle.wb_lines.proofs.output.Output.flush.Goals as goal
 

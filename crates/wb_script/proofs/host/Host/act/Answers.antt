@@ -1,5 +1,4 @@
-use Rattle.std.proofs.Common.{[], sym}
-use Rattle.std.proofs.lemmas.List.{append-nil}
+use Rattle.std.proofs.Common.{[], sym, append-nil}
 use Rattle.wb_script.proofs.Steps.{ends_empty, ends_nowhere, ends_then}
 use Rattle.wb_script.proofs.host.Host.act.Goals.{in-None, in-Some}
 use Rattle.wb_script.proofs.host.Host.act.Goals as goal

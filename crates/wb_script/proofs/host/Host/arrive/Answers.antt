@@ -1,5 +1,4 @@
-use Rattle.std.proofs.Common.{◌≡◌, [], refl, sym, ap, ◌∙◌, arith}
-use Rattle.std.specs.Prelude.{Some, None}
+use Rattle.std.proofs.Common.{◌≡◌, [], refl, sym, ap, ◌∙◌, arith, Some, None}
 use Rattle.std.proofs.lemmas.Result.{err_from_is_err_and}
 use Rattle.wb_script.specs.Inside.Steps.{HostValue}
 use Rattle.wb_lines.proofs.KnownBytes.{Sends-none}

@@ -1,5 +1,4 @@
-use Rattle.std.proofs.Common.{rules, ◌≡◌, None, Some, refl, sym, ap, ◌∙◌}
-use Rattle.std.specs.Prelude.{unwrap_or}
+use Rattle.std.proofs.Common.{rules, ◌≡◌, None, Some, refl, sym, ap, ◌∙◌, unwrap_or}
 use Rattle.wb_script.specs.Hosts.{opened}
 use Rattle.wb_script.specs.Inside.Steps.{HostValue}
 use Rattle.wb_script.specs.Members.{IsOpenAt}

@@ -1,7 +1,6 @@
-use Rattle.std.proofs.Common.{◌≡◌, ℕ, [], Ok, refl, sym, subst}
-use Rattle.std.proofs.lemmas.List.{append-nil}
+use Rattle.std.proofs.Common.{◌≡◌, ℕ, [], Ok, refl, sym, subst, append-nil}
 use Rattle.wb_script.specs.declared.command.Command.{Command}
-use Rattle.wb_script.specs.declared.command.Command.TheVariants.{Skip, Board, Arrive, Hear, Distance, Tick, Look, Session, Show, Gaps, Report, Pages}
+use Rattle.wb_script.specs.declared.command.Command.TheVariants.{Skip, Board, Arrive}
 use Rattle.wb_script.specs.Inside.Parts.{EndsBatchAt}
 use Rattle.wb_script.specs.Script.{Acts, Part, End, part_of, part_step}
 use Rattle.wb_script.specs.Inside.Steps.{DoesStep}
@@ -12,15 +11,7 @@ acts_then : (line : Command) → EndsBatchAt (part_of (Ok line)) → ((member ce
 acts_then Skip ends other = absurd ends
 acts_then (Arrive d) ends other = absurd ends
 acts_then (Board member cells workers seed) ends other = absurd (other member cells workers seed refl)
-acts_then (Hear v) ends other = refl
-acts_then (Distance source micros) ends other = refl
-acts_then (Tick moment) ends other = refl
-acts_then (Look page) ends other = refl
-acts_then (Session page) ends other = refl
-acts_then (Show page width height) ends other = refl
-acts_then (Gaps page) ends other = refl
-acts_then (Report page) ends other = refl
-acts_then Pages ends other = refl
+acts_then line ends other = refl
 
 pub returns-in-Board-clause-text : goal.returns-in-Board-clause-text
 returns-in-Board-clause-text c = ([], sym (append-nil c.args.output.now), λ s at. rw c.in-Board.is (c.open_board.ensures.step s at))

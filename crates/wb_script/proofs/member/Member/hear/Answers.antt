@@ -1,5 +1,4 @@
-use Rattle.std.proofs.Common.{[], ◌∙◌, ap, sym, subst, Ok, Err}
-use Rattle.std.proofs.lemmas.List.{append-nil}
+use Rattle.std.proofs.Common.{[], ◌∙◌, ap, sym, subst, Ok, Err, append-nil}
 use Rattle.wb_host.specs.Keeping.{KeeperValue}
 use Rattle.wb_host.specs.declared.keep_fault.KeepFault.{KeepFault}
 use Rattle.wb_script.specs.declared.fault.LineFault.TheVariants as faults

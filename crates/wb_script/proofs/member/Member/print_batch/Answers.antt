@@ -1,6 +1,5 @@
-use Rattle.std.proofs.Common.{◌≡◌, ℕ, List, ◌++◌, refl, ap, subst, ◌∙◌}
+use Rattle.std.proofs.Common.{◌≡◌, ℕ, List, ◌++◌, refl, ap, subst, ◌∙◌, filter}
 use Rattle.std.proofs.lemmas.Result.{err_from_is_err_and}
-use Rattle.std.specs.Prelude.{filter}
 use Rattle.wb_feed.specs.Batches.{counts_in}
 use Rattle.wb_names.specs.Values.{NameValue}
 use Rattle.wb_host.specs.Keeper.{Arrive, holds}
@@ -22,9 +21,9 @@ returns-clause-printed c =
 pub returns-in_err-text-clause-refused : goal.returns-in_err-text-clause-refused
 returns-in_err-text-clause-refused c =
     let p = err_from_is_err_and c.from_residual-in_err-text.result c.from_residual-in_err-text.ensures.1 in
-    rw (p.1, p.2) (tt, refl)
+    rw (p.1, p.2) (refl, refl)
 
 pub returns-in_err-add-clause-refused : goal.returns-in_err-add-clause-refused
 returns-in_err-add-clause-refused c =
     let p = err_from_is_err_and c.from_residual-in_err-add.result c.from_residual-in_err-add.ensures.1 in
-    rw (p.1, p.2) (tt, c.in_err-add.ensures.err)
+    rw (p.1, p.2) (refl, c.in_err-add.ensures.err)

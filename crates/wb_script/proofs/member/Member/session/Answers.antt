@@ -1,5 +1,4 @@
-use Rattle.std.proofs.Common.{Ok, ◌∙◌, refl, sym, subst, [], ◌∷◌}
-use Rattle.std.proofs.lemmas.List.{append-nil}
+use Rattle.std.proofs.Common.{Ok, ◌∙◌, refl, sym, subst, [], ◌∷◌, append-nil}
 use Rattle.std.proofs.lemmas.Result.{err_from_is_err_and}
 use Rattle.wb_script.specs.Board.{Held}
 use Rattle.wb_script.specs.Hosts.{reported}

@@ -1,5 +1,4 @@
-use Rattle.std.proofs.Common.{◌<◌, ◌≤◌, ◌∙◌, [], Ok, ap, sym, subst, ℕ}
-use Rattle.std.proofs.lemmas.List.{append-nil}
+use Rattle.std.proofs.Common.{◌<◌, ◌≤◌, ◌∙◌, [], Ok, ap, sym, subst, ℕ, append-nil}
 use Rattle.wb_host.proofs.StoppedTimers.{stopped_by_calls}
 use Rattle.wb_script.specs.Board.{Held}
 use Rattle.wb_script.specs.Hosts.{ticked}

@@ -1,5 +1,4 @@
-use Rattle.std.proofs.Common.{ap, ◌∙◌}
-use Rattle.std.specs.Prelude.{ℕ}
+use Rattle.std.proofs.Common.{ap, ◌∙◌, ℕ}
 use Rattle.rand_pcg.specs.Lcg.{Lcg}
 use Rattle.wb_script.specs.Random.{word_of, after_word}
 use Rattle.wb_script.proofs.random.RandomWords.next.Goals as goal

@@ -1,11 +1,9 @@
-use Rattle.std.proofs.Common.{rules, ◌≡◌, ◌<◌, None, true, false, [], Ok, Err, refl}
+use Rattle.std.proofs.Common.{rules, ◌≡◌, ◌<◌, None, true, false, [], Ok, Err, refl, is_some, append-nil}
 use Rattle.std.proofs.lemmas.Result.{err_from_is_err_and}
 use Rattle.wb_script.specs.declared.fault.RunFault.TheVariants as run_faults
 use Rattle.wb_script.specs.Script.{most_lines}
-use Rattle.std.specs.Option.{is_some}
-use Rattle.std.proofs.lemmas.List.{append-nil}
 use Rattle.wb_lines.proofs.LineBytes.{Pulls-none}
-use Rattle.wb_script.proofs.Outcomes.{failure_stops, length_stops, unwritten_stops, memory_stops}
+use Rattle.wb_script.proofs.Outcomes.{failure_stops, length_stops, stops_at_once}
 use Rattle.wb_script.proofs.Looking.{looked, few_of, seen_again, found}
 use Rattle.wb_script.proofs.script_lines.ScriptLines.look.Goals as goal
 
@@ -15,7 +13,7 @@ returns-in_err-next_line-clause-read g c =
     let l = c.in_err-next_line.ensures.read in
     let p = err_from_is_err_and c.from_residual.result c.from_residual.ensures.1 in
     rw (p.1, p.2) (looked c.self.inside.seen c.self.inside.reader c.next_line.new.self c.self.inside.done c.self.inside.line.items c.next_line.new.line.items c.args.self.now l.0 (g.R.Source.left c.args.source.now) (g.R.Source.left c.next_line.new.source) (g.R.Source.has_failed c.args.source.now) (g.R.Source.has_failed c.next_line.new.source) (Err run_faults.Memory) c.self.view_is none l.1
-    (refl, λ s. memory_stops c.self.inside.done s s c.self.inside.reader c.next_line.new.self l.0 (g.R.Source.has_failed c.next_line.new.source)))
+    (refl, λ s. stops_at_once c.self.inside.done s s c.self.inside.reader c.next_line.new.self l.0 (g.R.Source.has_failed c.next_line.new.source) run_faults.Memory refl))
 
 pub returns-in-Failed-clause-read : goal.returns-in-Failed-clause-read
 returns-in-Failed-clause-read g c =
@@ -37,7 +35,7 @@ returns-in-Unwritten-clause-read g c =
     let none : c.self.inside.seen ≡ None = search rules in
     let l = c.in_ok-next_line.ensures.read in
     looked c.self.inside.seen c.self.inside.reader c.next_line.new.self c.self.inside.done c.self.inside.line.items c.next_line.new.line.items c.args.self.now l.0 (g.R.Source.left c.args.source.now) (g.R.Source.left c.next_line.new.source) (g.R.Source.has_failed c.args.source.now) (g.R.Source.has_failed c.next_line.new.source) (Err run_faults.Write) c.self.view_is none l.1
-    (refl, λ s. unwritten_stops c.self.inside.done s s c.self.inside.reader c.next_line.new.self l.0 (g.R.Source.has_failed c.next_line.new.source))
+    (refl, λ s. stops_at_once c.self.inside.done s s c.self.inside.reader c.next_line.new.self l.0 (g.R.Source.has_failed c.next_line.new.source) run_faults.Write refl)
 
 pub returns-then-is_some-clause-read : goal.returns-then-is_some-clause-read
 returns-then-is_some-clause-read g c =
@@ -51,7 +49,7 @@ returns-in_err-said-in-Whole-clause-read g c =
     let l = c.in_ok-next_line.ensures.read in
     let p = err_from_is_err_and c.from_residual-in_err-said-in-Whole.result c.from_residual-in_err-said-in-Whole.ensures.1 in
     rw (p.1, p.2) (looked c.self.inside.seen c.self.inside.reader c.next_line.new.self c.self.inside.done c.self.inside.line.items c.next_line.new.line.items c.args.self.now l.0 (g.R.Source.left c.args.source.now) (g.R.Source.left c.next_line.new.source) (g.R.Source.has_failed c.args.source.now) (g.R.Source.has_failed c.next_line.new.source) (Err run_faults.Memory) c.self.view_is none l.1
-    (refl, λ s. memory_stops c.self.inside.done s s c.self.inside.reader c.next_line.new.self l.0 (g.R.Source.has_failed c.next_line.new.source)))
+    (refl, λ s. stops_at_once c.self.inside.done s s c.self.inside.reader c.next_line.new.self l.0 (g.R.Source.has_failed c.next_line.new.source) run_faults.Memory refl))
 
 pub returns-in_err-said-in-Last-clause-read : goal.returns-in_err-said-in-Last-clause-read
 returns-in_err-said-in-Last-clause-read g c =
@@ -59,7 +57,7 @@ returns-in_err-said-in-Last-clause-read g c =
     let l = c.in_ok-next_line.ensures.read in
     let p = err_from_is_err_and c.from_residual-in_err-said-in-Last.result c.from_residual-in_err-said-in-Last.ensures.1 in
     rw (p.1, p.2) (looked c.self.inside.seen c.self.inside.reader c.next_line.new.self c.self.inside.done c.self.inside.line.items c.next_line.new.line.items c.args.self.now l.0 (g.R.Source.left c.args.source.now) (g.R.Source.left c.next_line.new.source) (g.R.Source.has_failed c.args.source.now) (g.R.Source.has_failed c.next_line.new.source) (Err run_faults.Memory) c.self.view_is none l.1
-    (refl, λ s. memory_stops c.self.inside.done s s c.self.inside.reader c.next_line.new.self l.0 (g.R.Source.has_failed c.next_line.new.source)))
+    (refl, λ s. stops_at_once c.self.inside.done s s c.self.inside.reader c.next_line.new.self l.0 (g.R.Source.has_failed c.next_line.new.source) run_faults.Memory refl))
 
 pub returns-in_ok-said-in-Whole-clause-read : goal.returns-in_ok-said-in-Whole-clause-read
 returns-in_ok-said-in-Whole-clause-read g c =
