@@ -7,7 +7,7 @@ use Rattle.wb_names.specs.Kinds.{every_kind, kind_with-key, kind_with-is, op_kin
 use Rattle.wb_names.specs.declared.parts.OpKind.{OpKind}
 use Rattle.wb_codec.specs.declared.version.Version.{Version}
 use Rattle.wb_codec.specs.declared.version.Version.TheVariants.{One, Two}
-use Rattle.wb_codec.specs.Kinds.{op_code, op_kind_of, is_version, first_version, has_kind}
+use Rattle.wb_codec.specs.Kinds.{op_code, op_kind_of, has_kind}
 use Rattle.std.specs.Int.{w32, to_be_bytes, w64}
 use Rattle.std.proofs.lemmas.Bool.Decides.{nat_tests}
 use Rattle.std.proofs.lemmas.List.{take-append-drop, length-take}
@@ -44,11 +44,6 @@ code_is n kind e = kind_with-is nat_eq op_code eqb-true n kind e
 
 pub code_below : (kind : OpKind) → op_code kind < 256
 code_below kind = ltb-true _ _ (every_kind (λ k. nat_lt (op_code k) 256) refl kind)
-
-pub version_is : (v w : Version) → is_version v w ≡ true → w ≡ v
-version_is One One e = refl
-version_is Two Two e = refl
-version_is v w e = cc
 
 -- ---- the fields of each kind
 
@@ -112,16 +107,6 @@ op_reads version bytes fits = step _ (reads8 bytes fits) (λ n tn. step _ (versi
     })))
 
 -- ---- the version of an operation
-
--- each operation is told by one version
-pub one_version : (version : Version) (name : NameValue) (op : Op) → has_kind version (op_kind op) ≡ true → fault_in_version version name op ≡ None → (op_version op ≡ version) × IsLawful name op
-one_version One name (Text x y text) k e =
-    let short : nat_le (length text) 40 ≡ true = grind (arith, nat_tests) in
-    (ap (λ (b : Bool). cond b One Two) short, grind (arith, nat_tests))
-one_version Two name (Text x y text) k e =
-    let long : nat_le (length text) 40 ≡ false = grind (arith, nat_tests) in
-    (ap (λ (b : Bool). cond b One Two) long, grind (arith, nat_tests))
-one_version version name op k e = (version_is version (first_version (op_kind op)) k, e)
 
 -- what is lawful has no fault in its version
 pub no_fault_again : (name : NameValue) (op : Op) → IsLawful name op → fault_in_version (op_version op) name op ≡ None

@@ -11,7 +11,6 @@ use Rattle.std.proofs.lemmas.Bool.{le-leb}
 use Rattle.std.specs.Result.{result_ok}
 use Rattle.wb_names.specs.Values.{NameValue, DrawopValue}
 use Rattle.wb_names.specs.Faults.{value_unless}
-use Rattle.wb_names.specs.declared.name.PageId.{PageId}
 use Rattle.wb_names.specs.declared.fault.FieldFault.{FieldFault}
 use Rattle.wb_names.specs.Drawing.{IsLawful, op_fault, seq_fault}
 use Rattle.wb_names.specs.declared.parts.Stroke.{Stroke}
@@ -97,9 +96,6 @@ op_back name (Aimed change t) lawful fits =
 pub row_op_back : (d : DrawopValue) (words bytes : List ℕ) (o : Option Op) → IsDrawop d → row d ≡ words → bytes ≡ flat_map (to_be_bytes w64) (take 8 (drop 4 words)) → o ≡ op_in (get_or words 3 0) (get_or words 4 0) bytes → o ≡ Some d.op
 row_op_back d words bytes o h e b s = s ∙ ap (op_in (get_or words 3 0) (get_or words 4 0)) b ∙ subst (λ (ws : List ℕ). op_in (get_or ws 3 0) (get_or ws 4 0) (flat_map (to_be_bytes w64) (take 8 (drop 4 ws))) ≡ Some d.op) e (op_back d.name d.op h.lawful h.target)
 
-one_page : (a b m n : ℕ) → a ≡ b → m ≡ n → let p : PageId = record { creator = a; number = m } in let q : PageId = record { creator = b; number = n } in p ≡ q
-one_page a b m n e f = cc
-
 one_drawop : (m n : NameValue) (t u : ℕ) (o p : Op) → m ≡ n → t ≡ u → o ≡ p → let a : DrawopValue = record { name = m; time = t; op = o } in let b : DrawopValue = record { name = n; time = u; op = p } in a ≡ b
 one_drawop m n t u o p e f g = cc
 
@@ -116,9 +112,6 @@ row_back d words name op r h e name-is same made = grind (arith, common_steps)
 
 pub row_length : (d : DrawopValue) → length (row d) ≡ row_words
 row_length d = grind (arith, common_steps)
-
-pair_back : (a b c d : ℕ) → b < 2 ^ 32 → d < 2 ^ 32 → pair_word a b ≡ pair_word c d → (a ≡ c) × (b ≡ d)
-pair_back a b c d hb hd e = (omega arith, omega arith)
 
 one_name : (m n : NameValue) → IsName m → IsName n → pair_word m.source m.seq ≡ pair_word n.source n.seq → pair_word m.page.creator m.page.number ≡ pair_word n.page.creator n.page.number → m ≡ n
 one_name m n hm hn e f = grind (arith, common_steps)
