@@ -1,4 +1,5 @@
 -- A drawop that is read is the one that was written, and what was written is read again.
+use Rattle.std.proofs.lemmas.Grind.{common_steps}
 use Rattle.std.proofs.Common.{◌≡◌, ℕ, ◌<◌, Bool, true, Option, Some, refl, ◌^◌, ◌≤◌, false, cond, None, List, [], ◌∷◌, ◌++◌, length, take, drop, Result, Ok, sym, ap, subst, ◌∙◌, append_assoc, arith, append-nil}
 use Rattle.std.specs.Prelude.{nat_eq, nat_lt, nat_le}
 use Rattle.std.proofs.lemmas.Bool.{eqb-true, ltb-true, leb-true, le-leb}
@@ -6,10 +7,10 @@ use Rattle.wb_names.specs.Kinds.{every_kind, kind_with-key, kind_with-is, op_kin
 use Rattle.wb_names.specs.declared.parts.OpKind.{OpKind}
 use Rattle.wb_codec.specs.declared.version.Version.{Version}
 use Rattle.wb_codec.specs.declared.version.Version.TheVariants.{One, Two}
-use Rattle.wb_codec.specs.Kinds.{op_code, op_kind_of, is_version, first_version, has_kind}
-use Rattle.std.specs.Int.{w16, w32, to_be_bytes, w64}
+use Rattle.wb_codec.specs.Kinds.{op_code, op_kind_of, has_kind}
+use Rattle.std.specs.Int.{w32, to_be_bytes, w64}
 use Rattle.std.proofs.lemmas.Bool.Decides.{nat_tests}
-use Rattle.std.proofs.lemmas.List.{take_at, drop_at, take-append-drop, length-append, length-take}
+use Rattle.std.proofs.lemmas.List.{take-append-drop, length-take}
 use Rattle.wb_names.specs.Values.{NameValue, DrawopValue}
 use Rattle.wb_names.specs.Drawing.{IsLawful, seq_fault}
 use Rattle.wb_names.specs.declared.parts.Figure.{Figure}
@@ -44,11 +45,6 @@ code_is n kind e = kind_with-is nat_eq op_code eqb-true n kind e
 pub code_below : (kind : OpKind) → op_code kind < 256
 code_below kind = ltb-true _ _ (every_kind (λ k. nat_lt (op_code k) 256) refl kind)
 
-pub version_is : (v w : Version) → is_version v w ≡ true → w ≡ v
-version_is One One e = refl
-version_is Two Two e = refl
-version_is v w e = cc
-
 -- ---- the fields of each kind
 
 -- the bytes told the fields of an operation of this kind
@@ -73,22 +69,11 @@ fields_read (kinds.Aimed change) bytes fits = step _ (number_reads wide32 bytes 
 
 stroke_again : (figure : Figure) (s : Stroke) (rest : List ℕ) → IsStroke s → stroke_at figure (stroke_bytes s ++ rest) ≡ Ok (Drawn figure s, rest)
 unfolding stroke_at
-stroke_again figure s rest fits =
-    let a = to_be_bytes w16 s.x0 in
-    let b = to_be_bytes w16 s.y0 in
-    let c = to_be_bytes w16 s.x1 in
-    let d = to_be_bytes w16 s.y1 in
-    let regrouped : stroke_bytes s ++ rest ≡ a ++ (b ++ (c ++ (d ++ (s.glyph ∷ rest)))) = simp append_assoc in
-    ap (stroke_at figure) regrouped ∙ rw (number_again wide16 s.x0 (b ++ (c ++ (d ++ (s.glyph ∷ rest)))) (omega (arith, fits.x0-fits)), number_again wide16 s.y0 (c ++ (d ++ (s.glyph ∷ rest))) (omega (arith, fits.y0-fits)), number_again wide16 s.x1 (d ++ (s.glyph ∷ rest)) (omega (arith, fits.x1-fits)), number_again wide16 s.y1 (s.glyph ∷ rest) (omega (arith, fits.y1-fits))) refl
+stroke_again figure s rest fits = grind (arith, common_steps)
 
 text_again : (x y : ℕ) (text rest : List ℕ) → x < 2 ^ 16 → y < 2 ^ 16 → text_at (text_bytes x y text ++ rest) ≡ Ok (Text x y text, rest)
 unfolding text_at
-text_again x y text rest fx fy =
-    let a = to_be_bytes w16 x in
-    let b = to_be_bytes w16 y in
-    let regrouped : text_bytes x y text ++ rest ≡ a ++ (b ++ (length text ∷ (text ++ rest))) = simp append_assoc in
-    let long : nat_le (length text) (length (text ++ rest)) ≡ true = le-leb _ _ (omega (arith, length-append text rest)) in
-    ap text_at regrouped ∙ rw (number_again wide16 x (b ++ (length text ∷ (text ++ rest))) fx, number_again wide16 y (length text ∷ (text ++ rest)) fy, long, take_at text rest (length text) refl, drop_at text rest (length text) refl) refl
+text_again x y text rest fx fy = grind (arith, common_steps)
 
 target_again : (change : Change) (t : Target) (rest : List ℕ) → t.source < 2 ^ 32 → t.seq < 2 ^ 32 → target_at change (target_bytes t ++ rest) ≡ Ok (Aimed change t, rest)
 unfolding target_at
@@ -122,16 +107,6 @@ op_reads version bytes fits = step _ (reads8 bytes fits) (λ n tn. step _ (versi
     })))
 
 -- ---- the version of an operation
-
--- each operation is told by one version
-pub one_version : (version : Version) (name : NameValue) (op : Op) → has_kind version (op_kind op) ≡ true → fault_in_version version name op ≡ None → (op_version op ≡ version) × IsLawful name op
-one_version One name (Text x y text) k e =
-    let short : nat_le (length text) 40 ≡ true = grind (arith, nat_tests) in
-    (ap (λ (b : Bool). cond b One Two) short, grind (arith, nat_tests))
-one_version Two name (Text x y text) k e =
-    let long : nat_le (length text) 40 ≡ false = grind (arith, nat_tests) in
-    (ap (λ (b : Bool). cond b One Two) long, grind (arith, nat_tests))
-one_version version name op k e = (version_is version (first_version (op_kind op)) k, e)
 
 -- what is lawful has no fault in its version
 pub no_fault_again : (name : NameValue) (op : Op) → IsLawful name op → fault_in_version (op_version op) name op ≡ None
@@ -170,9 +145,7 @@ pub record DrawopTaken (version : Version) (bytes : List ℕ) (d : DrawopValue) 
   pub version-is : op_version d.op ≡ version
 
 drawn : (version : Version) (bytes : List ℕ) (name : NameValue) (time : ℕ) (op : Op) → bytes ≡ name_bytes name ++ to_be_bytes w64 time ++ op_bytes op → HasWidth name → time < 2 ^ 64 → HasTarget op → has_kind version (op_kind op) ≡ true → seq_fault name.seq ≡ None → fault_in_version version name op ≡ None → DrawopTaken version bytes (record { name = name; time = time; op = op })
-drawn version bytes name time op parts width lt target kind seq free =
-    let v = one_version version name op kind free in
-    record { parts = parts; fits = record { name = named name width seq; time = lt; lawful = v.1; target = target }; version-is = v.0 }
+drawn version bytes name time op parts width lt target kind seq free = grind (arith, common_steps)
 
 pub drawop_reads : (version : Version) (bytes : List ℕ) → IsBytes bytes → Reads (DrawopTaken version bytes) (drawop_at version bytes)
 unfolding drawop_at

@@ -1,8 +1,9 @@
 -- Lists of marks and of echoes: what is read is what was written, in order, and what was written is read again.
+use Rattle.std.proofs.lemmas.Grind.{common_steps}
 use Rattle.std.proofs.Common.{◌≡◌, ℕ, zero, suc, ◌^◌, ◌<◌, ◌≤◌, true, Option, Some, None, List, [], ◌∷◌, ◌++◌, length, get_or, Result, Ok, refl, sym, ap, subst, ◌∙◌, append_assoc, arith}
 use Rattle.std.specs.Prelude.{All, AllPairs}
 use Rattle.std.specs.List.{flat_map}
-use Rattle.std.specs.Int.{w16, w32, w64, to_be_bytes}
+use Rattle.std.specs.Int.{w16, to_be_bytes}
 use Rattle.std.proofs.lemmas.Bool.{ltb-true, lt-ltb}
 use Rattle.std.proofs.lemmas.List.Elements.{All-cons, All-head, All-tail}
 use Rattle.std.proofs.lemmas.List.Kept.{AllPairs-cons}
@@ -16,8 +17,8 @@ use Rattle.wb_codec.specs.Ranges.{IsMark, IsEcho, IsEntryList, IsMarkList, IsEch
 use Rattle.wb_codec.specs.Spelling.{mark_bytes, echo_bytes, list_bytes}
 use Rattle.wb_codec.specs.Reading.{mark_at, echo_at, list_at, marks_at, echoes_at}
 use Rattle.wb_codec.proofs.Bytes.{IsBytes}
-use Rattle.wb_codec.proofs.FieldLaws.{Reads, gives, step, weaker, checked, ranged, Takes, Takes-then, Numbered, number_again, number_reads, wide32, wide64}
-use Rattle.wb_codec.proofs.DrawopLaws.{seq_counted, seq_free}
+use Rattle.wb_codec.proofs.FieldLaws.{Reads, gives, step, weaker, checked, ranged, Takes, Takes-then, Numbered, number_reads, wide32, wide64}
+use Rattle.wb_codec.proofs.DrawopLaws.{seq_counted}
 
 -- ---- one entry
 
@@ -54,10 +55,7 @@ mark_reads before bytes fits = step _ (number_reads wide32 bytes fits) (λ s ts.
 
 mark_again : (before : Option ℕ) (m : MarkValue) (rest : List ℕ) → MarkFits m → is_above before m.source ≡ true → mark_at before (mark_bytes m ++ rest) ≡ Ok (m, rest)
 unfolding mark_at
-mark_again before m rest fits above =
-    let s = to_be_bytes w32 m.source in
-    let h = to_be_bytes w32 m.high in
-    ap (mark_at before) (append_assoc s h rest) ∙ rw (number_again wide32 m.source (h ++ rest) fits.ranges.source, number_again wide32 m.high rest fits.ranges.high, seq_free m.high fits.positive, above) refl
+mark_again before m rest fits above = grind (arith, common_steps)
 
 echo_reads : (before : Option ℕ) (bytes : List ℕ) → IsBytes bytes → Reads (λ x. EntryTaken echo_source echo_bytes EchoFits before bytes x.0 x.1) (echo_at before bytes)
 unfolding echo_at
@@ -69,12 +67,7 @@ echo_reads before bytes fits = step _ (number_reads wide32 bytes fits) (λ s ts.
 
 echo_again : (before : Option ℕ) (e : Echo) (rest : List ℕ) → EchoFits e → is_above before e.source ≡ true → echo_at before (echo_bytes e ++ rest) ≡ Ok (e, rest)
 unfolding echo_at
-echo_again before e rest fits above =
-    let s = to_be_bytes w32 e.source in
-    let t = to_be_bytes w64 e.sent in
-    let h = to_be_bytes w64 e.held in
-    let regrouped : echo_bytes e ++ rest ≡ s ++ (t ++ (h ++ rest)) = append_assoc (s ++ t) h rest ∙ append_assoc s t (h ++ rest) in
-    ap (echo_at before) regrouped ∙ rw (number_again wide32 e.source (t ++ (h ++ rest)) fits.ranges.source, number_again wide64 e.sent (h ++ rest) fits.ranges.sent, number_again wide64 e.held rest fits.ranges.held, above) refl
+echo_again before e rest fits above = grind (arith, common_steps)
 
 -- ---- lists of entries
 

@@ -1,5 +1,6 @@
 -- The laws of the grammar: what is read is spelled so, what is spelled so is read, and only whole datagrams are read.
-use Rattle.std.proofs.Common.{◌≡◌, ℕ, ◌^◌, ◌<◌, List, [], ◌++◌, length, Result, Ok, Option, refl, sym, ap, subst, ◌∙◌, append_assoc, append-nil, arith, ◌+◌, ◌*◌, ◌∷◌, Bool, true, false, cond, Err, suc, take, inl, inr}
+use Rattle.std.proofs.lemmas.Grind.{common_steps}
+use Rattle.std.proofs.Common.{◌≡◌, ℕ, ◌^◌, ◌<◌, List, [], ◌++◌, length, Result, Ok, Option, refl, sym, ap, subst, ◌∙◌, append_assoc, append-nil, arith, ◌+◌, ◌*◌, ◌∷◌, Bool, true, false, cond, Err, suc, take}
 use Rattle.std.specs.List.{flat_map}
 use Rattle.std.specs.Int.{w16, w32, w64, to_be_bytes, from_be_bytes}
 use Rattle.wb_names.specs.Values.{NameValue, MarkValue, DrawopValue}
@@ -20,12 +21,12 @@ use Rattle.wb_codec.proofs.Bytes.{IsBytes, IsBytes-drop, IsBytes-take}
 use Rattle.wb_codec.proofs.FieldLaws.{Reads, gives, step, ended, ranges, ends, Takes-then, Takes-all, page_reads, page_again, name_reads, name_again, has_width, found, never_memory, weaker, checked, number_again, number_reads, wide16, wide32, wide64}
 use Rattle.wb_codec.proofs.DrawopLaws.{drawop_reads, drawop_again, named, seq_free}
 use Rattle.wb_codec.proofs.EntryLaws.{marks_read, marks_again, echoes_read, echoes_again}
-use Rattle.std.proofs.lemmas.List.{length-append, length-take, get_or_past}
+use Rattle.std.proofs.lemmas.List.{length-append, length-take}
 use Rattle.wb_names.specs.declared.parts.Op.{Op}
 use Rattle.wb_names.specs.declared.parts.Op.TheVariants.{Text}
 use Rattle.wb_codec.proofs.Lawful.{lawful_text}
 use Rattle.std.specs.Prelude.{nat_eq, nat_le, ◌&&◌, All}
-use Rattle.std.proofs.lemmas.Bool.{eqb-true, leb-true, le-leb, cases_lt}
+use Rattle.std.proofs.lemmas.Bool.{eqb-true, leb-true, le-leb}
 use Rattle.std.proofs.lemmas.Bool.Decides.{nat_tests}
 use Rattle.std.proofs.lemmas.Nat.{be_bytes_4, from_be_bytes-to_be_bytes_4}
 use Rattle.wb_codec.specs.Grammar.{Spells, IsFaultOf}
@@ -129,9 +130,7 @@ request_again asker name lt fits =
 
 ask_pages_again : (asker : ℕ) → asker < 2 ^ 32 → ask_pages_at (body (datagrams.AskPages asker)) ≡ Ok (datagrams.AskPages asker)
 unfolding ask_pages_at
-ask_pages_again asker lt =
-    let a = to_be_bytes w32 asker in
-    ap ask_pages_at (sym (append-nil a)) ∙ ap (λ (r : Result (ℕ × List ℕ) ReadFault). r >>= λ asker. end_of asker.1 (datagrams.AskPages asker.0)) (number_again wide32 asker [] lt)
+ask_pages_again asker lt = grind (arith, common_steps)
 
 pub body_again : (v : Datagram) → IsDatagram v → body_at (version_of v) (kind_of v) (body v) ≡ Ok v
 unfolding body_at draw_at
@@ -339,11 +338,7 @@ pub ruleset whole_datagrams = (prefix_short, longer_trails)
 
 -- bytes, told by the members of a list
 pub bytes_below : (bytes : List ℕ) → All (λ b. b < 256) bytes → IsBytes bytes
-bytes_below bytes h i =
-    elim (cases_lt i (length bytes)) [
-      | inl lt ↦ h i 0 lt
-      | inr le ↦ rw (get_or_past bytes i 0 le) (omega arith)
-    ]
+bytes_below bytes h i = grind (arith, common_steps)
 
 pub spells_below : (bytes : List ℕ) (v : Datagram) → All (λ b. b < 256) bytes → reading bytes ≡ Ok v → Spells bytes v
 spells_below bytes v h e = spells bytes v (bytes_below bytes h) e

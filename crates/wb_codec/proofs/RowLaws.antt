@@ -1,19 +1,17 @@
 -- A record read back is the drawop that it was made from.
-use Rattle.std.proofs.Common.{◌≡◌, ℕ, zero, suc, ◌+◌, ◌-◌, ◌*◌, ◌^◌, ◌<◌, Bool, true, List, ◌++◌, length, get_or, take, drop, replicate, map, Option, Some, None, Result, Ok, refl, sym, ap, subst, ◌∙◌, arith}
+use Rattle.std.proofs.lemmas.Grind.{common_steps}
+use Rattle.std.proofs.Common.{◌≡◌, ℕ, zero, suc, ◌+◌, ◌-◌, ◌*◌, ◌^◌, ◌<◌, Bool, true, List, ◌++◌, length, get_or, take, drop, replicate, map, Option, Some, None, Result, refl, sym, ap, subst, ◌∙◌, arith}
 use Rattle.std.specs.List.{flat_map, range_with_len}
 use Rattle.std.specs.Int.{w64, to_be_bytes}
-use Rattle.std.proofs.lemmas.List.{drop_all, length-take, length-drop, take_at, length-append, length-replicate, drop-drop, take-append-drop}
+use Rattle.std.proofs.lemmas.List.{drop_all, length-take, length-drop, length-append, length-replicate, drop-drop, take-append-drop}
 use Rattle.std.proofs.lemmas.Nat.{be_bytes_8}
 use Rattle.wb_names.specs.TextFields.{padded}
 use Rattle.std.specs.Prelude.{nat_le, option_and_then, if◌then◌else◌}
 use Rattle.std.proofs.lemmas.Bool.{le-leb}
 use Rattle.std.specs.Result.{result_ok}
 use Rattle.wb_names.specs.Values.{NameValue, DrawopValue}
-use Rattle.wb_names.specs.Faults.{value_unless, fault_unless}
-use Rattle.wb_names.specs.declared.name.PageId.{PageId}
+use Rattle.wb_names.specs.Faults.{value_unless}
 use Rattle.wb_names.specs.declared.fault.FieldFault.{FieldFault}
-use Rattle.wb_names.specs.declared.fault.FieldFault.TheVariants.{SeqZero}
-use Rattle.wb_names.proofs.Orders.{name_parts}
 use Rattle.wb_names.specs.Drawing.{IsLawful, op_fault, seq_fault}
 use Rattle.wb_names.specs.declared.parts.Stroke.{Stroke}
 use Rattle.wb_names.specs.declared.parts.OpKind.{OpKind}
@@ -54,29 +52,17 @@ pub record HasParts (word code byte p q r s : ℕ) : Type 0 where
   pub s-is : s_in word ≡ s
 
 pub parts_back : (kind byte p q r s : ℕ) → byte < 2 ^ 8 → p < 2 ^ 12 → q < 2 ^ 12 → r < 2 ^ 12 → s < 2 ^ 12 → HasParts (op_word kind byte p q r s) kind byte p q r s
-parts_back kind byte p q r s hb hp hq hr hs = record {
-  code-is = omega arith;
-  byte-is = omega arith;
-  p-is = omega arith;
-  q-is = omega arith;
-  r-is = omega arith;
-  s-is = omega arith;
-}
+parts_back kind byte p q r s hb hp hq hr hs = grind (arith, common_steps)
 
 stroke_back : (word kind : ℕ) (s : Stroke) → HasParts word kind s.glyph s.x0 s.y0 s.x1 s.y1 → stroke_in word ≡ s
 stroke_back word kind s h = rw (h.p-is, h.q-is, h.r-is, h.s-is, h.byte-is) refl
 
 -- the text's words read back: its front is the text
 text_front : (x y n : ℕ) (text bytes : List ℕ) (word : ℕ) → HasParts word 3 (length text) x y 0 0 → bytes ≡ padded text → Text (p_in word) (q_in word) (take (byte_in word) bytes) ≡ Text x y text
-text_front x y n text bytes word h e =
-    let front : take (length text) bytes ≡ text = ap (take (length text)) e ∙ take_at text (replicate (64 - length text) 0) (length text) refl in
-    rw (h.p-is, h.q-is, h.byte-is, front) refl
+text_front x y n text bytes word h e = grind (arith, common_steps)
 
 target_back : (t : Target) → t.source < 2 ^ 32 → t.seq < 2 ^ 32 → target_in (pair_word t.source t.seq) ≡ t
-target_back t hs hn =
-    let h : high_half (pair_word t.source t.seq) ≡ t.source = omega arith in
-    let l : low_half (pair_word t.source t.seq) ≡ t.seq = omega arith in
-    rw (h, l) refl
+target_back t hs hn = grind (arith, common_steps)
 
 op_found : (kind : OpKind) (word target : ℕ) (bytes : List ℕ) → code_in word ≡ op_code kind → op_in word target bytes ≡ op_of_kind kind word target bytes
 unfolding op_in
@@ -110,9 +96,6 @@ op_back name (Aimed change t) lawful fits =
 pub row_op_back : (d : DrawopValue) (words bytes : List ℕ) (o : Option Op) → IsDrawop d → row d ≡ words → bytes ≡ flat_map (to_be_bytes w64) (take 8 (drop 4 words)) → o ≡ op_in (get_or words 3 0) (get_or words 4 0) bytes → o ≡ Some d.op
 row_op_back d words bytes o h e b s = s ∙ ap (op_in (get_or words 3 0) (get_or words 4 0)) b ∙ subst (λ (ws : List ℕ). op_in (get_or ws 3 0) (get_or ws 4 0) (flat_map (to_be_bytes w64) (take 8 (drop 4 ws))) ≡ Some d.op) e (op_back d.name d.op h.lawful h.target)
 
-one_page : (a b m n : ℕ) → a ≡ b → m ≡ n → let p : PageId = record { creator = a; number = m } in let q : PageId = record { creator = b; number = n } in p ≡ q
-one_page a b m n e f = cc
-
 one_drawop : (m n : NameValue) (t u : ℕ) (o p : Op) → m ≡ n → t ≡ u → o ≡ p → let a : DrawopValue = record { name = m; time = t; op = o } in let b : DrawopValue = record { name = n; time = u; op = p } in a ≡ b
 one_drawop m n t u o p e f g = cc
 
@@ -120,50 +103,18 @@ one_drawop m n t u o p e f g = cc
 pub row_name_back : (d : DrawopValue) (words : List ℕ) (source seq creator number : ℕ) (name : NameValue) (r : Result NameValue FieldFault) → IsDrawop d → row d ≡ words
     → source ≡ high_half (get_or words 0 0) → seq ≡ low_half (get_or words 0 0) → creator ≡ high_half (get_or words 1 0) → number ≡ low_half (get_or words 1 0)
     → r ≡ value_unless (seq_fault seq) (record { source = source; page = record { creator = creator; number = number }; seq = seq }) → Some name ≡ result_ok r → name ≡ d.name
-row_name_back d words source seq creator number name r h e es eq ec en made given =
-    let w0 : pair_word d.name.source d.name.seq ≡ get_or words 0 0 = ap (λ (ws : List ℕ). get_or ws 0 0) e in
-    let w1 : pair_word d.name.page.creator d.name.page.number ≡ get_or words 1 0 = ap (λ (ws : List ℕ). get_or ws 1 0) e in
-    let s0 = h.name.source in
-    let s1 = h.name.seq in
-    let p0 = h.name.page.creator in
-    let p1 = h.name.page.number in
-    let source-is : source ≡ d.name.source = omega arith in
-    let seq-is : seq ≡ d.name.seq = omega arith in
-    let creator-is : creator ≡ d.name.page.creator = omega arith in
-    let number-is : number ≡ d.name.page.number = omega arith in
-    let positive : nat_le 1 seq ≡ true = le-leb _ _ (omega (arith, h.name.positive)) in
-    let page : PageId = record { creator = creator; number = number } in
-    let whole : NameValue = record { source = source; page = page; seq = seq } in
-    let named : r ≡ Ok whole = made ∙ ap (λ (b : Bool). value_unless (fault_unless b SeqZero) whole) positive in
-    let given' = given ∙ ap result_ok named in
-    let same : name ≡ whole = cc in
-    same ∙ name_parts source d.name.source page d.name.page seq d.name.seq source-is (one_page creator d.name.page.creator number d.name.page.number creator-is number-is) seq-is
+row_name_back d words source seq creator number name r h e es eq ec en made given = grind (arith, common_steps)
 
 -- the drawop made from what the words say
 pub row_back : (d : DrawopValue) (words : List ℕ) (name : NameValue) (op : Op) (r : Result DrawopValue FieldFault) → IsDrawop d → row d ≡ words → name ≡ d.name → (let x : Option Op = Some op in let y : Option Op = Some d.op in x ≡ y)
     → r ≡ value_unless (op_fault name op) (record { name = name; time = get_or words 2 0; op = op }) → result_ok r ≡ Some d
-row_back d words name op r h e name-is same made =
-    let op-is : op ≡ d.op = cc in
-    let time : d.time ≡ get_or words 2 0 = ap (λ (ws : List ℕ). get_or ws 2 0) e in
-    let lawful : op_fault name op ≡ None = ap (λ (n : NameValue). op_fault n op) name-is ∙ ap (op_fault d.name) op-is ∙ h.lawful in
-    let whole : DrawopValue = record { name = name; time = get_or words 2 0; op = op } in
-    let found : r ≡ Ok whole = made ∙ ap (λ (f : Option FieldFault). value_unless f whole) lawful in
-    ap result_ok found ∙ ap Some (one_drawop name d.name (get_or words 2 0) d.time op d.op name-is (sym time) op-is)
+row_back d words name op r h e name-is same made = grind (arith, common_steps)
 
 pub row_length : (d : DrawopValue) → length (row d) ≡ row_words
-row_length d = ap (λ (n : ℕ). suc (suc (suc n))) (op_length d.op) where
-  op_length : (op : Op) → length (op_words op) ≡ 9
-  op_length (Text x y text) = refl
-  op_length op = refl
-
-pair_back : (a b c d : ℕ) → b < 2 ^ 32 → d < 2 ^ 32 → pair_word a b ≡ pair_word c d → (a ≡ c) × (b ≡ d)
-pair_back a b c d hb hd e = (omega arith, omega arith)
+row_length d = grind (arith, common_steps)
 
 one_name : (m n : NameValue) → IsName m → IsName n → pair_word m.source m.seq ≡ pair_word n.source n.seq → pair_word m.page.creator m.page.number ≡ pair_word n.page.creator n.page.number → m ≡ n
-one_name m n hm hn e f =
-    let a = pair_back m.source m.seq n.source n.seq hm.seq hn.seq e in
-    let b = pair_back m.page.creator m.page.number n.page.creator n.page.number hm.page.number hn.page.number f in
-    name_parts m.source n.source m.page n.page m.seq n.seq a.0 (one_page m.page.creator n.page.creator m.page.number n.page.number b.0 b.1) a.1
+one_name m n hm hn e f = grind (arith, common_steps)
 
 -- rows are one to one
 pub one_row : (d e : DrawopValue) → IsDrawop d → IsDrawop e → row d ≡ row e → d ≡ e

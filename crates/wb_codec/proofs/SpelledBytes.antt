@@ -1,5 +1,6 @@
 -- A datagram is spelled in bytes.
-use Rattle.std.proofs.Common.{ℕ, zero, suc, ◌<◌, List, [], ◌∷◌, ◌++◌, length, arith}
+use Rattle.std.proofs.lemmas.Grind.{common_steps}
+use Rattle.std.proofs.Common.{ℕ, ◌<◌, List, [], ◌∷◌, ◌++◌, length, arith}
 use Rattle.std.specs.Prelude.{slice_index}
 use Rattle.std.specs.List.{flat_map}
 use Rattle.std.specs.Int.{w16, w32, w64, to_be_bytes}
@@ -33,10 +34,7 @@ none : AreBytes []
 none = record { each = λ i. omega arith }
 
 put : (b : ℕ) (xs : List ℕ) → b < 256 → AreBytes xs → AreBytes (b ∷ xs)
-put b xs lt p = record { each = at } where
-  at : IsBytes (b ∷ xs)
-  at zero = lt
-  at (suc i) = p.each i
+put b xs lt p = grind (arith, common_steps)
 
 be16 : (n : ℕ) → AreBytes (to_be_bytes w16 n)
 be16 n = put _ _ (omega arith) (put _ _ (omega arith) none)

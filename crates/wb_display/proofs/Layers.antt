@@ -1,7 +1,7 @@
 -- What a layer holds and keeps, from its making on.
 use Rattle.std.proofs.lemmas.Grind.{common_steps}
 use Rattle.std.proofs.Common.{◌≡◌, ℕ, ◌<◌, length, take, List, [], ◌∷◌, ◌++◌, get_or, refl, ap, ◌∙◌, sym, subst, arith, ⊎_elim, ◌+◌, ◌≤◌, drop, ◌⊎◌, inl, inr}
-use Rattle.std.specs.Prelude.{◌≢◌, Bool, true, false, cond, ◌||◌, All, Contains, Option, Some, None, is_some, not, ◌&&◌, Result, Ok, OnOk, filter}
+use Rattle.std.specs.Prelude.{Bool, true, false, cond, ◌||◌, All, Contains, Option, Some, None, is_some, not, ◌&&◌, Result, Ok, OnOk, filter}
 use Rattle.std.specs.Map.{lookup, keys_of}
 use Rattle.std.proofs.lemmas.Map.{none_passes_from_lookup}
 use Rattle.std.proofs.lemmas.Map.Made.{is_some-lookup}
@@ -11,9 +11,8 @@ use Rattle.std.proofs.lemmas.Bool.Decides.{nat_tests}
 use Rattle.std.proofs.lemmas.List.{length-take, get_or-take, get_or_default, map-append}
 use Rattle.std.proofs.lemmas.List.Folds.{Any-from_list_any}
 use Rattle.wb_names.proofs.Orders.{same_name-is}
-use Rattle.std.proofs.lemmas.List.Elements.{All-contains, All-from_recursion, All-head, All-tail, Contains-get_or, All-push}
-use Rattle.std.proofs.lemmas.List.Quantifiers.{all_pairs_push}
-use Rattle.wb_names.specs.Values.{DrawopValue, NameValue}
+use Rattle.std.proofs.lemmas.List.Elements.{All-contains, All-from_recursion, All-head, All-tail, All-push}
+use Rattle.wb_names.specs.Values.{DrawopValue}
 use Rattle.wb_names.specs.History.{IsHistory}
 use Rattle.wb_names.specs.Orders.{same_page, same_name, display_cmp}
 use Rattle.wb_names.specs.declared.name.PageId.{PageId}
@@ -76,13 +75,9 @@ not_found : (page : PageId) (l : Target) (entries : List (Target × DrawopValue)
 not_found page l entries all e x c =
     All-contains (λ (k : Target × DrawopValue). same_target l k.0 ≡ false) entries (own_target x, x) (All-from_recursion _ entries (none_passes_from_lookup (same_target l) entries e)) (keyed page entries all x c).0
 
-pub same_name-here : (n : NameValue) → same_name n n ≡ true
-same_name-here n = grind (arith, nat_tests)
-
 -- with a name that is not held, no name stands twice
 pub names_more : (held : List DrawopValue) (d : DrawopValue) → IsHistory held → holds_name held d.name ≡ false → IsHistory (held ++ d ∷ [])
-names_more held d names new = all_pairs_push (λ (x y : DrawopValue). x.name ≢ y.name) held d names (λ k e h same.
-    let t : true ≡ false = sym (same_name-here d.name) ∙ ap (λ (n : NameValue). same_name n d.name) (sym same) ∙ nowhere_from (λ x. same_name x.name d.name) held new (get_or held k e) (Contains-get_or held k e h) in cc)
+names_more held d names new = grind (arith, common_steps)
 
 -- all that is held is of the page
 pub held_here : (page : PageId) (entries : List (Target × DrawopValue)) → All (IsKeyed page) entries → (x : DrawopValue) → Contains (held_of entries) x → same_page x.name.page page ≡ true

@@ -29,10 +29,7 @@ plotted w h px py g old lx ly len = record {
   cells = λ x y hx hy. changed (nat_lt x w && is_at px py x y) _ _ g (λ e. hit x y e) (λ e. miss x y hx e);
 } where
   hit : (x y : ℕ) → (nat_lt x w && is_at px py x y) ≡ true → get_or (set old (py * (w + 1) + px) g) (place w x y) 0 ≡ g
-  hit x y e =
-      let ex : x ≡ px = grind (arith, nat_tests) in
-      let ey : y ≡ py = grind (arith, nat_tests) in
-      rw (ex, ey) (get_or-set_same old (place w px py) g 0 (omega (arith, mul-add-lt py (w + 1) px h ly (omega arith), len)))
+  hit x y e = grind (arith, common_steps)
 
   miss : (x y : ℕ) → x ≤ w → (nat_lt x w && is_at px py x y) ≡ false → get_or (set old (py * (w + 1) + px) g) (place w x y) 0 ≡ get_or old (place w x y) 0
   miss x y hx e = get_or-set_other old (place w px py) (place w x y) g 0 (λ s. let p = same_from_place y x py px (w + 1) (omega arith) (omega arith) s in absurd (grind (arith, nat_tests)))
@@ -162,13 +159,6 @@ shown_text w h ds cells s =
       here : (i y x : ℕ) → y * (w + 1) + x ≡ i → y < h → x < w + 1 → get_or cells i 0 ≡ get_or (canvas_text ds w h) i 0
       here i y x e hy hx =
           ap (λ (t : ℕ). get_or cells t 0) (sym e) ∙ cell y x hy hx (cases_lt x w) ∙ sym (get_or-rows (row_text ds w) (w + 1) (length-row ds w) h y x hy hx) ∙ ap (λ (t : ℕ). get_or (canvas_text ds w h) t 0) e
-
--- the glyph where one more drawop is drawn
-glyph_more : (ds : List DrawopValue) (d : DrawopValue) (x y : ℕ) → glyph_at (ds ++ d ∷ []) x y ≡ cond (covers d.op x y) (glyph_of d.op x) (glyph_at ds x y)
-glyph_more ds d x y = grind (arith, common_steps)
-
-pub shows_more : (w h : ℕ) (ds : List DrawopValue) (d : DrawopValue) (old new : List ℕ) → Shows w h ds old → Overlays w h (covers d.op) (glyph_of d.op) old new → Shows w h (ds ++ d ∷ []) new
-shows_more w h ds d old new s over = grind (arith, common_steps)
 
 -- one more line feed: the columns stay as they were, and the feeds above too
 pub fed_columns : (w h y : ℕ) (cells : List ℕ) → ((a b : ℕ) → a < w → b < h → get_or cells (place w a b) 0 ≡ 32) → (a b : ℕ) → a < w → b < h → get_or (set cells (y * (w + 1) + w) 10) (place w a b) 0 ≡ 32
