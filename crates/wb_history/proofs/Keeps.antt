@@ -10,7 +10,7 @@ use lib.ListN.{get_elem?}
 use lib.Seq.{set-get_or}
 use prog.Atomic.{either}
 use Rattle.atomic_table.specs.Table.{State, step, keeps, stepped, Allows}
-use Rattle.atomic_table.proofs.Lists.{at_set, set_here, at_longer, at_last}
+use Rattle.atomic_table.proofs.Lists.{set_here, at_longer, at_last}
 use Rattle.wb_history.specs.declared.knowledge.Knowledge.{Knowledge}
 use Rattle.wb_names.specs.Values.{DrawopValue}
 use mathlib.Core.List.{IsPrefix}
@@ -27,15 +27,11 @@ use Rattle.wb_history.specs.Views.{HasAllRows, after_look, after_read, after_mem
 use Rattle.wb_history.specs.Lawful.{address, Knows, Lawful, IsConsistent}
 use Rattle.wb_history.specs.Plays.{Known, looked, read_word, read_last, stored_word, published, confirmed}
 use Rattle.wb_codec.proofs.RowLaws.{row_length}
-use Rattle.wb_history.proofs.Rows.{nothing_remembered}
-use Rattle.wb_history.proofs.Lists.{at-lt, at_same, at_nothing, at_some, at_append, at_end, at_map_back, once_append, once_one, once_take, same_list, starts-le, starts_more, next_member, starts_whole, there, few, at_take, both_start}
+use Rattle.wb_history.proofs.Rows.{nothing_remembered, seats}
+use Rattle.wb_history.proofs.Lists.{at-lt, at_same, at_nothing, at_some, at_append, at_end, at_map_back, once_append, once_one, once_take, same_list, starts-le, starts_more, next_member, starts_whole, at_read, few, at_take, both_start}
 
 abbrev Board : Type 0
 Board = State DrawopValue Knowledge
-
-seats : (P : ℕ → Knowledge → Type 0) (vs : List Knowledge) (me : ℕ) (w : Knowledge) → P me w → ((j : ℕ) (u : Knowledge) → j ≢ me → get_elem? vs j ≡ some u → P j u)
-    → (j : ℕ) (u : Knowledge) → get_elem? (set vs me w) j ≡ some u → P j u
-seats P vs me w mine others j u e = grind (arith, common_steps, at_set)
 
 apart_rows : (cells r q k l : ℕ) → r ≢ q → k < row_words → l < row_words → address cells r k ≢ address cells q l
 apart_rows cells r q k l ne a b e = ne (omega arith)
@@ -49,7 +45,7 @@ module _ (cells : ℕ) (s : Board) (r : Lawful cells s) where
   cell_holds p inside =
       elim (dec_le (length r.rows) p) [
         | yes d ↦ inl (r.unfilled p d inside)
-        | no n ↦ let at = there r.rows p (lt_of_not-le n) in let f = r.filled p (get_or r.rows p 0) at in inr (get_or r.rows p 0, at, f.0, f.1)
+        | no n ↦ let at = at_read r.rows p 0 (lt_of_not-le n) in let f = r.filled p (get_or r.rows p 0) at in inr (get_or r.rows p 0, at, f.0, f.1)
       ]
 
   module _ (j : ℕ) (v : Knowledge) (known : Knows cells s.words r.log r.rows r.owner j v) (unspent : 0 < v.cells) where
@@ -72,7 +68,7 @@ module _ (cells : ℕ) (s : Board) (r : Lawful cells s) where
     own_rows = v.free ++ mine_rows
 
     mine_at : (i k : ℕ) → get_elem? v.mine i ≡ some k → get_elem? r.rows k ≡ some (get_or r.rows k 0)
-    mine_at i k e = let below = (known.mine_is i k e).0 in let few_seen = seen_few in there r.rows k (omega arith)
+    mine_at i k e = let below = (known.mine_is i k e).0 in let few_seen = seen_few in at_read r.rows k 0 (omega arith)
 
     mine_row : (i a : ℕ) → get_elem? mine_rows i ≡ some a → (k : ℕ) × (get_elem? v.mine i ≡ some k) × (get_elem? r.rows k ≡ some a)
     mine_row i a e = grind (arith, at_map_back, mine_at)
@@ -118,7 +114,7 @@ module _ (cells : ℕ) (s : Board) (r : Lawful cells s) where
       rows = λ i q e. let below = (known.free_is i q e).0 in let same = known.sized unspent in omega arith;
       mine_is = λ i p e. (known.mine_is i p e).0;
       mine_once = known.mine_once;
-      whole = λ all p below. let few_seen = seen_few in owns_places all p (get_or r.rows p 0) (there r.rows p (omega arith));
+      whole = λ all p below. let few_seen = seen_few in owns_places all p (get_or r.rows p 0) (at_read r.rows p 0 (omega arith));
     }
 
     -- of a pass that has all rows the next cell is free
@@ -362,7 +358,7 @@ wins cells slots id m d q unspent inside last stored_is valid_d lacks s r at fou
     let few_seen = seen_few cells s r id v known unspent in
     let at_end_of_rows : length v.seen ≡ length r.rows = elim (dec_le (length r.rows) (length v.seen)) [
       | yes h ↦ omega arith
-      | no n ↦ let f = (r.filled (length v.seen) (get_or r.rows (length v.seen) 0) (there r.rows (length v.seen) (lt_of_not-le n))).1 in absurd (omega arith)
+      | no n ↦ let f = (r.filled (length v.seen) (get_or r.rows (length v.seen) 0) (at_read r.rows (length v.seen) 0 (lt_of_not-le n))).1 in absurd (omega arith)
     ] in
     let all_seen : r.log ≡ v.seen = starts_whole r.log v.seen known.begins (omega arith) in
     let inside' : length r.rows < cells = omega arith in
