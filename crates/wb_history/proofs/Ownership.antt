@@ -18,9 +18,6 @@ use Rattle.wb_history.specs.Lawful.{Knows, Lawful}
 use Rattle.wb_history.proofs.Rows.{nothing_remembered, seats, owns_still, owns_nothing}
 use Rattle.wb_history.proofs.Lists.{at-lt, at_nothing, at_append, at_end, at_take, at_drop, once_nothing, once_append, once_take, once_drop, starts-le, at_read}
 
-abbrev Board : Type 0
-Board = State DrawopValue Knowledge
-
 -- the rows of a list go to another pass
 given : List ℕ → ℕ → (ℕ → ℕ) → ℕ → ℕ
 given [] new owner r = owner r

@@ -9,7 +9,7 @@ use mathlib.Core.List.{IsPrefix}
 use Rattle.wb_names.specs.Values.{DrawopValue}
 use Rattle.wb_history.specs.declared.cursor.Cursor.{Cursor}
 use Rattle.wb_history.specs.Lists.{Once, longer}
-use Rattle.wb_history.specs.Cursors.{InOrder, United}
+use Rattle.wb_history.specs.Cursors.{MatchesSeat, United}
 use Rattle.wb_history.specs.Sharing.{IsJoined}
 use Rattle.wb_history.specs.Passes.{PassValue}
 use Rattle.wb_history.specs.Shown.{view_of}
@@ -27,14 +27,14 @@ shared_none xs ys once i a b =
 pub same_view : (h k : Cursor) → h.seat ≡ k.seat → h.seen ≡ k.seen → h.mine.items ≡ k.mine.items → h.free.items ≡ k.free.items → h.steps ≡ k.steps → view_of h ≡ view_of k
 same_view h k seat seen mine free steps = grind (arith, common_steps)
 
-pub joined : (p q : PassValue) (h g h' : Cursor) → view_of h ≡ p → view_of g ≡ q → InOrder g → United h g.seat.me.0 h' → IsJoined p q (view_of h')
+pub joined : (p q : PassValue) (h g h' : Cursor) → view_of h ≡ p → view_of g ≡ q → MatchesSeat g → United h g.seat.me.0 h' → IsJoined p q (view_of h')
 joined p q h g h' is_p is_q o u = subst (λ (v : PassValue). IsJoined v q (view_of h')) is_p (subst (λ (v : PassValue). IsJoined (view_of h) v (view_of h')) is_q record {
   seen = u.seen ∙ ap (λ (l : List DrawopValue). longer h.seen.items l) o.seen;
   first = u.first;
   second = subst (λ (l : List DrawopValue). IsPrefix l h'.seen.items) o.seen u.second;
   mine = mine;
   free = ap length u.free ∙ long;
-  apart = λ i a b. shared_none h.mine.items g.mine.items (subst Once (u.order.mine ∙ mine) u.order.consistent.mine_once) i a b;
+  apart = λ i a b. shared_none h.mine.items g.mine.items (subst Once (u.matches.mine ∙ mine) u.matches.consistent.mine_once) i a b;
 })
   where
     mine : h'.mine.items ≡ h.mine.items ++ g.mine.items
