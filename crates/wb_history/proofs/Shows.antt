@@ -1,14 +1,12 @@
 -- What the parts of a pass show of it.
 use Rattle.std.proofs.lemmas.Grind.{common_steps}
 use Rattle.wb_history.specs.Sizes.{member_steps}
-use Rattle.std.proofs.Common.{◌≡◌, ℕ, ◌+◌, ◌-◌, ◌*◌, ◌<◌, ◌≤◌, List, [], ◌∷◌, ◌++◌, length, refl, sym, ap, ◌∙◌, subst, arith, length-append, length-take-le}
-use Rattle.std.proofs.lemmas.List.{append-nil}
-use Rattle.std.proofs.Common.{Result, Ok, Err, OnOk, OnErr, MatchResult}
+use Rattle.std.proofs.Common.{◌≡◌, ℕ, ◌+◌, ◌-◌, ◌*◌, ◌<◌, ◌≤◌, List, [], ◌∷◌, ◌++◌, length, refl, sym, ap, ◌∙◌, subst, arith, length-append, length-take-le, Result, Ok, Err, OnOk, OnErr, MatchResult}
+use Rattle.std.proofs.lemmas.List.{append-nil, length-replicate}
 use Rattle.std.specs.Prelude.{replicate, All, Contains}
-use Rattle.std.proofs.lemmas.List.{length-replicate}
 use Rattle.atomic_table.specs.Table.{Me, opening}
 use Rattle.std.specs.List.{range_with_len}
-use Rattle.wb_history.specs.Views.{whole_pass}
+use Rattle.wb_history.specs.Views.{whole_pass, HasAllRows}
 use Rattle.wb_history.proofs.Opens.{opens}
 use Rattle.wb_history.proofs.Keeps.{consistent}
 use mathlib.Core.Option.{some}
@@ -36,7 +34,6 @@ use Rattle.wb_history.specs.Replies.{IsAdded, Claimed, NotClaimed}
 use Rattle.wb_codec.specs.Ranges.{IsDrawop}
 use Rattle.wb_history.proofs.Words.{get_is, none_before, pairs_are, all_are}
 use Rattle.wb_history.specs.Shown.{history_of, view_of, PartsAgree}
-use Rattle.wb_history.specs.Views.{HasAllRows}
 
 -- what is seen of the parts of a pass is sound
 pub sound : (h : Cursor) → PartsAgree h → IsSound (view_of h)

@@ -1,6 +1,5 @@
-use Rattle.std.proofs.Common.{arith}
+use Rattle.std.proofs.Common.{arith, subst}
 use Rattle.std.proofs.lemmas.Grind.{common_steps}
-use Rattle.std.proofs.Common.{subst}
 use mathlib.Core.List.{IsPrefix}
 use Rattle.wb_history.specs.Passes.{PassValue}
 use Rattle.wb_history.proofs.Shows.{shown, sits, sound, pass_on, parts_after}

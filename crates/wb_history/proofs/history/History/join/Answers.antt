@@ -1,6 +1,5 @@
-use Rattle.std.proofs.Common.{arith}
+use Rattle.std.proofs.Common.{arith, ◌∙◌, refl, sym}
 use Rattle.std.proofs.lemmas.Grind.{common_steps}
-use Rattle.std.proofs.Common.{◌∙◌, refl, sym}
 use Rattle.wb_history.proofs.Fronts.{fronts_on}
 use Rattle.wb_history.proofs.Shows.{sound, sound_pass, agree_on}
 use Rattle.wb_history.proofs.Unions.{joined, same_view}
