@@ -10,7 +10,7 @@ use lib.ListN.{get_elem?}
 use lib.Seq.{set-get_or}
 use prog.Atomic.{either}
 use Rattle.atomic_table.specs.Table.{State, step, keeps, stepped, Allows}
-use Rattle.atomic_table.proofs.Lists.{at_set, set_here, at_longer, at_last}
+use Rattle.atomic_table.proofs.Lists.{set_here, at_longer, at_last}
 use Rattle.wb_history.specs.declared.knowledge.Knowledge.{Knowledge}
 use Rattle.wb_names.specs.Values.{DrawopValue}
 use mathlib.Core.List.{IsPrefix}
@@ -25,22 +25,18 @@ use Rattle.wb_codec.specs.Rows.{row}
 use Rattle.wb_codec.specs.Ranges.{IsDrawop}
 use Rattle.wb_history.specs.Views.{HasAllRows, after_look, after_read, after_member, after_store, after_win, after_loss, after_confirm}
 use Rattle.wb_history.specs.Lawful.{address, Knows, Lawful, IsConsistent}
-use Rattle.wb_history.specs.Plays.{Known, looked, read_word, read_last, stored_word, published, confirmed}
+use Rattle.wb_history.specs.Plays.{SeatState, looked, read_word, read_last, stored_word, published, confirmed}
 use Rattle.wb_codec.proofs.RowLaws.{row_length}
-use Rattle.wb_history.proofs.Rows.{nothing_remembered}
-use Rattle.wb_history.proofs.Lists.{at-lt, at_same, at_nothing, at_some, at_append, at_end, at_map_back, once_append, once_one, once_take, same_list, starts-le, starts_more, next_member, starts_whole, there, few, at_take, both_start}
+use Rattle.wb_history.proofs.Rows.{nothing_remembered, seats}
+use Rattle.wb_history.proofs.Lists.{at-lt, at_same, at_nothing, at_some, at_append, at_end, at_map_back, once_append, once_one, once_take, same_list, starts-le, starts_more, next_member, starts_whole, at_read, few, at_take, both_start}
 
-abbrev Board : Type 0
-Board = State DrawopValue Knowledge
-
-seats : (P : ℕ → Knowledge → Type 0) (vs : List Knowledge) (me : ℕ) (w : Knowledge) → P me w → ((j : ℕ) (u : Knowledge) → j ≢ me → get_elem? vs j ≡ some u → P j u)
-    → (j : ℕ) (u : Knowledge) → get_elem? (set vs me w) j ≡ some u → P j u
-seats P vs me w mine others j u e = grind (arith, common_steps, at_set)
+abbrev TableState : Type 0
+TableState = State DrawopValue Knowledge
 
 apart_rows : (cells r q k l : ℕ) → r ≢ q → k < row_words → l < row_words → address cells r k ≢ address cells q l
 apart_rows cells r q k l ne a b e = ne (omega arith)
 
-module _ (cells : ℕ) (s : Board) (r : Lawful cells s) where
+module _ (cells : ℕ) (s : TableState) (r : Lawful cells s) where
   rows_few : length r.rows ≤ cells
   rows_few = few r.rows cells r.rows_once (λ p q e. (r.filled p q e).0)
 
@@ -49,7 +45,7 @@ module _ (cells : ℕ) (s : Board) (r : Lawful cells s) where
   cell_holds p inside =
       elim (dec_le (length r.rows) p) [
         | yes d ↦ inl (r.unfilled p d inside)
-        | no n ↦ let at = there r.rows p (lt_of_not-le n) in let f = r.filled p (get_or r.rows p 0) at in inr (get_or r.rows p 0, at, f.0, f.1)
+        | no n ↦ let at = at_read r.rows p 0 (lt_of_not-le n) in let f = r.filled p (get_or r.rows p 0) at in inr (get_or r.rows p 0, at, f.0, f.1)
       ]
 
   module _ (j : ℕ) (v : Knowledge) (known : Knows cells s.words r.log r.rows r.owner j v) (unspent : 0 < v.cells) where
@@ -72,7 +68,7 @@ module _ (cells : ℕ) (s : Board) (r : Lawful cells s) where
     own_rows = v.free ++ mine_rows
 
     mine_at : (i k : ℕ) → get_elem? v.mine i ≡ some k → get_elem? r.rows k ≡ some (get_or r.rows k 0)
-    mine_at i k e = let below = (known.mine_is i k e).0 in let few_seen = seen_few in there r.rows k (omega arith)
+    mine_at i k e = let below = (known.mine_is i k e).0 in let few_seen = seen_few in at_read r.rows k 0 (omega arith)
 
     mine_row : (i a : ℕ) → get_elem? mine_rows i ≡ some a → (k : ℕ) × (get_elem? v.mine i ≡ some k) × (get_elem? r.rows k ≡ some a)
     mine_row i a e = grind (arith, at_map_back, mine_at)
@@ -118,7 +114,7 @@ module _ (cells : ℕ) (s : Board) (r : Lawful cells s) where
       rows = λ i q e. let below = (known.free_is i q e).0 in let same = known.sized unspent in omega arith;
       mine_is = λ i p e. (known.mine_is i p e).0;
       mine_once = known.mine_once;
-      whole = λ all p below. let few_seen = seen_few in owns_places all p (get_or r.rows p 0) (there r.rows p (omega arith));
+      whole = λ all p below. let few_seen = seen_few in owns_places all p (get_or r.rows p 0) (at_read r.rows p 0 (omega arith));
     }
 
     -- of a pass that has all rows the next cell is free
@@ -149,7 +145,7 @@ looking_at cells words log rows owner j v known word found holds = record {
   };
 }
 
-pub looks : (cells slots id : ℕ) (m : Known) (word : ℕ) → word ≡ length m.0.seen → 0 < m.0.cells → length m.0.seen < m.0.cells → Allows (Lawful cells) slots id m word (λ n. n) (looked (step slots word 0 0 none) m)
+pub looks : (cells slots id : ℕ) (m : SeatState) (word : ℕ) → word ≡ length m.0.seen → 0 < m.0.cells → length m.0.seen < m.0.cells → Allows (Lawful cells) slots id m word (λ n. n) (looked (step slots word 0 0 none) m)
 looks cells slots id m word is unspent inside s r _ at small =
     let v = m.0 in
     let known = r.each_pass id v at in
@@ -175,7 +171,7 @@ looks cells slots id m word is unspent inside s r _ at small =
     )
 
 -- the view after a step that changes no word, where the pass then knows what is so
-module _ (cells slots id : ℕ) (m : Known) (unspent : 0 < m.0.cells) (s : Board) (r : Lawful cells s) (at : get_elem? s.views id ≡ some m.0) where
+module _ (cells slots id : ℕ) (m : SeatState) (unspent : 0 < m.0.cells) (s : TableState) (r : Lawful cells s) (at : get_elem? s.views id ≡ some m.0) where
   abbrev v : Knowledge
   v = m.0
 
@@ -184,7 +180,7 @@ module _ (cells slots id : ℕ) (m : Known) (unspent : 0 < m.0.cells) (s : Board
       let next = unmoved cells s r word id m.1 w known in
       consistent cells (stepped s word (get_or s.words word 0) id m.1 w keeps) next id w (next.each_pass id w (set_here s.views id w (at-lt s.views id m.0 at))) some_cells
 
-pub reads_word : (cells slots id : ℕ) (m : Known) (word : ℕ) → 0 < m.0.cells → 0 < m.0.looking → length m.0.read < row_words → word ≡ address cells (m.0.looking - 1) (length m.0.read) → Allows (Lawful cells) slots id m word (λ n. n) (read_word (step slots word 0 0 none) m)
+pub reads_word : (cells slots id : ℕ) (m : SeatState) (word : ℕ) → 0 < m.0.cells → 0 < m.0.looking → length m.0.read < row_words → word ≡ address cells (m.0.looking - 1) (length m.0.read) → Allows (Lawful cells) slots id m word (λ n. n) (read_word (step slots word 0 0 none) m)
 reads_word cells slots id m word unspent some_row short is s r _ at small =
     let v = m.0 in
     let known = r.each_pass id v at in
@@ -203,7 +199,7 @@ reads_word cells slots id m word unspent some_row short is s r _ at small =
     } in
     (w, keeps, tt, unmoved cells s r word id m.1 w knows, (refl, refl, unmoved_consistent cells slots id m unspent s r at word w unspent knows))
 
-pub reads_last : (cells slots id : ℕ) (m : Known) (word : ℕ) → 0 < m.0.cells → 0 < m.0.looking → length m.0.read + 1 ≡ row_words → word ≡ address cells (m.0.looking - 1) (length m.0.read) → Allows (Lawful cells) slots id m word (λ n. n) (read_last (step slots word 0 0 none) m)
+pub reads_last : (cells slots id : ℕ) (m : SeatState) (word : ℕ) → 0 < m.0.cells → 0 < m.0.looking → length m.0.read + 1 ≡ row_words → word ≡ address cells (m.0.looking - 1) (length m.0.read) → Allows (Lawful cells) slots id m word (λ n. n) (read_last (step slots word 0 0 none) m)
 reads_last cells slots id m word unspent some_row long is s r _ at small =
     let v = m.0 in
     let known = r.each_pass id v at in
@@ -240,7 +236,7 @@ reads_last cells slots id m word unspent some_row long is s r _ at small =
     )
 
 -- a store into a free row of the pass id
-module _ (cells : ℕ) (s : Board) (r : Lawful cells s) (id q k : ℕ) (own : r.owner q ≡ id) (free : (p : ℕ) → get_elem? r.rows p ≡ some q → ⊥) (short : k < row_words) (n : ℕ) where
+module _ (cells : ℕ) (s : TableState) (r : Lawful cells s) (id q k : ℕ) (own : r.owner q ≡ id) (free : (p : ℕ) → get_elem? r.rows p ≡ some q → ⊥) (short : k < row_words) (n : ℕ) where
   abbrev written : List ℕ
   written = set s.words (address cells q k) n
 
@@ -265,7 +261,7 @@ module _ (cells : ℕ) (s : Board) (r : Lawful cells s) (id q k : ℕ) (own : r.
     };
   }
 
-pub stores_word : (cells slots id : ℕ) (m : Known) (word n q : ℕ) → 0 < m.0.cells → get_elem? m.0.free (length m.0.free - 1) ≡ some q → length m.0.stored < row_words → word ≡ address cells q (length m.0.stored)
+pub stores_word : (cells slots id : ℕ) (m : SeatState) (word n q : ℕ) → 0 < m.0.cells → get_elem? m.0.free (length m.0.free - 1) ≡ some q → length m.0.stored < row_words → word ≡ address cells q (length m.0.stored)
     → Allows (Lawful cells) slots id m word (λ _. n) (λ _. stored_word (step slots word n 0 none) m n)
 stores_word cells slots id m word n q unspent last short is s r _ at small =
     let v = m.0 in
@@ -318,7 +314,7 @@ stores_word cells slots id m word n q unspent last short is s r _ at small =
     (w, keeps, tt, next', (refl, refl, consistent cells (stepped s word n id m.1 w keeps) next' id w (next'.each_pass id w (set_here s.views id w (at-lt s.views id v at))) unspent))
 
 -- the exchange of the free cell after the history for a row in which the record of d stands
-module _ (cells : ℕ) (s : Board) (r : Lawful cells s) (id q : ℕ) (d : DrawopValue) (own : r.owner q ≡ id) (below : q < cells) (free : (p : ℕ) → get_elem? r.rows p ≡ some q → ⊥) (inside : length r.rows < cells) where
+module _ (cells : ℕ) (s : TableState) (r : Lawful cells s) (id q : ℕ) (d : DrawopValue) (own : r.owner q ≡ id) (below : q < cells) (free : (p : ℕ) → get_elem? r.rows p ≡ some q → ⊥) (inside : length r.rows < cells) where
   abbrev filled_words : List ℕ
   filled_words = set s.words (length r.rows) (suc q)
 
@@ -349,8 +345,8 @@ module _ (cells : ℕ) (s : Board) (r : Lawful cells s) (id q : ℕ) (d : Drawop
     };
   }
 
-wins : (cells slots id : ℕ) (m : Known) (d : DrawopValue) (q : ℕ) → 0 < m.0.cells → length m.0.seen < cells → get_elem? m.0.free (length m.0.free - 1) ≡ some q → m.0.stored ≡ row d → IsDrawop d → (HoldsName m.0.seen d.name → ⊥)
-    → (s : Board) (r : Lawful cells s) → get_elem? s.views id ≡ some m.0 → get_or s.words (length m.0.seen) 0 ≡ 0
+wins : (cells slots id : ℕ) (m : SeatState) (d : DrawopValue) (q : ℕ) → 0 < m.0.cells → length m.0.seen < cells → get_elem? m.0.free (length m.0.free - 1) ≡ some q → m.0.stored ≡ row d → IsDrawop d → (HoldsName m.0.seen d.name → ⊥)
+    → (s : TableState) (r : Lawful cells s) → get_elem? s.views id ≡ some m.0 → get_or s.words (length m.0.seen) 0 ≡ 0
     → Lawful cells (stepped s (length m.0.seen) (suc q) id m.1 (after_win m.0 d (length m.0.seen)) keeps)
 wins cells slots id m d q unspent inside last stored_is valid_d lacks s r at found =
     let v = m.0 in
@@ -362,7 +358,7 @@ wins cells slots id m d q unspent inside last stored_is valid_d lacks s r at fou
     let few_seen = seen_few cells s r id v known unspent in
     let at_end_of_rows : length v.seen ≡ length r.rows = elim (dec_le (length r.rows) (length v.seen)) [
       | yes h ↦ omega arith
-      | no n ↦ let f = (r.filled (length v.seen) (get_or r.rows (length v.seen) 0) (there r.rows (length v.seen) (lt_of_not-le n))).1 in absurd (omega arith)
+      | no n ↦ let f = (r.filled (length v.seen) (get_or r.rows (length v.seen) 0) (at_read r.rows (length v.seen) 0 (lt_of_not-le n))).1 in absurd (omega arith)
     ] in
     let all_seen : r.log ≡ v.seen = starts_whole r.log v.seen known.begins (omega arith) in
     let inside' : length r.rows < cells = omega arith in
@@ -422,7 +418,7 @@ losing : (cells : ℕ) (words : List ℕ) (log : List DrawopValue) (rows : List 
     → (found ≡ 0) ⊎ ((q : ℕ) × (get_elem? rows (length v.seen) ≡ some q) × (q < cells) × (found ≡ suc q)) → Knows cells words log rows owner j (after_loss v word found)
 losing cells words log rows owner j v known word found holds = grind (arith, common_steps, looking_at, at_nothing)
 
-pub publishes : (cells slots id : ℕ) (m : Known) (word new : ℕ) (d : DrawopValue) (q : ℕ) → word ≡ length m.0.seen → new ≡ q + 1 → 0 < m.0.cells → length m.0.seen < m.0.cells
+pub publishes : (cells slots id : ℕ) (m : SeatState) (word new : ℕ) (d : DrawopValue) (q : ℕ) → word ≡ length m.0.seen → new ≡ q + 1 → 0 < m.0.cells → length m.0.seen < m.0.cells
     → get_elem? m.0.free (length m.0.free - 1) ≡ some q → m.0.stored ≡ row d → IsDrawop d → (HoldsName m.0.seen d.name → ⊥)
     → Allows (Lawful cells) slots id m word (λ x. either (eqb x 0) new x) (published (step slots word 0 new (some d)) m)
 publishes cells slots id m word new d q is new_is unspent inside last stored_is valid_d lacks s r _ at small =
@@ -462,7 +458,7 @@ publishes cells slots id m word new d q is new_is unspent inside last stored_is 
     let next = subst (λ b. Lawful cells (stepped s word (either b new x) id m.1 w keeps)) (sym (ne_eqb x 0 miss)) (unmoved cells s r word id m.1 w knows) in
     (w, keeps, tt, next, (refl, (λ hit. absurd (miss hit)), (λ _. refl), bound, alone, unmoved_consistent cells slots id m unspent s r at word w unspent knows)))
 
-pub confirms : (cells slots id : ℕ) (m : Known) (word : ℕ) → 0 < m.0.cells → Allows (Lawful cells) slots id m word (λ n. n) (confirmed (step slots word 0 0 none) m)
+pub confirms : (cells slots id : ℕ) (m : SeatState) (word : ℕ) → 0 < m.0.cells → Allows (Lawful cells) slots id m word (λ n. n) (confirmed (step slots word 0 0 none) m)
 confirms cells slots id m word unspent s r _ at small =
     let v = m.0 in
     let known = r.each_pass id v at in

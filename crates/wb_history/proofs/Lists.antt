@@ -117,15 +117,10 @@ at_read [] i d h = absurd (omega arith)
 at_read (x ∷ xs) zero d h = refl
 at_read (x ∷ xs) (suc i) d h = at_read xs i d (omega arith)
 
-pub there : (l : List ℕ) (i : ℕ) → i < length l → get_elem? l i ≡ some (get_or l i 0)
-there [] i h = absurd (omega arith)
-there (x ∷ xs) zero h = refl
-there (x ∷ xs) (suc i) h = there xs i (omega arith)
-
 -- numbers below n that stand once are at most n
 pub few : (l : List ℕ) (n : ℕ) → Once l → ((i a : ℕ) → get_elem? l i ≡ some a → a < n) → length l ≤ n
 few l n once below =
-    pigeonhole (length l) n (λ i. get_or l i 0) (λ i h. below i (get_or l i 0) (there l i h)) (λ i k h g e. once i k (get_or l i 0) (there l i h) (there l k g ∙ ap some (sym e)))
+    pigeonhole (length l) n (λ i. get_or l i 0) (λ i h. below i (get_or l i 0) (at_read l i 0 h)) (λ i k h g e. once i k (get_or l i 0) (at_read l i 0 h) (at_read l k 0 g ∙ ap some (sym e)))
 
 -- of two beginnings of one list the longer begins with the shorter
 pub both_start : {A : Type 0} (whole xs ys : List A) → IsPrefix xs whole → IsPrefix ys whole → length ys ≤ length xs → IsPrefix ys xs

@@ -6,7 +6,7 @@ use mathlib.Core.Option.{some, some-injective}
 use native.Mathlib.Decide.{ℕ_discrete}
 use lib.ListN.{get_elem?}
 use Rattle.std.proofs.lemmas.Bool.{cases_lt, cond_below, cond_above}
-use Rattle.atomic_table.specs.Table.{State, Splits, Joins}
+use Rattle.atomic_table.specs.Table.{Splits, Joins}
 use Rattle.atomic_table.proofs.Lists.{at_set}
 use Rattle.wb_history.specs.declared.knowledge.Knowledge.{Knowledge}
 use Rattle.wb_names.specs.Values.{DrawopValue}
@@ -15,11 +15,8 @@ use Rattle.wb_history.specs.Lists.{longer, shorter}
 use Rattle.std.proofs.lemmas.List.Elements.{Contains-append_left, Contains-append_right}
 use Rattle.wb_history.specs.Views.{left_part, right_part, united, spent}
 use Rattle.wb_history.specs.Lawful.{Knows, Lawful}
-use Rattle.wb_history.proofs.Rows.{nothing_remembered}
-use Rattle.wb_history.proofs.Lists.{at-lt, at_nothing, at_append, at_end, at_take, at_drop, once_nothing, once_append, once_take, once_drop, starts-le, there}
-
-abbrev Board : Type 0
-Board = State DrawopValue Knowledge
+use Rattle.wb_history.proofs.Rows.{nothing_remembered, seats, owns_still, owns_nothing}
+use Rattle.wb_history.proofs.Lists.{at-lt, at_nothing, at_append, at_end, at_take, at_drop, once_nothing, once_append, once_take, once_drop, starts-le, at_read}
 
 -- the rows of a list go to another pass
 given : List ℕ → ℕ → (ℕ → ℕ) → ℕ → ℕ
@@ -75,13 +72,8 @@ splits cells id n v s r at =
     } in
     let others : (j : ℕ) (u : Knowledge) → j ≢ id → Knows cells s.words r.log r.rows r.owner j u → Knows cells s.words r.log r.rows owner' j u = λ j u other k. record {
       sees = k.sees;
-      owns = record {
-        free_is = λ i q e. let f = k.free_is i q e in (f.0, ⊎_elim (λ g. absurd (other (sym f.1 ∙ gone_own g.0.0 q g.0.1))) (λ g. g.1 ∙ f.1) (given_cases gone new r.owner q), f.2);
-        free_once = k.free_once;
-        mine_is = λ i p e. let f = k.mine_is i p e in (f.0, λ q h. row_same p q h ∙ f.1 q h);
-        mine_once = k.mine_once;
-        mine_all = λ p q e owned. k.mine_all p q e (sym (row_same p q e) ∙ owned);
-      };
+      owns = owns_still cells r.rows r.owner owner' j (length u.seen) u.free u.mine
+          (λ q own. ⊎_elim (λ g. absurd (other (sym own ∙ gone_own g.0.0 q g.0.1))) (λ g. g.1 ∙ own) (given_cases gone new r.owner q)) (λ p q e owned. sym (row_same p q e) ∙ owned) k.owns;
       remembers = k.remembers;
     } in record {
       log = r.log;
@@ -90,9 +82,7 @@ splits cells id n v s r at =
       history = r.history;
       seated = λ q. let a = r.seated q in let l = length-append (set s.views id (left_part n v)) (right_part n v ∷ []) in
           ⊎_elim (λ g. let e = g.1 in omega arith) (λ g. let e = g.1 in omega arith) (given_cases gone new r.owner q);
-      each_pass = λ j u e. ⊎_elim
-          (λ h. ⊎_elim (λ (t : (j ≡ id) × (left_part n v ≡ u)). subst (λ (x : ℕ × Knowledge). Knows cells s.words r.log r.rows owner' x.0 x.1) (λ i. (sym t.0 i, t.1 i)) left)
-          (λ (t : (j ≢ id) × (get_elem? s.views j ≡ some u)). others j u t.0 (r.each_pass j u t.1)) (at_set s.views id j (left_part n v) u h))
+      each_pass = λ j u e. ⊎_elim (seats (Knows cells s.words r.log r.rows owner') s.views id (left_part n v) left (λ j u ne at. others j u ne (r.each_pass j u at)) j u)
           (λ t. subst (λ (x : ℕ × Knowledge). Knows cells s.words r.log r.rows owner' x.0 x.1) (λ i. (sym (t.0 ∙ wide) i, t.1 i)) right)
           (at_end (set s.views id (left_part n v)) (right_part n v) j u e);
     }
@@ -138,31 +128,20 @@ joins cells id v other w s r at apart at_other =
         mine_is = λ i p e. ⊎_elim (λ h. let f = known.mine_is i p h in let l = f.0 in ((omega arith), λ q x. now_own q (f.1 q x)))
             (λ t. let f = known_w.mine_is t.0 p t.2 in let l = f.0 in ((omega arith), λ q x. now_own' q (f.1 q x))) (at_append v.mine w.mine i p e);
         mine_once = once_append v.mine w.mine known.mine_once known_w.mine_once (λ i k p x y.
-            let f = known.mine_is i p x in let g = known_w.mine_is k p y in let l = f.0 in let here = there r.rows p (omega arith) in apart (sym (g.1 (get_or r.rows p 0) here) ∙ f.1 (get_or r.rows p 0) here));
+            let f = known.mine_is i p x in let g = known_w.mine_is k p y in let l = f.0 in let here = at_read r.rows p 0 (omega arith) in apart (sym (g.1 (get_or r.rows p 0) here) ∙ f.1 (get_or r.rows p 0) here));
         mine_all = λ p q e owned. ⊎_elim (λ t. Contains-append_right v.mine w.mine p (known_w.mine_all p q e t.0)) (λ t. Contains-append_left v.mine w.mine p (known.mine_all p q e (sym t.1 ∙ owned))) (cases q);
       };
       remembers = nothing_remembered _ _ _ _ _;
     } in
     let gone : Knows cells s.words r.log r.rows owner' other spent = record {
       sees = record { sized = λ h. absurd (omega arith); begins = (r.log, refl); joined_begins = (r.log, refl) };
-      owns = record {
-        free_is = λ i q e. absurd (at_nothing i q e);
-        free_once = once_nothing;
-        mine_is = λ i p e. absurd (at_nothing i p e);
-        mine_once = once_nothing;
-        mine_all = λ p q e owned. absurd (⊎_elim (λ t. apart (sym owned ∙ t.1)) (λ t. t.0 (sym t.1 ∙ owned)) (cases q));
-      };
+      owns = owns_nothing cells r.rows owner' other 0 (λ p q e owned. ⊎_elim (λ t. apart (sym owned ∙ t.1)) (λ t. t.0 (sym t.1 ∙ owned)) (cases q));
       remembers = nothing_remembered _ _ _ _ _;
     } in
     let others : (j : ℕ) (u : Knowledge) → j ≢ id → j ≢ other → Knows cells s.words r.log r.rows r.owner j u → Knows cells s.words r.log r.rows owner' j u = λ j u ne ne' k. record {
       sees = k.sees;
-      owns = record {
-        free_is = λ i q e. let f = k.free_is i q e in (f.0, ⊎_elim (λ t. absurd (ne' (sym f.1 ∙ t.0))) (λ t. t.1 ∙ f.1) (cases q), f.2);
-        free_once = k.free_once;
-        mine_is = λ i p e. let f = k.mine_is i p e in (f.0, λ q x. ⊎_elim (λ t. absurd (ne' (sym (f.1 q x) ∙ t.0))) (λ t. t.1 ∙ f.1 q x) (cases q));
-        mine_once = k.mine_once;
-        mine_all = λ p q e owned. ⊎_elim (λ t. absurd (ne (sym owned ∙ t.1))) (λ t. k.mine_all p q e (sym t.1 ∙ owned)) (cases q);
-      };
+      owns = owns_still cells r.rows r.owner owner' j (length u.seen) u.free u.mine
+          (λ q own. ⊎_elim (λ t. absurd (ne' (sym own ∙ t.0))) (λ t. t.1 ∙ own) (cases q)) (λ p q e owned. ⊎_elim (λ t. absurd (ne (sym owned ∙ t.1))) (λ t. sym t.1 ∙ owned) (cases q)) k.owns;
       remembers = k.remembers;
     } in record {
       log = r.log;
@@ -171,9 +150,7 @@ joins cells id v other w s r at apart at_other =
       history = r.history;
       seated = λ q. let a = r.seated q in let in_list = at-lt s.views id v at in let l = length-set s.views id both in let l' = length-set (set s.views id both) other spent in
           ⊎_elim (λ t. let e = t.1 in omega arith) (λ t. let e = t.1 in omega arith) (cases q);
-      each_pass = λ j u e. ⊎_elim (λ (t : (j ≡ other) × (spent ≡ u)). subst (λ (x : ℕ × Knowledge). Knows cells s.words r.log r.rows owner' x.0 x.1) (λ i. (sym t.0 i, t.1 i)) gone)
-          (λ (t : (j ≢ other) × (get_elem? (set s.views id both) j ≡ some u)).
-          ⊎_elim (λ (x : (j ≡ id) × (both ≡ u)). subst (λ (y : ℕ × Knowledge). Knows cells s.words r.log r.rows owner' y.0 y.1) (λ i. (sym x.0 i, x.1 i)) mine)
-          (λ (x : (j ≢ id) × (get_elem? s.views j ≡ some u)). others j u x.0 t.0 (r.each_pass j u x.1)) (at_set s.views id j both u t.1))
-          (at_set (set s.views id both) other j spent u e);
+      each_pass = seats (Knows cells s.words r.log r.rows owner') (set s.views id both) other spent gone (λ j u ne at. ⊎_elim
+          (λ (x : (j ≡ id) × (both ≡ u)). subst (λ (y : ℕ × Knowledge). Knows cells s.words r.log r.rows owner' y.0 y.1) (λ i. (sym x.0 i, x.1 i)) mine)
+          (λ (x : (j ≢ id) × (get_elem? s.views j ≡ some u)). others j u x.0 ne (r.each_pass j u x.1)) (at_set s.views id j both u at));
     }

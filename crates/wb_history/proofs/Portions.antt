@@ -7,7 +7,7 @@ use Rattle.wb_names.specs.Values.{DrawopValue}
 use Rattle.wb_history.specs.declared.knowledge.Knowledge.{Knowledge}
 use Rattle.wb_history.specs.declared.cursor.Cursor.{Cursor}
 use Rattle.wb_history.specs.Lawful.{IsConsistent}
-use Rattle.wb_history.specs.Cursors.{InOrder}
+use Rattle.wb_history.specs.Cursors.{MatchesSeat}
 use Rattle.wb_history.specs.Views.{left_part, right_part}
 use Rattle.wb_history.proofs.Lists.{at_take, at_drop, at_nothing, once_nothing}
 
@@ -20,8 +20,8 @@ consistent_left n v s = grind (arith, common_steps, take_few, at_take)
 consistent_right : (n : ℕ) (v : Knowledge) → IsConsistent v → IsConsistent (right_part n v)
 consistent_right n v s = grind (arith, common_steps, length-drop, at_drop, at_nothing, once_nothing)
 
-pub left_order : (h h' : Cursor) (n : ℕ) → InOrder h → h'.seat.me.1 ≡ h.seat.me.1 → h'.seat.me.0 ≡ left_part n h.seat.me.0 → h'.seen.items ≡ h.seen.items → h'.mine.items ≡ h.mine.items → h'.free.items ≡ take (length h.free.items - n) h.free.items → InOrder h'
-left_order h h' n o slots is seen mine free = record {
+pub left_matches : (h h' : Cursor) (n : ℕ) → MatchesSeat h → h'.seat.me.1 ≡ h.seat.me.1 → h'.seat.me.0 ≡ left_part n h.seat.me.0 → h'.seen.items ≡ h.seen.items → h'.mine.items ≡ h.mine.items → h'.free.items ≡ take (length h.free.items - n) h.free.items → MatchesSeat h'
+left_matches h h' n o slots is seen mine free = record {
   slots = slots ∙ o.slots;
   seen = ap (λ (v : Knowledge). v.seen) is ∙ (o.seen ∙ sym seen);
   mine = ap (λ (v : Knowledge). v.mine) is ∙ (o.mine ∙ sym mine);
@@ -29,8 +29,8 @@ left_order h h' n o slots is seen mine free = record {
   consistent = subst IsConsistent (sym is) (consistent_left n h.seat.me.0 o.consistent);
 }
 
-pub right_order : (h h' : Cursor) (n : ℕ) → InOrder h → h'.seat.me ≡ (right_part n h.seat.me.0, []) → h'.seen.items ≡ h.seen.items → h'.mine.items ≡ [] → h'.free.items ≡ drop (length h.free.items - n) h.free.items → InOrder h'
-right_order h h' n o is seen mine free = record {
+pub right_matches : (h h' : Cursor) (n : ℕ) → MatchesSeat h → h'.seat.me ≡ (right_part n h.seat.me.0, []) → h'.seen.items ≡ h.seen.items → h'.mine.items ≡ [] → h'.free.items ≡ drop (length h.free.items - n) h.free.items → MatchesSeat h'
+right_matches h h' n o is seen mine free = record {
   slots = ap (λ (m : Me DrawopValue Knowledge). m.1) is;
   seen = ap (λ (m : Me DrawopValue Knowledge). m.0.seen) is ∙ (o.seen ∙ sym seen);
   mine = ap (λ (m : Me DrawopValue Knowledge). m.0.mine) is ∙ sym mine;

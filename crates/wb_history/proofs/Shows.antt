@@ -1,14 +1,12 @@
 -- What the parts of a pass show of it.
 use Rattle.std.proofs.lemmas.Grind.{common_steps}
 use Rattle.wb_history.specs.Sizes.{member_steps}
-use Rattle.std.proofs.Common.{◌≡◌, ℕ, ◌+◌, ◌-◌, ◌*◌, ◌<◌, ◌≤◌, List, [], ◌∷◌, ◌++◌, length, refl, sym, ap, ◌∙◌, subst, arith, length-append, length-take-le}
-use Rattle.std.proofs.lemmas.List.{append-nil}
-use Rattle.std.proofs.Common.{Result, Ok, Err, OnOk, OnErr, MatchResult}
+use Rattle.std.proofs.Common.{◌≡◌, ℕ, ◌+◌, ◌-◌, ◌*◌, ◌<◌, ◌≤◌, List, [], ◌∷◌, ◌++◌, length, refl, sym, ap, ◌∙◌, subst, arith, length-append, length-take-le, Result, Ok, Err, OnOk, OnErr, MatchResult}
+use Rattle.std.proofs.lemmas.List.{append-nil, length-replicate}
 use Rattle.std.specs.Prelude.{replicate, All, Contains}
-use Rattle.std.proofs.lemmas.List.{length-replicate}
 use Rattle.atomic_table.specs.Table.{Me, opening}
 use Rattle.std.specs.List.{range_with_len}
-use Rattle.wb_history.specs.Views.{whole_pass}
+use Rattle.wb_history.specs.Views.{whole_pass, HasAllRows}
 use Rattle.wb_history.proofs.Opens.{opens}
 use Rattle.wb_history.proofs.Keeps.{consistent}
 use mathlib.Core.Option.{some}
@@ -30,16 +28,15 @@ use Rattle.wb_history.specs.Lawful.{IsConsistent}
 use Rattle.wb_history.specs.declared.cells.CellTable.{CellTable}
 use Rattle.wb_history.specs.Seats.{SitsAt, SameSeat}
 use Rattle.wb_history.proofs.Lists.{few}
-use Rattle.wb_history.specs.Cursors.{InOrder, Walked, Won, AtEnd, Answered, Refused}
+use Rattle.wb_history.specs.Cursors.{MatchesSeat, Walked, Won, AtEnd, Answered, Refused}
 use Rattle.wb_history.specs.Passes.{HistoryValue, PassValue, IsPassOf, IsWhole, IsSound, ReadsOn}
 use Rattle.wb_history.specs.Replies.{IsAdded, Claimed, NotClaimed}
 use Rattle.wb_codec.specs.Ranges.{IsDrawop}
 use Rattle.wb_history.proofs.Words.{get_is, none_before, pairs_are, all_are}
-use Rattle.wb_history.specs.Shown.{history_of, view_of, IsHeld}
-use Rattle.wb_history.specs.Views.{HasAllRows}
+use Rattle.wb_history.specs.Shown.{history_of, view_of, PartsAgree}
 
 -- what is seen of the parts of a pass is sound
-pub sound : (h : Cursor) → IsHeld h → IsSound (view_of h)
+pub sound : (h : Cursor) → PartsAgree h → IsSound (view_of h)
 sound h i =
     let o = i.0 in
     let s = o.consistent in
@@ -60,7 +57,7 @@ sound h i =
       as_many = λ whole. let once = few h.seat.me.0.mine (length h.seat.me.0.seen) s.mine_once s.mine_is in omega arith;
     }
 
-pub sound_pass : {p : PassValue} (h : Cursor) → view_of h ≡ p → IsHeld h → IsSound p
+pub sound_pass : {p : PassValue} (h : Cursor) → view_of h ≡ p → PartsAgree h → IsSound p
 sound_pass h is i = subst IsSound is (sound h i)
 
 pub on_ok : {A E P : Type 0} (r : Result A E) → P → OnOk r P
@@ -68,7 +65,7 @@ on_ok (Ok a) p = p
 on_ok (Err e) p = tt
 
 -- more room for the list is not seen
-pub roomier : (h : Cursor) (m : MembersValue) → m.items ≡ h.seen.items → IsHeld h → IsHeld (record h { seen = m })
+pub roomier : (h : Cursor) (m : MembersValue) → m.items ≡ h.seen.items → PartsAgree h → PartsAgree (record h { seen = m })
 roomier h m same i = grind (arith, common_steps)
 
 -- a pass hears what another has seen, or both stay as they were
@@ -77,18 +74,18 @@ sound_heard p q Teller (Ok u) heard kept s = heard
 sound_heard p q Teller (Err e) heard kept s = subst IsSound (sym kept.1) s
 
 -- the parts of a pass after steps of its seat
-pub held_on : (h h' : Cursor) → IsHeld h → InOrder h' → SameSeat h.seat h'.seat → h'.seat.me.0.cells ≡ h.seat.me.0.cells → IsHeld h'
-held_on h h' i o seat cells = grind (arith, common_steps)
+pub agree_on : (h h' : Cursor) → PartsAgree h → MatchesSeat h' → SameSeat h.seat h'.seat → h'.seat.me.0.cells ≡ h.seat.me.0.cells → PartsAgree h'
+agree_on h h' i o seat cells = grind (arith, common_steps)
 
 -- A pass sits at the table of its history. Of one table the number of cells is one, since the number of words is
-pub sits : {p : PassValue} {q : HistoryValue} (t : CellTable) (h : Cursor) → history_of t ≡ q → view_of h ≡ p → IsHeld h → IsPassOf q p → SitsAt t h.seat
+pub sits : {p : PassValue} {q : HistoryValue} (t : CellTable) (h : Cursor) → history_of t ≡ q → view_of h ≡ p → PartsAgree h → IsPassOf q p → SitsAt t h.seat
 sits t h is_q is_p i same = grind (arith, common_steps)
 
-owns : (h : Cursor) → InOrder h → IsWhole (view_of h) → HasAllRows h.seat.me.0
+owns : (h : Cursor) → MatchesSeat h → IsWhole (view_of h) → HasAllRows h.seat.me.0
 owns h o all = let b = ap length o.free in let d = ap length o.mine in omega arith
 
 -- the list after a claim that was won ends with the drawop, whose name stands nowhere before
-added : (h : Cursor) (more : List DrawopValue) (d : DrawopValue) (i extra : ℕ) (h' : Cursor) → InOrder h → Won (record h { steps = 0 }) more d i extra h' → IsAdded (view_of h) d i (view_of h')
+added : (h : Cursor) (more : List DrawopValue) (d : DrawopValue) (i extra : ℕ) (h' : Cursor) → MatchesSeat h → Won (record h { steps = 0 }) more d i extra h' → IsAdded (view_of h) d i (view_of h')
 added h more d i extra h' o w =
     let place = w.at in
     let long = ap length w.seen in
@@ -97,7 +94,7 @@ added h more d i extra h' o w =
     let row = w.free in
     let last : length h'.seen.items ≡ i + 1 = omega arith in
     let at : get_elem? h'.seen.items i ≡ some d = subst (λ (l : List DrawopValue). get_elem? l i ≡ some d) (sym w.seen) (at_last (h.seen.items ++ more) d i (omega arith)) in record {
-      new = (sym (length-take-le i h'.seen.items (omega arith)), none_before h'.seen.items i d (subst IsHistory w.order.seen w.order.consistent.names_once) at);
+      new = (sym (length-take-le i h'.seen.items (omega arith)), none_before h'.seen.items i d (subst IsHistory w.matches.seen w.matches.consistent.names_once) at);
       member = get_is h'.seen.items i d at;
       last = last;
       later = omega arith;
@@ -108,29 +105,29 @@ added h more d i extra h' o w =
 
 -- the parts of a pass after a call that reads or adds: they agree, and it has seen all that it had seen
 abbrev pub GoesOn : Cursor → Cursor → Type 0
-GoesOn h h' = IsHeld h' × (h'.seat.me.0.cells ≡ h.seat.me.0.cells) × IsPrefix h.seen.items h'.seen.items
+GoesOn h h' = PartsAgree h' × (h'.seat.me.0.cells ≡ h.seat.me.0.cells) × IsPrefix h.seen.items h'.seen.items
 
 -- what is so of all parts of a pass stays so, where they go on
-pub pass_on : (lists : List MembersValue) (cells : ℕ) (h h' : Cursor) → IsHeld h × (cells ≡ h.seat.me.0.cells) × AreFronts lists h.seen.items → GoesOn h h' → IsHeld h' × (cells ≡ h'.seat.me.0.cells) × AreFronts lists h'.seen.items
+pub pass_on : (lists : List MembersValue) (cells : ℕ) (h h' : Cursor) → PartsAgree h × (cells ≡ h.seat.me.0.cells) × AreFronts lists h.seen.items → GoesOn h h' → PartsAgree h' × (cells ≡ h'.seat.me.0.cells) × AreFronts lists h'.seen.items
 pass_on lists cells h h' i on = (on.0, i.1 ∙ sym on.1, fronts_on lists h.seen.items h'.seen.items on.2 i.2)
 
-pub walked_held : (h : Cursor) (more : List DrawopValue) (k : ℕ) (h' : Cursor) → IsHeld h → Walked (record h { steps = 0 }) more k h' → GoesOn h h'
-walked_held h more k h' i w = grind (arith, common_steps)
+pub walked_agree : (h : Cursor) (more : List DrawopValue) (k : ℕ) (h' : Cursor) → PartsAgree h → Walked (record h { steps = 0 }) more k h' → GoesOn h h'
+walked_agree h more k h' i w = grind (arith, common_steps)
 
-pub end_held : (cells : ℕ) (h : Cursor) (more : List DrawopValue) (h' : Cursor) → IsHeld h → AtEnd cells (record h { steps = 0 }) more h' → GoesOn h h'
-end_held cells h more h' i e = grind (arith, common_steps)
+pub end_agrees : (cells : ℕ) (h : Cursor) (more : List DrawopValue) (h' : Cursor) → PartsAgree h → AtEnd cells (record h { steps = 0 }) more h' → GoesOn h h'
+end_agrees cells h more h' i e = grind (arith, common_steps)
 
 -- the parts of a pass after a claim
-pub held_after : (cells : ℕ) (h : Cursor) (d : DrawopValue) (h' : Cursor) (r : Result Claim ClaimFault) → IsHeld h
+pub parts_after : (cells : ℕ) (h : Cursor) (d : DrawopValue) (h' : Cursor) (r : Result Claim ClaimFault) → PartsAgree h
     → MatchResult r (λ c. (extra : ℕ) × (extra ≤ member_steps) × Answered (record h { steps = 0 }) d extra h' c) (Refused cells (record h { steps = 0 }) d h') → GoesOn h h'
-held_after cells h d h' (Ok (Added k)) i m = grind (arith, common_steps)
-held_after cells h d h' (Ok (Present k)) i m = walked_held h m.2.0 m.0 h' i m.2.1
-held_after cells h d h' (Ok (Clash k)) i m = walked_held h m.2.0 m.0 h' i m.2.1
-held_after cells h d h' (Err NoRow) i m = end_held cells h m.0 h' i m.1
-held_after cells h d h' (Err Memory) i m = walked_held h m.0 m.1 h' i m.3
+parts_after cells h d h' (Ok (Added k)) i m = grind (arith, common_steps)
+parts_after cells h d h' (Ok (Present k)) i m = walked_agree h m.2.0 m.0 h' i m.2.1
+parts_after cells h d h' (Ok (Clash k)) i m = walked_agree h m.2.0 m.0 h' i m.2.1
+parts_after cells h d h' (Err NoRow) i m = end_agrees cells h m.0 h' i m.1
+parts_after cells h d h' (Err Memory) i m = walked_agree h m.0 m.1 h' i m.3
 
 -- what a claim with a cursor says of what is seen of the cursor
-pub shown : (cells : ℕ) (h : Cursor) (d : DrawopValue) (h' : Cursor) (r : Result Claim ClaimFault) → InOrder h → h.seat.me.0.cells ≡ cells
+pub shown : (cells : ℕ) (h : Cursor) (d : DrawopValue) (h' : Cursor) (r : Result Claim ClaimFault) → MatchesSeat h → h.seat.me.0.cells ≡ cells
     → MatchResult r (λ c. (extra : ℕ) × (extra ≤ member_steps) × Answered (record h { steps = 0 }) d extra h' c) (Refused cells (record h { steps = 0 }) d h')
     → MatchResult r (Claimed (view_of h) d (view_of h')) (NotClaimed (view_of h) d (view_of h'))
 shown cells h d h' (Ok (Added i)) o same m = added h m.2.0 d i (m.0 + 1) h' o m.2.1
@@ -145,8 +142,8 @@ first_consistent cells h =
     let r = opens cells (replicate n 0) n refl (length-replicate n 0) refl in
     consistent cells (opening (replicate n 0) [] (whole_pass cells)) r 0 (whole_pass cells) (r.each_pass 0 (whole_pass cells) refl) h
 
-pub first_order : (h : Cursor) (cells : ℕ) → 0 < cells → h.seat.me ≡ (whole_pass cells, []) → h.seen.items ≡ [] → h.mine.items ≡ [] → h.free.items ≡ range_with_len 0 cells → InOrder h
-first_order h cells some_cells me seen mine free = record {
+pub first_matches : (h : Cursor) (cells : ℕ) → 0 < cells → h.seat.me ≡ (whole_pass cells, []) → h.seen.items ≡ [] → h.mine.items ≡ [] → h.free.items ≡ range_with_len 0 cells → MatchesSeat h
+first_matches h cells some_cells me seen mine free = record {
   slots = ap (λ (m : Me DrawopValue Knowledge). m.1) me;
   seen = ap (λ (m : Me DrawopValue Knowledge). m.0.seen) me ∙ sym seen;
   mine = ap (λ (m : Me DrawopValue Knowledge). m.0.mine) me ∙ sym mine;
@@ -158,7 +155,7 @@ brought_is : (h : Cursor) (more : List DrawopValue) (k : ℕ) (h' : Cursor) → 
 brought_is h more k h' w = grind (arith, common_steps, length-append)
 
 -- the pass after its cursor has read on
-pub reads_on : {p : PassValue} (h : Cursor) (more : List DrawopValue) (k : ℕ) (h' : Cursor) → k ≤ 1 → view_of h ≡ p → IsHeld h → Walked (record h { steps = 0 }) more k h' → ReadsOn p (view_of h')
+pub reads_on : {p : PassValue} (h : Cursor) (more : List DrawopValue) (k : ℕ) (h' : Cursor) → k ≤ 1 → view_of h ≡ p → PartsAgree h → Walked (record h { steps = 0 }) more k h' → ReadsOn p (view_of h')
 reads_on h more k h' few is i w =
     let begun = record h { steps = 0 } in
     let made = w.made in
@@ -166,7 +163,7 @@ reads_on h more k h' few is i w =
     let b = brought_is begun more k h' w in
     subst (λ (v : PassValue). ReadsOn v (view_of h')) is record {
       same = (w.seat.0, w.cells);
-      sound = sound h' (walked_held h more k h' i w).0;
+      sound = sound h' (walked_agree h more k h' i w).0;
       grows = (more, sym w.seen);
       nothing = grind (arith, common_steps);
       steps = omega arith;

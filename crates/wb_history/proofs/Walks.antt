@@ -5,7 +5,7 @@ use Rattle.wb_names.specs.Values.{NameValue, DrawopValue}
 use Rattle.wb_history.specs.declared.cursor.Cursor.{Cursor}
 use Rattle.wb_history.specs.declared.cells.CellTable.{CellTable}
 use Rattle.wb_names.specs.History.{IsHistory, HoldsName}
-use Rattle.wb_history.specs.Cursors.{InOrder, Walked, AtEnd, FoundFree, Won, TellsNamesake, Answered}
+use Rattle.wb_history.specs.Cursors.{MatchesSeat, Walked, AtEnd, FoundFree, Won, TellsNamesake, Answered}
 use Rattle.wb_history.specs.declared.claim.Claim.{Claim}
 use Rattle.wb_history.specs.declared.claim.Claim.TheVariants.{Added, Present, Clash}
 use Rattle.wb_history.specs.Seats.{SitsAt}
@@ -13,10 +13,10 @@ use Rattle.wb_history.proofs.Lists.{at-lt}
 use Rattle.wb_history.proofs.Words.{named_at, one_place}
 use Rattle.atomic_table.proofs.Lists.{at_longer, at_last}
 
-pub walk_on : (h : Cursor) (a b : List DrawopValue) (j k : ℕ) (h' h'' : Cursor) → InOrder h → Walked h a j h' → Walked h' b k h'' → Walked h (a ++ b) (j + k) h''
+pub walk_on : (h : Cursor) (a b : List DrawopValue) (j k : ℕ) (h' h'' : Cursor) → MatchesSeat h → Walked h a j h' → Walked h' b k h'' → Walked h (a ++ b) (j + k) h''
 walk_on h a b j k h' h'' o v w = grind (arith, common_steps)
 
-pub win_on : (h : Cursor) (a b : List DrawopValue) (d : DrawopValue) (place j k : ℕ) (h' h'' : Cursor) → InOrder h → Walked h a j h' → Won h' b d place k h'' → Won h (a ++ b) d place (j + k) h''
+pub win_on : (h : Cursor) (a b : List DrawopValue) (d : DrawopValue) (place j k : ℕ) (h' h'' : Cursor) → MatchesSeat h → Walked h a j h' → Won h' b d place k h'' → Won h (a ++ b) d place (j + k) h''
 win_on h a b d place j k h' h'' o v w = grind (arith, common_steps)
 
 pub lacks_more : (l : List DrawopValue) (d : DrawopValue) (name : NameValue) → (HoldsName l name → ⊥) → d.name ≢ name → HoldsName (l ++ d ∷ []) name → ⊥
@@ -27,7 +27,7 @@ answered h d extra h' (Added i) more w a = absurd a
 answered h d extra h' (Present i) more w a = (more, w, a)
 answered h d extra h' (Clash i) more w a = (more, w, a)
 
-pub answer_on : (h : Cursor) (a : List DrawopValue) (d : DrawopValue) (j k : ℕ) (h' h'' : Cursor) (c : Claim) → InOrder h → Walked h a j h' → Answered h' d k h'' c → Answered h d (j + k) h'' c
+pub answer_on : (h : Cursor) (a : List DrawopValue) (d : DrawopValue) (j k : ℕ) (h' h'' : Cursor) (c : Claim) → MatchesSeat h → Walked h a j h' → Answered h' d k h'' c → Answered h d (j + k) h'' c
 answer_on h a d j k h' h'' (Added i) o v s = grind (arith, common_steps, win_on)
 answer_on h a d j k h' h'' (Present i) o v s = (a ++ s.0, walk_on h a s.0 j k h' h'' o v s.1, s.2)
 answer_on h a d j k h' h'' (Clash i) o v s = (a ++ s.0, walk_on h a s.0 j k h' h'' o v s.1, s.2)

@@ -16,7 +16,7 @@ use Rattle.wb_history.specs.Seats.{SameSeat}
 use Rattle.wb_history.specs.Views.{HasAllRows}
 
 -- the lists are what the seat knows
-pub record InOrder (h : Cursor) : Type 0 where
+pub record MatchesSeat (h : Cursor) : Type 0 where
   pub slots : h.seat.me.1 ≡ []
   pub seen : h.seat.me.0.seen ≡ h.seen.items
   pub mine : h.seat.me.0.mine ≡ h.mine.items
@@ -25,7 +25,7 @@ pub record InOrder (h : Cursor) : Type 0 where
 
 -- the cursor after it has read these members, and has made some more steps. A cursor with all rows reads none
 pub record Walked (h : Cursor) (more : List DrawopValue) (extra : ℕ) (h' : Cursor) : Type 0 where
-  pub order : InOrder h'
+  pub matches : MatchesSeat h'
   pub seat : SameSeat h.seat h'.seat
   pub cells : h'.seat.me.0.cells ≡ h.seat.me.0.cells
   pub mine : h'.mine.items ≡ h.mine.items
@@ -55,7 +55,7 @@ Sought cells h d h' (Some c) = (more : List DrawopValue) × Walked h more 0 h' �
 
 -- the cursor after it has read these members and added d at a place
 pub record Won (h : Cursor) (more : List DrawopValue) (d : DrawopValue) (place extra : ℕ) (h' : Cursor) : Type 0 where
-  pub order : InOrder h'
+  pub matches : MatchesSeat h'
   pub seat : SameSeat h.seat h'.seat
   pub cells : h'.seat.me.0.cells ≡ h.seat.me.0.cells
   pub at : place ≡ length h.seen.items + length more
@@ -79,7 +79,7 @@ Refused cells h d h' Memory = (more : List DrawopValue) × (extra : ℕ) × (ext
 
 -- the cursor after it took in what another seat knows
 pub record United (h : Cursor) (w : Knowledge) (h' : Cursor) : Type 0 where
-  pub order : InOrder h'
+  pub matches : MatchesSeat h'
   pub seat : SameSeat h.seat h'.seat
   pub cells : h'.seat.me.0.cells ≡ h.seat.me.0.cells
   pub seen : h'.seen.items ≡ longer h.seen.items w.seen

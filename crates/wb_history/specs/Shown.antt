@@ -3,7 +3,7 @@ use Rattle.wb_history.specs.Sizes.{row_words}
 use Rattle.std.specs.Prelude.{◌≡◌, ◌+◌, ◌*◌, ◌<◌, ◌≤◌, length}
 use Rattle.wb_history.specs.declared.cursor.Cursor.{Cursor}
 use Rattle.wb_history.specs.declared.cells.CellTable.{CellTable}
-use Rattle.wb_history.specs.Cursors.{InOrder}
+use Rattle.wb_history.specs.Cursors.{MatchesSeat}
 use Rattle.wb_history.specs.Passes.{HistoryValue, PassValue}
 
 abbrev pub history_of : CellTable → HistoryValue
@@ -23,5 +23,5 @@ view_of h = record {
 }
 
 -- the parts of a pass agree with one another, and its cells are those of its table
-abbrev pub IsHeld : Cursor → Type 0
-IsHeld h = InOrder h × (h.seat.table_id.words ≡ h.seat.me.0.cells + h.seat.me.0.cells * row_words) × (0 < h.seat.me.0.cells) × (h.seat.me.0.cells ≤ 65535)
+abbrev pub PartsAgree : Cursor → Type 0
+PartsAgree h = MatchesSeat h × (h.seat.table_id.words ≡ h.seat.me.0.cells + h.seat.me.0.cells * row_words) × (0 < h.seat.me.0.cells) × (h.seat.me.0.cells ≤ 65535)

@@ -5,7 +5,7 @@ ghost use Rattle.std.specs.Prelude.{◌≡◌, ℕ, ◌+◌, ◌-◌, ◌*◌, �
 ghost use mathlib.Core.Option.{some};
 ghost use lib.ListN.{get_elem?};
 ghost use Rattle.wb_names.specs.Values.{DrawopValue};
-ghost use Rattle.wb_history.specs.Cursors.{InOrder, Walked, Won, AtEnd, TellsNamesake, Answered, Refused};
+ghost use Rattle.wb_history.specs.Cursors.{MatchesSeat, Walked, Won, AtEnd, TellsNamesake, Answered, Refused};
 ghost use Rattle.wb_names.specs.History.{HoldsName};
 ghost use Rattle.wb_codec.specs.Rows.{row as record_of};
 ghost use Rattle.wb_codec.specs.Ranges.{IsDrawop};
@@ -30,7 +30,7 @@ impl CellTable {
         row: u32,
         drawop: &Drawop,
     ) -> Result<Option<Drawop>, AllocError>
-        requires cursor { SitsAt self.now cursor.old.seat × InOrder cursor.old × (cursor.old.steps ≤ member_steps * length cursor.old.seen.items + member_steps) }
+        requires cursor { SitsAt self.now cursor.old.seat × MatchesSeat cursor.old × (cursor.old.steps ≤ member_steps * length cursor.old.seen.items + member_steps) }
         requires row { get_elem? cursor.old.free.items (length cursor.old.free.items - 1) ≡ some row }
         requires stored { cursor.old.seat.me.0.stored ≡ record_of drawop.now }
         requires new { IsDrawop drawop.now × ¬ HoldsName cursor.old.seen.items drawop.now.name }
@@ -56,7 +56,7 @@ impl CellTable {
 
     /// Exchanges the next cell for the row until it wins or a member has the name.
     fn contend(&self, cursor: &mut Cursor, row: u32, drawop: &Drawop) -> Result<Claim, AllocError>
-        requires cursor { SitsAt self.now cursor.old.seat × InOrder cursor.old × (cursor.old.steps ≤ member_steps * length cursor.old.seen.items + member_steps) }
+        requires cursor { SitsAt self.now cursor.old.seat × MatchesSeat cursor.old × (cursor.old.steps ≤ member_steps * length cursor.old.seen.items + member_steps) }
         requires row { get_elem? cursor.old.free.items (length cursor.old.free.items - 1) ≡ some row }
         requires stored { cursor.old.seat.me.0.stored ≡ record_of drawop.now }
         requires new { IsDrawop drawop.now × ¬ HoldsName cursor.old.seen.items drawop.now.name }
@@ -72,7 +72,7 @@ impl CellTable {
 
     /// Stores the record of the drawop into the last free row.
     fn store(&self, cursor: &mut Cursor, row: u32, drawop: &Drawop)
-        requires cursor { SitsAt self.now cursor.old.seat × InOrder cursor.old × (cursor.old.steps ≤ member_steps * length cursor.old.seen.items + 1) }
+        requires cursor { SitsAt self.now cursor.old.seat × MatchesSeat cursor.old × (cursor.old.steps ≤ member_steps * length cursor.old.seen.items + 1) }
         requires row { get_elem? cursor.old.free.items (length cursor.old.free.items - 1) ≡ some row }
         requires stored { cursor.old.seat.me.0.stored ≡ [] }
         ensures done { Walked cursor.old [] row_words cursor.new × (cursor.new.seat.me.0.stored ≡ record_of drawop.now) × IsDrawop drawop.now }
@@ -88,7 +88,7 @@ impl CellTable {
         row: u32,
         drawop: &Drawop,
     ) -> Result<Claim, AllocError>
-        requires cursor { SitsAt self.now cursor.old.seat × InOrder cursor.old × (cursor.old.steps ≤ member_steps * length cursor.old.seen.items + 1) }
+        requires cursor { SitsAt self.now cursor.old.seat × MatchesSeat cursor.old × (cursor.old.steps ≤ member_steps * length cursor.old.seen.items + 1) }
         requires row { get_elem? cursor.old.free.items (length cursor.old.free.items - 1) ≡ some row }
         requires stored { cursor.old.seat.me.0.stored ≡ [] }
         requires new { ¬ HoldsName cursor.old.seen.items drawop.now.name }
@@ -106,7 +106,7 @@ impl CellTable {
         cursor: &mut Cursor,
         drawop: &Drawop,
     ) -> Result<Claim, ClaimFault>
-        requires cursor { SitsAt self.now cursor.old.seat × InOrder cursor.old × (cursor.old.steps ≡ 0) }
+        requires cursor { SitsAt self.now cursor.old.seat × MatchesSeat cursor.old × (cursor.old.steps ≡ 0) }
         ensures done { MatchResult result (λ c. (extra : ℕ) × (extra ≤ member_steps) × Answered cursor.old drawop.now extra cursor.new c) (Refused self.now.cells cursor.old drawop.now cursor.new) }
         ensures known { HoldsName cursor.old.seen.items drawop.now.name → IsOk result × (cursor.new ≡ cursor.old) }
     {

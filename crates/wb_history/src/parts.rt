@@ -1,7 +1,7 @@
 //! How a pass is split, how two are joined, and how two tell each other what they have seen.
 ghost use Rattle.std.specs.Prelude.{◌≡◌, ◌+◌, ◌<◌, ◌≤◌, [], ◌++◌, Err, IfOk, IfErr, OnOk, OnErr, MatchResult, length, vec_len, vec_capacity};
 ghost use mathlib.Core.List.{IsPrefix};
-ghost use Rattle.wb_history.specs.Cursors.{InOrder, United};
+ghost use Rattle.wb_history.specs.Cursors.{MatchesSeat, United};
 ghost use Rattle.wb_history.specs.Lists.{longer};
 ghost use Rattle.wb_names.specs.History.{IsHistory};
 ghost use Rattle.wb_history.specs.Seats.{SitsAt};
@@ -119,8 +119,8 @@ impl CellTable {
     /// Makes two cursors one. The load of the first cell tells what the join of the seats does not: that
     /// the longer list begins with the shorter, and that no place was of both. The shorter comes back.
     fn take_in(&self, cursor: &mut Cursor, other: Cursor) -> Members
-        requires cursor { SitsAt self.now cursor.old.seat × InOrder cursor.old }
-        requires other { SitsAt self.now other.seat × InOrder other }
+        requires cursor { SitsAt self.now cursor.old.seat × MatchesSeat cursor.old }
+        requires other { SitsAt self.now other.seat × MatchesSeat other }
         requires room { (vec_len cursor.old.mine + vec_len other.mine ≤ vec_capacity cursor.old.mine) × (other.free.parts ≤ cursor.old.free.room) }
         ensures united { United cursor.old other.seat.me.0 cursor.new }
         ensures front { IsPrefix result.items cursor.new.seen.items }
@@ -145,7 +145,7 @@ impl CellTable {
     /// Takes in a seat that owns nothing and has seen this list, which is no shorter. The cursor's own
     /// list gets what the other has more; there is room for it.
     fn hear(&self, cursor: &mut Cursor, seat: HistorySeat, list: &[Drawop])
-        requires cursor { SitsAt self.now cursor.old.seat × InOrder cursor.old }
+        requires cursor { SitsAt self.now cursor.old.seat × MatchesSeat cursor.old }
         requires seat { SitsAt self.now seat × (seat.me.1 ≡ []) × (seat.me.0.mine ≡ []) × (seat.me.0.free ≡ []) }
         requires list { (seat.me.0.seen ≡ list.now) × IsHistory list.now }
         requires room { (length cursor.old.seen.items ≤ length list.now) × (length list.now ≤ length cursor.old.seen.items + cursor.old.seen.room) }

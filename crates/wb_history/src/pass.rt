@@ -28,13 +28,13 @@ impl Model for Pass {
     ghost use Rattle.std.specs.Prelude.{◌≡◌};
     ghost use Rattle.wb_history.specs.Passes.{PassValue};
     ghost use Rattle.wb_history.specs.Indexed.{AreFronts};
-    ghost use Rattle.wb_history.specs.Shown.{view_of, IsHeld};
+    ghost use Rattle.wb_history.specs.Shown.{view_of, PartsAgree};
 
     ghost Value = { PassValue };
 
     ghost view = { λ p. view_of p.cursor };
 
-    ghost invariant = { λ p. IsHeld p.cursor × (p.cells ≡ p.cursor.seat.me.0.cells) × AreFronts p.spares.items p.cursor.seen.items };
+    ghost invariant = { λ p. PartsAgree p.cursor × (p.cells ≡ p.cursor.seat.me.0.cells) × AreFronts p.spares.items p.cursor.seen.items };
 }
 
 impl Pass {

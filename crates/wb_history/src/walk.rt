@@ -3,7 +3,7 @@
 ghost use Rattle.wb_history.specs.Sizes.{row_words, member_steps};
 ghost use Rattle.std.specs.Prelude.{◌≡◌, ℕ, ◌+◌, ◌*◌, ◌<◌, ◌≤◌, List, [], ◌∷◌, ◌++◌, length, slice_get, Some, MatchOption, MatchResult, IsTrue, ◌↔◌};
 ghost use Rattle.wb_names.specs.Values.{DrawopValue};
-ghost use Rattle.wb_history.specs.Cursors.{InOrder, Walked, AtEnd, TellsNamesake, Sought};
+ghost use Rattle.wb_history.specs.Cursors.{MatchesSeat, Walked, AtEnd, TellsNamesake, Sought};
 ghost use Rattle.wb_names.specs.History.{HoldsName};
 ghost use Rattle.wb_history.specs.Seats.{SitsAt, SameSeat};
 ghost use Rattle.wb_history.specs.Views.{IsMember};
@@ -39,9 +39,9 @@ impl CellTable {
     /// Reads the member after those that were seen, whose cell was found to hold `found`. All growth
     /// for it comes before its row is read, since the last word read makes it seen.
     pub(crate) fn take_member(&self, cursor: &mut Cursor, found: u64) -> Result<Drawop, AllocError>
-        requires cursor { SitsAt self.now cursor.old.seat × InOrder cursor.old × (cursor.old.steps ≤ member_steps * (length cursor.old.seen.items + 2)) }
+        requires cursor { SitsAt self.now cursor.old.seat × MatchesSeat cursor.old × (cursor.old.steps ≤ member_steps * (length cursor.old.seen.items + 2)) }
         requires found { (0 < found) × (found ≤ self.now.cells) × (cursor.old.seat.me.0.looking ≡ found) × (cursor.old.seat.me.0.read ≡ []) }
-        ensures order { InOrder cursor.new × (cursor.new.mine.items ≡ cursor.old.mine.items) × (cursor.new.free.items ≡ cursor.old.free.items) }
+        ensures matches { MatchesSeat cursor.new × (cursor.new.mine.items ≡ cursor.old.mine.items) × (cursor.new.free.items ≡ cursor.old.free.items) }
         ensures done { MatchResult result
             (λ d. (cursor.new.seen.items ≡ cursor.old.seen.items ++ d ∷ []) × (cursor.new.steps ≡ cursor.old.steps + row_words) × IsMember cursor.old.seat.me.0 d cursor.new.seat.me.0 × SameSeat cursor.old.seat cursor.new.seat)
             (λ _. (cursor.new.seen.items ≡ cursor.old.seen.items) × (cursor.new.steps ≡ cursor.old.steps) × (cursor.new.seat ≡ cursor.old.seat)) }
@@ -55,7 +55,7 @@ impl CellTable {
 
     /// Reads the next member, if there is one: a load of its cell, and one of each word of its row.
     pub(crate) fn next_member(&self, cursor: &mut Cursor) -> Result<Option<Drawop>, AllocError>
-        requires cursor { SitsAt self.now cursor.old.seat × InOrder cursor.old × (cursor.old.steps ≤ member_steps * length cursor.old.seen.items) }
+        requires cursor { SitsAt self.now cursor.old.seat × MatchesSeat cursor.old × (cursor.old.steps ≤ member_steps * length cursor.old.seen.items) }
         ensures done { MatchResult result (λ o. MatchOption o (AtEnd self.now.cells cursor.old [] cursor.new) (λ d. Walked cursor.old (d ∷ []) 0 cursor.new)) (λ _. Walked cursor.old [] 1 cursor.new) }
     {
         let place = cursor.seen.len();
@@ -73,7 +73,7 @@ impl CellTable {
 
     /// Reads all members to the end.
     pub(crate) fn catch_up(&self, cursor: &mut Cursor) -> Result<(), AllocError>
-        requires cursor { SitsAt self.now cursor.old.seat × InOrder cursor.old × (cursor.old.steps ≡ 0) }
+        requires cursor { SitsAt self.now cursor.old.seat × MatchesSeat cursor.old × (cursor.old.steps ≡ 0) }
         ensures done { MatchResult result (λ _. (more : List DrawopValue) × AtEnd self.now.cells cursor.old more cursor.new) (λ _. (more : List DrawopValue) × Walked cursor.old more 1 cursor.new) }
     {
         while let Some(_) = self.next_member(cursor)? {}
@@ -86,7 +86,7 @@ impl CellTable {
         cursor: &mut Cursor,
         drawop: &Drawop,
     ) -> Result<Option<Claim>, AllocError>
-        requires cursor { SitsAt self.now cursor.old.seat × InOrder cursor.old × (cursor.old.steps ≡ 0) }
+        requires cursor { SitsAt self.now cursor.old.seat × MatchesSeat cursor.old × (cursor.old.steps ≡ 0) }
         requires new { ¬ HoldsName cursor.old.seen.items drawop.now.name }
         ensures done { MatchResult result (Sought self.now.cells cursor.old drawop.now cursor.new) (λ _. (more : List DrawopValue) × Walked cursor.old more 1 cursor.new) }
     {

@@ -1,15 +1,14 @@
-use Rattle.std.proofs.Common.{arith}
+use Rattle.std.proofs.Common.{arith, ◌∙◌, refl, sym}
 use Rattle.std.proofs.lemmas.Grind.{common_steps}
-use Rattle.std.proofs.Common.{◌∙◌, refl, sym}
 use Rattle.wb_history.proofs.Fronts.{fronts_on}
-use Rattle.wb_history.proofs.Shows.{sound, sound_pass, held_on}
+use Rattle.wb_history.proofs.Shows.{sound, sound_pass, agree_on}
 use Rattle.wb_history.proofs.Unions.{joined, same_view}
 use Rattle.wb_history.proofs.history.History.join.Goals as goal
 
 pub invariant_of-pass-2 : goal.invariant_of-pass-2
 invariant_of-pass-2 c =
     let u = c.take_in-shorter.ensures.united in (
-      held_on c.pass.inside.cursor c.take_in-shorter.new.cursor c.pass.invariant.0 u.order u.seat u.cells,
+      agree_on c.pass.inside.cursor c.take_in-shorter.new.cursor c.pass.invariant.0 u.matches u.seat u.cells,
       c.pass.invariant.1 ∙ sym u.cells,
       c.keep.ensures c.take_in-shorter.new.cursor.seen.items (fronts_on c.pass.inside.spares.items c.pass.inside.cursor.seen.items c.take_in-shorter.new.cursor.seen.items u.first c.pass.invariant.2) c.take_in-shorter.ensures.front,
     )

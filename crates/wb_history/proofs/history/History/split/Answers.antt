@@ -6,7 +6,7 @@ use Rattle.wb_history.specs.declared.knowledge.Knowledge.{Knowledge}
 use Rattle.wb_history.proofs.Shows.{sound, sound_pass}
 use Rattle.wb_history.proofs.Fronts.{none_are_fronts}
 use Rattle.wb_history.proofs.Unions.{same_view}
-use Rattle.wb_history.proofs.Portions.{left_order, right_order}
+use Rattle.wb_history.proofs.Portions.{left_matches, right_matches}
 use Rattle.wb_history.proofs.history.History.split.Goals as goal
 
 pub invariant_of-result : goal.invariant_of-result
@@ -20,7 +20,7 @@ invariant_of-result c =
     let few_cells = i.0.3 in
     let same = i.1 in (
       (
-        right_order c.pass.inside.cursor (record { seat = c.cut-seat.result; seen = c.in-Ok.seen; mine = c.new.result; free = c.in-Ok-split_off.free; steps = 0 }) c.args.rows i.0.0 n.1 c.in-Ok.ensures.list c.new.ensures.items
+        right_matches c.pass.inside.cursor (record { seat = c.cut-seat.result; seen = c.in-Ok.seen; mine = c.new.result; free = c.in-Ok-split_off.free; steps = 0 }) c.args.rows i.0.0 n.1 c.in-Ok.ensures.list c.new.ensures.items
             c.in-Ok-split_off.ensures.tail,
         (omega arith),
         (omega arith),
@@ -41,7 +41,7 @@ invariant_of-pass-2 c =
     let few_cells = i.0.3 in
     let same = i.1 in (
       (
-        left_order c.pass.inside.cursor (record { seat = c.cut-seat.new.seat; seen = c.pass.inside.cursor.seen; mine = c.pass.inside.cursor.mine; free = c.split_off.new.self; steps = c.pass.inside.cursor.steps }) c.args.rows i.0.0 n.0.2 n.1 refl refl
+        left_matches c.pass.inside.cursor (record { seat = c.cut-seat.new.seat; seen = c.pass.inside.cursor.seen; mine = c.pass.inside.cursor.mine; free = c.split_off.new.self; steps = c.pass.inside.cursor.steps }) c.args.rows i.0.0 n.0.2 n.1 refl refl
             c.in-Ok-split_off.ensures.items,
         (omega arith),
         (omega arith),

@@ -4,8 +4,8 @@ use Rattle.wb_names.specs.Values.{DrawopValue}
 use Rattle.wb_history.specs.declared.knowledge.Knowledge.{Knowledge}
 use Rattle.wb_history.specs.Indexed.{AreFronts}
 use Rattle.wb_history.proofs.Fronts.{fronts_on}
-use Rattle.wb_history.proofs.Portions.{left_order}
-use Rattle.wb_history.proofs.Shows.{sound, sound_pass, held_on, on_ok, roomier}
+use Rattle.wb_history.proofs.Portions.{left_matches}
+use Rattle.wb_history.proofs.Shows.{sound, sound_pass, agree_on, on_ok, roomier}
 use Rattle.wb_history.proofs.history.History.tell.Goals as goal
 
 pub invariant_of-hearer : goal.invariant_of-hearer
@@ -28,7 +28,7 @@ invariant_of-teller c =
     let some_cells = i.0.2 in
     let few_cells = i.0.3 in
     let same = i.1 in (
-      (left_order h (record h { seat = c.cut-message.new.seat }) 0 i.0.0 n.0.2 n.1 refl refl (sym (take_all (length h.free.items - 0) h.free.items (omega arith))), (omega arith), (omega arith), (omega arith)),
+      (left_matches h (record h { seat = c.cut-message.new.seat }) 0 i.0.0 n.0.2 n.1 refl refl (sym (take_all (length h.free.items - 0) h.free.items (omega arith))), (omega arith), (omega arith), (omega arith)),
       (omega arith),
       i.2,
     )
@@ -39,7 +39,7 @@ invariant_of-hearer-2 c =
     let i = c.hearer.invariant in
     let same = c.reserve.ensures.items in
     let u = c.hear.ensures in (
-      held_on h c.hear.new.cursor (roomier c.hearer.inside.cursor c.reserve.new.self same i.0) u.order u.seat u.cells,
+      agree_on h c.hear.new.cursor (roomier c.hearer.inside.cursor c.reserve.new.self same i.0) u.matches u.seat u.cells,
       i.1 ∙ sym u.cells,
       fronts_on c.hearer.inside.spares.items h.seen.items c.hear.new.cursor.seen.items u.first (subst (λ (l : List DrawopValue). AreFronts c.hearer.inside.spares.items l) (sym same) i.2),
     )
