@@ -83,10 +83,7 @@ asked_alike me delays now (Request asker name) word held a b p = from (nat_eq as
   from : (own : Bool) → TimeAlike (cond own a (event ∷ a)) (cond own b (event ∷ b))
   from true = p
   from false = time_more event a b p
-asked_alike me delays now (Draw d) word held a b p = p
-asked_alike me delays now (Session sender sent page marks echoes) word held a b p = p
-asked_alike me delays now (AskPages asker) word held a b p = p
-asked_alike me delays now (PageState sender page marks) word held a b p = p
+asked_alike me delays now datagram word held a b p = p
 
 timer_calls_alike : (me : ℕ) (delays : ℕ → ℕ) (call : KeeperCall) (a b : List Event) → TimeAlike a b → TimeAlike (timer_calls me delays call a) (timer_calls me delays call b)
 timer_calls_alike me delays (Hear now datagram word held) a b p = asked_alike me delays now datagram word held a b p

@@ -18,10 +18,6 @@ after_words-add g (suc a) b =
     let e : suc a + b ≡ suc (a + b) = omega arith in
     rw e (after_words-add (after_word g) a b)
 
-pub length-words_of : (g : Lcg) (count : ℕ) → length (words_of g count) ≡ count
-length-words_of g zero = refl
-length-words_of g (suc count) = omega (arith, length-words_of (after_word g) count)
-
 -- so many words were taken
 pub record AreTaken (old new : Lcg) (count : ℕ) (taken : List ℕ) : Type 0 where
   pub words : taken ≡ words_of old count

@@ -34,11 +34,8 @@ same_fault e f h = cc
 pub ended_well : (over : Option (Result (Unit {0}) RunFault)) (fault : Option RunFault) (u : Unit {0}) → over ≡ Some (Ok u) → fault ≡ None → IsFault over fault
 ended_well over fault u e none = subst (λ (o : Option (Result (Unit {0}) RunFault)). IsFault o fault) (sym e) none
 
-two_faults : (over : Option (Result (Unit {0}) RunFault)) (e f : RunFault) → over ≡ Some (Err e) → over ≡ Some (Err f) → e ≡ f
-two_faults over e f one other = cc
-
 pub ended_badly : (over : Option (Result (Unit {0}) RunFault)) (fault : Option RunFault) (e f : RunFault) → over ≡ Some (Err e) → over ≡ Some (Err f) → fault ≡ Some f → is_stop e ≡ false → IsFault over fault
-ended_badly over fault e f one other is going = subst (λ (o : Option (Result (Unit {0}) RunFault)). IsFault o fault) (sym other) (is, ap is_stop (sym (two_faults over e f one other)) ∙ going)
+ended_badly over fault e f one other is going = subst (λ (o : Option (Result (Unit {0}) RunFault)). IsFault o fault) (sym other) (is, let same : f ≡ e = cc in ap is_stop same ∙ going)
 
 pub not_ended : {X : Type 0} (over : Option (Result (Unit {0}) RunFault)) → over ≡ None → is_some over ≡ true → X
 not_ended None none e = absurd (false≢true e)
