@@ -8,7 +8,7 @@ use Rattle.wb_names.specs.Values.{NameValue, MarkValue}
 use Rattle.wb_names.specs.Orders.{same_name, name_cmp}
 use Rattle.wb_names.specs.declared.name.PageId.{PageId}
 use Rattle.wb_codec.specs.declared.datagram.Datagram.{Datagram}
-use Rattle.wb_codec.specs.declared.datagram.Datagram.TheVariants.{Draw, Session, Request, AskPages, PageState}
+use Rattle.wb_codec.specs.declared.datagram.Datagram.TheVariants.{Request}
 use Rattle.wb_gaps.specs.Joining.{joined}
 use Rattle.wb_recovery.specs.Timing.{noticed, asked, got, ticked}
 use Rattle.wb_recovery.specs.Events.{Event, Notice, Asked, Got, Tick, names_of, word_for, due_asks, timers_of}

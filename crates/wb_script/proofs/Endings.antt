@@ -5,7 +5,7 @@ use Rattle.wb_script.specs.declared.fault.RunFault.{RunFault}
 use Rattle.wb_script.specs.declared.fault.RunFault.TheVariants as run_faults
 use Rattle.wb_script.specs.declared.summary.Summary.{Summary}
 use Rattle.wb_lines.specs.Ahead.{Ahead, Pulls}
-use Rattle.wb_lines.specs.Input.{input_lines, MayFollow, MayRemain}
+use Rattle.wb_lines.specs.Input.{input_lines}
 use Rattle.wb_script.specs.Script.{State, start, Outcome, prints, before, outcome, Finishes, IsOutcome, is_stop, IsStop, Begins, Meets}
 use Rattle.wb_script.specs.Inside.Passing.{Leads, StopsBehind, RunsLines, RunsAll, Settles, ClosesAfter, Closes}
 use Rattle.wb_script.specs.Runs.{Runs}

@@ -14,7 +14,7 @@ use Rattle.wb_script.specs.declared.part.Part.TheVariants as parts
 use Rattle.wb_script.specs.Script.{State, IsAlone, Part, Arrival, Nothing, End, Faulty, part_of, part_in, goes, refused, by_host, after_batch, part_step, step_of, most_lines}
 use Rattle.wb_script.specs.Inside.Parts.{IsPartOf}
 use Rattle.wb_script.specs.Inside.Passing.{Passes, Stops, Ends, RunsOn}
-use Rattle.wb_script.specs.Inside.Lines.{LinesValue, EndsWith, Fronts, Says, TakesNext}
+use Rattle.wb_script.specs.Inside.Lines.{LinesValue, EndsWith, Says, TakesNext}
 use Rattle.wb_script.specs.Members.{MemberValue, IsOpenAt, MayBeOpenAt}
 use Rattle.wb_script.specs.Inside.Steps.{HostValue, IsAt, IsLeftAt, DoesStep, MayDoStep}
 use Rattle.wb_script.specs.Inside.Reading.{IsOpen, with_waiting}
