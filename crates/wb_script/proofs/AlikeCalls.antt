@@ -31,12 +31,6 @@ pub record TimeAlike (a b : List Event) : Type 0 where
   pub names : names_of a ≡ names_of b
   pub timers : (constants : Tuning) → timers_of constants a ≡ timers_of constants b
 
-time_same : (a : List Event) → TimeAlike a a
-time_same a = record { names = refl; timers = λ constants. refl }
-
-time_then : (a b c : List Event) → TimeAlike a b → TimeAlike b c → TimeAlike a c
-time_then a b c p q = record { names = p.names ∙ q.names; timers = λ constants. p.timers constants ∙ q.timers constants }
-
 asked_names : (name : NameValue) (held : Bool) (now delay word : ℕ) (a b : List Event) → names_of a ≡ names_of b → names_of (Asked name held now delay word ∷ a) ≡ names_of (Asked name held now delay word ∷ b)
 asked_names name true now delay word a b e = ap (λ (l : List NameValue). insert_key name_cmp l name) e
 asked_names name false now delay word a b e = e
@@ -105,7 +99,7 @@ pub record TellAlike (me : ℕ) (a b : List KeeperCall) : Type 0 where
   pub time : TimeAlike (events_of me a) (events_of me b)
 
 pub tell_same : (me : ℕ) (a : List KeeperCall) → TellAlike me a a
-tell_same me a = record { moment = refl; marks = refl; delays = λ source. refl; senders = refl; heard = λ source. refl; time = time_same (events_of me a) }
+tell_same me a = record { moment = refl; marks = refl; delays = λ source. refl; senders = refl; heard = λ source. refl; time = record { names = refl; timers = λ constants. refl } }
 
 tell_then : (me : ℕ) (a b c : List KeeperCall) → TellAlike me a b → TellAlike me b c → TellAlike me a c
 tell_then me a b c p q = record {
@@ -114,7 +108,7 @@ tell_then me a b c p q = record {
   delays = λ source. p.delays source ∙ q.delays source;
   senders = p.senders ∙ q.senders;
   heard = λ source. p.heard source ∙ q.heard source;
-  time = time_then (events_of me a) (events_of me b) (events_of me c) p.time q.time;
+  time = record { names = p.time.names ∙ q.time.names; timers = λ constants. p.time.timers constants ∙ q.time.timers constants };
 }
 
 pub same_delays : (me : ℕ) (a b : List KeeperCall) → TellAlike me a b → delay_to me a ≡ delay_to me b

@@ -21,7 +21,7 @@ use Rattle.wb_script.specs.Inside.Reading.{IsOpen, with_waiting}
 use Rattle.wb_script.specs.Inside.Taking.{GoesOn, TakesBatchOn}
 use Rattle.wb_lines.proofs.LineBytes.{Pulls-none, Pulls-on}
 use Rattle.wb_script.proofs.Outcomes.{as_it_came, whole_passes, last_passes, whole_stops, last_stops, never_left, stops_at_once, ends_here, Passes-then, Passes-stops}
-use Rattle.wb_script.proofs.ReadLines.{looks_on, takes_arrival, taken_end}
+use Rattle.wb_script.proofs.ReadLines.{looks_on, takes_arrival, after_taking}
 use Rattle.wb_script.proofs.Steps.{ends_empty}
 
 -- the line that was looked at is this to its batch
@@ -43,7 +43,7 @@ said_is (Some line) said is = ap part_of is
 
 -- a line that is taken pulls nothing
 pub takes_pulls : (next : Option InputLine) (ahead : Ahead) (done : ℕ) (new : LinesValue) (left : Option (List ℕ)) (failed : Bool) → TakesNext next ahead done new → Pulls ahead new.ahead left left failed failed []
-takes_pulls next ahead done new left failed t = Pulls-on ahead ahead new.ahead left left failed failed [] (taken_end next ahead done new t) (Pulls-none ahead left failed)
+takes_pulls next ahead done new left failed t = Pulls-on ahead ahead new.ahead left left failed failed [] (after_taking next ahead done new t).same_end (Pulls-none ahead left failed)
 
 -- ---- one line
 
