@@ -4,7 +4,7 @@ use Rattle.std.specs.Result.{result_ok}
 use Rattle.hex.specs.Hex.{encode_lower}
 use Rattle.hex.proofs.HexLemmas.{decode_of-encode_lower}
 use Rattle.wb_codec.specs.declared.datagram.Datagram.{Datagram}
-use Rattle.wb_codec.specs.declared.datagram.Datagram.TheVariants.{Draw, Session, Request, AskPages, PageState}
+use Rattle.wb_codec.specs.declared.datagram.Datagram.TheVariants.{Draw}
 use Rattle.wb_codec.specs.Ranges.{IsDatagram}
 use Rattle.wb_codec.specs.Spelling.{spelling}
 use Rattle.wb_codec.proofs.GrammarLaws.{reading_again}
@@ -31,13 +31,11 @@ is_sent : (v : Datagram) → IsDatagram v → hexed (words_behind Send v) ≡ Ok
 is_sent v fits = ap (hexed_sent (words_behind Send v)) (read_again (spelled v) v (fits, refl))
 
 pub words_are_turned : WordsAreTurned
-words_are_turned Arrive (Session sender sent page marks echoes) fits takes = absurd cc
-words_are_turned Arrive (Request asker name) fits takes = absurd cc
-words_are_turned Arrive (AskPages asker) fits takes = absurd cc
-words_are_turned Arrive (PageState sender page marks) fits takes = absurd cc
+words_are_turned Arrive (Draw d) fits takes = comes_in (Draw d) fits
+words_are_turned Arrive v fits takes = absurd cc
 words_are_turned Hear (Draw d) fits takes = absurd cc
+words_are_turned Hear v fits takes = comes_in v fits
 words_are_turned Send v fits takes = is_sent v fits
-words_are_turned carrier v fits takes = comes_in v fits
 
 -- ---- digits to words
 

@@ -1,19 +1,22 @@
 -- A whole script, and what a filter makes of it, line beside line.
-use Rattle.std.proofs.Common.{◌≡◌, ◌≢◌, ℕ, ◌+◌, ◌<◌, ◌≤◌, Bool, false, List, [], ◌∷◌, ◌++◌, length, Result, Ok, inl, inr, ◌⊎◌, refl, sym, ap, subst, ◌∙◌, arith, All}
+use Rattle.std.proofs.Common.{◌≡◌, ◌≢◌, ℕ, ◌+◌, ◌<◌, ◌≤◌, Bool, true, false, List, [], ◌∷◌, ◌++◌, length, Result, Ok, inl, inr, ◌⊎◌, refl, sym, ap, subst, ◌∙◌, arith, All}
 use Rattle.std.proofs.lemmas.List.Elements.{All-nil, All-cons, All-head, All-tail}
 use Rattle.wb_lines.specs.Ahead.{NoLineFeed}
 use Rattle.wb_lines.specs.Input.{InputLine, input_lines, content, most_bytes}
+use Rattle.wb_codec.specs.declared.datagram.Datagram.{Datagram}
+use Rattle.wb_codec.specs.Ranges.{IsDatagram}
+use Rattle.wb_filters.specs.declared.carrier.Carrier.{Carrier}
 use Rattle.wb_filters.specs.declared.fault.LineFault.{LineFault}
 use Rattle.wb_filters.specs.declared.filtering.Direction.{Direction}
 use Rattle.wb_filters.specs.declared.filtering.Direction.TheVariants.{Hex, Words}
 use Rattle.wb_filters.specs.declared.filtering.Filter.{Filter}
-use Rattle.wb_filters.specs.Turning.{digits_line, words_behind, hexed, worded}
+use Rattle.wb_filters.specs.Turning.{takes, digits_line, words_behind}
 use Rattle.wb_lines.specs.Driving.{Outcome, writes, rules_of, outcome_from}
 use Rattle.wb_lines.proofs.Outcomes.{short_line_taken}
 use Rattle.wb_filters.specs.Filtering.{turned, told_on, ending, ended_by, said_of, filter_step, most_lines}
-use Rattle.wb_filters.specs.Laws.{IsInWords, IsInDigits, IsOther, IsWithinLimits, Turns, WordsComeBack, DigitsComeBack}
+use Rattle.wb_filters.specs.Laws.{IsOther, IsWithinLimits, Turns, WordsComeBack, DigitsComeBack}
 use Rattle.wb_filters.proofs.TurningLaws.{words_are_turned, digits_are_turned}
-use Rattle.wb_filters.proofs.Visible.{digits_visible, digits_some, words_visible, words_some}
+use Rattle.wb_filters.proofs.Visible.{Visible, digits_visible, digits_some, words_visible, words_some}
 use Rattle.wb_lines.proofs.StandingLines.{standing, all_bytes, Stands, AreLines, reads, lines_again}
 use Rattle.wb_filters.proofs.InputText.{content_ending, SameEnd, same_end}
 
@@ -145,46 +148,29 @@ turns_to d d' line text same p q = record {
   some = λ h. same.some;
 }
 
-abbrev InWords : List ℕ → Type 0
-InWords line = IsInWords line ⊎ IsOther line
+-- a datagram in words or in digits, or no line of a datagram
+abbrev IsIn : (Carrier → Datagram → List ℕ) → List ℕ → Type 0
+IsIn form line = ((carrier : Carrier) × (v : Datagram) × IsDatagram v × (takes carrier v ≡ true) × (line ≡ form carrier v)) ⊎ IsOther line
 
-abbrev InDigits : List ℕ → Type 0
-InDigits line = IsInDigits line ⊎ IsOther line
-
-to_digits : (line : InputLine) (others : List InputLine) → Stands line others → InWords (content line) → HasTwin Hex Words InDigits line
-to_digits line others s (inr other) = record { twin = line; pair = stays Hex Words line others s other.0 other.1; form = inr other }
-to_digits line others s (inl words) =
-    let carrier = words.0 in
-    let v = words.1 in
-    let lawful = words.2 in
-    let taken = words.3 in
-    let same = same_end line (digits_line carrier v) (digits_visible carrier v lawful) (digits_some carrier v) in
+-- From the one form each line turns to the other, and back.
+turns_back : (d d' : Direction) (from to : Carrier → Datagram → List ℕ) → ((line : List ℕ) → IsOther line → (turned d line ≡ Ok line) × (turned d' line ≡ Ok line))
+    → ((carrier : Carrier) (v : Datagram) → IsDatagram v → Visible (to carrier v)) → ((carrier : Carrier) (v : Datagram) → to carrier v ≢ [])
+    → ((carrier : Carrier) (v : Datagram) → IsDatagram v → takes carrier v ≡ true → turned d (from carrier v) ≡ Ok (to carrier v))
+    → ((carrier : Carrier) (v : Datagram) → IsDatagram v → takes carrier v ≡ true → turned d' (to carrier v) ≡ Ok (from carrier v))
+    → (line : InputLine) (others : List InputLine) → Stands line others → IsIn from (content line) → HasTwin d d' (IsIn to) line
+turns_back d d' from to keeps visible some turn back line others s (inr other) =
+    let kept = keeps (content line) other in
+    record { twin = line; pair = stays d d' line others s kept.0 kept.1; form = inr other }
+turns_back d d' from to keeps visible some turn back line others s (inl (carrier, v, lawful, taken, is)) =
+    let same = same_end line (to carrier v) (visible carrier v lawful) (some carrier v) in
     record {
       twin = same.other;
-      pair = turns_to Hex Words line (digits_line carrier v) same
-          (ap hexed words.4 ∙ words_are_turned carrier v lawful taken)
-          (digits_are_turned carrier v lawful taken ∙ ap (λ (t : List ℕ). Ok t) (sym words.4));
-      form = inl (carrier, v, lawful, taken, same.content-is);
-    }
-
-to_words : (line : InputLine) (others : List InputLine) → Stands line others → InDigits (content line) → HasTwin Words Hex InWords line
-to_words line others s (inr other) = record { twin = line; pair = stays Words Hex line others s other.1 other.0; form = inr other }
-to_words line others s (inl digits) =
-    let carrier = digits.0 in
-    let v = digits.1 in
-    let lawful = digits.2 in
-    let taken = digits.3 in
-    let same = same_end line (words_behind carrier v) (words_visible carrier v lawful) (words_some carrier v) in
-    record {
-      twin = same.other;
-      pair = turns_to Words Hex line (words_behind carrier v) same
-          (ap worded digits.4 ∙ digits_are_turned carrier v lawful taken)
-          (words_are_turned carrier v lawful taken ∙ ap (λ (t : List ℕ). Ok t) (sym digits.4));
+      pair = turns_to d d' line (to carrier v) same (ap (turned d) is ∙ turn carrier v lawful taken) (back carrier v lawful taken ∙ ap (λ (t : List ℕ). Ok t) (sym is));
       form = inl (carrier, v, lawful, taken, same.content-is);
     }
 
 pub words_come_back : WordsComeBack
-words_come_back = comes_back Hex Words InWords InDigits to_digits
+words_come_back = comes_back Hex Words (IsIn words_behind) (IsIn digits_line) (turns_back Hex Words words_behind digits_line (λ line other. other) digits_visible digits_some words_are_turned digits_are_turned)
 
 pub digits_come_back : DigitsComeBack
-digits_come_back = comes_back Words Hex InDigits InWords to_words
+digits_come_back = comes_back Words Hex (IsIn digits_line) (IsIn words_behind) (turns_back Words Hex digits_line words_behind (λ line other. (other.1, other.0)) words_visible words_some digits_are_turned words_are_turned)

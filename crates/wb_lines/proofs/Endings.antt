@@ -24,32 +24,20 @@ settles_stop (writes t f) x y left e result b halts none is =
     let all : x ++ y ≡ x = ap (λ (s : List ℕ). x ++ s) none ∙ append-nil x in
     inr (rw is halts, rw all b)
 
-takes_ok : {S F : Type 0} (rules : Rules S F) (s : S) (r : Ahead) (failed : Bool) (given w w1 left : List ℕ) (m : ℕ) (result : Result ℕ (DriveFault F)) → (r.ended ≡ true → failed ≡ false)
-    → TakesLines rules s given w r failed (Ok m) → Closes (Ok m) w1 left result → TakesAll rules s r.ended failed given (w ++ w1) left result
-takes_ok rules s r failed given w w1 left m result working p q = λ more may.
-    let o : Settles (outcome rules false s given) (w ++ w1) left result = settles_then (outcome rules false s given) (stop (Ok m)) w w1 left result p.1 q in
-    rw (may.none_after_end p.0, working p.0, append-nil) o
-
-takes_read : {S F : Type 0} (rules : Rules S F) (s : S) (r : Ahead) (failed : Bool) (given w w1 left : List ℕ) (result : Result ℕ (DriveFault F))
-    → TakesLines rules s given w r failed (Err faults.Read) → Closes {F = F} (Err faults.Read) w1 left result → TakesAll rules s r.ended failed given (w ++ w1) left result
-takes_read rules s r failed given w w1 left result p q = λ more may.
-    let o : Settles (outcome rules true s given) (w ++ w1) left result = settles_then (outcome rules true s given) (stop (Err faults.Read)) w w1 left result p.2 q in
-    rw (may.none_after_failure p.0, p.0, append-nil) o
-
-follows : (ended failed : Bool) (more : List ℕ) → (ended ≡ true → failed ≡ false) → MayRemain ended failed more → MayFollow ended more failed
+pub follows : (ended failed : Bool) (more : List ℕ) → (ended ≡ true → failed ≡ false) → MayRemain ended failed more → MayFollow ended more failed
 follows ended failed more working may = λ e. (may.none_after_end e, working e)
-
-takes_err : {S F : Type 0} (rules : Rules S F) (s : S) (r : Ahead) (failed : Bool) (given w w1 left : List ℕ) (e : DriveFault F) (result : Result ℕ (DriveFault F)) → (r.ended ≡ true → failed ≡ false)
-    → TakesLines rules s given w r failed (Err e) → Closes (Err e) w1 left result → TakesAll rules s r.ended failed given (w ++ w1) left result
-takes_err rules s r failed given w w1 left faults.Read result working p q = takes_read rules s r failed given w w1 left result p q
-takes_err rules s r failed given w w1 left faults.Endless result working p q = λ more may. settles_then (outcome rules failed s (given ++ more)) (stop (Err faults.Endless)) w w1 left result (p more failed (follows r.ended failed more working may)) q
-takes_err rules s r failed given w w1 left (faults.Line n e) result working p q = λ more may. settles_then (outcome rules failed s (given ++ more)) (stop (Err (faults.Line n e))) w w1 left result (p more failed (follows r.ended failed more working may)) q
-takes_err rules s r failed given w w1 left e result working p q = λ more may. settles_stop (outcome rules failed s (given ++ more)) w w1 left e result (p more failed (follows r.ended failed more working may)) tt q.0 q.1
 
 takes_all : {S F : Type 0} (rules : Rules S F) (s : S) (r : Ahead) (failed : Bool) (given w w1 left : List ℕ) (ending result : Result ℕ (DriveFault F)) → (r.ended ≡ true → failed ≡ false)
     → TakesLines rules s given w r failed ending → Closes ending w1 left result → TakesAll rules s r.ended failed given (w ++ w1) left result
-takes_all rules s r failed given w w1 left (Ok m) result working p q = takes_ok rules s r failed given w w1 left m result working p q
-takes_all rules s r failed given w w1 left (Err e) result working p q = takes_err rules s r failed given w w1 left e result working p q
+takes_all rules s r failed given w w1 left (Ok m) result working p q = λ more may.
+    let o : Settles (outcome rules false s given) (w ++ w1) left result = settles_then (outcome rules false s given) (stop (Ok m)) w w1 left result p.1 q in
+    rw (may.none_after_end p.0, working p.0, append-nil) o
+takes_all rules s r failed given w w1 left (Err faults.Read) result working p q = λ more may.
+    let o : Settles (outcome rules true s given) (w ++ w1) left result = settles_then (outcome rules true s given) (stop (Err faults.Read)) w w1 left result p.2 q in
+    rw (may.none_after_failure p.0, p.0, append-nil) o
+takes_all rules s r failed given w w1 left (Err faults.Endless) result working p q = λ more may. settles_then (outcome rules failed s (given ++ more)) (stop (Err faults.Endless)) w w1 left result (p more failed (follows r.ended failed more working may)) q
+takes_all rules s r failed given w w1 left (Err (faults.Line n e)) result working p q = λ more may. settles_then (outcome rules failed s (given ++ more)) (stop (Err (faults.Line n e))) w w1 left result (p more failed (follows r.ended failed more working may)) q
+takes_all rules s r failed given w w1 left (Err e) result working p q = λ more may. settles_stop (outcome rules failed s (given ++ more)) w w1 left e result (p more failed (follows r.ended failed more working may)) tt q.0 q.1
 
 -- what was sent of a text is all of it, or a front where the driver stopped
 sent_of : {F : Type 0} (o : Outcome F) (text sent left : List ℕ) (result : Result ℕ (DriveFault F)) → text ≡ sent ++ left → Settles o text left result → Meets o sent result

@@ -13,12 +13,9 @@ use Rattle.wb_lines.specs.Driving.{Rules, Outcome, writes, stop, proceed, outcom
 use Rattle.wb_lines.specs.Steps.{fault_of, StartsLong, Leads, Begins, ahead, Stops, TakesLine}
 use Rattle.wb_lines.proofs.InputLines.{StartsLine, starts_line, input_lines-whole, input_lines-last, whole_line, last_line}
 use Rattle.wb_lines.proofs.LineBytes.{NoLineFeed-append}
-use Rattle.wb_lines.proofs.Outcomes.{Leads-before, written_of, OfStep, halts}
+use Rattle.wb_lines.proofs.Outcomes.{Leads-before, written_of, OfStep, halts, few_lines}
 
 -- ---- the line that such bytes begin
-
-few_lines : (most n : ℕ) → n < most → nat_lt n most ≡ true
-few_lines most n few = grind (arith, nat_tests)
 
 not_short : (n : ℕ) → most_bytes < n → nat_le n most_bytes ≡ false
 not_short n long = grind (arith, nat_tests)

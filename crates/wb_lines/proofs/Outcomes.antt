@@ -90,13 +90,13 @@ takes rules is_at n s read printed reader failed (goes text next) (Ok u) h d = (
 takes rules is_at n s read printed reader failed step (Err e) h d = halts rules n s read printed reader failed is_at step e (λ more cut may. (λ next. ahead rules cut (n + 1) next (reader.bytes ++ more), h more cut may)) d
 takes rules is_at n s read printed reader failed step (Ok u) h d = absurd d
 
-few_lines : (most n : ℕ) → n < most → nat_lt n most ≡ true
+pub few_lines : (most n : ℕ) → n < most → nat_lt n most ≡ true
 few_lines most n few = grind (arith, nat_tests)
 
-short_line : (line : List ℕ) → length line ≤ most_bytes → nat_le (length line) most_bytes ≡ true
+pub short_line : (line : List ℕ) → length line ≤ most_bytes → nat_le (length line) most_bytes ≡ true
 short_line line short = grind (arith, nat_tests)
 
-passed_line : (line : List ℕ) → length line ≤ most_bytes → nat_lt (length line) most_passed ≡ true
+pub passed_line : (line : List ℕ) → length line ≤ most_bytes → nat_lt (length line) most_passed ≡ true
 passed_line line short = grind (arith, nat_tests)
 
 or_true : (b : Bool) → (b || true) ≡ true
@@ -128,9 +128,6 @@ last_meant rules n s read line reader few is some e none ended = λ more cut may
 
 pub unwritten_stops : {S F : Type 0} (rules : Rules S F) (n : ℕ) (s : S) (read : List ℕ) (reader : Ahead) (failed : Bool) → Stops rules n s read [] reader failed faults.Write
 unwritten_stops rules n s read reader failed = λ more cut may. Begins-nil (ahead rules cut n s (read ++ more))
-
-pub memory_stops : {S F : Type 0} (rules : Rules S F) (n : ℕ) (s : S) (read : List ℕ) (reader : Ahead) (failed : Bool) → Stops rules n s read [] reader failed faults.Memory
-memory_stops rules n s read reader failed = λ more cut may. Begins-nil (ahead rules cut n s (read ++ more))
 
 pub ends_here : {S F : Type 0} (rules : Rules S F) (n : ℕ) (s : S) (read : List ℕ) (reader : Ahead) → read ≡ [] → reader.ended ≡ true → Ends rules n s read [] n reader
 ends_here rules n s read reader e ended = (ended, Leads-is (ahead rules false n s read) (stop (Ok n)) (ap (λ (t : List ℕ). ahead rules false n s t) e))
@@ -169,53 +166,42 @@ Joins mid reader given = (mid.ended ≡ true → given ≡ []) × (mid.ended ≡
 follows_more : (mid reader : Ahead) (given more : List ℕ) (cut : Bool) → Joins mid reader given → MayFollow reader.ended more cut → MayFollow mid.ended (given ++ more) cut
 follows_more mid reader given more cut j may = λ e. let m = may (j.1 e) in (ap (λ (t : List ℕ). t ++ more) (j.0 e) ∙ m.0, m.1)
 
-link : {S F : Type 0} (rules : Rules S F) (cut : Bool) (a b : ℕ) (s t : S) (mid reader : Ahead) (read given more w : List ℕ)
-    → Joins mid reader given → Passes rules a s read w b t mid → MayFollow reader.ended more cut
-    → Leads (ahead rules cut a s ((read ++ given) ++ more)) w (ahead rules cut b t ((mid.bytes ++ given) ++ more))
-link rules cut a b s t mid reader read given more w j p may =
-    rw (append_assoc read given more, append_assoc mid.bytes given more) (p (given ++ more) cut (follows_more mid reader given more cut j may))
-
-then_passes : {S F : Type 0} (rules : Rules S F) (a b c : ℕ) (s t u : S) (mid reader : Ahead) (read given w w1 : List ℕ)
-    → Joins mid reader given → Passes rules a s read w b t mid → Passes rules b t (mid.bytes ++ given) w1 c u reader → Passes rules a s (read ++ given) (w ++ w1) c u reader
-then_passes rules a b c s t u mid reader read given w w1 j p q = λ more cut may.
-    Leads-then (ahead rules cut a s ((read ++ given) ++ more)) (ahead rules cut b t ((mid.bytes ++ given) ++ more)) (ahead rules cut c u (reader.bytes ++ more)) w w1 (link rules cut a b s t mid reader read given more w j p may) (q more cut may)
-
-then_ends : {S F : Type 0} (rules : Rules S F) (a b m : ℕ) (s t : S) (mid reader : Ahead) (read given w w1 : List ℕ)
-    → Joins mid reader given → Passes rules a s read w b t mid → Ends rules b t (mid.bytes ++ given) w1 m reader → Ends rules a s (read ++ given) (w ++ w1) m reader
-then_ends rules a b m s t mid reader read given w w1 j p q =
-    (q.0, Leads-then (ahead rules false a s (read ++ given)) (ahead rules false b t (mid.bytes ++ given)) (stop (Ok m)) w w1 (p given false (λ e. (j.0 e, refl))) q.1)
-
-begins_then : {S F : Type 0} (rules : Rules S F) (a b : ℕ) (s t : S) (mid reader : Ahead) (read given w w1 : List ℕ)
-    → Joins mid reader given → Passes rules a s read w b t mid → Always rules b t (mid.bytes ++ given) reader (λ o. Begins o w1) → Always rules a s (read ++ given) reader (λ o. Begins o (w ++ w1))
-begins_then rules a b s t mid reader read given w w1 j p q = λ more cut may.
-    Begins-then (ahead rules cut a s ((read ++ given) ++ more)) (ahead rules cut b t ((mid.bytes ++ given) ++ more)) w w1 (link rules cut a b s t mid reader read given more w j p may) (q more cut may)
-
-leads_then : {S F : Type 0} (rules : Rules S F) (a b : ℕ) (s t : S) (mid reader : Ahead) (read given w w1 : List ℕ) (last : Outcome F)
-    → Joins mid reader given → Passes rules a s read w b t mid → Always rules b t (mid.bytes ++ given) reader (λ o. Leads o w1 last) → Always rules a s (read ++ given) reader (λ o. Leads o (w ++ w1) last)
-leads_then rules a b s t mid reader read given w w1 last j p q = λ more cut may.
-    Leads-then (ahead rules cut a s ((read ++ given) ++ more)) (ahead rules cut b t ((mid.bytes ++ given) ++ more)) last w w1 (link rules cut a b s t mid reader read given more w j p may) (q more cut may)
-
-then_stops : {S F : Type 0} (rules : Rules S F) (a b : ℕ) (s t : S) (mid reader : Ahead) (read given w w1 : List ℕ) (failed : Bool) (e : DriveFault F)
-    → Joins mid reader given → Passes rules a s read w b t mid → Stops rules b t (mid.bytes ++ given) w1 reader failed e → Stops rules a s (read ++ given) (w ++ w1) reader failed e
-then_stops rules a b s t mid reader read given w w1 failed faults.Endless j p q = leads_then rules a b s t mid reader read given w w1 (stop (Err faults.Endless)) j p q
-then_stops rules a b s t mid reader read given w w1 failed (faults.Line k e) j p q = leads_then rules a b s t mid reader read given w w1 (stop (Err (faults.Line k e))) j p q
-then_stops rules a b s t mid reader read given w w1 failed faults.Read j p q =
-    (q.0, q.1, Leads-then (ahead rules true a s (read ++ given)) (ahead rules true b t (mid.bytes ++ given)) (stop (Err faults.Read)) w w1 (p given true (λ e. absurd (false≢true (sym q.1 ∙ j.1 e)))) q.2)
-then_stops rules a b s t mid reader read given w w1 failed e j p q = begins_then rules a b s t mid reader read given w w1 j p q
-
--- ---- from the start on
+link : {S F : Type 0} (rules : Rules S F) (cut : Bool) (a b : ℕ) (s t : S) (mid reader : Ahead) (bytes pulled given more w : List ℕ)
+    → Joins mid reader given → Passes rules a s (bytes ++ pulled) w b t mid → MayFollow reader.ended more cut
+    → Leads (ahead rules cut a s ((bytes ++ (pulled ++ given)) ++ more)) w (ahead rules cut b t ((mid.bytes ++ given) ++ more))
+link rules cut a b s t mid reader bytes pulled given more w j p may =
+    let all : (bytes ++ (pulled ++ given)) ++ more ≡ (bytes ++ pulled) ++ (given ++ more) = ap (λ (x : List ℕ). x ++ more) (sym (append_assoc bytes pulled given)) ∙ append_assoc (bytes ++ pulled) given more in
+    rw (all, append_assoc mid.bytes given more) (p (given ++ more) cut (follows_more mid reader given more cut j may))
 
 pub Passes-then : {S F : Type 0} (rules : Rules S F) (a b c : ℕ) (s t u : S) (mid reader : Ahead) (bytes pulled given w w1 : List ℕ)
     → Joins mid reader given → Passes rules a s (bytes ++ pulled) w b t mid → Passes rules b t (mid.bytes ++ given) w1 c u reader → Passes rules a s (bytes ++ (pulled ++ given)) (w ++ w1) c u reader
-Passes-then rules a b c s t u mid reader bytes pulled given w w1 j p q =
-    subst (λ (x : List ℕ). Passes rules a s x (w ++ w1) c u reader) (append_assoc bytes pulled given) (then_passes rules a b c s t u mid reader (bytes ++ pulled) given w w1 j p q)
+Passes-then rules a b c s t u mid reader bytes pulled given w w1 j p q = λ more cut may.
+    Leads-then (ahead rules cut a s ((bytes ++ (pulled ++ given)) ++ more)) (ahead rules cut b t ((mid.bytes ++ given) ++ more)) (ahead rules cut c u (reader.bytes ++ more)) w w1 (link rules cut a b s t mid reader bytes pulled given more w j p may) (q more cut may)
+
+-- where nothing more comes
+link_last : {S F : Type 0} (rules : Rules S F) (cut : Bool) (a b : ℕ) (s t : S) (mid : Ahead) (bytes pulled given w : List ℕ) → MayFollow mid.ended given cut → Passes rules a s (bytes ++ pulled) w b t mid
+    → Leads (ahead rules cut a s (bytes ++ (pulled ++ given))) w (ahead rules cut b t (mid.bytes ++ given))
+link_last rules cut a b s t mid bytes pulled given w may p = subst (λ (x : List ℕ). Leads (ahead rules cut a s x) w (ahead rules cut b t (mid.bytes ++ given))) (append_assoc bytes pulled given) (p given cut may)
 
 pub Passes-ends : {S F : Type 0} (rules : Rules S F) (a b m : ℕ) (s t : S) (mid reader : Ahead) (bytes pulled given w w1 : List ℕ)
     → Joins mid reader given → Passes rules a s (bytes ++ pulled) w b t mid → Ends rules b t (mid.bytes ++ given) w1 m reader → Ends rules a s (bytes ++ (pulled ++ given)) (w ++ w1) m reader
 Passes-ends rules a b m s t mid reader bytes pulled given w w1 j p q =
-    subst (λ (x : List ℕ). Ends rules a s x (w ++ w1) m reader) (append_assoc bytes pulled given) (then_ends rules a b m s t mid reader (bytes ++ pulled) given w w1 j p q)
+    (q.0, Leads-then (ahead rules false a s (bytes ++ (pulled ++ given))) (ahead rules false b t (mid.bytes ++ given)) (stop (Ok m)) w w1 (link_last rules false a b s t mid bytes pulled given w (λ e. (j.0 e, refl)) p) q.1)
+
+begins_then : {S F : Type 0} (rules : Rules S F) (a b : ℕ) (s t : S) (mid reader : Ahead) (bytes pulled given w w1 : List ℕ)
+    → Joins mid reader given → Passes rules a s (bytes ++ pulled) w b t mid → Always rules b t (mid.bytes ++ given) reader (λ o. Begins o w1) → Always rules a s (bytes ++ (pulled ++ given)) reader (λ o. Begins o (w ++ w1))
+begins_then rules a b s t mid reader bytes pulled given w w1 j p q = λ more cut may.
+    Begins-then (ahead rules cut a s ((bytes ++ (pulled ++ given)) ++ more)) (ahead rules cut b t ((mid.bytes ++ given) ++ more)) w w1 (link rules cut a b s t mid reader bytes pulled given more w j p may) (q more cut may)
+
+leads_then : {S F : Type 0} (rules : Rules S F) (a b : ℕ) (s t : S) (mid reader : Ahead) (bytes pulled given w w1 : List ℕ) (last : Outcome F)
+    → Joins mid reader given → Passes rules a s (bytes ++ pulled) w b t mid → Always rules b t (mid.bytes ++ given) reader (λ o. Leads o w1 last) → Always rules a s (bytes ++ (pulled ++ given)) reader (λ o. Leads o (w ++ w1) last)
+leads_then rules a b s t mid reader bytes pulled given w w1 last j p q = λ more cut may.
+    Leads-then (ahead rules cut a s ((bytes ++ (pulled ++ given)) ++ more)) (ahead rules cut b t ((mid.bytes ++ given) ++ more)) last w w1 (link rules cut a b s t mid reader bytes pulled given more w j p may) (q more cut may)
 
 pub Passes-stops : {S F : Type 0} (rules : Rules S F) (a b : ℕ) (s t : S) (mid reader : Ahead) (bytes pulled given w w1 : List ℕ) (failed : Bool) (e : DriveFault F)
     → Joins mid reader given → Passes rules a s (bytes ++ pulled) w b t mid → Stops rules b t (mid.bytes ++ given) w1 reader failed e → Stops rules a s (bytes ++ (pulled ++ given)) (w ++ w1) reader failed e
-Passes-stops rules a b s t mid reader bytes pulled given w w1 failed e j p q =
-    subst (λ (x : List ℕ). Stops rules a s x (w ++ w1) reader failed e) (append_assoc bytes pulled given) (then_stops rules a b s t mid reader (bytes ++ pulled) given w w1 failed e j p q)
+Passes-stops rules a b s t mid reader bytes pulled given w w1 failed faults.Endless j p q = leads_then rules a b s t mid reader bytes pulled given w w1 (stop (Err faults.Endless)) j p q
+Passes-stops rules a b s t mid reader bytes pulled given w w1 failed (faults.Line k e) j p q = leads_then rules a b s t mid reader bytes pulled given w w1 (stop (Err (faults.Line k e))) j p q
+Passes-stops rules a b s t mid reader bytes pulled given w w1 failed faults.Read j p q =
+    (q.0, q.1, Leads-then (ahead rules true a s (bytes ++ (pulled ++ given))) (ahead rules true b t (mid.bytes ++ given)) (stop (Err faults.Read)) w w1 (link_last rules true a b s t mid bytes pulled given w (λ e. absurd (false≢true (sym q.1 ∙ j.1 e))) p) q.2)
+Passes-stops rules a b s t mid reader bytes pulled given w w1 failed e j p q = begins_then rules a b s t mid reader bytes pulled given w w1 j p q

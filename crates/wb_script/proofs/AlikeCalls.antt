@@ -8,7 +8,7 @@ use Rattle.wb_names.specs.Values.{NameValue, MarkValue}
 use Rattle.wb_names.specs.Orders.{same_name, name_cmp}
 use Rattle.wb_names.specs.declared.name.PageId.{PageId}
 use Rattle.wb_codec.specs.declared.datagram.Datagram.{Datagram}
-use Rattle.wb_codec.specs.declared.datagram.Datagram.TheVariants.{Draw, Session, Request, AskPages, PageState}
+use Rattle.wb_codec.specs.declared.datagram.Datagram.TheVariants.{Request}
 use Rattle.wb_gaps.specs.Joining.{joined}
 use Rattle.wb_recovery.specs.Timing.{noticed, asked, got, ticked}
 use Rattle.wb_recovery.specs.Events.{Event, Notice, Asked, Got, Tick, names_of, word_for, due_asks, timers_of}
@@ -30,12 +30,6 @@ use Rattle.wb_host.proofs.FreeArrivals.{comes, timers_alike}
 pub record TimeAlike (a b : List Event) : Type 0 where
   pub names : names_of a ≡ names_of b
   pub timers : (constants : Tuning) → timers_of constants a ≡ timers_of constants b
-
-time_same : (a : List Event) → TimeAlike a a
-time_same a = record { names = refl; timers = λ constants. refl }
-
-time_then : (a b c : List Event) → TimeAlike a b → TimeAlike b c → TimeAlike a c
-time_then a b c p q = record { names = p.names ∙ q.names; timers = λ constants. p.timers constants ∙ q.timers constants }
 
 asked_names : (name : NameValue) (held : Bool) (now delay word : ℕ) (a b : List Event) → names_of a ≡ names_of b → names_of (Asked name held now delay word ∷ a) ≡ names_of (Asked name held now delay word ∷ b)
 asked_names name true now delay word a b e = ap (λ (l : List NameValue). insert_key name_cmp l name) e
@@ -83,10 +77,7 @@ asked_alike me delays now (Request asker name) word held a b p = from (nat_eq as
   from : (own : Bool) → TimeAlike (cond own a (event ∷ a)) (cond own b (event ∷ b))
   from true = p
   from false = time_more event a b p
-asked_alike me delays now (Draw d) word held a b p = p
-asked_alike me delays now (Session sender sent page marks echoes) word held a b p = p
-asked_alike me delays now (AskPages asker) word held a b p = p
-asked_alike me delays now (PageState sender page marks) word held a b p = p
+asked_alike me delays now datagram word held a b p = p
 
 timer_calls_alike : (me : ℕ) (delays : ℕ → ℕ) (call : KeeperCall) (a b : List Event) → TimeAlike a b → TimeAlike (timer_calls me delays call a) (timer_calls me delays call b)
 timer_calls_alike me delays (Hear now datagram word held) a b p = asked_alike me delays now datagram word held a b p
@@ -108,7 +99,7 @@ pub record TellAlike (me : ℕ) (a b : List KeeperCall) : Type 0 where
   pub time : TimeAlike (events_of me a) (events_of me b)
 
 pub tell_same : (me : ℕ) (a : List KeeperCall) → TellAlike me a a
-tell_same me a = record { moment = refl; marks = refl; delays = λ source. refl; senders = refl; heard = λ source. refl; time = time_same (events_of me a) }
+tell_same me a = record { moment = refl; marks = refl; delays = λ source. refl; senders = refl; heard = λ source. refl; time = record { names = refl; timers = λ constants. refl } }
 
 tell_then : (me : ℕ) (a b c : List KeeperCall) → TellAlike me a b → TellAlike me b c → TellAlike me a c
 tell_then me a b c p q = record {
@@ -117,7 +108,7 @@ tell_then me a b c p q = record {
   delays = λ source. p.delays source ∙ q.delays source;
   senders = p.senders ∙ q.senders;
   heard = λ source. p.heard source ∙ q.heard source;
-  time = time_then (events_of me a) (events_of me b) (events_of me c) p.time q.time;
+  time = record { names = p.time.names ∙ q.time.names; timers = λ constants. p.time.timers constants ∙ q.time.timers constants };
 }
 
 pub same_delays : (me : ℕ) (a b : List KeeperCall) → TellAlike me a b → delay_to me a ≡ delay_to me b

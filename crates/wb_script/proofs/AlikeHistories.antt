@@ -1,10 +1,11 @@
 -- Two histories with the same drawops: what a script's lines read off them is the same.
-use Rattle.std.proofs.Common.{◌≡◌, ℕ, Bool, List, Option, refl, sym, ap, ◌∙◌, ⊎_elim, eqb-true, Contains, Any, IsPermutation, map, filter, nat_lt, option_map, is_eq, nat_cmp}
+use Rattle.std.proofs.Common.{◌≡◌, ℕ, Bool, List, [], Option, refl, sym, ap, ◌∙◌, ⊎_elim, eqb-true, Contains, Any, IsPermutation, map, filter, nat_lt, option_map, is_eq, nat_cmp}
 use Rattle.std.specs.Cmp.{nat_cmp_total}
 use Rattle.std.proofs.Math.Path.{fun_ext}
-use Rattle.std.proofs.lemmas.List.Sorted.{Contains-permutation, IsPermutation-sym, list_any-IsPermutation}
+use Rattle.std.proofs.lemmas.List.Sorted.{Contains-permutation, IsPermutation-refl, IsPermutation-sym, list_any-IsPermutation}
 use Rattle.wb_names.specs.Values.{NameValue, DrawopValue, MarkValue}
 use Rattle.wb_names.specs.Orders.{same_name, same_page}
+use Rattle.wb_names.specs.Arrivals.{history_after}
 use Rattle.wb_names.specs.History.{IsHistory, IsHeld, HoldsName, highest}
 use Rattle.wb_names.specs.declared.name.PageId.{PageId}
 use Rattle.wb_names.specs.declared.gap.Gap.{Gap}
@@ -32,7 +33,8 @@ use Rattle.wb_script.specs.declared.query.Query.{Query}
 use Rattle.wb_script.specs.declared.query.Query.TheVariants.{Canvas, Gaps, Report, Pages}
 use Rattle.wb_script.specs.Answers.{gaps_text, report_text, pages_text, answer_text}
 use Rattle.wb_script.specs.Queries.{view_of}
-use Rattle.wb_script.proofs.FreeArrivals.{found}
+use Rattle.wb_script.specs.Laws.{AnswersAreFree, PrintsAreFree}
+use Rattle.wb_script.proofs.FreeArrivals.{found, arrivals_are_free, once_held}
 use Rattle.wb_script.proofs.Queries.{view_of_page}
 
 -- each name stands once in either, and the one is the other in some order
@@ -129,3 +131,13 @@ answer_alike marks one other (Canvas page width height) a =
 answer_alike marks one other (Gaps page) a = ap (λ (gaps : List Gap). gaps_text gaps) (gaps_alike one other page (marks page) a)
 answer_alike marks one other (Report page) a = ap (λ (m : List MarkValue). report_text m) (report_alike one other page a)
 answer_alike marks one other Pages a = ap (λ (pages : List PageId). pages_text pages) (pages_alike one other a)
+
+-- ---- laws of what is printed
+
+pub answers_are_free : AnswersAreFree
+answers_are_free marks one other query a b moved = answer_alike marks one other query (record { once = a.once; again = b.once; moved = moved })
+
+pub prints_are_free : PrintsAreFree
+prints_are_free marks cells ds es query few moved clash room =
+    answer_alike marks (history_after cells [] ds) (history_after cells [] es) query
+    (record { once = once_held cells ds ds (IsPermutation-refl ds) clash room; again = once_held cells ds es moved clash room; moved = arrivals_are_free cells ds es moved clash room })

@@ -17,9 +17,7 @@ use Rattle.wb_script.proofs.AlikeActs.{holding, DoAlike, act_alike}
 use Rattle.wb_script.proofs.AlikeBatches.{after_alike, after_within, host_after_alike, batch_text_alike}
 use Rattle.wb_script.proofs.AlikeHistories.{AreAlike}
 use Rattle.wb_script.proofs.FreeArrivals.{Among, no_history}
-
-abbrev pub state : Option ℕ → Option Opened → List DrawopValue → State
-state k host waiting = record { host = host; workers = k; waiting = waiting }
+use Rattle.wb_script.proofs.ReorderedLines.{state}
 
 pub none_among : (all : List DrawopValue) → Among [] all
 none_among all x c = absurd (Contains-none x c)

@@ -8,9 +8,10 @@ use Rattle.wb_script.specs.Laws.{NoneClash, HasCells}
 use Rattle.wb_lines.specs.Input.{InputLine, input_lines}
 use Rattle.wb_script.specs.Script.{State, start, Part, part_in, Step, goes, refused, part_step, finish}
 use Rattle.wb_script.specs.Shows.{arrived_by, arrivals_of, cells_of}
-use Rattle.wb_script.proofs.AlikeLines.{state, none_among, AreCells, StatesAlike, StepsAlike as LinesAlike, part_alike, ends_alike}
+use Rattle.wb_script.proofs.AlikeLines.{none_among, AreCells, StatesAlike, StepsAlike as LinesAlike, part_alike, ends_alike}
 use Rattle.wb_script.proofs.FreeArrivals.{Among}
 use Rattle.wb_script.proofs.OneWorker.{one_thread_is_free}
+use Rattle.wb_script.proofs.ReorderedLines.{state}
 use Rattle.wb_script.proofs.Simulations.{EndsAlike, StepsAlike, Simulates, simulated}
 
 module _ (cells : ℕ) (all : List DrawopValue) (clash : NoneClash all) (room : HasCells cells all) where

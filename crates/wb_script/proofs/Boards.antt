@@ -30,10 +30,6 @@ kept b p q owns same sound rows = record {
 
 -- ---- a batch
 
--- a desk that took a batch still owns all rows
-pub owns_after : (b : HistoryValue) (p q : PassValue) (batch : List DrawopValue) (workers : ℕ) (n : Batch) → OwnsAll b p → DeskKeeps p q → IsSound q → Takes p batch workers q n → OwnsAll b q
-owns_after b p q batch workers n owns keeps sound takes = record { from = keeps.same.0 ∙ owns.from; whole = takes.whole owns.whole; sound = sound }
-
 -- one thread that takes it in this order
 in_order : (p q : PassValue) (h : Held) (workers : ℕ) (batch order : List DrawopValue) (n : Batch) → held_of p ≡ h → IsSound p → q.cells ≡ p.cells → IsPermutation batch order → (workers ≤ 1 → order ≡ batch) → IsInOrder p order q n → TakesAll h workers batch (held_of q) (counts_in n)
 in_order p q h workers batch order n view sound cells moved alone taken =

@@ -7,6 +7,7 @@ use Rattle.wb_lines.specs.Input.{InputLine, input_lines, content, most_bytes}
 use Rattle.wb_lines.specs.Handling.{Met, whole, too_long, Step, ends}
 use Rattle.wb_lines.specs.Taking.{most_passed}
 use Rattle.wb_lines.specs.Driving.{Outcome, writes, rules_of, before, stop, proceed, outcome_from}
+use Rattle.wb_lines.proofs.Outcomes.{few_lines, short_line, passed_line}
 use Rattle.wb_script.specs.declared.fault.LineFault.{LineFault}
 use Rattle.wb_script.specs.declared.fault.RunFault.{RunFault}
 use Rattle.wb_script.specs.declared.command.Command.{Command}
@@ -76,17 +77,8 @@ parses_line number line = record { on_whole = refl; on_long = refl }
 few_of : (n : ℕ) → nat_lt n most_lines ≡ true → n < most_lines
 few_of n e = grind (arith, nat_tests)
 
-few_is : (n : ℕ) → n < most_lines → nat_lt n most_lines ≡ true
-few_is n e = grind (arith, nat_tests)
-
 short_of : (k : ℕ) → nat_le k most_bytes ≡ true → k ≤ most_bytes
 short_of k e = grind (arith, nat_tests)
-
-short_is : (k : ℕ) → k ≤ most_bytes → nat_le k most_bytes ≡ true
-short_is k e = grind (arith, nat_tests)
-
-passed_is : (k : ℕ) → k ≤ most_bytes → nat_lt k most_passed ≡ true
-passed_is k e = grind (arith, nat_tests)
 
 ok_of : (n m : ℕ) (a b : Result ℕ RunFault) → a ≡ Ok n → b ≡ Ok m → a ≡ b → m ≡ n
 ok_of n m a b p q e = cc
@@ -117,7 +109,7 @@ counts n (line ∷ lines) few short parsed =
     let rest = counts (n + 1) lines (omega arith) (All-tail IsShort line lines short) (All-tail IsParsed line lines parsed) in
     let all : n + 1 + length lines ≡ n + length (line ∷ lines) = omega arith in
     passes (nat_lt n most_lines) (nat_le (length line.bytes) most_bytes) (nat_lt (length line.bytes) most_passed) (n + 1) (check_step tt (n + 1)) line (line_of (content line)) (outcome_from (rules_of check_step most_lines) false (n + 1) tt lines) (parses_line (n + 1) line)
-    (few_is n (omega arith)) (short_is (length line.bytes) here) (passed_is (length line.bytes) here) (All-head IsParsed line lines parsed)
+    (few_lines most_lines n (omega arith)) (short_line line.bytes here) (passed_line line.bytes here) (All-head IsParsed line lines parsed)
     ∙ rest ∙ ap (λ (k : ℕ). Ok k) all
 
 pub counts_lines : CountsLines

@@ -8,7 +8,7 @@ use Rattle.wb_script.specs.declared.fault.RunFault.{RunFault}
 use Rattle.wb_script.specs.declared.fault.RunFault.TheVariants as run_faults
 use Rattle.wb_script.specs.Parsing.{line_of}
 use Rattle.wb_lines.specs.Ahead.{Ahead, IsLine}
-use Rattle.wb_script.specs.Inside.Lines.{LinesValue, EndsWith, Fronts}
+use Rattle.wb_script.specs.Inside.Lines.{LinesValue, EndsWith}
 use Rattle.wb_script.specs.Hosts.{Opened, host_after, batch_text, Act, does, fails, act}
 use Rattle.wb_lines.specs.Input.{InputLine, input_lines, content, MayFollow}
 use Rattle.wb_script.specs.Script.{IsOutcomeFrom, State, MayBeTaken, Closing, Opens, Acts, Faulty, Part, End, part_of, part_in, refused, by_host, after_batch, closing_text, step_by, closing_step, part_step, Outcome, prints, before, answer, finish, Finishes, Proceeds, fault_at, Continues}
@@ -99,9 +99,6 @@ first_of false bytes ahead rest more cut is stands same follow =
     let f = follow (sym same ∙ stands.3) in
     ([], ap (λ (t : List ℕ). input_lines (t ++ more)) stands.0 ∙ ap (λ (t : List ℕ). input_lines (bytes ++ t)) f.0 ∙ ap input_lines (append-nil bytes) ∙ input_lines-last bytes is.no_line_feed stands.1)
 
-first_line : (line : InputLine) (ahead rest : Ahead) (more : List ℕ) (cut : Bool) → Fronts ahead line rest → MayFollow ahead.ended more cut → (others : List InputLine) × (input_lines (ahead.bytes ++ more) ≡ line ∷ others)
-first_line line ahead rest more cut fronts follow = first_of line.ended line.bytes ahead rest more cut fronts.is_line fronts.stands fronts.same_end follow
-
 abbrev if_cut : Bool → ℕ → Result ℕ RunFault
 if_cut cut n = if cut then Err run_faults.Read else Ok n
 
@@ -118,7 +115,8 @@ end_before None ahead n s order opened may ends = λ more cut follow o p.
     let here : Finishes (after_batch s order) (if_cut cut n) o = subst (λ (ls : List InputLine). IsOutcomeFrom cut n (after_batch s order) ls o) nothing p in
     subst (λ (ls : List InputLine). IsOutcomeFrom cut n s ls (before (closing_text s order) o)) (sym nothing) (finish_leads s order (if_cut cut n) opened may o here)
 end_before (Some line) ahead n s order opened may ends = λ more cut follow o p.
-    let split = first_line line ahead ends.1.0 more cut ends.1.1 follow in
+    let fronts = ends.1.1 in
+    let split = first_of line.ended line.bytes ahead ends.1.0 more cut fronts.is_line fronts.stands fronts.same_end follow in
     subst (λ (ls : List InputLine). IsOutcomeFrom cut n s ls (before (closing_text s order) o)) (sym split.1)
     (lines_behind cut n s order line split.0 o opened may ends.0 (subst (λ (ls : List InputLine). IsOutcomeFrom cut n (after_batch s order) ls o) split.1 p))
 

@@ -1,5 +1,5 @@
 -- What a script shows at its end is the canvas of all its arrivals.
-use Rattle.std.proofs.Common.{◌≡◌, ℕ, ◌+◌, Bool, true, false, cond, List, [], ◌∷◌, ◌++◌, length, Result, Ok, Err, refl, sym, ap, ◌∙◌, subst, append_assoc, Option, Some, None, IsPermutation, nat_lt, ◌||◌, unwrap_or, append-nil}
+use Rattle.std.proofs.Common.{◌≡◌, ℕ, ◌+◌, Bool, true, false, cond, List, [], ◌∷◌, ◌++◌, length, Result, Ok, refl, sym, ap, ◌∙◌, subst, append_assoc, Option, Some, None, IsPermutation, nat_lt, ◌||◌, unwrap_or, append-nil}
 use Rattle.std.specs.Str.Lines.{strip_carriage_return}
 use Rattle.std.proofs.lemmas.List.Sorted.{IsPermutation-refl}
 use Rattle.wb_names.specs.Values.{DrawopValue}
@@ -24,13 +24,14 @@ use Rattle.wb_script.specs.Laws.{NoneClash, HasCells}
 use Rattle.wb_script.specs.Parsing.{line_of}
 use Rattle.wb_script.specs.Queries.{view_of}
 use Rattle.wb_lines.specs.Input.{InputLine, input_lines, content}
-use Rattle.wb_script.specs.Script.{State, start, closing_text, after_batch, Closing, Opens, Acts, Part, Arrival, Nothing, End, part_of, part_in, Step, goes, refused, step_by, part_step, step_of, Outcome, prints, before, answer, finish, proceed, outcome_from}
+use Rattle.wb_script.specs.Script.{State, start, after_batch, Closing, Opens, Acts, Part, Arrival, Nothing, End, part_of, part_in, Step, goes, refused, step_by, part_step, step_of, Outcome, prints, before, answer, proceed, outcome_from}
 use Rattle.wb_script.specs.ScriptLaws.{EachEnds}
 use Rattle.wb_script.specs.Shows.{arrived_by, arrivals_of, cells_by, cells_of, EndsWith, canvas_after, ShowsArrivals, ShowsAreFree}
 use Rattle.wb_script.proofs.FreeArrivals.{batches_are_one, free_on, once_held}
 use Rattle.wb_lines.proofs.InputLines.{input_lines-whole, whole_line}
 use Rattle.wb_script.proofs.Outcomes.{before-nil, before-before, too_many, text_of, end_of}
 use Rattle.wb_script.proofs.Queries.{view_of_page}
+use Rattle.wb_script.proofs.ReorderedLines.{state}
 use Rattle.wb_script.proofs.ScriptLaws.{state_of, one_line, split, fit, err_end}
 
 -- what was held when the batch began, with what waits since, is what all arrivals lead to
@@ -47,9 +48,6 @@ cells_at (Some host) later = host.board.cells
 record Kept (host : Option Opened) (ds : List DrawopValue) (part : Part) (t : State) : Type 0 where
   leads : Leads t.host t.waiting (ds ++ arrived_by part)
   cells : (later : ℕ) → cells_at t.host later ≡ cells_at host (cells_by part later)
-
-abbrev state : Option ℕ → Option Opened → List DrawopValue → State
-state k host waiting = record { host = host; workers = k; waiting = waiting }
 
 kept_by : (host : Option Opened) (ds : List DrawopValue) (part : Part) (u t : State) (x y : List ℕ) → Kept host ds part u → goes u x ≡ goes t y → Kept host ds part t
 kept_by host ds part u t x y k e = subst (Kept host ds part) (state_of u t x y e) k
@@ -131,14 +129,11 @@ record Behind (y text : List ℕ) (sum : Summary) (o : Outcome) : Type 0 where
 behind : (y text : List ℕ) (sum : Summary) (o : Outcome) → before y o ≡ prints text (Ok sum) → Behind y text sum o
 behind y text sum (prints u end) e = record { later = u; is = ap (λ (f : Result Summary RunFault). prints u f) (end_of (y ++ u) text end (Ok sum) e); whole = sym (text_of (y ++ u) text end (Ok sum) e) }
 
-no_fault : (s : State) (text : List ℕ) (sum : Summary) (fault : RunFault) → finish s s.waiting (Err fault) ≡ prints text (Ok sum) → ⊥
-no_fault s text sum fault e = let ends = end_of (closing_text s s.waiting) text (Err fault) (Ok sum) e in absurd cc
-
 runs_on : (n : ℕ) (s : State) (ds : List DrawopValue) (line : InputLine) (lines more : List InputLine) (text : List ℕ) (sum : Summary) (fits : Bool) (step : Step) → line.ended ≡ true → fit n line ≡ fits → step_of s s.waiting (content line) ≡ step
     → Leads s.host s.waiting ds → outcome_from false n s (line ∷ (lines ++ more)) ≡ prints text (Ok sum)
     → ((t : State) (ds' : List DrawopValue) (u : List ℕ) → Leads t.host t.waiting ds' → outcome_from false (n + 1) t (lines ++ more) ≡ prints u (Ok sum) → RunsTo (n + 1) t ds' lines more)
     → RunsTo n s ds (line ∷ lines) more
-runs_on n s ds line lines more text sum false step ended f g h e rest = absurd (no_fault s text sum run_faults.Endless (sym (too_many false n s line (lines ++ more) f) ∙ e))
+runs_on n s ds line lines more text sum false step ended f g h e rest = absurd (err_end [] text s sum run_faults.Endless (sym (too_many false n s line (lines ++ more) f) ∙ e))
 runs_on n s ds line lines more text sum true (refused t y fault) ended f g h e rest =
     absurd (err_end y text t sum (run_faults.Line (n + 1) fault)
     (sym (one_line false n s line (lines ++ more) ended f ∙ ap (λ (step : Step). proceed (n + 1) step (λ t. outcome_from false (n + 1) t (lines ++ more))) g) ∙ e))
@@ -181,7 +176,7 @@ shown_on n k (Some host) waiting ds page width height text sum h e =
 shown_at : (n : ℕ) (s : State) (ds : List DrawopValue) (question : List ℕ) (page : PageId) (width height : ℕ) (text : List ℕ) (sum : Summary) (fits : Bool) → fit n (whole_line question) ≡ fits → line_of (strip_carriage_return question) ≡ Ok (Show page width height)
     → Leads s.host s.waiting ds → outcome_from false n s (whole_line question ∷ []) ≡ prints text (Ok sum)
     → EndsWith text (canvas_text (view_of (history_after (cells_at s.host 0) [] ds) page) width height)
-shown_at n s ds question page width height text sum false f said h e = absurd (no_fault s text sum run_faults.Endless (sym (too_many false n s (whole_line question) [] f) ∙ e))
+shown_at n s ds question page width height text sum false f said h e = absurd (err_end [] text s sum run_faults.Endless (sym (too_many false n s (whole_line question) [] f) ∙ e))
 shown_at n s ds question page width height text sum true f said h e =
     shown_on n s.workers s.host s.waiting ds page width height text sum h
     (sym (one_line false n s (whole_line question) [] refl f ∙ ap (λ (l : Result Command LineFault). proceed (n + 1) (part_step s s.waiting (part_of l)) (λ t. outcome_from false (n + 1) t [])) said) ∙ e)

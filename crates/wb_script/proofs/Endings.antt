@@ -5,11 +5,11 @@ use Rattle.wb_script.specs.declared.fault.RunFault.{RunFault}
 use Rattle.wb_script.specs.declared.fault.RunFault.TheVariants as run_faults
 use Rattle.wb_script.specs.declared.running.Summary.{Summary}
 use Rattle.wb_lines.specs.Ahead.{Ahead, Pulls}
-use Rattle.wb_lines.specs.Input.{input_lines, MayFollow, MayRemain}
+use Rattle.wb_lines.specs.Input.{input_lines}
 use Rattle.wb_script.specs.Script.{State, start, Outcome, prints, before, outcome, Finishes, IsOutcome, is_stop, IsStop, Begins, Meets}
 use Rattle.wb_script.specs.Inside.Passing.{Leads, StopsBehind, RunsLines, RunsAll, Settles, ClosesAfter, Closes}
 use Rattle.wb_script.specs.Runs.{Runs}
-use Rattle.wb_lines.proofs.Endings.{fresh, input_from}
+use Rattle.wb_lines.proofs.Endings.{fresh, follows, input_from}
 use Rattle.wb_script.proofs.Outcomes.{one_thread}
 use Rattle.wb_script.proofs.OneWorker.{one_worker_is_one_thread}
 use Rattle.wb_script.proofs.ReorderedScripts.{workers_are_one_thread}
@@ -35,26 +35,15 @@ meets_fault : (stops : Bool) (A : Outcome → Type 0) (s : State) (x y left : Li
 meets_fault true A s x y left e result stop b q = (b.0, b.1, settles_stop b.0 x y left e result b.2 stop q.0 q.1)
 meets_fault false A s x y left e result going p q = meets_then A (Finishes s (Err e)) x y left result p q
 
-runs_ok : (k : Option ℕ) (s : State) (r : Ahead) (failed : Bool) (given w w1 left : List ℕ) (m : ℕ) (result : Result Summary RunFault) → (r.ended ≡ true → failed ≡ false) → RunsLines (start k) fresh given w s r failed (Ok m) → Closes s (Ok m) w1 left result → RunsAll k r.ended failed given (w ++ w1) left result
-runs_ok k s r failed given w w1 left m result working p q = λ more may.
+runs_all : (k : Option ℕ) (s : State) (r : Ahead) (failed : Bool) (given w w1 left : List ℕ) (ending : Result ℕ RunFault) (result : Result Summary RunFault) → (r.ended ≡ true → failed ≡ false) → RunsLines (start k) fresh given w s r failed ending → Closes s ending w1 left result → RunsAll k r.ended failed given (w ++ w1) left result
+runs_all k s r failed given w w1 left (Ok m) result working p q = λ more may.
     let o : SettlesOne (IsOutcome k false given) (w ++ w1) left result = meets_then (IsOutcome k false given) (Finishes s (Ok m)) w w1 left result p.1 q in
     rw (may.none_after_end p.0, working p.0, append-nil) o
-
-runs_read : (k : Option ℕ) (s : State) (r : Ahead) (failed : Bool) (given w w1 left : List ℕ) (result : Result Summary RunFault) → RunsLines (start k) fresh given w s r failed (Err run_faults.Read) → Closes s (Err run_faults.Read) w1 left result → RunsAll k r.ended failed given (w ++ w1) left result
-runs_read k s r failed given w w1 left result p q = λ more may.
+runs_all k s r failed given w w1 left (Err run_faults.Read) result working p q = λ more may.
     let o : SettlesOne (IsOutcome k true given) (w ++ w1) left result = meets_then (IsOutcome k true given) (Finishes s (Err run_faults.Read)) w w1 left result p.2 q in
     rw (may.none_after_failure p.0, p.0, append-nil) o
-
-follows : (ended failed : Bool) (more : List ℕ) → (ended ≡ true → failed ≡ false) → MayRemain ended failed more → MayFollow ended more failed
-follows ended failed more working may = λ e. (may.none_after_end e, working e)
-
-runs_err : (k : Option ℕ) (s : State) (r : Ahead) (failed : Bool) (given w w1 left : List ℕ) (e : RunFault) (result : Result Summary RunFault) → (r.ended ≡ true → failed ≡ false) → RunsLines (start k) fresh given w s r failed (Err e) → Closes s (Err e) w1 left result → RunsAll k r.ended failed given (w ++ w1) left result
-runs_err k s r failed given w w1 left run_faults.Read result working p q = runs_read k s r failed given w w1 left result p q
-runs_err k s r failed given w w1 left e result working p q = λ more may. meets_fault (is_stop e) (IsOutcome k failed (given ++ more)) s w w1 left e result refl (p more failed (follows r.ended failed more working may)) q
-
-runs_all : (k : Option ℕ) (s : State) (r : Ahead) (failed : Bool) (given w w1 left : List ℕ) (ending : Result ℕ RunFault) (result : Result Summary RunFault) → (r.ended ≡ true → failed ≡ false) → RunsLines (start k) fresh given w s r failed ending → Closes s ending w1 left result → RunsAll k r.ended failed given (w ++ w1) left result
-runs_all k s r failed given w w1 left (Ok m) result working p q = runs_ok k s r failed given w w1 left m result working p q
-runs_all k s r failed given w w1 left (Err e) result working p q = runs_err k s r failed given w w1 left e result working p q
+runs_all k s r failed given w w1 left (Err e) result working p q = λ more may.
+    meets_fault (is_stop e) (IsOutcome k failed (given ++ more)) s w w1 left e result refl (p more failed (follows r.ended failed more working may)) q
 
 -- what was sent of a text is all of it, or a front where the run stopped
 sent_of : (o : Outcome) (text sent left : List ℕ) (result : Result Summary RunFault) → text ≡ sent ++ left → Settles o text left result → Meets o sent result

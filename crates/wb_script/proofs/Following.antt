@@ -21,9 +21,6 @@ more_none s = ap (λ (w : List DrawopValue). let t : State = record { host = s.h
 more_more : (s : State) (a b c : List DrawopValue) → with_more (with_more s a) (b ++ c) ≡ with_more s ((a ++ b) ++ c)
 more_more s a b c = ap (λ (w : List DrawopValue). let t : State = record { host = s.host; workers = s.workers; waiting = w } in t) (append_assoc s.waiting a (b ++ c) ∙ ap (λ (l : List DrawopValue). s.waiting ++ l) (sym (append_assoc a b c)))
 
-none_over : {X : Type 0} (over : Option (Result (Unit {0}) RunFault)) (e : RunFault) → over ≡ None → over ≡ Some (Err e) → X
-none_over over e none some = absurd cc
-
 -- at its start
 pub starts : (v : BatchReading) → v.over ≡ None → ReadsOn v [] v
 starts v e = record {
@@ -33,7 +30,7 @@ starts v e = record {
   on = omega arith;
   kept = omega arith;
   gets = λ s opened. subst (λ (over : Option (Result (Unit {0}) RunFault)). GetsTo over s v [] v []) (sym e) (Passes-none v.at.lines.done (with_more s (listed v.at.first)) v.at.lines.ahead);
-  unwritten = λ over. none_over v.over run_faults.Write e over;
+  unwritten = λ over. cc;
 }
 
 -- further on, from where the batch goes on
@@ -114,11 +111,8 @@ arrived_on old new given d going goes pulls sends arrives = λ start arrived p. 
   on = arrives.0;
   kept = omega (arith, at_most_one old.at.first, length-append (d ∷ []) (listed new.at.first));
   gets = λ s opened. subst (λ (over : Option (Result (Unit {0}) RunFault)). GetsTo over s old (d ∷ []) new given) (sym goes) (arrives.1.1 s opened);
-  unwritten = λ over. none_over new.over run_faults.Write goes over;
+  unwritten = λ over. cc;
 })
-
-not_unwritten : {X : Type 0} (over : Option (Result (Unit {0}) RunFault)) → over ≡ Some (Ok tt) → over ≡ Some (Err run_faults.Write) → X
-not_unwritten over some other = absurd cc
 
 pub ended_on : (old new : BatchReading) (given : List ℕ) → old.over ≡ None → new.over ≡ Some (Ok tt) → Pulls old.at.lines.ahead new.at.lines.ahead old.left new.left old.failed new.failed given → Sends old.taken old.output new.taken new.output []
     → ArrivesTo old.at new.at given new.failed (Ok None) → Gives old [] new
@@ -129,11 +123,8 @@ ended_on old new given going ends pulls sends arrives = λ start arrived p. read
   on = arrives.0;
   kept = none_listed old.at new.at arrives.1.1;
   gets = λ s opened. subst (λ (over : Option (Result (Unit {0}) RunFault)). GetsTo over s old [] new given) (sym ends) (arrives.1.2, arrives.1.3, arrives.1.4 s opened);
-  unwritten = λ over. not_unwritten new.over ends over;
+  unwritten = λ over. cc;
 })
-
-is_write : (over : Option (Result (Unit {0}) RunFault)) (e : RunFault) → over ≡ Some (Err e) → over ≡ Some (Err run_faults.Write) → e ≡ run_faults.Write
-is_write over e is other = cc
 
 pub fault_on : (old new : BatchReading) (given : List ℕ) (e : RunFault) (result : Result (Option DrawopValue) RunFault) → old.over ≡ None → new.over ≡ Some (Err e) → result ≡ Err e → (result ≡ Err run_faults.Write → new.stuck ≡ true)
     → Pulls old.at.lines.ahead new.at.lines.ahead old.left new.left old.failed new.failed given → Sends old.taken old.output new.taken new.output [] → ArrivesTo old.at new.at given new.failed (Err e) → Gives old [] new
@@ -144,5 +135,5 @@ fault_on old new given e result going ends is stuck pulls sends arrives = λ sta
   on = arrives.0;
   kept = none_listed old.at new.at arrives.1.1;
   gets = λ s opened. subst (λ (over : Option (Result (Unit {0}) RunFault)). GetsTo over s old [] new given) (sym ends) (arrives.1.2, arrives.1.3 s opened);
-  unwritten = λ over. stuck (is ∙ ap (λ (f : RunFault). Err f) (is_write new.over e ends over));
+  unwritten = λ over. stuck cc;
 })

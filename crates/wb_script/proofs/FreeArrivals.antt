@@ -14,8 +14,7 @@ use Rattle.wb_names.proofs.Arrivals.{outcome_is, history_with-is}
 use Rattle.wb_names.proofs.Listings.{Contains-here, Contains-there, Contains-cases, Contains-none}
 use Rattle.wb_names.proofs.Orders.{same_name-is}
 use Rattle.wb_host.proofs.KeptCalls.{same_here}
-use Rattle.wb_script.specs.Laws.{NoneClash, HasCells, BatchesAreOne, ArrivalsAreFree, PrintsAreFree}
-use Rattle.wb_script.proofs.FreeAnswers.{answers_are_free}
+use Rattle.wb_script.specs.Laws.{NoneClash, HasCells, BatchesAreOne, ArrivalsAreFree}
 
 pub batches_are_one : BatchesAreOne
 batches_are_one cells held [] more = refl
@@ -158,15 +157,3 @@ arrivals_are_free cells ds es moved clash room = free_on cells cells ds es moved
 -- what is held of them is a history
 pub once_held : (cells : ℕ) (ds es : List DrawopValue) → IsPermutation ds es → NoneClash ds → HasCells cells ds → IsHistory (history_after cells [] es)
 once_held cells ds es moved clash room = (walked cells ds es clash room (λ x c. Contains-permutation es ds x (IsPermutation-sym ds es moved) c)).once
-
-pub prints_are_free : PrintsAreFree
-prints_are_free marks cells ds es query few moved clash room =
-    let back = IsPermutation-sym ds es moved in
-    let a = walked cells ds ds clash room (λ x c. c) in
-    let b = walked cells ds es clash room (λ x c. Contains-permutation es ds x back c) in
-    let fits_a = room (history_after cells [] ds) a.once (λ x c. from_arrivals ds x (a.from x c)) in
-    let fits_b = room (history_after cells [] es) b.once (λ x c. Contains-permutation es ds x back (from_arrivals es x (b.from x c))) in
-    answers_are_free marks (history_after cells [] ds) (history_after cells [] es) query
-    (record { once = a.once; few = omega (arith, fits_a) })
-    (record { once = b.once; few = omega (arith, fits_b) })
-    (arrivals_are_free cells ds es moved clash room)

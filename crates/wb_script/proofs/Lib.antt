@@ -10,7 +10,6 @@ pub mod TakingArrivals
 pub mod RunOn
 pub mod Endings
 pub mod Queries
-pub mod FreeAnswers
 pub mod FreeArrivals
 pub mod Steps
 pub mod Acts

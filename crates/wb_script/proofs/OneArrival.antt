@@ -16,16 +16,13 @@ use Rattle.wb_script.specs.Hosts.{Opened, present, board_after, names_of}
 use Rattle.wb_script.specs.Members.{IsOpenAt}
 use Rattle.wb_script.proofs.Acts.{member}
 
-take_front : (xs ys : List DrawopValue) (n : ℕ) → n ≡ length xs → take n (xs ++ ys) ≡ xs
-take_front xs ys n e = ap (λ (k : ℕ). take k (xs ++ ys)) e ∙ take-append_seam xs ys
-
 -- one thread takes it so
 taken : (p q : PassValue) (d : DrawopValue) (o : Outcome) → IsSound p → IsWhole p → Becomes p d o q → IsTaken p.cells p.seen d o × (q.seen ≡ history_with p.seen d o)
 taken p q d (Fresh i) sound whole b =
     let grown : q.seen ≡ p.seen ++ d ∷ [] = b.alone whole in
     let long : length q.seen ≡ length p.seen + 1 = ap (λ (l : List DrawopValue). length l) grown ∙ length-append p.seen (d ∷ []) in
     let place : i ≡ length p.seen = let last = b.last in omega (arith, long, last) in
-    let front : take i q.seen ≡ p.seen = ap (take i) grown ∙ take_front p.seen (d ∷ []) i place in
+    let front : take i q.seen ≡ p.seen = ap (take i) grown ∙ ap (λ (k : ℕ). take k (p.seen ++ d ∷ [])) place ∙ take-append_seam p.seen (d ∷ []) in
     let room : length p.seen < p.cells = let r = sound.room in let row = b.row in omega (arith, r, row) in
     let absent : HoldsName p.seen d.name → ⊥ = subst (λ (l : List DrawopValue). HoldsName l d.name → ⊥) front b.new.1 in
     (((place, absent), room), grown)

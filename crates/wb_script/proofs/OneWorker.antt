@@ -7,6 +7,7 @@ use Rattle.wb_script.specs.Hosts.{Opened, host_after, batch_text, Act, does, fai
 use Rattle.wb_script.specs.Script.{State, start, IsAlone, by_host, Closing, Opens, Acts, Faulty, Part, Arrival, End, part_in, step_by, closing_step, part_step, finish, outcome}
 use Rattle.wb_script.specs.ScriptLaws.{workers_on, first_of, workers_at_end, OneThreadIsOutcome, OneWorkerIsOneThread, OneThreadIsFree}
 use Rattle.wb_script.proofs.Outcomes.{one_thread}
+use Rattle.wb_script.proofs.ReorderedLines.{state}
 use Rattle.wb_script.proofs.Simulations.{EndsAlike, StepsAlike, Simulates, simulated}
 
 pub one_thread_is_outcome : OneThreadIsOutcome
@@ -36,9 +37,6 @@ first_some (Some m) n = refl
 
 abbrev Alone : ℕ → List InputLine → State → State → Type 0
 Alone n lines s t = IsAlone (workers_at_end s.workers lines) × (s.host ≡ t.host) × (s.waiting ≡ t.waiting)
-
-abbrev state : Option ℕ → Option Opened → List DrawopValue → State
-state k host waiting = record { host = host; workers = k; waiting = waiting }
 
 same_end : (k j : Option ℕ) (host : Option Opened) (waiting : List DrawopValue) (ending : Result ℕ RunFault) → finish (state k host waiting) waiting ending ≡ finish (state j host waiting) waiting ending
 same_end k j host waiting (Ok n) = refl

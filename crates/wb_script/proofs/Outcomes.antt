@@ -75,12 +75,10 @@ ahead cut n s reader pulled = one_thread cut n s (input_lines (reader.bytes ++ p
 
 -- ---- one line
 
-taken_on : (cut : Bool) (n : ℕ) (s : State) (line : InputLine) (lines : List InputLine) (o : Outcome) → fault_at cut n line ≡ None
-    → InSomeOrder s (λ order. Proceeds (n + 1) (λ t next. IsOutcomeFrom cut (n + 1) t lines next) o (step_of s order (content line))) → IsOutcomeFrom cut n s (line ∷ lines) o
-taken_on cut n s line lines o e h = subst (λ (f : Option RunFault). Continues f (n + 1) s (content line) (λ t next. IsOutcomeFrom cut (n + 1) t lines next) o) (sym e) h
-
-stopped_at : (cut : Bool) (n : ℕ) (s : State) (line : InputLine) (lines : List InputLine) (fault : RunFault) (o : Outcome) → fault_at cut n line ≡ Some fault → Finishes s (Err fault) o → IsOutcomeFrom cut n s (line ∷ lines) o
-stopped_at cut n s line lines fault o e h = subst (λ (f : Option RunFault). Continues f (n + 1) s (content line) (λ t next. IsOutcomeFrom cut (n + 1) t lines next) o) (sym e) h
+-- by whether the line is taken
+by_fault : (cut : Bool) (n : ℕ) (s : State) (line : InputLine) (lines : List InputLine) (fault : Option RunFault) (o : Outcome) → fault_at cut n line ≡ fault
+    → Continues fault (n + 1) s (content line) (λ t next. IsOutcomeFrom cut (n + 1) t lines next) o → IsOutcomeFrom cut n s (line ∷ lines) o
+by_fault cut n s line lines fault o e h = subst (λ (f : Option RunFault). Continues f (n + 1) s (content line) (λ t next. IsOutcomeFrom cut (n + 1) t lines next) o) (sym e) h
 
 -- what a step does, ahead of more bytes
 abbrev AfterLine : Bool → ℕ → Ahead → List ℕ → Outcome → Step → Type 0
@@ -91,7 +89,7 @@ pub whole_ahead : (cut : Bool) (n : ℕ) (s : State) (reader reader' : Ahead) (g
 whole_ahead cut n s reader reader' given line more o few is e h =
     let split : input_lines (reader.bytes ++ (given ++ more)) ≡ whole_line line ∷ input_lines (reader'.bytes ++ more) = ap input_lines (regrouped reader.bytes given more line (10 ∷ reader'.bytes) e) ∙ input_lines-whole line (reader'.bytes ++ more) is.no_line_feed in
     let none : fault_at cut n (whole_line line) ≡ None = ap (λ (within : Bool). cond within (cond (true || not cut) None (Some run_faults.Read)) (Some run_faults.Endless)) (fits most_lines n line few is.short) in
-    subst (λ (lines : List InputLine). IsOutcomeFrom cut n s lines o) (sym split) (taken_on cut n s (whole_line line) (input_lines (reader'.bytes ++ more)) o none h)
+    subst (λ (lines : List InputLine). IsOutcomeFrom cut n s lines o) (sym split) (by_fault cut n s (whole_line line) (input_lines (reader'.bytes ++ more)) None o none h)
 
 pub last_ahead : (n : ℕ) (s : State) (reader reader' : Ahead) (given line : List ℕ) (o : Outcome) → n < most_lines → IsLine line → line ≢ [] → reader.bytes ++ given ≡ line → reader'.bytes ≡ []
     → InSomeOrder s (λ order. AfterLine false n reader' [] o (step_of s order line)) → IsAhead false n s reader (given ++ []) o
@@ -101,7 +99,7 @@ last_ahead n s reader reader' given line o few is some e none h =
     let split : input_lines (reader.bytes ++ (given ++ [])) ≡ last_line line ∷ input_lines (reader'.bytes ++ []) =
     ap input_lines bytes ∙ input_lines-last line is.no_line_feed some ∙ ap (λ (lines : List InputLine). last_line line ∷ lines) (sym end) in
     let free : fault_at false n (last_line line) ≡ None = ap (λ (within : Bool). cond within (cond (false || not false) None (Some run_faults.Read)) (Some run_faults.Endless)) (fits most_lines n line few is.short) in
-    subst (λ (lines : List InputLine). IsOutcomeFrom false n s lines o) (sym split) (taken_on false n s (last_line line) (input_lines (reader'.bytes ++ [])) o free h)
+    subst (λ (lines : List InputLine). IsOutcomeFrom false n s lines o) (sym split) (by_fault false n s (last_line line) (input_lines (reader'.bytes ++ [])) None o free h)
 
 -- where a step leads
 abbrev target : Step → State
@@ -211,7 +209,7 @@ cut_off n s [] o few is h = h
 cut_off n s (b ∷ line) o few is h =
     let split : input_lines (b ∷ line) ≡ last_line (b ∷ line) ∷ [] = input_lines-last (b ∷ line) is.no_line_feed (λ e. cc) in
     let fault : fault_at true n (last_line (b ∷ line)) ≡ Some run_faults.Read = ap (λ (within : Bool). cond within (cond (false || not true) None (Some run_faults.Read)) (Some run_faults.Endless)) (fits most_lines n (b ∷ line) few is.short) in
-    subst (λ (lines : List InputLine). IsOutcomeFrom true n s lines o) (sym split) (stopped_at true n s (last_line (b ∷ line)) [] run_faults.Read o fault h)
+    subst (λ (lines : List InputLine). IsOutcomeFrom true n s lines o) (sym split) (by_fault true n s (last_line (b ∷ line)) [] (Some run_faults.Read) o fault h)
 
 pub failure_stops : (n : ℕ) (s : State) (reader reader' : Ahead) (given line : List ℕ) (failed : Bool) → n < most_lines → IsLine line → reader.bytes ++ given ≡ line → reader'.ended ≡ false → failed ≡ true → Stops n s reader given [] s reader' failed run_faults.Read
 failure_stops n s reader reader' given line failed few is e going has =
@@ -222,7 +220,7 @@ too_many cut n s line lines e = rw e refl
 
 past_limits : (cut : Bool) (n : ℕ) (s : State) (line : InputLine) (lines : List InputLine) (o : Outcome) → nat_lt n most_lines && nat_le (length line.bytes) most_bytes ≡ false → Finishes s (Err run_faults.Endless) o → IsOutcomeFrom cut n s (line ∷ lines) o
 past_limits cut n s line lines o e h =
-    stopped_at cut n s line lines run_faults.Endless o (ap (λ (within : Bool). cond within (cond (line.ended || not cut) None (Some run_faults.Read)) (Some run_faults.Endless)) e) h
+    by_fault cut n s line lines (Some run_faults.Endless) o (ap (λ (within : Bool). cond within (cond (line.ended || not cut) None (Some run_faults.Read)) (Some run_faults.Endless)) e) h
 
 pub length_stops : (n : ℕ) (s : State) (reader reader' : Ahead) (given line : List ℕ) (failed : Bool) → NoLineFeed line → length line ≡ most_bytes + 1 → reader.bytes ++ given ≡ line ++ reader'.bytes → Stops n s reader given [] s reader' failed run_faults.Endless
 length_stops n s reader reader' given [] failed none long e = absurd (omega arith)

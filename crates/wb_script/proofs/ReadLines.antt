@@ -44,17 +44,15 @@ takes_arrival n s ahead rest line d is few fronts e =
 
 -- ---- the line that was looked at
 
-pub taken_end : (next : Option InputLine) (ahead : Ahead) (done : ℕ) (new : LinesValue) → TakesNext next ahead done new → new.ahead.ended ≡ ahead.ended
-taken_end None ahead done new t = absurd t
-taken_end (Some line) ahead done new t = t.1.same_end
+-- what is known once it is taken
+pub record AfterTaking (ahead : Ahead) (done : ℕ) (new : LinesValue) : Type 0 where
+  pub same_end : new.ahead.ended ≡ ahead.ended
+  pub few : done < most_lines
+  pub count : new.done ≡ done + 1
 
-pub taken_few : (next : Option InputLine) (ahead : Ahead) (done : ℕ) (new : LinesValue) → TakesNext next ahead done new → done < most_lines
-taken_few None ahead done new t = absurd t
-taken_few (Some line) ahead done new t = t.0
-
-pub taken_done : (next : Option InputLine) (ahead : Ahead) (done : ℕ) (new : LinesValue) → TakesNext next ahead done new → new.done ≡ done + 1
-taken_done None ahead done new t = absurd t
-taken_done (Some line) ahead done new t = t.3
+pub after_taking : (next : Option InputLine) (ahead : Ahead) (done : ℕ) (new : LinesValue) → TakesNext next ahead done new → AfterTaking ahead done new
+after_taking None ahead done new t = absurd t
+after_taking (Some line) ahead done new t = record { same_end = t.1.same_end; few = t.0; count = t.3 }
 
 -- ---- one after the other
 
@@ -77,12 +75,12 @@ arrival_seen (Some line) ahead done new s d opened part t =
     subst (λ (n : ℕ). Passes done s ahead [] [] n (with_waiting s (s.waiting ++ d ∷ [])) new.ahead) (sym t.3) (takes_arrival done s ahead new.ahead line d opened t.0 t.1 part)
 
 pub skip_then : (a : ℕ) (s : State) (r : Ahead) (mid new : LinesValue) (x : List ℕ) → IsPartOf parts.Skipped mid.next → Takes mid new → Passes a s r x [] mid.done s mid.ahead → Passes a s r x [] new.done s new.ahead
-skip_then a s r mid new x part t p = line_then a mid.done new.done s s s r mid.ahead new.ahead x (taken_end mid.next mid.ahead mid.done new t) p (skip_seen mid.next mid.ahead mid.done new s part t)
+skip_then a s r mid new x part t p = line_then a mid.done new.done s s s r mid.ahead new.ahead x (after_taking mid.next mid.ahead mid.done new t).same_end p (skip_seen mid.next mid.ahead mid.done new s part t)
 
 pub arrival_then : (a : ℕ) (s : State) (r : Ahead) (mid new : LinesValue) (x : List ℕ) (d : DrawopValue) → IsOpen s.host → IsPartOf (parts.Arrival d) mid.next → Takes mid new
     → Passes a s r x [] mid.done s mid.ahead → Passes a s r x [] new.done (with_waiting s (s.waiting ++ d ∷ [])) new.ahead
 arrival_then a s r mid new x d opened part t p =
-    line_then a mid.done new.done s s (with_waiting s (s.waiting ++ d ∷ [])) r mid.ahead new.ahead x (taken_end mid.next mid.ahead mid.done new t) p (arrival_seen mid.next mid.ahead mid.done new s d opened part t)
+    line_then a mid.done new.done s s (with_waiting s (s.waiting ++ d ∷ [])) r mid.ahead new.ahead x (after_taking mid.next mid.ahead mid.done new t).same_end p (arrival_seen mid.next mid.ahead mid.done new s d opened part t)
 
 -- a batch ends before the line that was looked at
 pub other_seen : (next : Option InputLine) (ahead : Ahead) → IsPartOf parts.Other next → IsFirst next ahead → EndsBatchBefore next ahead

@@ -14,14 +14,14 @@ use Rattle.wb_script.specs.declared.part.Part.TheVariants as parts
 use Rattle.wb_script.specs.Script.{State, IsAlone, Part, Arrival, Nothing, End, Faulty, part_of, part_in, goes, refused, by_host, after_batch, part_step, step_of, most_lines}
 use Rattle.wb_script.specs.Inside.Parts.{IsPartOf}
 use Rattle.wb_script.specs.Inside.Passing.{Passes, Stops, Ends, RunsOn}
-use Rattle.wb_script.specs.Inside.Lines.{LinesValue, EndsWith, Fronts, Says, TakesNext}
+use Rattle.wb_script.specs.Inside.Lines.{LinesValue, EndsWith, Says, TakesNext}
 use Rattle.wb_script.specs.Members.{MemberValue, IsOpenAt, MayBeOpenAt}
 use Rattle.wb_script.specs.Inside.Steps.{HostValue, IsAt, IsLeftAt, DoesStep, MayDoStep}
 use Rattle.wb_script.specs.Inside.Reading.{IsOpen, with_waiting}
 use Rattle.wb_script.specs.Inside.Taking.{GoesOn, TakesBatchOn}
 use Rattle.wb_lines.proofs.LineBytes.{Pulls-none, Pulls-on}
 use Rattle.wb_script.proofs.Outcomes.{as_it_came, whole_passes, last_passes, whole_stops, last_stops, never_left, stops_at_once, ends_here, Passes-then, Passes-stops}
-use Rattle.wb_script.proofs.ReadLines.{looks_on, takes_arrival, taken_end}
+use Rattle.wb_script.proofs.ReadLines.{looks_on, takes_arrival, after_taking}
 use Rattle.wb_script.proofs.Steps.{ends_empty}
 
 -- the line that was looked at is this to its batch
@@ -43,24 +43,16 @@ said_is (Some line) said is = ap part_of is
 
 -- a line that is taken pulls nothing
 pub takes_pulls : (next : Option InputLine) (ahead : Ahead) (done : ℕ) (new : LinesValue) (left : Option (List ℕ)) (failed : Bool) → TakesNext next ahead done new → Pulls ahead new.ahead left left failed failed []
-takes_pulls next ahead done new left failed t = Pulls-on ahead ahead new.ahead left left failed failed [] (taken_end next ahead done new t) (Pulls-none ahead left failed)
+takes_pulls next ahead done new left failed t = Pulls-on ahead ahead new.ahead left left failed failed [] (after_taking next ahead done new t).same_end (Pulls-none ahead left failed)
 
 -- ---- one line
 
-passes_line : (n : ℕ) (s : State) (new : HostValue) (ahead rest : Ahead) (written bytes : List ℕ) (ended : Bool) (u : Unit {0}) → n < most_lines → IsLine bytes → EndsWith ended ahead bytes rest
-    → MayDoStep s (n + 1) new written (Ok u) (λ order. step_of s order (content (record { bytes = bytes; ended = ended }))) → (t : State) × IsAt new t × Passes n s ahead [] written (n + 1) t rest
-passes_line n s new ahead rest written bytes true u few is stands m = whole_passes n s new ahead rest [] written bytes u few is (append-nil ahead.bytes ∙ stands) m
-passes_line n s new ahead rest written bytes false u few is stands m = last_passes n s new ahead rest [] written bytes u few is stands.1 (append-nil ahead.bytes ∙ stands.0) stands.2 stands.3 m
-
-stops_line : (n : ℕ) (s : State) (new : HostValue) (ahead rest : Ahead) (written bytes : List ℕ) (ended failed : Bool) (f : RunFault) → n < most_lines → IsLine bytes → EndsWith ended ahead bytes rest
-    → MayDoStep {U = Unit {0}} s (n + 1) new written (Err f) (λ order. step_of s order (content (record { bytes = bytes; ended = ended }))) → (t : State) × IsLeftAt {X = Unit {0}} new (Err f) t × Stops n s ahead [] written t rest failed f
-stops_line n s new ahead rest written bytes true failed f few is stands m = whole_stops n s new ahead rest [] written bytes failed f few is (append-nil ahead.bytes ∙ stands) m
-stops_line n s new ahead rest written bytes false failed f few is stands m = last_stops n s new ahead rest [] written bytes failed f few is stands.1 (append-nil ahead.bytes ∙ stands.0) stands.2 stands.3 m
-
-runs_line : (n : ℕ) (s : State) (new : HostValue) (ahead rest : Ahead) (line : InputLine) (written : List ℕ) (failed : Bool) (r : Result (Unit {0}) RunFault) → n < most_lines → Fronts ahead line rest
-    → MayDoStep s (n + 1) new written r (λ order. step_of s order (content line)) → (t : State) × IsLeftAt new r t × RunsOn n s ahead [] written (n + 1) t rest failed r
-runs_line n s new ahead rest line written failed (Ok u) few fronts m = passes_line n s new ahead rest written line.bytes line.ended u few fronts.is_line fronts.stands m
-runs_line n s new ahead rest line written failed (Err f) few fronts m = stops_line n s new ahead rest written line.bytes line.ended failed f few fronts.is_line fronts.stands m
+runs_line : (n : ℕ) (s : State) (new : HostValue) (ahead rest : Ahead) (written bytes : List ℕ) (ended failed : Bool) (r : Result (Unit {0}) RunFault) → n < most_lines → IsLine bytes → EndsWith ended ahead bytes rest
+    → MayDoStep s (n + 1) new written r (λ order. step_of s order (content (record { bytes = bytes; ended = ended }))) → (t : State) × IsLeftAt new r t × RunsOn n s ahead [] written (n + 1) t rest failed r
+runs_line n s new ahead rest written bytes true failed (Ok u) few is stands m = whole_passes n s new ahead rest [] written bytes u few is (append-nil ahead.bytes ∙ stands) m
+runs_line n s new ahead rest written bytes false failed (Ok u) few is stands m = last_passes n s new ahead rest [] written bytes u few is stands.1 (append-nil ahead.bytes ∙ stands.0) stands.2 stands.3 m
+runs_line n s new ahead rest written bytes true failed (Err f) few is stands m = whole_stops n s new ahead rest [] written bytes failed f few is (append-nil ahead.bytes ∙ stands) m
+runs_line n s new ahead rest written bytes false failed (Err f) few is stands m = last_stops n s new ahead rest [] written bytes failed f few is stands.1 (append-nil ahead.bytes ∙ stands.0) stands.2 stands.3 m
 
 pub seen_runs : (next : Option InputLine) (ahead : Ahead) (done : ℕ) (new : LinesValue) (part : Part) (s : State) (host : HostValue) (written : List ℕ) (failed : Bool) (r : Result (Unit {0}) RunFault) → PartIs next part → TakesNext next ahead done new
     → MayDoStep s new.done host written r (λ order. part_step s order part) → (t : State) × IsLeftAt host r t × RunsOn done s ahead [] written new.done t new.ahead failed r
@@ -68,7 +60,7 @@ seen_runs None ahead done new part s host written failed r is t m = absurd t
 seen_runs (Some line) ahead done new part s host written failed r is t m =
     let here : MayDoStep s (done + 1) host written r (λ order. part_step s order part) = subst (λ (n : ℕ). MayDoStep s n host written r (λ order. part_step s order part)) t.3 m in
     let there : MayDoStep s (done + 1) host written r (λ order. step_of s order (content line)) = subst (λ (p : Part). MayDoStep s (done + 1) host written r (λ order. part_step s order p)) (sym is) here in
-    subst (λ (n : ℕ). (u : State) × IsLeftAt host r u × RunsOn done s ahead [] written n u new.ahead failed r) (sym t.3) (runs_line done s host ahead new.ahead line written failed r t.0 t.1 there)
+    subst (λ (n : ℕ). (u : State) × IsLeftAt host r u × RunsOn done s ahead [] written n u new.ahead failed r) (sym t.3) (runs_line done s host ahead new.ahead written line.bytes line.ended failed r t.0 t.1.is_line t.1.stands there)
 
 -- it is skipped, and it is refused
 pub skips_on : (next : Option InputLine) (ahead : Ahead) (done : ℕ) (new : LinesValue) (s : State) (host : HostValue) (failed : Bool) → IsPartOf parts.Skipped next → TakesNext next ahead done new → IsAt host s

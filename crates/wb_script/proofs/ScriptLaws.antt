@@ -1,7 +1,6 @@
 -- What whole lines print, whatever follows them.
 use Rattle.std.proofs.Common.{◌≡◌, ℕ, ◌+◌, ◌<◌, Bool, true, false, cond, List, [], ◌∷◌, ◌++◌, length, Result, Ok, Err, inl, inr, ⊎_elim, ◌⊎◌, refl, sym, ap, subst, ◌∙◌, arith, Option, Some, None, nat_eq, nat_le, nat_lt, ◌&&◌, unwrap_or, true≢false, append-nil, length-append}
 use Rattle.std.specs.Str.Lines.{strip_carriage_return}
-use Rattle.std.proofs.lemmas.Bool.Decides.{nat_tests}
 use Rattle.wb_script.specs.declared.fault.LineFault.{LineFault}
 use Rattle.wb_script.specs.declared.fault.RunFault.{RunFault}
 use Rattle.wb_script.specs.declared.fault.RunFault.TheVariants as run_faults
@@ -14,6 +13,7 @@ use Rattle.wb_script.specs.Parsing.{line_of}
 use Rattle.wb_script.specs.Script.{Begins, State, start, closing_text, after_batch, Closing, Opens, Acts, Part, Arrival, Nothing, End, part_of, part_in, Step, goes, refused, step_by, closing_step, part_step, step_of, Outcome, prints, before, answer, finish, proceed, continue, most_lines, outcome_from, outcome}
 use Rattle.wb_lines.specs.Input.{InputLine, onto_first, input_lines, content, most_bytes}
 use Rattle.wb_script.specs.ScriptLaws.{EachEnds, waits_after, waits_at_end, text_of, RefusedStays, PrintedStays, SkippedPrintsNothing}
+use Rattle.wb_lines.proofs.Outcomes.{few_lines}
 use Rattle.wb_lines.proofs.InputLines.{input_lines-whole, whole_line, fits}
 use Rattle.wb_script.proofs.Outcomes.{before-nil, before-before, too_many, text_of as same_text, end_of}
 
@@ -183,15 +183,12 @@ text_continue : (fault : Option RunFault) (n m : ℕ) (s : State) (bytes : List 
 text_continue None n m s bytes a b same = text_proceed n m (step_of s s.waiting bytes) a b same
 text_continue (Some e) n m s bytes a b same = refl
 
-few_enough : (n : ℕ) → n < most_lines → nat_lt n most_lines ≡ true
-few_enough n few = grind (arith, nat_tests)
-
 -- lines print the same behind one line more
 text_later : (cut : Bool) (n : ℕ) (s : State) (lines : List InputLine) → n + length lines < most_lines → text_of (outcome_from cut (n + 1) s lines) ≡ text_of (outcome_from cut n s lines)
 text_later cut n s [] few = refl
 text_later cut n s (line ∷ lines) few =
-    let later : nat_lt (n + 1) most_lines ≡ true = few_enough (n + 1) (omega arith) in
-    let now : nat_lt n most_lines ≡ true = few_enough n (omega arith) in
+    let later : nat_lt (n + 1) most_lines ≡ true = few_lines most_lines (n + 1) (omega arith) in
+    let now : nat_lt n most_lines ≡ true = few_lines most_lines n (omega arith) in
     rw (later, now) (text_continue _ (n + 1 + 1) (n + 1) s (content line) (λ t. outcome_from cut (n + 1 + 1) t lines) (λ t. outcome_from cut (n + 1) t lines) (λ t. text_later cut (n + 1) t lines (omega arith)))
 
 -- a skipped line, and then the others

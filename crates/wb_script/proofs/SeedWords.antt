@@ -1,5 +1,5 @@
 -- The random words of a script, in parts.
-use Rattle.std.proofs.Common.{◌≡◌, ℕ, zero, suc, ◌+◌, ◌*◌, ◌/◌, ◌%◌, ◌-◌, ◌<◌, ◌≤◌, ◌^◌, List, [], ◌∷◌, ◌++◌, length, refl, ap, ◌∙◌, zero-add, arith, bit_xor, div-le_self}
+use Rattle.std.proofs.Common.{◌≡◌, ℕ, zero, suc, ◌+◌, ◌*◌, ◌/◌, ◌%◌, ◌-◌, ◌<◌, ◌≤◌, ◌^◌, List, [], ◌∷◌, ◌++◌, refl, ap, ◌∙◌, zero-add, arith, bit_xor, div-le_self}
 use Rattle.std.specs.Int.{w32, rotate_right}
 use Rattle.std.proofs.lemmas.Nat.{or_lt}
 use Rattle.rand_pcg.specs.Lcg.{Lcg}
@@ -17,10 +17,6 @@ after_words-add g zero b = rw zero-add refl
 after_words-add g (suc a) b =
     let e : suc a + b ≡ suc (a + b) = omega arith in
     rw e (after_words-add (after_word g) a b)
-
-pub length-words_of : (g : Lcg) (count : ℕ) → length (words_of g count) ≡ count
-length-words_of g zero = refl
-length-words_of g (suc count) = omega (arith, length-words_of (after_word g) count)
 
 -- so many words were taken
 pub record AreTaken (old new : Lcg) (count : ℕ) (taken : List ℕ) : Type 0 where

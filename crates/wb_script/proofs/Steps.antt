@@ -95,15 +95,6 @@ opens number old new s order v member cells workers seed ends closed open_now kn
   )
   go (Some host) o = absurd o
 
--- one is open already
-pub opens_twice : (number : ℕ) (old : HostValue) (s : State) (order : List DrawopValue) (v : MemberValue) (member cells workers seed : ℕ) → EndsEmpty old s order → old.member ≡ Some v
-    → DoesStep {U = Unit {0}} number old [] (Err (run_faults.Line number faults.SecondBoard)) (closing_step (after_batch s order) (closing_text s order) (Opens member cells workers seed))
-opens_twice number old s order v member cells workers seed ends open_now = go (after_batch s order).host (subst (λ (x : Option MemberValue). MayBeOpenAt x (after_batch s order).host) open_now ends.leads.member) where
-  go : (host : Option Opened) → MayBeOpenAt (Some v) host
-      → DoesStep {U = Unit {0}} number old [] (Err (run_faults.Line number faults.SecondBoard)) (by_host host (goes (record { host = Some (opened member cells seed); workers = Some (unwrap_or s.workers workers); waiting = [] }) (closing_text s order)) (λ host. refused (after_batch s order) (closing_text s order) faults.SecondBoard))
-  go None o = absurd o
-  go (Some host) o = inr (refl, ends.leads, ends.text)
-
 -- ---- the end of a batch, and of a run
 
 -- of a batch without arrivals

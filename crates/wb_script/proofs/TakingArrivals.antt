@@ -34,11 +34,8 @@ same_fault e f h = cc
 pub ended_well : (over : Option (Result (Unit {0}) RunFault)) (fault : Option RunFault) (u : Unit {0}) → over ≡ Some (Ok u) → fault ≡ None → IsFault over fault
 ended_well over fault u e none = subst (λ (o : Option (Result (Unit {0}) RunFault)). IsFault o fault) (sym e) none
 
-two_faults : (over : Option (Result (Unit {0}) RunFault)) (e f : RunFault) → over ≡ Some (Err e) → over ≡ Some (Err f) → e ≡ f
-two_faults over e f one other = cc
-
 pub ended_badly : (over : Option (Result (Unit {0}) RunFault)) (fault : Option RunFault) (e f : RunFault) → over ≡ Some (Err e) → over ≡ Some (Err f) → fault ≡ Some f → is_stop e ≡ false → IsFault over fault
-ended_badly over fault e f one other is going = subst (λ (o : Option (Result (Unit {0}) RunFault)). IsFault o fault) (sym other) (is, ap is_stop (sym (two_faults over e f one other)) ∙ going)
+ended_badly over fault e f one other is going = subst (λ (o : Option (Result (Unit {0}) RunFault)). IsFault o fault) (sym other) (is, let same : f ≡ e = cc in ap is_stop same ∙ going)
 
 pub not_ended : {X : Type 0} (over : Option (Result (Unit {0}) RunFault)) → over ≡ None → is_some over ≡ true → X
 not_ended None none e = absurd (false≢true e)
@@ -108,10 +105,6 @@ goes_after : (fault : Option RunFault) (s : State) (order arrived : List DrawopV
 goes_after None s order arrived old new first given failed opened may p = passes_after old.done new.done (with_waiting s (first ∷ [])) (with_waiting s arrived) order old.ahead new given opened may p.0 p.1
 goes_after (Some f) s order arrived old new first given failed opened may p = (p.0, stops_after old.done (with_waiting s (first ∷ [])) (with_waiting s arrived) order old.ahead new.ahead given failed f p.0 opened may p.1)
 
--- what is printed then
-closing_is : (o : Option Opened) (host : Opened) (order : List DrawopValue) → o ≡ Some host → by_host {X = List ℕ} o [] (λ h. batch_text h.board order) ≡ batch_text host.board order
-closing_is o host order e = ap (λ (h : Option Opened). by_host {X = List ℕ} h [] (λ k. batch_text k.board order)) e
-
 -- what a member prints and tells its keeper of a batch that it has taken
 pub record TellsKeeper (d : TakenBatch) (member : MemberValue) (written : List ℕ) : Type 0 where
   pub text : written ≡ batch_line (counts_in d.batch)
@@ -140,7 +133,7 @@ takes_on old workers d member written given lines lines' first failed s host her
     let opened : IsOpen s.host = subst IsOpen (sym here) tt in
     let t = told_at old workers d member.member written host is (read opened).0 told at in
     let may : MayBeTaken s.workers arrived is.taken.order = record { moved = is.taken.may.moved; alone = λ a. is.taken.may.alone (few a) } in
-    let text : closing_text (with_waiting s arrived) is.taken.order ≡ written = closing_is s.host host is.taken.order here ∙ sym t.text in
+    let text : closing_text (with_waiting s arrived) is.taken.order ≡ written = ap (λ (h : Option Opened). by_host {X = List ℕ} h [] (λ k. batch_text k.board is.taken.order)) here ∙ sym t.text in
     let goes : GoesOn d.fault s lines first given (closing_text (with_waiting s arrived) is.taken.order) lines' failed (after_batch (with_waiting s arrived) is.taken.order) =
     goes_after d.fault s is.taken.order arrived lines lines' first given failed opened may (read opened).1 in
     record {

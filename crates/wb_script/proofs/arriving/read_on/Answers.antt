@@ -3,7 +3,7 @@ use Rattle.std.proofs.lemmas.Result.{err_from_is_err_and}
 use Rattle.wb_lines.proofs.KnownBytes.{Sends-none, Sends-then}
 use Rattle.wb_lines.proofs.LineBytes.{Pulls-none, Pulls-then, Pulls-on}
 use Rattle.wb_script.proofs.Outcomes.{Passes-none, Passes-stops}
-use Rattle.wb_script.proofs.ReadLines.{taken_end, taken_few, taken_done, look_then, skip_then, arrival_then, other_seen, none_seen}
+use Rattle.wb_script.proofs.ReadLines.{after_taking, look_then, skip_then, arrival_then, other_seen, none_seen}
 use Rattle.wb_script.proofs.arriving.read_on.Goals as goal
 
 pub loop-progress-init : goal.loop-progress-init
@@ -23,21 +23,19 @@ returns-in_err-look-clause-sends g c = Sends-then (g.W.Sink.taken c.args.sink.no
 pub loop-progress-smaller : goal.loop-progress-smaller
 loop-progress-smaller g c =
     let one = rw c.if-branch.true at c.in_ok-look.ensures.read in
-    let few = taken_few c.look.new.self.next c.look.new.self.ahead c.look.new.self.done c.pass.new.self c.pass.ensures in
-    let done = taken_done c.look.new.self.next c.look.new.self.ahead c.look.new.self.done c.pass.new.self c.pass.ensures in
-    omega (arith, few, done, one.2.2)
+    let taken = after_taking c.look.new.self.next c.look.new.self.ahead c.look.new.self.done c.pass.new.self c.pass.ensures in
+    omega (arith, taken.few, taken.count, one.2.2)
 
 pub loop-progress-preserved : goal.loop-progress-preserved
 loop-progress-preserved g c =
     let so_far = c.loop-progress.invariant in
     let one = rw c.if-branch.true at c.in_ok-look.ensures.read in
     let part = rw c.in-Skipped.is at c.part.ensures in
-    let same = taken_end c.look.new.self.next c.look.new.self.ahead c.look.new.self.done c.pass.new.self c.pass.ensures in
-    let done = taken_done c.look.new.self.next c.look.new.self.ahead c.look.new.self.done c.pass.new.self c.pass.ensures in (
+    let taken = after_taking c.look.new.self.next c.look.new.self.ahead c.look.new.self.done c.pass.new.self c.pass.ensures in (
       so_far.0 ++ one.0,
-      Pulls-on c.args.progress.now.lines.ahead c.look.new.self.ahead c.pass.new.self.ahead (g.R.Source.left c.args.source.now) (g.R.Source.left c.look.new.source) (g.R.Source.has_failed c.args.source.now) (g.R.Source.has_failed c.look.new.source) (so_far.0 ++ one.0) same (Pulls-then c.args.progress.now.lines.ahead c.loop-progress.progress.lines.ahead c.look.new.self.ahead (g.R.Source.left c.args.source.now) (g.R.Source.left c.loop-progress.source) (g.R.Source.left c.look.new.source) (g.R.Source.has_failed c.args.source.now) (g.R.Source.has_failed c.loop-progress.source) (g.R.Source.has_failed c.look.new.source) so_far.0 one.0 so_far.1 one.1),
+      Pulls-on c.args.progress.now.lines.ahead c.look.new.self.ahead c.pass.new.self.ahead (g.R.Source.left c.args.source.now) (g.R.Source.left c.look.new.source) (g.R.Source.has_failed c.args.source.now) (g.R.Source.has_failed c.look.new.source) (so_far.0 ++ one.0) taken.same_end (Pulls-then c.args.progress.now.lines.ahead c.loop-progress.progress.lines.ahead c.look.new.self.ahead (g.R.Source.left c.args.source.now) (g.R.Source.left c.loop-progress.source) (g.R.Source.left c.look.new.source) (g.R.Source.has_failed c.args.source.now) (g.R.Source.has_failed c.loop-progress.source) (g.R.Source.has_failed c.look.new.source) so_far.0 one.0 so_far.1 one.1),
       Sends-then (g.W.Sink.taken c.args.sink.now) (g.W.Sink.taken c.loop-progress.sink) (g.W.Sink.taken c.look.new.sink) c.args.progress.now.output c.loop-progress.progress.output c.look.new.output [] [] c.loop-progress.invariant.2 c.look.ensures.sends,
-      omega (arith, so_far.3, one.2.2, done),
+      omega (arith, so_far.3, one.2.2, taken.count),
       λ s opened. skip_then c.args.progress.now.lines.done s c.args.progress.now.lines.ahead c.look.new.self c.pass.new.self (so_far.0 ++ one.0) part c.pass.ensures (look_then c.args.progress.now.lines.done s c.args.progress.now.lines.ahead c.loop-progress.progress.lines c.look.new.self so_far.0 one.0 one.1.none_after_end one.1.end_stays one.2.0 one.2.2 (so_far.4 s opened)),
     )
 
@@ -46,12 +44,10 @@ returns-in-Arrival-clause-read g c =
     let so_far = c.loop-progress.invariant in
     let one = rw c.if-branch.true at c.in_ok-look.ensures.read in
     let part = rw c.in-Arrival.is at c.part.ensures in
-    let same = taken_end c.look.new.self.next c.look.new.self.ahead c.look.new.self.done c.pass-in-Arrival.new.self c.pass-in-Arrival.ensures in
-    let done = taken_done c.look.new.self.next c.look.new.self.ahead c.look.new.self.done c.pass-in-Arrival.new.self c.pass-in-Arrival.ensures in
-    let few = taken_few c.look.new.self.next c.look.new.self.ahead c.look.new.self.done c.pass-in-Arrival.new.self c.pass-in-Arrival.ensures in (
+    let taken = after_taking c.look.new.self.next c.look.new.self.ahead c.look.new.self.done c.pass-in-Arrival.new.self c.pass-in-Arrival.ensures in (
       so_far.0 ++ one.0,
-      Pulls-on c.args.progress.now.lines.ahead c.look.new.self.ahead c.pass-in-Arrival.new.self.ahead (g.R.Source.left c.args.source.now) (g.R.Source.left c.look.new.source) (g.R.Source.has_failed c.args.source.now) (g.R.Source.has_failed c.look.new.source) (so_far.0 ++ one.0) same (Pulls-then c.args.progress.now.lines.ahead c.loop-progress.progress.lines.ahead c.look.new.self.ahead (g.R.Source.left c.args.source.now) (g.R.Source.left c.loop-progress.source) (g.R.Source.left c.look.new.source) (g.R.Source.has_failed c.args.source.now) (g.R.Source.has_failed c.loop-progress.source) (g.R.Source.has_failed c.look.new.source) so_far.0 one.0 so_far.1 one.1),
-      (omega (arith, so_far.3, one.2.2, done), omega (arith, done, few), λ s opened. arrival_then c.args.progress.now.lines.done s c.args.progress.now.lines.ahead c.look.new.self c.pass-in-Arrival.new.self (so_far.0 ++ one.0) c.in-Arrival.drawop opened part c.pass-in-Arrival.ensures (look_then c.args.progress.now.lines.done s c.args.progress.now.lines.ahead c.loop-progress.progress.lines c.look.new.self so_far.0 one.0 one.1.none_after_end one.1.end_stays one.2.0 one.2.2 (so_far.4 s opened))),
+      Pulls-on c.args.progress.now.lines.ahead c.look.new.self.ahead c.pass-in-Arrival.new.self.ahead (g.R.Source.left c.args.source.now) (g.R.Source.left c.look.new.source) (g.R.Source.has_failed c.args.source.now) (g.R.Source.has_failed c.look.new.source) (so_far.0 ++ one.0) taken.same_end (Pulls-then c.args.progress.now.lines.ahead c.loop-progress.progress.lines.ahead c.look.new.self.ahead (g.R.Source.left c.args.source.now) (g.R.Source.left c.loop-progress.source) (g.R.Source.left c.look.new.source) (g.R.Source.has_failed c.args.source.now) (g.R.Source.has_failed c.loop-progress.source) (g.R.Source.has_failed c.look.new.source) so_far.0 one.0 so_far.1 one.1),
+      (omega (arith, so_far.3, one.2.2, taken.count), omega (arith, taken.count, taken.few), λ s opened. arrival_then c.args.progress.now.lines.done s c.args.progress.now.lines.ahead c.look.new.self c.pass-in-Arrival.new.self (so_far.0 ++ one.0) c.in-Arrival.drawop opened part c.pass-in-Arrival.ensures (look_then c.args.progress.now.lines.done s c.args.progress.now.lines.ahead c.loop-progress.progress.lines c.look.new.self so_far.0 one.0 one.1.none_after_end one.1.end_stays one.2.0 one.2.2 (so_far.4 s opened))),
     )
 
 pub returns-in-Arrival-clause-sends : goal.returns-in-Arrival-clause-sends

@@ -1,4 +1,5 @@
-use Rattle.wb_script.proofs.FreeArrivals.{batches_are_one, arrivals_are_free, prints_are_free}
+use Rattle.wb_script.proofs.AlikeHistories.{prints_are_free}
+use Rattle.wb_script.proofs.FreeArrivals.{batches_are_one, arrivals_are_free}
 use Rattle.wb_script.proofs.laws.arrivals_are_free.Goals as goal
 
 pub returns : goal.returns

@@ -3,7 +3,7 @@ use Rattle.std.proofs.lemmas.Result.{err_from_is_err_and}
 use Rattle.wb_script.specs.Inside.Steps.{HostValue}
 use Rattle.wb_lines.proofs.KnownBytes.{Sends-none}
 use Rattle.wb_lines.proofs.LineBytes.{Pulls-then}
-use Rattle.wb_script.proofs.ReadLines.{taken_few, taken_done}
+use Rattle.wb_script.proofs.ReadLines.{after_taking}
 use Rattle.wb_script.proofs.RunOn.{takes_pulls, ending_of, arrives_nowhere, arrives_open, arrives_refused}
 use Rattle.wb_script.proofs.host.Host.arrive.Goals.{in-None, in-Some-fault}
 use Rattle.wb_script.proofs.host.Host.arrive.Goals as goal
@@ -52,10 +52,9 @@ returns-clause-text g c =
 
 pub returns-clause-on : goal.returns-clause-on
 returns-clause-on g c =
-    let few = taken_few c.args.progress.now.lines.next c.args.progress.now.lines.ahead c.args.progress.now.lines.done c.pass.new.self c.pass.ensures in
-    let done = taken_done c.args.progress.now.lines.next c.args.progress.now.lines.ahead c.args.progress.now.lines.done c.pass.new.self c.pass.ensures in
+    let taken = after_taking c.args.progress.now.lines.next c.args.progress.now.lines.ahead c.args.progress.now.lines.done c.pass.new.self c.pass.ensures in
     let on = c.in_ok-member.ensures.read.4 in
-    (few, omega (arith, done, on))
+    (taken.few, omega (arith, taken.count, on))
 
 pub returns-clause-failed : goal.returns-clause-failed
 returns-clause-failed g c = elim c.match-fault.branch [
