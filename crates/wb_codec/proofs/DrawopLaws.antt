@@ -7,7 +7,7 @@ use Rattle.wb_names.specs.Kinds.{every_kind, kind_with-key, kind_with-is, op_kin
 use Rattle.wb_names.specs.declared.parts.OpKind.{OpKind}
 use Rattle.wb_codec.specs.declared.version.Version.{Version}
 use Rattle.wb_codec.specs.declared.version.Version.TheVariants.{One, Two}
-use Rattle.wb_codec.specs.Kinds.{op_code, op_kind_of, has_kind}
+use Rattle.wb_codec.specs.Kinds.{op_code, op_kind_of, has_kind, first_version, is_version}
 use Rattle.std.specs.Int.{w32, to_be_bytes, w64}
 use Rattle.std.proofs.lemmas.Bool.Decides.{nat_tests}
 use Rattle.std.proofs.lemmas.List.{take-append-drop, length-take}
@@ -116,10 +116,13 @@ no_fault_again name (Text x y text) e = by_length (nat_le (length text) 40) refl
   by_length false h = grind (arith, nat_tests)
 no_fault_again name op e = e
 
+same_version : (v : Version) → is_version v v ≡ true
+same_version One = refl
+same_version Two = refl
+
 its_version : (op : Op) → has_kind (op_version op) (op_kind op) ≡ true
 its_version (Text x y text) = refl
-its_version (Aimed Restore t) = refl
-its_version op = refl
+its_version op = same_version (first_version (op_kind op))
 
 pub op_again : (name : NameValue) (op : Op) (rest : List ℕ) → IsLawful name op → HasTarget op → op_at (op_version op) (op_bytes op ++ rest) ≡ Ok (op, rest)
 unfolding op_at
