@@ -13,6 +13,7 @@ use Rattle.wb_display.proofs.Overlaying.{drawn_over, agreeing, untouched}
 use Rattle.std.proofs.Math.Nat.{div-zero, mul-le-mul_right}
 use Rattle.std.proofs.Math.Bool.{or-false}
 use Rattle.wb_display.specs.Walks.{error_at, IsWalk, AreInside}
+use Rattle.wb_display.specs.Walking.{Progress}
 use Rattle.wb_display.specs.declared.line_points.Walk.TheInside.{Inside}
 use Rattle.std.proofs.lemmas.Bool.{cases_lt}
 use Rattle.wb_display.specs.declared.line_points.Steps.{Steps}
@@ -36,6 +37,15 @@ line_one_more x0 y0 x1 y1 m n x y =
 pub line_more : (w h x0 y0 x1 y1 m n px py g : ℕ) (old mid new : List ℕ) → px ≡ line_at x0 x1 m n → py ≡ line_at y0 y1 m n → Overlays w h (line_upto x0 y0 x1 y1 m n) (λ _. g) old mid → Overlays w h (is_at px py) (λ _. g) mid new → Overlays w h (line_upto x0 y0 x1 y1 m (n + 1)) (λ _. g) old new
 line_more w h x0 y0 x1 y1 m n px py g old mid new ex ey a b =
     drawn_over w h _ _ _ _ _ _ old mid new a b (λ x y. line_one_more x0 y0 x1 y1 m n x y ∙ ap (λ (t : ℕ). line_upto x0 y0 x1 y1 m n x y || is_at t (line_at y0 y1 m n) x y) (sym ex) ∙ ap (λ (t : ℕ). line_upto x0 y0 x1 y1 m n x y || is_at px t x y) (sym ey)) (λ x y p q. refl) (λ x y p. refl)
+
+pub at_step : (p : Progress) (a b m k : ℕ) → p ≡ record { from = a; to = b; steps = m; gone = k } → line_at p.from p.to p.steps p.gone ≡ line_at a b m k
+at_step p a b m k e = ap (λ (p : Progress). line_at p.from p.to p.steps p.gone) e
+
+pub same_steps : (p : Progress) (a b s m k : ℕ) → s ≡ m → p ≡ record { from = a; to = b; steps = s; gone = k } → p ≡ record { from = a; to = b; steps = m; gone = k }
+same_steps p a b s m k same e = cc
+
+pub before_end : (p q end : ℕ) → p ≡ q → q < end → p < end
+before_end p q end same lt = omega arith
 
 -- a quotient and a remainder, by what they make
 division : (n w q r : ℕ) → n ≡ q * w + r → r < w → (n / w ≡ q) × (n % w ≡ r)
