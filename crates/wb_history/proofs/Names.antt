@@ -87,7 +87,3 @@ put_name l l' d keys keys' absent indexed put inserted =
         let m = at_some l k (omega arith) in
         let there = at_map (λ (f : DrawopValue). f.name) l k m.0 m.1 in
         absurd (absent (member_named l d.name k m.0 m.1 (at_same (names l) k m.0.name (get_or (names l) k e) there (at_read (names l) k e h) ∙ sym (alike-is d.name (get_or (names l) k e) same)))))
-
--- the last names leave the index
-pub take_names : (n : ℕ) (l l' : List DrawopValue) (keys keys' : List NameValue) → keys ≡ names l → l' ≡ take n l → keys' ≡ take n keys → keys' ≡ names l'
-take_names n l l' keys keys' indexed taken cut = grind (arith, common_steps, take-map)

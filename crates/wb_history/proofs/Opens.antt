@@ -1,6 +1,6 @@
 -- The table at the start keeps the rule.
 use Rattle.std.proofs.lemmas.Grind.{common_steps}
-use Rattle.wb_history.specs.Sizes.{member_steps}
+use Rattle.wb_history.specs.Sizes.{row_stride}
 use Rattle.std.proofs.Common.{◌≡◌, ℕ, zero, suc, ◌+◌, ◌*◌, ◌<◌, List, [], ◌∷◌, length, get_or, refl, sym, ap, ◌∙◌, arith}
 use Rattle.std.specs.Prelude.{replicate}
 use mathlib.Core.Option.{some, some-injective, some-ne-none}
@@ -23,7 +23,7 @@ get_or-replicate zero i = refl
 get_or-replicate (suc n) zero = refl
 get_or-replicate (suc n) (suc i) = get_or-replicate n i
 
-pub opens : (cells : ℕ) (words : List ℕ) (n : ℕ) → words ≡ replicate n 0 → length words ≡ n → n ≡ cells * member_steps → Lawful cells (opening words [] (whole_pass cells))
+pub opens : (cells : ℕ) (words : List ℕ) (n : ℕ) → words ≡ replicate n 0 → length words ≡ n → n ≡ cells * (row_stride + 1) → Lawful cells (opening words [] (whole_pass cells))
 opens cells words n zeros len size = record {
   log = [];
   rows = [];

@@ -1,6 +1,6 @@
 -- What the parts of a pass show of it.
 use Rattle.std.proofs.lemmas.Grind.{common_steps}
-use Rattle.wb_history.specs.Sizes.{member_steps}
+use Rattle.wb_history.specs.Sizes.{row_stride, member_steps}
 use Rattle.std.proofs.Common.{◌≡◌, ℕ, ◌+◌, ◌-◌, ◌*◌, ◌<◌, ◌≤◌, List, [], ◌∷◌, ◌++◌, length, refl, sym, ap, ◌∙◌, subst, arith, length-append, length-take-le, Result, Ok, Err, OnOk, OnErr, MatchResult}
 use Rattle.std.proofs.lemmas.List.{append-nil, length-replicate}
 use Rattle.std.specs.Prelude.{replicate, All, Contains}
@@ -138,7 +138,7 @@ shown cells h d h' (Err Memory) o same m = grind (arith, common_steps)
 
 pub first_consistent : (cells : ℕ) → 0 < cells → IsConsistent (whole_pass cells)
 first_consistent cells h =
-    let n = cells * member_steps in
+    let n = cells * (row_stride + 1) in
     let r = opens cells (replicate n 0) n refl (length-replicate n 0) refl in
     consistent cells (opening (replicate n 0) [] (whole_pass cells)) r 0 (whole_pass cells) (r.each_pass 0 (whole_pass cells) refl) h
 

@@ -1,6 +1,6 @@
--- The rule of the table. Words 0 to cells - 1 are the cells, and as many rows follow, each of row_words words. A cell holds 0 while
+-- The rule of the table. Words 0 to cells - 1 are the cells, and as many rows follow, each of row_stride words. A cell holds 0 while
 -- it is free, and else a row number plus one.
-use Rattle.wb_history.specs.Sizes.{row_words}
+use Rattle.wb_history.specs.Sizes.{row_words, row_stride}
 use Rattle.std.specs.Prelude.{◌≡◌, ℕ, suc, ◌+◌, ◌-◌, ◌*◌, ◌<◌, ◌≤◌, List, length, slice_index, All, Contains}
 use mathlib.Core.Option.{some}
 use lib.ListN.{get_elem?}
@@ -16,7 +16,7 @@ use Rattle.wb_history.specs.Views.{HasAllRows}
 
 -- the word k of a row
 abbrev pub address : ℕ → ℕ → ℕ → ℕ
-address cells r k = cells + r * row_words + k
+address cells r k = cells + r * row_stride + k
 
 -- what a pass with so many cells has seen, and the shorter list of its last join, are beginnings of the history
 pub record Sees (cells : ℕ) (log : List DrawopValue) (own_cells : ℕ) (seen joined : List DrawopValue) : Type 0 where
@@ -51,7 +51,7 @@ pub record Knows (cells : ℕ) (words : List ℕ) (log : List DrawopValue) (rows
 
 -- the words have this history: each filled cell names the row that has the record of its member
 pub record HasHistory (cells : ℕ) (words : List ℕ) (log : List DrawopValue) (rows : List ℕ) : Type 0 where
-  pub wide : length words ≡ cells + cells * row_words
+  pub wide : length words ≡ cells + cells * row_stride
   pub long : length rows ≡ length log
   pub filled : (p r : ℕ) → get_elem? rows p ≡ some r → (r < cells) × (slice_index words p ≡ suc r)
   pub unfilled : (p : ℕ) → length rows ≤ p → p < cells → slice_index words p ≡ 0

@@ -22,8 +22,9 @@ use wb_names::Drawop;
 
 impl CellTable {
     /// Exchanges the next cell for the row, in which the record of the drawop stands. Or else reads
-    /// the member whose cell it is. The drawop is put into the list and the index before, so that
-    /// nothing can be refused after the exchange is won; where it is lost it is taken out again.
+    /// the member whose cell it is. Room for the drawop is made before, so that nothing can be refused
+    /// after the exchange is won; it is put into the list and the index after, since every moment
+    /// between the look at a cell and its exchange is one in which another thread may win the cell.
     fn exchange(
         &self,
         cursor: &mut Cursor,
@@ -41,15 +42,14 @@ impl CellTable {
         cursor.seen.reserve(1)?;
         cursor.mine.reserve(1)?;
         let place = cursor.seen.len();
-        cursor.seen.put(drawop);
         let found = self.publish(&mut cursor.seat, place, row, drawop);
         cursor.steps += 1;
         if found == 0 {
+            cursor.seen.put(drawop);
             cursor.mine.push_reserved(place as u32);
             cursor.free.take_last();
             return Ok(None);
         }
-        cursor.seen.take_back();
         let member = self.take_member(cursor, found)?;
         Ok(Some(member))
     }

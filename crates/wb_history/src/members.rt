@@ -1,5 +1,5 @@
 //! The members of a history that a pass has seen, with an index of their names.
-ghost use Rattle.std.specs.Prelude.{◌≡◌, ◌+◌, ◌<◌, ◌≤◌, ◌-◌, take, [], ◌∷◌, ◌++◌, length, IfOk, OnOk, MatchOption};
+ghost use Rattle.std.specs.Prelude.{◌≡◌, ◌+◌, ◌<◌, ◌≤◌, [], ◌∷◌, ◌++◌, length, IfOk, OnOk, MatchOption};
 ghost use mathlib.Core.List.{IsPrefix};
 ghost use mathlib.Core.Option.{some};
 ghost use lib.ListN.{get_elem?};
@@ -84,16 +84,6 @@ impl Members {
         let Ok(_) = self.names.insert(drawop.name()) else {
             unreachable!()
         };
-    }
-
-    /// Takes the last member out again, in the list and in the index.
-    pub(crate) fn take_back(&mut self)
-        requires { 0 < length self.old.items }
-        ensures { self.new.items ≡ take (length self.old.items - 1) self.old.items }
-    {
-        let kept = self.list.len() - 1;
-        self.list.truncate(kept);
-        self.names.truncate(kept);
     }
 
     /// Puts in what a longer list has more, for which there is room.

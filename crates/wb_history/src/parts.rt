@@ -178,7 +178,7 @@ impl History {
             cells: _,
         } = other;
         let shorter = self.cells.take_in(&mut pass.cursor, cursor);
-        keep(&mut pass.spares, shorter);
+        keep(&mut pass.spares, shorter, pass.cursor.seen.len());
         Ok(())
     }
 

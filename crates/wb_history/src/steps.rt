@@ -1,6 +1,6 @@
 //! Each kind of step on a word, who may take it and what it tells, and the steps on a whole row.
 //! Only a won exchange is an event of the history; every other step changes nothing that is seen.
-ghost use Rattle.wb_history.specs.Sizes.{row_words};
+ghost use Rattle.wb_history.specs.Sizes.{row_stride};
 ghost use Rattle.std.specs.Prelude.{◌≡◌, ◌≢◌, ℕ, ◌+◌, ◌-◌, ◌*◌, ◌<◌, ◌≤◌, [], ◌∷◌, ◌++◌, length};
 ghost use mathlib.Core.Option.{some, none};
 ghost use lib.ListN.{get_elem?};
@@ -13,9 +13,9 @@ ghost use Rattle.wb_codec.specs.Ranges.{IsDrawop};
 ghost use Rattle.wb_history.specs.Seats.{SitsAt, SameSeat};
 ghost use Rattle.wb_history.specs.Views.{IsMember, IsStored, left_part, right_part, united};
 
-use crate::cells::{CellTable, HistorySeat};
+use crate::cells::{CellTable, HistorySeat, ROW_STRIDE};
 use crate::rule::{Confirm, Cut, Look, Portion, Publish, ReadLast, ReadWord, StoreWord, Unite};
-use wb_codec::{ROW_WORDS, from_row, to_row};
+use wb_codec::{ROW_WORDS, drawop_in, to_row};
 use wb_names::Drawop;
 
 impl CellTable {
@@ -33,9 +33,9 @@ impl CellTable {
     /// The first word of a row: the rows stand after the cells.
     fn row_start(&self, row: usize) -> usize
         requires { row < self.now.cells }
-        ensures { result ≡ self.now.cells + row * row_words }
+        ensures { result ≡ self.now.cells + row * row_stride }
     {
-        self.cells as usize + row * ROW_WORDS
+        self.cells as usize + row * ROW_STRIDE
     }
 
     /// Reads the row that the cell names which the seat looked at. Its owner stored it before that
@@ -55,7 +55,7 @@ impl CellTable {
             .table
             .shared
             .load::<ReadLast>(seat, start + ROW_WORDS - 1);
-        match from_row(&words) {
+        match drawop_in(&words) {
             Some(drawop) => drawop,
             None => unreachable!(),
         }
