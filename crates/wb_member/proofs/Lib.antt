@@ -1,0 +1,7 @@
+pub mod Boards
+pub mod Queries
+pub mod Acts
+pub mod HeardActs
+pub mod OneArrival
+pub mod NextNumbers
+pub mod SeedWords

@@ -1,0 +1,6 @@
+pub mod Board
+pub mod Queries
+pub mod Random
+pub mod Members
+pub mod Opened
+pub mod Holding

@@ -1,0 +1,167 @@
+//! A member: what it is handed, and what follows.
+ghost use Rattle.std.specs.Prelude.{◌≡◌, ◌<◌, ◌≤◌, ◌^◌, true, length, IfOk, OnErr, IfSome};
+ghost use Rattle.wb_recovery.specs.Timing.{are_constants};
+ghost use Rattle.wb_host.specs.KeepFaults.{IsKeptBy, delay_fault};
+ghost use Rattle.wb_member.specs.Holding.{IsOpenAt, IsUnreached, outcome_in};
+ghost use Rattle.wb_member.specs.Opened.{Opened, opened_with, present, becomes, accepted, heard, heard_fault, takes_word, answered, with_delay, next_due, ticked, ticked_fault, sent_by, next_number};
+
+mod asking;
+mod telling;
+
+use crate::own_board::OwnBoard;
+use crate::random::RandomWords;
+use std::alloc::{AllocError, Global};
+use std::marker::Model;
+use wb_codec::Datagram;
+use wb_host::{KeepFault, Keeper, Reply};
+use wb_names::{Drawop, PageId};
+use wb_recovery::Tuning;
+
+/// A board, what its member keeps of the session, and the random words that were not taken yet.
+///
+/// What the keeper holds stands for the calls that it accepted. So the contracts speak of each member at
+/// which the code may be, and say at which it is afterwards.
+#[derive(Drop)]
+pub struct Member {
+    pub(crate) board: OwnBoard,
+    pub(crate) keeper: Keeper,
+    pub(crate) words: RandomWords,
+}
+
+impl Model for Member {
+    ghost use Rattle.wb_member.specs.Holding.{MemberValue};
+
+    ghost Value = { MemberValue };
+
+    ghost view = { λ s. record { board = s.board; keeper = s.keeper; words = s.words } };
+}
+
+impl Member {
+    /// An empty board of so many cells, a keeper of the member that has heard nothing, with these
+    /// constants of its timers, and the random words of a seed.
+    pub fn open(
+        alloc: Global,
+        member: u32,
+        cells: u32,
+        seed: u64,
+        tuning: Tuning,
+    ) -> Result<Self, AllocError>
+        requires cells { (0 < cells) × (cells ≤ 65535) }
+        requires constants { are_constants tuning ≡ true }
+        ensures { IfOk result (λ s. IsOpenAt s (opened_with tuning member cells seed)) }
+    {
+        let board = OwnBoard::open(alloc, cells)?;
+        match Keeper::new(alloc, member, tuning) {
+            Ok(keeper) => Ok(Member {
+                board,
+                keeper,
+                words: RandomWords::new(seed),
+            }),
+            Err(_) => unreachable!(),
+        }
+    }
+
+    /// Its number.
+    pub fn me(&self) -> u32
+        ensures { (host : Opened) → IsOpenAt self.now host → result ≡ host.is.number }
+    {
+        self.keeper.me()
+    }
+
+    /// The present moment in microseconds, below 2^48, and at first 0.
+    pub fn moment(&self) -> u64
+        ensures moment { (host : Opened) → IsOpenAt self.now host → result ≡ present host }
+        ensures range { result < 2 ^ 48 }
+    {
+        self.keeper.moment()
+    }
+
+    /// How many drawops are held.
+    pub fn held(&self) -> u32
+        ensures { result ≡ length self.now.board.drawops }
+    {
+        self.board.drawops().len() as u32
+    }
+
+    /// A drawop arrives, as a batch of its own, and the keeper is told of it. Answers what became of it:
+    /// None where it is new and the board is full.
+    pub fn accept(&mut self, drawop: &Drawop) -> Result<Option<Reply>, AllocError>
+        ensures accepted { IfOk result (λ reply. (host : Opened) → IsOpenAt self.old host → (outcome_in reply ≡ becomes drawop.now host) × IsOpenAt self.new (accepted drawop.now host)) }
+        ensures err { OnErr result (self.new ≡ self.old) }
+    {
+        let reply = self.board.accept(drawop)?;
+        self.board.tell_arrived(&mut self.keeper, &[drawop.name()]);
+        Ok(reply)
+    }
+
+    /// A datagram other than a drawop is heard at the present moment. Answers what is sent at once. Refused
+    /// with `TooMany`, where a page would have marks of over 65,535 sources, or `Memory`.
+    pub fn hear(&mut self, alloc: Global, datagram: &Datagram) -> Result<Vec<Datagram>, KeepFault>
+        ensures fault { (host : Opened) → IsOpenAt self.old host → IsKeptBy (heard_fault datagram.now host) result }
+        ensures sent { IfOk result (λ sent. (host : Opened) → IsOpenAt self.old host → (sent.items ≡ answered datagram.now host) × IsOpenAt self.new (heard datagram.now host)) }
+        ensures err { OnErr result (self.new ≡ self.old) }
+    {
+        if takes_word(datagram) {
+            let (word, rest) = self.words.next_ahead()?;
+            let sent = self.board.hear(alloc, &mut self.keeper, datagram, word)?;
+            self.words = rest;
+            return Ok(sent);
+        }
+        self.board.hear(alloc, &mut self.keeper, datagram, 0)
+    }
+
+    /// Sets the delay to a source, in microseconds. Refused with `Range`, from 2^24 microseconds on, or
+    /// `Memory`.
+    pub fn set_delay(&mut self, source: u32, micros: u64) -> Result<(), KeepFault>
+        ensures fault { IsKeptBy (delay_fault micros) result }
+        ensures set { IfOk result (λ _. (host : Opened) → IsOpenAt self.old host → IsOpenAt self.new (with_delay source micros host)) }
+        ensures err { OnErr result (self.new ≡ self.old) }
+    {
+        self.keeper.set_delay(source, micros)
+    }
+
+    /// The least moment at which a timer is due, and so when the next tick has something to do. None
+    /// where no timer stands.
+    pub fn next_due(&self) -> Option<u64>
+        ensures { (host : Opened) → IsOpenAt self.now host → result ≡ next_due host }
+    {
+        self.keeper.next_due()
+    }
+
+    /// Time goes on to a moment in microseconds. Answers what is sent: the requests and repairs that are due.
+    /// Refused with `BackInTime`, before the present moment, or `Memory`.
+    pub fn tick(&mut self, alloc: Global, now: u64) -> Result<Vec<Datagram>, KeepFault>
+        requires { now < 2 ^ 48 }
+        ensures fault { (host : Opened) → IsOpenAt self.old host → IsKeptBy (ticked_fault now host) result }
+        ensures sent { IfOk result (λ sent. (host : Opened) → IsOpenAt self.old host → (sent.items ≡ sent_by now host) × IsOpenAt self.new (ticked now host)) }
+        ensures err { OnErr result (self.new ≡ self.old) }
+    {
+        if now < self.keeper.moment() {
+            return Err(KeepFault::BackInTime);
+        }
+        let count = self.keeper.due_count(now);
+        let (words, rest) = self.words.ahead(alloc, count)?;
+        let sent = self.board.tick(alloc, &mut self.keeper, now, &words)?;
+        self.words = rest;
+        Ok(sent)
+    }
+
+    /// The number of its next drawop on a page: one above the greatest of its own that is held or was
+    /// heard of. None where that is 4,294,967,295, the last number.
+    pub fn next_number(&self, page: PageId) -> Option<u32>
+        ensures number { (host : Opened) → IsOpenAt self.now host → result ≡ next_number page host }
+        ensures unreached { IfSome result (λ number. (host : Opened) → IsOpenAt self.now host → IsUnreached page host number) }
+    {
+        let last = self
+            .board
+            .known_number(&self.keeper, page, self.keeper.me());
+        last.checked_add(1)
+    }
+}
+
+/// Whether a random word is taken for a datagram that is heard: for a request, and for no other.
+fn takes_word(datagram: &Datagram) -> bool
+    ensures { result ≡ takes_word datagram.now }
+{
+    matches!(datagram, Datagram::Request { .. })
+}
