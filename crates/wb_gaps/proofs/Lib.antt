@@ -1,10 +1,7 @@
-pub mod PageOrder
 pub mod HeldNumbers
 pub mod GreatestNumbers
-pub mod SingleRuns
-pub mod TakenIn
+pub mod LessPairs
 pub mod Reports
-pub mod WordOrder
 pub mod MarkFaults
 pub mod JoinedMarks
 pub mod OneGaps
@@ -22,3 +19,4 @@ pub mod Adding
 pub mod HeldRanges
 pub mod PageRanges
 pub mod PageSteps
+pub mod FirstHoles

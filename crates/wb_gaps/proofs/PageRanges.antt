@@ -31,7 +31,7 @@ use Rattle.wb_gaps.specs.declared.run.Run.{Run}
 use Rattle.wb_gaps.proofs.HeldNames.{held-by, held-from}
 use Rattle.wb_gaps.proofs.HeldNumbers.{same_page-here}
 use Rattle.wb_gaps.proofs.HeldRanges.{covers_name, name_covered}
-use Rattle.wb_gaps.proofs.SingleRuns.{less_parts}
+use Rattle.wb_gaps.proofs.LessPairs.{less_parts}
 use Rattle.wb_gaps.proofs.Starts.{page_itself, start_is, start_total}
 
 abbrev pub page_at : Start × ℕ → PageId

@@ -1,23 +1,18 @@
 -- The marks of the numbers that a page holds are its report.
 use Rattle.std.proofs.Common.{◌≡◌, ℕ, zero, suc, ◌<◌, ◌≤◌, Bool, true, false, cond, max, List, [], ◌∷◌, length, refl, ap, ◌∙◌, sym, subst, arith, ◌⊎◌, inl, inr, ⊎_elim, eqb-true, true≢false}
-use Rattle.std.specs.Prelude.{map, nat_eq, ◌&&◌}
+use Rattle.std.specs.Prelude.{nat_eq, ◌&&◌}
 use Rattle.std.proofs.lemmas.Bool.{cases_lt}
 use Rattle.std.proofs.lemmas.Bool.Decides.{nat_tests}
-use Rattle.std.proofs.lemmas.List.{length-map}
 use Rattle.wb_names.specs.Values.{NameValue, DrawopValue, MarkValue}
 use Rattle.wb_names.specs.History.{IsHeld, name_of, is_of, highest}
 use Rattle.wb_names.specs.Marks.{mark_of, IsReport}
 use Rattle.wb_names.specs.declared.name.PageId.{PageId}
 use Rattle.wb_names.proofs.Orders.{and_both, same_page-is, name_parts}
-use Rattle.wb_gaps.specs.Runs.{AreRunsOf, InRuns, single}
-use Rattle.wb_gaps.specs.Candidates.{HasGreatest}
+use Rattle.wb_gaps.specs.Runs.{AreRunsOf, InRuns}
 use Rattle.wb_gaps.specs.Greatest.{IsGreatest}
 use Rattle.wb_gaps.specs.LastNumbers.{AreGreatest}
-use Rattle.wb_gaps.specs.Numbers.{HasNumber}
 use Rattle.wb_gaps.proofs.HeldNumbers.{same_page-here}
 use Rattle.wb_gaps.proofs.GreatestNumbers.{one_greatest}
-use Rattle.wb_gaps.proofs.SingleRuns.{single_has}
-use Rattle.wb_gaps.specs.declared.held.SourceNumber.{SourceNumber}
 use Rattle.wb_gaps.specs.declared.run.Run.{Run}
 
 pub held_here : (d : DrawopValue) (history : List DrawopValue) (page : PageId) (source : ℕ) → is_of page source d ≡ true → IsHeld (d ∷ history) page source d.name.seq
@@ -86,14 +81,3 @@ pub report_of_runs : (history : List DrawopValue) (page : PageId) (runs : List R
 report_of_runs history page runs marks of tops few =
     let fewer = tops.few in
     (record { ascending = tops.ascending; positive = tops.positive; few = omega arith }, highest_from_marks history page runs marks of tops)
-
--- where the greatest of each source's numbers is the greatest that is held, their marks are the report
-pub is_report : (history : List DrawopValue) (page : PageId) (numbers : List SourceNumber) (runs : List Run) (marks : List MarkValue) → HasGreatest history page numbers → runs ≡ map single numbers → AreGreatest runs marks → length numbers ≤ length history → length history ≤ 65535 → IsReport history page marks
-is_report history page numbers runs marks has is tops short few =
-    let fewer = tops.few in
-    let same : length runs ≡ length numbers = ap length is ∙ length-map numbers single in (
-      record { ascending = tops.ascending; positive = tops.positive; few = omega arith },
-      λ source. one_greatest (InRuns runs source) (HasNumber numbers source) _ _ (tops.greatest source) (has source)
-          (λ n h. (single_has numbers source n).0 (subst (λ (rs : List Run). InRuns rs source n) is h))
-          (λ n h. subst (λ (rs : List Run). InRuns rs source n) (sym is) ((single_has numbers source n).1 h)),
-    )

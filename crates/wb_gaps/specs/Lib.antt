@@ -7,11 +7,10 @@ pub mod MergeFaults
 pub mod Sorting
 pub mod Answers
 pub mod Laws
-pub mod Numbers
 pub mod LastNumbers
 pub mod Joining
-pub mod Candidates
 pub mod Walk
 pub mod Runs
 pub mod Starts
 pub mod Holdings
+pub mod Holes

@@ -3,11 +3,9 @@ use Rattle.std.specs.Prelude.{◌≡◌, ℕ, ◌<◌, ◌≤◌, ◌⊎◌, ◌
 use Rattle.wb_names.specs.Values.{DrawopValue}
 use Rattle.wb_names.specs.History.{IsHeld}
 use Rattle.wb_names.specs.declared.name.PageId.{PageId}
-use Rattle.wb_gaps.specs.declared.held.SourceNumber.{SourceNumber}
 use Rattle.wb_gaps.specs.Starts.{run_of}
 use Rattle.wb_gaps.specs.declared.run.Run.{Run}
 use Rattle.wb_gaps.specs.declared.run.Runs.{Runs}
-use Rattle.wb_gaps.specs.declared.run.Runs.TheVariants.{Kept, Listed}
 
 -- the number n of the source lies in a run
 abbrev pub InRuns : List Run → ℕ → ℕ → Type 0
@@ -28,11 +26,6 @@ pub record AreRunsOf (history : List DrawopValue) (page : PageId) (runs : List R
   pub lawful : AreRuns runs
   pub held : (source n : ℕ) → InRuns runs source n ↔ IsHeld history page source n
 
--- a run of one number
-abbrev pub single : SourceNumber → Run
-single n = record { source = n.source; first = n.seq; last = n.seq }
-
--- what is left of runs: ranges that are kept, or numbers
+-- what is left of runs
 abbrev pub runs_left : Runs → List Run
-runs_left (Kept entries) = map run_of entries
-runs_left (Listed numbers) = map single numbers.now
+runs_left runs = map run_of runs.ranges

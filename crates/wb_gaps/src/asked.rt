@@ -29,16 +29,18 @@ impl Holdings {
         Missing::new(runs_of(&self.ranges, page), marks.as_slice())
     }
 
-    /// The numbers of a page that are missing, as `gaps` tells them of a list. It costs what the page
-    /// has of ranges and of marks.
+    /// The sequence numbers of a page that are missing: those from 1 up to the greatest that is held or that the
+    /// marks know of a source, without those that are held. They come as ranges, ascending by source and number,
+    /// that do not overlap or touch. It costs what the page has of ranges and of marks.
     pub fn gaps(&self, alloc: Global, page: PageId, marks: &Marks) -> Result<Vec<Gap>, AllocError>
         ensures { (history : List DrawopValue) → HoldNamesOf history self.now → IfOk result (λ gaps. AreGaps history page marks.now gaps.items) }
     {
         self.missing(page, marks).collect(alloc)
     }
 
-    /// The report of a page, as `report` tells it of a list. At most 65,535 ranges are held, so that
-    /// there are not too many marks. It costs what the page has of ranges.
+    /// The report of a page: for each source that has a drawop there, ascending, its greatest sequence number, as
+    /// session messages tell it (Floyd and others, 1997). At most 65,535 ranges are held, so that there are not too
+    /// many marks. It costs what the page has of ranges.
     pub fn report(&self, alloc: Global, page: PageId) -> Result<Marks, AllocError>
         requires { length self.now ≤ 65535 }
         ensures { (history : List DrawopValue) → HoldNamesOf history self.now → IfOk result (λ marks. IsReport history page marks) }
@@ -65,7 +67,7 @@ impl Holdings {
 }
 
 /// The runs of a page, ascending.
-fn runs_of(ranges: &BTreeMap<Start, u32>, page: PageId) -> Runs<'_>
+pub(crate) fn runs_of(ranges: &BTreeMap<Start, u32>, page: PageId) -> Runs<'_>
     requires { AreRanges ranges.now.entries }
     ensures ordered { IsOrdered start_cmp ranges.now }
     ensures runs { runs_left result ≡ runs_on page ranges.now.entries }
@@ -80,7 +82,9 @@ fn runs_of(ranges: &BTreeMap<Start, u32>, page: PageId) -> Runs<'_>
         source: u32::MAX,
         first: u32::MAX,
     };
-    Runs::Kept(ranges.range(from..=to))
+    Runs {
+        ranges: ranges.range(from..=to),
+    }
 }
 
 /// The pages of the ranges, ascending, each once. From the second range of a page it steps to the next page.

@@ -3,7 +3,6 @@
 ghost use Rattle.std.specs.Prelude.{◌≡◌, [], ◌∷◌, MatchOption};
 ghost use Rattle.wb_gaps.specs.Runs.{runs_left};
 
-use crate::held::SourceNumber;
 use crate::holdings::Start;
 use std::collections::btree_map::Range;
 
@@ -15,12 +14,10 @@ pub(crate) struct Run {
     pub(crate) last: u32,
 }
 
-/// What a walk has left of the runs of a page: ranges that are kept, or the numbers of a list, of which each is
-/// a run of its own. So both go the same walks.
+/// What a walk has left of the runs of a page: each is a range that is held.
 #[derive(Drop)]
-pub(crate) enum Runs<'a> {
-    Kept(Range<'a, Start, u32>),
-    Listed(&'a [SourceNumber]),
+pub(crate) struct Runs<'a> {
+    pub(crate) ranges: Range<'a, Start, u32>,
 }
 
 impl Runs<'_> {
@@ -28,28 +25,11 @@ impl Runs<'_> {
     pub(crate) fn next(&mut self) -> Option<Run>
         ensures { MatchOption result (runs_left self.old ≡ []) (λ run. runs_left self.old ≡ run ∷ runs_left self.new) }
     {
-        match self {
-            Runs::Kept(ranges) => {
-                let Some((start, last)) = ranges.next() else {
-                    return None;
-                };
-                Some(Run {
-                    source: start.source,
-                    first: start.first,
-                    last: *last,
-                })
-            }
-            Runs::Listed(numbers) => {
-                let Some((number, later)) = numbers.split_first() else {
-                    return None;
-                };
-                *numbers = later;
-                Some(Run {
-                    source: number.source,
-                    first: number.seq,
-                    last: number.seq,
-                })
-            }
-        }
+        let (start, last) = self.ranges.next()?;
+        Some(Run {
+            source: start.source,
+            first: start.first,
+            last: *last,
+        })
     }
 }

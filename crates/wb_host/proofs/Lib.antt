@@ -22,3 +22,4 @@ pub mod HeardCalls
 pub mod StoppedTimers
 pub mod Searching
 pub mod NothingNew
+pub mod AskedNames

@@ -1,9 +1,10 @@
 //! A desk: what one caller knows of a board and owns in it.
 ghost use Rattle.std.specs.Prelude.{◌≡◌, ◌↔◌, List, IsTrue, IfOk, MatchOption, Contains, filter, take};
 ghost use Rattle.std.specs.Borrow.{sem};
-ghost use Rattle.wb_names.specs.History.{HoldsName};
+ghost use Rattle.wb_names.specs.History.{HoldsName, highest};
 ghost use Rattle.wb_names.specs.Marks.{IsReport};
 ghost use Rattle.wb_gaps.specs.Gaps.{AreGaps};
+ghost use Rattle.wb_gaps.specs.Holes.{hole_after};
 ghost use Rattle.wb_gaps.specs.PageReports.{AreReports};
 ghost use Rattle.wb_gaps.specs.Pages.{ArePages};
 ghost use Rattle.wb_history.specs.Passes.{IsPassOf, IsSound, IsWhole, IsCaughtUp};
@@ -19,7 +20,7 @@ use crate::layers::{Layers, bring_up, shown_on};
 use indexmap::IndexMap;
 use std::alloc::{AllocError, Global};
 use std::marker::Model;
-use wb_gaps::PageReport;
+use wb_gaps::{Hole, PageReport};
 use wb_history::Pass;
 use wb_names::{Drawop, Gap, Marks, Name, PageId};
 
@@ -132,6 +133,32 @@ impl Desk {
         self.held.catch_up(&self.pass)?;
         let reports = self.held.holdings.reports(alloc)?;
         Ok(reports)
+    }
+
+    /// The first hole after a place, of what it has seen.
+    pub(crate) fn hole_after(
+        &mut self,
+        alloc: Global,
+        page: PageId,
+        source: u32,
+        number: u32,
+    ) -> Result<Option<Hole>, AllocError>
+        ensures same { self.new ≡ self.old }
+        ensures hole { IfOk result (λ found. found ≡ hole_after self.old.seen page source number) }
+    {
+        self.held.catch_up(&self.pass)?;
+        let hole = self.held.holdings.hole_after(alloc, page, source, number)?;
+        Ok(hole)
+    }
+
+    /// The greatest number of a source on a page, of what it has seen.
+    pub(crate) fn highest(&mut self, page: PageId, source: u32) -> Result<u32, AllocError>
+        ensures same { self.new ≡ self.old }
+        ensures number { IfOk result (λ number. number ≡ highest page source self.old.seen) }
+    {
+        self.held.catch_up(&self.pass)?;
+        let number = self.held.holdings.highest(page, source);
+        Ok(number)
     }
 
     /// The pages of what it has seen.

@@ -17,6 +17,7 @@ ghost use Rattle.wb_host.specs.Keeping.{StandsFor, Keeps, delay_at, marks_at};
 ghost use Rattle.wb_host.specs.KeepFaults.{moment_fault, delay_fault, IsKeptBy};
 
 mod arrivals;
+mod asked;
 mod giving_up;
 mod hearing;
 mod knowing;

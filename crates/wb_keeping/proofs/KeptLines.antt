@@ -1,0 +1,42 @@
+-- The lines of a kept host.
+use Rattle.std.proofs.Common.{◌≡◌, ◌⊎◌, ℕ, ◌≤◌, Bool, true, false, cond, List, [], ◌∷◌, arith, filter, inl, inr, length, refl, sym, true≢false}
+use Rattle.std.specs.Prelude.{IsTrue, not, ◌&&◌}
+use Rattle.std.proofs.lemmas.List.{length-take}
+use Rattle.wb_names.specs.Values.{MarkValue}
+use Rattle.wb_keeping.specs.Credit.{has_credit}
+use Rattle.wb_keeping.specs.Kept.{Doing}
+use Rattle.wb_keeping.specs.Laws.{NothingIsDue, SlicesAreShort, TimeComesFirst, WantedIsPaid}
+use Rattle.wb_keeping.specs.Policy.{Policy, holds, is_full, level}
+use Rattle.wb_keeping.specs.Wanting.{goes_on, is_wanted}
+use Rattle.wb_keeping.specs.Reports.{is_untold}
+
+pub time_comes_first : TimeComesFirst
+time_comes_first now v see p = (_, refl)
+
+pub nothing_is_due : NothingIsDue
+nothing_is_due now see p answer ask report = simp (answer, ask, report)
+
+pub slices_are_short : SlicesAreShort
+slices_are_short told marks = let few = length-take 64 (filter (λ (m : MarkValue). is_untold told m.source) marks) in omega arith
+
+-- ---- what is wanted
+
+-- the first and the last of four conditions
+all_hold : (held full kept credit : Bool) → (not held && (not full && (not kept && credit))) ≡ true → IsTrue credit × (held ≡ false)
+all_hold false false false credit e = (e, refl)
+all_hold false false true credit e = absurd (true≢false (sym e))
+all_hold false true kept credit e = absurd (true≢false (sym e))
+all_hold true full kept credit e = absurd (true≢false (sym e))
+
+-- one of two is done: the second, or the first, where something holds
+one_of : (test : Bool) (one other : Doing) (P : Type 0) (p : Policy) → (test ≡ true → P) → one.policy ≡ p → (cond test one other ≡ other) ⊎ (P × ((cond test one other).policy ≡ p))
+one_of true one other P p holds_then is = inr (holds_then refl, is)
+one_of false one other P p holds_then is = inl refl
+
+pub wanted_is_paid : WantedIsPaid
+wanted_is_paid name anew see p =
+    let v = see [] in
+    elim (one_of (is_wanted (holds v name) (is_full v) anew (level v name) p.owed v.now) _ _ (IsTrue (has_credit p.owed v.now) × (holds v name ≡ false)) _ (all_hold (holds v name) (is_full v) (goes_on anew (level v name)) (has_credit p.owed v.now)) refl) [
+      | inl same ↦ inl same
+      | inr paid ↦ inr (paid.0.0, paid.0.1, paid.1)
+    ]

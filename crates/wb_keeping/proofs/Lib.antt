@@ -1,0 +1,4 @@
+pub mod Spending
+pub mod DrawingTimes
+pub mod NextPages
+pub mod KeptLines

@@ -1,0 +1,289 @@
+-- A host that keeps itself whole: what it does for a datagram that comes, as time goes on, and for a drawing. Each is a list of lines
+-- that a host takes today, performed one after the other. So a kept host is a host whose driver hands in these lines.
+use Rattle.std.specs.Prelude.{ℕ, zero, suc, ◌+◌, ◌-◌, ◌*◌, ◌/◌, Bool, true, false, not, ◌&&◌, ◌||◌, List, [], ◌∷◌, ◌++◌, Option, Some, None, filter, is_some, length, map, max, min, nat_eq, nat_le, nat_lt, take, if◌then◌else◌}
+use Rattle.std.specs.List.{count_by, filter_map, find}
+use Rattle.std.specs.Ordering.{is_lt, nat_cmp, ordering_then}
+use Rattle.wb_names.specs.History.{highest, name_of}
+use Rattle.wb_names.specs.Orders.{same_name}
+use Rattle.wb_names.specs.Values.{NameValue, DrawopValue, MarkValue}
+use Rattle.wb_names.specs.declared.echo.Echo.{Echo}
+use Rattle.wb_names.specs.declared.name.PageId.{PageId}
+use Rattle.wb_names.specs.declared.parts.Op.{Op}
+use Rattle.wb_codec.specs.declared.datagram.Datagram.{Datagram}
+use Rattle.wb_codec.specs.declared.datagram.Datagram.TheVariants.{Draw, Session, Request, AskPages, PageState}
+use Rattle.wb_gaps.specs.Answers.{pages_of, report_of}
+use Rattle.wb_gaps.specs.Holes.{hole_after}
+use Rattle.wb_gaps.specs.declared.holes.Hole.{Hole}
+use Rattle.wb_recovery.specs.Distance.{distance_of}
+use Rattle.wb_keeping.specs.Distances.{bounded}
+use Rattle.wb_keeping.specs.Drawings.{drawing_time}
+use Rattle.wb_keeping.specs.Policy.{Policy, View, after_answer, after_came, after_question, after_report, after_state, after_taking_up, after_turn, after_wanting, holds, in_next_round, is_asked, is_full, level, with_distance}
+use Rattle.wb_keeping.specs.Questions.{is_due, is_to_answer}
+use Rattle.wb_keeping.specs.Reports.{members_in, page_after, slice_after}
+use Rattle.wb_keeping.specs.Turns.{name_in, nowhere}
+use Rattle.wb_keeping.specs.Wanting.{is_wanted, oldest}
+use Rattle.wb_keeping.specs.declared.wanting.AskedName.{AskedName}
+
+-- a line that a host takes today
+pub data Line : Type 0 where
+  Ticks : (now : ℕ) → Line
+  Arrives : (d : DrawopValue) → Line
+  Hears : (v : Datagram) → Line
+  Asks : (name : NameValue) → Line
+  Stops : (name : NameValue) → Line
+  SetsDistance : (source micros : ℕ) → Line
+  Says : (v : Datagram) → Line
+
+-- what a policy does: the lines that its host performs, and the policy afterwards
+pub record Doing : Type 0 where
+  pub policy : Policy
+  pub lines : List Line
+
+-- the lines that stop the timer of the oldest name, where one stands
+abbrev pub stops_oldest : Option AskedName → List Line
+stops_oldest None = []
+stops_oldest (Some a) = Stops a.name ∷ []
+
+-- at most 64 timers stand, and one that starts anew is stopped first
+abbrev pub room_lines : NameValue → View → List Line
+room_lines name v = if is_asked v name then Stops name ∷ [] else (if nat_le 64 (length v.asked) then stops_oldest (oldest v.asked) else [])
+
+-- a source that told no distance has the usual one
+abbrev pub usual_lines : ℕ → ℕ → Option ℕ → List Line
+usual_lines source distance None = []
+usual_lines source distance (Some usual) = if nat_eq distance 100000 then SetsDistance source usual ∷ [] else []
+
+-- the marks of this member that are believed: while it listens, below 2^31
+abbrev pub own_marks : ℕ → Bool → List MarkValue → List MarkValue
+own_marks me listens marks = filter (λ m. nat_eq m.source me && (listens && nat_lt m.high 2147483648)) marks
+
+abbrev pub own_echo : ℕ → List Echo → List Echo
+own_echo me echoes = filter (λ e. nat_eq e.source me) echoes
+
+-- the distance that an echo of this member tells, where it tells one
+abbrev pub distance_in : ℕ → List Echo → Option ℕ
+distance_in now [] = None
+distance_in now (e ∷ echoes) = distance_of e.sent e.held now
+
+-- the names of the marks of a page, but for numbers of this member from 2^31 on
+abbrev pub told_names : ℕ → PageId → List MarkValue → List NameValue
+told_names me page marks = map (λ m. name_of page m.source m.high) (filter (λ m. not (nat_eq m.source me && nat_le 2147483648 m.high)) marks)
+
+-- the 32 senders that were heard last, ascending
+abbrev pub heard_later : Echo → Echo → Bool
+heard_later e f = is_lt (ordering_then (nat_cmp e.held f.held) (nat_cmp e.source f.source))
+
+abbrev pub last_heard : List Echo → List Echo
+last_heard echoes = filter (λ e. nat_lt (count_by (λ f. heard_later f e) echoes) 32) echoes
+
+-- so many numbers, from one down
+abbrev pub downwards : ℕ → ℕ → List ℕ
+downwards n zero = []
+downwards n (suc count) = n ∷ downwards (n - 1) count
+
+-- The numbers near one, from 64 above to 64 below, as far as the source is known.
+abbrev pub near_names : NameValue → ℕ → List NameValue
+near_names name top =
+    let high = min (name.seq + 64) (top - 1) in
+    let low = max 1 (name.seq - 64) in
+    map (name_of name.page name.source) (downwards high (high + 1 - low))
+
+-- ---- transitions
+
+-- What a policy does where its host shows this after such lines: at once, after none.
+abbrev pub Transition : Type 0
+Transition = (List Line → View) → Policy → Doing
+
+abbrev pub still : Transition
+still see p = record { policy = p; lines = [] }
+
+abbrev pub performs : Line → Transition
+performs line see p = record { policy = p; lines = line ∷ [] }
+
+-- one after the other, which sees what the host shows after the lines of the first
+abbrev pub and_then : Transition → Transition → Transition
+and_then first second see p =
+    let one = first see p in
+    let two = second (λ lines. see (one.lines ++ lines)) one.policy in
+    record { policy = two.policy; lines = one.lines ++ two.lines }
+
+-- A name is wanted. Its timer may start anew, where somebody says that he holds it or it has its turn.
+abbrev pub want : NameValue → Bool → Transition
+want name anew see p =
+    let v = see [] in
+    if is_wanted (holds v name) (is_full v) anew (level v name) p.owed v.now
+    then record { policy = after_wanting v.now p; lines = room_lines name v ++ (usual_lines name.source (v.distance name.source) p.usual ++ Asks name ∷ []) }
+    else still see p
+
+-- who reports a number holds it
+abbrev pub want_told : List NameValue → Transition
+want_told [] = still
+want_told (name ∷ names) = and_then (want name true) (want_told names)
+
+-- the missing names without a timer, up to the first that is not asked for
+abbrev pub is_unasked : View → NameValue → Bool
+is_unasked v name = not (holds v name || is_asked v name)
+
+abbrev pub is_begun : Doing → Bool
+is_begun d = nat_lt 0 (length d.lines)
+
+abbrev pub want_near : List NameValue → Transition
+want_near [] see p = still see p
+want_near (name ∷ names) see p =
+    if is_unasked (see []) name
+    then (if is_begun (want name false see p) then and_then (want name false) (want_near names) see p else still see p)
+    else want_near names see p
+
+-- the hole whose turn it is, or the first of all in another round
+abbrev pub turn_to : Option Hole → Option Hole → Transition
+turn_to (Some hole) first see p = want (name_in p.turns.round hole) true see (after_turn hole p)
+turn_to None (Some hole) see p = want (name_in (in_next_round p).turns.round hole) true see (after_turn hole (in_next_round p))
+turn_to None None see p = still see (in_next_round p)
+
+abbrev pub turn : Transition
+turn see p =
+    let held = (see []).held in
+    turn_to (hole_after held p.turns.page p.turns.source p.turns.number) (hole_after held nowhere 0 0) see p
+
+-- a full board asks for nothing
+abbrev pub end : Transition
+end see p = record { policy = p; lines = map (λ a. Stops a.name) (see []).asked }
+
+-- what was asked for costs nothing
+abbrev pub paid_for : Bool → Policy → Policy
+paid_for was_asked p = if was_asked then after_came p else p
+
+-- A drawop is new: its neighbours are wanted, and where none is missing, another hole has its turn in its place.
+abbrev pub learned : NameValue → Bool → Transition
+learned name was_asked see p =
+    let v = see [] in
+    let near = near_names name (highest name.page name.source v.held) in
+    if is_full v then end see p
+    else if nat_lt 0 (length (filter (is_unasked v) near)) then want_near near see (paid_for was_asked p)
+    else if was_asked then turn see (paid_for was_asked p)
+    else still see p
+
+-- ---- what is due
+
+abbrev pub state_of : View → PageId → Datagram
+state_of v page = PageState v.me page (slice_after None (report_of v.held page))
+
+abbrev pub answers : Transition
+answers see p =
+    let v = see [] in
+    if is_due v.now p.questions.answer
+    then record { policy = after_answer v.now p; lines = map (λ page. Says (state_of v page)) (take 64 (pages_of v.held)) }
+    else still see p
+
+abbrev pub asks_pages : Transition
+asks_pages see p =
+    let v = see [] in
+    if is_due v.now p.questions.ask
+    then record { policy = after_question v.now p; lines = Says (AskPages v.me) ∷ [] }
+    else still see p
+
+abbrev pub last_source : Option ℕ → List MarkValue → Option ℕ
+last_source told [] = told
+last_source told (m ∷ marks) = last_source (Some m.source) marks
+
+-- It reports a page. A report is the session message of today, with at most 64 of its marks and 32 of its echoes.
+abbrev pub reports_page : PageId → List MarkValue → Transition
+reports_page page marks see p =
+    let v = see [] in
+    let echoes = last_heard v.echoes in
+    record {
+      policy = after_report v.now page (last_source None marks) (members_in v.echoes) (32 + 8 * length marks + 20 * length echoes) p;
+      lines = Says (Session v.me v.now page marks echoes) ∷ [];
+    }
+
+-- the rest of the page that was told last, or the next page
+abbrev pub reports_rest : List MarkValue → Transition
+reports_rest [] see p =
+    let v = see [] in
+    let page = page_after p.told_page (pages_of v.held) in
+    reports_page page (slice_after None (report_of v.held page)) see p
+reports_rest (m ∷ marks) see p = reports_page p.told_page (m ∷ marks) see p
+
+abbrev pub reports : Transition
+reports see p = reports_rest (slice_after p.told (report_of (see []).held p.told_page)) see p
+
+abbrev pub reports_due : Transition
+reports_due see p = if nat_le p.reports.due (see []).now then and_then reports turn see p else still see p
+
+abbrev pub timed : Transition
+timed = and_then answers (and_then asks_pages reports_due)
+
+-- ---- what comes in
+
+abbrev pub takes : DrawopValue → Transition
+takes d see p =
+    let v = see [] in
+    if holds v d.name || is_full v then performs (Arrives d) see p
+    else and_then (performs (Arrives d)) (learned d.name (is_asked v d.name)) see p
+
+-- an echo tells a distance, which is bounded
+abbrev pub measures : ℕ → Option ℕ → Transition
+measures sender None see p = still see p
+measures sender (Some micros) see p = record {
+  policy = with_distance micros p;
+  lines = if nat_eq (bounded micros) micros then [] else SetsDistance sender (bounded micros) ∷ [];
+}
+
+abbrev pub hears_session : ℕ → ℕ → PageId → List MarkValue → List Echo → Transition
+hears_session sender sent page marks echoes see p =
+    let v = see [] in
+    let own = own_marks v.me (nat_lt v.now p.ready) marks in
+    let echo = own_echo v.me echoes in
+    and_then (performs (Hears (Session sender sent page own echo))) (and_then (measures sender (distance_in v.now echo)) (want_told (told_names v.me page marks))) see p
+
+abbrev pub hears_some : ℕ → PageId → List MarkValue → Transition
+hears_some sender page [] = still
+hears_some sender page (m ∷ marks) = performs (Hears (PageState sender page (m ∷ marks)))
+
+abbrev pub hears_state : ℕ → PageId → List MarkValue → Transition
+hears_state sender page marks see p =
+    let v = see [] in
+    let own = own_marks v.me (nat_lt v.now p.ready) marks in
+    and_then (hears_some sender page own) (want_told (told_names v.me page marks)) see (after_state v.now p)
+
+abbrev pub takes_question : Transition
+takes_question see p =
+    let v = see [] in
+    if is_to_answer v.now (nat_lt 0 (length v.held)) p.questions
+    then still see (after_taking_up v.now p)
+    else still see p
+
+-- of what names this member as its sender, nothing
+abbrev pub of_other : ℕ → Transition → Transition
+of_other sender does see p = if nat_eq sender (see []).me then still see p else does see p
+
+abbrev pub hears : Datagram → Transition
+hears (Draw d) = takes d
+hears (Session sender sent page marks echoes) = of_other sender (hears_session sender sent page marks echoes)
+hears (PageState sender page marks) = of_other sender (hears_state sender page marks)
+hears (Request asker name) = of_other asker (performs (Hears (Request asker name)))
+hears (AskPages asker) = of_other asker takes_question
+
+-- ---- the lines of a kept host
+
+-- a datagram came
+abbrev pub came : ℕ → Datagram → Transition
+came now v = and_then (performs (Ticks now)) (and_then (hears v) timed)
+
+-- time goes on
+abbrev pub ticks : ℕ → Transition
+ticks now = and_then (performs (Ticks now)) timed
+
+-- its user draws; a board that is full then asks for nothing
+abbrev pub ends_full : Transition
+ends_full see p = if is_full (see []) then end see p else still see p
+
+-- its next drawing on a page
+abbrev pub drawing : View → PageId → ℕ → Op → DrawopValue
+drawing v page time op = record { name = name_of page v.me (v.known page + 1); time = drawing_time v.held page time; op = op }
+
+abbrev pub draws_it : PageId → ℕ → Op → Transition
+draws_it page time op see p = performs (Says (Draw (drawing (see []) page time op))) see p
+
+abbrev pub adds : ℕ → PageId → ℕ → Op → Transition
+adds now page time op = and_then (performs (Ticks now)) (and_then (draws_it page time op) (and_then ends_full timed))

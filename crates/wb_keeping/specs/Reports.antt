@@ -1,0 +1,45 @@
+-- Reports: when one is due, and which marks it has.
+use Rattle.std.specs.Prelude.{ℕ, ◌+◌, ◌*◌, ◌/◌, Bool, true, List, [], ◌∷◌, Option, Some, None, filter, length, max, min, nat_lt, take, unwrap_or}
+use Rattle.std.specs.List.{find}
+use Rattle.std.specs.Option.{option_or}
+use Rattle.std.specs.Ordering.{is_lt}
+use Rattle.wb_names.specs.Orders.{page_cmp}
+use Rattle.wb_names.specs.Values.{MarkValue}
+use Rattle.wb_names.specs.declared.echo.Echo.{Echo}
+use Rattle.wb_names.specs.declared.name.PageId.{PageId}
+use Rattle.wb_keeping.specs.Turns.{nowhere}
+
+-- The mean time between two reports, by which those of all members together take so many bytes a second: from 2 to 64 seconds.
+abbrev pub mean_time : ℕ → ℕ → ℕ → ℕ
+mean_time rate members bytes = min (max (members * bytes * 1000000 / rate) 2000000) 64000000
+
+-- this member, and those of whom a session message was heard within 192 seconds
+abbrev pub members_in : List Echo → ℕ
+members_in echoes = 1 + length (filter (λ e. nat_lt e.held 192000000) echoes)
+
+-- the next one is due after half of that up to one and a half
+abbrev pub next_report : ℕ → ℕ → ℕ → ℕ
+next_report now mean drawn = now + mean / 2 + drawn
+
+-- ---- slices
+
+-- a source above one that was told, where one was
+abbrev pub is_untold : Option ℕ → ℕ → Bool
+is_untold None source = true
+is_untold (Some told) source = nat_lt told source
+
+-- the next 64 marks of a page
+abbrev pub slice_after : Option ℕ → List MarkValue → List MarkValue
+slice_after told marks = take 64 (filter (λ m. is_untold told m.source) marks)
+
+-- the first of some pages
+abbrev pub first_of_pages : List PageId → Option PageId
+first_of_pages [] = None
+first_of_pages (page ∷ pages) = Some page
+
+abbrev pub is_after : PageId → PageId → Bool
+is_after last page = is_lt (page_cmp last page)
+
+-- the next page in the cycle of the pages, and page 0/0 where there is none
+abbrev pub page_after : PageId → List PageId → PageId
+page_after last pages = unwrap_or (option_or (find (is_after last) pages) (first_of_pages pages)) nowhere

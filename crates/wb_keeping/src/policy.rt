@@ -1,0 +1,240 @@
+//! The policy of a host that keeps itself: all that it remembers, and what each thing that happens makes of it.
+
+ghost use Rattle.std.specs.Prelude.{◌≡◌, ◌≤◌, ◌<◌, ◌^◌, ◌+◌, IfSome, if◌then◌else◌, nat_le, nat_lt};
+ghost use Rattle.wb_keeping.specs.Distances.{bounded};
+ghost use Rattle.wb_keeping.specs.Policy.{after_answer, after_came, after_question, after_report, after_state, after_taking_up, after_turn, after_wanting, begun, in_next_round, next_moment, sooner, with_distance};
+ghost use Rattle.wb_keeping.specs.Questions.{is_due, is_to_answer};
+ghost use Rattle.wb_keeping.specs.Turns.{name_in};
+ghost use Rattle.wb_keeping.specs.Wanting.{is_wanted};
+
+use crate::credit::Credit;
+use crate::distances::Distances;
+use crate::questions::Questions;
+use crate::reports::Reports;
+use crate::turns::Turns;
+use crate::wanting::Candidate;
+use crate::words::PolicyWords;
+use std::marker::Model;
+use wb_gaps::Hole;
+use wb_names::{Name, PageId};
+
+/// What a host that keeps itself remembers: a fixed number of integers, whatever comes in. Moments are in microseconds,
+/// below 2^48.
+#[derive(Drop)]
+pub struct Policy {
+    /// Nothing is added before this moment.
+    ready: u64,
+    reports: Reports,
+    questions: Questions,
+    turns: Turns,
+    /// The page of the last report.
+    told_page: PageId,
+    /// The last source of the last report, where it told one.
+    told: Option<u32>,
+    credit: Credit,
+    distances: Distances,
+    words: PolicyWords,
+}
+
+impl Model for Policy {
+    ghost use Rattle.std.specs.Prelude.{◌≤◌};
+    ghost use Rattle.wb_keeping.specs.Policy.{Policy as PolicyValue};
+
+    ghost Value = { PolicyValue };
+
+    ghost view = { λ p. record { ready = p.ready; reports = p.reports; questions = p.questions; turns = p.turns; told_page = p.told_page; told = p.told; owed = p.credit.owed; usual = p.distances; words = p.words } };
+
+    ghost invariant = { λ p. (1 ≤ p.reports.rate) × (p.questions.wait ≤ 64000000) };
+}
+
+impl Policy {
+    /// Begins at a moment. The reports of all members together take so many bytes a second, from 1 on. For so many
+    /// microseconds, below 2^32, nothing is added. The first word of the seed says when it reports, the second when it
+    /// asks for pages.
+    pub fn new(now: u64, rate: u64, listen: u64, seed: u64) -> Policy
+        requires moment { now < 2 ^ 48 }
+        requires rate { 1 ≤ rate }
+        requires listen { listen < 2 ^ 32 }
+        ensures { result ≡ begun now rate listen seed }
+    {
+        let mut words = PolicyWords::new(seed);
+        let report = words.up_to(Reports::FIRST);
+        let question = words.up_to(Questions::FIRST);
+        Policy {
+            ready: now + listen,
+            reports: Reports {
+                rate,
+                due: now + report,
+            },
+            questions: Questions::new(now, question),
+            turns: Turns::START,
+            told_page: Turns::START.page,
+            told: None,
+            credit: Credit::WHOLE,
+            distances: Distances::new(),
+            words,
+        }
+    }
+
+    /// Whether nothing is to be added yet.
+    pub fn is_listening(&self, now: u64) -> bool
+        ensures { result ≡ nat_lt now self.now.ready }
+    {
+        now < self.ready
+    }
+
+    /// The least moment at which it has something to do.
+    pub fn due(&self) -> u64
+        ensures { result ≡ next_moment self.now }
+    {
+        let question = sooner(self.reports.due, self.questions.ask);
+        sooner(question, self.questions.answer)
+    }
+
+    /// A name may be wanted: whether it is to be asked for, which costs credit.
+    pub fn want(&mut self, candidate: &Candidate, may_start_anew: bool, now: u64) -> bool
+        requires { now < 2 ^ 48 }
+        ensures wanted { result ≡ is_wanted candidate.now.is_held candidate.now.is_full may_start_anew candidate.now.level self.old.owed now }
+        ensures spent { self.new ≡ (if result then after_wanting now self.old else self.old) }
+    {
+        if !candidate.is_wanted(&self.credit, may_start_anew, now) {
+            return false;
+        }
+        self.credit.spend(now);
+        true
+    }
+
+    /// A name that was asked for came.
+    pub fn came(&mut self)
+        ensures { self.new ≡ after_came self.old }
+    {
+        self.credit.repay();
+    }
+
+    /// The next hole in turn begins after this number of this source on this page.
+    pub fn turns(&self) -> Turns
+        ensures { result ≡ self.now.turns }
+    {
+        self.turns
+    }
+
+    /// It is the turn of a hole: which of its names is wanted.
+    pub fn take_turn(&mut self, hole: Hole) -> Name
+        requires counted { 1 ≤ hole.gap.first }
+        requires filled { hole.gap.first ≤ hole.gap.last }
+        ensures name { result ≡ name_in self.old.turns.round hole }
+        ensures turn { self.new ≡ after_turn hole self.old }
+    {
+        self.turns.take(hole)
+    }
+
+    /// No hole is left in this round.
+    pub fn begin_round(&mut self)
+        ensures { self.new ≡ in_next_round self.old }
+    {
+        self.turns.begin_again();
+    }
+
+    /// An echo told a distance: which one is to be set.
+    pub fn measure(&mut self, micros: u64) -> u64
+        ensures bounded { result ≡ bounded micros }
+        ensures usual { self.new ≡ with_distance micros self.old }
+    {
+        self.distances.told(micros)
+    }
+
+    /// Whether it is to ask for pages now, and when again.
+    pub fn asks_pages(&mut self, now: u64) -> bool
+        requires { now < 2 ^ 48 }
+        ensures due { result ≡ is_due now self.old.questions.ask }
+        ensures after { self.new ≡ (if result then after_question now self.old else self.old) }
+    {
+        if !self.questions.is_to_ask(now) {
+            return false;
+        }
+        let drawn = self.words.up_to(self.questions.wait as u32);
+        self.questions.asked(now, drawn);
+        true
+    }
+
+    /// Another member asks for pages, where this one holds something or not.
+    pub fn take_question(&mut self, now: u64, holds: bool)
+        requires { now < 2 ^ 48 }
+        ensures { self.new ≡ (if is_to_answer now holds self.old.questions then after_taking_up now self.old else self.old) }
+    {
+        if self.questions.takes_up(now, holds) {
+            let drawn = self.words.up_to(Questions::ANSWER);
+            self.questions.take_up(now, drawn);
+        }
+    }
+
+    /// Whether it is to tell its pages now.
+    pub fn answers(&mut self, now: u64) -> bool
+        requires { now < 2 ^ 48 }
+        ensures due { result ≡ is_due now self.old.questions.answer }
+        ensures after { self.new ≡ (if result then after_answer now self.old else self.old) }
+    {
+        if !self.questions.is_to_answer(now) {
+            return false;
+        }
+        self.questions.answered(now);
+        true
+    }
+
+    /// Another member told a page.
+    pub fn hear_state(&mut self, now: u64)
+        requires { now < 2 ^ 48 }
+        ensures { self.new ≡ after_state now self.old }
+    {
+        self.questions.heard(now);
+    }
+
+    /// Whether a report is due.
+    pub fn reports(&self, now: u64) -> bool
+        ensures { result ≡ nat_le self.now.reports.due now }
+    {
+        self.reports.is_due(now)
+    }
+
+    /// The page and the last source of the last report.
+    pub fn told(&self) -> (PageId, Option<u32>)
+        ensures { result ≡ (self.now.told_page, self.now.told) }
+    {
+        (self.told_page, self.told)
+    }
+
+    /// It reported a page up to a source, where it has one: so many bytes, among so many members. So reports are at least a
+    /// second apart, and at most 96.
+    pub fn reported(&mut self, now: u64, page: PageId, last: Option<u32>, members: u64, bytes: u64)
+        requires moment { now < 2 ^ 48 }
+        requires members { members ≤ 65536 }
+        requires bytes { bytes ≤ 65536 }
+        ensures after { self.new ≡ after_report now page last members bytes self.old }
+        ensures rare { now + 1000000 ≤ self.new.reports.due }
+        ensures soon { self.new.reports.due ≤ now + 96000000 }
+    {
+        let mean = self.reports.mean_time(members, bytes);
+        let drawn = self.words.up_to(mean as u32);
+        self.reports.reported(now, mean, drawn);
+        self.told_page = page;
+        self.told = last;
+    }
+
+    /// The usual distance, where one was told: at most a second.
+    pub fn usual(&self) -> Option<u64>
+        ensures usual { result ≡ self.now.usual }
+        ensures near { IfSome result (λ usual. usual ≤ 1000000) }
+    {
+        self.distances.usual()
+    }
+}
+
+/// The lesser of a moment and of another, where there is one.
+fn sooner(moment: u64, other: Option<u64>) -> u64
+    ensures { result ≡ sooner moment other }
+{
+    match other {
+        Some(other) => moment.min(other),
+        None => moment,
+    }
+}

@@ -1,0 +1,114 @@
+//! Questions for pages: when this member asks for them, and when it answers others.
+
+ghost use Rattle.std.specs.Prelude.{◌≡◌, ◌≤◌, ◌<◌, ◌^◌};
+ghost use Rattle.wb_keeping.specs.Questions.{answered_at, asked_at, heard_at, is_due, is_to_answer, opened_at, to_answer};
+
+/// When a member asks which pages there are, and when it answers who asks, in microseconds.
+#[derive(Clone, Copy, Debug, PartialEq, Eq)]
+pub struct Questions {
+    /// When it asks next. None once somebody told the pages.
+    pub ask: Option<u64>,
+    /// Its wait after that, from 1,000,000 to 64,000,000.
+    pub wait: u64,
+    /// When it answers a question. None where none is to be answered.
+    pub answer: Option<u64>,
+    /// Before this moment no question is taken up, since somebody answered one.
+    pub quiet: u64,
+}
+
+impl Questions {
+    /// The longest time before the first question.
+    pub const FIRST: u32 = 200_000;
+
+    /// The longest time before an answer.
+    pub const ANSWER: u32 = 500_000;
+
+    /// How long a question is not taken up after an answer.
+    const QUIET: u64 = 1_000_000;
+
+    /// The longest wait.
+    const MOST_WAIT: u64 = 64_000_000;
+
+    /// It asks after so long, from 0 to `FIRST`.
+    pub fn new(now: u64, drawn: u64) -> Questions
+        requires moment { now < 2 ^ 48 }
+        requires drawn { drawn ≤ 200000 }
+        ensures { result ≡ opened_at now drawn }
+    {
+        Questions {
+            ask: Some(now + drawn),
+            wait: 1_000_000,
+            answer: None,
+            quiet: 0,
+        }
+    }
+
+    /// Whether it is to ask.
+    pub fn is_to_ask(&self, now: u64) -> bool
+        ensures { result ≡ is_due now self.now.ask }
+    {
+        is_due(now, self.ask)
+    }
+
+    /// It asked. The number is drawn from 0 to its wait.
+    pub fn asked(&mut self, now: u64, drawn: u64)
+        requires moment { now < 2 ^ 48 }
+        requires wait { self.old.wait ≤ 64000000 }
+        requires drawn { drawn ≤ self.old.wait }
+        ensures { self.new ≡ asked_at now drawn self.old }
+    {
+        self.ask = Some(now + self.wait / 2 + drawn);
+        self.wait = (2 * self.wait).min(Questions::MOST_WAIT);
+    }
+
+    /// Another member asks: whether this one begins to wait for its answer, where it holds something or not.
+    pub fn takes_up(&self, now: u64, holds: bool) -> bool
+        ensures { result ≡ is_to_answer now holds self.now }
+    {
+        holds && self.answer.is_none() && self.quiet <= now
+    }
+
+    /// It will answer after so long, from 0 to `ANSWER`.
+    pub fn take_up(&mut self, now: u64, drawn: u64)
+        requires moment { now < 2 ^ 48 }
+        requires drawn { drawn ≤ 500000 }
+        ensures { self.new ≡ to_answer now drawn self.old }
+    {
+        self.answer = Some(now + drawn);
+    }
+
+    /// Whether it is to answer now.
+    pub fn is_to_answer(&self, now: u64) -> bool
+        ensures { result ≡ is_due now self.now.answer }
+    {
+        is_due(now, self.answer)
+    }
+
+    /// It answered.
+    pub fn answered(&mut self, now: u64)
+        requires { now < 2 ^ 48 }
+        ensures { self.new ≡ answered_at now self.old }
+    {
+        self.answer = None;
+        self.quiet = now + Questions::QUIET;
+    }
+
+    /// Another member told a page that there is.
+    pub fn heard(&mut self, now: u64)
+        requires { now < 2 ^ 48 }
+        ensures { self.new ≡ heard_at now self.old }
+    {
+        self.ask = None;
+        self.answered(now);
+    }
+}
+
+/// Whether a moment is due.
+fn is_due(now: u64, moment: Option<u64>) -> bool
+    ensures { result ≡ is_due now moment }
+{
+    match moment {
+        Some(moment) => moment <= now,
+        None => false,
+    }
+}

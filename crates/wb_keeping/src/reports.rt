@@ -1,0 +1,147 @@
+//! Reports: when one is due, and which marks it has.
+
+ghost use Rattle.std.specs.Prelude.{◌≡◌, ◌≤◌, ◌<◌, ◌^◌, ◌+◌, ◌*◌, IfOk, filter, length, nat_le, nat_lt};
+ghost use Rattle.std.specs.List.{find};
+ghost use Rattle.wb_keeping.specs.Reports.{is_after, is_untold, mean_time, members_in, next_report, page_after, slice_after};
+
+use std::alloc::{AllocError, Global};
+use wb_names::{Echo, Mark, PageId};
+
+/// For how long a member counts after it was heard, in microseconds.
+const HEARD: u64 = 192_000_000;
+
+/// When a member reports, in microseconds.
+#[derive(Clone, Copy, Debug, PartialEq, Eq)]
+pub struct Reports {
+    /// How many bytes a second the reports of all members together may take.
+    pub rate: u64,
+    /// When the next one is due.
+    pub due: u64,
+}
+
+impl Reports {
+    /// The longest time before the first report.
+    pub const FIRST: u32 = 1_000_000;
+
+    /// The most marks of one report.
+    pub const MARKS: usize = 64;
+
+    /// The most members that are counted.
+    pub const MEMBERS: u64 = 65_536;
+
+    /// The shortest mean time between two reports.
+    const SHORTEST: u64 = 2_000_000;
+
+    /// The longest.
+    const LONGEST: u64 = 64_000_000;
+
+    /// The mean time between two reports, by which those of so many members, each of so many bytes, take the rate: from
+    /// 2,000,000 to 64,000,000.
+    pub fn mean_time(&self, members: u64, bytes: u64) -> u64
+        requires rate { 1 ≤ self.now.rate }
+        requires members { members ≤ 65536 }
+        requires bytes { bytes ≤ 65536 }
+        ensures mean { result ≡ mean_time self.now.rate members bytes }
+        ensures shortest { 2000000 ≤ result }
+        ensures longest { result ≤ 64000000 }
+    {
+        let all = members * bytes * 1_000_000 / self.rate;
+        all.max(Reports::SHORTEST).min(Reports::LONGEST)
+    }
+
+    /// It reported: the next report is due after half of the mean time, and so much more as was drawn from 0 to it. So
+    /// reports are at least a second apart, and at most 96.
+    pub fn reported(&mut self, now: u64, mean: u64, drawn: u64)
+        requires moment { now < 2 ^ 48 }
+        requires shortest { 2000000 ≤ mean }
+        requires longest { mean ≤ 64000000 }
+        requires drawn { drawn ≤ mean }
+        ensures due { self.new ≡ record self.old { due = next_report now mean drawn } }
+        ensures rare { now + 1000000 ≤ self.new.due }
+        ensures soon { self.new.due ≤ now + 96000000 }
+    {
+        self.due = now + mean / 2 + drawn;
+    }
+
+    /// Whether a report is due.
+    pub fn is_due(&self, now: u64) -> bool
+        ensures { result ≡ nat_le self.now.due now }
+    {
+        self.due <= now
+    }
+}
+
+/// How many members there are: this one, and those of whom a session message was heard within 192 seconds, which is
+/// three of the longest mean times.
+pub fn members(echoes: &[Echo]) -> u64
+    requires { length echoes.now ≤ 65535 }
+    ensures members { result ≡ members_in echoes.now }
+    ensures few { result ≤ 65536 }
+{
+    1 + heard_count(echoes) as u64
+}
+
+/// How many of the echoes are to members that were heard within 192 seconds.
+fn heard_count(echoes: &[Echo]) -> usize
+    ensures count { result ≡ length (filter (λ e. nat_lt e.held 192000000) echoes.now) }
+    ensures few { result ≤ length echoes.now }
+{
+    echoes.iter().filter(|echo| echo.held < HEARD).count()
+}
+
+/// The next marks of a page, at most 64, those of sources above one that was told.
+pub fn slice_after(
+    alloc: Global,
+    told: Option<u32>,
+    marks: &[Mark],
+) -> Result<Vec<Mark>, AllocError>
+    ensures { IfOk result (λ slice. slice.items ≡ slice_after told marks.now) }
+{
+    let untold = marks.iter().filter(|mark| is_untold(told, mark.source()));
+    untold.take(Reports::MARKS).copied().collect(alloc)
+}
+
+/// Whether a source is above one that was told.
+fn is_untold(told: Option<u32>, source: u32) -> bool
+    ensures { result ≡ is_untold told source }
+{
+    match told {
+        Some(told) => told < source,
+        None => true,
+    }
+}
+
+/// The next page in the cycle of the pages, which ascend, and page 0/0 where there is none.
+pub fn page_after(last: PageId, pages: &[PageId]) -> PageId
+    ensures { result ≡ page_after last pages.now }
+{
+    if let Some(page) = first_after(last, pages) {
+        return page;
+    }
+    match pages {
+        [first, ..] => *first,
+        [] => PageId {
+            creator: 0,
+            number: 0,
+        },
+    }
+}
+
+/// The first page after another.
+fn first_after(last: PageId, pages: &[PageId]) -> Option<PageId>
+    ensures { result ≡ find (is_after last) pages.now }
+{
+    for page in pages {
+        if is_after(last, *page) {
+            return Some(*page);
+        }
+    }
+    None
+}
+
+/// Whether a page comes after another.
+fn is_after(last: PageId, page: PageId) -> bool
+    ensures { result ≡ is_after last page }
+{
+    last < page
+}
