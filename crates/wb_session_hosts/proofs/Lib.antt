@@ -16,3 +16,17 @@ pub mod Sent
 pub mod Texts
 pub mod Clashes
 pub mod Agreeing
+pub mod Orderly
+pub mod Holding
+pub mod OneLine
+pub mod Outset
+pub mod Repairs
+pub mod Sayable
+pub mod Coming
+pub mod Growing
+pub mod Renewing
+pub mod Spreading
+pub mod Agreed
+pub mod BoardMoves
+pub mod NothingNew
+pub mod MarksSpread

@@ -131,6 +131,7 @@ Carries P (lines.Board member cells workers seed) = (member < 2 ^ 32) × (cells 
 Carries P (lines.Arrive d) = P (datagrams.Draw d)
 Carries P (lines.Hear v) = P v
 Carries P (lines.Tick moment) = moment < 2 ^ 48
+Carries P (lines.Distance source micros) = micros < 2 ^ 24
 Carries P (lines.Look page) = IsPage page
 Carries P (lines.Session page) = IsPage page
 Carries P line = Unit {0}
@@ -170,7 +171,8 @@ module _ (P : Datagram → Type 0) where
   unfolding distance
   distance_fits arguments = behind Has (or_fault faults.Words (two_of arguments)) _ (λ ws.
       behind Has (number 0 (2 ^ 32 - 1) ws.0) _ (λ source.
-      behind Has (number 0 (2 ^ 24 - 1) ws.1) _ (λ micros. tt)))
+      bound (IsWithin 0 (2 ^ 24 - 1)) Has (number 0 (2 ^ 24 - 1) ws.1) _ (number_fits 0 (2 ^ 24 - 1) ws.1) (λ micros m.
+      let a = m.1 in omega arith)))
 
   pages_fits : (arguments : List (List ℕ)) → IfOk (pages arguments) Has
   pages_fits arguments = behind Has (or_fault faults.Words (none_of arguments)) _ (λ nothing. tt)

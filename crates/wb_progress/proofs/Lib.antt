@@ -1,0 +1,5 @@
+pub mod TimerBounds
+pub mod KeeperBounds
+pub mod OneCall
+pub mod Repairs
+pub mod Standing

@@ -1,0 +1,4 @@
+pub mod Bounds
+pub mod Keepers
+pub mod Repairs
+pub mod Standing

@@ -1,0 +1,48 @@
+//! Laws of progress. Each function does nothing: its contract is a law, for proofs to cite.
+
+ghost use Rattle.wb_progress.specs.Bounds.{TimersAreBounded};
+ghost use Rattle.wb_progress.specs.Standing.{AnswersAreKept, QuietHasCause, RequestsAreKept, RequestsAreTaken, RequestsLeadOn};
+ghost use Rattle.wb_progress.specs.Keepers.{DelaysFit, KeepersAreBounded};
+ghost use Rattle.wb_progress.specs.Repairs.{AnswersAreSoon, AskedAnewIsSoon, AskerAsks, GivenUpIsIdle, HolderAnswers, MissesStand, RequestsSet, TicksAnswer, TicksAsk, TicksClear, TicksEnd, TicksLeave};
+
+/// No timer stands further ahead than the delays of the calls allow, and none is quiet for longer.
+pub fn timers_are_bounded()
+    ensures { TimersAreBounded }
+{}
+
+/// The same of a keeper, whose delays are below 2^24 microseconds.
+pub fn keepers_are_bounded()
+    ensures delays { DelaysFit }
+    ensures timers { KeepersAreBounded }
+{}
+
+/// What one tick, one request and one miss do to the timers of a name.
+pub fn calls_tell_timers()
+    ensures asks { TicksAsk }
+    ensures answers { TicksAnswer }
+    ensures clears { TicksClear }
+    ensures ends { TicksEnd }
+    ensures leaves { TicksLeave }
+    ensures sets { RequestsSet }
+    ensures stands { MissesStand }
+    ensures idle { GivenUpIsIdle }
+{}
+
+/// A keeper that misses a name comes to ask for it, and one that holds it comes to send it to one who
+/// asks, if time goes on far enough.
+pub fn repairs_come()
+    ensures asker { AskerAsks }
+    ensures anew { AskedAnewIsSoon }
+    ensures soon { AnswersAreSoon }
+    ensures holder { HolderAnswers }
+{}
+
+/// A timer stands as it was set until a call ends it, and a name is quiet only for a cause of the last
+/// three delays.
+pub fn timers_stand()
+    ensures answers { AnswersAreKept }
+    ensures requests { RequestsAreKept }
+    ensures quiet { QuietHasCause }
+    ensures taken { RequestsAreTaken }
+    ensures leads { RequestsLeadOn }
+{}
