@@ -1,16 +1,54 @@
-"""What views are told: the newest state of each thing by its name, and the datagrams as they went by."""
+"""What views are told: the newest state of each thing by its name, what changed on the page, and the datagrams as they went by.
+
+The member's thread tells; JSON of a whole page is made by the thread of a view that needs it, and once for all."""
 from __future__ import annotations
 
 import json
 import threading
 from collections import deque
-from typing import Any, Deque, Dict, List, Optional, Tuple
+from typing import Any, Deque, Dict, List, Optional, Sequence, Tuple
 
-# in this order a view that begins is told
-NAMES = ("hello", "board", "pages", "members", "health")
+from .views import Drawop
+
+# in this order a view that begins is told; the page comes behind the first
+NAMES = ("hello", "pages", "members", "health")
+
+# what only some members tell
+OTHERS = ("scenes", "film", "presence")
 
 # datagrams that a view which begins still sees
 MOST_ENTRIES = 200
+
+# changes of the page that are remembered: a view that is further behind is told the whole page
+MOST_CHANGES = 256
+MOST_BYTES = 4 << 20
+
+# the name of a thing, and its state as JSON
+News = List[Tuple[str, str]]
+
+
+def compact(value: Any) -> str:
+    return json.dumps(value, separators=(",", ":"))
+
+
+class Whole:
+    """All of a page at some time. Its JSON is made when it is first asked for."""
+
+    def __init__(self, turn: int, version: int, head: Dict[str, Any], drawops: Sequence[Drawop], hidden: Sequence[Drawop]) -> None:
+        self.turn = turn
+        self.version = version
+        self.head = head
+        self.drawops = drawops
+        self.hidden = hidden
+        self.making = threading.Lock()
+        self.made: Optional[str] = None
+
+    def text(self) -> str:
+        with self.making:
+            if self.made is None:
+                lists = [",".join([drawop.text() for drawop in each]) for each in (self.drawops, self.hidden)]
+                self.made = compact(self.head)[:-1] + ',"drawops":[%s],"hidden":[%s]}' % (lists[0], lists[1])
+            return self.made
 
 
 class Events:
@@ -19,13 +57,15 @@ class Events:
     def __init__(self) -> None:
         self.changed = threading.Condition()
         self.states: Dict[str, Tuple[int, str]] = {}
-        self.entries: Deque[Dict[str, Any]] = deque(maxlen=MOST_ENTRIES)
+        self.entries: Deque[Tuple[int, str]] = deque(maxlen=MOST_ENTRIES)
+        self.page: Optional[Whole] = None
+        self.changes: Deque[Tuple[int, str]] = deque()
         self.version = 0
         self.is_ended = False
 
     def tell(self, name: str, state: Dict[str, Any]) -> None:
         """The state of a thing from now on."""
-        text = json.dumps(state, separators=(",", ":"))
+        text = compact(state)
         with self.changed:
             if name in self.states and self.states[name][1] == text:
                 return
@@ -33,10 +73,24 @@ class Events:
             self.states[name] = self.version, text
             self.changed.notify_all()
 
+    def tell_page(self, page: Whole, change: Optional[Dict[str, Any]]) -> None:
+        """The page in view from now on, and what of it changed since the version before; None where it is another page."""
+        text = None if change is None else change_text(change)
+        with self.changed:
+            if text is None:
+                self.changes.clear()
+            else:
+                self.changes.append((page.version, text))
+            while len(self.changes) > MOST_CHANGES or len(self.changes) > 1 and sum(len(each) for _, each in self.changes) > MOST_BYTES:
+                self.changes.popleft()
+            self.page = page
+            self.changed.notify_all()
+
     def tell_entry(self, entry: Dict[str, Any]) -> None:
         """A datagram went by."""
+        text = compact(entry)
         with self.changed:
-            self.entries.append(entry)
+            self.entries.append((entry["id"], text))
             self.changed.notify_all()
 
     def end(self) -> None:
@@ -45,32 +99,53 @@ class Events:
             self.changed.notify_all()
 
 
+def change_text(change: Dict[str, Any]) -> str:
+    """A change as JSON, in which each drawop's own is taken over."""
+    added = ",".join("[%d,%s]" % (at, drawop.text()) for at, drawop in change["added"])
+    hidden = ",".join(drawop.text() for drawop in change["hidden"])
+    rest = {name: value for name, value in change.items() if name not in ("added", "hidden")}
+    return compact(rest)[:-1] + ',"added":[%s],"hidden":[%s]}' % (added, hidden)
+
+
 class Watcher:
     """One view: what it has seen."""
 
     def __init__(self, events: Events) -> None:
         self.events = events
         self.seen: Dict[str, int] = {}
+        self.turn = -1  # how often the page was turned, and its version there
+        self.version = -1
         self.last_entry = 0
 
-    def news(self) -> List[Tuple[str, str]]:
-        """What is new since, each with its name; nothing before all things have a state."""
-        events = self.events
-        if len(events.states) < len(NAMES):
-            return []
-        news = [(name, events.states[name][1]) for name in NAMES if events.states[name][0] > self.seen.get(name, 0)]
-        self.seen.update((name, events.states[name][0]) for name in NAMES)
-        entries = [entry for entry in events.entries if entry["id"] > self.last_entry]
+    def news(self) -> Tuple[News, Optional[Whole]]:
+        """What is new since, each with its name; and the whole page, where that has to be told. Nothing before all things have a state."""
+        events, page = self.events, self.events.page
+        if not all(name in events.states for name in NAMES) or page is None:
+            return [], None
+        told = [name for name in NAMES + OTHERS if name in events.states and events.states[name][0] > self.seen.get(name, 0)]
+        news = [(name, events.states[name][1]) for name in told]
+        self.seen.update((name, events.states[name][0]) for name in told)
+        changes = [text for version, text in events.changes if version > self.version]
+        is_whole = self.turn != page.turn or len(changes) != page.version - self.version
+        self.turn, self.version = page.turn, page.version
+        if not is_whole:
+            news += [("change", text) for text in changes]
+        entries = [text for number, text in events.entries if number > self.last_entry]
         if entries:
-            self.last_entry = entries[-1]["id"]
-            news.append(("wire", json.dumps({"entries": entries}, separators=(",", ":"))))
-        return news
+            self.last_entry = events.entries[-1][0]
+            news.append(("wire", '{"entries":[%s]}' % ",".join(entries)))
+        return news, page if is_whole else None
 
-    def wait(self, seconds: float) -> Optional[List[Tuple[str, str]]]:
+    def wait(self, seconds: float) -> Optional[News]:
         """What is new, as soon as something is; nothing after so many seconds; None at the end."""
         with self.events.changed:
-            news = self.news()
-            if not news and not self.events.is_ended:
+            news, page = self.news()
+            if not news and page is None and not self.events.is_ended:
                 self.events.changed.wait(seconds)
-                news = self.news()
-            return None if self.events.is_ended else news
+                news, page = self.news()
+            if self.events.is_ended:
+                return None
+        if page is not None:
+            at = 1 if news and news[0][0] == "hello" else 0
+            news.insert(at, ("board", page.text()))
+        return news

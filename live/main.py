@@ -6,50 +6,62 @@ import sys
 import webbrowser
 from typing import List, Optional
 
-from .board import BoardFault, first_board
+from wbhost import HostEnded, NoProgram, find_program
+
+from .board import BoardFault
 from .events import Events
-from .host import HostEnded, NoProgram, find_program
+from .joining import Offer
+from .judging import Judging
 from .member import Member
-from .network import NetworkFault, open_network
+from .network import NetworkFault, Nobody, open_network
 from .options import Options, read_options
-from .record import Record, RecordFault
-from .replay import Replay
+from .record import NoRoom, Record, RecordFault, read_played
+from .replay import Playing
+from .state import open_record
 from .telling import NOTICE
 from .terminal import Terminal
 from .web import Web, open_web
 
-FAULTS = (BoardFault, HostEnded, NetworkFault, NoProgram, OSError, RecordFault)
+FAULTS = (BoardFault, HostEnded, NetworkFault, NoProgram, NoRoom, OSError, RecordFault)
+
+
+def replay(options: Options, program: str, events: Events, path: str) -> Member:
+    """A record that is shown: it is read alone."""
+    lines = read_played(path)
+    words = next(lines).split()
+    options.cells = int(words[2])
+    member = Member(options, program, Record(None), Nobody("a replay of %s" % path), events, int(words[1]))
+    member.judge(Playing(member, lines))
+    return member
 
 
 def make_member(options: Options, events: Events) -> Member:
     """The member of the network, or of a record that is shown."""
     program = find_program()
     if options.replay:
-        played = Record(options.replay)
-        me = first_board(played)
-        if me is None:
-            raise RecordFault("%s is empty" % options.replay)
-        return Replay(options, program, played, me, events)
-    record = Record(options.record)
-    kept = first_board(record)
-    if kept is not None and options.me not in (None, kept):
-        raise RecordFault("%s is the record of member %d" % (options.record, kept))
-    return Member(options, program, record, open_network(options, options.me if kept is None else kept), events)
+        return replay(options, program, events, options.replay)
+    record, me, may_have_drawn = open_record(options)
+    network = open_network(options)
+    member = Member(options, program, record, network, events, me)
+    member.judge(Judging(member, may_have_drawn))
+    Offer(member, network).begin()
+    return member
 
 
 def hold(options: Options) -> None:
     """Holds the session until it is ended."""
     events = Events()
     member = make_member(options, events)
-    web: Optional[Web] = open_web(options.web, member, events) if options.web else None
+    web: Optional[Web] = open_web(options, member, events) if options.web else None
     for number in (signal.SIGINT, signal.SIGTERM, signal.SIGHUP):
         signal.signal(number, lambda *_: member.end())
     print("member %d, %s" % (member.me, member.network.where), flush=True)
     if web:
         web.begin()
-        print("page %s" % web.url, flush=True)
+        for url in web.urls:
+            print("page %s" % url, flush=True)
         if options.open:
-            webbrowser.open(web.url)
+            webbrowser.open(web.urls[-1])
     terminal = Terminal(member, events) if options.terminal and sys.stdin.isatty() and sys.stdout.isatty() else None
     if terminal:
         terminal.begin()

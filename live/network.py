@@ -3,7 +3,6 @@ from __future__ import annotations
 
 import heapq
 import random
-import secrets
 import socket
 import threading
 import time
@@ -12,6 +11,7 @@ from dataclasses import dataclass
 from typing import Callable, Deque, Dict, List, Optional, Tuple
 
 from .options import PORTS, Address, Options
+from .presence import MARK
 
 # the longest datagram that UDP carries
 MOST_BYTES = 65_507
@@ -116,17 +116,15 @@ class Network:
     """A socket, whom it sends to, and a thread that reads it."""
 
     def __init__(
-        self, where: str, me: Optional[int], bound: socket.socket, targets: List[Address],
-        sender: Optional[socket.socket] = None, only_peers: bool = False,
+        self, where: str, bound: socket.socket, targets: List[Address], sender: Optional[socket.socket] = None, only_peers: bool = False,
     ) -> None:
         self.where = where
-        # where none is given, a number that hardly anyone else has
-        self.me = 1_000_000 + secrets.randbelow(999_000_000) if me is None else me
         self.socket = bound
         self.sender = sender or bound
         self.targets = targets
         self.only_peers = only_peers
         self.recent: Dict[bytes, None] = {}
+        self.aside: Callable[[bytes, Address], None] = lambda data, address: None  # is given what is for drivers alone
         self.is_open = True
 
     def begin(self, inbox: Inbox) -> None:
@@ -143,7 +141,7 @@ class Network:
                     time.sleep(0.05)
                 continue
             if self.is_other(data, address):
-                inbox.arrive(data, address)
+                (self.aside if data.startswith(MARK) else inbox.arrive)(data, address)
 
     def is_other(self, data: bytes, address: Address) -> bool:
         """Not our own datagram that the group brings back, and from a peer where peers are named."""
@@ -164,21 +162,49 @@ class Network:
                 done = False
         return done
 
+    def place(self) -> Address:
+        """Where a stream is asked for: the address that datagrams of ours come from."""
+        return self.sender.getsockname()
+
+    def is_there(self, address: Address) -> bool:
+        """Whether a member may be at an address: where it is known who there can be, nobody else is spoken to."""
+        return self.sender is not self.socket or address in self.targets
+
+    def may_ask(self, address: Address) -> bool:
+        """Whether a stream may be asked for from an address."""
+        return self.sender is not self.socket or address[0] in {host for host, _ in self.targets}
+
     def end(self) -> None:
         self.is_open = False
         self.socket.close()
         self.sender.close()
 
 
+class Nobody:
+    """A network without anyone, for a replay."""
+
+    def __init__(self, where: str) -> None:
+        self.where = where
+        self.aside: Callable[[bytes, Address], None] = lambda data, address: None
+
+    def begin(self, inbox: Inbox) -> None:
+        """Nothing arrives."""
+
+    def send(self, data: bytes) -> bool:
+        return True
+
+    def end(self) -> None:
+        """There is nothing to close."""
+
+
 def udp() -> socket.socket:
     return socket.socket(socket.AF_INET, socket.SOCK_DGRAM)
 
 
-def on_this_machine(first: int, me: Optional[int]) -> Network:
-    """The port that belongs to the number, or else the first free one; the number follows from it."""
+def on_this_machine(first: int) -> Network:
+    """The first port that is free. Its number is nobody's: a member's number is not that of its port."""
     ports = list(range(first, first + PORTS))
-    wanted = ports if me is None else [ports[me - 1]] if 1 <= me <= PORTS else ports[::-1]
-    for port in wanted:
+    for port in ports:
         bound = udp()
         try:
             bound.bind(("127.0.0.1", port))
@@ -186,11 +212,11 @@ def on_this_machine(first: int, me: Optional[int]) -> Network:
             bound.close()
             continue
         where = "this machine, port %d of %d to %d" % (port, first, ports[-1])
-        return Network(where, port - first + 1 if me is None else me, bound, [("127.0.0.1", other) for other in ports if other != port])
-    raise NetworkFault("no port of %s is free" % (wanted if len(wanted) == 1 else "%d to %d" % (first, ports[-1])))
+        return Network(where, bound, [("127.0.0.1", other) for other in ports if other != port])
+    raise NetworkFault("no port of %d to %d is free" % (first, ports[-1]))
 
 
-def in_group(group: Address, interface: str, me: Optional[int]) -> Network:
+def in_group(group: Address, interface: str) -> Network:
     """A multicast group, one hop wide, on an interface."""
     bound, sender = udp(), udp()
     try:
@@ -205,10 +231,10 @@ def in_group(group: Address, interface: str, me: Optional[int]) -> Network:
         sender.bind((interface, 0))
     except OSError as fault:
         raise NetworkFault("the group %s:%d can't be joined: %s" % (group[0], group[1], fault)) from fault
-    return Network("the group %s:%d" % group, me, bound, [group], sender)
+    return Network("the group %s:%d" % group, bound, [group], sender)
 
 
-def with_peers(listen: Address, peers: List[Address], me: Optional[int]) -> Network:
+def with_peers(listen: Address, peers: List[Address]) -> Network:
     """Listens at one address, and sends to each peer; from others nothing is taken."""
     bound = udp()
     try:
@@ -216,13 +242,13 @@ def with_peers(listen: Address, peers: List[Address], me: Optional[int]) -> Netw
         targets = [(socket.gethostbyname(host), port) for host, port in peers]
     except OSError as fault:
         raise NetworkFault("%s:%d or a peer can't be used: %s" % (listen[0], listen[1], fault)) from fault
-    return Network("%s:%d, with %d peers" % (listen + (len(peers),)), me, bound, targets, only_peers=True)
+    return Network("%s:%d, with %d peers" % (listen + (len(peers),)), bound, targets, only_peers=True)
 
 
-def open_network(options: Options, me: Optional[int]) -> Network:
-    """The network that the options ask for, for the member with this number, where one is given."""
+def open_network(options: Options) -> Network:
+    """The network that the options ask for."""
     if options.lan:
-        return in_group(options.lan, options.interface, me)
+        return in_group(options.lan, options.interface)
     if options.listen:
-        return with_peers(options.listen, options.peer, me)
-    return on_this_machine(options.ports, me)
+        return with_peers(options.listen, options.peer)
+    return on_this_machine(options.ports)

@@ -1,4 +1,7 @@
-"""The record of a member: every line that its host was given, in a file that the host can be given again."""
+"""The record of a member: the lines that made its board, in a file that a host can be given again.
+
+It has the line of the board, each drawop that was new, with the moment at which it came, and marks of the member's own number
+that were heard at its start. Questions, what was refused, and what others asked for change nothing that is held: they are not there."""
 from __future__ import annotations
 
 import fcntl
@@ -6,82 +9,186 @@ import os
 import re
 import tempfile
 import time
-from typing import Iterator, Optional, Tuple
+from typing import Iterator, List, Optional, Tuple
 
 from .tunings import FIRST_TUNING
 
 # no line of a record is longer than this: the longest has a datagram of 65,507 bytes
 MOST_LINE = 131_072
 
-# lines that ask and change nothing, so a host that is started again needs none of them
+# lines of older records that change nothing
 QUERIES = ("view", "show", "gaps", "report", "pages", "known", "next", "#")
-
 
 # a comment that says by which constants the host answers from here on, and for how many members they were chosen
 CONSTANTS = re.compile(r"# constants ([0-9,]{1,20}) for ([0-9]{1,9}) members ")
+
+# how a record begins: comments, and then the line of the board
+HEAD = re.compile(rb"(?:#[^\n]*\n)*board [0-9]{1,10} [0-9]{1,5} [0-9] [0-9]{1,20}\n")
+MOST_HEAD = 65_536
 
 
 class RecordFault(Exception):
     """The file is no record, or another member has it."""
 
 
+class NoRoom(Exception):
+    """A line could not be written."""
+
+
+def check_head(file: int, path: Optional[str]) -> bool:
+    """Whether a file is empty. One that does not begin as a record is refused; its rest is not read."""
+    head = os.pread(file, MOST_HEAD, 0)
+    if head and not HEAD.match(head):
+        raise RecordFault("%s does not begin as a record: it stays as it is" % path)
+    return not head
+
+
+def lines_of(file: int) -> Iterator[str]:
+    """All lines of a file, from the first. A last line that a crash cut off is none."""
+    with open(os.dup(file), "rb") as reader:
+        reader.seek(0)
+        yield from (line.rstrip(b"\r\n").decode("latin-1") for line in reader if line.endswith(b"\n"))
+
+
+def acts_of(file: int) -> Iterator[str]:
+    """The lines that change a host, from the first."""
+    return (line for line in lines_of(file) if line and not line.startswith(QUERIES))
+
+
+def read_played(path: str) -> Iterator[str]:
+    """The lines that change a host, of a record that is shown and not touched."""
+    try:
+        file = os.open(path, os.O_RDONLY)
+    except OSError as fault:
+        raise RecordFault("%s can't be read: %s" % (path, fault.strerror)) from fault
+    try:
+        if check_head(file, path):
+            raise RecordFault("%s is empty" % path)
+        yield from acts_of(file)
+    finally:
+        os.close(file)
+
+
 class Record:
     """A file that only grows. Without a path it is one that vanishes with this process."""
 
     def __init__(self, path: Optional[str]) -> None:
-        self.vanishes = path is None
-        name = tempfile.mkstemp(prefix="wb-live-")[1] if path is None else path
-        self.file = os.fdopen(os.open(name, os.O_RDWR | os.O_CREAT | os.O_APPEND, 0o600), "r+b", buffering=0)
-        if self.vanishes:
-            os.unlink(name)
-        try:
-            fcntl.flock(self.file, fcntl.LOCK_EX | fcntl.LOCK_NB)
-        except OSError as fault:
-            raise RecordFault("%s is in use by another member" % path) from fault
-        self.cut_torn_line()
+        self.path = path
+        self.file = self.open(path)
+        self.size = self.good_size()
+        self.before = self.size
         self.is_synced = True
 
-    def cut_torn_line(self) -> None:
-        """A line that a crash cut off was answered to nobody: it is taken off."""
-        size = self.file.seek(0, os.SEEK_END)
-        start = max(0, size - 2 * MOST_LINE)
-        end = os.pread(self.file.fileno(), size - start, start).rfind(b"\n") + 1
-        if end == 0 and start > 0:
-            raise RecordFault("the file is no record")
-        self.file.truncate(start + end)
+    def open(self, path: Optional[str]) -> int:
+        if path is None:
+            file, name = tempfile.mkstemp(prefix="wb-live-")
+            os.unlink(name)
+            return file
+        try:
+            file = os.open(path, os.O_RDWR | os.O_CREAT, 0o600)
+        except OSError as fault:
+            raise RecordFault("%s can't be written: %s" % (path, fault.strerror)) from fault
+        try:
+            fcntl.flock(file, fcntl.LOCK_EX | fcntl.LOCK_NB)
+            check_head(file, path)
+        except OSError as fault:
+            os.close(file)
+            raise RecordFault("%s is in use by another member" % path) from fault
+        except RecordFault:
+            os.close(file)
+            raise
+        return file
 
-    def lines(self) -> Iterator[str]:
-        """All lines, from the first."""
-        with open(os.dup(self.file.fileno()), "rb") as reader:
-            reader.seek(0)
-            yield from (line.rstrip(b"\r\n").decode("latin-1") for line in reader)
+    def good_size(self) -> int:
+        """Where the next line begins. A line that a crash cut off was answered to nobody: it is written over."""
+        size = os.fstat(self.file).st_size
+        start = max(0, size - 2 * MOST_LINE)
+        end = os.pread(self.file, size - start, start).rfind(b"\n") + 1
+        if end == 0 and start > 0:
+            raise RecordFault("%s is no record" % self.path)
+        if start + end < size:
+            os.ftruncate(self.file, start + end)
+        return start + end
 
     def acts(self) -> Iterator[str]:
-        """The lines that change a host, from the first."""
-        return (line for line in self.lines() if line and not line.startswith(QUERIES))
+        return acts_of(self.file)
+
+    def text(self) -> bytes:
+        """All of the file."""
+        return os.pread(self.file, self.size, 0)
+
+    def first(self) -> Optional[str]:
+        """The line of the board, where there is one."""
+        return next(self.acts(), None)
 
     def constants(self) -> Tuple[str, int]:
         """The constants by which the host answered last, and for how many members they were chosen."""
         last = FIRST_TUNING, 0
-        for found in filter(None, map(CONSTANTS.match, self.lines())):
+        for found in filter(None, map(CONSTANTS.match, lines_of(self.file))):
             last = found[1], int(found[2])
         return last
 
-    def add(self, line: str) -> None:
-        """Puts a line into the file: a crash of this process does not lose it from now on."""
-        self.file.write(line.encode("latin-1") + b"\n")
+    def add(self, *lines: str) -> None:
+        """Puts lines into the file, all or none: a crash of this process does not lose them from now on."""
+        text = "".join(line + "\n" for line in lines).encode("latin-1")
+        try:
+            written = os.pwrite(self.file, text, self.size)
+        except OSError as fault:
+            self.cut()
+            raise NoRoom(fault.strerror) from fault
+        if written < len(text):
+            self.cut()
+            raise NoRoom("no room")
+        self.before, self.size = self.size, self.size + written
         self.is_synced = False
 
-    def note(self, text: str) -> None:
-        """Adds a comment with the time of day, which changes nothing."""
-        self.add("# %s at %s" % (text, time.strftime("%Y-%m-%d %H:%M:%S")))
+    def cut(self) -> None:
+        """Takes off what was written last in part."""
+        os.ftruncate(self.file, self.size)
+
+    def take_back(self) -> None:
+        """Takes off what was added last: nobody was told of it."""
+        self.size = self.before
+        self.cut()
 
     def sync(self) -> None:
         """Puts all lines on the disk: a crash of the machine does not lose them from now on."""
-        if not (self.is_synced or self.vanishes):
-            os.fsync(self.file.fileno())
+        if not self.is_synced and self.path is not None:
+            try:
+                os.fsync(self.file)
+            except OSError as fault:
+                raise NoRoom(fault.strerror) from fault
             self.is_synced = True
 
+    def remove(self) -> None:
+        if self.path is not None:
+            os.unlink(self.path)
+
     def close(self) -> None:
-        self.sync()
-        self.file.close()
+        try:
+            self.sync()
+        except NoRoom:
+            pass
+        os.close(self.file)
+
+
+def comment(text: str) -> str:
+    """A line with the time of day, which changes nothing."""
+    return "# %s at %s" % (text, time.strftime("%Y-%m-%d %H:%M:%S"))
+
+
+def write_record(path: Optional[str], lines: List[str]) -> Record:
+    """A record of these lines in a file that is whole before it stands under its name. What stood there is no more."""
+    made = path and "%s.%d.new" % (path, os.getpid())
+    record = Record(made or None)
+    try:
+        record.add(*lines)
+        record.sync()
+        if made and path:
+            os.rename(made, path)
+            record.path = path
+    except (NoRoom, OSError):
+        record.remove()
+        record.close()
+        raise
+    return record

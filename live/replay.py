@@ -1,63 +1,130 @@
-"""A record shown as it went: the same lines to a host, at the pace of their ticks, and nothing is sent."""
+"""A record shown as it went: the same lines to a host, at the pace of their ticks, and nothing is sent. It can be stopped, go faster,
+and jump to any moment."""
 from __future__ import annotations
 
-from typing import Any, Dict, Iterator, Optional
+from typing import TYPE_CHECKING, Any, Callable, Dict, Iterator, List, Optional, Tuple
 
-from .events import Events
-from .member import Member, Refused
-from .network import Arrival, Network, udp
-from .options import Options
-from .pacing import SECOND
-from .record import Record
-from .views import Page
+from .asking import Asking
+from .drawn import Drawn
+from .film import SPEEDS, Film, scenes_of
+from .network import Arrival
+from .pacing import SECOND, Heard
+from .times import wall
+from .views import Drawop, Page, kind_of
 
-# a longer pause of the record is shortened to this
-MOST_PAUSE = 5 * SECOND
+if TYPE_CHECKING:
+    from .member import Member
+
+# lines that are played before views can look on
+MOST_LINES = 100
+
+# microseconds between two tellings of where the film is
+TELL_PAUSE = SECOND // 5
 
 
-class Replay(Member):
-    """A member that does only what a record says."""
+class Playing:
+    """Stands in the place of a member's judgement: what is done is what the record says, and nothing is drawn."""
 
-    def __init__(self, options: Options, program: str, played: Record, me: int, events: Events) -> None:
-        self.lines: Iterator[str] = played.acts()
-        next(self.lines)
-        self.waiting: Optional[str] = next(self.lines, None)
-        self.shift: Optional[int] = None
-        nobody = Network("a replay of %s" % options.replay, me, udp(), [])
-        super().__init__(options, program, Record(None), nobody, events)
+    def __init__(self, member: Member, lines: Iterator[str]) -> None:
+        self.member = member
+        self.film = Film(list(lines), member.board.clock.now)
+        self.tell_at = 0
+        self.asking = Asking()
+        self.heard = Heard()
+        self.has_twin = False
+        member.telling.events.tell("scenes", scenes_of(self.film, member.words))
 
-    def seconds_to_wait(self) -> float:
-        until = 1.0 if self.waiting is None else self.board.clock.seconds_until(self.moment_of(self.waiting))
-        return min(1.0, until, self.telling.seconds_to_wait())
+    def plan(self) -> List[Tuple[int, Callable[[], Any]]]:
+        plan: List[Tuple[int, Callable[[], Any]]] = [(self.tell_at, self.tell)]
+        due = self.film.due()
+        if due is not None:
+            plan.append((due, self.play_due))
+        return plan if self.member.is_ready else [(0, self.member.people.begin), *plan]
 
-    def moment_of(self, line: str) -> int:
-        """When a line is due by our clock: a tick at its moment, any other at once."""
-        if not line.startswith("tick "):
-            return 0
-        now, moment = self.board.clock.now(), int(line[5:])
-        if self.shift is None or moment - self.shift > now + MOST_PAUSE:
-            self.shift = moment - now
-        return moment - self.shift
+    def tell(self) -> None:
+        """Tells where the film is, and how many drawops are missing there."""
+        film, sheets = self.film, self.member.drawn.pages.values()
+        missing = sum(sum(sheet.tops.values()) - len(sheet.drawops) for sheet in sheets)
+        self.member.telling.events.tell("film", {
+            "at": film.at() // 1000, "last": film.last // 1000, "speed": film.speed, "stopped": film.is_stopped, "missing": missing,
+        })
+        self.tell_at = self.member.board.clock.now() + TELL_PAUSE
 
-    def pass_time(self) -> None:
-        """The lines that are due, some at a time, so that views can look on."""
-        for _ in range(100):
-            if self.waiting is None or self.moment_of(self.waiting) > self.board.clock.now():
-                break
-            self.play(self.waiting)
-            self.waiting = next(self.lines, None)
-        self.do_draws()
+    def change(self, at: Optional[float] = None, speed: Optional[float] = None, stopped: Optional[bool] = None) -> Dict[str, Any]:
+        """Jumps to a moment, in milliseconds; goes faster or slower; stops or goes on."""
+        self.film.change(speed, stopped)
+        if at is not None:
+            self.jump(int(at * 1000))
+        self.tell()
+        return {"at": self.film.at() // 1000}
 
-    def draw_now(self, page: Page, operation: str) -> Dict[str, Any]:
-        raise Refused("a replay draws nothing")
+    def jump(self, moment: int) -> None:
+        """A jump back gives a new host the lines from the first on."""
+        member = self.member
+        if moment < self.film.at():
+            member.board.host.end()
+            member.board.moment = 0
+            member.board.start([member.board.record.first() or ""])
+            member.drawn = Drawn()
+            member.telling.page, member.telling.is_changed = None, True
+            self.film.next = 0
+        self.film.begin_at(moment)
+        while self.play_due():
+            pass
+
+    def play_due(self) -> int:
+        """Plays lines that are due, some at a time, and gives how many."""
+        lines = self.film.take(MOST_LINES)
+        for line in lines:
+            self.play(line)
+        return len(lines)
 
     def play(self, line: str) -> None:
-        """A datagram of the record comes in once more, and any other line is said once more."""
-        if line.startswith("datagram ") and len(line) % 2:
-            self.arrive(Arrival(bytes.fromhex(line[9:]), ("record", 0)))
-        else:
-            self.tell(line)
-        self.telling.is_changed = True
+        """A drawop of the record comes in or goes out once more, and any other line is said once more."""
+        member, word = self.member, line.split(" ", 1)[0]
+        if word == "datagram" and len(line) % 2:
+            self.arrive([Arrival(bytes.fromhex(line[9:]), ("record", 0))])
+        elif line.startswith("say draw "):
+            for digits in member.board.draw(line[4:]).sent():
+                member.send(digits)
+        elif word != "board":
+            member.tell(line)
 
-    def advance(self) -> None:
-        """Time goes by the ticks of the record alone."""
+    def arrive(self, arrivals: List[Arrival]) -> None:
+        for arrival in arrivals:
+            self.arrive_one(arrival)
+
+    def arrive_one(self, arrival: Arrival) -> None:
+        member, digits = self.member, arrival.data.hex()
+        told = member.words.of(digits)
+        entry = member.wire.came(arrival, told.words)
+        if told.words is not None and kind_of(told.words) == "draw":
+            entry["refused"] = member.board.take([Drawop(told.words, digits)])[0].fault
+        else:
+            entry["refused"] = member.board.tell("datagram " + digits).fault
+        member.wire.tell(entry)
+
+    def now(self) -> int:
+        return wall()
+
+    def doubt(self, page: Page) -> None:
+        """Nothing is asked for."""
+
+    def went(self, digits: str) -> None:
+        """Nothing is sent."""
+
+    def fault_of_drawing(self) -> Optional[str]:
+        return "a replay draws nothing"
+
+    def end(self) -> None:
+        """There is nothing to end."""
+
+
+def change_in(body: Dict[str, Any]) -> Optional[Dict[str, Any]]:
+    """A change of the film as a page asks for it, or None where it is none."""
+    ranges = {"at": (0, 2**53), "speed": SPEEDS}
+    for name, value in body.items():
+        is_amount = name in ranges and type(value) in (int, float) and ranges[name][0] <= value <= ranges[name][1]
+        if not is_amount and not (name == "stopped" and isinstance(value, bool)):
+            return None
+    return body

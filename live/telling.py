@@ -1,13 +1,14 @@
-"""What a member tells its views: the page, the pages, who is there, and what is missing."""
+"""What a member tells its views: what changed on the page, the pages, who is there, and what is missing."""
 from __future__ import annotations
 
 import time
-from typing import TYPE_CHECKING, Dict, List, Set
+from typing import TYPE_CHECKING, Any, Dict, List, Set
 
 from .board import COLUMNS
-from .events import Events
+from .drawn import Sheet
+from .events import Events, Whole
 from .pacing import GONE_AFTER, SECOND
-from .views import Drawop, Page, page_text
+from .views import Name, Page, page_text
 
 if TYPE_CHECKING:
     from .member import Member
@@ -18,8 +19,17 @@ NOTICE = "Everything shown here came through wb host, which is proved; live/ (ne
 LEAST_PAUSE = 0.015
 PART = 6
 
-# seconds between two tellings of who is there
+# seconds between two tellings of who is there, and of the pages
 MEMBERS_PAUSE = 0.5
+PAGES_PAUSE = 0.1
+
+# seconds from a change to the comparison of what is told with the host's view, which takes at most one part in so many of the time
+CHECK_PAUSE = 2.0
+CHECK_PART = 50
+
+# pages that are told
+MOST_PAGES = 1_000
+MOST_MEMBERS = 500
 
 
 class Telling:
@@ -29,9 +39,18 @@ class Telling:
         self.member = member
         self.events = events
         self.is_changed = True
-        self.shown: List[Drawop] = []
+        self.are_pages_changed = True
+        self.page: Any = None  # that was told last
+        self.names: Set[Name] = set()  # of the drawings that it was told of, shown or hidden
+        self.rows: List[str] = []
+        self.turn = 0
+        self.version = 0
         self.next_at = 0.0
         self.next_members = 0.0
+        self.next_pages = 0.0
+        self.check_at = 0.0
+        self.is_checked = True
+        self.differences = 0
         self.caught_up: Dict[Page, int] = {}
         self.missing: Set[Page] = set()
 
@@ -45,35 +64,84 @@ class Telling:
         if self.is_changed and began >= self.next_at:
             self.is_changed = False
             self.tell_board()
-            self.tell_pages()
             ended = time.monotonic()
             self.next_at = ended + max(LEAST_PAUSE, (PART - 1) * (ended - began))
-            self.next_members = 0.0
+            self.check_at, self.is_checked = max(self.check_at, ended + CHECK_PAUSE), False
+        if self.are_pages_changed and began >= self.next_pages:
+            self.are_pages_changed = False
+            self.tell_pages()
+            self.next_pages = time.monotonic() + PAGES_PAUSE
         if began >= self.next_members:
             self.tell_members()
             self.tell_health()
             self.next_members = time.monotonic() + MEMBERS_PAUSE
+        if not self.is_checked and not self.is_changed and began >= self.check_at:
+            self.check()
 
     def tell_hello(self) -> None:
         member, options = self.member, self.member.options
         self.events.tell("hello", {
             "me": member.me, "mode": member.network.where, "notice": NOTICE, "program": member.board.program,
-            "teach": options.teach, "worsen": options.worse(), "cells": options.cells, "ready": member.is_ready,
+            "teach": options.teach, "worsen": options.worse(), "cells": member.board.cells, "ready": member.is_ready,
+            "twin": member.judging.has_twin, "broken": member.board.is_broken,
         })
 
+    # ---- the page
+
     def tell_board(self) -> None:
+        """The whole of another page, and of the same what changed since."""
         member = self.member
-        self.shown = member.board.view(member.page)
-        self.events.tell("board", {
-            "page": page_text(member.page), "columns": COLUMNS, "rows": member.board.canvas(member.page),
-            "drawops": [drawop.fields() for drawop in self.shown],
-            "hidden": [drawop.fields() for drawop in member.drawn.hidden(member.page, self.shown)],
-        })
+        sheet, rows = member.drawn.sheet(member.page), member.board.canvas(member.page)
+        changed, sheet.changed = sheet.changed, {}
+        is_turned = self.page != member.page
+        change = None if is_turned else self.change_of(changed, rows)
+        if is_turned:
+            self.page, self.turn, self.version = member.page, self.turn + 1, 0
+            self.names = {drawop.name for drawop in sheet.shown} | set(sheet.hidden)
+            self.are_pages_changed = True
+            self.next_members = self.next_pages = 0.0
+        elif not changed and rows == self.rows:
+            return
+        else:
+            self.version += 1
+        self.rows = rows
+        head = {"page": page_text(member.page), "columns": COLUMNS, "rows": rows}
+        self.events.tell_page(Whole(self.turn, self.version, head, list(sheet.shown), list(sheet.hidden.values())), change)
+
+    def whole_of(self, page: Page) -> Whole:
+        """What a page shows that need not be in view."""
+        sheet = self.member.drawn.pages.get(page, Sheet())
+        head = {"page": page_text(page), "columns": COLUMNS, "rows": self.member.board.canvas(page)}
+        return Whole(0, 0, head, list(sheet.shown), list(sheet.hidden.values()))
+
+    def change_of(self, changed: Dict[Name, Any], rows: List[str]) -> Dict[str, Any]:
+        """The names of what changed; where of it stands what is shown now, in the order in which it is put in; what of it is hidden;
+        and the rows that are other ones."""
+        sheet = self.member.drawn.sheet(self.member.page)
+        hidden = [drawop for name, drawop in changed.items() if name in sheet.hidden]
+        added = sorted(((sheet.index(drawop), drawop) for name, drawop in changed.items() if name not in sheet.hidden), key=lambda each: each[0])
+        names = [[name[0], name[2]] for name in changed if name in self.names]
+        self.names.update(changed)
+        new = {y: row for y, row in enumerate(rows) if y >= len(self.rows) or self.rows[y] != row}
+        return {"page": page_text(self.member.page), "names": names, "added": added, "hidden": hidden, "rows": new, "height": len(rows)}
+
+    def check(self) -> None:
+        """Compares what is told with the host's view; what differs is told anew, as the host has it."""
+        began = time.monotonic()
+        self.is_checked = True
+        sheet, lines = self.member.drawn.sheet(self.member.page), self.member.board.view(self.member.page)
+        if not sheet.agrees(lines):
+            self.differences += 1
+            sheet.replace(lines)
+            self.page, self.is_changed = None, True
+        self.check_at = time.monotonic() + CHECK_PART * (time.monotonic() - began)
+
+    # ---- what stands beside it
 
     def tell_pages(self) -> None:
         member = self.member
-        pages = sorted(set(member.board.known()) | {member.page})
-        told = [{"page": page_text(page), "drawn": member.drawn.count(page)} for page in pages[:1000]]
+        pages = sorted({*member.drawn.drawn_pages(), *(name[1] for name in member.judging.asking.far), member.page})
+        told = [{"page": page_text(page), "drawn": member.drawn.count(page)} for page in pages[:MOST_PAGES]]
         self.events.tell("pages", {"page": page_text(member.page), "pages": told})
 
     def tell_members(self) -> None:
@@ -81,22 +149,31 @@ class Telling:
         told = [{
             "member": number, "distance": None if other.distance is None else other.distance / 1000,
             "heard": round((now - other.at) / SECOND, 1), "page": page_text(other.page) if other.page else None,
-        } for number, other in sorted(self.member.heard.present(now).items())]
-        self.events.tell("members", {"me": self.member.me, "members": told[:500]})
+        } for number, other in sorted(self.member.judging.heard.present(now).items())]
+        self.events.tell("members", {"me": self.member.me, "members": told[:MOST_MEMBERS]})
 
     def tell_health(self) -> None:
         member, page = self.member, self.member.page
-        missing, asking, given_up = member.asking.counts(page)
+        missing, asking, given_up = member.judging.asking.counts(page)
         if missing:
             self.missing.add(page)
         elif page in self.missing:
             self.missing.remove(page)
             self.caught_up[page] = member.board.clock.now()
-        counts = dict(member.wire.counts, dropped=member.inbox.dropped, starts=1 + len(member.board.ends))
+        counts = dict(member.wire.counts, dropped=member.inbox.dropped, starts=1 + len(member.board.ends), differences=self.differences)
         self.events.tell("health", {
             "page": page_text(page), "phrase": self.phrase(missing, asking, given_up), "missing": missing,
-            "asking": asking, "given_up": given_up, "warnings": member.warnings, "counts": counts,
+            "asking": asking, "given_up": given_up, "warnings": self.warnings(), "counts": counts,
         })
+
+    def warnings(self) -> List[str]:
+        """What lasts stands behind what goes."""
+        member = self.member
+        lasting = [
+            (member.judging.has_twin, "another member has our number %d: nothing is drawn until this member has a new one" % member.me),
+            (member.board.is_broken, "the record can't be written: nothing is drawn until there is room"),
+        ]
+        return member.alarms.told() + [text for is_so, text in lasting if is_so]
 
     def phrase(self, missing: int, asking: int, given_up: int) -> str:
         """The health of the page in one phrase."""
@@ -105,4 +182,4 @@ class Telling:
         now, at = self.member.board.clock.now(), self.caught_up.get(self.member.page)
         if at is not None and now - at < GONE_AFTER:
             return "caught up %d s ago" % ((now - at) // SECOND)
-        return "whole" if self.member.heard.present(now) else "whole; nobody else is heard"
+        return "whole" if self.member.judging.heard.present(now) else "whole; nobody else is heard"

@@ -9,11 +9,12 @@ from concurrent.futures import TimeoutError as TooLate
 from typing import Any, Callable, Dict
 
 from .events import Events, Watcher
-from .member import OPERATIONS, Member, Refused
+from .member import Member
+from .people import OPERATIONS, Refused
 from .telling import NOTICE
 from .views import page_of
 
-HELP = 'line X0 Y0 X1 Y1 GLYPH | frame .. | text X Y "TEXT" | delete SOURCE SEQ | restore .. | undo | page C/N | new | who | wire | quit'
+HELP = 'line X0 Y0 X1 Y1 GLYPH | frame .. | text X Y "TEXT" | delete SOURCE SEQ | restore .. | undo | page C/N | new | number | who | wire | quit'
 
 # rows at the foot: the state, what was last said, and the line that is typed
 FOOT = 3
@@ -55,10 +56,21 @@ class Terminal:
             news = self.watcher.wait(3600)
             if news is None:
                 return
-            self.state.update((name, json.loads(text)) for name, text in news)
+            for name, text in news:
+                self.take_in(name, json.loads(text))
             if self.shows_wire and "wire" in dict(news):
                 self.said = self.state["wire"]["entries"][-1]["words"] or "no datagram"
             self.paint()
+
+    def take_in(self, name: str, value: Dict[str, Any]) -> None:
+        """A state, or what changed of the page's rows."""
+        if name != "change":
+            self.state[name] = value
+            return
+        rows = (self.state["board"]["rows"] + [""] * value["height"])[:value["height"]]
+        for y, row in value["rows"].items():
+            rows[int(y)] = row
+        self.state["board"]["rows"] = rows
 
     def paint(self) -> None:
         """Paints all rows above the line that is typed, and leaves the cursor where it is."""
@@ -86,16 +98,17 @@ class Terminal:
 
     def answer(self, line: str) -> str:
         """Does what a line says, and gives what to say of it."""
-        member, word = self.member, line.split(" ", 1)[0]
+        people, word = self.member.people, line.split(" ", 1)[0]
         commands: Dict[str, Callable[[], str]] = {
-            "undo": lambda: member.call(member.undo).result(PATIENCE)["words"],
-            "page": lambda: "page " + member.call(member.turn_to, page_of(line[5:])).result(PATIENCE)["page"],
-            "new": lambda: "page " + member.call(member.new_page).result(PATIENCE)["page"],
+            "undo": lambda: people.call(people.undo).result(PATIENCE)["words"],
+            "page": lambda: "page " + people.call(people.turn_to, page_of(line[5:])).result(PATIENCE)["page"],
+            "new": lambda: "page " + people.call(people.new_page).result(PATIENCE)["page"],
+            "number": lambda: "you are member %d now" % people.call(people.renumber).result(PATIENCE)["me"],
             "who": self.who, "wire": self.turn_wire, "quit": self.quit,
         }
         try:
             if word in OPERATIONS:
-                return member.draw(member.page, line).result(PATIENCE)["words"]
+                return people.draw(self.member.page, line).result(PATIENCE)["words"]
             return commands.get(word, lambda: HELP)()
         except (Refused, ValueError, TooLate) as fault:
             return "refused: %s" % (str(fault) or "busy")

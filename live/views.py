@@ -1,8 +1,8 @@
-"""What words say: the fields of drawops, and of other datagrams what a view shows of them."""
+"""What words say: the fields of drawops, and of other datagrams what a member and its views need of them."""
 from __future__ import annotations
 
+import json
 import re
-from dataclasses import dataclass
 from typing import Any, Dict, List, Optional, Tuple
 
 # of a page: its creator and its number
@@ -10,6 +10,12 @@ Page = Tuple[int, int]
 
 # of a drawop: its source, its page and its number there
 Name = Tuple[int, Page, int]
+
+# where a drawop stands in the order of display: its time, its source and its number
+Key = Tuple[int, int, int]
+
+# a delete or a restore of another drawop
+AIMED = ("delete", "restore")
 
 
 def page_of(text: str) -> Page:
@@ -24,29 +30,51 @@ def page_text(page: Page) -> str:
     return "%d/%d" % page
 
 
-@dataclass(frozen=True)
 class Drawop:
-    """A drawop, as its words say."""
+    """A drawop, by its words; `digits` are its datagram."""
 
-    name: Name
-    time: int
-    operation: List[str]
-    words: str
+    __slots__ = ("name", "time", "kind", "words", "digits", "json")
+
+    def __init__(self, words: str, digits: str = "") -> None:
+        _, source, page, seq, time, kind = words.split(" ", 6)[:6]
+        self.name: Name = (int(source), page_of(page), int(seq))
+        self.time = int(time)
+        self.kind = kind
+        self.words = words
+        self.digits = digits
+        self.json: Optional[str] = None
+
+    @property
+    def key(self) -> Key:
+        return self.time, self.name[0], self.name[2]
 
     def is_drawing(self) -> bool:
         """It puts glyphs on the page: it is no delete and no restore."""
-        return self.operation[0] in ("line", "frame", "text")
+        return self.kind not in AIMED
+
+    def target(self) -> Tuple[int, int]:
+        """The source and the number that a delete or a restore names."""
+        source, seq = self.words.split(" ")[6:8]
+        return int(source), int(seq)
 
     def fields(self) -> Dict[str, Any]:
         """What a page of a browser gets of it."""
-        kind, *rest = self.operation
-        told: Dict[str, Any] = {"source": self.name[0], "seq": self.name[2], "time": str(self.time), "op": kind}
-        if kind == "text":
-            told.update(x=int(rest[0]), y=int(rest[1]), text=unquoted(rest[2]))
+        rest = self.words.split(" ", 6)[6]
+        told: Dict[str, Any] = {"source": self.name[0], "seq": self.name[2], "time": str(self.time), "op": self.kind}
+        if self.kind == "text":
+            x, y, quoted = rest.split(" ", 2)
+            told.update(x=int(x), y=int(y), text=unquoted(quoted))
         else:
-            told.update(zip(("x0", "y0", "x1", "y1"), map(int, rest[:4])), glyph=rest[4])
+            *numbers, glyph = rest.split(" ")
+            told.update(zip(("x0", "y0", "x1", "y1"), map(int, numbers)), glyph=glyph)
         told["words"] = self.words
         return told
+
+    def text(self) -> str:
+        """The same as JSON, which is made once."""
+        if self.json is None:
+            self.json = json.dumps(self.fields(), separators=(",", ":"))
+        return self.json
 
 
 def unquoted(quoted: str) -> str:
@@ -55,11 +83,9 @@ def unquoted(quoted: str) -> str:
     return "".join(next(characters, "") if c == "\\" else c for c in characters)
 
 
-def drawop_of(words: str) -> Drawop:
-    """The drawop of the words `draw SOURCE PAGE SEQ TIME ..`, as the program spells them."""
-    draw, source, page, seq, time, rest = words.split(" ", 5)
-    operation = rest.split(" ", 3) if rest.startswith("text ") else rest.split(" ")
-    return Drawop((int(source), page_of(page), int(seq)), int(time), operation, words)
+def kind_of(words: str) -> str:
+    """The kind of a datagram: its first word."""
+    return words.split(" ", 1)[0]
 
 
 def speaker_of(words: str) -> int:
@@ -77,48 +103,31 @@ def name_in(words: str) -> Optional[Name]:
     return None
 
 
-def reported_page(words: str) -> Optional[Page]:
-    """The page that a session message or a page state reports on."""
-    parts = words.split(" ", 4)
-    if parts[0] == "session-message":
-        return page_of(parts[3])
-    return page_of(parts[2]) if parts[0] == "page-state" else None
+class Report:
+    """What a session message or a page state tells: the page, the greatest number of each source, and whom the sender heard."""
+
+    def __init__(self, words: str) -> None:
+        kind, sender, *rest = words.split(" ")
+        self.is_session = kind == "session-message"
+        self.sender = int(sender)
+        self.sent = int(rest.pop(0)) if self.is_session else 0
+        self.page = page_of(rest.pop(0))
+        self.marks: Dict[int, int] = {}
+        self.echoes: Dict[int, Tuple[int, int]] = {}
+        for word in rest:
+            source, sign, told = word.partition("@")
+            if sign:
+                sent, held = told.split("+")
+                self.echoes[int(source)] = int(sent), int(held)
+            else:
+                source, _, high = word.partition("=")
+                self.marks[int(source)] = int(high)
+
+    def distance(self, me: int, now: int) -> Optional[int]:
+        """The microseconds to the sender, by its echo of ours, where it has one."""
+        sent, held = self.echoes.get(me, (now + 1, 0))
+        return (now - sent - held) // 2 if held <= now - sent < 2**25 else None
 
 
-def distance_told(words: str, me: int, now: int) -> Optional[int]:
-    """The microseconds to the sender of a session message, by its echo of ours, where one tells them."""
-    for word in reversed(words.split(" ")):
-        source, at, times = word.partition("@")
-        if not at:
-            return None
-        if int(source) == me:
-            sent, held = map(int, times.split("+"))
-            return (now - sent - held) // 2 if 0 <= held <= now - sent < 2**25 else None
-    return None
-
-
-class Drawn:
-    """The drawops that the host was given, by page: a view has only those that are shown now."""
-
-    def __init__(self) -> None:
-        self.pages: Dict[Page, Dict[Name, Drawop]] = {}
-
-    def add(self, drawop: Drawop) -> None:
-        self.pages.setdefault(drawop.name[1], {}).setdefault(drawop.name, drawop)
-
-    def count(self, page: Page) -> int:
-        return len(self.pages.get(page, {}))
-
-    def latest(self, page: Page, now: int) -> int:
-        """The latest time on a page. One that lies an hour ahead or more is not believed."""
-        times = (drawop.time for drawop in self.pages.get(page, {}).values())
-        return max((time for time in times if time < now + 3_600_000_000), default=0)
-
-    def sources(self, page: Page) -> set:
-        return {name[0] for name in self.pages.get(page, {})}
-
-    def hidden(self, page: Page, shown: List[Drawop]) -> List[Drawop]:
-        """The drawings of a page that were deleted."""
-        names = {drawop.name for drawop in shown}
-        held = self.pages.get(page, {})
-        return [held[name] for name in sorted(held) if name not in names and held[name].is_drawing()]
+def report_of(words: str) -> Optional[Report]:
+    return Report(words) if kind_of(words) in ("session-message", "page-state") else None

@@ -1,8 +1,6 @@
 """The page for a browser, over HTTP: the page itself, what is told as it changes, and what people draw."""
 from __future__ import annotations
 
-import base64
-import hashlib
 import hmac
 import json
 import re
@@ -13,36 +11,51 @@ import time
 from concurrent.futures import TimeoutError as TooLate
 from http.server import BaseHTTPRequestHandler, ThreadingHTTPServer
 from pathlib import Path
-from typing import Any, Callable, Dict, List, Optional
+from typing import Any, Callable, Dict, List, Optional, Tuple
 from urllib.parse import parse_qs, urlsplit
 
-from .events import Events, Watcher
-from .member import Member, Refused
-from .options import Address
+from .connections import Connections
+from .events import Events, Watcher, compact
+from .member import Member
+from .options import Address, Options
+from .people import Refused
+from .presence import point_in
+from .replay import change_in
+from .sockets import PING, TEXT, acceptance, frame, has_ended, is_key
 from .views import Page, page_of
 
-PAGE = Path(__file__).resolve().parent / "page.html"
+PAGE = Path(__file__).resolve().parent / "page"
+
+# what is served of that directory beside its index, by the end of the name
+KINDS = {".js": "text/javascript; charset=utf-8", ".css": "text/css; charset=utf-8"}
 
 # what is served where there is no such file
 BARE_PAGE = '<!doctype html><title>wb</title><meta name="wb-token" content="__TOKEN__">The page is not there.'
 
-# bytes of a body, streams of events, and connections of all kinds
+# bytes of a body, and streams of events
 MOST_BODY = 1_024
-MOST_STREAMS = 64
-MOST_CONNECTIONS = 512
+MOST_STREAMS = 128
 
-# seconds that a connection may take for its request, and that a drawing may take
+# seconds without a byte of a request, or of an answer, and that a drawing may take
 PATIENCE = 5
 DRAW_PATIENCE = 10
 
-# seconds between two messages of a stream
+# seconds between two messages of a stream, and until one that says nothing else shows that it is there
 PAUSE = 0.01
+QUIET = 5.0
 
 # ports that the page tries first, so that its address stays
 PORTS = range(8040, 8072)
 
+# no script, style or address but our own: none stands in the page itself
+POLICY = (
+    "default-src 'none'; script-src 'self'; style-src 'self'; connect-src 'self'; img-src data: blob:; "
+    "base-uri 'none'; form-action 'none'; frame-ancestors 'none'"
+)
+
 HEADERS = {
     "Cache-Control": "no-store",
+    "Content-Security-Policy": POLICY,
     "Referrer-Policy": "no-referrer",
     "X-Content-Type-Options": "nosniff",
     "Cross-Origin-Opener-Policy": "same-origin",
@@ -58,11 +71,10 @@ class Fault(Exception):
         self.status = status
 
 
-def hashes(page: str, element: str) -> str:
-    """The hashes of the inline scripts or styles of a page, as a policy names them."""
-    found = re.findall("<%s>(.*?)</%s>" % (element, element), page, re.DOTALL)
-    digests = [base64.b64encode(hashlib.sha256(text.encode()).digest()).decode() for text in found]
-    return " ".join("'sha256-%s'" % digest for digest in digests) or "'none'"
+def page_files() -> Dict[str, Tuple[str, bytes]]:
+    """The scripts and styles of the page by their paths: of what kind each is, and its bytes."""
+    files = sorted(PAGE.glob("*")) if PAGE.is_dir() else []
+    return {"/page/" + file.name: (KINDS[file.suffix], file.read_bytes()) for file in files if file.suffix in KINDS}
 
 
 class Web(ThreadingHTTPServer):
@@ -71,41 +83,37 @@ class Web(ThreadingHTTPServer):
     daemon_threads = True
     request_queue_size = 256
 
-    def __init__(self, address: Address, member: Member, events: Events) -> None:
+    def __init__(self, address: Address, options: Options, member: Member, events: Events) -> None:
+        self.connections = Connections()
         super().__init__(address, Handler)
         host, port = address[0], self.server_address[1]
+        self.is_everywhere = host in ("0.0.0.0", "::")
         names = [host, "localhost"] if host == "127.0.0.1" else [host]
-        self.hosts = {"%s:%d" % (name, port) for name in names}
-        self.url = "http://%s:%d/" % (host, port)
+        # what a browser calls this server: by its own address, or by those of the words, as a proxy hands them on
+        self.hosts = {"%s:%d" % (name, port) for name in names} | {urlsplit(origin).netloc for origin in options.origin}
+        self.origins = {"http://%s:%d" % (name, port) for name in names} | set(options.origin)
+        self.token = secrets.token_hex(16)
+        here = "http://%s:%d" % ("127.0.0.1" if self.is_everywhere else host, port)
+        self.urls = ["%s/%s/" % (origin, self.token) for origin in [here, *options.origin]]
         self.member = member
         self.events = events
-        self.token = secrets.token_hex(16)
         self.streams = threading.Semaphore(MOST_STREAMS)
-        self.connections = threading.Semaphore(MOST_CONNECTIONS)
-        page = PAGE.read_text() if PAGE.exists() else BARE_PAGE
-        self.page = page.replace("__TOKEN__", self.token).encode()
-        self.policy = (
-            "default-src 'none'; script-src %s; style-src %s; connect-src 'self'; img-src data:; "
-            "base-uri 'none'; form-action 'none'; frame-ancestors 'none'" % (hashes(page, "script"), hashes(page, "style"))
-        )
+        index = PAGE / "index.html"
+        self.page = (index.read_text() if index.exists() else BARE_PAGE).replace("__TOKEN__", self.token).encode()
+        self.files = page_files()
 
     def process_request(self, request: Any, client_address: Any) -> None:
         """Each connection has a thread, while there are not too many."""
-        if self.connections.acquire(blocking=False):
+        if self.connections.admit(request):
             super().process_request(request, client_address)
         else:
             self.shutdown_request(request)
-
-    def process_request_thread(self, request: Any, client_address: Any) -> None:
-        try:
-            super().process_request_thread(request, client_address)
-        finally:
-            self.connections.release()
 
     def handle_error(self, request: Any, client_address: Any) -> None:
         """A connection that breaks off is nobody's fault."""
 
     def begin(self) -> None:
+        self.connections.begin()
         threading.Thread(target=self.serve_forever, daemon=True).start()
 
 
@@ -119,63 +127,135 @@ class Handler(BaseHTTPRequestHandler):
     def log_message(self, format: str, *arguments: Any) -> None:
         pass
 
+    def setup(self) -> None:
+        super().setup()
+        self.has_asked = False
+
+    def finish(self) -> None:
+        """The connection ends, and its place is free."""
+        try:
+            super().finish()
+        finally:
+            self.server.connections.end(self.connection, self.has_asked)
+
+    def heard(self) -> None:
+        """The whole request has come: from now on the connection is not idle."""
+        self.has_asked = self.server.connections.asked(self.connection)
+        if not self.has_asked:
+            raise ConnectionAbortedError
+
     def do_GET(self) -> None:
-        self.answer({"/": self.send_page, "/events": self.send_events})
+        self.heard()
+        paths: Dict[str, Callable[[], None]] = {
+            "/": self.send_page, "/events": self.send_events, "/board": self.send_board, "/record": self.send_record,
+        }
+        paths.update(dict.fromkeys(self.server.files, self.send_file))
+        self.answer(paths)
 
     def do_POST(self) -> None:
-        paths: Dict[str, Callable[[], None]] = {"/draw": self.draw, "/page": self.turn}
+        paths: Dict[str, Callable[[], None]] = {"/draw": self.draw, "/page": self.turn, "/number": self.renumber, "/point": self.point}
+        if self.server.member.options.replay:
+            paths["/film"] = self.film
         if self.server.member.options.teach:
             paths["/worsen"] = self.worsen
         self.answer(paths)
 
     def answer(self, paths: Dict[str, Callable[[], None]]) -> None:
-        """Serves a path, or tells why not."""
+        """Serves a path behind the key of this run, or tells why not."""
         try:
             self.check_origin()
-            path = urlsplit(self.path).path
+            _, key, path = (urlsplit(self.path).path + "//").split("/", 2)
+            path = "/" + path[:-2]
+            self.check_token(key, "open the address that wb-live printed, which has the key of this run")
             if path not in paths:
-                raise Fault(405, "method") if path in ("/", "/events", "/draw", "/page") else Fault(404, "no such path")
+                raise Fault(405, "method") if path in ("/", "/events", "/board", "/record", "/draw", "/page") else Fault(404, "no such path")
+            self.file = path
             paths[path]()
         except Fault as fault:
             self.send_json(fault.status, {"ok": False, "fault": str(fault)})
 
     def check_origin(self) -> None:
-        """Only our own page asks, by our own name: no page of another site, and none under another name."""
-        if self.headers.get_all("Host", []) not in [[host] for host in self.server.hosts]:
+        """Only our own page asks, by a name of ours: no page of another site, and none under another name. Where the server is at each
+        address of the machine, that at which it was reached is its name too."""
+        hosts, origins = self.server.hosts, self.server.origins
+        if self.server.is_everywhere:
+            here = "%s:%d" % self.connection.getsockname()[:2]
+            hosts, origins = hosts | {here}, origins | {"http://" + here}
+        if self.headers.get_all("Host", []) not in [[host] for host in hosts]:
             raise Fault(403, "host")
         origin = self.headers.get("Origin")
-        if origin is not None and origin not in {"http://" + host for host in self.server.hosts}:
+        if origin is not None and origin not in origins:
             raise Fault(403, "origin")
 
-    def check_token(self, token: Optional[str]) -> None:
+    def check_token(self, token: Optional[str], fault: str = "token") -> None:
         if not hmac.compare_digest((token or "").encode("latin-1", "replace"), self.server.token.encode()):
-            raise Fault(403, "token")
+            raise Fault(403, fault)
 
     # ---- what is served
 
     def send_page(self) -> None:
-        self.send_head(200, "text/html; charset=utf-8", len(self.server.page))
-        self.wfile.write(self.server.page)
+        self.send_bytes("text/html; charset=utf-8", self.server.page)
+
+    def send_file(self) -> None:
+        """A script or a style of the page."""
+        self.send_bytes(*self.server.files[self.file])
+
+    def send_bytes(self, kind: str, body: bytes) -> None:
+        self.send_head(200, kind, len(body))
+        self.wfile.write(body)
+
+    def send_board(self) -> None:
+        """What a page shows that need not be in view."""
+        self.check_token(self.headers.get("X-Wb-Token"))
+        member = self.server.member
+        try:
+            page = page_of(parse_qs(urlsplit(self.path).query).get("page", [""])[0])
+        except ValueError:
+            raise Fault(400, "page") from None
+        whole = member.people.call(member.telling.whole_of, page).result(DRAW_PATIENCE)
+        self.send_bytes("application/json", whole.text().encode())
+
+    def send_record(self) -> None:
+        """The record as it is now."""
+        self.check_token(self.headers.get("X-Wb-Token"))
+        member = self.server.member
+        text = member.people.call(member.board.record.text).result(DRAW_PATIENCE)
+        self.send_bytes("text/plain; charset=latin-1", text)
 
     def send_events(self) -> None:
+        """A WebSocket, which tells what changes."""
         self.check_token(parse_qs(urlsplit(self.path).query).get("token", [""])[0])
+        key = self.headers.get("Sec-WebSocket-Key")
+        if self.headers.get("Upgrade", "").lower() != "websocket" or not is_key(key):
+            raise Fault(426, "a WebSocket")
         if not self.server.streams.acquire(blocking=False):
             raise Fault(503, "too many streams")
         try:
-            self.send_head(200, "text/event-stream", None)
+            self.protocol_version = "HTTP/1.1"
+            self.send_response(101)
+            for name, value in (("Upgrade", "websocket"), ("Connection", "Upgrade"), ("Sec-WebSocket-Accept", acceptance(key or ""))):
+                self.send_header(name, value)
+            self.end_headers()
             self.connection.setsockopt(socket.IPPROTO_TCP, socket.TCP_NODELAY, 1)
             self.stream(Watcher(self.server.events))
         finally:
+            self.close_connection = True
             self.server.streams.release()
 
     def stream(self, watcher: Watcher) -> None:
         """Sends what is told until the other side or the program ends."""
-        while True:
-            news = watcher.wait(10)
+        said = time.monotonic()
+        while not has_ended(self.connection):
+            news = watcher.wait(QUIET / 5)
             if news is None:
                 return
-            text = "".join("event: %s\ndata: %s\n\n" % item for item in news) or ":\n\n"
-            self.wfile.write(text.encode())
+            if news:
+                self.wfile.write(b"".join(frame(TEXT, ('{"name":%s,"news":%s}' % (compact(name), text)).encode()) for name, text in news))
+            elif time.monotonic() - said < QUIET:
+                continue
+            else:
+                self.wfile.write(frame(PING, b""))
+            said = time.monotonic()
             time.sleep(PAUSE)
 
     def send_json(self, status: int, value: Dict[str, Any]) -> None:
@@ -186,7 +266,6 @@ class Handler(BaseHTTPRequestHandler):
     def send_head(self, status: int, kind: str, length: Optional[int]) -> None:
         self.send_response(status)
         self.send_header("Content-Type", kind)
-        self.send_header("Content-Security-Policy", self.server.policy)
         for name, value in HEADERS.items():
             self.send_header(name, value)
         if length is not None:
@@ -203,15 +282,17 @@ class Handler(BaseHTTPRequestHandler):
             raise Fault(411, "length")
         if int(length) > MOST_BODY:
             raise Fault(413, "body of over %d bytes" % MOST_BODY)
+        data = self.rfile.read(int(length))
+        self.heard()
         try:
-            value = json.loads(self.rfile.read(int(length)))
+            value = json.loads(data)
         except (ValueError, RecursionError):
             raise Fault(400, "not JSON") from None
         if not isinstance(value, dict):
             raise Fault(400, "not an object")
         return value
 
-    def finish(self, future: Any) -> None:
+    def give(self, future: Any) -> None:
         """Answers with what the member's thread gives."""
         try:
             self.send_json(200, dict(future.result(DRAW_PATIENCE), ok=True))
@@ -225,18 +306,40 @@ class Handler(BaseHTTPRequestHandler):
         page = self.page_in(body, ["op", "page"])
         if not body["op"].isprintable():
             raise Fault(400, "control characters")
-        self.finish(self.server.member.draw(page, body["op"]))
+        self.give(self.server.member.people.draw(page, body["op"]))
 
     def turn(self) -> None:
-        body, member = self.body(), self.server.member
+        body, people = self.body(), self.server.member.people
         if body == {"new": True}:
-            self.finish(member.call(member.new_page))
+            self.give(people.call(people.new_page))
         else:
-            self.finish(member.call(member.turn_to, self.page_in(body, ["page"])))
+            self.give(people.call(people.turn_to, self.page_in(body, ["page"])))
+
+    def point(self) -> None:
+        """Where this member points, which is told to others but kept by nobody."""
+        body, member = self.body(), self.server.member
+        page = self.page_in({"page": body.pop("page", None)}, ["page"])
+        point = point_in(body, member.me, page)
+        if point is None:
+            raise Fault(400, "fields")
+        self.give(member.people.call(member.point, point))
+
+    def film(self) -> None:
+        body, member = self.body(), self.server.member
+        change = change_in(body)
+        if change is None:
+            raise Fault(400, "fields")
+        self.give(member.people.call(lambda: member.judging.change(**change)))
+
+    def renumber(self) -> None:
+        body, people = self.body(), self.server.member.people
+        if body != {"new": True}:
+            raise Fault(400, "fields")
+        self.give(people.call(people.renumber))
 
     def worsen(self) -> None:
-        member = self.server.member
-        self.finish(member.call(member.worsen, worse_of(self.body())))
+        people = self.server.member.people
+        self.give(people.call(people.worsen, worse_of(self.body())))
 
     def page_in(self, body: Dict[str, Any], names: List[str]) -> Page:
         """The page of a body that has fields of these names and no others, all of them texts."""
@@ -258,12 +361,13 @@ def worse_of(body: Dict[str, Any]) -> Dict[str, Any]:
     return body
 
 
-def open_web(address: Address, member: Member, events: Events) -> Web:
-    """Serves at an address; where its port is -1, at the first that is free."""
+def open_web(options: Options, member: Member, events: Events) -> Web:
+    """Serves at the address of the words; where its port is -1, at the first that is free."""
+    address = options.web or ("127.0.0.1", 0)
     ports = list(PORTS) + [0] if address[1] < 0 else [address[1]]
     for port in ports[:-1]:
         try:
-            return Web((address[0], port), member, events)
+            return Web((address[0], port), options, member, events)
         except OSError:
             continue
-    return Web((address[0], ports[-1]), member, events)
+    return Web((address[0], ports[-1]), options, member, events)

@@ -1,14 +1,17 @@
 """The members of a session: one `wb host` each. Lines wait until an answer is needed, and then go to all of them at once."""
 from __future__ import annotations
 
-import os
 import resource
-import subprocess
 from dataclasses import dataclass, field
 from pathlib import Path
 
+from wbhost import Host, HostEnded
+
 PIECE = 16_384
 DEFAULT_TUNING = "2,2,1,1"
+
+# seconds in which a host has to answer: members wait for one another, and many share a machine
+PATIENCE = 120
 
 # a line that a host is given or prints, with its moment
 Line = tuple[int, bytes]
@@ -27,15 +30,13 @@ class Member:
     """
 
     number: int
-    process: subprocess.Popen[bytes]
+    host: Host
     due: int | None = None
     asks: bool = False
     moment: int = -1
     waiting: list[Line] = field(default_factory=list)
     given: list[Line] = field(default_factory=list)
     lines: list[bytes] = field(default_factory=list)
-    answers: list[bytes] = field(default_factory=list)
-    unread: bytes = b""
 
     def add(self, moment: int, line: bytes) -> None:
         """The line waits until an exchange."""
@@ -52,44 +53,29 @@ class Member:
         self.given, self.waiting = first_piece(self.waiting)
         lines = [line for _, line in self.given]
         self.lines += lines
-        assert self.process.stdin
-        text = memoryview(b"\n".join(lines) + b"\n")
         try:
-            while text:
-                text = text[os.write(self.process.stdin.fileno(), text):]
-        except BrokenPipeError as error:
+            self.host.give(lines)
+        except HostEnded as error:
             raise Fault(f"member {self.number} ended at '{lines[0][:60].decode()}'") from error
 
     def read(self) -> list[Line]:
         """What the lines that were given last print, without the line that closes each block."""
         printed = []
+        last = b""
         for moment, line in self.given:
-            rows = int(line.split()[4]) if line.startswith(b"show ") else 0
-            printed += [(moment, self.next_line()) for _ in range(rows)]
-            while not (answer := self.next_line()).startswith(b"ok "):
-                if answer.startswith(b"refused "):
-                    raise Fault(f"member {self.number}: '{line[:60].decode()}' is {answer.decode()}")
-                printed.append((moment, answer))
-        self.due = None if answer == b"ok never" else int(answer[3:])
+            try:
+                *block, last = self.host.printed(line)
+            except HostEnded as error:
+                raise Fault(f"member {self.number} ended at '{line[:60].decode()}': {error}") from error
+            if last.startswith(b"refused "):
+                raise Fault(f"member {self.number}: '{line[:60].decode()}' is {last.decode()}")
+            printed += [(moment, answer) for answer in block]
+        self.due = None if last == b"ok never" else int(last[3:])
         self.asks = bool(self.waiting) and self.asks
         return printed
 
-    def next_line(self) -> bytes:
-        """The next line that it printed; `answers` holds, last first, those that were read with it."""
-        assert self.process.stdout
-        while not self.answers:
-            more = os.read(self.process.stdout.fileno(), 65_536)
-            if not more:
-                raise Fault(f"member {self.number} ended at '{self.lines[-1][:60].decode()}'")
-            *whole, self.unread = (self.unread + more).split(b"\n")
-            self.answers = whole[::-1]
-        return self.answers.pop()
-
     def close(self) -> None:
-        assert self.process.stdin and self.process.stdout
-        self.process.stdin.close()
-        self.process.stdout.close()
-        self.process.wait()
+        self.host.end()
 
 
 def first_piece(lines: list[Line]) -> tuple[list[Line], list[Line]]:
@@ -104,11 +90,10 @@ def first_piece(lines: list[Line]) -> tuple[list[Line], list[Line]]:
 
 def start_members(path: str, words: dict[int, int], tuning: str, cells: int) -> dict[int, Member]:
     """A member for each number, with an open board. The words are the seeds of their random words."""
-    command = [path, "host"] if tuning == DEFAULT_TUNING else [path, "host", "--tuning", tuning]
+    options = () if tuning == DEFAULT_TUNING else ("--tuning", tuning)
     members = {}
     for number in words:
-        process = subprocess.Popen(command, stdin=subprocess.PIPE, stdout=subprocess.PIPE, bufsize=0)
-        members[number] = Member(number, process)
+        members[number] = Member(number, Host(path, *options, patience=PATIENCE))
         members[number].add(0, b"board %d %d 1 %d" % (number, cells, words[number]))
     exchange(list(members.values()))
     return members

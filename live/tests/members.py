@@ -6,12 +6,14 @@ import json
 import os
 import re
 import signal
+import socket
 import subprocess
 import sys
+import tempfile
 import threading
 import time
 from pathlib import Path
-from typing import Any, Dict, List, Optional, Tuple
+from typing import Any, Dict, Iterator, List, Optional, Tuple
 
 TOP = Path(__file__).resolve().parent.parent.parent
 
@@ -20,30 +22,38 @@ PATIENCE = 60
 
 
 class Process:
-    """One start of ./wb-live, and the newest state that it told."""
+    """One start of ./wb-live, and the newest state that it told. Its records are kept in a folder of its own, unless words or the
+    environment say where."""
 
-    def __init__(self, words: List[str], web: bool = True) -> None:
+    def __init__(self, words: List[str], web: bool = True, environment: Optional[Dict[str, str]] = None, limits: Any = None) -> None:
+        self.folder = tempfile.TemporaryDirectory(prefix="wb-state-")
         self.process = subprocess.Popen(
-            [sys.executable, str(TOP / "wb-live"), *words] + (["--web", "0"] if web else []),
-            stdin=subprocess.DEVNULL, stdout=subprocess.PIPE, stderr=subprocess.PIPE, text=True,
+            [sys.executable, str(TOP / "wb-live"), *words] + (["--web", "0"] if web and "--web" not in words else []),
+            stdin=subprocess.DEVNULL, stdout=subprocess.PIPE, stderr=subprocess.PIPE, text=True, preexec_fn=limits,
+            env={**os.environ, "XDG_STATE_HOME": self.folder.name, **(environment or {})},
         )
         assert self.process.stdout is not None
         self.lines: List[str] = []
         self.changed = threading.Condition()
         self.states: Dict[str, Any] = {}
         self.entries: List[Dict[str, Any]] = []
+        self.port = 0
         for line in self.process.stdout:
             self.lines.append(line.rstrip("\n"))
             if line.startswith("page "):
-                self.port = int(re.findall(r":(\d+)/", line)[0])
+                self.port, self.token = int(re.findall(r":(\d+)/", line)[0]), line.rstrip("/\n").rpartition("/")[2]
                 break
-        if web and self.lines and self.lines[-1].startswith("page "):
-            self.token = re.findall("[0-9a-f]{32}", self.get("/")[1])[0]
+        if self.port:
             threading.Thread(target=self.watch, daemon=True).start()
 
     @property
     def me(self) -> int:
         return int(self.lines[1].split()[1].rstrip(","))
+
+    @property
+    def udp_port(self) -> int:
+        """Its port of this machine."""
+        return int(re.findall(r", port (\d+) of", self.lines[1])[0])
 
     def get(self, path: str) -> Tuple[int, str]:
         connection = http.client.HTTPConnection("127.0.0.1", self.port, timeout=PATIENCE)
@@ -53,28 +63,25 @@ class Process:
         connection.close()
         return answer.status, text
 
+    def get_page(self) -> Tuple[int, str]:
+        return self.get("/%s/" % self.token)
+
     def watch(self) -> None:
         """Takes in what is told, until the process ends."""
-        connection = http.client.HTTPConnection("127.0.0.1", self.port, timeout=PATIENCE)
         try:
-            connection.request("GET", "/events?token=" + self.token)
-            self.take_in(connection.getresponse())
-        except (OSError, http.client.HTTPException, ValueError):
+            for name, value in messages("/%s/events?token=%s" % (self.token, self.token), self.port):
+                self.learn(name, value)
+        except (OSError, ValueError):
             pass
-
-    def take_in(self, stream: Any) -> None:
-        name = ""
-        for line in stream:
-            if line.startswith(b"event: "):
-                name = line[7:].strip().decode()
-            if line.startswith(b"data: "):
-                self.learn(name, json.loads(line[6:]))
 
     def learn(self, name: str, value: Dict[str, Any]) -> None:
         with self.changed:
             if name == "wire":
                 self.entries += value["entries"]
-            self.states[name] = value
+            if name == "change":
+                change_board(self.states["board"], value)
+            else:
+                self.states[name] = value
             self.changed.notify_all()
 
     def wait_for(self, is_so, seconds: float = PATIENCE) -> bool:
@@ -85,7 +92,7 @@ class Process:
     def holds(self, is_so) -> bool:
         try:
             return bool(is_so(self.states))
-        except KeyError:
+        except (KeyError, IndexError):
             return False
 
     def post(self, path: str, value: Any, headers: Optional[Dict[str, str]] = None) -> Tuple[int, Dict[str, Any]]:
@@ -95,7 +102,7 @@ class Process:
         given.update(headers or {})
         connection = http.client.HTTPConnection("127.0.0.1", self.port, timeout=PATIENCE)
         try:
-            connection.request("POST", path, body, {name: text for name, text in given.items() if text})
+            connection.request("POST", "/" + self.token + path, body, {name: text for name, text in given.items() if text})
             answer = connection.getresponse()
             return answer.status, json.loads(answer.read())
         finally:
@@ -137,6 +144,45 @@ class Process:
         for stream in (self.process.stdout, self.process.stderr):
             if stream:
                 stream.close()
+        self.folder.cleanup()
+
+
+def change_board(board: Dict[str, Any], change: Dict[str, Any]) -> None:
+    """What a page does with a change: the drawings that it names go, those that are shown stand where it says, and rows are others."""
+    names = {tuple(name) for name in change["names"]}
+    for kind in ("drawops", "hidden"):
+        board[kind] = [drawop for drawop in board[kind] if (drawop["source"], drawop["seq"]) not in names]
+    for at, drawop in change["added"]:
+        board["drawops"].insert(at, drawop)
+    board["hidden"] += change["hidden"]
+    rows = (board["rows"] + [""] * change["height"])[:change["height"]]
+    for y, row in change["rows"].items():
+        rows[int(y)] = row
+    board["rows"] = rows
+
+
+def messages(path: str, port: int) -> Iterator[Tuple[str, Any]]:
+    """What a WebSocket of this machine tells, until it ends."""
+    with socket.create_connection(("127.0.0.1", port), timeout=PATIENCE) as connection:
+        connection.sendall(
+            b"GET %s HTTP/1.1\r\nHost: 127.0.0.1:%d\r\nUpgrade: websocket\r\nConnection: Upgrade\r\n"
+            b"Sec-WebSocket-Version: 13\r\nSec-WebSocket-Key: AAAAAAAAAAAAAAAAAAAAAA==\r\n\r\n" % (path.encode(), port))
+        stream = connection.makefile("rb")
+        if stream.readline().split()[1] != b"101":
+            raise ValueError("no WebSocket")
+        while stream.readline().strip():
+            pass
+        while True:
+            head = stream.read(2)
+            if len(head) < 2:
+                return
+            size = head[1]
+            if size >= 126:
+                size = int.from_bytes(stream.read(2 if size == 126 else 8), "big")
+            data = stream.read(size)
+            if head[0] & 15 == 1:
+                told = json.loads(data)
+                yield told["name"], told["news"]
 
 
 SLOW_FROM = 0.2
@@ -145,7 +191,7 @@ SLOW_FROM = 0.2
 def program() -> str:
     """The program, as ./wb-live finds it."""
     sys.path.insert(0, str(TOP))
-    from live.host import find_program
+    from wbhost import find_program
 
     found = find_program()
     os.environ["WB_PROGRAM"] = found
@@ -155,7 +201,7 @@ def program() -> str:
 def milliseconds_a_line() -> float:
     """What a line costs round the host's pipes. The proved program takes some hundredths, a build that is checked while
     it runs many times that: then tests are smaller, and say so."""
-    from live.host import Host
+    from wbhost import Host
 
     host = Host(os.environ["WB_PROGRAM"])
     began = time.monotonic()

@@ -59,9 +59,9 @@ def test_strangers(judge) -> None:
 
 
 def test_listening(judge) -> None:
-    """A member listens for 3 s before it draws, and what is drawn waits."""
+    """A member whose number may have drawn before listens for 3 s, and what is drawn waits."""
     began = time.monotonic()
-    member = Process(["--ports", str(FIRST_PORT)])
+    member = Process(["--ports", str(FIRST_PORT), "--me", "7"])
     try:
         judge("a drawing is not refused at the start", member.draw("1/1", "line 0 0 3 0 a")[0], 200)
         judge("it waits", time.monotonic() - began >= 3, True)
@@ -104,25 +104,27 @@ def test_group(judge) -> None:
 
 
 def test_numbers(judge) -> None:
-    """Numbers follow from ports, a record keeps its number, and two members never have one record."""
+    """A record keeps its number, and two members never have one record."""
     with tempfile.TemporaryDirectory() as folder:
         record = str(Path(folder) / "a.wb")
         words = ["--ports", str(FIRST_PORT), "--speed", "10"]
         first = Process(words)
         second = Process(words + ["--record", record])
-        judge("the first two ports", [first.me, second.me], [1, 2])
+        judge("the first two ports", [first.udp_port, second.udp_port], [FIRST_PORT, FIRST_PORT + 1])
+        judge("numbers are at random", min(first.me, second.me) >= 1_000_000 and first.me != second.me, True)
         names = [second.draw("2/1", "line 0 %d 3 %d b" % (y, y))[1]["seq"] for y in range(3)]
         judge("numbers ascend", names, [1, 2, 3])
         third = Process(words + ["--record", record], web=False)
         judge("a record in use", third.process.wait(20), 1)
         judge("is told", "in use" in (third.process.stderr.read() if third.process.stderr else ""), True)
         third.close()
+        me = second.me
         judge("they end with 0", [first.end(), second.end()], [0, 0])
         moment = last_tick(record)
         with open(record, "a") as torn:
-            torn.write("say draw 2 2/1 4 10 line 0 0")
+            torn.write("say draw %d 2/1 4 10 line 0 0" % me)
         again = Process(words + ["--record", record])
-        judge("a record keeps its number", again.me, 2)
+        judge("a record keeps its number", again.me, me)
         judge("and its page", again.rows("2/1"), ["bbbb", "bbbb", "bbbb"])
         judge("a number is never used twice", again.draw("2/1", "line 0 3 3 3 b")[1]["seq"], 4)
         judge("its moments come after", last_tick(record) > moment, True)

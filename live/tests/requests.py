@@ -36,13 +36,27 @@ def raw_status(member: Process, request: bytes) -> str:
 
 def test_page(judge, member: Process) -> None:
     connection = http.client.HTTPConnection("127.0.0.1", member.port, timeout=20)
-    connection.request("GET", "/")
+    connection.request("GET", "/%s/" % member.token)
     answer = connection.getresponse()
     policy = answer.getheader("Content-Security-Policy", "")
     judge("the page is served", (answer.status, member.token in answer.read().decode()), (200, True))
     judge("with a policy", [part for part in ("default-src 'none'", "frame-ancestors 'none'", "connect-src 'self'") if part not in policy], [])
-    judge("and no inline code but its own", "unsafe" in policy, False)
+    judge("and no inline code", [part for part in ("unsafe", "sha256", "nonce") if part in policy], [])
     judge("and no referrer", answer.getheader("Referrer-Policy"), "no-referrer")
+
+
+def test_files(judge, member: Process) -> None:
+    """The modules that the page consists of, and nothing beside them."""
+    for path, kind in (("/page/start.js", "text/javascript"), ("/page/style.css", "text/css")):
+        connection = http.client.HTTPConnection("127.0.0.1", member.port, timeout=20)
+        connection.request("GET", "/%s%s" % (member.token, path))
+        answer = connection.getresponse()
+        judge("%s is served" % path, (answer.status, answer.getheader("Content-Type", "").split(";")[0]), (200, kind))
+        judge("%s without the token" % path, member.token in answer.read().decode(), False)
+    host = {"Host": "127.0.0.1:%d" % member.port}
+    for path in ("/page/", "/page/index.html", "/page/../web.py", "/page/%2e%2e/web.py", "/page/none.js"):
+        judge("%s is not" % path, status_of(member, "GET", "/" + member.token + path, host), 404)
+        judge("%s is not served without the key" % path, status_of(member, "GET", path, host), 403)
 
 
 def test_strangers(judge, member: Process) -> None:
@@ -50,28 +64,38 @@ def test_strangers(judge, member: Process) -> None:
     host = "127.0.0.1:%d" % member.port
     ours: Dict[str, str] = {"Host": host, "X-Wb-Token": member.token, "Content-Type": "application/json"}
     good = json.dumps({"page": "1/1", "op": "line 0 0 1 0 x"}).encode()
+    key = "/" + member.token
+    other = "/" + "0" * 32
     cases: List[Tuple[str, int, str, str, Dict[str, str]]] = [
-        ("localhost is our name too", 200, "GET", "/", {"Host": "localhost:%d" % member.port}),
-        ("another host", 403, "GET", "/", {"Host": "example.org"}),
-        ("another host by our port", 403, "GET", "/", {"Host": "example.org:%d" % member.port}),
-        ("another port", 403, "GET", "/", {"Host": "127.0.0.1:1"}),
-        ("no host", 403, "GET", "/", {}),
-        ("events without a token", 403, "GET", "/events", {"Host": host}),
-        ("events with a wrong token", 403, "GET", "/events?token=" + "0" * 32, {"Host": host}),
-        ("events for another origin", 403, "GET", "/events?token=" + member.token, {"Host": host, "Origin": "http://example.org"}),
-        ("a path that is none", 404, "GET", "/../wb", {"Host": host}),
-        ("a method that is none", 501, "PUT", "/draw", ours),
-        ("reading where one draws", 405, "GET", "/draw", ours),
-        ("a page that opens no slider", 404, "POST", "/worsen", ours),
-        ("a drawing", 200, "POST", "/draw", ours),
-        ("a drawing of our own page", 200, "POST", "/draw", dict(ours, Origin="http://" + host)),
-        ("a drawing for another origin", 403, "POST", "/draw", dict(ours, Origin="http://example.org")),
-        ("a drawing for an unknown origin", 403, "POST", "/draw", dict(ours, Origin="null")),
-        ("a drawing for another host", 403, "POST", "/draw", dict(ours, Host="example.org")),
-        ("a drawing without a token", 403, "POST", "/draw", {"Host": host}),
-        ("a drawing with a wrong token", 403, "POST", "/draw", dict(ours, **{"X-Wb-Token": "0" * 32})),
-        ("a length that is none", 411, "POST", "/draw", dict(ours, **{"Content-Length": "-1"})),
-        ("a body that is too long by its length", 413, "POST", "/draw", dict(ours, **{"Content-Length": "1025"})),
+        ("the page by its key", 200, "GET", key + "/", {"Host": host}),
+        ("localhost is our name too", 200, "GET", key + "/", {"Host": "localhost:%d" % member.port}),
+        ("no key", 403, "GET", "/", {"Host": host}),
+        ("the key of another run", 403, "GET", other + "/", {"Host": host}),
+        ("a script without the key", 403, "GET", "/page/start.js", {"Host": host}),
+        ("another host", 403, "GET", key + "/", {"Host": "example.org"}),
+        ("another host by our port", 403, "GET", key + "/", {"Host": "example.org:%d" % member.port}),
+        ("another port", 403, "GET", key + "/", {"Host": "127.0.0.1:1"}),
+        ("no host", 403, "GET", key + "/", {}),
+        ("events without a key", 403, "GET", "/events?token=" + member.token, {"Host": host}),
+        ("events without a token", 403, "GET", key + "/events", {"Host": host}),
+        ("events with a wrong token", 403, "GET", key + "/events?token=" + "0" * 32, {"Host": host}),
+        ("events for another origin", 403, "GET", key + "/events?token=" + member.token, {"Host": host, "Origin": "http://example.org"}),
+        ("events without a WebSocket", 426, "GET", key + "/events?token=" + member.token, {"Host": host}),
+        ("events with half a WebSocket", 426, "GET", key + "/events?token=" + member.token, {"Host": host, "Upgrade": "websocket", "Sec-WebSocket-Key": "x"}),
+        ("a path that is none", 404, "GET", key + "/../wb", {"Host": host}),
+        ("a method that is none", 501, "PUT", key + "/draw", ours),
+        ("reading where one draws", 405, "GET", key + "/draw", ours),
+        ("a page that opens no slider", 404, "POST", key + "/worsen", ours),
+        ("a drawing", 200, "POST", key + "/draw", ours),
+        ("a drawing of our own page", 200, "POST", key + "/draw", dict(ours, Origin="http://" + host)),
+        ("a drawing without the key", 403, "POST", "/draw", ours),
+        ("a drawing for another origin", 403, "POST", key + "/draw", dict(ours, Origin="http://example.org")),
+        ("a drawing for an unknown origin", 403, "POST", key + "/draw", dict(ours, Origin="null")),
+        ("a drawing for another host", 403, "POST", key + "/draw", dict(ours, Host="example.org")),
+        ("a drawing without a token", 403, "POST", key + "/draw", {"Host": host}),
+        ("a drawing with a wrong token", 403, "POST", key + "/draw", dict(ours, **{"X-Wb-Token": "0" * 32})),
+        ("a length that is none", 411, "POST", key + "/draw", dict(ours, **{"Content-Length": "-1"})),
+        ("a body that is too long by its length", 413, "POST", key + "/draw", dict(ours, **{"Content-Length": "1025"})),
     ]
     for name, wanted, method, path, headers in cases:
         judge(name, status_of(member, method, path, headers, good if method == "POST" else None), wanted)
@@ -104,9 +128,9 @@ def test_bodies(judge, member: Process) -> None:
 
 
 def test_pages(judge, member: Process) -> None:
-    judge("a new page", member.post("/page", {"new": True}), (200, {"page": "1/2", "ok": True}))
-    judge("is in view", member.wait_for(lambda states: states["board"]["page"] == "1/2"), True)
-    judge("an empty one stays the new one", member.post("/page", {"new": True})[1]["page"], "1/2")
+    judge("a new page", member.post("/page", {"new": True}), (200, {"page": "%d/1" % member.me, "ok": True}))
+    judge("is in view", member.wait_for(lambda states: states["board"]["page"] == "%d/1" % member.me), True)
+    judge("an empty one stays the new one", member.post("/page", {"new": True})[1]["page"], "%d/1" % member.me)
     judge("a page is turned back", member.post("/page", {"page": "1/1"})[1]["page"], "1/1")
     judge("a page that is none is not turned to", member.post("/page", {"page": "x"})[0], 400)
     status, answer = member.draw("1/1", "line 0 9 5 9 u")
@@ -121,7 +145,7 @@ def test_crowds(judge, member: Process) -> None:
     """Idle connections, too many streams, and lines without end."""
     idle = [socket.create_connection(("127.0.0.1", member.port), timeout=20) for _ in range(200)]
     began = time.monotonic()
-    judge("beside 200 idle connections the page is served", member.get("/")[0], 200)
+    judge("beside 200 idle connections the page is served", member.get_page()[0], 200)
     judge("and one draws", member.draw("1/1", "line 0 8 5 8 i")[0], 200)
     print("beside 200 idle connections a page and a drawing took %.0f ms" % ((time.monotonic() - began) * 1000))
     for connection in idle:
@@ -129,12 +153,14 @@ def test_crowds(judge, member: Process) -> None:
     judge("a line without end", raw_status(member, b"GET /" + b"a" * 70_000).split(" ")[1], "414")
     judge("too many headers", raw_status(member, b"GET / HTTP/1.1\r\n" + b"a: b\r\n" * 200 + b"\r\n").split(" ")[1], "431")
     streams = []
-    for _ in range(80):
+    for _ in range(140):
         connection = socket.create_connection(("127.0.0.1", member.port), timeout=20)
-        connection.sendall(b"GET /events?token=%s HTTP/1.1\r\nHost: 127.0.0.1:%d\r\n\r\n" % (member.token.encode(), member.port))
+        connection.sendall(
+            b"GET /%s/events?token=%s HTTP/1.1\r\nHost: 127.0.0.1:%d\r\nUpgrade: websocket\r\nSec-WebSocket-Key: AAAAAAAAAAAAAAAAAAAAAA==\r\n\r\n"
+            % (member.token.encode(), member.token.encode(), member.port))
         streams.append((connection, connection.makefile("rb").readline().split()[1]))
-    judge("64 streams are open at most", sorted({status for _, status in streams}), [b"200", b"503"])
-    judge("one of them is the test's own", sum(status == b"200" for _, status in streams), 63)
+    judge("128 streams are open at most", sorted({status for _, status in streams}), [b"101", b"503"])
+    judge("one of them is the test's own", sum(status == b"101" for _, status in streams), 127)
     for connection, _ in streams:
         connection.close()
     judge("beside streams that ended one draws", member.draw("1/1", "line 0 7 5 7 j")[0], 200)
@@ -159,7 +185,7 @@ def test(judge) -> None:
     try:
         judge("the first line says what is proved", "which is proved; live/" in member.lines[0], True)
         judge("the states come in order", list(member.states)[:5] if member.wait_for(lambda s: len(s) >= 5) else [], ["hello", "board", "pages", "members", "health"])
-        for part in (test_page, test_strangers, test_bodies, test_pages, test_crowds):
+        for part in (test_page, test_files, test_strangers, test_bodies, test_pages, test_crowds):
             part(judge, member)
     finally:
         judge("the member ends with 0", member.end(), 0)

@@ -9,6 +9,7 @@ import select
 import struct
 import subprocess
 import sys
+import tempfile
 import termios
 import time
 from typing import List
@@ -27,6 +28,8 @@ class Screen:
         fcntl.ioctl(inner, termios.TIOCSWINSZ, struct.pack("HHHH", ROWS, COLUMNS, 0, 0))
         command = [sys.executable, str(TOP / "wb-live"), *words]
         environment = {name: value for name, value in os.environ.items() if name not in ("LINES", "COLUMNS")}
+        self.folder = tempfile.TemporaryDirectory(prefix="wb-state-")
+        environment["XDG_STATE_HOME"] = self.folder.name
         self.process = subprocess.Popen(command, stdin=inner, stdout=inner, stderr=inner, env=environment, start_new_session=True)
         os.close(inner)
         self.rows = [""] * (ROWS + 1)
@@ -68,7 +71,9 @@ class Screen:
             self.read()
         self.process.kill()
         os.close(self.terminal)
-        return self.process.wait()
+        status = self.process.wait()
+        self.folder.cleanup()
+        return status
 
 
 def test(judge) -> None:
@@ -93,6 +98,6 @@ def test(judge) -> None:
         judge("a page that is none", screen.wait_for(lambda rows: rows[23] == "refused: page"), True)
         judge("somebody else is there", screen.wait_for(lambda rows: "1 other" in rows[22]), True)
         screen.type("who")
-        judge("who is there", screen.wait_for(lambda rows: rows[23][:1] in ("1", "2")), True)
+        judge("who is there", screen.wait_for(lambda rows: rows[23][:1].isdigit()), True)
     finally:
         judge("both end with 0", [screen.end(), other.end()], [0, 0])

@@ -1,0 +1,24 @@
+/** The pages of the session, and how one turns to another. */
+import { $, make } from './dom.js';
+
+/** Pages that are listed. */
+const MOST = 500;
+
+/** @param {import('./session.js').Session} session */
+export function showPages(session) {
+  const show = () => {
+    const { board, titles } = session, leaves = session.leaves(), at = leaves.findIndex(({ page }) => page === board.page);
+    const options = leaves.slice(0, MOST).map(({ page, drawn }) => {
+      const told = `${titles.get(page) || 'page'} ${page}${drawn ? ` (${drawn})` : ''}`;
+      return Object.assign(make('option', told), { value: page });
+    });
+    $('pages').replaceChildren(...options);
+    $('pages').value = board.page;
+    $('back').disabled = at <= 0;
+    $('forth').disabled = at < 0 || at >= leaves.length - 1;
+  };
+  session.on('pages', show);
+  session.on('notes', show);
+  session.on('board', (board, before) => board.page !== before.page && show());
+  $('pages').addEventListener('change', () => session.goToPage($('pages').value));
+}

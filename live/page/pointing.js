@@ -1,0 +1,117 @@
+/** Mouse, pen and fingers on the sheet. */
+
+/** @typedef {import('./view.js').View} View */
+/** @typedef {import('./hand.js').Hand} Hand */
+/** The middle of the fingers, and how far two of them are apart.
+ * @typedef {{ x: number, y: number, spread: number }} Middle */
+
+export class Pointing {
+  /** @param {View} view @param {Hand} hand */
+  constructor(view, hand) {
+    this.view = view;
+    this.hand = hand;
+    /** @type {Map<number, PointerEvent>} */
+    this.fingers = new Map();
+    /** Where a move of the sheet began.
+     * @type {(Middle & { wide: number, over: { x: number, y: number } }) | null} */
+    this.pan = null;
+    this.isSpaced = false;
+    /** Whether there is a stylus here: then fingers, and the palm of the hand, move the sheet and draw nothing. */
+    this.hasStylus = false;
+    const { sheet } = view;
+    sheet.addEventListener('pointerdown', (event) => this.down(event));
+    sheet.addEventListener('pointermove', (event) => this.move(event));
+    sheet.addEventListener('pointerup', (event) => this.up(event));
+    sheet.addEventListener('pointercancel', (event) => this.cancel(event));
+    sheet.addEventListener('pointerleave', () => { hand.pointer = null; hand.move(hand.gesture?.to); });
+    sheet.addEventListener('wheel', (event) => this.wheel(event), { passive: false });
+  }
+
+  /** The space bar is held, or no more.
+   * @param {boolean} is */
+  space(is) {
+    this.isSpaced = is;
+    this.view.sheet.classList.toggle('grab', is);
+  }
+
+  isStylusDown() {
+    return [...this.fingers.values()].some(({ pointerType }) => pointerType === 'pen');
+  }
+
+  /** @returns {Middle} */
+  middle() {
+    const [a, other] = [...this.fingers.values()], b = other ?? a;
+    return { x: (a.clientX + b.clientX) / 2, y: (a.clientY + b.clientY) / 2, spread: Math.hypot(a.clientX - b.clientX, a.clientY - b.clientY) };
+  }
+
+  startPan() {
+    const { view } = this, middle = this.middle(), box = view.sheet.getBoundingClientRect();
+    this.hand.drop();
+    this.pan = { ...middle, wide: view.wide,
+      over: { x: view.left + (middle.x - box.left) / view.wide, y: view.top + (middle.y - box.top) / view.high } };
+  }
+
+  movePan() {
+    const { view, pan } = this, now = this.middle(), box = view.sheet.getBoundingClientRect();
+    if (!pan) return;
+    if (pan.spread && now.spread) view.setSize(pan.wide * (now.spread / pan.spread));
+    // the cell that was under the middle of the fingers stays there
+    view.goTo(pan.over.x - (now.x - box.left) / view.wide, pan.over.y - (now.y - box.top) / view.high);
+  }
+
+  /** @param {PointerEvent} event */
+  down(event) {
+    const { view, hand } = this, { sheet } = view;
+    const isTouch = event.pointerType === 'touch';
+    if (event.target instanceof HTMLTextAreaElement || event.button > 1) return;
+    event.preventDefault();
+    this.hasStylus ||= event.pointerType === 'pen';
+    if (isTouch && this.isStylusDown()) return;
+    sheet.focus(/** @type {FocusOptions} */ ({ preventScroll: true, focusVisible: false }));
+    sheet.setPointerCapture(event.pointerId);
+    this.fingers.set(event.pointerId, event);
+    hand.cursor.on = false;
+    hand.pointer = view.cellAt(event);
+    if (this.fingers.size > 1 || this.isSpaced || event.button === 1 || (isTouch && this.hasStylus)) this.startPan();
+    else hand.begin(hand.pointer, event.shiftKey);
+  }
+
+  /** @param {PointerEvent} event */
+  move(event) {
+    const { view, hand } = this, isDown = this.fingers.has(event.pointerId);
+    if (isDown) this.fingers.set(event.pointerId, event);
+    else if (this.fingers.size) return;
+    hand.pointer = event.pointerType === 'touch' && !hand.gesture ? null : view.cellAt(event);
+    if (this.pan) this.movePan();
+    else hand.move(hand.pointer);
+  }
+
+  /** @param {PointerEvent} event */
+  up(event) {
+    const { hand } = this;
+    if (!this.fingers.delete(event.pointerId)) return;
+    if (event.pointerType === 'touch') hand.pointer = null;
+    if (!this.pan) {
+      if (hand.gesture) hand.finish();
+      return;
+    }
+    this.pan = null;
+    if (this.fingers.size) this.startPan();
+  }
+
+  /** @param {PointerEvent} event */
+  cancel(event) {
+    if (!this.fingers.delete(event.pointerId)) return;
+    this.pan = null;
+    this.hand.drop();
+  }
+
+  /** @param {WheelEvent} event */
+  wheel(event) {
+    event.preventDefault();
+    const { view } = this, unit = event.deltaMode ? 1 : 1 / view.high, box = view.sheet.getBoundingClientRect();
+    const [across, down] = event.shiftKey ? [event.deltaY, 0] : [event.deltaX, event.deltaY];
+    if (event.ctrlKey) view.setSize(view.wide - Math.sign(event.deltaY), { x: event.clientX - box.left, y: event.clientY - box.top });
+    else view.goTo(view.left + across * unit * 2, view.top + down * unit);
+  }
+}

@@ -1,0 +1,134 @@
+/** Undo and redo by steps: what one gesture drew, deleted and restored, however many drawops it took. */
+import { nameOf } from './cells.js';
+import { say } from './dom.js';
+
+/** @typedef {import('./session.js').Session} Session */
+/** @typedef {import('./types.js').Shape} Shape */
+/** @typedef {{ source: number, seq: number }} Name */
+/** What a step did to a drawing: whether it is shown since.
+ * @typedef {{ name: Name, isShown: boolean }} Deed */
+
+export class Steps {
+  /** @param {Session} session */
+  constructor(session) {
+    this.session = session;
+    /** @type {Step[]} */
+    this.done = [];
+    /** @type {Step[]} */
+    this.undone = [];
+    /** Our drawings that an undo hides, while the board still shows them.
+     * @type {Set<string>} */
+    this.leaving = new Set();
+    session.on('board', () => this.leaving.clear());
+  }
+
+  /** A new step on the page in view. What can be restored by redo is forgotten. */
+  begin() {
+    const step = new Step(this.session, this.session.board.page);
+    this.done.push(step);
+    this.undone = this.undone.filter(({ page }) => page !== step.page);
+    return step;
+  }
+
+  /** One drawing as a step.
+   * @param {Shape[]} shapes */
+  draw(shapes) {
+    const step = this.begin();
+    shapes.forEach((shape) => step.draw(shape));
+    return step;
+  }
+
+  /** The other drawings of the step that a drawing is of, and itself.
+   * @param {Name} drawing @returns {Set<string>} */
+  groupOf(drawing) {
+    const name = nameOf(drawing), step = this.done.find(({ page, deeds }) => page === this.session.board.page
+      && deeds.some((deed) => deed.isShown && nameOf(deed.name) === name));
+    return new Set(step ? step.deeds.filter(({ isShown }) => isShown).map((deed) => nameOf(deed.name)) : [name]);
+  }
+
+  async undo() {
+    const at = this.done.findLastIndex(({ page, isEmpty }) => page === this.session.board.page && !isEmpty);
+    if (at < 0) return this.undoDrawn();
+    const [step] = this.done.splice(at, 1);
+    this.undone.push(await step.reversed());
+    return undefined;
+  }
+
+  async redo() {
+    const at = this.undone.findLastIndex(({ page }) => page === this.session.board.page);
+    if (at < 0) return say('Nothing to restore.');
+    const [step] = this.undone.splice(at, 1);
+    this.done.push(await step.reversed());
+    return undefined;
+  }
+
+  /** Hides our last drawing that the page shows: it was drawn before this page was opened. */
+  async undoDrawn() {
+    const { board, hello } = this.session;
+    const ours = board.drawops.filter((drawing) => drawing.source === hello.me && !this.leaving.has(nameOf(drawing)));
+    if (!ours.length) return say('Nothing of yours is left on this page.');
+    const last = ours.reduce((a, b) => (a.seq > b.seq ? a : b)), step = new Step(this.session, board.page);
+    this.leaving.add(nameOf(last));
+    step.hide(last);
+    this.undone.push(step);
+    return undefined;
+  }
+}
+
+class Step {
+  /** @param {Session} session @param {string} page */
+  constructor(session, page) {
+    this.session = session;
+    this.page = page;
+    /** What was done, in order, as far as the member has taken it.
+     * @type {Deed[]} */
+    this.deeds = [];
+    /** @type {Promise<any>[]} */
+    this.asked = [];
+  }
+
+  get isEmpty() {
+    return this.asked.length === 0;
+  }
+
+  /** @param {Shape} shape */
+  draw(shape) {
+    this.keep(this.session.draw(shape), true, null);
+  }
+
+  /** @param {Name} drawing */
+  hide(drawing) {
+    this.keep(this.session.hide(drawing), false, drawing);
+  }
+
+  /** @param {Name} drawing */
+  restore(drawing) {
+    this.keep(this.session.restore(drawing), true, drawing);
+  }
+
+  /** Keeps a deed once the member has taken it.
+   * @param {Promise<import('./types.js').Answer>} asked @param {boolean} isShown @param {Name | null} target null for the drawing itself */
+  keep(asked, isShown, target) {
+    this.asked.push(asked.then(({ ok, source = 0, seq = 0 }) => {
+      const { source: of, seq: number } = target ?? { source, seq };
+      if (ok) this.deeds.push({ name: { source: of, seq: number }, isShown });
+    }));
+  }
+
+  /** The names of the drawings that are shown since. */
+  async names() {
+    await Promise.all(this.asked);
+    return this.deeds.filter(({ isShown }) => isShown).map(({ name }) => nameOf(name));
+  }
+
+  /** Does the opposite, last deed first, and gives the step that did. */
+  async reversed() {
+    await Promise.all(this.asked);
+    const step = new Step(this.session, this.page);
+    for (const { name, isShown } of [...this.deeds].reverse()) {
+      if (isShown) step.hide(name);
+      else step.restore(name);
+    }
+    return step;
+  }
+}

@@ -1,0 +1,56 @@
+/** What goes between a board and the member behind it: the types of all modules. Nothing here runs. */
+
+/** @typedef {{ op: 'text', x: number, y: number, text: string }} TextShape */
+/** @typedef {{ op: 'line' | 'frame', x0: number, y0: number, x1: number, y1: number, glyph: string }} LineShape */
+/** What an operation draws.
+ * @typedef {TextShape | LineShape} Shape */
+/** A shape that is held: who drew it, under which number, and when, in microseconds of the day.
+ * @typedef {Shape & { source: number, seq: number, time: string }} Drawing */
+
+/** @typedef {{ lose: number, delay: number, twice: number, mix: boolean }} Worse */
+/** Which member this is, and what it says of itself.
+ * @typedef {{ me: number, mode: string, notice: string, ready: boolean, teach: boolean, twin?: boolean, worsen?: Worse }} Hello */
+/** The page in view: what it shows in the order of painting, what was deleted, and its rows as the host painted them.
+ * @typedef {{ page: string, drawops: Drawing[], hidden: Drawing[], rows: string[] }} Board */
+/** What changed of it: the names of what goes, hidden or shown; what is shown now, each with its place, in the order of putting in; what is
+ * hidden now; and the rows that are others.
+ * @typedef {{ page: string, names: [number, number][], added: [number, Drawing][], hidden: Drawing[], rows: Record<number, string>,
+ *   height: number }} Change */
+/** @typedef {{ page: string, pages: { page: string, drawn: number }[] }} Pages */
+/** Another member: its distance in milliseconds, and how many seconds ago it was heard.
+ * @typedef {{ member: number, distance?: number | null, heard?: number | null, page?: string | null }} Other */
+/** @typedef {{ members: Other[] }} Members */
+/** @typedef {{ phrase: string, missing: number, warnings: string[], counts: Record<string, number> }} Health */
+/** A datagram that went by. `held` says whether the drawop that a request names was held when it came.
+ * @typedef {{ id: number, at: number, way: 'in' | 'out', kind: string, words: string, member: number | null, name: string | null,
+ *   answers: number | null, lost: boolean, twice: boolean, refused: string | null, by: number | null, held?: boolean }} Entry */
+/** @typedef {{ entries: Entry[] }} Wire */
+
+/** A member that points at a cell, and what it has begun, in words.
+ * @typedef {{ member: number, page: string, cell: [number, number] | null, begun: string[] }} Pointed */
+/** Where a replay is, in milliseconds, and how many drawops are missing there.
+ * @typedef {{ at: number, last: number, speed: number, stopped: boolean, missing: number }} Film */
+/** Who drew what when in a replay: the millisecond, the source, the operation, and whether it was lost at first.
+ * @typedef {[number, number, string, boolean]} Scene */
+
+/** What a member says to something that it was asked: a drawing's name, or why not.
+ * @typedef {{ ok: boolean, fault?: string, source?: number, seq?: number }} Answer */
+
+/** What a board needs of the member behind it, over HTTP or in a worker of the page. `subscribe` is called once; from then on
+ * `hear` is given each state as it changes, by its name: `hello`, `board`, `pages`, `members`, `health` and `wire`, with the
+ * types above; `change` in the place of `board` where only a part of the page in view is another; `link` with a boolean, whether the member
+ * answers; and `gone`, where it was started anew and this page can't reach it. What stands in brackets is not asked of every member.
+ * @typedef {object} Member
+ * @property {(hear: (name: string, news: any) => void) => void} subscribe
+ * @property {(page: string, operation: string) => Promise<Answer>} draw   one drawing line, such as `line 0 0 4 4 *`
+ * @property {(page: string | null) => Promise<Answer>} choose   the page to be in view; null for a new one
+ * @property {() => Promise<Answer>} [renumber]   takes a new number, where another member has the same
+ * @property {(worse: Worse) => Promise<Answer>} worsen   how the network is to be made worse, where `hello.teach` allows it
+ * @property {(page: string) => Promise<Board | null>} [read]   what a page shows, which need not be in view: for names, titles and all pages
+ * @property {() => Promise<string | null>} [record]   the record of the session, as a text
+ * @property {(page: string, cell: [number, number] | null, begun: string[]) => Promise<Answer>} [point]   tells others where one points, and
+ *   what is begun; they hear it as the state `presence`, which has `others`
+ * @property {(change: { at?: number, speed?: number, stopped?: boolean }) => Promise<Answer>} [film]   jumps, goes faster, stops or goes on,
+ *   where the states `scenes` and `film` are told */
+
+export {};

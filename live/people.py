@@ -1,0 +1,146 @@
+"""What people do: they draw, delete, turn pages, and take a new number. All of it is done by the member's thread."""
+from __future__ import annotations
+
+import re
+from concurrent.futures import Future
+from typing import TYPE_CHECKING, Any, Callable, Dict, List, Tuple
+
+from wbhost import HostEnded
+
+from .board import CLASH
+from .record import NoRoom
+from .state import random_number
+from .times import MINUTE, MOST_LEAD, wall
+from .views import Page, page_text
+
+if TYPE_CHECKING:
+    from .member import Member
+
+OPERATIONS = ("line", "frame", "text", "delete", "restore")
+
+# `draw SOURCE PAGE SEQ TIME` stands before an operation: in the fault of a word its place is told without them
+WORDS_BEFORE = 5
+
+# drawings that wait until the member may draw
+MOST_WAITING = 1_024
+
+# numbers of pages
+MOST_PAGE = 2**32 - 1
+
+
+class Refused(Exception):
+    """A drawing or a page is refused, and why."""
+
+
+class People:
+    def __init__(self, member: Member) -> None:
+        self.member = member
+        self.draws: List[Tuple[Future, Page, str]] = []
+
+    # ---- from other threads
+
+    def call(self, what: Callable[..., Any], *arguments: Any) -> Future:
+        """Has the member's thread do it."""
+        future: Future = Future()
+        self.member.inbox.call(lambda: self.do(future, what, *arguments))
+        return future
+
+    def draw(self, page: Page, operation: str) -> Future:
+        """Has an operation drawn, such as `line 0 0 4 4 *`, as soon as the member may draw."""
+        future: Future = Future()
+        self.member.inbox.call(lambda: self.draw_or_wait(future, page, operation))
+        return future
+
+    # ---- on the member's thread
+
+    def do(self, future: Future, what: Callable[..., Any], *arguments: Any) -> None:
+        try:
+            future.set_result(what(*arguments))
+        except NoRoom as fault:
+            future.set_exception(Refused("the record can't be written (%s): nothing is drawn until there is room" % fault))
+        except (Refused, HostEnded) as fault:
+            future.set_exception(fault if isinstance(fault, Refused) else Refused("busy"))
+
+    def draw_or_wait(self, future: Future, page: Page, operation: str) -> None:
+        if self.member.is_ready:
+            self.do(future, self.draw_now, page, operation)
+        elif len(self.draws) < MOST_WAITING:
+            self.draws.append((future, page, operation))
+        else:
+            future.set_exception(Refused("busy"))
+
+    def begin(self) -> None:
+        """From now on the member may draw: it draws what waited."""
+        self.member.is_ready = True
+        draws, self.draws = self.draws, []
+        for future, page, operation in draws:
+            self.do(future, self.draw_now, page, operation)
+
+    def end(self) -> None:
+        for future, _, _ in self.draws:
+            future.set_exception(Refused("ended"))
+
+    def draw_now(self, page: Page, operation: str) -> Dict[str, Any]:
+        """Accepts a drawop of ours and sends it. Whether it is one, the host says."""
+        member = self.member
+        kind = operation.split(" ", 1)[0]
+        if kind not in OPERATIONS or not all(" " <= c <= "~" for c in operation):
+            raise Refused("unknown")
+        fault = member.judging.fault_of_drawing()
+        if fault is not None:
+            raise Refused(fault)
+        if member.judging.room.is_full() and kind not in ("delete", "restore"):
+            raise Refused("full")
+        member.advance()
+        seq = member.board.next_number(page)
+        if seq is None:
+            raise Refused("too many")
+        words = "draw %d %s %d %d %s" % (member.me, page_text(page), seq, self.time_on(page), operation)
+        block = member.board.draw(words)
+        if block.fault is not None:
+            raise Refused(re.sub("(?<=^word )[0-9]+", lambda place: str(int(place[0]) - WORDS_BEFORE), block.fault))
+        if not block.sent():
+            raise Refused("clash" if block.lines == CLASH else "full")
+        for digits in block.sent():
+            member.send(digits)
+        return {"source": member.me, "seq": seq, "page": page_text(page), "words": words}
+
+    def time_on(self, page: Page) -> int:
+        """The time of a drawing: that of the session's day, or one more than the latest on the page, within a day of this machine's
+        clock. So what is drawn last lies on top, also where this clock is late."""
+        return max(self.member.judging.now(), self.member.drawn.latest(page, wall() + MOST_LEAD + MINUTE) + 1)
+
+    def turn_to(self, page: Page) -> Dict[str, Any]:
+        """Makes this the page in view."""
+        self.member.turn_to(page)
+        return {"page": page_text(page)}
+
+    def new_page(self) -> Dict[str, Any]:
+        """Turns to a new page of ours, or stays on one that is empty yet: its number is the first that nobody told of."""
+        member = self.member
+        if member.page[0] == member.me and not member.drawn.count(member.page):
+            return self.turn_to(member.page)
+        used = {page[1] for page in [*member.board.known(), member.page] if page[0] == member.me}
+        used |= {page[1] for _, page, _ in member.judging.asking.far if page[0] == member.me}
+        number = next(number for number in range(1, len(used) + 2) if number not in used)
+        return self.turn_to((member.me, min(number, MOST_PAGE)))
+
+    def undo(self) -> Dict[str, Any]:
+        """Deletes our latest drawing that the page in view shows."""
+        member = self.member
+        if not member.is_ready:
+            raise Refused("busy")
+        own = [drawop.name[2] for drawop in member.drawn.sheet(member.page).shown if drawop.name[0] == member.me]
+        if not own:
+            raise Refused("nothing of ours is shown")
+        return self.draw_now(member.page, "delete %d %d" % (member.me, max(own)))
+
+    def renumber(self) -> Dict[str, Any]:
+        """Takes a new number, with a record of its own and all that is held."""
+        self.member.renumber(random_number())
+        return {"me": self.member.me}
+
+    def worsen(self, changes: Dict[str, Any]) -> Dict[str, Any]:
+        """Changes how the network is made worse."""
+        vars(self.member.options).update(changes)
+        return self.member.options.worse()

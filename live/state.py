@@ -1,0 +1,89 @@
+"""Where a member's record is kept: the state directory of the XDG rules has a folder for each session, and there a file for each
+member. A start goes on with the one that was used last and that no other member has."""
+from __future__ import annotations
+
+import os
+import secrets
+from pathlib import Path
+from typing import Iterator, List, Tuple
+
+from .options import Options
+from .record import Record, RecordFault
+
+
+def random_number() -> int:
+    """A member's number that hardly anyone else has."""
+    return 1_000_000 + secrets.randbelow(999_000_000)
+
+
+def session_name(options: Options) -> str:
+    """What tells sessions apart: a group, where one listens, or the ports of this machine."""
+    if options.lan:
+        return "group-%s-%d" % options.lan
+    if options.listen:
+        return "listen-%s-%d" % options.listen
+    return "ports-%d" % options.ports
+
+
+def folder_of(options: Options) -> Path:
+    """The folder of the session, which is made where it is not there."""
+    named = os.environ.get("XDG_STATE_HOME", "")
+    state = Path(named) if named.startswith("/") else Path.home() / ".local" / "state"
+    folder = state / "wb" / session_name(options).replace("/", "_")
+    try:
+        folder.mkdir(mode=0o700, parents=True, exist_ok=True)
+    except OSError as fault:
+        raise RecordFault("no record can be kept in %s (%s): --record FILE names another place" % (folder, fault.strerror)) from fault
+    return folder
+
+
+def kept(folder: Path) -> List[Path]:
+    """The records of a session, the one used last first."""
+    return sorted(folder.glob("*.wb"), key=lambda path: path.stat().st_mtime, reverse=True)
+
+
+def free(folder: Path) -> Iterator[Record]:
+    """The records that no other member has, each open."""
+    for path in kept(folder):
+        try:
+            yield Record(str(path))
+        except RecordFault:
+            continue
+
+
+def named(options: Options) -> Record:
+    """The record that the words name, by its path or by the member's number; a new one where it is to be forgotten."""
+    path = options.record or str(folder_of(options) / ("%d.wb" % (options.me or 0)))
+    record = Record(path)
+    if options.forget:
+        record.remove()
+        record.close()
+        record = Record(path)
+    return record
+
+
+def first_free(options: Options) -> Tuple[Record, int]:
+    """The record that was used last, or a new one under a new number."""
+    folder = folder_of(options)
+    for record in free(folder):
+        if not options.forget:
+            os.utime(record.path or "")
+            return record, 0
+        record.remove()
+        record.close()
+        break
+    number = random_number()
+    return Record(str(folder / ("%d.wb" % number))), number
+
+
+def open_record(options: Options) -> Tuple[Record, int, bool]:
+    """The record of this start, the member's number, and whether the number may have drawn before what the record has."""
+    record, number = (named(options), 0) if options.record or options.me is not None else first_free(options)
+    first = record.first()
+    if first is None:
+        return record, number or (random_number() if options.me is None else options.me), options.me is not None
+    me = int(first.split()[1])
+    if options.me not in (None, me):
+        record.close()
+        raise RecordFault("%s is the record of member %d" % (record.path, me))
+    return record, me, True

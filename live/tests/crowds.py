@@ -1,0 +1,129 @@
+"""Many clients and slow ones, names of a proxy, twins, and a clock that is late."""
+from __future__ import annotations
+
+import socket
+import tempfile
+import time
+from pathlib import Path
+from typing import List
+
+from .members import Process
+from .requests import status_of
+
+FIRST_PORT = 26_480
+PAGE = "1/1"
+
+# what makes the time of day of a process over an hour late
+LATE = "import time\nright = time.time_ns\ntime.time_ns = lambda: right() - 3_700_000_000_000\n"
+
+
+def test_slow(judge) -> None:
+    """More connections than there is room for, each with a byte in a while."""
+    member = Process(["--ports", str(FIRST_PORT), "--speed", "10"])
+    slow: List[socket.socket] = []
+    try:
+        for _ in range(540):
+            slow.append(socket.create_connection(("127.0.0.1", member.port), timeout=5))
+        for _ in range(7):
+            for each in slow:
+                try:
+                    each.sendall(b"G")
+                except OSError:
+                    pass
+            time.sleep(1)
+        began = time.monotonic()
+        try:
+            status = member.get_page()[0]
+        except OSError as fault:
+            status = repr(fault)
+        judge("beside 540 slow connections the page is served", (status, time.monotonic() - began < 3), (200, True))
+        ended = 0
+        for each in slow:
+            each.settimeout(0.01)
+            try:
+                ended += each.recv(1) == b""
+            except socket.timeout:
+                pass
+            except OSError:
+                ended += 1
+        judge("a request that takes over 5 s is ended", ended, len(slow))
+    finally:
+        for each in slow:
+            each.close()
+        judge("beside slow connections it ends with 0", member.end(), 0)
+
+
+def test_names(judge) -> None:
+    """A proxy of another name, and a server at each address of the machine."""
+    member = Process(["--ports", str(FIRST_PORT), "--speed", "10", "--origin", "https://board.example.org", "--origin", "http://wb.test:81"])
+    try:
+        path = "/%s/" % member.token
+        names = {"board.example.org": 200, "wb.test:81": 200, "127.0.0.1:%d" % member.port: 200, "example.org": 403, "wb.test": 403}
+        judge("names of the words", {name: status_of(member, "GET", path, {"Host": name}) for name in names}, names)
+        good = b'{"page": "1/1", "op": "line 0 0 1 0 x"}'
+        ours = {"Host": "board.example.org", "X-Wb-Token": member.token}
+        origins = {"https://board.example.org": 200, "http://board.example.org": 403, "https://example.org": 403}
+        judge("and origins", {name: status_of(member, "POST", path + "draw", dict(ours, Origin=name), good) for name in origins}, origins)
+    except (OSError, AttributeError) as fault:
+        judge("names", repr(fault), "no fault")
+    finally:
+        judge("it ends with 0", member.end(), 0)
+    everywhere = Process(["--ports", str(FIRST_PORT), "--speed", "10", "--web", "0.0.0.0:0"])
+    try:
+        judge("at each address of the machine", everywhere.get_page()[0], 200)
+        judge("under no other name", status_of(everywhere, "GET", "/", {"Host": "example.org"}), 403)
+    finally:
+        judge("it ends with 0 too", everywhere.end(), 0)
+
+
+def test_twins(judge) -> None:
+    """Two members of one number."""
+    with tempfile.TemporaryDirectory() as folder:
+        words = ["--ports", str(FIRST_PORT), "--speed", "10", "--me", "77", "--record"]
+        twins = [Process([*words, str(Path(folder) / ("%d.wb" % number))]) for number in range(2)]
+        try:
+            seen = [each.wait_for(lambda states: states["hello"]["twin"], 10) for each in twins]
+            judge("each sees the other", seen, [True, True])
+            judge("neither draws", [each.draw(PAGE, "line 0 0 4 0 t")[0] for each in twins], [422, 422])
+            judge("each says so", [each.wait_for(lambda states: any("our number" in text for text in states["health"]["warnings"]), 10) for each in twins], [True, True])
+            status, answer = twins[0].post("/number", {"new": True})
+            judge("one takes a new number", (status, answer.get("me", 77) != 77), (200, True))
+            judge("and draws", twins[0].draw(PAGE, "line 0 0 4 0 t")[0], 200)
+            twins[1].post("/number", {"new": True})
+            judge("so does the other", twins[1].draw(PAGE, "line 0 1 4 1 u")[0], 200)
+            for each in twins:
+                judge("their boards are equal", each.wait_for(lambda states: states["board"]["rows"] == ["ttttt", "uuuuu"], 20), True)
+        except (OSError, KeyError) as fault:
+            judge("twins", repr(fault), "no fault")
+        finally:
+            judge("twins end with 0", [each.end() for each in twins], [0, 0])
+
+
+def test_late(judge) -> None:
+    """A member whose clock is an hour late draws above the others, and its deletes count."""
+    with tempfile.TemporaryDirectory() as folder:
+        (Path(folder) / "sitecustomize.py").write_text(LATE)
+        words = ["--ports", str(FIRST_PORT), "--speed", "10"]
+        right = Process(words)
+        late = Process(words, environment={"PYTHONPATH": folder})
+        try:
+            both = [right, late]
+            for each in both:
+                each.wait_for(lambda states: states["members"]["members"], 20)
+            first = right.draw(PAGE, "line 0 0 4 0 r")[1]
+            judge("a late member shows what others draw", late.wait_for(lambda states: states["board"]["rows"] == ["rrrrr"], 10), True)
+            late.draw(PAGE, "line 0 0 2 0 l")
+            for each in both:
+                judge("what it draws lies on top", each.wait_for(lambda states: states["board"]["rows"] == ["lllrr"], 10), True)
+            right.draw(PAGE, "delete %d %d" % (right.me, first["seq"]))
+            judge("a delete is shown by the late one", late.wait_for(lambda states: states["board"]["rows"] == ["lll"], 10), True)
+            late.draw(PAGE, "restore %d %d" % (right.me, first["seq"]))
+            for each in both:
+                judge("what it restores is shown", each.wait_for(lambda states: states["board"]["rows"] == ["lllrr"], 10), True)
+        finally:
+            judge("the late one ends with 0", [right.end(), late.end()], [0, 0])
+
+
+def test(judge) -> None:
+    for part in (test_slow, test_names, test_twins, test_late):
+        part(judge)

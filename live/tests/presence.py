@@ -1,0 +1,62 @@
+"""Datagrams of drivers alone: their bytes, and what of them is heeded."""
+from __future__ import annotations
+
+from typing import Any, Dict, List
+
+from wbhost import find_program
+
+from live.presence import MOST_A_SECOND, MOST_BEGUN, Point, Presence, point_in, read, write
+from live.words import Words
+
+POINT = Point(7, (1, 2), (3, 4), ["line 0 0 1 1 *", 'text 0 0 "a"'])
+
+
+class Told:
+    """In the place of events: what was told last."""
+
+    def __init__(self) -> None:
+        self.others: List[Dict[str, Any]] = []
+
+    def tell(self, name: str, state: Dict[str, Any]) -> None:
+        self.others = state["others"]
+
+
+def test_bytes(judge) -> None:
+    data = write(POINT)
+    judge("the bytes of a point", data[:24].hex(), "575001000000000700000001000000020003" + "0004" + b"line".hex())
+    judge("it is read as it was written", read(data), POINT)
+    judge("one that points nowhere", read(write(Point(7, (1, 2), None, []))), Point(7, (1, 2), None, []))
+    long = write(POINT._replace(begun=["line 0 0 1 1 *"] * 100))
+    judge("what is begun has a bound", (len(long) <= 20 + MOST_BEGUN, read(long) is not None), (True, True))
+    bad = [b"", data[:19], b"WB" + data[2:], data[:2] + b"\2" + data[3:], data + b"\x00", data + b"\xff", data + b" " * MOST_BEGUN, data[:16] + b"\x10\x00" + data[18:]]
+    judge("what is none", [read(each) for each in bad], [None] * len(bad))
+    words = Words(find_program())
+    judge("no host takes it for its own", words.of(data.hex()).fault, "datagram 2")
+    words.child.end()
+
+
+def test_heeding(judge) -> None:
+    told = Told()
+    presence = Presence(1, told)  # type: ignore[arg-type]
+    presence.hear(write(POINT))
+    judge("another is told", [other["member"] for other in told.others], [7])
+    presence.hear(write(POINT._replace(member=1)))
+    judge("we are not", [other["member"] for other in told.others], [7])
+    presence.hear(write(POINT._replace(cell=None)))
+    judge("who points nowhere is gone", told.others, [])
+    for x in range(10 * MOST_A_SECOND):
+        presence.hear(write(POINT._replace(member=8, cell=(x, 0))))
+    judge("a flood is not heeded", told.others[0]["cell"][0] < 3 * MOST_A_SECOND, True)
+    for member in range(1_000):
+        presence.hear(write(POINT._replace(member=100 + member)))
+    judge("members have a bound", len(told.others) <= 64, True)
+
+
+def test(judge) -> None:
+    test_bytes(judge)
+    test_heeding(judge)
+    good = {"cell": [1, 2], "begun": []}
+    bad: List[Dict[str, Any]] = [{}, {"cell": [1], "begun": []}, {"cell": [1, 4096], "begun": []}, {"cell": [True, 1], "begun": []}, {"cell": None, "begun": ["\n"]},
+                                 {"cell": None, "begun": ["\u00e9"]}, {"cell": None, "begun": "a"}]
+    judge("a point of a page", point_in(good, 1, (1, 1)), Point(1, (1, 1), (1, 2), []))
+    judge("what is none", [point_in(each, 1, (1, 1)) for each in bad], [None] * len(bad))
