@@ -1,0 +1,1 @@
+"""Builds the page: the proved program as a module of WebAssembly, and the files round it."""

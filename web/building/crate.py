@@ -1,0 +1,44 @@
+"""How `rattle build` is called for the program: what the toolchain's command rt says to it, but for the toolchain's folder."""
+from __future__ import annotations
+
+from pathlib import Path
+
+from .needs import Missing
+
+TOP = Path(__file__).resolve().parent.parent.parent
+PROGRAM = "wb"
+
+
+def below() -> dict[str, list[str]]:
+    """What each crate stands on, by crates.txt."""
+    lines = [line.split(":") for line in (TOP / "crates.txt").read_text().splitlines() if ":" in line and not line.startswith("#")]
+    return {crate.split()[0]: names.split() for crate, names in lines}
+
+
+def folder_of(crate: str) -> Path:
+    return TOP / "crates" / crate
+
+
+def libraries(crates: dict[str, list[str]], crate: str) -> list[str]:
+    """The repository's libraries below a crate, each once."""
+    found: list[str] = []
+    for name in crates[crate]:
+        if name in crates:
+            found += [it for it in [*libraries(crates, name), name] if it not in found]
+    return found
+
+
+def build_words(kit: Path) -> list[str]:
+    """The words of `rattle build` for the program, to be called in its folder. Missing where a library below it is not built."""
+    crates, words = below(), ["--crate-name", PROGRAM, "src/main.rt"]
+    for name in ["std", *(name for name in crates[PROGRAM] if name not in crates)]:
+        words += ["--extern", "%s=%s/rlibs/%s.rlib" % (name, kit, name)]
+    words += ["-L", "dependency=%s/rlibs" % kit]
+    for name in libraries(crates, PROGRAM):
+        rlib = folder_of(name) / "out" / "rlib" / (name + ".rlib")
+        if not rlib.exists():
+            raise Missing("the crate %s has no %s" % (name, rlib.relative_to(TOP)))
+        words += ["--extern", "%s=%s" % (name, rlib)] if name in crates[PROGRAM] else []
+        words += ["-L", "dependency=%s" % rlib.parent]
+    return [*words, "--antt-project", "%s/rattle/logic/antt-project.json" % kit, "--logic-built", "%s/logic_built" % kit, "--jobs", "1",
+            "--links", PROGRAM + "=", "--backend", "llvm", "--incremental", "out/incremental"]

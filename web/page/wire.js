@@ -1,0 +1,69 @@
+/** The datagrams as they go by, in words, and which request a repair answers: `live/wire.py` once more. */
+import { kindOf, nameIn, speakerOf } from './views.js';
+
+/** @typedef {import('../../live/page/types.js').Entry} Entry */
+
+/** Characters of a datagram that are told, requests that are remembered, and entries that wait to be told. */
+const MOST_CHARACTERS = 400, MOST_REMEMBERED = 1_024, MOST_ENTRIES = 600;
+
+export class Wire {
+  constructor() {
+    this.began = performance.now();
+    this.last = 0;
+    /** @type {Map<string, number>} */
+    this.requests = new Map();
+    this.counts = { in: 0, out: 0, lost: 0, twice: 0, refused: 0, requests: 0, repairs: 0 };
+    /** What was not told yet.
+     * @type {Entry[]} */
+    this.entries = [];
+  }
+
+  /** @param {'in' | 'out'} way @param {string | null} words @returns {Entry} */
+  entry(way, words) {
+    this.last += 1;
+    const text = words ?? '', name = nameIn(text), kind = kindOf(text) || 'bad';
+    return {
+      id: this.last, at: Math.round(performance.now() - this.began) / 1000, way, kind,
+      words: text.length > MOST_CHARACTERS ? `${text.slice(0, MOST_CHARACTERS)} ..` : text,
+      member: text ? speakerOf(text) : null, name, answers: kind === 'draw' && name ? this.requests.get(name) ?? null : null,
+      lost: false, twice: false, refused: null, by: null,
+    };
+  }
+
+  /** A datagram came in, and what became of it.
+   * @param {string | null} words @param {{ isLost: boolean, isSecond: boolean }} arrival @param {string | null} refused */
+  came(words, { isLost, isSecond }, refused) {
+    this.counts.in += 1;
+    this.counts.lost += Number(isLost);
+    this.counts.twice += Number(isSecond);
+    this.tell({ ...this.entry('in', words), lost: isLost, twice: isSecond, refused });
+  }
+
+  /** A datagram went out.
+   * @param {string | null} words */
+  went(words) {
+    const entry = this.entry('out', words);
+    this.counts.out += 1;
+    this.counts.requests += Number(entry.kind === 'request');
+    this.counts.repairs += Number(entry.answers !== null);
+    this.tell(entry);
+  }
+
+  /** @param {Entry} entry */
+  tell(entry) {
+    this.counts.refused += Number(entry.refused !== null);
+    if (entry.kind === 'request' && entry.name && !entry.lost && !this.requests.has(entry.name)) {
+      this.requests.set(entry.name, entry.id);
+      if (this.requests.size > MOST_REMEMBERED) this.requests.delete([...this.requests.keys()][0]);
+    }
+    this.entries.push(entry);
+    if (this.entries.length > MOST_ENTRIES) this.entries.shift();
+  }
+
+  /** What was not told yet, which is told now. */
+  taken() {
+    const entries = this.entries;
+    this.entries = [];
+    return entries;
+  }
+}

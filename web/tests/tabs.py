@@ -1,0 +1,157 @@
+"""Tabs of one browser: two and a phone's width, a third lost; a reload, a trap, a full board, a start without a network."""
+from __future__ import annotations
+
+import os
+import random
+import statistics
+import time
+from typing import Callable
+
+from .serving import Folder
+from .windows import PHONE, Window, agree
+from browser import Browser
+
+Judge = Callable[..., None]
+
+# rounds of the latency, and the milliseconds that their median may not pass: the machine may have other work
+ROUNDS, MOST_LATENCY = 15, 1_000.0
+
+# drawings of each window while a third is lost
+DRAWINGS = 12
+
+# what becomes of the memory of a program that broke
+SPOIL = "new Uint8Array(member.board.host.start.exports.memory.buffer).fill(255), 0"
+
+
+def some_drawing(chance: random.Random) -> str:
+    x0, y0, x1, y1 = (chance.randrange(top) for top in (30, 20, 30, 20))
+    kind = chance.choice(("line", "frame", "text"))
+    return f'text {x0} {y0} "some text"' if kind == "text" else f"{kind} {x0} {y0} {x1} {y1} {chance.choice('*#+-o')}"
+
+
+def open_all(judge: Judge, browser: Browser, folder: Folder, fragment: str) -> list[Window]:
+    """Two windows, of which one runs the module for every engine, and one of a phone's width."""
+    windows = [Window(browser, folder.address(fragment)), Window(browser, folder.address(fragment + "&wide=0")), Window(browser, folder.address(fragment), PHONE)]
+    for window in windows:
+        judge("a window is ready to draw", window.is_ready(), window.health())
+    return windows
+
+
+def test_losses(judge: Judge, windows: list[Window]) -> None:
+    chance, count = random.Random(59), len(windows) * DRAWINGS
+    for _ in range(DRAWINGS):
+        for window in windows:
+            judge("a drawing is taken", window.draw(some_drawing(chance)).get("ok"), True)
+    began = time.monotonic()
+    judge("all show one canvas though a third was lost", agree(windows, count, 120.0), str([(window.drawings(), window.health()) for window in windows]))
+    print(f"{count} drawings in three tabs that lose a third: one canvas {time.monotonic() - began:.1f} s after the last")
+    judge("something was lost and repaired", windows[0].page.value("document.getElementById('counts').textContent").count("lost on purpose"), 1)
+
+
+def test_hand(judge: Judge, windows: list[Window]) -> None:
+    one, other, phone = windows
+    one.drag((40, 2), (50, 2))
+    judge("a line by mouse is in the other tab", other.shows(40, 2, "*" * 11, 60.0), other.rows()[:4])
+    phone.stroke((2, 22), (6, 22), (12, 22))
+    judge("a line by a finger is in the other tab", one.shows(2, 22, "*" * 11, 60.0), one.rows()[20:])
+    judge("nothing is wider than a phone", phone.page.value("document.documentElement.scrollWidth <= 390"), True)
+
+
+def test_reload(judge: Judge, windows: list[Window]) -> None:
+    one, me, rows = windows[0], windows[0].me, windows[0].rows()
+    one.page.call("Page.reload")
+    time.sleep(0.5)
+    judge("it is ready again", one.is_ready())
+    judge("a reload keeps the number", one.me, me)
+    judge("and the board", one.page.wait(f"wb.session.board.drawops.length === {windows[1].drawings()}", 60.0) and one.rows(), rows)
+    judge("a number is used once", one.draw("line 60 1 64 1 +").get("ok") and windows[1].shows(60, 1, "+++++", 60.0), True)
+
+
+def test_trap(judge: Judge, windows: list[Window]) -> None:
+    for window in windows[:2]:
+        shown = window.drawings()
+        window.in_worker(SPOIL)
+        judge("a host that broke off is started from its record", window.page.wait("wb.session.hello.ready", 20.0))
+        drawn = [window.draw("line 70 3 74 3 x") for _ in range(2)]  # what was asked as it broke may be refused
+        judge("and goes on", drawn[-1].get("ok"), True)
+        judge("with all that it had", window.page.wait(f"wb.session.board.drawops.length > {shown}"), window.drawings())
+        judge("it was started again", window.in_worker("member.board.ends.length"), 1)
+        judge("the record tells it", window.in_worker("member.board.record.lines().then((lines) => lines.filter((line) => line.includes('broke off')).length)"), 1)
+
+
+def test_full(judge: Judge, browser: Browser, folder: Folder) -> None:
+    window = Window(browser, folder.address("#session=full&cells=5"))
+    judge("a small board is ready", window.is_ready())
+    answers = [window.draw(f"line 0 {y} 5 {y} *") for y in range(7)]
+    judge("a full board takes no more", [answer["ok"] for answer in answers], [True] * 5 + [False] * 2)
+    judge("and says why", answers[-1].get("fault"), "full")
+    judge("what it has is shown", len(window.rows()), 5)
+    wrong = window.draw("line 0 0 5 5000 *")
+    judge("what is no drawing is refused by the host", wrong["ok"] is False and wrong["fault"].startswith("word"), wrong)
+    window.page.close()
+
+
+def test_alone(judge: Judge, browser: Browser, folder: Folder) -> None:
+    """Without its server, and with nothing from elsewhere."""
+    window = Window(browser, folder.address("#session=alone"))
+    judge("a window is ready", window.is_ready())
+    window.draw("line 0 0 4 0 *")
+    sources = window.page.value("performance.getEntriesByType('resource').map((it) => it.name)")
+    judge("nothing comes from elsewhere", [name for name in sources if not name.startswith(folder.address()) and not name.startswith("blob:")], [])
+    judge("the browser keeps the folder", window.page.wait("navigator.serviceWorker.ready.then(() => true)", 20.0))
+    folder.stop()
+    try:
+        window.page.call("Page.reload")
+        time.sleep(0.5)
+        judge("it starts without a network", window.is_ready() and window.shows(0, 0, "*****"), True)
+    finally:
+        folder.start()
+    window.page.value("""(() => {
+        const script = document.createElement('script');
+        script.textContent = 'window.ran = true';
+        document.body.append(script);
+    })()""")
+    judge("no other script runs", not window.page.value("window.ran"), True)
+    judge("no text is run", window.page.value("(() => { try { return eval('1'); } catch (fault) { return fault.name; } })()"), "EvalError")
+    browser.faults = [fault for fault in browser.faults if "Content Security Policy" not in fault and "Content-Security-Policy" not in fault]
+    window.page.close()
+
+
+def measure(judge: Judge, browser: Browser, folder: Folder) -> None:
+    """Milliseconds from the release of the mouse in one tab to the paint in the other."""
+    windows = [Window(browser, folder.address("#session=quick")) for _ in range(2)]
+    for window in windows:
+        window.is_ready()
+    windows[0].page.value("addEventListener('pointerup', () => { window.released = performance.timeOrigin + performance.now(); }, true); 0")
+    windows[1].draw("text 0 0 \"-\"")
+    windows[0].shows(0, 0, "-")
+    taken = []
+    for row in range(2, 2 + ROUNDS):
+        windows[1].page.value(f"""window.seen = new Promise((take) => {{
+            wb.session.on('board', ({{ rows }}) => {{
+                if ((rows[{row}] ?? '').includes('####')) requestAnimationFrame(() => setTimeout(() => take(performance.timeOrigin + performance.now())));
+            }});
+        }}); 0""")
+        time.sleep(0.3)
+        windows[0].page.value("wb.hand.setGlyph('#'); 0")
+        windows[0].drag((10, row), (20, row))
+        taken.append(float(windows[1].page.value("window.seen")) - float(windows[0].page.value("window.released")))
+    print(f"from the mouse's release to the paint in the other tab: {statistics.median(taken):.0f} ms, the median of {ROUNDS}; the greatest {max(taken):.0f} ms, "
+          f"with a load of {os.getloadavg()[0]:.1f} on {os.cpu_count()} processors")
+    judge("a drag is soon in the other tab", statistics.median(taken) < MOST_LATENCY, taken)
+    for window in windows:
+        window.page.close()
+
+
+def test(judge: Judge, browser: Browser, folder: Folder) -> None:
+    windows = open_all(judge, browser, folder, "#session=tabs&lose=0.33")
+    judge("two kinds of modules run", sorted({str(window.page.value("document.querySelector('#with .small').textContent.match(/runs (\\S+)\\./)[1]")) for window in windows}),
+          ["wb-any.wasm", "wb.wasm"])
+    for part in (test_losses, test_hand, test_reload, test_trap):
+        part(judge, windows)
+    for window in windows:
+        window.page.close()
+    test_full(judge, browser, folder)
+    judge("no fault in a page, and none of its policy", browser.faults, [])
+    test_alone(judge, browser, folder)
+    measure(judge, browser, folder)

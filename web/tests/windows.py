@@ -1,0 +1,112 @@
+"""Windows of a browser with a member each: what they show, and what is drawn in them."""
+from __future__ import annotations
+
+import json
+import sys
+import time
+from pathlib import Path
+from typing import Any
+
+TOP = Path(__file__).resolve().parent.parent.parent
+sys.path.insert(0, str(TOP / "live"))
+
+from browser import Browser, Page  # noqa: E402
+
+# switches that keep a hidden page's clock going, which nobody's browser has
+FOR_TESTS_ALONE = ("--disable-background-timer-throttling", "--disable-renderer-backgrounding", "--disable-backgrounding-occluded-windows")
+
+WIDE, PHONE = (1280, 800), (390, 780)
+
+
+class Ordinary(Browser):
+    """A browser that slows the pages down that nobody sees, as it comes."""
+
+    def __init__(self, program: str, patience: float = 20.0) -> None:
+        super().__init__(program, patience)
+        self.attached: list[str] = []  # the sessions of workers, as they are told
+
+    def options(self) -> list[str]:
+        return [option for option in super().options() if option not in FOR_TESTS_ALONE]
+
+    def take_event(self, method: str, told: dict[str, Any]) -> None:
+        if method == "Target.attachedToTarget" and told["targetInfo"]["type"] == "worker":
+            self.attached.append(told["sessionId"])
+        super().take_event(method, told)
+
+
+class Window:
+    """A window whose page has a member."""
+
+    def __init__(self, browser: Ordinary, address: str, size: tuple[int, int] = WIDE) -> None:
+        self.browser = browser
+        self.page: Page = browser.open(address, *size)
+        if size == PHONE:
+            self.page.resize(*size, mobile=True)
+
+    def is_ready(self, seconds: float = 30.0) -> bool:
+        return self.page.wait("wb.session.hello.ready", seconds)
+
+    @property
+    def me(self) -> int:
+        return int(self.page.value("wb.session.hello.me"))
+
+    def point(self, x: int, y: int) -> tuple[float, float]:
+        """Where the middle of a cell is."""
+        found = self.page.value(f"""(() => {{
+            const box = document.getElementById('sheet').getBoundingClientRect();
+            return [box.left + wb.view.pixelX({x}) + wb.view.wide / 2, box.top + wb.view.pixelY({y}) + wb.view.high / 2];
+        }})()""")
+        return found[0], found[1]
+
+    def drag(self, start: tuple[int, int], end: tuple[int, int]) -> None:
+        self.page.drag(self.point(*start), self.point(*end))
+
+    def stroke(self, *cells: tuple[int, int]) -> None:
+        """A finger that goes from cell to cell."""
+        self.page.touch("touchStart", self.point(*cells[0]))
+        for cell in cells[1:]:
+            self.page.touch("touchMove", self.point(*cell))
+        self.page.touch("touchEnd")
+
+    def draw(self, operation: str) -> dict[str, Any]:
+        """Has an operation drawn as the page would, and gives the answer."""
+        return dict(self.page.value(f"wb.session.send({json.dumps(operation)})"))
+
+    def rows(self) -> list[str]:
+        return list(self.page.value("wb.session.board.rows"))
+
+    def drawings(self) -> int:
+        return int(self.page.value("wb.session.board.drawops.length"))
+
+    def shows(self, x: int, y: int, text: str, seconds: float = 10.0) -> bool:
+        """Whether a row comes to show a text from a column on."""
+        return self.page.wait(f"(wb.session.board.rows[{y}] ?? '').padEnd(300).substr({x}, {len(text)}) === {json.dumps(text)}", seconds)
+
+    def go_to(self, page: str) -> bool:
+        self.page.value(f"wb.session.goToPage({json.dumps(page)}); 0")
+        return self.page.wait(f"wb.session.board.page === {json.dumps(page)}")
+
+    def health(self) -> str:
+        return str(self.page.value("document.getElementById('phrase').textContent"))
+
+    def in_worker(self, expression: str) -> Any:
+        """What an expression of the member's worker is."""
+        self.browser.attached.clear()
+        how = {"waitForDebuggerOnStart": False, "flatten": True}
+        self.page.call("Target.setAutoAttach", autoAttach=True, **how)
+        self.page.wait("false", 0.1)  # until the browser has told of it
+        worker = Page(self.browser, "", self.browser.attached[-1])
+        try:
+            return worker.value(expression)
+        finally:
+            self.page.call("Target.setAutoAttach", autoAttach=False, **how)
+
+
+def agree(windows: list[Window], drawings: int, seconds: float) -> bool:
+    """Whether all windows come to show the same rows of so many drawings."""
+    end = time.monotonic() + seconds
+    while time.monotonic() < end:
+        if all(window.drawings() == drawings for window in windows):
+            return len({json.dumps(window.rows()) for window in windows}) == 1
+        time.sleep(0.05)
+    return False
