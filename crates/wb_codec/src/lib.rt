@@ -27,5 +27,5 @@ mod writing;
 pub use datagram::Datagram;
 pub use fault::ReadFault;
 pub use reading::read;
-pub use row::{ROW_WORDS, from_row, to_row};
+pub use row::{ROW_WORDS, drawop_in, from_row, to_row};
 pub use writing::write;

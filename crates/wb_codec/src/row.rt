@@ -181,9 +181,10 @@ fn shape_in<'a>(word: u64, target: u64, bytes: &'a [u8; 64]) -> Option<Shape<'a>
     }
 }
 
-/// The drawop whose record these words may be: unused words and parts of words are not looked at.
+/// The drawop whose record these words are, for callers who know that they are one. Unused words and parts of
+/// words are not looked at, so of other words it may answer a drawop too: `from_row` tells them apart.
 #[inline(always)]
-fn drawop_in(words: &[u64; 12]) -> Option<Drawop>
+pub fn drawop_in(words: &[u64; 12]) -> Option<Drawop>
     ensures { (d : DrawopValue) → IsDrawop d → row d ≡ words.now → result ≡ Some d }
 {
     let (source, seq) = halves(words[0]);

@@ -1,18 +1,10 @@
-//! Tests of wb_host over its public calls: values from outside, growths that are refused, pages viewed
-//! in turn, and two threads on desks of one board.
+//! Tests of wb_host and of what it is made of, over their public calls: boards and keepers with values from outside,
+//! growths that are refused, and threads on desks of one board.
 #![tactic(auto)]
 
 #[cfg(test)]
-mod drawings;
+mod boards;
 #[cfg(test)]
-mod faults;
+mod keepers;
 #[cfg(test)]
-mod pages;
-#[cfg(test)]
-mod refusals;
-#[cfg(test)]
-mod replies;
-#[cfg(test)]
-mod rooms;
-#[cfg(test)]
-mod threads;
+mod parts;
