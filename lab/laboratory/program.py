@@ -1,6 +1,10 @@
-"""The program under study."""
+"""The program under study, which is looked for once."""
 from __future__ import annotations
 
-from wbhost import find_program as program
+import functools
+
+from wbhost import find_program
 
 __all__ = ["program"]
+
+program = functools.cache(find_program)

@@ -1,27 +1,11 @@
-//! Tests of wb_script over its public calls: whole scripts with values from outside, ends that fail in
-//! mid-stream or are fed slowly, limits, workers, want of memory, and a member as a driver holds it.
+//! Tests of wb_script that refuse memory or threads, and of its workers. What a script prints apart from these is tested in
+//! `tests/value_cases/scripts`.
 #![tactic(auto)]
 
 #[cfg(test)]
-mod arriving;
-#[cfg(test)]
-mod broken;
-#[cfg(test)]
-mod cut;
-#[cfg(test)]
-mod ends;
-#[cfg(test)]
-mod keeping;
-#[cfg(test)]
-mod limits;
-#[cfg(test)]
-mod members;
-#[cfg(test)]
-mod memory;
-#[cfg(test)]
 mod refused;
 #[cfg(test)]
-mod scripts;
+mod samples;
 #[cfg(test)]
 mod watched;
 #[cfg(test)]

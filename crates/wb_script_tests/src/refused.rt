@@ -1,8 +1,7 @@
 //! Scripts in which a growth or the start of a thread is refused: a front of the text is written, and the same
 //! script then runs to its end.
 
-use crate::keeping::{ASKED_AND_ANSWERED, LOST, REPORTED, TOLD};
-use crate::memory::{THREE, THREE_TEXT};
+use crate::samples::{ASKED_AND_ANSWERED, LOST, REPORTED, THREE, THREE_TEXT, TOLD};
 use crate::watched::Watched;
 use std::sync::Wait;
 use std::thread::Threads;

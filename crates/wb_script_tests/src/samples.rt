@@ -1,10 +1,11 @@
-//! Scripts whose host asks, answers, hears and reports. What they print was worked out by hand from the rules of the timers, and holds
-//! whatever random words are drawn.
+//! Scripts and what they print, worked out by hand from the rules of boards and timers. What a host asks, answers and reports
+//! holds whatever random words are drawn.
 
-use std::process::Abort;
-use std::test::Fail;
-use wb_names::{FromRead, ToWrite};
-use wb_script::{NoGate, Summary, run};
+/// Three sources draw on one page at one time; the three drawops come eight times in all.
+pub const THREE: &str =
+    "board 1 16 1 42\narrive 574201010000002200000007000000070000000100000001000000000000000a0100000001000400012a\narrive 574201010000002000000008000000070000000100000001000000000000000a0300010001026162\narrive 574201010000002000000009000000070000000100000001000000000000000a0300020001026364\narrive 574201010000002200000007000000070000000100000001000000000000000a0100000001000400012a\narrive 574201010000002000000008000000070000000100000001000000000000000a0300010001026162\narrive 574201010000002000000009000000070000000100000001000000000000000a0300020001026364\narrive 574201010000002200000007000000070000000100000001000000000000000a0100000001000400012a\narrive 574201010000002000000008000000070000000100000001000000000000000a0300010001026162\nshow 7 1 5 3\n";
+
+pub const THREE_TEXT: &str = "batch 3 5 0 0\n     \n*acd*\n     \n";
 
 /// Number 2 of source 7 is lost: it is asked for when its timer is due, twice, until it comes; a request
 /// for it is not answered while it is quiet, and then is.
@@ -51,15 +52,3 @@ send 574201050000001600000001000000070000000400010000000700000001
 gaps 1
 7 2 7
 ";
-
-#[test]
-fn hosts_ask_answer_and_report(rt: HostRuntime) -> Result<(), Fail> {
-    for (script, want, lines, held) in [(LOST, ASKED_AND_ANSWERED, 17, 3), (TOLD, REPORTED, 7, 1)] {
-        let mut source = FromRead::new(script.as_bytes());
-        let mut sink = ToWrite::new(Vec::new(rt.alloc()));
-        let end = run(&rt, rt.alloc(), &mut source, &mut sink, None, &NoGate);
-        assert_eq!(rt; sink.into_inner().as_slice(), want.as_bytes());
-        assert_eq!(rt; end, Ok(Summary { lines, held }));
-    }
-    Ok(())
-}
