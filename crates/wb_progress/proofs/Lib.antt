@@ -3,3 +3,11 @@ pub mod KeeperBounds
 pub mod OneCall
 pub mod Repairs
 pub mod Standing
+pub mod Calls
+pub mod Parts
+pub mod Giving
+pub mod Answering
+pub mod Leading
+pub mod NamesApart
+pub mod Setting
+pub mod Rounds

@@ -45,14 +45,14 @@ received_in delays (m ∷ names) n c = ⊎_elim
       later true e = refl
       later false e = e
 
-received_from : (delays : ℕ → ℕ) (names : List NameValue) (n : NameValue) → is_received (received_of delays names) n ≡ true → Contains names n
+pub received_from : (delays : ℕ → ℕ) (names : List NameValue) (n : NameValue) → is_received (received_of delays names) n ≡ true → Contains names n
 received_from delays [] n e = absurd (true≢false (sym e))
 received_from delays (m ∷ names) n e = from (received_from delays names n) (same_name m n) refl e where
   from : (is_received (received_of delays names) n ≡ true → Contains names n) → (b : Bool) → same_name m n ≡ b → (b || is_received (received_of delays names) n) ≡ true → Contains (m ∷ names) n
   from rest true g h = subst (λ (k : NameValue). Contains (m ∷ names) k) (same_name-is m n g) (Contains-here m names)
   from rest false g h = Contains-there m n names (rest h)
 
-is_false : (b : Bool) → (b ≡ true → ⊥) → b ≡ false
+pub is_false : (b : Bool) → (b ≡ true → ⊥) → b ≡ false
 is_false true f = absurd (f refl)
 is_false false f = refl
 

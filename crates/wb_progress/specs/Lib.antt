@@ -2,3 +2,6 @@ pub mod Bounds
 pub mod Keepers
 pub mod Repairs
 pub mod Standing
+pub mod Calls
+pub mod Turns
+pub mod InTime

@@ -1,6 +1,8 @@
 //! Laws of progress. Each function does nothing: its contract is a law, for proofs to cite.
 
 ghost use Rattle.wb_progress.specs.Bounds.{TimersAreBounded};
+ghost use Rattle.wb_progress.specs.Calls.{AnswersGoOn, QuietBegins, RequestsAreHeard, RequestsBegin, RequestsGoOn};
+ghost use Rattle.wb_progress.specs.InTime.{AllComes, RequestIsAnswered, RoundsEnd, TimerLeads};
 ghost use Rattle.wb_progress.specs.Standing.{AnswersAreKept, QuietHasCause, RequestsAreKept, RequestsAreTaken, RequestsLeadOn};
 ghost use Rattle.wb_progress.specs.Keepers.{DelaysFit, KeepersAreBounded};
 ghost use Rattle.wb_progress.specs.Repairs.{AnswersAreSoon, AskedAnewIsSoon, AskerAsks, GivenUpIsIdle, HolderAnswers, MissesStand, RequestsSet, TicksAnswer, TicksAsk, TicksClear, TicksEnd, TicksLeave};
@@ -45,4 +47,24 @@ pub fn timers_stand()
     ensures quiet { QuietHasCause }
     ensures taken { RequestsAreTaken }
     ensures leads { RequestsLeadOn }
+{}
+
+/// What one call makes of the timers of a name: each stands as it was set until the call ends it, and begins
+/// for a stated cause and a stated wait.
+pub fn calls_begin_and_end_timers()
+    ensures answers { AnswersGoOn }
+    ensures requests { RequestsGoOn }
+    ensures quiet { QuietBegins }
+    ensures begin { RequestsBegin }
+    ensures heard { RequestsAreHeard }
+{}
+
+/// Where keepers, their drivers and the network keep to stated times: a request for what a live place held is
+/// answered to all, a request timer leads to one, what a look asks for comes in one round, and all of the page
+/// has come by a stated time.
+pub fn all_comes_in_time()
+    ensures answered { RequestIsAnswered }
+    ensures leads { TimerLeads }
+    ensures round { RoundsEnd }
+    ensures all { AllComes }
 {}

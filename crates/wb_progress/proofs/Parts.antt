@@ -1,0 +1,109 @@
+-- Parts of a list of turns, and times.
+use Rattle.std.proofs.Common.{◌≡◌, ℕ, ◌+◌, ◌<◌, ◌≤◌, Bool, true, false, cond, List, [], ◌∷◌, ◌++◌, refl, sym, ap, ◌∙◌, subst, arith, append_assoc}
+use Rattle.std.specs.Prelude.{nat_le}
+use Rattle.std.proofs.lemmas.Bool.Decides.{nat_tests}
+use Rattle.wb_progress.specs.Turns.{Turn, time_of, AreInOrder, until}
+
+pub before_end : (newer later : List Turn) → AreInOrder (newer ++ later) → time_of later ≤ time_of (newer ++ later)
+before_end [] later order = omega arith
+before_end (e ∷ newer) later order = let r = before_end newer later order.1 in let o = order.0 in omega (arith, r, o)
+
+pub order_of : (newer later : List Turn) → AreInOrder (newer ++ later) → AreInOrder later
+order_of [] later order = order
+order_of (e ∷ newer) later order = order_of newer later order.1
+
+heads : (a b : Turn) (x y : List Turn) → a ∷ x ≡ b ∷ y → a ≡ b
+heads a b x y same = cc
+
+pub tails : (a b : Turn) (x y : List Turn) → a ∷ x ≡ b ∷ y → x ≡ y
+tails a b x y same = cc
+
+nil_cons : (e : Turn) (x : List Turn) → ◌≡◌ {A = List Turn} [] (e ∷ x) → ⊥
+nil_cons e x same = cc
+
+-- a part that ends earlier than another is within it
+pub in_past : (newer later front base : List Turn) → newer ++ later ≡ front ++ base → AreInOrder (newer ++ later) → time_of base < time_of later → (middle : List Turn) × (later ≡ middle ++ base)
+in_past [] later front base same order lt = (front, same)
+in_past (e ∷ newer) later [] base same order lt =
+    let le : time_of later ≤ time_of (newer ++ later) = before_end newer later order.1 in
+    let o = order.0 in
+    let is : e.time ≡ time_of base = ap time_of same in
+    absurd (omega (arith, le, o, is, lt))
+in_past (e ∷ newer) later (y ∷ front) base same order lt = in_past newer later front base (tails e y (newer ++ later) (front ++ base) same) order.1 lt
+
+-- ---- the part up to a time, and behind it
+
+not_by : (a b : ℕ) → b < a → nat_le a b ≡ false
+not_by a b lt = grind (arith, nat_tests)
+
+past : (a b : ℕ) → nat_le a b ≡ false → b < a
+past a b e = grind (arith, nat_tests)
+
+is_by : (a b : ℕ) → nat_le a b ≡ true → a ≤ b
+is_by a b e = grind (arith, nat_tests)
+
+-- each turn is at this time or later
+abbrev pub AreFrom : ℕ → List Turn → Type 0
+AreFrom s [] = Unit {0}
+AreFrom s (e ∷ es) = (s ≤ e.time) × AreFrom s es
+
+pub from_at : (s : ℕ) (newer older : List Turn) → AreInOrder (newer ++ older) → s ≤ time_of older → AreFrom s newer
+from_at s [] older order le = tt
+from_at s (e ∷ newer) older order le =
+    let b = before_end newer older order.1 in
+    let o = order.0 in
+    (omega (arith, le, b, o), from_at s newer older order.1 le)
+
+pub from_tail : (s : ℕ) (front back : List Turn) → AreFrom s (front ++ back) → AreFrom s back
+from_tail s [] back h = h
+from_tail s (e ∷ front) back h = from_tail s front back h.1
+
+pub from_head : (s : ℕ) (front back : List Turn) → AreFrom s (front ++ back) → AreFrom s front
+from_head s [] back h = tt
+from_head s (e ∷ front) back h = (h.0, from_head s front back h.1)
+
+-- a list of turns is those behind a time and those up to it
+pub record IsSplitAt (s : ℕ) (turns : List Turn) : Type 0 where
+  pub newer : List Turn
+  pub split : turns ≡ newer ++ until s turns
+  pub behind : AreFrom (s + 1) newer
+  pub by : time_of (until s turns) ≤ s
+
+pub split_at : (s : ℕ) (turns : List Turn) → IsSplitAt s turns
+split_at s [] = record { newer = []; split = refl; behind = tt; by = omega arith }
+split_at s (e ∷ older) = from (split_at s older) (nat_le e.time s) refl where
+  from : IsSplitAt s older → (b : Bool) → nat_le e.time s ≡ b → IsSplitAt s (e ∷ older)
+  from rest true h = record {
+    newer = [];
+    split = sym (ap (λ (b : Bool). cond b (e ∷ older) (until s older)) h);
+    behind = tt;
+    by = subst (λ (t : List Turn). time_of t ≤ s) (sym (ap (λ (b : Bool). cond b (e ∷ older) (until s older)) h)) (is_by e.time s h);
+  }
+  from rest false h =
+      let same : until s (e ∷ older) ≡ until s older = ap (λ (b : Bool). cond b (e ∷ older) (until s older)) h in
+      let lt = past e.time s h in
+      record {
+        newer = e ∷ rest.newer;
+        split = ap (λ (t : List Turn). e ∷ t) rest.split ∙ ap (λ (t : List Turn). (e ∷ rest.newer) ++ t) (sym same);
+        behind = (omega (arith, lt), rest.behind);
+        by = subst (λ (t : List Turn). time_of t ≤ s) (sym same) rest.by;
+      }
+
+-- turns behind a time are none of the part up to it
+pub behind : (s : ℕ) (newer older : List Turn) → AreInOrder (newer ++ older) → s < time_of older → until s (newer ++ older) ≡ until s older
+behind s [] older order lt = refl
+behind s (x ∷ newer) older order lt =
+    let le = before_end newer older order.1 in
+    let o = order.0 in
+    ap (λ (b : Bool). cond b (x ∷ (newer ++ older)) (until s (newer ++ older))) (not_by x.time s (omega (arith, le, o, lt))) ∙ behind s newer older order.1 lt
+
+-- a part behind a time goes on from the part up to it, and so does what stands before its newest turn
+pub goes_on : (s : ℕ) (newer older : List Turn) (e : Turn) → AreInOrder (newer ++ e ∷ older) → s < e.time → (middle : List Turn) × (older ≡ middle ++ until s (newer ++ e ∷ older))
+goes_on s newer older e order lt =
+    let r = split_at s older in
+    let one : until s (newer ++ e ∷ older) ≡ until s (e ∷ older) = behind s newer (e ∷ older) order lt in
+    let two : until s (e ∷ older) ≡ until s older = ap (λ (b : Bool). cond b (e ∷ older) (until s older)) (not_by e.time s lt) in
+    (r.newer, r.split ∙ ap (λ (t : List Turn). r.newer ++ t) (sym (one ∙ two)))
+
+pub joined : (newer front back : List Turn) (e : Turn) (turns older : List Turn) → turns ≡ newer ++ older → older ≡ front ++ e ∷ back → turns ≡ (newer ++ front) ++ e ∷ back
+joined newer front back e turns older split is = split ∙ ap (λ (t : List Turn). newer ++ t) is ∙ sym (append_assoc newer front (e ∷ back))

@@ -1,0 +1,213 @@
+-- Keepers at places, in real time: what a network and drivers keep to, so that what is lost comes by a stated time.
+use Rattle.std.specs.Prelude.{◌≡◌, ◌≢◌, ◌⊎◌, ℕ, ◌+◌, ◌<◌, ◌≤◌, Bool, true, false, List, [], ◌∷◌, ◌++◌, length, Contains, nat_eq, nat_le, is_some, IfSome, None, if◌then◌else◌}
+use Rattle.wb_names.specs.Values.{NameValue, DrawopValue}
+use Rattle.wb_names.specs.History.{IsHistory}
+use Rattle.wb_names.specs.declared.name.PageId.{PageId}
+use Rattle.wb_codec.specs.declared.datagram.Datagram.{Datagram}
+use Rattle.wb_codec.specs.declared.datagram.Datagram.TheVariants.{Draw, Request}
+use Rattle.wb_gaps.specs.Gaps.{IsMissing}
+use Rattle.wb_recovery.specs.declared.tuning.Tuning.{Tuning}
+use Rattle.wb_recovery.specs.declared.timers.AskTimer.{AskTimer}
+use Rattle.wb_recovery.specs.declared.timers.AnswerTimer.{AnswerTimer}
+use Rattle.wb_recovery.specs.declared.timers.Timers.{Timers}
+use Rattle.wb_host.specs.Hearing.{marks_heard, asks_for_held}
+use Rattle.wb_host.specs.Keeper.{KeeperCall, Hear, Arrive, Miss, GoOn, GiveUp, moment_at, events_of, holds}
+use Rattle.wb_host.specs.Missing.{wanted_of}
+use Rattle.wb_host.specs.Ticks.{sent_by_tick, stopped_after}
+use Rattle.wb_progress.specs.Keepers.{AreWithin}
+use Rattle.wb_progress.specs.Repairs.{timers_at}
+
+-- ---- the terms
+
+-- Times in microseconds: from `quiet` on nobody draws; what is printed arrives within `delivery`; page states are told every `reporting`
+-- and looked at every `looking`; a tick is at most `late`; no delay is above `far`. No request waits for more than `asking` delays at first, and no answer
+-- for more than `answering`. At most `unanswerable` names are held by nobody. The moment of a place is the time and its offset.
+pub record Terms : Type 0 where
+  pub live : List ℕ
+  pub page : PageId
+  pub quiet : ℕ
+  pub delivery : ℕ
+  pub reporting : ℕ
+  pub looking : ℕ
+  pub late : ℕ
+  pub far : ℕ
+  pub asking : ℕ
+  pub answering : ℕ
+  pub unanswerable : ℕ
+  pub offset : ℕ → ℕ
+
+-- what was printed before `quiet` has arrived by then
+abbrev pub settled_by : Terms → ℕ
+settled_by terms = terms.quiet + terms.delivery
+
+-- ---- turns
+
+-- what a keeper accepted, the newest first, and what its member holds
+pub record Desk : Type 0 where
+  pub calls : List KeeperCall
+  pub held : List DrawopValue
+
+-- At a time it is the turn of the keeper at a place: it accepts a call or none, and sends datagrams. This is its desk behind it.
+pub record Turn : Type 0 where
+  pub time : ℕ
+  pub place : ℕ
+  pub desk : Desk
+  pub sent : List Datagram
+
+-- the members at the places, and the constants of their timers
+pub record Places : Type 0 where
+  pub me : ℕ → ℕ
+  pub constants : ℕ → Tuning
+
+-- the desk at a place after some turns, of which the newest is the first
+abbrev pub desk_at : List Turn → ℕ → Desk
+desk_at [] i = record { calls = []; held = [] }
+desk_at (e ∷ older) i = if nat_eq e.place i then e.desk else desk_at older i
+
+-- a name is held there
+abbrev pub has : List Turn → ℕ → NameValue → Bool
+has turns i n = holds (desk_at turns i).held n
+
+-- its timers there
+abbrev pub timers_there : Places → List Turn → ℕ → NameValue → Timers
+timers_there places turns i n = timers_at (places.me i) (places.constants i) (desk_at turns i).calls n
+
+-- the time of the newest turn, at first 0
+abbrev pub time_of : List Turn → ℕ
+time_of [] = 0
+time_of (e ∷ older) = e.time
+
+-- Times do not go back.
+abbrev pub AreInOrder : List Turn → Type 0
+AreInOrder [] = Unit {0}
+AreInOrder (e ∷ older) = (time_of older ≤ e.time) × AreInOrder older
+
+-- the turns up to a time
+abbrev pub until : ℕ → List Turn → List Turn
+until s [] = []
+until s (e ∷ older) = if nat_le e.time s then e ∷ older else until s older
+
+-- a live place held the name once what was on its way had arrived
+abbrev pub IsAnswerable : Terms → List Turn → NameValue → Type 0
+IsAnswerable terms turns n = (j : ℕ) × Contains terms.live j × (has (until (settled_by terms) turns) j n ≡ true)
+
+-- each live place has the name once the turns have gone on behind a time
+abbrev pub AllHoldBehind : Terms → List Turn → ℕ → NameValue → Type 0
+AllHoldBehind terms turns time n = (newer later : List Turn) (i : ℕ) → turns ≡ newer ++ later → time < time_of later → Contains terms.live i → has later i n ≡ true
+
+-- ---- one turn of a live place
+
+-- its keeper accepts this
+abbrev pub Accepts : List Turn → Turn → KeeperCall → Type 0
+Accepts older e call = e.desk.calls ≡ call ∷ (desk_at older e.place).calls
+
+pub record IsTurn (places : Places) (terms : Terms) (older : List Turn) (e : Turn) : Type 0 where
+  -- it accepts one call at most, and what is held stays
+  pub called : (e.desk.calls ≡ (desk_at older e.place).calls) ⊎ ((call : KeeperCall) × Accepts older e call)
+  pub kept : (n : NameValue) → has older e.place n ≡ true → holds e.desk.held n ≡ true
+  -- a datagram is heard at the moment of its time, with what is held then
+  pub heard : (now word : ℕ) (v : Datagram) (held : Bool) → Accepts older e (Hear now v word held) → (now ≡ e.time + terms.offset e.place) × (held ≡ asks_for_held (desk_at older e.place).held v)
+  -- a tick stops what is held, and sends what is due
+  pub stops : (now : ℕ) (words : List ℕ) (stopped : List NameValue) → Accepts older e (GoOn now words stopped) → stopped ≡ stopped_after (places.me e.place) (places.constants e.place) (desk_at older e.place).calls (desk_at older e.place).held
+  pub sends : (now : ℕ) (words : List ℕ) (stopped : List NameValue) → Accepts older e (GoOn now words stopped)
+      → (v : Datagram) → Contains (sent_by_tick (places.me e.place) (places.constants e.place) (desk_at older e.place).calls (desk_at older e.place).held now) v → Contains e.sent v
+
+-- From `quiet` on no name is given up; what is sent is held, and what is asked for is not.
+pub record IsQuietTurn (places : Places) (older : List Turn) (e : Turn) : Type 0 where
+  pub goes_on : (now : ℕ) (n : NameValue) (asked : Bool) → Accepts older e (GiveUp now n asked) → ⊥
+  pub held : (d : DrawopValue) → Contains e.sent (Draw d) → has older e.place d.name ≡ true
+  pub asked : (asker : ℕ) (n : NameValue) → Contains e.sent (Request asker n) → (asker ≡ places.me e.place) × (has older e.place n ≡ false)
+
+-- ---- the network
+
+-- a datagram was sent so shortly before a time
+pub record WasSent (turns : List Turn) (time within : ℕ) (v : Datagram) : Type 0 where
+  pub newer : List Turn
+  pub e : Turn
+  pub older : List Turn
+  pub split : turns ≡ newer ++ e ∷ older
+  pub soon : time ≤ e.time + within
+  pub sent : Contains e.sent v
+
+-- a request that was sent is heard at a place
+pub record IsHeardAt (newer : List Turn) (e : Turn) (older : List Turn) (j within asker : ℕ) (n : NameValue) : Type 0 where
+  pub later : List Turn
+  pub arrival : Turn
+  pub between : List Turn
+  pub split : newer ≡ later ++ arrival ∷ between
+  pub place : arrival.place ≡ j
+  pub soon : arrival.time ≤ e.time + within
+  pub now : ℕ
+  pub word : ℕ
+  pub held : Bool
+  pub heard : Accepts (between ++ e ∷ older) arrival (Hear now (Request asker n) word held)
+
+pub record IsDelivered (terms : Terms) (turns : List Turn) : Type 0 where
+  -- a drawop that is sent is held at each live place in time
+  pub drawops : (newer older : List Turn) (e : Turn) (d : DrawopValue) → turns ≡ newer ++ e ∷ older → terms.quiet < e.time → Contains e.sent (Draw d) → AllHoldBehind terms turns (e.time + terms.delivery) d.name
+  -- a request is heard at each other live place
+  pub requests : (newer older : List Turn) (e : Turn) (asker : ℕ) (n : NameValue) (j : ℕ) → turns ≡ newer ++ e ∷ older → terms.quiet < e.time → Contains e.sent (Request asker n) → Contains terms.live j → e.place ≢ j → e.time + terms.delivery < time_of turns
+      → IsHeardAt newer e older j terms.delivery asker n
+
+-- What comes was sent within the time of delivery.
+pub record IsFresh (terms : Terms) (turns : List Turn) : Type 0 where
+  pub drawops : (newer older : List Turn) (e : Turn) (now : ℕ) (names : List NameValue) (n : NameValue) → turns ≡ newer ++ e ∷ older → settled_by terms < e.time → Accepts older e (Arrive now names) → Contains names n
+      → (d : DrawopValue) × (d.name ≡ n) × WasSent (e ∷ older) e.time terms.delivery (Draw d)
+  pub requests : (newer older : List Turn) (e : Turn) (now asker word : ℕ) (held : Bool) (n : NameValue) → turns ≡ newer ++ e ∷ older → settled_by terms < e.time → Accepts older e (Hear now (Request asker n) word held)
+      → WasSent (e ∷ older) e.time terms.delivery (Request asker n)
+
+-- ---- drivers
+
+-- no timer is overdue by more than this
+pub record AreNotOverdue (s : Timers) (now late : ℕ) : Type 0 where
+  pub ask : IfSome s.ask (λ (ask : AskTimer). now ≤ ask.due + late)
+  pub answer : IfSome s.answer (λ (answer : AnswerTimer). now ≤ answer.due + late)
+
+-- a place looks at the page behind one time, and by another: it misses the names that it wants
+pub record LooksWithin (places : Places) (terms : Terms) (turns : List Turn) (i from to : ℕ) : Type 0 where
+  pub newer : List Turn
+  pub older : List Turn
+  pub e : Turn
+  pub split : turns ≡ newer ++ e ∷ older
+  pub place : e.place ≡ i
+  pub begun : from < time_of older
+  pub ended : e.time ≤ to
+  pub now : ℕ
+  pub words : List ℕ
+  pub enough : length words ≡ length (wanted_of (places.constants i) (events_of (places.me i) (desk_at older i).calls) (desk_at older i).held terms.page (marks_heard (places.me i) (desk_at older i).calls terms.page))
+  pub looked : Accepts older e (Miss now (wanted_of (places.constants i) (events_of (places.me i) (desk_at older i).calls) (desk_at older i).held terms.page (marks_heard (places.me i) (desk_at older i).calls terms.page)) words)
+
+-- ---- all of it
+
+-- What live places do, each by itself.
+pub record AreTurns (places : Places) (terms : Terms) (turns : List Turn) : Type 0 where
+  pub waits : (i : ℕ) → ((places.constants i).c1 + (places.constants i).c2 ≤ terms.asking) × ((places.constants i).d1 + (places.constants i).d2 ≤ terms.answering)
+  pub apart : (i j : ℕ) → Contains terms.live i → Contains terms.live j → places.me i ≡ places.me j → i ≡ j
+  pub turn : (newer older : List Turn) (e : Turn) → turns ≡ newer ++ e ∷ older → Contains terms.live e.place → IsTurn places terms older e
+  pub within : (newer older : List Turn) (i : ℕ) → turns ≡ newer ++ older → Contains terms.live i → AreWithin terms.far (places.me i) (desk_at older i).calls
+  pub clock : (newer older : List Turn) (i : ℕ) → turns ≡ newer ++ older → Contains terms.live i → moment_at (desk_at older i).calls ≤ time_of older + terms.offset i
+  pub history : (newer older : List Turn) (i : ℕ) → turns ≡ newer ++ older → Contains terms.live i → IsHistory (desk_at older i).held
+  pub lacking : (newer older : List Turn) (i : ℕ) (n : NameValue) → turns ≡ newer ++ older → Contains terms.live i → has older i n ≡ true → (timers_there places older i n).ask ≡ None
+
+-- They keep to the terms.
+pub record KeepTime (places : Places) (terms : Terms) (turns : List Turn) : Type 0 where
+  pub order : AreInOrder turns
+  pub reported : 1 ≤ terms.reporting
+  pub are : AreTurns places terms turns
+  pub alone : (newer older : List Turn) (e : Turn) → turns ≡ newer ++ e ∷ older → terms.quiet < e.time → Contains terms.live e.place
+  pub quiet : (newer older : List Turn) (e : Turn) → turns ≡ newer ++ e ∷ older → terms.quiet < e.time → IsQuietTurn places older e
+  pub delivered : IsDelivered terms turns
+  pub fresh : IsFresh terms turns
+  -- a tick comes once a timer is due: until a turn comes, no timer that stands is overdue
+  pub soon : (newer older : List Turn) (e : Turn) (i : ℕ) (n : NameValue) → turns ≡ newer ++ e ∷ older → Contains terms.live i → AreNotOverdue (timers_there places older i n) (e.time + terms.offset i) terms.late
+
+-- They look at the page as often as the terms say, at no other, and know what they lack.
+pub record KeepLooking (places : Places) (terms : Terms) (turns : List Turn) : Type 0 where
+  pub looks : (i s : ℕ) → Contains terms.live i → settled_by terms ≤ s → s + terms.looking < time_of turns → LooksWithin places terms turns i s (s + terms.looking)
+  pub alone : (newer older : List Turn) (e : Turn) (now : ℕ) (names : List NameValue) (words : List ℕ) (n : NameValue) → turns ≡ newer ++ e ∷ older → settled_by terms < e.time → Accepts older e (Miss now names words) → Contains names n → n.page ≡ terms.page
+  pub known : (newer older : List Turn) (i : ℕ) (n : NameValue) → turns ≡ newer ++ older → Contains terms.live i → settled_by terms + terms.reporting + terms.delivery < time_of older → n.page ≡ terms.page → IsAnswerable terms turns n → has older i n ≡ false
+      → IsMissing (desk_at older i).held terms.page (marks_heard (places.me i) (desk_at older i).calls terms.page) n.source n.seq
+  pub few : terms.unanswerable ≤ 63
+  -- of the names that a place asks for at once, only so few are held by nobody
+  pub unanswered : (newer older : List Turn) (i : ℕ) → turns ≡ newer ++ older → Contains terms.live i → settled_by terms < time_of older
+      → (wanting : List NameValue) × (length wanting ≤ terms.unanswerable) × ((n : NameValue) → is_some (timers_there places older i n).ask ≡ true → Contains wanting n ⊎ IsAnswerable terms turns n)
