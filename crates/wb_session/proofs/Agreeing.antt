@@ -2,7 +2,7 @@
 use Rattle.std.proofs.Common.{◌≡◌, ℕ, ◌≤◌, ◌<◌, Bool, true, false, cond, List, [], ◌∷◌, ◌++◌, refl, ap, ◌∙◌, sym, subst, arith, ◌⊎◌, inl, inr, ⊎_elim, eqb-true}
 use Rattle.std.specs.Prelude.{Contains, All}
 use Rattle.std.proofs.lemmas.List.Elements.{Contains-get_or}
-use Rattle.wb_names.specs.Values.{DrawopValue, MarkValue}
+use Rattle.wb_names.specs.Values.{DrawopValue}
 use Rattle.wb_names.specs.History.{highest}
 use Rattle.wb_names.specs.Marks.{mark_of, known}
 use Rattle.wb_names.specs.declared.name.PageId.{PageId}
@@ -21,8 +21,9 @@ use Rattle.wb_host.specs.Laws.{HoldsAllOf}
 use Rattle.wb_host.specs.Sessions.{message_of}
 use Rattle.wb_host.proofs.Agreement.{reports_agree}
 use Rattle.wb_host.proofs.HeardNumbers.{marks_are_greatest}
-use Rattle.wb_session.specs.Session.{Member, Reports, Event, Group, IsDistinct, member, IsSession, IsDrawn, LacksNothing, HasHeard}
-use Rattle.wb_session.specs.Laws.{HoldsWhatWasReported, HoldsPageOf, ShowTheSame, ReportsTellAgreement}
+use Rattle.wb_member.specs.Members.{Member, Reports}
+use Rattle.wb_session.specs.Session.{Event, Group, IsDistinct, member, IsSession, IsDrawn, LacksNothing, HasHeard}
+use Rattle.wb_session.specs.Laws.{HoldsWhatWasReported, ShowTheSame}
 use Rattle.wb_session.proofs.Drawn.{at_most_highest, number_of, drawn_own, drawn_is_once, held_is_drawn}
 use Rattle.wb_session.proofs.Members.{held_grows, step}
 use Rattle.wb_session.proofs.Truth.{few_held, heard_marks, knows}
@@ -128,17 +129,6 @@ pub holds_what_was_reported : HoldsWhatWasReported
 holds_what_was_reported group newer older i j now page is s heard none d here c = holds group newer older i j now page is s heard none d here c
 
 module _ (group : Group) (is : IsDistinct group) (events : List Event) (s : IsSession group events) (page : PageId) where
-  -- where no mark of the other is greater, it holds what the other holds
-  over : (i j : ℕ) → LacksNothing (member group events i) page → ((source : ℕ) → highest page source (member group events j).held ≤ highest page source (member group events i).held) → HoldsPageOf (member group events i) (member group events j) page
-  over i j none le d here c = ⊎_elim
-      (λ (h : Contains (member group events i).held d). h)
-      (λ (above : (highest page d.name.source (member group events i).held < d.name.seq) × (high_heard (member group events i).number (member group events i).calls page d.name.source < d.name.seq)).
-      let top : d.name.seq ≤ highest page d.name.source (member group events j).held = subst (λ (p : PageId). d.name.seq ≤ highest p d.name.source (member group events j).held) here (at_most_highest (member group events j).held d c) in
-      let up = le d.name.source in
-      let low = above.0 in
-      absurd (omega arith))
-      (holds_or_above group is events s i page none d here (held_is_drawn group events s j d c))
-
   pub show_the_same : (i j : ℕ) → report_of (member group events i).held page ≡ report_of (member group events j).held page → LacksNothing (member group events i) page → LacksNothing (member group events j) page → ShowTheSame (member group events i) (member group events j) page
   show_the_same i j same none nothing shown again a b =
       let one : shown ≡ again = reports_agree (member group events i).held (member group events j).held page (report_of (member group events i).held page) shown again
@@ -148,13 +138,3 @@ module _ (group : Group) (is : IsDistinct group) (events : List Event) (s : IsSe
       (λ d e c f here named. drawn_is_once group events is d e (held_is_drawn group events s i d c) (held_is_drawn group events s j e f) named)
       a b in
       (one, λ w h. ap (λ (ds : List DrawopValue). canvas_text ds w h) one)
-
-  pub tops : (i j : ℕ) → report_of (member group events i).held page ≡ report_of (member group events j).held page → (source : ℕ) → highest page source (member group events i).held ≡ highest page source (member group events j).held
-  tops i j same source = sym ((report_of_page (member group events i).held page (few_held group is events i)).1 source) ∙ ap (λ (ms : List MarkValue). mark_of ms source) same ∙ (report_of_page (member group events j).held page (few_held group is events j)).1 source
-
-pub reports_tell_agreement : ReportsTellAgreement
-reports_tell_agreement group events i j page is s same none nothing = record {
-  back = over group is events s page i j none (λ source. let e = tops group is events s page i j same source in omega arith);
-  forth = over group is events s page j i nothing (λ source. let e = tops group is events s page i j same source in omega arith);
-  shown = show_the_same group is events s page i j same none nothing;
-}

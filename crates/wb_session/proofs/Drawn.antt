@@ -10,7 +10,8 @@ use Rattle.wb_names.proofs.Orders.{name_parts}
 use Rattle.wb_codec.specs.declared.datagram.Datagram.{Datagram}
 use Rattle.wb_codec.specs.declared.datagram.Datagram.TheVariants.{Draw}
 use Rattle.wb_gaps.proofs.Reports.{greatest_held}
-use Rattle.wb_session.specs.Session.{Member, Act, Draws, Takes, after, sends, Event, Group, member, sent, ComesFrom, IsSession, IsDrawn}
+use Rattle.wb_member.specs.Members.{Member, Act, Draws, Takes, after, sends}
+use Rattle.wb_session.specs.Session.{Event, Group, member, sent, ComesFrom, IsSession, IsDrawn}
 use Rattle.wb_session.specs.Laws.{DrawnOnce, HeldIsDrawn, SentIsDrawn, NeverClashes}
 use Rattle.wb_session.proofs.Members.{IsTaking, IsDrawing, number_stays, drawn_after, drawn_grows, is_drawn_then, held_after, draws_sent, step, acts}
 

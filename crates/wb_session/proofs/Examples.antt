@@ -6,7 +6,7 @@ use Rattle.wb_names.specs.Values.{DrawopValue}
 use Rattle.wb_codec.specs.declared.datagram.Datagram.{Datagram}
 use Rattle.wb_codec.specs.declared.datagram.Datagram.TheVariants.{Draw}
 use Rattle.wb_gaps.specs.Answers.{report_of, gaps_of}
-use Rattle.wb_session.specs.Session.{sent, IsSession}
+use Rattle.wb_session.specs.Session.{sent, IsSession, NothingIsForged}
 use Rattle.wb_session.specs.Examples.{first_of_seven, TwinsClash, IsRepaired, twins, both_draw, trio, drawing, lossy, told, repaired}
 
 other : (a b : DrawopValue) → a.time ≡ 10 → b.time ≡ 20 → a ≡ b → ⊥
@@ -42,12 +42,17 @@ lossy_is_session = (alone (sent trio lossy) drawing (0, below_1, refl), (alone (
 
 told_is_session : IsSession trio told
 unfolding report_of
-told_is_session = ((0, below_2, refl), (tt, lossy_is_session))
+told_is_session = (λ tells. (0, below_2, refl), (tt, lossy_is_session))
 
 repaired_is_session : IsSession trio repaired
 unfolding report_of gaps_of
-repaired_is_session = (alone (sent trio repaired) drawing (0, below_4, refl), (tt, ((0, below_3, refl), (tt, (tt, told_is_session)))))
+repaired_is_session = (alone (sent trio repaired) drawing (0, below_4, refl), (tt, (λ tells. (0, below_3, refl), (tt, (tt, told_is_session)))))
+
+-- the request too was sent
+none_is_forged : NothingIsForged trio repaired
+unfolding report_of gaps_of
+none_is_forged = (tt, (tt, ((0, below_3, refl), (tt, (tt, ((0, below_2, refl), (tt, (tt, (tt, (tt, tt))))))))))
 
 pub is_repaired : IsRepaired
 unfolding report_of gaps_of
-is_repaired = record { session = repaired_is_session; gap = refl; sent = refl; held = refl; whole = refl }
+is_repaired = record { session = repaired_is_session; unforged = none_is_forged; gap = refl; sent = refl; held = refl; whole = refl }

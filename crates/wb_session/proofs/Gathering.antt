@@ -5,7 +5,8 @@ use Rattle.std.proofs.lemmas.List.Elements.{Contains-append_left}
 use Rattle.wb_names.specs.Values.{DrawopValue}
 use Rattle.wb_names.proofs.Listings.{Contains-here, Contains-there, Contains-cases, Contains-none}
 use Rattle.wb_host.specs.Keeper.{holds}
-use Rattle.wb_session.specs.Session.{Member, Event, Group, IsDistinct, member, IsSession}
+use Rattle.wb_member.specs.Members.{Member}
+use Rattle.wb_session.specs.Session.{Event, Group, IsDistinct, member, IsSession, NothingIsForged}
 use Rattle.wb_session.proofs.Drawn.{drawn_is_once, held_is_drawn}
 use Rattle.wb_session.specs.Repairs.{Words, IsSteady, repair}
 use Rattle.wb_session.specs.Gathering.{MembersCanGather}
@@ -15,6 +16,7 @@ use Rattle.wb_session.proofs.Holding.{member_of}
 -- what holds of every member after some events, as against before
 record Goes (group : Group) (old new : List Event) (i : ℕ) (places : List ℕ) (more : ℕ) : Type 0 where
   session : IsSession group new
+  unforged : NothingIsForged group old → NothingIsForged group new
   steady : (k : ℕ) → Contains places k → IsSteady (member group new k)
   kept : (k : ℕ) (x : DrawopValue) → Contains (member group old k).held x → Contains (member group new k).held x
   same : (k : ℕ) → (i ≡ k → ⊥) → (member group new k).held ≡ (member group old k).held
@@ -23,11 +25,12 @@ record Goes (group : Group) (old new : List Event) (i : ℕ) (places : List ℕ)
 
 module _ (group : Group) (i : ℕ) (places : List ℕ) where
   stays : (events : List Event) → IsSession group events → ((k : ℕ) → Contains places k → IsSteady (member group events k)) → Goes group events events i places 0
-  stays events session steady = record { session = session; steady = steady; kept = λ k x c. c; same = λ k n. refl; cells = λ k. refl; grown = omega arith }
+  stays events session steady = record { session = session; unforged = λ none. none; steady = steady; kept = λ k x c. c; same = λ k n. refl; cells = λ k. refl; grown = omega arith }
 
   then : (a b c : List Event) (m n : ℕ) → Goes group a b i places m → Goes group b c i places n → Goes group a c i places (m + n)
   then a b c m n one two = record {
     session = two.session;
+    unforged = λ none. two.unforged (one.unforged none);
     steady = two.steady;
     kept = λ k x h. two.kept k x (one.kept k x h);
     same = λ k d. two.same k d ∙ one.same k d;
@@ -36,7 +39,7 @@ module _ (group : Group) (i : ℕ) (places : List ℕ) where
   }
 
   resize : (a b : List Event) (m n : ℕ) → m ≤ n → Goes group a b i places m → Goes group a b i places n
-  resize a b m n le g = record { session = g.session; steady = g.steady; kept = g.kept; same = g.same; cells = g.cells; grown = let h = g.grown in omega (arith, le, h) }
+  resize a b m n le g = record { session = g.session; unforged = g.unforged; steady = g.steady; kept = g.kept; same = g.same; cells = g.cells; grown = let h = g.grown in omega (arith, le, h) }
 
 by_place : (P : ℕ → Type 0) (i k : ℕ) → P i → ((i ≡ k → ⊥) → P k) → P k
 by_place P i k here there = from (nat_eq i k) refl where
@@ -81,6 +84,7 @@ module _ (group : Group) (is : IsDistinct group) (places : List ℕ) where
       goes : Goes group events now i places 1
       goes = record {
         session = (repaired group events i j d none is session (steady i at_i) (steady j at_j) held lost room).0;
+        unforged = (repaired group events i j d none is session (steady i at_i) (steady j at_j) held lost room).1;
         steady = steady_k;
         kept = λ k x c. by_place (λ k. Contains (member group events k).held x → Contains (member group now k).held x) i k
             (λ h. subst (λ (l : List DrawopValue). Contains l x) (sym board) (Contains-append_left (member group events i).held (d ∷ []) x h))
@@ -91,7 +95,7 @@ module _ (group : Group) (is : IsDistinct group) (places : List ℕ) where
       }
 
       got : Contains (member group now i).held d
-      got = (repaired group events i j d none is session (steady i at_i) (steady j at_j) held lost room).1
+      got = (repaired group events i j d none is session (steady i at_i) (steady j at_j) held lost room).2
 
     -- what is held under its name is the drawop itself
     there : holds (member group events i).held d.name ≡ true → Contains (member group events i).held d
@@ -145,6 +149,7 @@ module _ (group : Group) (is : IsDistinct group) (places : List ℕ) where
     record Gathers (events : List Event) (todo : List ℕ) : Type 0 where
       newer : List Event
       session : IsSession group (newer ++ events)
+      unforged : NothingIsForged group events → NothingIsForged group (newer ++ events)
       kept : (k : ℕ) (x : DrawopValue) → Contains (member group events k).held x → Contains (member group (newer ++ events) k).held x
       got : (k : ℕ) → Contains todo k → (d : DrawopValue) → Contains ds d → Contains (member group (newer ++ events) k).held d
 
@@ -158,7 +163,7 @@ module _ (group : Group) (is : IsDistinct group) (places : List ℕ) where
     Can todo = (events : List Event) → IsSession group events → AreSteady events → ((k : ℕ) → Contains todo k → Contains places k) → AreHeld events → ((k : ℕ) → Contains todo k → IsReady events k) → Gathers events todo
 
     gather : (todo : List ℕ) → Can todo
-    gather [] = λ events session steady among held ready. record { newer = []; session = session; kept = λ k x c. c; got = λ k c. absurd (Contains-none k c) }
+    gather [] = λ events session steady among held ready. record { newer = []; session = session; unforged = λ none. none; kept = λ k x c. c; got = λ k c. absurd (Contains-none k c) }
     gather (i ∷ todo) = λ events session steady among held ready. from (gather todo) events session steady among held ready (ready i (Contains-here i todo)) where
       from : Can todo → (events : List Event) → IsSession group events → AreSteady events → ((k : ℕ) → Contains (i ∷ todo) k → Contains places k) → AreHeld events → ((k : ℕ) → Contains (i ∷ todo) k → IsReady events k) → IsReady events i → Gathers events (i ∷ todo)
       from again events session steady among held ready (inr all) =
@@ -166,6 +171,7 @@ module _ (group : Group) (is : IsDistinct group) (places : List ℕ) where
           record {
             newer = r.newer;
             session = r.session;
+            unforged = r.unforged;
             kept = r.kept;
             got = λ k c d h. ⊎_elim
                 (λ (e : i ≡ k). subst (λ (k : ℕ). Contains (member group (r.newer ++ events) k).held d) e (r.kept i d (all d h)))
@@ -181,6 +187,7 @@ module _ (group : Group) (is : IsDistinct group) (places : List ℕ) where
           record {
             newer = r.newer ++ b.newer;
             session = subst (IsSession group) (sym (append_assoc r.newer b.newer events)) r.session;
+            unforged = λ none. subst (NothingIsForged group) (sym (append_assoc r.newer b.newer events)) (r.unforged (b.goes.unforged none));
             kept = λ k x c. subst (λ (l : List Event). Contains (member group l k).held x) (sym (append_assoc r.newer b.newer events)) (r.kept k x (b.goes.kept k x c));
             got = λ k c d h. subst (λ (l : List Event). Contains (member group l k).held d) (sym (append_assoc r.newer b.newer events)) (⊎_elim
                 (λ (e : i ≡ k). subst (λ (k : ℕ). Contains (member group (r.newer ++ now) k).held d) e (r.kept i d (b.got d h)))
@@ -194,4 +201,4 @@ module _ (group : Group) (is : IsDistinct group) (places : List ℕ) where
 pub members_can_gather : MembersCanGather
 members_can_gather group events places ds is session can =
     let r = gather group is places ds places events session can.steady (λ k c. c) can.held (λ k c. inl (can.room k c)) in
-    (r.newer, r.session, r.got)
+    (r.newer, r.session, r.unforged, r.got)

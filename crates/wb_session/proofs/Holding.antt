@@ -23,7 +23,8 @@ use Rattle.wb_host.specs.Hearing.{asks_for_held}
 use Rattle.wb_host.specs.Keeper.{delay_to, received_of, missed_of, asked_by, given_up, events_of, holds}
 use Rattle.wb_host.specs.Ticks.{stopped_after}
 use Rattle.wb_host.proofs.KeptCalls.{holds_from}
-use Rattle.wb_session.specs.Session.{Member, Act, Draws, Takes, Hears, SetsDelay, Misses, GivesUp, Ticks, Reports, AsksForPages, after, Event, Group, member}
+use Rattle.wb_member.specs.Members.{Member, Act, Draws, Takes, Hears, SetsDelay, Misses, GivesUp, Ticks, Reports, AsksForPages, after}
+use Rattle.wb_session.specs.Session.{Event, Group, member}
 use Rattle.wb_session.proofs.Members.{held_after, held_grows, step}
 use Rattle.wb_progress.proofs.OneCall.{received_in, not_standing}
 use Rattle.wb_session.specs.Holding.{timers_of_member, IsCareful, AreCareful, MembersAskForNoneHeld, MembersAnswerHeld}

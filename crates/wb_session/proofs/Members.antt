@@ -22,7 +22,8 @@ use Rattle.wb_host.specs.Hearing.{answers_to, asks_for_pages, asks_for_held, pag
 use Rattle.wb_host.specs.Keeper.{KeeperCall, SetDelay, Hear, Arrive, Miss, GoOn, Report, GiveUp}
 use Rattle.wb_host.specs.Ticks.{drawop_of, sent_for, sends_for}
 use Rattle.wb_host.proofs.TickSends.{sent_from}
-use Rattle.wb_session.specs.Session.{Member, Act, Draws, Takes, Hears, SetsDelay, Misses, GivesUp, Ticks, Reports, AsksForPages, next_drawop, after, sends, ComesFrom, Event, Group, member}
+use Rattle.wb_member.specs.Members.{Member, Act, Draws, Takes, Hears, SetsDelay, Misses, GivesUp, Ticks, Reports, AsksForPages, next_drawop, after, sends}
+use Rattle.wb_session.specs.Session.{IsTelling, ComesFrom, Event, Group, member}
 
 -- an act takes this drawop
 abbrev pub IsTaking : Act → DrawopValue → Type 0
@@ -141,8 +142,8 @@ abbrev pub IsHearing : Act → Datagram → Type 0
 IsHearing (Hears now datagram word) x = datagram ≡ x
 IsHearing act x = ⊥
 
-pub was_heard : (act : Act) (datagrams : List Datagram) (x : Datagram) → IsHearing act x → ComesFrom datagrams act → Contains datagrams x
-was_heard (Hears now datagram word) datagrams x e c = subst (Contains datagrams) e c
+pub was_heard : (act : Act) (datagrams : List Datagram) (x : Datagram) → IsHearing act x → ComesFrom datagrams act → IsTelling x → Contains datagrams x
+was_heard (Hears now datagram word) datagrams x e c = subst (λ (y : Datagram). IsTelling y → Contains datagrams y) e c
 was_heard act datagrams x e c = absurd e
 
 module _ (at : ℕ) (x : Datagram) (word : ℕ) (held : Bool) where

@@ -10,7 +10,8 @@ use Rattle.wb_names.specs.History.{IsHistory}
 use Rattle.wb_names.specs.Orders.{same_name}
 use Rattle.wb_names.specs.Same.{same_drawop}
 use Rattle.wb_names.proofs.Listings.{Contains-cases, Contains-none}
-use Rattle.wb_session.specs.Session.{Member, Act, Takes, after, member}
+use Rattle.wb_member.specs.Members.{Member, Act, Takes, after}
+use Rattle.wb_session.specs.Session.{member}
 use Rattle.wb_session.specs.Laws.{HeldOnce}
 use Rattle.wb_session.proofs.Members.{step}
 

@@ -17,7 +17,8 @@ use Rattle.wb_gaps.proofs.Reports.{greatest_held}
 use Rattle.wb_host.specs.Hearing.{marks_heard}
 use Rattle.wb_host.specs.Keeper.{high_heard}
 use Rattle.wb_host.specs.Sessions.{message_of}
-use Rattle.wb_session.specs.Session.{Member, Act, Draws, Reports, next_drawop, after, Event, Group, IsDistinct, member, IsSession, IsDrawn, IsReached, LacksNothing, HasHeard}
+use Rattle.wb_member.specs.Members.{Member, Act, Draws, Reports, next_drawop, after}
+use Rattle.wb_session.specs.Session.{Event, Group, IsDistinct, member, IsSession, IsDrawn, IsReached, LacksNothing, HasHeard}
 use Rattle.wb_session.specs.Laws.{HoldsPageOf, ShowTheSame, HasHeardAll, ExchangesTellAgreement, HoldsAllDrawn, QuietIsAgreed, DrawnInOrder, HoldsItsOwn, NextIsKnown}
 use Rattle.wb_session.proofs.Drawn.{of_name, holds_name, number_of, drawn_own, held_is_drawn}
 use Rattle.wb_session.proofs.Members.{step}
@@ -89,7 +90,7 @@ module _ (group : Group) where
 
 module _ (group : Group) (is : IsDistinct group) where
   -- below a number that was drawn each was
-  drawn_below : (events : List Event) (page : PageId) (source top n : ℕ) → IsReached group events page source top → 1 ≤ n → n ≤ top → (d : DrawopValue) × IsDrawn group events d × (d.name ≡ name_of page source n)
+  pub drawn_below : (events : List Event) (page : PageId) (source top n : ℕ) → IsReached group events page source top → 1 ≤ n → n ≤ top → (d : DrawopValue) × IsDrawn group events d × (d.name ≡ name_of page source n)
   drawn_below events page source top n reached pos le = ⊎_elim
       (λ (z : top ≡ 0). absurd (omega arith))
       (λ (h : (d : DrawopValue) × IsDrawn group events d × (d.name ≡ name_of page source top)).

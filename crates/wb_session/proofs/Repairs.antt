@@ -16,7 +16,8 @@ use Rattle.wb_host.proofs.KeptCalls.{holds_from}
 use Rattle.wb_progress.specs.Repairs.{asking_wait, answering_wait, quiet_wait}
 use Rattle.wb_progress.proofs.OneCall.{misses_stand}
 use Rattle.wb_progress.proofs.Repairs.{asker_asks, holder_answers}
-use Rattle.wb_session.specs.Session.{Member, Act, Takes, Hears, Misses, Ticks, after, sends, Event, Group, IsDistinct, member, sent, ComesFrom, IsSession}
+use Rattle.wb_member.specs.Members.{Member, Act, Takes, Hears, Misses, Ticks, after, sends}
+use Rattle.wb_session.specs.Session.{Event, Group, IsDistinct, member, sent, ComesFrom, IsSession, HearsFrom, NothingIsForged}
 use Rattle.wb_session.proofs.Drawn.{number_of}
 use Rattle.wb_session.proofs.Members.{acts}
 use Rattle.wb_session.proofs.Names.{held_once}
@@ -39,8 +40,9 @@ takes cells k (x ∷ h) d lost room = from (takes cells (k + 1) h d) (same_name 
 -- ---- one act
 
 -- two members, and the events so far
-record Stage (group : Group) (events : List Event) (i j : ℕ) (one other : Member) : Type 0 where
+record Stage (group : Group) (start events : List Event) (i j : ℕ) (one other : Member) : Type 0 where
   session : IsSession group events
+  unforged : NothingIsForged group start → NothingIsForged group events
   here : member group events i ≡ one
   there : member group events j ≡ other
 
@@ -54,12 +56,12 @@ module _ (group : Group) (older : List Event) where
   still_sent : (e : Event) (v : Datagram) → Contains (sent group older) v → Contains (sent group (e ∷ older)) v
   still_sent e v c = Contains-append_right (sends e.act (member group older e.place)) (sent group older) v c
 
-  module _ (i j : ℕ) (differ : i ≡ j → ⊥) (one other : Member) (s : Stage group older i j one other) (act : Act) (comes : ComesFrom (sent group older) act) where
-    first_next : Stage group (at i act ∷ older) i j (after act one) other
-    first_next = record { session = (comes, s.session); here = acts group (at i act) older ∙ ap (after act) s.here; there = idle (at i act) j differ ∙ s.there }
+  module _ (start : List Event) (i j : ℕ) (differ : i ≡ j → ⊥) (one other : Member) (s : Stage group start older i j one other) (act : Act) (comes : ComesFrom (sent group older) act) (hears : HearsFrom (sent group older) act) where
+    first_next : Stage group start (at i act ∷ older) i j (after act one) other
+    first_next = record { session = (comes, s.session); unforged = λ none. (hears, s.unforged none); here = acts group (at i act) older ∙ ap (after act) s.here; there = idle (at i act) j differ ∙ s.there }
 
-    second_next : Stage group (at j act ∷ older) i j one (after act other)
-    second_next = record { session = (comes, s.session); here = idle (at j act) i (λ e. differ (sym e)) ∙ s.here; there = acts group (at j act) older ∙ ap (after act) s.there }
+    second_next : Stage group start (at j act ∷ older) i j one (after act other)
+    second_next = record { session = (comes, s.session); unforged = λ none. (hears, s.unforged none); here = idle (at j act) i (λ e. differ (sym e)) ∙ s.here; there = acts group (at j act) older ∙ ap (after act) s.there }
 
 -- ---- the seven acts
 
@@ -158,35 +160,35 @@ module _ (group : Group) (events : List Event) (i j : ℕ) (d : DrawopValue) (wo
   answers = subst (λ (b : Bool). Contains (sent_by_tick other.number other.constants (Hear second request words.answer b ∷ other_4.calls) other.held third) (Draw d)) (sym (holds_from other.held d.name d held refl))
       (holder_answers other.number other.constants other.calls other.held d one.number words.clears words.quiets words.answer steady_there.constants steady_there.orderly (held_once group events j) held numbers)
 
-  stage_0 : Stage group events i j one other
-  stage_0 = record { session = session; here = refl; there = refl }
+  stage_0 : Stage group events events i j one other
+  stage_0 = record { session = session; unforged = λ none. none; here = refl; there = refl }
 
-  stage_1 : Stage group l1 i j one_1 other
-  stage_1 = first_next group events i j different one other stage_0 act_1 tt
+  stage_1 : Stage group events l1 i j one_1 other
+  stage_1 = first_next group events events i j different one other stage_0 act_1 tt tt
 
-  stage_2 : Stage group l2 i j one_2 other
-  stage_2 = first_next group l1 i j different one_1 other stage_1 act_2 tt
+  stage_2 : Stage group events l2 i j one_2 other
+  stage_2 = first_next group l1 events i j different one_1 other stage_1 act_2 tt tt
 
   sent_2 : Contains (sent group l2) request
   sent_2 = did_send group l1 i act_2 one_1 request stage_1.here requests
 
-  stage_3 : Stage group l3 i j one_2 other_3
-  stage_3 = second_next group l2 i j different one_2 other stage_2 act_3 tt
+  stage_3 : Stage group events l3 i j one_2 other_3
+  stage_3 = second_next group l2 events i j different one_2 other stage_2 act_3 tt tt
 
-  stage_4 : Stage group l4 i j one_2 other_4
-  stage_4 = second_next group l3 i j different one_2 other_3 stage_3 act_4 tt
+  stage_4 : Stage group events l4 i j one_2 other_4
+  stage_4 = second_next group l3 events i j different one_2 other_3 stage_3 act_4 tt tt
 
-  stage_5 : Stage group l5 i j one_2 other_5
-  stage_5 = second_next group l4 i j different one_2 other_4 stage_4 act_5 (still_sent group l3 (at j act_4) request (still_sent group l2 (at j act_3) request sent_2))
+  stage_5 : Stage group events l5 i j one_2 other_5
+  stage_5 = second_next group l4 events i j different one_2 other_4 stage_4 act_5 (λ tells. absurd tells) (still_sent group l3 (at j act_4) request (still_sent group l2 (at j act_3) request sent_2))
 
-  stage_6 : Stage group l6 i j one_2 other_6
-  stage_6 = second_next group l5 i j different one_2 other_5 stage_5 act_6 tt
+  stage_6 : Stage group events l6 i j one_2 other_6
+  stage_6 = second_next group l5 events i j different one_2 other_5 stage_5 act_6 tt tt
 
   sent_6 : Contains (sent group l6) (Draw d)
   sent_6 = did_send group l5 j act_6 other_5 (Draw d) stage_5.there answers
 
-  stage_7 : Stage group (at i act_7 ∷ l6) i j (after act_7 one_2) other_6
-  stage_7 = first_next group l6 i j different one_2 other_6 stage_6 act_7 (All-cons (λ (x : DrawopValue). Contains (sent group l6) (Draw x)) d [] sent_6 (All-nil (λ (x : DrawopValue). Contains (sent group l6) (Draw x))))
+  stage_7 : Stage group events (at i act_7 ∷ l6) i j (after act_7 one_2) other_6
+  stage_7 = first_next group l6 events i j different one_2 other_6 stage_6 act_7 (All-cons (λ (x : DrawopValue). Contains (sent group l6) (Draw x)) d [] sent_6 (All-nil (λ (x : DrawopValue). Contains (sent group l6) (Draw x)))) tt
 
   taken : Contains (after act_7 one_2).held d
   taken =
@@ -227,8 +229,8 @@ module _ (group : Group) (events : List Event) (i j : ℕ) (d : DrawopValue) (wo
   pub apart : i ≡ j → ⊥
   apart = different
 
-  pub repaired : IsSession group (repair i j one other d words ++ events) × Contains (member group (repair i j one other d words ++ events) i).held d
-  repaired = (stage_7.session, subst (λ (m : Member). Contains m.held d) (sym stage_7.here) taken)
+  pub repaired : IsSession group (repair i j one other d words ++ events) × (NothingIsForged group events → NothingIsForged group (repair i j one other d words ++ events)) × Contains (member group (repair i j one other d words ++ events) i).held d
+  repaired = (stage_7.session, stage_7.unforged, subst (λ (m : Member). Contains m.held d) (sym stage_7.here) taken)
 
 pub members_repair : MembersRepair
 members_repair group events i j d words is session steady steady_there held lost room = repaired group events i j d words is session steady steady_there held lost room

@@ -16,7 +16,7 @@ use Rattle.wb_recovery.specs.declared.plan.Action.TheVariants.{Ask, Answer}
 use Rattle.wb_host.specs.Hearing.{marks_in, answers_to, asks_for_pages, page_states}
 use Rattle.wb_host.specs.Ticks.{drawop_of, sent_for, sends_for}
 use Rattle.wb_host.proofs.TickSends.{sent_from}
-use Rattle.wb_session.specs.Session.{Member, Act, Draws, Hears, Ticks, Reports, AsksForPages, next_drawop, sends}
+use Rattle.wb_member.specs.Members.{Member, Act, Draws, Hears, Ticks, Reports, AsksForPages, next_drawop, sends}
 
 -- ---- what is sent
 

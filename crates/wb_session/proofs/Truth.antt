@@ -12,6 +12,7 @@ use Rattle.wb_names.specs.declared.name.PageId.{PageId}
 use Rattle.wb_names.proofs.Listings.{Contains-none}
 use Rattle.wb_names.proofs.Orders.{same_name-is}
 use Rattle.wb_codec.specs.declared.datagram.Datagram.{Datagram}
+use Rattle.wb_codec.specs.declared.datagram.Datagram.TheVariants.{Request, AskPages}
 use Rattle.wb_gaps.specs.Answers.{report_of, gaps_of}
 use Rattle.wb_gaps.specs.Gaps.{Covers}
 use Rattle.wb_gaps.proofs.MissingRanges.{gaps_of_page}
@@ -23,7 +24,8 @@ use Rattle.wb_host.proofs.KeptCalls.{holds_from}
 use Rattle.wb_host.specs.KeeperLaws.{IsReported}
 use Rattle.wb_host.proofs.HeardNumbers.{marks_are_greatest}
 use Rattle.wb_host.proofs.MergedNumbers.{high_is, merged_are_greatest}
-use Rattle.wb_session.specs.Session.{sends, Event, Group, IsDistinct, member, sent, IsSession, IsDrawn, IsReached}
+use Rattle.wb_member.specs.Members.{sends}
+use Rattle.wb_session.specs.Session.{Event, Group, IsDistinct, member, sent, IsTelling, IsSession, IsDrawn, IsReached}
 use Rattle.wb_session.specs.Laws.{SentMarksAreTrue, HeardMarksAreTrue, LacksKnowingly}
 use Rattle.wb_session.proofs.Drawn.{of_name, named, drawn_own, drawn_later, drawn_is_once, held_is_drawn}
 use Rattle.wb_session.proofs.Members.{IsHearing, was_heard, heard_after, Fits, fits_after, step}
@@ -91,18 +93,24 @@ module _ (group : Group) (is : IsDistinct group) where
       (λ (h : Contains (sent group older) datagram). let t = sent_true older s.1 datagram h page in (t.0, λ source. reached_later e older page source _ (t.1 source)))
       (Contains-append_cases (sends e.act (member group older e.place)) (sent group older) datagram c)
 
-  pub heard_sent : (events : List Event) → IsSession group events → (i now word : ℕ) (held : Bool) (x : Datagram) → Contains (member group events i).calls (Hear now x word held) → Contains (sent group events) x
+  pub heard_sent : (events : List Event) → IsSession group events → (i now word : ℕ) (held : Bool) (x : Datagram) → Contains (member group events i).calls (Hear now x word held) → IsTelling x → Contains (sent group events) x
   heard_sent [] s i now word held x = λ c. absurd (Contains-none _ c)
-  heard_sent (e ∷ older) s i now word held x = step (λ m. Contains m.calls (Hear now x word held) → Contains (sent group (e ∷ older)) x) group e older i
-      (λ _ c. Contains-append_right (sends e.act (member group older e.place)) (sent group older) x (⊎_elim
-      (λ (h : Contains (member group older i).calls (Hear now x word held)). heard_sent older s.1 i now word held x h)
-      (λ (h : IsHearing e.act x). was_heard e.act (sent group older) x h s.0)
+  heard_sent (e ∷ older) s i now word held x = step (λ m. Contains m.calls (Hear now x word held) → IsTelling x → Contains (sent group (e ∷ older)) x) group e older i
+      (λ _ c tells. Contains-append_right (sends e.act (member group older e.place)) (sent group older) x (⊎_elim
+      (λ (h : Contains (member group older i).calls (Hear now x word held)). heard_sent older s.1 i now word held x h tells)
+      (λ (h : IsHearing e.act x). was_heard e.act (sent group older) x h s.0 tells)
       (heard_after now x word held e.act (member group older i) c)))
-      (λ c. Contains-append_right (sends e.act (member group older e.place)) (sent group older) x (heard_sent older s.1 i now word held x c))
+      (λ c tells. Contains-append_right (sends e.act (member group older e.place)) (sent group older) x (heard_sent older s.1 i now word held x c tells))
+
+  -- What was heard tells true marks. A request and a question for pages tell none.
+  heard_true : (events : List Event) → IsSession group events → (datagram : Datagram) → (IsTelling datagram → Contains (sent group events) datagram) → IsTrue events datagram
+  heard_true events s (Request asker name) c page = (no_marks, λ source. inl refl)
+  heard_true events s (AskPages asker) c page = (no_marks, λ source. inl refl)
+  heard_true events s datagram c page = sent_true events s datagram (c tt) page
 
   -- what merged of all that a member heard has the greatest number of each source
   pub heard_marks : (events : List Event) → IsSession group events → (i : ℕ) (page : PageId) (source : ℕ) → let m = member group events i in mark_of (marks_heard m.number m.calls page) source ≡ high_heard m.number m.calls page source
-  heard_marks events s i page = merged_are_greatest (member group events i).number (member group events i).calls page (λ now word datagram held c. (sent_true events s datagram (heard_sent events s i now word held datagram c) page).0)
+  heard_marks events s i page = merged_are_greatest (member group events i).number (member group events i).calls page (λ now word datagram held c. (heard_true events s datagram (heard_sent events s i now word held datagram c) page).0)
 
   -- what was drawn a member holds, or it is in its gaps, or above all that it knows of
   pub knows : (events : List Event) → IsSession group events → (i : ℕ) (d : DrawopValue) → IsDrawn group events d → let m = member group events i in let marks = marks_heard m.number m.calls d.name.page in
@@ -130,7 +138,7 @@ heard_marks_are_true group events is s i page source =
     ⊎_elim
     (λ (z : high_heard m.number m.calls page source ≡ 0). inl z)
     (λ (t : IsReported m.number m.calls page source (high_heard m.number m.calls page source)).
-    subst (IsReached group events page source) t.6 ((sent_true group is events s t.2 (heard_sent group is events s i t.0 t.1 t.3 t.2 t.4) page).1 source))
+    subst (IsReached group events page source) t.6 ((heard_true group is events s t.2 (heard_sent group is events s i t.0 t.1 t.3 t.2 t.4) page).1 source))
     (marks_are_greatest m.number m.calls page source).reported
 
 pub lacks_knowingly : LacksKnowingly

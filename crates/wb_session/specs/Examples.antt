@@ -10,7 +10,8 @@ use Rattle.wb_codec.specs.declared.datagram.Datagram.{Datagram}
 use Rattle.wb_codec.specs.declared.datagram.Datagram.TheVariants.{Draw, Session, Request}
 use Rattle.wb_gaps.specs.Answers.{gaps_of}
 use Rattle.wb_host.specs.Hearing.{marks_heard}
-use Rattle.wb_session.specs.Session.{Act, Draws, Takes, Hears, Ticks, Misses, Reports, Event, Group, member, sent, IsSession, LacksNothing}
+use Rattle.wb_member.specs.Members.{Act, Draws, Takes, Hears, Ticks, Misses, Reports}
+use Rattle.wb_session.specs.Session.{Event, Group, member, sent, IsSession, NothingIsForged, LacksNothing}
 
 abbrev pub page : PageId
 page = record { creator = 10; number = 1 }
@@ -91,6 +92,7 @@ repaired =
 -- Such is the gap of 12 once it was told, and this is all that is sent, the newest first. At the end 12 lacks nothing.
 pub record IsRepaired : Type 0 where
   pub session : IsSession trio repaired
+  pub unforged : NothingIsForged trio repaired
   pub gap : gaps_of (member trio told 2).held page (marks_heard 12 (member trio told 2).calls page) ≡ record { source = 10; first = 1; last = 1 } ∷ []
   pub sent : sent trio repaired ≡ Draw drawing ∷ request ∷ report ∷ Draw drawing ∷ []
   pub held : (member trio repaired 2).held ≡ drawing ∷ []

@@ -1,7 +1,7 @@
 -- That members can come to hold all that one of them holds.
 use Rattle.std.specs.Prelude.{ℕ, ◌+◌, ◌≤◌, List, ◌++◌, length, Contains}
 use Rattle.wb_names.specs.Values.{DrawopValue}
-use Rattle.wb_session.specs.Session.{Event, Group, IsDistinct, member, IsSession}
+use Rattle.wb_session.specs.Session.{Event, Group, IsDistinct, member, IsSession, NothingIsForged}
 use Rattle.wb_session.specs.Repairs.{IsSteady}
 
 -- the members at these places hold these drawops
@@ -14,7 +14,7 @@ pub record CanGather (group : Group) (events : List Event) (places : List ℕ) (
   pub held : (d : DrawopValue) → Contains drawops d → (j : ℕ) × Contains places j × Contains (member group events j).held d
   pub room : (i : ℕ) → Contains places i → length (member group events i).held + length drawops ≤ (member group events i).cells
 
--- Then some acts bring all of them to all places.
+-- Then some acts bring all of them to all places, and forge no request.
 abbrev pub MembersCanGather : Type 0
 MembersCanGather = (group : Group) (events : List Event) (places : List ℕ) (drawops : List DrawopValue) → IsDistinct group → IsSession group events → CanGather group events places drawops
-    → (newer : List Event) × IsSession group (newer ++ events) × HoldAll group (newer ++ events) places drawops
+    → (newer : List Event) × IsSession group (newer ++ events) × (NothingIsForged group events → NothingIsForged group (newer ++ events)) × HoldAll group (newer ++ events) places drawops

@@ -2,7 +2,8 @@
 use Rattle.std.specs.Prelude.{◌≡◌, ℕ, true, false, List, [], ◌∷◌, All, Contains, is_some, None}
 use Rattle.wb_names.specs.Values.{NameValue}
 use Rattle.wb_host.specs.Keeper.{holds}
-use Rattle.wb_session.specs.Session.{Member, Act, Takes, Misses, Event, Group, member}
+use Rattle.wb_member.specs.Members.{Member, Act, Takes, Misses}
+use Rattle.wb_session.specs.Session.{Event, Group, member}
 use Rattle.wb_recovery.specs.declared.timers.Timers.{Timers}
 use Rattle.wb_progress.specs.Repairs.{timers_at}
 

@@ -12,7 +12,8 @@ use Rattle.wb_display.specs.Display.{IsView}
 use Rattle.wb_host.specs.Hearing.{marks_heard}
 use Rattle.wb_host.specs.Keeper.{high_in, high_heard}
 use Rattle.wb_host.specs.Sessions.{message_of}
-use Rattle.wb_session.specs.Session.{Member, Event, Group, IsDistinct, member, sent, IsSession, IsDrawn, IsReached, LacksNothing, HasHeard, Reports}
+use Rattle.wb_member.specs.Members.{Member, Reports}
+use Rattle.wb_session.specs.Session.{Event, Group, IsDistinct, member, sent, IsSession, IsDrawn, IsReached, LacksNothing, HasHeard}
 
 -- ---- nothing is invented
 
@@ -99,6 +100,13 @@ abbrev pub ReportsTellAgreement : Type 0
 ReportsTellAgreement = (group : Group) (events : List Event) (i j : ℕ) (page : PageId) → IsDistinct group → IsSession group events →
     let one = member group events i in
     let other = member group events j in
+    report_of one.held page ≡ report_of other.held page → LacksNothing one page → LacksNothing other page → Agree one other page
+
+-- So do two at different points: one now, and one at an earlier point of the session.
+abbrev pub ReportsTellAgreementLater : Type 0
+ReportsTellAgreementLater = (group : Group) (newer older : List Event) (i j : ℕ) (page : PageId) → IsDistinct group → IsSession group (newer ++ older) →
+    let one = member group (newer ++ older) i in
+    let other = member group older j in
     report_of one.held page ≡ report_of other.held page → LacksNothing one page → LacksNothing other page → Agree one other page
 
 -- One heard a session message of the page which the other sent since it last took a drawop of the page.

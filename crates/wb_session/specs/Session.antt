@@ -1,83 +1,16 @@
 -- A session: members that draw, take in, hear and send. What one sends may be lost, and it may reach anyone, at any later
--- point, any number of times.
-use Rattle.std.specs.Prelude.{◌≡◌, ℕ, ◌+◌, ◌≤◌, ◌⊎◌, List, [], ◌∷◌, ◌++◌, filter, map, All, Contains, Bool, nat_eq, if◌then◌else◌}
-use Rattle.wb_names.specs.Values.{NameValue, DrawopValue}
-use Rattle.wb_names.specs.Arrivals.{history_after}
-use Rattle.wb_names.specs.History.{highest, name_of}
-use Rattle.wb_names.specs.declared.parts.Op.{Op}
+-- point, any number of times. What a member is, does and sends is wb_member's.
+use Rattle.std.specs.Prelude.{◌≡◌, ℕ, ◌≤◌, ◌⊎◌, List, [], ◌∷◌, ◌++◌, All, Contains, Bool, nat_eq, if◌then◌else◌}
+use Rattle.wb_names.specs.Values.{DrawopValue}
+use Rattle.wb_names.specs.History.{name_of}
 use Rattle.wb_names.specs.declared.name.PageId.{PageId}
 use Rattle.wb_codec.specs.declared.datagram.Datagram.{Datagram}
-use Rattle.wb_codec.specs.declared.datagram.Datagram.TheVariants.{Draw, AskPages}
-use Rattle.wb_recovery.specs.Events.{timers_of}
+use Rattle.wb_codec.specs.declared.datagram.Datagram.TheVariants.{Draw, Request, AskPages}
 use Rattle.wb_recovery.specs.declared.tuning.Tuning.{Tuning}
 use Rattle.wb_gaps.specs.Answers.{gaps_of}
-use Rattle.wb_host.specs.GivingUp.{is_asked}
-use Rattle.wb_host.specs.Keeper.{KeeperCall, SetDelay, Hear, Arrive, Miss, GoOn, Report, GiveUp, events_of, holds}
-use Rattle.wb_host.specs.Hearing.{marks_heard, asks_for_held, answers_to}
-use Rattle.wb_host.specs.Sessions.{message_of}
-use Rattle.wb_host.specs.Ticks.{sent_by_tick, stopped_after}
-
--- ---- a member
-
--- The number of a member, the cells of its board and the constants of its timers; what it drew, the newest first; what its
--- board holds, the newest last; and the calls that its keeper accepted, the newest first. A board is one history, however
--- many desks take drawops into it.
-pub record Member : Type 0 where
-  pub number : ℕ
-  pub cells : ℕ
-  pub constants : Tuning
-  pub drawn : List DrawopValue
-  pub held : List DrawopValue
-  pub calls : List KeeperCall
-
--- What a member does, where that has a moment of its clock and random words, with these. A batch of drawops arrives, and
--- is taken in some order. Any other datagram is heard. A call that is refused, or that ends for want of memory, is none of these.
-pub data Act : Type 0 where
-  Draws : (page : PageId) (time : ℕ) (op : Op) → Act
-  Takes : (now : ℕ) (batch order : List DrawopValue) → Act
-  Hears : (now : ℕ) (datagram : Datagram) (word : ℕ) → Act
-  SetsDelay : (source micros : ℕ) → Act
-  Misses : (now : ℕ) (names : List NameValue) (words : List ℕ) → Act
-  GivesUp : (now : ℕ) (name : NameValue) → Act
-  Ticks : (now : ℕ) (words : List ℕ) → Act
-  Reports : (now : ℕ) (page : PageId) → Act
-  AsksForPages : Act
-
--- A drawop under the next number of the member's own on a page: above all that it drew there, whether or not its board has
--- a cell for it. So a member that starts anew under its old number has to know what it drew.
-abbrev pub next_drawop : Member → PageId → ℕ → Op → DrawopValue
-next_drawop m page time op = record { name = name_of page m.number (highest page m.number m.drawn + 1); time = time; op = op }
-
-abbrev pub calling : KeeperCall → Member → Member
-calling call m = record m { calls = call ∷ m.calls }
-
--- once a batch has arrived, and the board holds this
-abbrev pub holding : ℕ → List DrawopValue → List DrawopValue → Member → Member
-holding now batch held m = record m { held = held; calls = Arrive now (filter (holds held) (map (λ d. d.name) batch)) ∷ m.calls }
-
--- what a member is after an act
-abbrev pub after : Act → Member → Member
-after (Draws page time op) m = record m { drawn = next_drawop m page time op ∷ m.drawn }
-after (Takes now batch order) m = holding now batch (history_after m.cells m.held order) m
-after (Hears now datagram word) m = calling (Hear now datagram word (asks_for_held m.held datagram)) m
-after (SetsDelay source micros) m = calling (SetDelay source micros) m
-after (Misses now names words) m = calling (Miss now names words) m
-after (GivesUp now name) m = calling (GiveUp now name (is_asked (timers_of m.constants (events_of m.number m.calls)) name)) m
-after (Ticks now words) m = calling (GoOn now words (stopped_after m.number m.constants m.calls m.held)) m
-after (Reports now page) m = calling (Report now) m
-after AsksForPages m = m
-
--- what it sends by an act
-abbrev pub sends : Act → Member → List Datagram
-sends (Draws page time op) m = Draw (next_drawop m page time op) ∷ []
-sends (Takes now batch order) m = []
-sends (Hears now datagram word) m = answers_to m.number m.held datagram
-sends (SetsDelay source micros) m = []
-sends (Misses now names words) m = []
-sends (GivesUp now name) m = []
-sends (Ticks now words) m = sent_by_tick m.number m.constants m.calls m.held now
-sends (Reports now page) m = message_of m.number m.calls now m.held page ∷ []
-sends AsksForPages m = AskPages m.number ∷ []
+use Rattle.wb_host.specs.Hearing.{marks_heard}
+use Rattle.wb_host.specs.Keeper.{Hear}
+use Rattle.wb_member.specs.Members.{Member, Act, Takes, Hears, after, sends}
 
 -- ---- a session
 
@@ -112,16 +45,33 @@ abbrev pub sent : Group → List Event → List Datagram
 sent group [] = []
 sent group (e ∷ older) = sends e.act (member group older e.place) ++ sent group older
 
--- what comes to a member by an act is among these
+-- a datagram tells of drawings: a drawop, or the marks of a page; a request, and a question for pages, tell of none
+abbrev pub IsTelling : Datagram → Type 0
+IsTelling (Request asker name) = ⊥
+IsTelling (AskPages asker) = ⊥
+IsTelling v = Unit {0}
+
+-- what comes to a member by an act, and tells of drawings, is among these
 abbrev pub ComesFrom : List Datagram → Act → Type 0
 ComesFrom datagrams (Takes now batch order) = All (λ d. Contains datagrams (Draw d)) order
-ComesFrom datagrams (Hears now datagram word) = Contains datagrams datagram
+ComesFrom datagrams (Hears now datagram word) = IsTelling datagram → Contains datagrams datagram
 ComesFrom datagrams act = Unit {0}
 
--- Whatever comes to a member was sent before by some member: nobody forges.
+-- Each drawop that comes to a member, and each session message and page state, was sent before by some member. Who forges requests
+-- and questions for pages forges no drawing.
 abbrev pub IsSession : Group → List Event → Type 0
 IsSession group [] = Unit {0}
 IsSession group (e ∷ older) = ComesFrom (sent group older) e.act × IsSession group older
+
+-- what a member hears is among these, whatever it is
+abbrev pub HearsFrom : List Datagram → Act → Type 0
+HearsFrom datagrams (Hears now datagram word) = Contains datagrams datagram
+HearsFrom datagrams act = Unit {0}
+
+-- Requests and questions for pages are not forged either. No law on what members hold asks this.
+abbrev pub NothingIsForged : Group → List Event → Type 0
+NothingIsForged group [] = Unit {0}
+NothingIsForged group (e ∷ older) = HearsFrom (sent group older) e.act × NothingIsForged group older
 
 -- ---- what is said of it
 

@@ -1,7 +1,8 @@
 //! Laws of sessions. Each function does nothing: its contract is a law, for proofs to cite.
 
+ghost use Rattle.wb_session.specs.Constants.{ConstantsMoveTimers};
 ghost use Rattle.wb_session.specs.Examples.{IsRepaired, TwinsClash};
-ghost use Rattle.wb_session.specs.Laws.{DrawnInOrder, DrawnOnce, ExchangesTellAgreement, HeardMarksAreTrue, HeldIsDrawn, HeldOnce, HoldsWhatWasReported, LacksKnowingly, NeverClashes, NextIsKnown, QuietIsAgreed, ReportsTellAgreement, SentIsDrawn, SentMarksAreTrue};
+ghost use Rattle.wb_session.specs.Laws.{DrawnInOrder, DrawnOnce, ExchangesTellAgreement, HeardMarksAreTrue, HeldIsDrawn, HeldOnce, HoldsWhatWasReported, LacksKnowingly, NeverClashes, NextIsKnown, QuietIsAgreed, ReportsTellAgreement, ReportsTellAgreementLater, SentIsDrawn, SentMarksAreTrue};
 
 /// Nothing is invented or changed: each drawop that a member holds or sends is one that its source
 /// drew, of each name there is one, and no name stands twice on a board. So no clash comes up.
@@ -38,9 +39,10 @@ pub fn nothing_is_missed()
 {}
 
 /// Two members that have one report of a page, and lack nothing there, hold the same drawops of it and
-/// show the same.
+/// show the same, at one point of a session, or one now and one at an earlier point.
 pub fn reports_tell_agreement()
-    ensures { ReportsTellAgreement }
+    ensures now { ReportsTellAgreement }
+    ensures later { ReportsTellAgreementLater }
 {}
 
 /// Two members that each heard the session message of a page which the other sent since it last took a
@@ -52,6 +54,12 @@ pub fn exchanges_tell_agreement()
 /// Members that hold all that was drawn on a page lack nothing there and show the same.
 pub fn quiet_is_agreed()
     ensures { QuietIsAgreed }
+{}
+
+/// By the same acts members hold the same, heard the same marks, and send the same but as time goes on,
+/// whatever the constants of their timers.
+pub fn constants_move_timers()
+    ensures { ConstantsMoveTimers }
 {}
 
 /// An example: what is lost is asked for and repaired.

@@ -131,9 +131,10 @@ module _ (constants : ℕ → Tuning) (older : List LineAt) (places : List ℕ) 
         same_canvas = reports_tell_shows constants new i j page width height report gaps show distinct fair ask reports (none i ci) (none j cj);
       }
 
-  pub agreed : HaveDistinctMembers new → IsHonest constants new → DoAgree constants new places page drawops
+  pub agreed : HaveDistinctMembers new → IsHonest constants new → DoAgree constants older new places page drawops
   agreed distinct fair = record {
     honest = fair;
+    unforged = on.unforged;
     held = λ i c. (host i c, is i c, λ d among. have d i (host i c) among c (is i c));
     alike = alike distinct fair;
   }
@@ -152,8 +153,8 @@ agreement_is_possible constants older places page drawops distinct fair can =
     let h = can.held d c in
     let p = b.1.hosts h.0 h.1 h.3 in
     held_by_name constants b.0 b.1.distinct b.1.honest k h.0 g p.0 d at p.1 (p.2.kept d h.4) (b.2 d k g c in_places at) in
-    let done : DoAgree constants b.0 places page drawops = agreed constants older places page drawops can b.0 b.1 have b.1.distinct b.1.honest in
-    (b.1.newer, subst (λ (l : List LineAt). DoAgree constants l places page drawops) b.1.more done)
+    let done : DoAgree constants older b.0 places page drawops = agreed constants older places page drawops can b.0 b.1 have b.1.distinct b.1.honest in
+    (b.1.newer, subst (λ (l : List LineAt). DoAgree constants older l places page drawops) b.1.more done)
   where
     time : (m l : ℕ) → m < 2 ^ 47 → l ≤ 65535 → m + l * serving ≤ 2 ^ 48
     time m l lt le = omega (arith, lt, le)

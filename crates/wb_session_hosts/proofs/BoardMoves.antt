@@ -16,7 +16,7 @@ use Rattle.wb_script.specs.declared.acceptance.Acceptance.{Acceptance}
 use Rattle.wb_script.specs.declared.acceptance.Acceptance.TheVariants as became
 use Rattle.wb_script.specs.declared.command.Command.{Command}
 use Rattle.wb_script.specs.declared.command.Command.TheVariants as lines
-use Rattle.wb_session.specs.Session.{Takes, Hears, Ticks, Reports}
+use Rattle.wb_member.specs.Members.{Takes, Hears, Ticks, Reports}
 use Rattle.wb_session.proofs.Members.{held_after, held_grows, draws_sent}
 use Rattle.wb_session_scripts.specs.Hosts.{act_of, member_of, sends_any}
 use Rattle.wb_dialog.specs.Dialog.{Answer, gives, refuses, answer_at, answered, goes_out, numbered, says, speaker}

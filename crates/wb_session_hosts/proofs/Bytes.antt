@@ -1,6 +1,6 @@
 -- What comes out is told by its bytes.
 use Rattle.std.proofs.Common.{◌≡◌, ℕ, List, [], ◌∷◌, ◌++◌, Option, Some, None, Result, Ok, Err, sym, ap, ◌∙◌, subst}
-use Rattle.std.specs.Prelude.{Contains, IfOk, codes}
+use Rattle.std.specs.Prelude.{All, Contains, IfOk, codes, map}
 use Rattle.std.proofs.lemmas.List.{append_cancel_left, append_cancel_right}
 use Rattle.std.proofs.lemmas.List.Elements.{All-contains}
 use Rattle.wb_names.proofs.Listings.{Any-from_map}
@@ -36,11 +36,15 @@ line_tells v w one other same =
     let digits : digits_of v ≡ digits_of w = append_cancel_right (digits_of v) (digits_of w) (codes "\n") (append_cancel_left (codes "send ") (digits_of v ++ codes "\n") (digits_of w ++ codes "\n") same) in
     datagram_is v w (sym (datagram_read v one) ∙ ap (λ (d : List ℕ). datagram (d ∷ [])) digits ∙ datagram_read w other)
 
+-- whose line is one of those of some datagrams in range is one of these
+pub out_of : (all : List Datagram) → All IsDatagram all → (v : Datagram) → IsDatagram v → Contains (map send_line all) (send_line v) → Contains all v
+out_of all fits v fit c =
+    let a = Any-from_map send_line all (send_line v) c in
+    let there : Contains all a.1 = (a.0, a.2, a.3) in
+    subst (Contains all) (line_tells a.1 v (All-contains IsDatagram all a.1 fits there) fit a.4) there
+
 pub came_out : (constants : ℕ → Tuning) (lines' : List LineAt) (v : Datagram) → IsDatagram v → CameOut constants lines' v → Contains (sent constants lines') v
-came_out constants lines' v fit c =
-    let a = Any-from_map send_line (sent constants lines') (send_line v) c in
-    let there : Contains (sent constants lines') a.1 = (a.0, a.2, a.3) in
-    subst (Contains (sent constants lines')) (line_tells a.1 v (All-contains IsDatagram (sent constants lines') a.1 (sent_fits constants lines') there) fit a.4) there
+came_out constants lines' v fit c = out_of (sent constants lines') (sent_fits constants lines') v fit c
 
 pub bytes_tell_datagrams : BytesTellDatagrams
 bytes_tell_datagrams constants lines' line v e c = came_out constants lines' v (handed_has IsDatagram v (says_fits (met line) (handed_in v) e)) c
@@ -50,7 +54,7 @@ bytes_tell_datagrams constants lines' line v e c = came_out constants lines' v (
 module _ (P Q : Datagram → Type 0) (more : (v : Datagram) → IsDatagram v → P v → Q v) where
   script_more : (host : Opened) (line : Command) → scripts.Fits line → IsHonestAt P host (Script line) → IsHonestAt Q host (Script line)
   script_more host (lines.Arrive d) fit fair = more (datagrams.Draw d) fit fair
-  script_more host (lines.Hear v) fit fair = more v fit fair
+  script_more host (lines.Hear v) fit fair = λ tells. more v fit (fair tells)
   script_more host line fit fair = fair
 
   line_more : (host : Opened) (line : DriverLine) → Fits line → IsHonestAt P host line → IsHonestAt Q host line

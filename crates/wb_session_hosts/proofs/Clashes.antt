@@ -13,7 +13,8 @@ use Rattle.wb_script.specs.SentLines.{send_line}
 use Rattle.wb_script.specs.declared.acceptance.Acceptance.{Acceptance}
 use Rattle.wb_script.specs.declared.acceptance.Acceptance.TheVariants as became
 use Rattle.wb_script.specs.declared.command.Command.TheVariants as lines
-use Rattle.wb_session.specs.Session.{Member, Group, IsDistinct, member, IsDrawn}
+use Rattle.wb_member.specs.Members.{Member}
+use Rattle.wb_session.specs.Session.{Group, IsDistinct, member, IsDrawn}
 use Rattle.wb_session.proofs.Drawn.{holds_name, drawn_is_once, held_is_drawn, sent_is_drawn}
 use Rattle.wb_dialog.specs.declared.fault.Refusal.{Refusal}
 use Rattle.wb_dialog.specs.declared.fault.Refusal.TheVariants as refusals
@@ -22,6 +23,7 @@ use Rattle.wb_dialog.specs.declared.line.DriverLine.TheVariants.{Script, Say}
 use Rattle.wb_dialog.specs.Dialog.{answer, batch_of, goes_out, refuses, said_text}
 use Rattle.wb_dialog.specs.Doing.{text_of}
 use Rattle.wb_dialog.proofs.OwnNumbers.{next_is_new}
+use Rattle.wb_session_hosts.specs.Acts.{events_of}
 use Rattle.wb_session_hosts.specs.Hosts.{LineAt, saying, host_at, sent, group_of, CameOut, MaySay, IsHonestBy}
 use Rattle.wb_session_hosts.specs.Laws.{BatchesCountNoClash}
 use Rattle.wb_session_hosts.proofs.Boards.{boards_make_group, fair_here}
@@ -30,7 +32,7 @@ use Rattle.wb_session_hosts.proofs.DriverLines.{met_fits}
 use Rattle.wb_session_hosts.proofs.Outcomes.{Found, found}
 use Rattle.wb_session_hosts.proofs.Texts.{digit_0, digit_1, differ}
 use Rattle.wb_session_hosts.proofs.Turns.{IsAt}
-use Rattle.wb_session_hosts.proofs.Members.{events_of, Follows, follows}
+use Rattle.wb_session_hosts.proofs.Members.{Follows, follows}
 
 -- ---- texts
 

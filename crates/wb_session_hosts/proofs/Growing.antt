@@ -12,8 +12,8 @@ use Rattle.wb_script.specs.Hosts.{Opened, present}
 use Rattle.wb_dialog.specs.Dialog.{answer_at, after}
 use Rattle.wb_dialog.specs.declared.line.DriverLine.{DriverLine}
 use Rattle.wb_session_hosts.specs.Agreement.{lacking}
-use Rattle.wb_session_hosts.specs.Hosts.{LineAt, saying, host_at, Board, board_in, board_at, HaveDistinctMembers, CameOut, IsHonestAt, IsHonest}
-use Rattle.wb_session_hosts.proofs.OneLine.{did, idle, is_fair}
+use Rattle.wb_session_hosts.specs.Hosts.{LineAt, saying, host_at, Board, board_in, board_at, HaveDistinctMembers, CameOut, IsHonest, NothingIsForged}
+use Rattle.wb_session_hosts.proofs.OneLine.{CameBefore, did, idle, is_fair, is_unforged}
 
 -- ---- one host, and what it becomes
 
@@ -79,18 +79,20 @@ pub record GoesOn (constants : ℕ → Tuning) (R : Opened → Opened → Type 0
   pub newer : List LineAt
   pub more : new ≡ newer ++ old
   pub honest : IsHonest constants new
+  pub unforged : NothingIsForged constants old → NothingIsForged constants new
   pub distinct : HaveDistinctMembers new
   pub hosts : (k : ℕ) (h : Opened) → host_at constants old k ≡ Some h → (g : Opened) × (host_at constants new k ≡ Some g) × R h g
 
 module _ (constants : ℕ → Tuning) where
   pub none_yet : (R : Opened → Opened → Type 0) (old : List LineAt) → HaveDistinctMembers old → IsHonest constants old → ((h : Opened) → R h h) → GoesOn constants R old old
-  none_yet R old distinct fair same = record { newer = []; more = refl; honest = fair; distinct = distinct; hosts = λ k h e. (h, e, same h) }
+  none_yet R old distinct fair same = record { newer = []; more = refl; honest = fair; unforged = λ none. none; distinct = distinct; hosts = λ k h e. (h, e, same h) }
 
   pub go_on : (P Q R : Opened → Opened → Type 0) (a b c : List LineAt) → ((x y z : Opened) → P x y → Q y z → R x z) → GoesOn constants P a b → GoesOn constants Q b c → GoesOn constants R a c
   go_on P Q R a b c joins one two = record {
     newer = two.newer ++ one.newer;
     more = two.more ∙ ap (λ (l : List LineAt). two.newer ++ l) one.more ∙ sym (append_assoc two.newer one.newer a);
     honest = two.honest;
+    unforged = λ none. two.unforged (one.unforged none);
     distinct = two.distinct;
     hosts = λ k h e.
         let p = one.hosts k h e in
@@ -103,12 +105,13 @@ module _ (constants : ℕ → Tuning) where
     newer = g.newer;
     more = g.more;
     honest = g.honest;
+    unforged = g.unforged;
     distinct = g.distinct;
     hosts = λ k h e. let p = g.hosts k h e in (p.0, p.1, weaker h p.0 p.2);
   }
 
   -- one line, at the place of one host
-  module _ (old : List LineAt) (distinct : HaveDistinctMembers old) (fair : IsHonest constants old) (e : LineAt) (i : ℕ) (line : DriverLine) (host next : Opened) (here : e.place ≡ i) (says : saying e ≡ Ok line) (there : host_at constants old i ≡ Some host) (comes : IsHonestAt (CameOut constants old) host line) (unboarded : board_in (Ok line) ≡ None) (becomes : after (Some host) (answer_at line host) ≡ Some next) where
+  module _ (old : List LineAt) (distinct : HaveDistinctMembers old) (fair : IsHonest constants old) (e : LineAt) (i : ℕ) (line : DriverLine) (host next : Opened) (here : e.place ≡ i) (says : saying e ≡ Ok line) (there : host_at constants old i ≡ Some host) (comes : CameBefore (CameOut constants old) host line) (unboarded : board_in (Ok line) ≡ None) (becomes : after (Some host) (answer_at line host) ≡ Some next) where
     pub then_there : host_at constants (e ∷ old) i ≡ Some next
     then_there = did constants old e i line host here says there ∙ becomes
 
@@ -134,6 +137,7 @@ module _ (constants : ℕ → Tuning) where
       newer = e ∷ [];
       more = refl;
       honest = (is_fair constants old e i line host here says there comes, fair);
+      unforged = λ none. (is_unforged constants old e i line host here says there comes, none);
       distinct = still_distinct;
       hosts = λ k h at. by_place k h at (nat_eq i k) refl;
     } where

@@ -22,8 +22,8 @@ use Rattle.wb_script.specs.Hosts.{Opened, Act, does, fails, act, events, present
 use Rattle.wb_script.specs.Random.{word_of}
 use Rattle.wb_script.specs.declared.command.Command.{Command}
 use Rattle.wb_script.specs.declared.command.Command.TheVariants as lines
-use Rattle.wb_session.specs.Session.{Member, Takes, Hears, SetsDelay, Misses, GivesUp, Ticks, Reports, after}
-use Rattle.wb_session.specs.Session as members
+use Rattle.wb_member.specs.Members as members
+use Rattle.wb_member.specs.Members.{Member, Takes, Hears, SetsDelay, Misses, GivesUp, Ticks, Reports, after}
 use Rattle.wb_session_scripts.specs.Hosts.{member_of, act_of, after_any}
 use Rattle.wb_session_scripts.proofs.Acts.{batches_are_acts, giving_up_is_an_act, asking_is_an_act, lines_are_acts}
 use Rattle.wb_dialog.specs.Dialog.{Answer, gives, refuses, after as host_after, answer, answer_at, answer_first, answered, goes_out, numbered, says, speaker}
@@ -55,12 +55,9 @@ AnswerIs (refuses e) = Unit {0}
 given : (next : Opened) → Is next → (host : Opened) × ◌≡◌ {A = Option Opened} (Some next) (Some host) × Is host
 given next f = (next, refl, f)
 
-module _ (host : Opened) (is : Is host) where
-  abbrev m : Member
-  m = member_of [] host
-
+module _ (host : Opened) where
   -- what it wants of a page it does not hold
-  wanted_lacking : (page : PageId) → All (λ n. holds host.board.drawops n ≡ false) (wanted_of page host)
+  pub wanted_lacking : (page : PageId) → All (λ n. holds host.board.drawops n ≡ false) (wanted_of page host)
   wanted_lacking page =
       let marks = marks_heard host.me host.calls page in
       let w = first_are_wanted host.constants (events host) host.board.drawops page marks in
@@ -70,11 +67,22 @@ module _ (host : Opened) (is : Is host) where
       lacks : (marks : List MarkValue) (n : NameValue) → IsWanted (timers_of host.constants (events host)) host.board.drawops page marks n → holds host.board.drawops n ≡ false
       lacks marks n want = holds_not host.board.drawops n (λ h. want.missing.not_held (subst (HoldsName host.board.drawops) (name_parts _ _ _ _ _ _ refl want.on_page refl) h))
 
+  -- nor does it hold what it may ask for
+  pub asked_lacking : (name : NameValue) → may_ask name host ≡ true → All (λ n. holds host.board.drawops n ≡ false) (name ∷ [])
+  asked_lacking name e = All-cons (λ n. holds host.board.drawops n ≡ false) name [] (lacks (holds host.board.drawops name) (is_timed (timers_of host.constants (events host)) name) e) (All-nil (λ n. holds host.board.drawops n ≡ false)) where
+    lacks : (a b : Bool) → not (a || b) ≡ true → a ≡ false
+    lacks true b e = absurd (true≢false (sym e))
+    lacks false b e = refl
+
+module _ (host : Opened) (is : Is host) where
+  abbrev m : Member
+  m = member_of [] host
+
   careful_line : (line : Command) → Tells (after_any (act_of line host) m)
   careful_line (lines.Hear v) = tells_after (Hears _ v _) m tt is
   careful_line (lines.Distance source micros) = tells_after (SetsDelay source micros) m tt is
   careful_line (lines.Tick moment) = tells_after (Ticks moment _) m tt is
-  careful_line (lines.Look page) = tells_after (Misses _ (wanted_of page host) _) m (wanted_lacking page) is
+  careful_line (lines.Look page) = tells_after (Misses _ (wanted_of page host) _) m (wanted_lacking host page) is
   careful_line (lines.Session page) = tells_after (Reports _ page) m tt is
   careful_line line = is
 
@@ -119,13 +127,8 @@ module _ (host : Opened) (is : Is host) where
 
   asked_is : (name : NameValue) → Is (with_asked name host)
   asked_is name = subst Tells (sym (asking_is_an_act [] host name)) (from (may_ask name host) refl) where
-    lacks : (a b : Bool) → not (a || b) ≡ true → a ≡ false
-    lacks true b e = absurd (true≢false (sym e))
-    lacks false b e = refl
-
     from : (b : Bool) → may_ask name host ≡ b → Tells (after_any (if b then Some (Misses (present host) (name ∷ []) (word_of host.random ∷ [])) else None) m)
-    from true e = tells_after (Misses (present host) (name ∷ []) (word_of host.random ∷ [])) m
-        (All-cons (λ n. holds host.board.drawops n ≡ false) name [] (lacks (holds host.board.drawops name) (is_timed (timers_of host.constants (events host)) name) e) (All-nil (λ n. holds host.board.drawops n ≡ false))) is
+    from true e = tells_after (Misses (present host) (name ∷ []) (word_of host.random ∷ [])) m (asked_lacking host name e) is
     from false e = is
 
   line_is : (line : DriverLine) → AnswerIs (answer_at line host)

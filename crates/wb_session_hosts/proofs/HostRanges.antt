@@ -16,7 +16,7 @@ use Rattle.wb_script.specs.declared.acceptance.Acceptance.{Acceptance}
 use Rattle.wb_script.specs.declared.acceptance.Acceptance.TheVariants as became
 use Rattle.wb_script.specs.declared.command.Command.{Command}
 use Rattle.wb_script.specs.declared.command.Command.TheVariants as lines
-use Rattle.wb_session.specs.Session.{Takes}
+use Rattle.wb_member.specs.Members.{Takes}
 use Rattle.wb_session.proofs.Members.{held_after, fits_after}
 use Rattle.wb_session_scripts.specs.Hosts.{act_of, member_of, sends_any}
 use Rattle.wb_dialog.specs.Dialog.{Answer, gives, refuses, after, answer, answer_at, answer_first, answered, goes_out, numbered, says, speaker}
@@ -195,7 +195,7 @@ stays_open host f line fit = from (answer_at line host) (line_fits host f line f
 
 -- ---- what is sent
 
-by_fits : (s : Option Opened) (said : Result DriverLine Refusal) → IfSome s Fits → IfOk said drivers.Fits → All IsDatagram (sends_by s said)
+pub by_fits : (s : Option Opened) (said : Result DriverLine Refusal) → IfSome s Fits → IfOk said drivers.Fits → All IsDatagram (sends_by s said)
 by_fits None said f fit = All-nil IsDatagram
 by_fits (Some host) (Ok line) f fit = line_sends host f line fit
 by_fits (Some host) (Err e) f fit = All-nil IsDatagram

@@ -14,6 +14,8 @@ pub mod Inputs
 pub mod Telling
 pub mod Sent
 pub mod Texts
+pub mod Constants
+pub mod ChangedConstants
 pub mod Clashes
 pub mod Agreeing
 pub mod Orderly

@@ -23,6 +23,7 @@ use Rattle.wb_host.specs.KeeperLaws.{IsReported}
 use Rattle.wb_host.specs.Sessions.{message_of}
 use Rattle.wb_host.proofs.HeardNumbers.{marks_are_greatest}
 use Rattle.wb_host.proofs.KeptCalls.{holds_from}
+use Rattle.wb_progress.specs.Turns.{Terms}
 use Rattle.wb_script.specs.Hosts.{Opened, does, fails, calling, present, word_at, words_for}
 use Rattle.wb_script.specs.declared.fault.LineFault.TheVariants as faults
 use Rattle.wb_script.specs.SentLines.{sends_text}
@@ -34,7 +35,7 @@ use Rattle.wb_dialog.specs.declared.fault.Refusal.TheVariants as refusals
 use Rattle.wb_dialog.specs.declared.line.DriverLine.{DriverLine}
 use Rattle.wb_dialog.specs.declared.line.DriverLine.TheVariants.{Script}
 use Rattle.wb_session_hosts.specs.Hosts.{saying, host_at, sends_by, Board, board_in, board_at, HaveDistinctMembers, IsHonest}
-use Rattle.wb_session_hosts.specs.Timed.{TimedLine, lines_of, time_of, AreInOrder, until, StandsAt, Prints, IsTaken, ComesWithin, Terms, settled, IsDelivered, IsTimely, LacksAreGaps, MarksSpread}
+use Rattle.wb_session_hosts.specs.Timed.{TimedLine, lines_of, time_of, AreInOrder, until, StandsAt, Prints, IsTaken, ComesWithin, settled, IsDelivered, IsTimely, LacksAreGaps, MarksSpread}
 use Rattle.wb_session_hosts.proofs.BoardMoves.{AnswerMoves, line_moves}
 use Rattle.wb_session_hosts.proofs.HostRanges.{Fits, few_held, host_fits}
 use Rattle.wb_session_hosts.proofs.NothingNew.{host_is, held_up_to}
@@ -42,11 +43,11 @@ use Rattle.wb_session_hosts.proofs.Outset.{one_place, greatest_heard}
 
 -- ---- times and parts of a trace
 
-before_end : (newer later : List TimedLine) → AreInOrder (newer ++ later) → time_of later ≤ time_of (newer ++ later)
+pub before_end : (newer later : List TimedLine) → AreInOrder (newer ++ later) → time_of later ≤ time_of (newer ++ later)
 before_end [] later order = omega arith
 before_end (e ∷ newer) later order = let r = before_end newer later order.1 in let o = order.0 in omega (arith, r, o)
 
-order_of : (newer later : List TimedLine) → AreInOrder (newer ++ later) → AreInOrder later
+pub order_of : (newer later : List TimedLine) → AreInOrder (newer ++ later) → AreInOrder later
 order_of [] later order = order
 order_of (e ∷ newer) later order = order_of newer later order.1
 
@@ -54,14 +55,14 @@ not_by : (a b : ℕ) → b < a → nat_le a b ≡ false
 not_by a b lt = grind (arith, nat_tests)
 
 -- lines behind a time are none of the part up to it
-behind : (s : ℕ) (newer older : List TimedLine) (e : TimedLine) → AreInOrder (newer ++ e ∷ older) → s < e.time → until s (newer ++ e ∷ older) ≡ until s older
+pub behind : (s : ℕ) (newer older : List TimedLine) (e : TimedLine) → AreInOrder (newer ++ e ∷ older) → s < e.time → until s (newer ++ e ∷ older) ≡ until s older
 behind s [] older e order lt = ap (λ (b : Bool). cond b (e ∷ older) (until s older)) (not_by e.time s lt)
 behind s (x ∷ newer) older e order lt =
     let le : e.time ≤ time_of (newer ++ e ∷ older) = before_end newer (e ∷ older) order.1 in
     let o = order.0 in
     ap (λ (b : Bool). cond b (x ∷ (newer ++ e ∷ older)) (until s (newer ++ e ∷ older))) (not_by x.time s (omega (arith, le, o, lt))) ∙ behind s newer older e order.1 lt
 
-up_to : (s : ℕ) (trace : List TimedLine) → (newer : List TimedLine) × (trace ≡ newer ++ until s trace)
+pub up_to : (s : ℕ) (trace : List TimedLine) → (newer : List TimedLine) × (trace ≡ newer ++ until s trace)
 up_to s [] = ([], refl)
 up_to s (e ∷ older) = from (up_to s older) (nat_le e.time s) where
   from : (newer : List TimedLine) × (older ≡ newer ++ until s older) → (b : Bool) → (newer : List TimedLine) × (e ∷ older ≡ newer ++ cond b (e ∷ older) (until s older))
@@ -69,7 +70,7 @@ up_to s (e ∷ older) = from (up_to s older) (nat_le e.time s) where
   from rest false = (e ∷ rest.0, ap (λ (t : List TimedLine). e ∷ t) rest.1)
 
 -- what is asked of the drivers is asked of each part
-honest_part : (constants : ℕ → Tuning) (newer later : List TimedLine) → IsHonest constants (lines_of (newer ++ later)) → IsHonest constants (lines_of later)
+pub honest_part : (constants : ℕ → Tuning) (newer later : List TimedLine) → IsHonest constants (lines_of (newer ++ later)) → IsHonest constants (lines_of later)
 honest_part constants [] later fair = fair
 honest_part constants (e ∷ newer) later fair = honest_part constants newer later fair.1
 
@@ -77,7 +78,7 @@ board_kept : (newer later : List TimedLine) (i : ℕ) (board : Board) → board_
 board_kept [] later i board at_part = at_part
 board_kept (e ∷ newer) later i board at_part = ap (λ (o : Option Board). option_or o (if nat_eq e.at.place i then board_in (saying e.at) else None)) (board_kept newer later i board at_part)
 
-distinct_part : (constants : ℕ → Tuning) (newer later : List TimedLine) → HaveDistinctMembers (lines_of (newer ++ later)) → HaveDistinctMembers (lines_of later)
+pub distinct_part : (constants : ℕ → Tuning) (newer later : List TimedLine) → HaveDistinctMembers (lines_of (newer ++ later)) → HaveDistinctMembers (lines_of later)
 distinct_part constants newer later distinct i j one other at_i at_j same = distinct i j one other (board_kept newer later i one at_i) (board_kept newer later j other at_j) same
 
 heads : (a b : TimedLine) (x y : List TimedLine) → a ∷ x ≡ b ∷ y → a ≡ b
@@ -87,7 +88,7 @@ tails : (a b : TimedLine) (x y : List TimedLine) → a ∷ x ≡ b ∷ y → x �
 tails a b x y same = cc
 
 -- a line that is earlier than the end of a part is within it
-in_past : (newer later front back : List TimedLine) (x : TimedLine) → newer ++ later ≡ front ++ x ∷ back → AreInOrder (newer ++ later) → x.time < time_of later → (middle : List TimedLine) × (later ≡ middle ++ x ∷ back)
+pub in_past : (newer later front back : List TimedLine) (x : TimedLine) → newer ++ later ≡ front ++ x ∷ back → AreInOrder (newer ++ later) → x.time < time_of later → (middle : List TimedLine) × (later ≡ middle ++ x ∷ back)
 in_past [] later front back x same order lt = (front, same)
 in_past (e ∷ newer) later [] back x same order lt =
     let le : time_of later ≤ time_of (newer ++ later) = before_end newer later order.1 in
@@ -98,11 +99,11 @@ in_past (e ∷ newer) later (y ∷ front) back x same order lt = in_past newer l
 
 -- ---- what a keeper accepted stays, and so does its number
 
-record Keeps (host next : Opened) : Type 0 where
-  me : next.me ≡ host.me
-  called : (call : KeeperCall) → Contains host.calls call → Contains next.calls call
+pub record Keeps (host next : Opened) : Type 0 where
+  pub me : next.me ≡ host.me
+  pub called : (call : KeeperCall) → Contains host.calls call → Contains next.calls call
 
-keeps_one : (constants : ℕ → Tuning) (older : List TimedLine) (e : TimedLine) (i : ℕ) (host : Opened) → StandsAt constants older i host → (next : Opened) × StandsAt constants (e ∷ older) i next × Keeps host next
+pub keeps_one : (constants : ℕ → Tuning) (older : List TimedLine) (e : TimedLine) (i : ℕ) (host : Opened) → StandsAt constants older i host → (next : Opened) × StandsAt constants (e ∷ older) i next × Keeps host next
 keeps_one constants older e i host there = from (nat_eq e.at.place i) where
   still : Keeps host host
   still = record { me = refl; called = λ call c. c }
@@ -120,7 +121,7 @@ keeps_one constants older e i host there = from (nat_eq e.at.place i) where
       (r.0, ap (λ (o : Option Opened). after o (answer (constants i) o (saying e.at))) there ∙ r.1, r.2)
   from false = (host, there, still)
 
-keeps_up_to : (constants : ℕ → Tuning) (newer older : List TimedLine) (i : ℕ) (host : Opened) → StandsAt constants older i host → (next : Opened) × StandsAt constants (newer ++ older) i next × Keeps host next
+pub keeps_up_to : (constants : ℕ → Tuning) (newer older : List TimedLine) (i : ℕ) (host : Opened) → StandsAt constants older i host → (next : Opened) × StandsAt constants (newer ++ older) i next × Keeps host next
 keeps_up_to constants [] older i host there = (host, there, record { me = refl; called = λ call c. c })
 keeps_up_to constants (e ∷ newer) older i host there =
     let r = keeps_up_to constants newer older i host there in
@@ -129,20 +130,20 @@ keeps_up_to constants (e ∷ newer) older i host there =
 
 -- ---- one line
 
-answer_is : (a b : Option Opened) (s t : List ℕ) → gives a s ≡ gives b t → a ≡ b
+pub answer_is : (a b : Option Opened) (s t : List ℕ) → gives a s ≡ gives b t → a ≡ b
 answer_is a b s t same = cc
 
-refused_not : (e : Refusal) (a : Option Opened) (t : List ℕ) → refuses e ≡ gives a t → ⊥
+pub refused_not : (e : Refusal) (a : Option Opened) (t : List ℕ) → refuses e ≡ gives a t → ⊥
 refused_not e a t same = cc
 
 -- a datagram that is heard, and not refused, stands among the calls
-abbrev HasHeard : Opened → Datagram → Type 0
+abbrev pub HasHeard : Opened → Datagram → Type 0
 HasHeard host v = (now word : ℕ) × (held : Bool) × Contains host.calls (Hear now v word held)
 
-abbrev then_heard : Datagram → Opened → Opened
+abbrev pub then_heard : Datagram → Opened → Opened
 then_heard v host = calling (Hear (present host) v (word_at v host.random) (asks_for_held host.board.drawops v)) (words_for v) host
 
-hearing : (v : Datagram) (host next : Opened) (text : List ℕ) → answer_at (Script (lines.Hear v)) host ≡ gives (Some next) text → HasHeard next v
+pub hearing : (v : Datagram) (host next : Opened) (text : List ℕ) → answer_at (Script (lines.Hear v)) host ≡ gives (Some next) text → HasHeard next v
 hearing v host next text same = from (is_own host.me v || has_room (marks_heard host.me host.calls) v) same where
   from : (b : Bool) → answered (if b then does (then_heard v host) (sends_text (answers_to host.me host.board.drawops v)) else fails faults.TooMany) ≡ gives (Some next) text → HasHeard next v
   from true is =
@@ -151,7 +152,7 @@ hearing v host next text same = from (is_own host.me v || has_room (marks_heard 
   from false is = absurd (refused_not (refusals.Line faults.TooMany) (Some next) text is)
 
 -- the host that took a line is what it became
-taken_next : (constants : ℕ → Tuning) (older : List TimedLine) (e : TimedLine) (said : DriverLine) (i : ℕ) → e.at.place ≡ i → (t : IsTaken constants older e said) → StandsAt constants (e ∷ older) i t.next
+pub taken_next : (constants : ℕ → Tuning) (older : List TimedLine) (e : TimedLine) (said : DriverLine) (i : ℕ) → e.at.place ≡ i → (t : IsTaken constants older e said) → StandsAt constants (e ∷ older) i t.next
 taken_next constants older e said i here t =
     ap (λ (b : Bool). cond b (after (host_at constants (lines_of older) i) (answer (constants i) (host_at constants (lines_of older) i) (saying e.at))) (host_at constants (lines_of older) i)) (eq-eqb e.at.place i here)
     ∙ ap (λ (o : Option Opened). after o (answer (constants i) o (saying e.at))) (sym (ap (host_at constants (lines_of older)) here) ∙ t.there)

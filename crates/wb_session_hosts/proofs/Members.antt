@@ -1,7 +1,7 @@
 -- A session of hosts is one of members.
 use Rattle.std.proofs.Common.{◌≡◌, ℕ, true, false, cond, List, [], ◌∷◌, ◌++◌, Option, Some, None, Result, Ok, Err, refl, sym, ap, ◌∙◌, subst, true≢false, inl, inr, ⊎_elim, eqb-true, eq-eqb}
 use Rattle.std.specs.Prelude.{Contains, nat_eq}
-use Rattle.std.proofs.lemmas.List.Elements.{Contains-append_cases}
+use Rattle.std.proofs.lemmas.List.Elements.{Contains-append_cases, Contains-append_left, Contains-append_right}
 use Rattle.wb_names.specs.Values.{DrawopValue}
 use Rattle.wb_names.proofs.Listings.{Contains-none}
 use Rattle.wb_codec.specs.declared.datagram.Datagram.{Datagram}
@@ -9,8 +9,10 @@ use Rattle.wb_codec.specs.declared.datagram.Datagram.TheVariants as datagrams
 use Rattle.wb_lines.specs.Taking.{met}
 use Rattle.wb_script.specs.Hosts.{Opened}
 use Rattle.wb_script.specs.SentLines.{send_line}
-use Rattle.wb_session.specs.Session.{Member, Act, Event, Group, IsDistinct, member, IsSession, IsDrawn}
+use Rattle.wb_member.specs.Members.{Member}
+use Rattle.wb_session.specs.Session.{Event, Group, IsDistinct, member, IsSession, IsDrawn}
 use Rattle.wb_session.specs.Session as members
+use Rattle.wb_session.specs.Holding.{AreCareful}
 use Rattle.wb_session.proofs.Drawn.{number_of}
 use Rattle.wb_session_scripts.specs.Hosts.{member_of}
 use Rattle.wb_dialog.specs.declared.fault.Refusal.{Refusal}
@@ -18,23 +20,14 @@ use Rattle.wb_dialog.specs.declared.line.DriverLine.{DriverLine}
 use Rattle.wb_dialog.specs.declared.line.DriverLine.TheVariants.{Say}
 use Rattle.wb_dialog.specs.Dialog.{answer, answer_at, after}
 use Rattle.wb_dialog.specs.Doing.{text_of}
+use Rattle.wb_session_hosts.specs.Acts.{acts_at, acts_by, events_of}
 use Rattle.wb_session_hosts.specs.Hosts.{LineAt, saying, host_at, reply_at, sends_by, sent, IsHonestAt, IsHonestBy}
 use Rattle.wb_session_hosts.specs.Laws.{IsMemberAt, HostsAreMembers}
 use Rattle.wb_session_hosts.proofs.Boards.{IsFirstBy, IsFairNext, IsFair, fair_of}
 use Rattle.wb_session_hosts.proofs.Bytes.{honest_more}
 use Rattle.wb_session_hosts.proofs.DriverLines.{met_fits}
-use Rattle.wb_session_hosts.proofs.Several.{ats, after_all, member_here, member_there, sent_more}
-use Rattle.wb_session_hosts.proofs.Turns.{acts_at, IsAt, IsSaid, Turns, turns, turns_first}
-
-abbrev pub acts_by : Option Opened → Result DriverLine Refusal → List Act
-acts_by None said = []
-acts_by (Some host) (Ok line) = acts_at line host
-acts_by (Some host) (Err e) = []
-
--- the events of the members, the newest first
-abbrev pub events_of : Group → List LineAt → List Event
-events_of group [] = []
-events_of group (e ∷ older) = ats e.place (acts_by (host_at group.constants older e.place) (saying e)) (events_of group older)
+use Rattle.wb_session_hosts.proofs.Several.{after_all, member_here, member_there, sent_more}
+use Rattle.wb_session_hosts.proofs.Turns.{IsAt, IsSaid, Turns, turns, turns_first}
 
 -- the line said the drawop as the own of the host, which sent it
 abbrev SaidBy : Option Opened → Result DriverLine Refusal → DrawopValue → Type 0
@@ -54,6 +47,7 @@ module _ (group : Group) (is : IsDistinct group) where
         record {
           at = subst (λ (n : Member). IsAt group i (after (Some host) (answer_at line host)) (after_all (acts_at line host) n)) (sym here) t.at;
           session = t.session;
+          careful = t.careful;
           sent = t.sent;
           new = λ x c. ⊎_elim
               (λ (g : Contains (member_of drawn host).drawn x). inl (subst (λ (n : Member). Contains n.drawn x) (sym here) g))
@@ -62,7 +56,7 @@ module _ (group : Group) (is : IsDistinct group) where
         }
 
     stays : (s : Option Opened) (said : DrawopValue → Type 0) → IsAt group i s m → Turns group i events m [] s [] said
-    stays s said at = record { at = at; session = session; sent = λ v c. absurd (Contains-none v c); new = λ x c. inl c }
+    stays s said at = record { at = at; session = session; careful = λ c. c; sent = λ v c. absurd (Contains-none v c); new = λ x c. inl c }
 
     turn : (s : Option Opened) (said : Result DriverLine Refusal) → IsAt group i s m → IsHonestBy (Contains (members.sent group events)) s said → IsFirstBy group i s said → Turns group i events m (acts_by s said) (after s (answer (group.constants i) s said)) (sends_by s said) (SaidBy s said)
     turn None (Err e) at fair first = stays None (SaidBy None (Err e)) at
@@ -81,15 +75,17 @@ module _ (group : Group) (is : IsDistinct group) where
     pub said : saying e ≡ Ok (Say (datagrams.Draw x))
     pub source : x.name.source ≡ group.number e.place
     pub text : text_of (reply_at group.constants older e.place e.line) ≡ send_line (datagrams.Draw x)
+    pub was_sent : Contains (sent group.constants lines) (datagrams.Draw x)
 
   pub record Follows (lines : List LineAt) : Type 0 where
     pub session : IsSession group (events_of group lines)
+    pub careful : AreCareful group (events_of group lines)
     pub at : (i : ℕ) → IsAt group i (host_at group.constants lines i) (member group (events_of group lines) i)
     pub sent : (v : Datagram) → Contains (sent group.constants lines) v → Contains (members.sent group (events_of group lines)) v
     pub said : (x : DrawopValue) → IsDrawn group (events_of group lines) x → Said lines x
 
   was_said_before : (e : LineAt) (older : List LineAt) (x : DrawopValue) → Said older x → Said (e ∷ older) x
-  was_said_before e older x w = record { newer = e ∷ w.newer; e = w.e; older = w.older; split = ap (λ (l : List LineAt). e ∷ l) w.split; said = w.said; source = w.source; text = w.text }
+  was_said_before e older x w = record { newer = e ∷ w.newer; e = w.e; older = w.older; split = ap (λ (l : List LineAt). e ∷ l) w.split; said = w.said; source = w.source; text = w.text; was_sent = Contains-append_right (sends_by (host_at group.constants older e.place) (saying e)) (sent group.constants older) (datagrams.Draw x) w.was_sent }
 
   module _ (e : LineAt) (older : List LineAt) (rest : Follows older) (fair : IsFairNext group older e) where
     abbrev i : ℕ
@@ -136,6 +132,8 @@ module _ (group : Group) (is : IsDistinct group) where
           said = says ∙ ap (λ (l : DriverLine). Ok l) h.line_is;
           source = h.source ∙ number;
           text = ap (λ (o : Option Opened). text_of (answer (group.constants i) o (saying e))) there ∙ ap (λ (r : Result DriverLine Refusal). text_of (answer (group.constants i) (Some host) r)) says ∙ h.text;
+          was_sent = Contains-append_left (sends_by s (saying e)) (sent group.constants older) (datagrams.Draw x)
+              (subst (λ (o : Option Opened). Contains (sends_by o (saying e)) (datagrams.Draw x)) (sym there) (subst (λ (r : Result DriverLine Refusal). Contains (sends_by (Some host) r) (datagrams.Draw x)) (sym says) h.sent));
         } where
           number_at : (host : Opened) → IsAt group i (Some host) (member group events i) → host.me ≡ group.number i
           number_at host (drawn, here, own) = sym (ap (λ (n : Member). n.number) here) ∙ number_of group events i
@@ -150,11 +148,12 @@ module _ (group : Group) (is : IsDistinct group) where
     ] refl
 
   pub follows : (lines : List LineAt) → IsFair group lines → Follows lines
-  follows [] fair = record { session = tt; at = λ i. refl; sent = λ v c. absurd (Contains-none v c); said = λ x c. absurd (Contains-none x c.1) }
+  follows [] fair = record { session = tt; careful = tt; at = λ i. refl; sent = λ v c. absurd (Contains-none v c); said = λ x c. absurd (Contains-none x c.1) }
   follows (e ∷ older) fair =
       let rest = follows older fair.1 in
       record {
         session = (did e older rest fair.0).session;
+        careful = (did e older rest fair.0).careful rest.careful;
         at = at_each e older rest fair.0;
         sent = all_sent e older rest fair.0;
         said = all_said e older rest fair.0;
@@ -168,4 +167,4 @@ member_at group happened i (Some host) (drawn, here, own) = ap (λ (n : Member).
 pub hosts_are_members : HostsAreMembers
 hosts_are_members group lines is boards fair =
     let f = follows group is lines (fair_of group lines boards fair) in
-    record { events = events_of group lines; session = f.session; hosts = λ i. member_at group (events_of group lines) i (host_at group.constants lines i) (f.at i); sent = f.sent }
+    record { session = f.session; careful = f.careful; hosts = λ i. member_at group (events_of group lines) i (host_at group.constants lines i) (f.at i); sent = f.sent }

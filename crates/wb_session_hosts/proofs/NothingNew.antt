@@ -7,6 +7,7 @@ use Rattle.wb_names.specs.Values.{DrawopValue}
 use Rattle.wb_names.proofs.Listings.{Contains-none}
 use Rattle.wb_codec.specs.declared.datagram.Datagram.TheVariants.{Draw}
 use Rattle.wb_recovery.specs.declared.tuning.Tuning.{Tuning}
+use Rattle.wb_progress.specs.Turns.{Terms}
 use Rattle.wb_script.specs.Hosts.{Opened}
 use Rattle.wb_script.specs.declared.command.Command.{Command}
 use Rattle.wb_script.specs.declared.command.Command.TheVariants as lines
@@ -15,7 +16,7 @@ use Rattle.wb_dialog.specs.declared.fault.Refusal.{Refusal}
 use Rattle.wb_dialog.specs.declared.line.DriverLine.{DriverLine}
 use Rattle.wb_dialog.specs.declared.line.DriverLine.TheVariants.{Script, Say}
 use Rattle.wb_session_hosts.specs.Hosts.{LineAt, saying, host_at, sends_by}
-use Rattle.wb_session_hosts.specs.Timed.{TimedLine, lines_of, AreInOrder, until, StandsAt, Terms, settled, IsTimely, IsHeldLive, NothingNew, WasPrinted}
+use Rattle.wb_session_hosts.specs.Timed.{TimedLine, lines_of, AreInOrder, until, StandsAt, settled, IsTimely, IsHeldLive, NothingNew, WasPrinted}
 use Rattle.wb_session_hosts.proofs.BoardMoves.{IsBringing, AnswerMoves, line_moves, line_tells}
 
 pub host_is : (a b : Opened) → ◌≡◌ {A = Option Opened} (Some a) (Some b) → a ≡ b

@@ -30,9 +30,22 @@ use Rattle.wb_dialog.specs.declared.fault.Refusal.{Refusal}
 use Rattle.wb_dialog.specs.declared.line.DriverLine.{DriverLine}
 use Rattle.wb_dialog.specs.declared.line.DriverLine.TheVariants.{Script}
 use Rattle.wb_session.proofs.Repairs.{is_false, takes}
-use Rattle.wb_session_hosts.specs.Hosts.{LineAt, saying, host_at, sends_at, sends_by, sends_by_act, sent, CameOut, IsHonestAt, IsHonestBy, IsHonestNext}
+use Rattle.wb_session_hosts.specs.Hosts.{LineAt, saying, host_at, sends_at, sends_by, sends_by_act, sent, CameOut, IsHonestAt, IsHonestBy, IsHonestNext, IsUnforgedAt, IsUnforgedBy}
 
 -- ---- one line
+
+-- whatever comes in by it came out before
+abbrev pub CameBefore : (Datagram → Type 0) → Opened → DriverLine → Type 0
+CameBefore Before host (Script (lines.Hear v)) = Before v
+CameBefore Before host line = IsHonestAt Before host line
+
+before_honest : (Before : Datagram → Type 0) (host : Opened) (line : DriverLine) → CameBefore Before host line → IsHonestAt Before host line
+before_honest Before host (Script (lines.Hear v)) c = λ tells. c
+before_honest Before host line c = c
+
+before_unforged : (Before : Datagram → Type 0) (host : Opened) (line : DriverLine) → CameBefore Before host line → IsUnforgedAt Before line
+before_unforged Before host (Script (lines.Hear v)) c = c
+before_unforged Before host line c = tt
 
 module _ (constants : ℕ → Tuning) (older : List LineAt) (e : LineAt) (i : ℕ) (line : DriverLine) (host : Opened) (here : e.place ≡ i) (says : saying e ≡ Ok line) (there : host_at constants older i ≡ Some host) where
   pub did : host_at constants (e ∷ older) i ≡ after (Some host) (answer_at line host)
@@ -50,8 +63,11 @@ module _ (constants : ℕ → Tuning) (older : List LineAt) (e : LineAt) (i : �
   did_send v c = Contains-append_left (sends_by (host_at constants older e.place) (saying e)) (sent constants older) v
       (subst (λ (ds : List Datagram). Contains ds v) (sym (ap (λ (o : Option Opened). sends_by o (saying e)) at_place ∙ ap (sends_by (Some host)) says)) c)
 
-  pub is_fair : IsHonestAt (CameOut constants older) host line → IsHonestNext constants older e
-  is_fair h = subst (λ (o : Option Opened). IsHonestBy (CameOut constants older) o (saying e)) (sym at_place) (subst (IsHonestBy (CameOut constants older) (Some host)) (sym says) h)
+  pub is_fair : CameBefore (CameOut constants older) host line → IsHonestNext constants older e
+  is_fair h = subst (λ (o : Option Opened). IsHonestBy (CameOut constants older) o (saying e)) (sym at_place) (subst (IsHonestBy (CameOut constants older) (Some host)) (sym says) (before_honest (CameOut constants older) host line h))
+
+  pub is_unforged : CameBefore (CameOut constants older) host line → IsUnforgedBy (CameOut constants older) (host_at constants older e.place) (saying e)
+  is_unforged h = subst (λ (o : Option Opened). IsUnforgedBy (CameOut constants older) o (saying e)) (sym at_place) (subst (IsUnforgedBy (CameOut constants older) (Some host)) (sym says) (before_unforged (CameOut constants older) host line h))
 
 pub still_sent : (constants : ℕ → Tuning) (e : LineAt) (older : List LineAt) (v : Datagram) → Contains (sent constants older) v → Contains (sent constants (e ∷ older)) v
 still_sent constants e older v c = Contains-append_right (sends_by (host_at constants older e.place) (saying e)) (sent constants older) v c

@@ -10,12 +10,14 @@ use Rattle.wb_host.specs.Hearing.{marks_heard}
 use Rattle.wb_host.specs.Keeper.{high_heard, holds}
 use Rattle.wb_host.proofs.KeptCalls.{holds_from}
 use Rattle.wb_script.specs.Hosts.{Opened}
-use Rattle.wb_session.specs.Session.{Member, Group, member, IsDrawn}
+use Rattle.wb_member.specs.Members.{Member}
+use Rattle.wb_session.specs.Session.{Event, Group, member, IsDrawn}
 use Rattle.wb_session.proofs.Drawn.{number_of, drawn_is_once, held_is_drawn}
 use Rattle.wb_session.proofs.Holding.{member_of as drawop_in}
 use Rattle.wb_session.proofs.Names.{held_once}
 use Rattle.wb_session.proofs.Truth.{heard_marks}
 use Rattle.wb_session_scripts.specs.Hosts.{member_of}
+use Rattle.wb_session_hosts.specs.Acts.{events_of}
 use Rattle.wb_session_hosts.specs.Hosts.{LineAt, host_at, HaveDistinctMembers, group_of, IsHonest}
 use Rattle.wb_session_hosts.specs.Laws.{IsMemberAt, AreMembers}
 use Rattle.wb_session_hosts.proofs.Boards.{boards_make_group}
@@ -31,14 +33,17 @@ module _ (constants : ℕ → Tuning) (lines' : List LineAt) (distinct : HaveDis
   are : AreMembers group lines'
   are = let g = boards_make_group constants lines' distinct in hosts_are_members group lines' g.0 g.1 fair
 
-  same : (i : ℕ) (host : Opened) → host_at constants lines' i ≡ Some host → member_of (member group are.events i).drawn host ≡ member group are.events i
-  same i host e = subst (λ (o : Option Opened). IsMemberAt group are.events i o) e (are.hosts i)
+  abbrev happened : List Event
+  happened = events_of group lines'
+
+  same : (i : ℕ) (host : Opened) → host_at constants lines' i ≡ Some host → member_of (member group happened i).drawn host ≡ member group happened i
+  same i host e = subst (λ (o : Option Opened). IsMemberAt group happened i o) e (are.hosts i)
 
   number : (i : ℕ) (host : Opened) → host_at constants lines' i ≡ Some host → host.me ≡ group.number i
-  number i host e = ap (λ (m : Member). m.number) (same i host e) ∙ number_of group are.events i
+  number i host e = ap (λ (m : Member). m.number) (same i host e) ∙ number_of group happened i
 
   pub once : (i : ℕ) (host : Opened) → host_at constants lines' i ≡ Some host → IsHistory host.board.drawops
-  once i host e = subst IsHistory (sym (ap (λ (m : Member). m.held) (same i host e))) (held_once group are.events i)
+  once i host e = subst IsHistory (sym (ap (λ (m : Member). m.held) (same i host e))) (held_once group happened i)
 
   pub apart : (i j : ℕ) (host other : Opened) (d : DrawopValue) → host_at constants lines' i ≡ Some host → host_at constants lines' j ≡ Some other → Contains other.board.drawops d → holds host.board.drawops d.name ≡ false → i ≡ j → ⊥
   apart i j host other d e f held lost one =
@@ -53,8 +58,8 @@ module _ (constants : ℕ → Tuning) (lines' : List LineAt) (distinct : HaveDis
   pub held_by_name : (i j : ℕ) (host other : Opened) (d : DrawopValue) → host_at constants lines' i ≡ Some host → host_at constants lines' j ≡ Some other → Contains other.board.drawops d → holds host.board.drawops d.name ≡ true → Contains host.board.drawops d
   held_by_name i j host other d e f held has =
       let x = drawop_in host.board.drawops d.name has in
-      let drawn : (k : ℕ) (h : Opened) (y : DrawopValue) → host_at constants lines' k ≡ Some h → Contains h.board.drawops y → IsDrawn group are.events y = λ k h y at c. held_is_drawn group are.events are.session k y (subst (λ (m : Member). Contains m.held y) (same k h at) c) in
-      let one : x.0 ≡ d = drawn_is_once group are.events (boards_make_group constants lines' distinct).0 x.0 d (drawn i host x.0 e x.1) (drawn j other d f held) x.2 in
+      let drawn : (k : ℕ) (h : Opened) (y : DrawopValue) → host_at constants lines' k ≡ Some h → Contains h.board.drawops y → IsDrawn group happened y = λ k h y at c. held_is_drawn group happened are.session k y (subst (λ (m : Member). Contains m.held y) (same k h at) c) in
+      let one : x.0 ≡ d = drawn_is_once group happened (boards_make_group constants lines' distinct).0 x.0 d (drawn i host x.0 e x.1) (drawn j other d f held) x.2 in
       subst (Contains host.board.drawops) one x.1
 
   -- one number, one place
@@ -63,4 +68,4 @@ module _ (constants : ℕ → Tuning) (lines' : List LineAt) (distinct : HaveDis
 
   -- its marks have the greatest numbers that it heard
   pub greatest_heard : (i : ℕ) (host : Opened) → host_at constants lines' i ≡ Some host → (page : PageId) (source : ℕ) → mark_of (marks_heard host.me host.calls page) source ≡ high_heard host.me host.calls page source
-  greatest_heard i host e page source = subst (λ (m : Member). mark_of (marks_heard m.number m.calls page) source ≡ high_heard m.number m.calls page source) (sym (same i host e)) (heard_marks group (boards_make_group constants lines' distinct).0 are.events are.session i page source)
+  greatest_heard i host e page source = subst (λ (m : Member). mark_of (marks_heard m.number m.calls page) source ≡ high_heard m.number m.calls page source) (sym (same i host e)) (heard_marks group (boards_make_group constants lines' distinct).0 happened are.session i page source)

@@ -25,12 +25,12 @@ use Rattle.wb_script.specs.declared.command.Command.TheVariants as lines
 use Rattle.wb_dialog.specs.Dialog.{answer_at, after}
 use Rattle.wb_dialog.specs.declared.line.DriverLine.{DriverLine}
 use Rattle.wb_dialog.specs.declared.line.DriverLine.TheVariants.{Script, Ask, Stop}
-use Rattle.wb_session_hosts.specs.Hosts.{LineAt, saying, host_at, board_in, sent, HaveDistinctMembers, CameOut, IsHonestAt, IsHonest}
+use Rattle.wb_session_hosts.specs.Hosts.{LineAt, saying, host_at, board_in, sent, HaveDistinctMembers, CameOut, IsHonest}
 use Rattle.wb_session_hosts.proofs.Coming.{line, request_short}
 use Rattle.wb_session_hosts.proofs.Growing.{Grows, grows_more, grows_less, stays_so, rests, GoesOn, none_yet, go_on, go_as, then_there, one_line}
 use Rattle.wb_session_hosts.proofs.Holding.{hosts_answer_held}
 use Rattle.wb_session_hosts.proofs.HostRanges.{Fits, host_fits}
-use Rattle.wb_session_hosts.proofs.OneLine.{idle, did_send, still_sent, came, ticked, tick_after, tick_sends, heard, hear_after}
+use Rattle.wb_session_hosts.proofs.OneLine.{CameBefore, idle, did_send, still_sent, came, ticked, tick_after, tick_sends, heard, hear_after}
 use Rattle.wb_session_hosts.proofs.Orderly.{hosts_are_orderly}
 use Rattle.wb_session_hosts.proofs.Outset.{once, apart, differ}
 use Rattle.wb_session_hosts.proofs.Sayable.{tick_text, ask_text, stop_text, datagram_text, tick_says, ask_says, stop_says, datagram_says}
@@ -48,7 +48,7 @@ module _ (constants : ℕ → Tuning) (drawops ahead : List DrawopValue) (old : 
     two : host_at constants new j ≡ Some b
 
   module _ (t s : ℕ) (new : List LineAt) (a b : Opened) (w : Two t new a b) (e : LineAt) (said : DriverLine) (says : saying e ≡ Ok said) (unboarded : board_in (Ok said) ≡ None) (next : Opened) where
-    first_line : e.place ≡ i → IsHonestAt (CameOut constants new) a said → after (Some a) (answer_at said a) ≡ Some next → Grows s drawops ahead a next → Two (t + s) (e ∷ new) next b
+    first_line : e.place ≡ i → CameBefore (CameOut constants new) a said → after (Some a) (answer_at said a) ≡ Some next → Grows s drawops ahead a next → Two (t + s) (e ∷ new) next b
     first_line here comes becomes grows = record {
       on = go_on constants (Grows t drawops ahead) (Grows s drawops ahead) (Grows (t + s) drawops ahead) old new (e ∷ new) (λ x y z. grows_more drawops ahead t s x y z) w.on
           (one_line constants new w.on.distinct w.on.honest e i said a next here says w.one comes unboarded becomes (Grows s drawops ahead) (stays_so drawops ahead s) grows);
@@ -56,7 +56,7 @@ module _ (constants : ℕ → Tuning) (drawops ahead : List DrawopValue) (old : 
       two = idle constants new e i said a here says w.one j different ∙ w.two;
     }
 
-    second_line : e.place ≡ j → IsHonestAt (CameOut constants new) b said → after (Some b) (answer_at said b) ≡ Some next → Grows s drawops ahead b next → Two (t + s) (e ∷ new) a next
+    second_line : e.place ≡ j → CameBefore (CameOut constants new) b said → after (Some b) (answer_at said b) ≡ Some next → Grows s drawops ahead b next → Two (t + s) (e ∷ new) a next
     second_line here comes becomes grows = record {
       on = go_on constants (Grows t drawops ahead) (Grows s drawops ahead) (Grows (t + s) drawops ahead) old new (e ∷ new) (λ x y z. grows_more drawops ahead t s x y z) w.on
           (one_line constants new w.on.distinct w.on.honest e j said b next here says w.two comes unboarded becomes (Grows s drawops ahead) (stays_so drawops ahead s) grows);

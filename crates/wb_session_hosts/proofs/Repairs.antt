@@ -20,31 +20,34 @@ use Rattle.wb_script.specs.declared.command.Command.TheVariants as lines
 use Rattle.wb_dialog.specs.Dialog.{answer_at, after}
 use Rattle.wb_dialog.specs.declared.line.DriverLine.{DriverLine}
 use Rattle.wb_dialog.specs.declared.line.DriverLine.TheVariants.{Script, Ask}
-use Rattle.wb_session_hosts.specs.Hosts.{LineAt, saying, host_at, sent, HaveDistinctMembers, CameOut, IsHonestAt, IsHonest}
+use Rattle.wb_session_hosts.specs.Hosts.{LineAt, saying, host_at, sent, HaveDistinctMembers, CameOut, IsHonest, NothingIsForged}
 use Rattle.wb_session_hosts.specs.Repairs.{Say, repair, IsLost, IsBrought, RepairIsPossible}
 use Rattle.wb_session_hosts.proofs.Holding.{hosts_answer_held}
-use Rattle.wb_session_hosts.proofs.OneLine.{did, idle, did_send, is_fair, still_sent, came, ticked, tick_after, tick_sends, Asked, asked, taken, heard, hear_after}
+use Rattle.wb_session_hosts.proofs.OneLine.{CameBefore, did, idle, did_send, is_fair, is_unforged, still_sent, came, ticked, tick_after, tick_sends, Asked, asked, taken, heard, hear_after}
 use Rattle.wb_session_hosts.proofs.Orderly.{hosts_are_orderly}
 use Rattle.wb_session_hosts.proofs.Outset.{once, apart, differ}
 
 -- ---- two hosts, and the lines so far
 
-record Stage (constants : ℕ → Tuning) (lines' : List LineAt) (i j : ℕ) (host other : Opened) : Type 0 where
+record Stage (constants : ℕ → Tuning) (start lines' : List LineAt) (i j : ℕ) (host other : Opened) : Type 0 where
   honest : IsHonest constants lines'
+  unforged : NothingIsForged constants start → NothingIsForged constants lines'
   one : host_at constants lines' i ≡ Some host
   two : host_at constants lines' j ≡ Some other
 
-module _ (constants : ℕ → Tuning) (i j : ℕ) (differ' : i ≡ j → ⊥) (older : List LineAt) (host other : Opened) (s : Stage constants older i j host other) (e : LineAt) (line : DriverLine) (says : saying e ≡ Ok line) where
-  first_next : e.place ≡ i → IsHonestAt (CameOut constants older) host line → (next : Opened) → after (Some host) (answer_at line host) ≡ Some next → Stage constants (e ∷ older) i j next other
+module _ (constants : ℕ → Tuning) (start : List LineAt) (i j : ℕ) (differ' : i ≡ j → ⊥) (older : List LineAt) (host other : Opened) (s : Stage constants start older i j host other) (e : LineAt) (line : DriverLine) (says : saying e ≡ Ok line) where
+  first_next : e.place ≡ i → CameBefore (CameOut constants older) host line → (next : Opened) → after (Some host) (answer_at line host) ≡ Some next → Stage constants start (e ∷ older) i j next other
   first_next here fair next is = record {
     honest = (is_fair constants older e i line host here says s.one fair, s.honest);
+    unforged = λ none. (is_unforged constants older e i line host here says s.one fair, s.unforged none);
     one = did constants older e i line host here says s.one ∙ is;
     two = idle constants older e i line host here says s.one j differ' ∙ s.two;
   }
 
-  second_next : e.place ≡ j → IsHonestAt (CameOut constants older) other line → (next : Opened) → after (Some other) (answer_at line other) ≡ Some next → Stage constants (e ∷ older) i j host next
+  second_next : e.place ≡ j → CameBefore (CameOut constants older) other line → (next : Opened) → after (Some other) (answer_at line other) ≡ Some next → Stage constants start (e ∷ older) i j host next
   second_next here fair next is = record {
     honest = (is_fair constants older e j line other here says s.two fair, s.honest);
+    unforged = λ none. (is_unforged constants older e j line other here says s.two fair, s.unforged none);
     one = idle constants older e j line other here says s.two i (λ same. differ' (sym same)) ∙ s.one;
     two = did constants older e j line other here says s.two ∙ is;
   }
@@ -91,8 +94,8 @@ module _ (constants : ℕ → Tuning) (older : List LineAt) (i j : ℕ) (host ot
   abbrev other_4 : Opened
   other_4 = ticked third other_3
 
-  start : Stage constants older i j host other
-  start = record { honest = fair; one = lost.lacking; two = lost.holding }
+  start : Stage constants older older i j host other
+  start = record { honest = fair; unforged = λ none. none; one = lost.lacking; two = lost.holding }
 
   -- what the host that lacks it becomes
 
@@ -181,39 +184,40 @@ module _ (constants : ℕ → Tuning) (older : List LineAt) (i j : ℕ) (host ot
     says1 : (e1.place ≡ i) × (saying e1 ≡ Ok (Ask n))
     says1 = (said.2.2.2.2.2.2.0, said.2.2.2.2.2.2.1)
 
-    stage1 : Stage constants l1 i j host_1 other
-    stage1 = first_next constants i j different older host other start e1 (Ask n) says1.1 says1.0 tt host_1 refl
+    stage1 : Stage constants older l1 i j host_1 other
+    stage1 = first_next constants older i j different older host other start e1 (Ask n) says1.1 says1.0 tt host_1 refl
 
-    stage2 : Stage constants l2 i j host_2 other
-    stage2 = first_next constants i j different l1 host_1 other stage1 e2 (Script (lines.Tick asking)) says2.1 says2.0 tt host_2 (tick_after host_1 asking later)
+    stage2 : Stage constants older l2 i j host_2 other
+    stage2 = first_next constants older i j different l1 host_1 other stage1 e2 (Script (lines.Tick asking)) says2.1 says2.0 tt host_2 (tick_after host_1 asking later)
 
     sent2 : Contains (sent constants l2) (Request host.me n)
     sent2 = did_send constants l1 e2 i (Script (lines.Tick asking)) host_1 says2.0 says2.1 stage1.one (Request host.me n)
         (tick_sends host_1 asking later (Request host.me n) (requests (hosts_are_orderly constants l1 i host_1 stage1.one).0))
 
-    stage3 : Stage constants l3 i j host_2 other_1
-    stage3 = second_next constants i j different l2 host_2 other stage2 e3 (Script (lines.Tick first)) says3.1 says3.0 tt other_1 (tick_after other first (up (present other) answering_wait))
+    stage3 : Stage constants older l3 i j host_2 other_1
+    stage3 = second_next constants older i j different l2 host_2 other stage2 e3 (Script (lines.Tick first)) says3.1 says3.0 tt other_1 (tick_after other first (up (present other) answering_wait))
 
-    stage4 : Stage constants l4 i j host_2 other_2
-    stage4 = second_next constants i j different l3 host_2 other_1 stage3 e4 (Script (lines.Tick second)) says4.1 says4.0 tt other_2 (tick_after other_1 second (up first quiet_wait))
+    stage4 : Stage constants older l4 i j host_2 other_2
+    stage4 = second_next constants older i j different l3 host_2 other_1 stage3 e4 (Script (lines.Tick second)) says4.1 says4.0 tt other_2 (tick_after other_1 second (up first quiet_wait))
 
-    stage5 : Stage constants l5 i j host_2 other_3
-    stage5 = second_next constants i j different l4 host_2 other_2 stage4 e5 (Script (lines.Hear (Request host.me n))) says5.1 says5.0
+    stage5 : Stage constants older l5 i j host_2 other_3
+    stage5 = second_next constants older i j different l4 host_2 other_2 stage4 e5 (Script (lines.Hear (Request host.me n))) says5.1 says5.0
         (came constants l4 (Request host.me n) (still_sent constants e4 l3 (Request host.me n) (still_sent constants e3 l2 (Request host.me n) sent2)))
         other_3 (hear_after other_2 host.me n)
 
-    stage6 : Stage constants l6 i j host_2 other_4
-    stage6 = second_next constants i j different l5 host_2 other_3 stage5 e6 (Script (lines.Tick third)) says6.1 says6.0 tt other_4 (tick_after other_3 third (up second answering_wait))
+    stage6 : Stage constants older l6 i j host_2 other_4
+    stage6 = second_next constants older i j different l5 host_2 other_3 stage5 e6 (Script (lines.Tick third)) says6.1 says6.0 tt other_4 (tick_after other_3 third (up second answering_wait))
 
     sent6 : Contains (sent constants l6) (Draw d)
     sent6 = did_send constants l5 e6 j (Script (lines.Tick third)) other_3 says6.0 says6.1 stage5.two (Draw d) (tick_sends other_3 third (up second answering_wait) (Draw d) answers)
 
-    stage7 : Stage constants l7 i j (accepted d host_2) other_4
-    stage7 = first_next constants i j different l6 host_2 other_4 stage6 e7 (Script (lines.Arrive d)) says7.1 says7.0 (came constants l6 (Draw d) sent6) (accepted d host_2) refl
+    stage7 : Stage constants older l7 i j (accepted d host_2) other_4
+    stage7 = first_next constants older i j different l6 host_2 other_4 stage6 e7 (Script (lines.Arrive d)) says7.1 says7.0 (came constants l6 (Draw d) sent6) (accepted d host_2) refl
 
     brought : IsBrought constants (e7 ∷ e6 ∷ e5 ∷ e4 ∷ e3 ∷ e2 ∷ e1 ∷ []) older i d
     brought = record {
       honest = stage7.honest;
+      unforged = stage7.unforged;
       after = accepted d host_2;
       there = stage7.one;
       held = taken host_2 d lost_1 (subst (λ (b : Held). length b.drawops < b.cells) (sym asks.board) lost.room);

@@ -6,13 +6,10 @@ use Rattle.wb_names.specs.Values.{DrawopValue}
 use Rattle.wb_names.proofs.Listings.{Contains-here, Contains-none}
 use Rattle.wb_codec.specs.declared.datagram.Datagram.{Datagram}
 use Rattle.wb_codec.specs.declared.datagram.Datagram.TheVariants.{Draw}
-use Rattle.wb_session.specs.Session.{Member, Act, Draws, next_drawop, after, sends, Event, Group, member, sent, IsDrawn}
+use Rattle.wb_member.specs.Members.{Member, Act, Draws, next_drawop, after, sends}
+use Rattle.wb_session.specs.Session.{Event, Group, member, sent, IsDrawn}
 use Rattle.wb_session.proofs.Members.{IsDrawing, drawn_after, step, acts}
-
--- acts of the member at a place, the newest first
-abbrev pub ats : ℕ → List Act → List Event → List Event
-ats i [] events = events
-ats i (a ∷ more) events = record { place = i; act = a } ∷ ats i more events
+use Rattle.wb_session_hosts.specs.Acts.{ats}
 
 abbrev pub after_all : List Act → Member → Member
 after_all [] m = m

@@ -1,6 +1,6 @@
 -- What one line does is acts of the member that the host is.
 use Rattle.std.proofs.Common.{◌≡◌, ℕ, ◌+◌, Bool, true, false, cond, max, List, [], ◌∷◌, ◌++◌, Option, Some, None, refl, sym, ap, ◌∙◌, subst, arith, ◌⊎◌, inl, inr, ⊎_elim, eqb-true}
-use Rattle.std.specs.Prelude.{Contains, nat_eq, nat_lt, unwrap_or, if◌then◌else◌}
+use Rattle.std.specs.Prelude.{All, Contains, nat_eq, nat_lt, unwrap_or, if◌then◌else◌}
 use Rattle.std.proofs.lemmas.List.Elements.{Contains-append_left, Contains-append_right, All-nil, All-cons}
 use Rattle.wb_names.specs.Values.{NameValue, DrawopValue}
 use Rattle.wb_names.specs.Arrivals.{Outcome, Fresh, Known, Clashed, Left, outcome_of, history_with}
@@ -22,8 +22,10 @@ use Rattle.wb_script.specs.declared.acceptance.Acceptance.{Acceptance}
 use Rattle.wb_script.specs.declared.acceptance.Acceptance.TheVariants as became
 use Rattle.wb_script.specs.declared.command.Command.{Command}
 use Rattle.wb_script.specs.declared.command.Command.TheVariants as lines
-use Rattle.wb_session.specs.Session.{Member, Act, Draws, Takes, Misses, GivesUp, AsksForPages, next_drawop, holding, after, sends, ComesFrom, Event, Group, IsDistinct, member, newcomer, IsSession}
+use Rattle.wb_member.specs.Members.{Member, Act, Draws, Takes, Misses, GivesUp, AsksForPages, next_drawop, holding, after, sends}
+use Rattle.wb_session.specs.Session.{ComesFrom, Event, Group, IsDistinct, member, newcomer, IsSession}
 use Rattle.wb_session.specs.Session as members
+use Rattle.wb_session.specs.Holding.{IsCareful, AreCareful}
 use Rattle.wb_session.proofs.Drawn.{held_is_drawn}
 use Rattle.wb_session.proofs.Members.{IsDrawing, held_grows}
 use Rattle.wb_session.proofs.Quiet.{next_is_known}
@@ -36,43 +38,12 @@ use Rattle.wb_dialog.specs.declared.line.DriverLine.TheVariants.{Script, Say, Ne
 use Rattle.wb_dialog.specs.Dialog as dialog
 use Rattle.wb_dialog.specs.Dialog.{Answer, answered, answer_at, speaker}
 use Rattle.wb_dialog.specs.Doing.{text_of}
+use Rattle.wb_session_hosts.specs.Acts.{listed, acts_by_act, acts_drawing, acts_said, acts_at, ats}
 use Rattle.wb_session_hosts.specs.Hosts.{sends_by_act, sends_drawing, sends_said, sends_at, MaySay, IsHonestAt}
 use Rattle.wb_session_hosts.proofs.Boards.{IsFirst}
+use Rattle.wb_session_hosts.proofs.Holding.{wanted_lacking, asked_lacking}
 use Rattle.wb_session_hosts.proofs.Outcomes.{Found, found}
-use Rattle.wb_session_hosts.proofs.Several.{ats, after_all, drawn_sent}
-
--- ---- the acts of a line, the newest first
-
-abbrev pub listed : Option Act → List Act
-listed None = []
-listed (Some a) = a ∷ []
-
-abbrev pub acts_by_act : Command → Opened → scripts.Act → List Act
-acts_by_act line host (does next text) = listed (act_of line host)
-acts_by_act line host (fails e) = []
-
-abbrev pub acts_script : Command → Opened → List Act
-acts_script (lines.Arrive d) host = Takes (present host) (d ∷ []) (d ∷ []) ∷ []
-acts_script line host = acts_by_act line host (act line host)
-
--- A drawing that is new is drawn and taken. Else its batch comes to nothing.
-abbrev pub acts_drawing : DrawopValue → Opened → Acceptance → List Act
-acts_drawing d host became.New = Takes (present host) (d ∷ []) (d ∷ []) ∷ Draws d.name.page d.time d.op ∷ []
-acts_drawing d host became.Again = Takes (present host) (d ∷ []) [] ∷ []
-acts_drawing d host became.Clash = Takes (present host) (d ∷ []) [] ∷ []
-acts_drawing d host became.Left = Takes (present host) (d ∷ []) [] ∷ []
-
-abbrev pub acts_said : Datagram → Opened → List Act
-acts_said (datagrams.Draw d) host = acts_drawing d host (acceptance d host)
-acts_said (datagrams.AskPages asker) host = AsksForPages ∷ []
-acts_said v host = []
-
-abbrev pub acts_at : DriverLine → Opened → List Act
-acts_at (Script line) host = acts_script line host
-acts_at (Say v) host = if nat_eq (speaker v) host.me then acts_said v host else []
-acts_at (Ask name) host = listed (asks_any name host)
-acts_at (Stop name) host = GivesUp (present host) name ∷ []
-acts_at line host = []
+use Rattle.wb_session_hosts.proofs.Several.{after_all, drawn_sent}
 
 -- ---- what one turn keeps
 
@@ -90,10 +61,12 @@ pub record IsSaid (line : DriverLine) (host : Opened) (x : DrawopValue) : Type 0
   pub line_is : line ≡ Say (datagrams.Draw x)
   pub source : x.name.source ≡ host.me
   pub text : text_of (answer_at line host) ≡ send_line (datagrams.Draw x)
+  pub sent : Contains (sends_at line host) (datagrams.Draw x)
 
 pub record Turns (group : Group) (i : ℕ) (events : List Event) (m : Member) (all : List Act) (next : Option Opened) (out : List Datagram) (said : DrawopValue → Type 0) : Type 0 where
   pub at : IsAt group i next (after_all all m)
   pub session : IsSession group (ats i all events)
+  pub careful : AreCareful group events → AreCareful group (ats i all events)
   pub sent : (v : Datagram) → Contains out v → Contains (members.sent group (ats i all events)) v
   pub new : (x : DrawopValue) → Contains (after_all all m).drawn x → Contains m.drawn x ⊎ said x
 
@@ -110,7 +83,7 @@ module _ (group : Group) (is : IsDistinct group) (i : ℕ) (events : List Event)
   -- ---- a line that is no act, or one that draws nothing
 
   idle : (said : DrawopValue → Type 0) → Does [] (Some host) [] said
-  idle said = record { at = (drawn, refl, own); session = s; sent = (λ v c. none_out v c); new = λ x c. inl c }
+  idle said = record { at = (drawn, refl, own); session = s; careful = λ c. c; sent = (λ v c. none_out v c); new = λ x c. inl c }
 
   abbrev DrawsNone : Option Act → Type 0
   DrawsNone None = Unit {0}
@@ -120,6 +93,10 @@ module _ (group : Group) (is : IsDistinct group) (i : ℕ) (events : List Event)
   ComesAny None = Unit {0}
   ComesAny (Some a) = ComesFrom (members.sent group events) a
 
+  abbrev CarefulAny : Option Act → Type 0
+  CarefulAny None = Unit {0}
+  CarefulAny (Some a) = IsCareful a m
+
   same_drawn : (a : Act) → ((n : Member) (x : DrawopValue) → IsDrawing a n x → ⊥) → (after a m).drawn ≡ drawn
   same_drawn (Draws page time op) none = absurd (none m (next_drawop m page time op) refl)
   same_drawn a none = refl
@@ -128,43 +105,49 @@ module _ (group : Group) (is : IsDistinct group) (i : ℕ) (events : List Event)
   same_sends (Draws page time op) none = absurd (none m (next_drawop m page time op) refl)
   same_sends a none = refl
 
-  one : (said : DrawopValue → Type 0) (a : Act) (next : Opened) (out : List Datagram) → member_of drawn next ≡ after a m → ((n : Member) (x : DrawopValue) → IsDrawing a n x → ⊥) → ComesFrom (members.sent group events) a
+  one : (said : DrawopValue → Type 0) (a : Act) (next : Opened) (out : List Datagram) → member_of drawn next ≡ after a m → ((n : Member) (x : DrawopValue) → IsDrawing a n x → ⊥) → ComesFrom (members.sent group events) a → IsCareful a m
       → ((v : Datagram) → Contains out v → Contains (sends a m) v) → Does (a ∷ []) (Some next) out said
-  one said a next out e none comes goes = record {
+  one said a next out e none comes mild goes = record {
     at = (drawn, sym e, λ x c. subst (λ (n : Member). Contains n.held x) (sym e) (held_grows a m x (own x c)));
     session = (comes, s);
+    careful = λ c. (subst (IsCareful a) (sym here) mild, c);
     sent = λ v c. Contains-append_left (sends a (member group events i)) (members.sent group events) v (subst (λ (n : Member). Contains (sends a n) v) (sym here) (goes v c));
     new = λ x c. inl (subst (λ (ds : List DrawopValue). Contains ds x) (same_drawn a none) c);
   }
 
-  any : (said : DrawopValue → Type 0) (o : Option Act) (next : Opened) → member_of drawn next ≡ after_any o m → DrawsNone o → ComesAny o → Does (listed o) (Some next) (sends_any o (member_of [] host)) said
-  any said None next e none comes = record {
+  any : (said : DrawopValue → Type 0) (o : Option Act) (next : Opened) → member_of drawn next ≡ after_any o m → DrawsNone o → ComesAny o → CarefulAny o → Does (listed o) (Some next) (sends_any o (member_of [] host)) said
+  any said None next e none comes mild = record {
     at = (drawn, sym e, λ x c. subst (λ (n : Member). Contains n.held x) (sym e) (own x c));
     session = s;
+    careful = λ c. c;
     sent = (λ v c. none_out v c);
     new = λ x c. inl c;
   }
-  any said (Some a) next e none comes = one said a next (sends a (member_of [] host)) e none comes (λ v c. subst (λ (l : List Datagram). Contains l v) (same_sends a none) c)
+  any said (Some a) next e none comes mild = one said a next (sends a (member_of [] host)) e none comes mild (λ v c. subst (λ (l : List Datagram). Contains l v) (same_sends a none) c)
 
-  by_act : (said : DrawopValue → Type 0) (line : Command) (did : scripts.Act) → act line host ≡ did → DrawsNone (act_of line host) → ComesAny (act_of line host) → Does (acts_by_act line host did) (dialog.after (Some host) (answered did)) (sends_by_act line host did) said
-  by_act said line (fails e) f none comes = idle said
-  by_act said line (does next text) f none comes = any said (act_of line host) next (lines_are_acts drawn line host next text f).member none comes
+  by_act : (said : DrawopValue → Type 0) (line : Command) (did : scripts.Act) → act line host ≡ did → DrawsNone (act_of line host) → ComesAny (act_of line host) → CarefulAny (act_of line host) → Does (acts_by_act line host did) (dialog.after (Some host) (answered did)) (sends_by_act line host did) said
+  by_act said line (fails e) f none comes mild = idle said
+  by_act said line (does next text) f none comes mild = any said (act_of line host) next (lines_are_acts drawn line host next text f).member none comes mild
+
+  -- a drawop that arrives is of its batch
+  itself : (d : DrawopValue) → All (λ x. Contains (d ∷ []) x) (d ∷ [])
+  itself d = All-cons (λ x. Contains (d ∷ []) x) d [] (Contains-here d []) (All-nil (λ x. Contains (d ∷ []) x))
 
   -- ---- a line of a script
 
   script : (said : DrawopValue → Type 0) (line : Command) → IsHonestAt (Contains (members.sent group events)) host (Script line) → Does (acts_at (Script line) host) (dialog.after (Some host) (answer_at (Script line) host)) (sends_at (Script line) host) said
-  script said lines.Skip fair = by_act said lines.Skip (act lines.Skip host) refl tt tt
+  script said lines.Skip fair = by_act said lines.Skip (act lines.Skip host) refl tt tt tt
   script said (lines.Board number cells workers seed) fair = idle said
-  script said (lines.Arrive d) fair = one said (Takes (present host) (d ∷ []) (d ∷ [])) (accepted d host) [] refl (λ n x h. h) (All-cons (λ x. Contains (members.sent group events) (datagrams.Draw x)) d [] fair (All-nil (λ x. Contains (members.sent group events) (datagrams.Draw x)))) (λ v c. none_out v c)
-  script said (lines.Hear v) fair = by_act said (lines.Hear v) (act (lines.Hear v) host) refl (λ n x h. h) fair
-  script said (lines.Distance source micros) fair = by_act said (lines.Distance source micros) (act (lines.Distance source micros) host) refl (λ n x h. h) tt
-  script said (lines.Tick moment) fair = by_act said (lines.Tick moment) (act (lines.Tick moment) host) refl (λ n x h. h) tt
-  script said (lines.Look page) fair = by_act said (lines.Look page) (act (lines.Look page) host) refl (λ n x h. h) tt
-  script said (lines.Session page) fair = by_act said (lines.Session page) (act (lines.Session page) host) refl (λ n x h. h) tt
-  script said (lines.Show page width height) fair = by_act said (lines.Show page width height) (act (lines.Show page width height) host) refl tt tt
-  script said (lines.Gaps page) fair = by_act said (lines.Gaps page) (act (lines.Gaps page) host) refl tt tt
-  script said (lines.Report page) fair = by_act said (lines.Report page) (act (lines.Report page) host) refl tt tt
-  script said lines.Pages fair = by_act said lines.Pages (act lines.Pages host) refl tt tt
+  script said (lines.Arrive d) fair = one said (Takes (present host) (d ∷ []) (d ∷ [])) (accepted d host) [] refl (λ n x h. h) (All-cons (λ x. Contains (members.sent group events) (datagrams.Draw x)) d [] fair (All-nil (λ x. Contains (members.sent group events) (datagrams.Draw x)))) (itself d) (λ v c. none_out v c)
+  script said (lines.Hear v) fair = by_act said (lines.Hear v) (act (lines.Hear v) host) refl (λ n x h. h) fair tt
+  script said (lines.Distance source micros) fair = by_act said (lines.Distance source micros) (act (lines.Distance source micros) host) refl (λ n x h. h) tt tt
+  script said (lines.Tick moment) fair = by_act said (lines.Tick moment) (act (lines.Tick moment) host) refl (λ n x h. h) tt tt
+  script said (lines.Look page) fair = by_act said (lines.Look page) (act (lines.Look page) host) refl (λ n x h. h) tt (wanted_lacking host page)
+  script said (lines.Session page) fair = by_act said (lines.Session page) (act (lines.Session page) host) refl (λ n x h. h) tt tt
+  script said (lines.Show page width height) fair = by_act said (lines.Show page width height) (act (lines.Show page width height) host) refl tt tt tt
+  script said (lines.Gaps page) fair = by_act said (lines.Gaps page) (act (lines.Gaps page) host) refl tt tt tt
+  script said (lines.Report page) fair = by_act said (lines.Report page) (act (lines.Report page) host) refl tt tt tt
+  script said lines.Pages fair = by_act said lines.Pages (act lines.Pages host) refl tt tt tt
 
   -- ---- a drawing of its own
 
@@ -198,6 +181,7 @@ module _ (group : Group) (is : IsDistinct group) (i : ℕ) (events : List Event)
   kept said d out same goes = record {
     at = (drawn, sym (ap (λ (h : List DrawopValue). holding (present host) (d ∷ []) h m) same), λ x c. subst (λ (h : List DrawopValue). Contains h x) (sym same) (own x c));
     session = (All-nil (λ x. Contains (members.sent group events) (datagrams.Draw x)), s);
+    careful = λ c. (All-nil (λ x. Contains (d ∷ []) x), c);
     sent = goes;
     new = λ x c. inl c;
   }
@@ -250,6 +234,7 @@ module _ (group : Group) (is : IsDistinct group) (i : ℕ) (events : List Event)
         record {
           at = (drew ∷ drawn, refl, holds_new same e);
           session = (All-cons (λ x. Contains (members.sent group (draws ∷ events)) (datagrams.Draw x)) d [] (goes_out same) (All-nil (λ x. Contains (members.sent group (draws ∷ events)) (datagrams.Draw x))), (tt, s));
+          careful = λ c. (itself d, (tt, c));
           sent = λ v c. ⊎_elim
               (λ (f : datagrams.Draw d ≡ v). subst (Contains (members.sent group (draws ∷ events))) f (goes_out same))
               (λ (g : Contains [] v). none_out v g)
@@ -274,11 +259,15 @@ module _ (group : Group) (is : IsDistinct group) (i : ℕ) (events : List Event)
   text_said d e new =
       ap (λ (b : Bool). text_of (if b then dialog.goes_out (datagrams.Draw d) host else dialog.refuses refusals.Member)) e ∙ ap (dialog.said_text d) new
 
+  sent_said : (d : DrawopValue) → nat_eq d.name.source host.me ≡ true → acceptance d host ≡ became.New → Contains (sends_at (Say (datagrams.Draw d)) host) (datagrams.Draw d)
+  sent_said d e new = subst (λ (b : Bool). Contains (if b then sends_said (datagrams.Draw d) host else []) (datagrams.Draw d)) (sym e)
+      (subst (λ (a : Acceptance). Contains (sends_drawing d a) (datagrams.Draw d)) (sym new) (Contains-here (datagrams.Draw d) []))
+
   own_said : (v : Datagram) → nat_eq (speaker v) host.me ≡ true → MaySay v host → Does (acts_said v host) (dialog.after (Some host) (dialog.goes_out v host)) (sends_said v host) (IsSaid (Say v) host)
   own_said (datagrams.Draw d) e fair =
       let mine = eqb-true d.name.source host.me e in
-      drawing (IsSaid (Say (datagrams.Draw d)) host) d mine fair (acceptance d host) refl (λ new. record { line_is = refl; source = mine; text = text_said d e new })
-  own_said (datagrams.AskPages asker) e fair = one (IsSaid (Say (datagrams.AskPages asker)) host) AsksForPages host (datagrams.AskPages asker ∷ []) refl (λ n x h. h) tt (λ v c. subst (λ (k : ℕ). Contains (datagrams.AskPages k ∷ []) v) (eqb-true asker host.me e) c)
+      drawing (IsSaid (Say (datagrams.Draw d)) host) d mine fair (acceptance d host) refl (λ new. record { line_is = refl; source = mine; text = text_said d e new; sent = sent_said d e new })
+  own_said (datagrams.AskPages asker) e fair = one (IsSaid (Say (datagrams.AskPages asker)) host) AsksForPages host (datagrams.AskPages asker ∷ []) refl (λ n x h. h) tt tt (λ v c. subst (λ (k : ℕ). Contains (datagrams.AskPages k ∷ []) v) (eqb-true asker host.me e) c)
   own_said (datagrams.Session sender sent page marks echoes) e fair = absurd fair
   own_said (datagrams.Request asker name) e fair = absurd fair
   own_said (datagrams.PageState sender page marks) e fair = absurd fair
@@ -296,13 +285,13 @@ module _ (group : Group) (is : IsDistinct group) (i : ℕ) (events : List Event)
   numbers said (Some n) = idle said
 
   asks : (said : DrawopValue → Type 0) (name : NameValue) → Does (listed (asks_any name host)) (Some (with_asked name host)) [] said
-  asks said name = from (may_ask name host) where
+  asks said name = from (may_ask name host) refl where
     begun : Opened
     begun = scripts.calling (Miss (present host) (name ∷ []) (word_of host.random ∷ [])) 1 host
 
-    from : (may : Bool) → Does (listed (cond may (Some (Misses (present host) (name ∷ []) (word_of host.random ∷ []))) None)) (Some (cond may begun host)) [] said
-    from true = one said (Misses (present host) (name ∷ []) (word_of host.random ∷ [])) begun [] refl (λ n x h. h) tt (λ v c. none_out v c)
-    from false = idle said
+    from : (may : Bool) → may_ask name host ≡ may → Does (listed (cond may (Some (Misses (present host) (name ∷ []) (word_of host.random ∷ []))) None)) (Some (cond may begun host)) [] said
+    from true e = one said (Misses (present host) (name ∷ []) (word_of host.random ∷ [])) begun [] refl (λ n x h. h) tt (asked_lacking host name e) (λ v c. none_out v c)
+    from false e = idle said
 
   pub turns : (line : DriverLine) → IsHonestAt (Contains (members.sent group events)) host line → Does (acts_at line host) (dialog.after (Some host) (answer_at line host)) (sends_at line host) (IsSaid line host)
   turns (Script line) fair = script (IsSaid (Script line) host) line fair
@@ -311,13 +300,13 @@ module _ (group : Group) (is : IsDistinct group) (i : ℕ) (events : List Event)
   turns (View page) fair = idle (IsSaid (View page) host)
   turns KnownPages fair = idle (IsSaid KnownPages host)
   turns (Ask name) fair = asks (IsSaid (Ask name) host) name
-  turns (Stop name) fair = one (IsSaid (Stop name) host) (GivesUp (present host) name) (with_stopped name host) [] refl (λ n x h. h) tt (λ v c. none_out v c)
+  turns (Stop name) fair = one (IsSaid (Stop name) host) (GivesUp (present host) name) (with_stopped name host) [] refl (λ n x h. h) tt tt (λ v c. none_out v c)
 
 -- ---- before a board is open
 
 module _ (group : Group) (i : ℕ) (events : List Event) (s : IsSession group events) (m : Member) (here : m ≡ newcomer group i) (said : DrawopValue → Type 0) where
   nothing : (next : Option Opened) → IsAt group i next m → Turns group i events m [] next [] said
-  nothing next at = record { at = at; session = s; sent = (λ v c. none_out v c); new = λ x c. inl c }
+  nothing next at = record { at = at; session = s; careful = λ c. c; sent = (λ v c. none_out v c); new = λ x c. inl c }
 
   opened_board : (number cells workers seed : ℕ) → number ≡ group.number i → cells ≡ group.cells i → IsAt group i (Some (opened_with (group.constants i) number cells seed)) m
   opened_board number cells workers seed one two = ([], here ∙ sym (ap (λ (n : ℕ). member_of [] (opened_with (group.constants i) n cells seed)) one ∙ ap (λ (c : ℕ). member_of [] (opened_with (group.constants i) (group.number i) c seed)) two), λ x c. absurd (Contains-none x c))

@@ -11,7 +11,7 @@ use Rattle.wb_host.specs.Keeper.{holds}
 use Rattle.wb_lines.specs.Input.{InputLine}
 use Rattle.wb_script.specs.Answers.{gaps_text}
 use Rattle.wb_script.specs.Hosts.{Opened, present}
-use Rattle.wb_session_hosts.specs.Hosts.{LineAt, host_at, HaveDistinctMembers, IsHonest}
+use Rattle.wb_session_hosts.specs.Hosts.{LineAt, host_at, HaveDistinctMembers, IsHonest, NothingIsForged}
 use Rattle.wb_session_hosts.specs.Laws.{AskOf, prints_at}
 
 -- those of some drawops that a host lacks
@@ -39,13 +39,14 @@ pub record PrintAlike (constants : ℕ → Tuning) (lines' : List LineAt) (i j :
   pub no_gaps : prints_at constants lines' i gaps ≡ gaps_text []
   pub same_canvas : prints_at constants lines' i show ≡ prints_at constants lines' j show
 
--- Each place holds all of the drawops, and any two print alike.
-pub record DoAgree (constants : ℕ → Tuning) (lines' : List LineAt) (places : List ℕ) (page : PageId) (drawops : List DrawopValue) : Type 0 where
+-- Nothing is forged that was not forged before. Each place holds all of the drawops, and any two print alike.
+pub record DoAgree (constants : ℕ → Tuning) (older lines' : List LineAt) (places : List ℕ) (page : PageId) (drawops : List DrawopValue) : Type 0 where
   pub honest : IsHonest constants lines'
+  pub unforged : NothingIsForged constants older → NothingIsForged constants lines'
   pub held : (i : ℕ) → Contains places i → (host : Opened) × (host_at constants lines' i ≡ Some host) × ((d : DrawopValue) → Contains drawops d → Contains host.board.drawops d)
   pub alike : (i j width height : ℕ) (report gaps show : InputLine) → Contains places i → Contains places j → AskOf page width height report gaps show → PrintAlike constants lines' i j report gaps show
 
 -- Then some lines of honest drivers bring them to agree.
 abbrev pub AgreementIsPossible : Type 0
 AgreementIsPossible = (constants : ℕ → Tuning) (older : List LineAt) (places : List ℕ) (page : PageId) (drawops : List DrawopValue) → HaveDistinctMembers older → IsHonest constants older → CanAgree constants older places page drawops
-    → (newer : List LineAt) × DoAgree constants (newer ++ older) places page drawops
+    → (newer : List LineAt) × DoAgree constants older (newer ++ older) places page drawops

@@ -15,7 +15,7 @@ use Rattle.wb_script.specs.declared.acceptance.Acceptance.{Acceptance}
 use Rattle.wb_script.specs.declared.acceptance.Acceptance.TheVariants as became
 use Rattle.wb_script.specs.declared.command.Command.{Command}
 use Rattle.wb_script.specs.declared.command.Command.TheVariants as lines
-use Rattle.wb_session.specs.Session.{Group}
+use Rattle.wb_session.specs.Session.{Group, IsTelling}
 use Rattle.wb_session_scripts.specs.Hosts.{act_of, member_of, said, sends_any}
 use Rattle.wb_dialog.specs.declared.fault.Refusal.{Refusal}
 use Rattle.wb_dialog.specs.declared.line.DriverLine.{DriverLine}
@@ -174,10 +174,11 @@ MaySay v host = ⊥
 abbrev pub CameOut : (ℕ → Tuning) → List LineAt → Datagram → Type 0
 CameOut constants lines v = Contains (send_lines constants lines) (send_line v)
 
--- At an open host: a datagram that comes in came out before, in this sense.
+-- At an open host: a drawop, a session message or a page state that comes in came out before, in this sense. A request, and a question
+-- for pages, may come from anywhere.
 abbrev pub IsHonestAt : (Datagram → Type 0) → Opened → DriverLine → Type 0
 IsHonestAt Before host (Script (lines.Arrive d)) = Before (Draw d)
-IsHonestAt Before host (Script (lines.Hear v)) = Before v
+IsHonestAt Before host (Script (lines.Hear v)) = IsTelling v → Before v
 IsHonestAt Before host (Say v) = speaker v ≡ host.me → MaySay v host
 IsHonestAt Before host line = Unit {0}
 
@@ -194,3 +195,18 @@ IsHonestNext constants older e = IsHonestBy (CameOut constants older) (host_at c
 abbrev pub IsHonest : (ℕ → Tuning) → List LineAt → Type 0
 IsHonest constants [] = Unit {0}
 IsHonest constants (e ∷ older) = IsHonestNext constants older e × IsHonest constants older
+
+-- Nobody forges requests or questions for pages either: whatever an open host hears came out before. No law on what is held, said or
+-- shown asks this.
+abbrev pub IsUnforgedAt : (Datagram → Type 0) → DriverLine → Type 0
+IsUnforgedAt Before (Script (lines.Hear v)) = Before v
+IsUnforgedAt Before line = Unit {0}
+
+abbrev pub IsUnforgedBy : (Datagram → Type 0) → Option Opened → Result DriverLine Refusal → Type 0
+IsUnforgedBy Before (Some host) (Ok line) = IsUnforgedAt Before line
+IsUnforgedBy Before (Some host) (Err e) = Unit {0}
+IsUnforgedBy Before None said = Unit {0}
+
+abbrev pub NothingIsForged : (ℕ → Tuning) → List LineAt → Type 0
+NothingIsForged constants [] = Unit {0}
+NothingIsForged constants (e ∷ older) = IsUnforgedBy (CameOut constants older) (host_at constants older e.place) (saying e) × NothingIsForged constants older

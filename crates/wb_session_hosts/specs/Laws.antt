@@ -19,12 +19,14 @@ use Rattle.wb_script.specs.declared.acceptance.Acceptance.TheVariants as became
 use Rattle.wb_script.specs.declared.command.Command.TheVariants as lines
 use Rattle.wb_session.specs.Session.{Event, Group, IsDistinct, member, newcomer, IsSession}
 use Rattle.wb_session.specs.Session as members
+use Rattle.wb_session.specs.Holding.{AreCareful}
 use Rattle.wb_session_scripts.specs.Hosts.{IsMember}
 use Rattle.wb_dialog.specs.declared.line.DriverLine.{DriverLine}
-use Rattle.wb_dialog.specs.declared.line.DriverLine.TheVariants.{Script, Say}
+use Rattle.wb_dialog.specs.declared.line.DriverLine.TheVariants.{Script, Say, View}
 use Rattle.wb_dialog.specs.Dialog.{gives, answer_at, answered_lines, batch_of, says_line, transcript}
 use Rattle.wb_dialog.specs.Doing.{text_of}
 use Rattle.wb_dialog.specs.Lines.{handed_in, line_of}
+use Rattle.wb_session_hosts.specs.Acts.{events_of}
 use Rattle.wb_session_hosts.specs.Hosts.{LineAt, saying, host_at, reply_at, lines_at, blocks_at, sends_at, told_at, sent, Board, board_at, HaveDistinctMembers, HasBoards, group_of, CameOut, IsHonest}
 
 -- ---- members
@@ -34,12 +36,13 @@ abbrev pub IsMemberAt : Group → List Event → ℕ → Option Opened → Type 
 IsMemberAt group events i None = member group events i ≡ newcomer group i
 IsMemberAt group events i (Some host) = IsMember group events i host
 
--- A session of hosts is one of members: at each place the host is the member, and what the hosts sent the members sent.
+-- A session of hosts is one of members, whose acts are those of the lines: at each place the host is the member, and what the hosts
+-- sent the members sent. Each takes only what arrived, and begins to miss only what it does not hold.
 pub record AreMembers (group : Group) (lines : List LineAt) : Type 0 where
-  pub events : List Event
-  pub session : IsSession group events
-  pub hosts : (i : ℕ) → IsMemberAt group events i (host_at group.constants lines i)
-  pub sent : (v : Datagram) → Contains (sent group.constants lines) v → Contains (members.sent group events) v
+  pub session : IsSession group (events_of group lines)
+  pub careful : AreCareful group (events_of group lines)
+  pub hosts : (i : ℕ) → IsMemberAt group (events_of group lines) i (host_at group.constants lines i)
+  pub sent : (v : Datagram) → Contains (sent group.constants lines) v → Contains (members.sent group (events_of group lines)) v
 
 abbrev pub HostsAreMembers : Type 0
 HostsAreMembers = (group : Group) (lines : List LineAt) → IsDistinct group → HasBoards group lines → IsHonest group.constants lines → AreMembers group lines
@@ -103,6 +106,10 @@ pub record WasSaid (constants : ℕ → Tuning) (lines : List LineAt) (d : Drawo
 abbrev pub SentWasSaid : Type 0
 SentWasSaid = (constants : ℕ → Tuning) (lines : List LineAt) → HaveDistinctMembers lines → IsHonest constants lines → (d : DrawopValue) → Contains (sent constants lines) (Draw d) → WasSaid constants lines d
 
+-- So is each that a host holds.
+abbrev pub HeldWasSaid : Type 0
+HeldWasSaid = (constants : ℕ → Tuning) (lines : List LineAt) → HaveDistinctMembers lines → IsHonest constants lines → (i : ℕ) (host : Opened) → host_at constants lines i ≡ Some host → (d : DrawopValue) → Contains host.board.drawops d → WasSaid constants lines d
+
 -- Of each name one drawop is ever sent.
 abbrev pub SentOnce : Type 0
 SentOnce = (constants : ℕ → Tuning) (lines : List LineAt) → HaveDistinctMembers lines → IsHonest constants lines → (d e : DrawopValue) → Contains (sent constants lines) (Draw d) → Contains (sent constants lines) (Draw e) → d.name ≡ e.name → d ≡ e
@@ -124,3 +131,12 @@ abbrev pub ReportsTellShows : Type 0
 ReportsTellShows = (constants : ℕ → Tuning) (lines : List LineAt) (i j : ℕ) (page : PageId) (width height : ℕ) (report gaps show : InputLine) → HaveDistinctMembers lines → IsHonest constants lines → AskOf page width height report gaps show
     → prints_at constants lines i report ≡ prints_at constants lines j report → prints_at constants lines i gaps ≡ gaps_text [] → prints_at constants lines j gaps ≡ gaps_text []
     → prints_at constants lines i show ≡ prints_at constants lines j show
+
+-- So do two of which one was asked now, and the other at an earlier point of the session, at which it would have printed the same.
+-- They print the same for `view C N` too.
+abbrev pub ReportsTellShowsLater : Type 0
+ReportsTellShowsLater = (constants : ℕ → Tuning) (newer older : List LineAt) (i j : ℕ) (page : PageId) (width height : ℕ) (report gaps show view : InputLine) →
+    let now = newer ++ older in
+    HaveDistinctMembers now → IsHonest constants now → AskOf page width height report gaps show → says_line (met view) ≡ Ok (View page)
+    → prints_at constants now i report ≡ prints_at constants older j report → prints_at constants now i gaps ≡ gaps_text [] → prints_at constants older j gaps ≡ gaps_text []
+    → (prints_at constants now i show ≡ prints_at constants older j show) × (prints_at constants now i view ≡ prints_at constants older j view)

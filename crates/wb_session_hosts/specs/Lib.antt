@@ -1,5 +1,7 @@
 pub mod Hosts
+pub mod Acts
 pub mod Laws
+pub mod Constants
 pub mod Holding
 pub mod Repairs
 pub mod Agreement

@@ -12,7 +12,7 @@ use Rattle.wb_script.specs.Hosts.{Opened, present}
 use Rattle.wb_script.specs.declared.command.Command.TheVariants as lines
 use Rattle.wb_dialog.specs.declared.line.DriverLine.{DriverLine}
 use Rattle.wb_dialog.specs.declared.line.DriverLine.TheVariants.{Script, Ask}
-use Rattle.wb_session_hosts.specs.Hosts.{LineAt, saying, host_at, HaveDistinctMembers, IsHonest}
+use Rattle.wb_session_hosts.specs.Hosts.{LineAt, saying, host_at, HaveDistinctMembers, IsHonest, NothingIsForged}
 
 -- a line of this text, which a carriage return and a line feed end
 abbrev pub ended_by : List ℕ → InputLine
@@ -58,9 +58,10 @@ pub record IsLost (constants : ℕ → Tuning) (older : List LineAt) (i j : ℕ)
   pub constants_i : are_constants (constants i) ≡ true
   pub constants_j : are_constants (constants j) ≡ true
 
--- Lines that say so are honest, and after them the host holds the drawop.
+-- Lines that say so are honest, and forge nothing. After them the host holds the drawop.
 pub record IsBrought (constants : ℕ → Tuning) (newer older : List LineAt) (i : ℕ) (d : DrawopValue) : Type 0 where
   pub honest : IsHonest constants (newer ++ older)
+  pub unforged : NothingIsForged constants older → NothingIsForged constants (newer ++ older)
   pub after : Opened
   pub there : host_at constants (newer ++ older) i ≡ Some after
   pub held : Contains after.board.drawops d

@@ -6,7 +6,7 @@ use Rattle.wb_names.specs.declared.name.PageId.{PageId}
 use Rattle.wb_codec.specs.declared.datagram.Datagram.{Datagram}
 use Rattle.wb_codec.specs.declared.datagram.Datagram.TheVariants.{Draw}
 use Rattle.wb_gaps.specs.Answers.{gaps_of}
-use Rattle.wb_gaps.specs.Gaps.{Covers, IsMissing}
+use Rattle.wb_gaps.specs.Gaps.{Covers}
 use Rattle.wb_recovery.specs.Events.{timers_of}
 use Rattle.wb_recovery.specs.Timing.{are_constants}
 use Rattle.wb_recovery.specs.declared.tuning.Tuning.{Tuning}
@@ -15,6 +15,7 @@ use Rattle.wb_recovery.specs.declared.timers.AnswerTimer.{AnswerTimer}
 use Rattle.wb_host.specs.GivingUp.{is_asked}
 use Rattle.wb_host.specs.Hearing.{marks_heard}
 use Rattle.wb_host.specs.Keeper.{delay_to, holds}
+use Rattle.wb_progress.specs.Turns.{Terms}
 use Rattle.wb_script.specs.Hosts.{Opened, events}
 use Rattle.wb_script.specs.declared.command.Command.TheVariants as lines
 use Rattle.wb_dialog.specs.Dialog.{gives, answer_at}
@@ -66,24 +67,7 @@ pub record IsTaken (constants : ℕ → Tuning) (older : List TimedLine) (e : Ti
   pub text : List ℕ
   pub taken : answer_at said host ≡ gives (Some next) text
 
--- ---- the terms
-
--- Times in microseconds: from `quiet` on nobody draws; what is printed arrives within `delivery`; page states are told every `reporting`
--- and looked at every `looking`; a tick is at most `late`; no delay is above `far`. No request waits for more than `asking` delays at first, and no answer
--- for more than `answering`. At most `unanswerable` names are held by nobody. The moment of a place is the time and its offset.
-pub record Terms : Type 0 where
-  pub live : List ℕ
-  pub page : PageId
-  pub quiet : ℕ
-  pub delivery : ℕ
-  pub reporting : ℕ
-  pub looking : ℕ
-  pub late : ℕ
-  pub far : ℕ
-  pub asking : ℕ
-  pub answering : ℕ
-  pub unanswerable : ℕ
-  pub offset : ℕ → ℕ
+-- ---- the terms, of which the moment of a place is the time and its offset
 
 -- the part of a trace up to which what was printed before `quiet` may still arrive
 abbrev pub settled : Terms → List TimedLine → List TimedLine
@@ -118,9 +102,9 @@ pub record AreNotOverdue (host : Opened) (n : NameValue) (now late : ℕ) : Type
   pub ask : IfSome (timers_of host.constants (events host) n).ask (λ (ask : AskTimer). now ≤ ask.due + late)
   pub answer : IfSome (timers_of host.constants (events host) n).answer (λ (answer : AnswerTimer). now ≤ answer.due + late)
 
--- A tick comes once a timer is due: at no live place does one stay overdue by more than `late`.
+-- A tick comes once a timer is due: until a line comes, no timer that stands at a live place is overdue by more than `late`.
 abbrev pub TicksAreSoon : (ℕ → Tuning) → Terms → List TimedLine → Type 0
-TicksAreSoon constants terms trace = (newer older : List TimedLine) (i : ℕ) (host : Opened) (n : NameValue) → trace ≡ newer ++ older → Contains terms.live i → StandsAt constants older i host → AreNotOverdue host n (time_of older + terms.offset i) terms.late
+TicksAreSoon constants terms trace = (newer older : List TimedLine) (e : TimedLine) (i : ℕ) (host : Opened) (n : NameValue) → trace ≡ newer ++ e ∷ older → Contains terms.live i → StandsAt constants older i host → AreNotOverdue host n (e.time + terms.offset i) terms.late
 
 -- From `quiet` on no drawing is said that is new, and no name is given up.
 pub record DrawsNothingNew (constants : ℕ → Tuning) (older : List TimedLine) (e : TimedLine) : Type 0 where
@@ -180,10 +164,6 @@ NothingIsOld constants terms trace = (newer older : List TimedLine) (e : TimedLi
 
 -- ---- all of it
 
--- a name that a live place misses on the page, or asks for
-abbrev pub IsSought : Terms → Opened → NameValue → Type 0
-IsSought terms host n = ((n.page ≡ terms.page) × IsMissing host.board.drawops terms.page (marks_heard host.me host.calls terms.page) n.source n.seq) ⊎ (is_asked (timers_of host.constants (events host)) n ≡ true)
-
 -- a live place holds the name
 abbrev pub IsAnswerable : (ℕ → Tuning) → Terms → List TimedLine → NameValue → Type 0
 IsAnswerable constants terms trace n = (j : ℕ) × (other : Opened) × Contains terms.live j × StandsAt constants trace j other × (holds other.board.drawops n ≡ true)
@@ -207,7 +187,10 @@ pub record IsTimely (constants : ℕ → Tuning) (terms : Terms) (trace : List T
   pub delivered : AllIsDelivered constants terms trace
   pub fresh : NothingIsOld constants terms trace
   pub few : terms.unanswerable ≤ 63
-  pub unanswered : (i : ℕ) (host : Opened) → Contains terms.live i → StandsAt constants (settled terms trace) i host → (wanting : List NameValue) × (length wanting ≤ terms.unanswerable) × ((n : NameValue) → IsSought terms host n → Contains wanting n ⊎ IsAnswerable constants terms (settled terms trace) n)
+  pub reported : 1 ≤ terms.reporting
+  -- of the names that a place asks for at once, only so few are held by nobody
+  pub unanswered : (newer older : List TimedLine) (i : ℕ) (host : Opened) → trace ≡ newer ++ older → Contains terms.live i → terms.quiet + terms.delivery < time_of older → StandsAt constants older i host
+      → (wanting : List NameValue) × (length wanting ≤ terms.unanswerable) × ((n : NameValue) → is_asked (timers_of host.constants (events host)) n ≡ true → Contains wanting n ⊎ IsAnswerable constants terms (settled terms trace) n)
 
 -- ---- what follows
 

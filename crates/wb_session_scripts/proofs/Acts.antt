@@ -15,7 +15,7 @@ use Rattle.wb_script.specs.declared.fault.LineFault.TheVariants as faults
 use Rattle.wb_script.specs.declared.command.Command.{Command}
 use Rattle.wb_script.specs.declared.command.Command.TheVariants.{Skip, Board, Arrive, Hear as Heard, Distance, Tick, Look, Session, Show, Gaps, Report, Pages}
 use Rattle.wb_script.specs.declared.query.Query.TheVariants as queries
-use Rattle.wb_session.specs.Session.{Member, Misses}
+use Rattle.wb_member.specs.Members.{Member, Misses}
 use Rattle.wb_session_scripts.specs.Hosts.{answered, member_of, after_any, OpenedIsNewcomer, BatchesAreActs, GivingUpIsAnAct, AskingIsAnAct, IsDone, LinesAreActs}
 
 pub opened_is_newcomer : OpenedIsNewcomer

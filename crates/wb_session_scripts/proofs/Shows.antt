@@ -7,8 +7,9 @@ use Rattle.wb_display.specs.Canvas.{canvas_text}
 use Rattle.wb_script.specs.Hosts.{Opened}
 use Rattle.wb_script.specs.Queries.{view_of}
 use Rattle.wb_script.proofs.Queries.{view_of_page}
-use Rattle.wb_session.specs.Session.{Member, Event, Group, member, LacksNothing}
-use Rattle.wb_session.proofs.Agreeing.{reports_tell_agreement}
+use Rattle.wb_member.specs.Members.{Member}
+use Rattle.wb_session.specs.Session.{Event, Group, member, LacksNothing}
+use Rattle.wb_session.proofs.TwoMoments.{reports_tell_agreement}
 use Rattle.wb_session.proofs.Names.{held_once}
 use Rattle.wb_session_scripts.specs.Hosts.{IsMember, HasNoGaps, ShowsAgree}
 

@@ -15,7 +15,8 @@ use Rattle.wb_script.specs.declared.command.Command.{Command}
 use Rattle.wb_script.specs.declared.command.Command.TheVariants as lines
 use Rattle.wb_script.specs.declared.query.Query.{Query}
 use Rattle.wb_script.specs.declared.query.Query.TheVariants as queries
-use Rattle.wb_session.specs.Session.{Member, Act, Takes, Hears, SetsDelay, Misses, GivesUp, Ticks, Reports, after, sends, Event, Group, IsDistinct, member, newcomer, IsSession, LacksNothing}
+use Rattle.wb_member.specs.Members.{Member, Act, Takes, Hears, SetsDelay, Misses, GivesUp, Ticks, Reports, after, sends}
+use Rattle.wb_session.specs.Session.{Event, Group, IsDistinct, member, newcomer, IsSession, LacksNothing}
 
 -- the member that a host is, which drew these drawops: a script draws none itself, and they come to it as any do
 abbrev pub member_of : List DrawopValue → Opened → Member
