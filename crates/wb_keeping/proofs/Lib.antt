@@ -2,3 +2,4 @@ pub mod Spending
 pub mod DrawingTimes
 pub mod NextPages
 pub mod KeptLines
+pub mod Parts

@@ -8,4 +8,5 @@ pub mod Wanting
 pub mod Drawings
 pub mod Policy
 pub mod Kept
+pub mod Performing
 pub mod Laws

@@ -12,9 +12,12 @@
 //! follows, and `specs/Kept.antt` what a host does that takes these decisions.
 #![tactic(auto)]
 
+mod choices;
 mod credit;
 mod distances;
 mod drawings;
+mod kept_fault;
+mod kept_member;
 pub mod laws;
 mod policy;
 mod questions;
@@ -26,6 +29,8 @@ mod words;
 pub use credit::Credit;
 pub use distances::Distances;
 pub use drawings::time_of;
+pub use kept_fault::KeptFault;
+pub use kept_member::KeptMember;
 pub use policy::Policy;
 pub use questions::Questions;
 pub use reports::{Reports, members, page_after, slice_after};

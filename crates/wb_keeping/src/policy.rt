@@ -208,7 +208,7 @@ impl Policy {
     pub fn reported(&mut self, now: u64, page: PageId, last: Option<u32>, members: u64, bytes: u64)
         requires moment { now < 2 ^ 48 }
         requires members { members ≤ 65536 }
-        requires bytes { bytes ≤ 65536 }
+        requires bytes { bytes ≤ 2000000 }
         ensures after { self.new ≡ after_report now page last members bytes self.old }
         ensures rare { now + 1000000 ≤ self.new.reports.due }
         ensures soon { self.new.reports.due ≤ now + 96000000 }
@@ -230,7 +230,7 @@ impl Policy {
 }
 
 /// The lesser of a moment and of another, where there is one.
-fn sooner(moment: u64, other: Option<u64>) -> u64
+pub(crate) fn sooner(moment: u64, other: Option<u64>) -> u64
     ensures { result ≡ sooner moment other }
 {
     match other {

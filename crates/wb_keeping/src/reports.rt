@@ -40,7 +40,7 @@ impl Reports {
     pub fn mean_time(&self, members: u64, bytes: u64) -> u64
         requires rate { 1 ≤ self.now.rate }
         requires members { members ≤ 65536 }
-        requires bytes { bytes ≤ 65536 }
+        requires bytes { bytes ≤ 2000000 }
         ensures mean { result ≡ mean_time self.now.rate members bytes }
         ensures shortest { 2000000 ≤ result }
         ensures longest { result ≤ 64000000 }

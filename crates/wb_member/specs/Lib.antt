@@ -4,3 +4,4 @@ pub mod Random
 pub mod Members
 pub mod Opened
 pub mod Holding
+pub mod Judged

@@ -27,7 +27,8 @@ pub record Member : Type 0 where
   pub calls : List KeeperCall
 
 -- What a member does, where that has a moment of its clock and random words, with these. A batch of drawops arrives, and
--- is taken in some order. Any other datagram is heard. A call that is refused, or that ends for want of memory, is none of these.
+-- those of `order` are taken, in their order: all of the batch in some order, or none of it. Any other datagram is heard. A
+-- call that is refused, or that ends for want of memory, is none of these.
 pub data Act : Type 0 where
   Draws : (page : PageId) (time : ℕ) (op : Op) → Act
   Takes : (now : ℕ) (batch order : List DrawopValue) → Act

@@ -6,6 +6,7 @@ ghost use Rattle.wb_member.specs.Holding.{IsOpenAt, IsUnreached, outcome_in};
 ghost use Rattle.wb_member.specs.Opened.{Opened, opened_with, present, becomes, accepted, heard, heard_fault, takes_word, answered, with_delay, next_due, ticked, ticked_fault, sent_by, next_number};
 
 mod asking;
+mod judged;
 mod telling;
 
 use crate::own_board::OwnBoard;

@@ -9,6 +9,7 @@ ghost use Rattle.wb_member.specs.Board.{OwnsAll, held_of};
 ghost use Rattle.wb_member.specs.Holding.{board_after, outcome_in};
 ghost use Rattle.wb_member.specs.Queries.{view_of};
 
+mod judged;
 mod keeping;
 
 use std::alloc::{AllocError, Global};

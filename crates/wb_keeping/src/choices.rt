@@ -1,0 +1,138 @@
+//! Which part of what is heard or held a policy takes.
+ghost use Rattle.std.specs.Prelude.{◌≡◌, ◌≤◌, ◌<◌, IfOk, Bool, filter, length, nat_eq, nat_le, nat_lt, ◌&&◌};
+ghost use Rattle.std.specs.List.{count_by};
+ghost use Rattle.wb_keeping.specs.Kept.{distance_in, heard_later, last_heard, last_source, own_echo, own_marks};
+ghost use Rattle.wb_keeping.specs.Reports.{slice_after};
+ghost use Rattle.std.specs.Prelude.{None};
+
+use crate::reports::slice_after;
+use std::alloc::{AllocError, Global};
+use wb_names::{Echo, Echoes, Mark, Marks, Name};
+use wb_recovery::distance;
+
+/// Marks of this member are believed below this number.
+const FORGED: u32 = 1 << 31;
+
+/// The most echoes of a report.
+const ECHOES: usize = 32;
+
+/// How far a drawop reaches that came: its neighbours are wanted.
+const REACH: u32 = 64;
+
+/// The marks of this member that are believed: while it listens, those below 2^31.
+pub(crate) fn own_marks(
+    alloc: Global,
+    me: u32,
+    listens: bool,
+    marks: &Marks,
+) -> Result<Marks, AllocError>
+    ensures { IfOk result (λ own. own ≡ own_marks me listens marks.now) }
+{
+    let own = believed(alloc, me, listens, marks.as_slice())?;
+    Ok(Marks::from_ascending(own))
+}
+
+/// The same, as a list.
+fn believed(alloc: Global, me: u32, listens: bool, marks: &[Mark]) -> Result<Vec<Mark>, AllocError>
+    ensures { IfOk result (λ own. own.items ≡ own_marks me listens marks.now) }
+{
+    let own = marks.iter().filter(|mark| is_believed(me, listens, **mark));
+    own.copied().collect(alloc)
+}
+
+/// Whether it is a mark of this member that is believed.
+fn is_believed(me: u32, listens: bool, mark: Mark) -> bool
+    ensures { result ≡ (nat_eq mark.source me && (listens && nat_lt mark.high 2147483648)) }
+{
+    mark.source() == me && listens && mark.high() < FORGED
+}
+
+/// The echo of this member.
+pub(crate) fn own_echo(alloc: Global, me: u32, echoes: &Echoes) -> Result<Echoes, AllocError>
+    ensures { IfOk result (λ own. own ≡ own_echo me echoes.now) }
+{
+    let own = echoes_of(alloc, me, echoes.as_slice())?;
+    Ok(Echoes::from_ascending(own))
+}
+
+/// The same, as a list.
+fn echoes_of(alloc: Global, me: u32, echoes: &[Echo]) -> Result<Vec<Echo>, AllocError>
+    ensures { IfOk result (λ own. own.items ≡ own_echo me echoes.now) }
+{
+    let own = echoes.iter().filter(|echo| echo.source == me);
+    own.copied().collect(alloc)
+}
+
+/// The distance that the first of some echoes tells, where it tells one.
+pub(crate) fn distance_in(now: u64, echoes: &[Echo]) -> Option<u64>
+    ensures { result ≡ distance_in now echoes.now }
+{
+    match echoes {
+        [echo, ..] => distance(echo.sent, echo.held, now),
+        [] => None,
+    }
+}
+
+/// The 32 senders that were heard last, ascending.
+pub(crate) fn last_heard(alloc: Global, echoes: &Echoes) -> Result<Echoes, AllocError>
+    ensures { IfOk result (λ last. last ≡ last_heard echoes.now) }
+{
+    let last = latest(alloc, echoes.as_slice())?;
+    Ok(Echoes::from_ascending(last))
+}
+
+/// The same, as a list.
+fn latest(alloc: Global, all: &[Echo]) -> Result<Vec<Echo>, AllocError>
+    ensures { IfOk result (λ last. last.items ≡ last_heard all.now) }
+{
+    let last = all.iter().filter(|echo| is_among_last(**echo, all));
+    last.copied().collect(alloc)
+}
+
+/// Whether fewer than 32 were heard later.
+fn is_among_last(echo: Echo, all: &[Echo]) -> bool
+    ensures { result ≡ nat_lt (count_by (λ f. heard_later f echo) all.now) 32 }
+{
+    all.iter().filter(|other| is_later(**other, echo)).count() < ECHOES
+}
+
+/// Whether one was heard after another, or at the same moment and has the lesser number.
+fn is_later(one: Echo, other: Echo) -> bool
+    ensures { result ≡ heard_later one other }
+{
+    (one.held, one.source) < (other.held, other.source)
+}
+
+/// The next marks of a page, at most 64, those of sources above one that was told.
+pub(crate) fn slice_of(
+    alloc: Global,
+    told: Option<u32>,
+    report: &Marks,
+) -> Result<Marks, AllocError>
+    ensures { IfOk result (λ slice. slice ≡ slice_after told report.now) }
+{
+    let slice = slice_after(alloc, told, report.as_slice())?;
+    Ok(Marks::from_ascending(slice))
+}
+
+/// The last source of some marks.
+pub(crate) fn last_source(marks: &[Mark]) -> Option<u32>
+    ensures { result ≡ last_source None marks.now }
+{
+    let mut last = None;
+    for mark in marks {
+        last = Some(mark.source());
+    }
+    last
+}
+
+/// The names near one, from 64 above to 64 below, down to number 1 and below the greatest that is held.
+pub(crate) fn near_names(alloc: Global, name: &Name, top: u32) -> Result<Vec<Name>, AllocError> {
+    let high = name.seq().saturating_add(REACH).min(top.saturating_sub(1));
+    let low = name.seq().saturating_sub(REACH).max(1);
+    let mut names = Vec::new(alloc);
+    for below in 0..(high + 1).saturating_sub(low) {
+        names.push(Name::new(name.source(), name.page(), high - below).unwrap())?;
+    }
+    Ok(names)
+}

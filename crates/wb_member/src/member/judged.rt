@@ -1,0 +1,107 @@
+//! What a member shows to who judges for it: when it is to ask, and for what. None of it changes the member.
+ghost use Rattle.std.specs.Prelude.{◌≡◌, ◌<◌, ◌≤◌, ◌^◌, length, IfOk, IfSome};
+ghost use Rattle.wb_names.specs.Ascending.{AreEchoes};
+ghost use Rattle.wb_member.specs.Holding.{IsOpenAt};
+ghost use Rattle.wb_member.specs.Judged.{is_full, holds, asked_names, level, delay, echoes, highest, hole_after};
+ghost use Rattle.wb_member.specs.Opened.{Opened};
+
+use crate::member::Member;
+use std::alloc::{AllocError, Global};
+use wb_codec::Datagram;
+use wb_gaps::Hole;
+use wb_names::{Drawop, Echoes, Name, PageId};
+
+impl Member {
+    /// The drawops that are held, the newest last.
+    pub fn drawops(&self) -> &[Drawop]
+        ensures drawops { (host : Opened) → IsOpenAt self.now host → result.now ≡ host.is.held }
+        ensures few { length result.now ≤ 65535 }
+    {
+        self.board.drawops()
+    }
+
+    /// Whether its board has no cell for another drawop.
+    pub fn is_full(&self) -> bool
+        ensures { (host : Opened) → IsOpenAt self.now host → result ≡ is_full host }
+    {
+        self.board.is_full()
+    }
+
+    /// Whether a drawop of this name is held.
+    pub fn holds(&self, name: &Name) -> bool
+        ensures { (host : Opened) → IsOpenAt self.now host → result ≡ holds host name.now }
+    {
+        self.board.holds(name)
+    }
+
+    /// The delay to a source in microseconds: the last that was set or told, and 100,000 before.
+    pub fn delay(&self, source: u32) -> u64
+        ensures delay { (host : Opened) → IsOpenAt self.now host → result ≡ delay host source }
+        ensures near { result < 2 ^ 24 }
+    {
+        self.keeper.delay(source)
+    }
+
+    /// How many request timers stand.
+    pub fn asks(&self) -> usize
+        ensures { (host : Opened) → IsOpenAt self.now host → result ≡ length (asked_names host) }
+    {
+        self.keeper.asks()
+    }
+
+    /// The names for which a request timer stands, ascending.
+    pub fn asked_names(&self, alloc: Global) -> Result<Vec<Name>, AllocError>
+        ensures { IfOk result (λ names. (host : Opened) → IsOpenAt self.now host → names.items ≡ asked_names host) }
+    {
+        self.keeper.asked_names(alloc)
+    }
+
+    /// How often the request timer of a name was backed off since it was set, up to 16. None where none stands.
+    pub fn level(&self, name: &Name) -> Option<u32>
+        ensures { (host : Opened) → IsOpenAt self.now host → result ≡ level host name.now }
+    {
+        self.keeper.level(name)
+    }
+
+    /// An echo to each sender that is remembered, ascending: those of its next session message.
+    pub fn echoes(&mut self, alloc: Global) -> Result<Echoes, AllocError>
+        ensures same { (host : Opened) → IsOpenAt self.old host → IsOpenAt self.new host }
+        ensures echoes { IfOk result (λ all. (host : Opened) → IsOpenAt self.old host → all ≡ echoes host) }
+    {
+        let page = PageId {
+            creator: 0,
+            number: 0,
+        };
+        match self.board.session(alloc, &mut self.keeper, page)? {
+            Datagram::Session {
+                marks: _marks,
+                echoes,
+                ..
+            } => Ok(echoes),
+            _ => Ok(Echoes::from_ascending(Vec::new(alloc))),
+        }
+    }
+
+    /// The greatest number of a source on a page that is held, or 0.
+    pub fn highest(&mut self, page: PageId, source: u32) -> Result<u32, AllocError>
+        ensures same { self.new ≡ self.old }
+        ensures number { IfOk result (λ number. (host : Opened) → IsOpenAt self.old host → number ≡ highest page source host) }
+    {
+        self.board.highest(page, source)
+    }
+
+    /// The first hole that begins after this number of a source on a page: holes are the missing ranges of all pages below
+    /// what is held, ascending by page, source and number.
+    pub fn hole_after(
+        &mut self,
+        alloc: Global,
+        page: PageId,
+        source: u32,
+        number: u32,
+    ) -> Result<Option<Hole>, AllocError>
+        ensures same { self.new ≡ self.old }
+        ensures hole { IfOk result (λ found. (host : Opened) → IsOpenAt self.old host → found ≡ hole_after page source number host) }
+    {
+        self.board.hole_after(alloc, page, source, number)
+    }
+}
