@@ -10,7 +10,7 @@ from wbhost import Block, Host, HostEnded
 from .clock import Clock
 from .options import Options
 from .record import NoRoom, Record, comment, write_record
-from .tunings import tuning_for
+from .tunings import LEVEL_MEMBERS, tuning_for
 from .views import Drawop, Page
 from .words import Words
 
@@ -51,10 +51,11 @@ class Board:
     def open(self, me: int) -> None:
         """Starts the host: from the lines of the record, or with a new board. Its constants are those for the members that
         are expected, where it is said how many are, and else those of the record. Members that are heard change none."""
-        expected = self.options.members or self.members or 1
+        is_level = self.options.is_level()
+        expected = self.options.members or self.members or (LEVEL_MEMBERS if is_level else 1)
         notes: List[str] = []
         if self.record.size == 0 or expected != self.members:
-            self.tuning, self.members = tuning_for(expected), expected
+            self.tuning, self.members = tuning_for(expected, is_level), expected
             notes = [comment("constants %s for %d members" % (self.tuning, expected))]
         if self.record.size == 0:
             notes.append("board %d %d 1 %d" % (me, self.options.cells, secrets.randbits(64)))

@@ -6,7 +6,9 @@ import threading
 import time
 from typing import TYPE_CHECKING, Dict, Iterator, List, Optional
 
-from .network import MOST_BYTES, Network, Nobody
+from .carriers.carrier import MOST_BYTES
+from .carriers.sealed import NONCE, TAG, Seal
+from .carriers.udp import UdpCarrier
 from .options import Address
 from .pacing import Other
 
@@ -32,12 +34,41 @@ QUESTION = bytes.fromhex("574201040000000400000000")
 
 HEAD = 8
 
+# under a key a stream has pieces: the length of each in four bytes, and its sealed bytes
+LENGTH = 4
+MOST_PIECE = 1 << 20
 
-def datagrams_of(stream: socket.socket, end: float) -> Iterator[bytes]:
+
+class Streams:
+    """Where streams are given and asked for: beside a carrier by UDP. Under a key they are sealed as its datagrams are."""
+
+    def __init__(self, udp: UdpCarrier, seal: Optional[Seal]) -> None:
+        self.udp = udp
+        self.seal = seal
+
+    def write(self, stream: socket.socket, data: bytes) -> None:
+        closed = self.seal.close(data) if self.seal else data
+        stream.sendall(len(closed).to_bytes(LENGTH, "big") + closed if self.seal else closed)
+
+    def read(self, stream: socket.socket) -> bytes:
+        """What comes next; nothing at the end, and where a piece does not open."""
+        if not self.seal:
+            return stream.recv(PIECE)
+        size = int.from_bytes(stream.recv(LENGTH, socket.MSG_WAITALL), "big")
+        return self.seal.open(stream.recv(size, socket.MSG_WAITALL)) or b"" if 0 < size <= MOST_PIECE + NONCE + TAG else b""
+
+    def is_asked(self, stream: socket.socket) -> bool:
+        """Whether the other side asks for a stream, and has the key where there is one."""
+        if self.seal:
+            return self.read(stream) == QUESTION
+        return stream.recv(len(QUESTION), socket.MSG_WAITALL) == QUESTION
+
+
+def datagrams_of(streams: Streams, stream: socket.socket, end: float) -> Iterator[bytes]:
     """The datagrams of a stream: each tells its length. It ends at the first that is none."""
     data, total = b"", 0
     while total < MOST_STREAM and time.monotonic() < end:
-        part = stream.recv(PIECE)
+        part = streams.read(stream)
         data, total = data + part, total + len(part)
         at = 0
         while len(data) - at >= HEAD:
@@ -66,28 +97,30 @@ class Joining:
     def consider(self, lacking: int, present: Dict[int, Other], sender: int) -> None:
         """A member reported so many numbers that are missing here."""
         now = time.monotonic()
-        if lacking < LEAST_LACKING or self.is_busy or now < self.next_at or isinstance(self.member.network, Nobody):
+        streams = self.member.streams
+        if lacking < LEAST_LACKING or self.is_busy or now < self.next_at or streams is None:
             return
         # only members whose echo was heard have a distance; before there is one, the member that reported
         near = sorted((other.distance, number) for number, other in present.items() if other.distance is not None and self.may_try(number, now))
         number = near[0][1] if near else sender
         other = present.get(number)
-        if other is None or not self.may_try(number, now) or not self.member.network.is_there(other.address):
+        address = other.origin.address if other else None
+        if address is None or not self.may_try(number, now) or not streams.udp.is_there(address):
             return
         self.is_busy = True
-        threading.Thread(target=self.join, args=(number, other.address), daemon=True).start()
+        threading.Thread(target=self.join, args=(streams, number, address), daemon=True).start()
 
     def may_try(self, number: int, now: float) -> bool:
         return now - self.tried.get(number, -LONGEST) >= LONGEST
 
-    def join(self, number: int, address: Address) -> None:
+    def join(self, streams: Streams, number: int, address: Address) -> None:
         """Takes in a stream, as fast as the member's thread does."""
         taken = 0
         try:
             with socket.create_connection(address, timeout=SILENCE) as stream:
-                stream.sendall(QUESTION)
+                streams.write(stream, QUESTION)
                 some: List[bytes] = []
-                for datagram in datagrams_of(stream, time.monotonic() + LONGEST):
+                for datagram in datagrams_of(streams, stream, time.monotonic() + LONGEST):
                     some.append(datagram)
                     if len(some) >= SOME:
                         taken, some = taken + self.hand_in(some), []
@@ -112,9 +145,9 @@ class Joining:
 class Offer:
     """What a member gives to who asks: each drawop that it holds, one after another."""
 
-    def __init__(self, member: Member, network: Network) -> None:
+    def __init__(self, member: Member, streams: Streams) -> None:
         self.member = member
-        self.network = network
+        self.streams = streams
         self.given = threading.Semaphore(MOST_GIVEN)
         self.socket: Optional[socket.socket] = None
 
@@ -123,7 +156,7 @@ class Offer:
         listening = socket.socket(socket.AF_INET, socket.SOCK_STREAM)
         try:
             listening.setsockopt(socket.SOL_SOCKET, socket.SO_REUSEADDR, 1)
-            listening.bind(self.network.place())
+            listening.bind(self.streams.udp.place())
             listening.listen(MOST_GIVEN)
         except OSError:
             listening.close()
@@ -137,7 +170,7 @@ class Offer:
                 stream, address = listening.accept()
             except OSError:
                 return
-            if self.network.may_ask(address) and self.given.acquire(blocking=False):
+            if self.streams.udp.may_ask(address) and self.given.acquire(blocking=False):
                 threading.Thread(target=self.give, args=(stream,), daemon=True).start()
             else:
                 stream.close()
@@ -146,7 +179,7 @@ class Offer:
         try:
             with stream:
                 stream.settimeout(SILENCE)
-                if stream.recv(len(QUESTION), socket.MSG_WAITALL) == QUESTION:
+                if self.streams.is_asked(stream):
                     self.send_all(stream)
         except Exception:  # who asked has gone, or this member ends
             pass
@@ -161,7 +194,7 @@ class Offer:
         for start in range(0, len(held), SOME):
             if time.monotonic() > end:
                 return
-            stream.sendall(bytes.fromhex("".join(drawop.digits for drawop in held[start:start + SOME])))
+            self.streams.write(stream, bytes.fromhex("".join(drawop.digits for drawop in held[start:start + SOME])))
 
     def end(self) -> None:
         if self.socket:

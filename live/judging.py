@@ -8,9 +8,10 @@ from typing import TYPE_CHECKING, Any, Callable, Dict, List, Optional, Sequence,
 
 from .asking import Asking
 from .board import CLASH, FULL, NEW
+from .inbox import Arrival
 from .joining import Joining
-from .network import Arrival
 from .pacing import LEAST_INTERVAL, SECOND, Answers, Heard, Questions, mean_interval, session_interval
+from .speakers import Speakers
 from .times import MINUTE, Future, Times
 from .views import Drawop, Name, Page, Report, kind_of, page_text, report_of, speaker_of
 from .words import Told
@@ -95,6 +96,7 @@ class Judging:
         self.answers = Answers()
         self.room = Room(member)
         self.joining = Joining(member)
+        self.speakers = Speakers(member.me, member.options.login)
         self.stale: Set[Page] = set(member.drawn.drawn_pages())
         self.own_reports: Dict[str, None] = {}
         self.told: Dict[Page, int] = {}  # the last source of a page that was reported
@@ -130,8 +132,9 @@ class Judging:
         return plan
 
     def now(self) -> int:
-        """The time of day of the session."""
-        return self.times.now(self.heard.present(self.member.board.clock.now()))
+        """The time of day of the session, by the clocks of members that have answered us."""
+        present = self.heard.present(self.member.board.clock.now())
+        return self.times.now(number for number, other in present.items() if other.distance is not None)
 
     # ---- what comes in
 
@@ -158,6 +161,9 @@ class Judging:
         kind, member = kind_of(words), self.member
         if kind == "draw":
             return self.heed_drawop(Drawop(words, digits))
+        if self.speakers.is_forged(speaker_of(words), arrival.origin):
+            member.alarms.warn("%s speaks for member %d, which is another's number: that is not heeded" % (arrival.origin.text, speaker_of(words)))
+            return "speaks for another"
         report = report_of(words)
         if report is not None:
             return self.heed_report(report, digits, arrival)
@@ -243,14 +249,14 @@ class Judging:
             if report.is_session and digits not in self.own_reports:
                 self.meet_twin()
             return None
-        is_first = self.heard.hear(report.sender, arrival.address, now)
+        is_first = self.heard.hear(report.sender, arrival.origin, now)
         other = self.heard.others.get(report.sender)
         if other is None:
             return "too many members"
         if is_first:
             self.asking.try_again()
         if report.is_session:
-            member.wire.learn(arrival.address, report.sender)
+            member.wire.learn(arrival.origin, report.sender)
             other.page, other.sent, other.sent_at = report.page, report.sent, now
             self.measure(report)
         else:
@@ -370,6 +376,14 @@ class Judging:
         self.stop(wanted_no_more)
         cost = int((time.monotonic() - began) * SECOND * member.options.speed)
         self.look_at = member.board.clock.now() + max(SECOND // 10, LOOKS * cost)
+
+    def begin_again(self) -> None:
+        """The network was gone and is back: what was asked for in vain meanwhile is asked for anew, without the waits that have grown, and
+        a report comes soon."""
+        self.stop(self.asking.end())
+        self.asking.try_again()
+        self.look_at = self.member.board.clock.now()
+        self.session_at = min(self.session_at, self.look_at + random.randrange(LEAST_INTERVAL))
 
     def stop(self, names: List[Name]) -> None:
         """The timers of names that are wanted no more end."""

@@ -4,16 +4,22 @@ from __future__ import annotations
 import signal
 import sys
 import webbrowser
-from typing import List, Optional
+from typing import List, Optional, Tuple
 
 from wbhost import HostEnded, NoProgram, find_program
 
 from .board import BoardFault
+from .carriers.carrier import NetworkFault, Nobody
+from .carriers.hub import Hub
+from .carriers.opening import open_network
+from .carriers.worse import Worse
 from .events import Events
-from .joining import Offer
+from .guests import Guests
+from .invitation import InvitationFault, code_of, write_invitation
+from .joining import Offer, Streams
 from .judging import Judging
+from .keys import KeyFault, write_key
 from .member import Member
-from .network import NetworkFault, Nobody, open_network
 from .options import Options, read_options
 from .record import NoRoom, Record, RecordFault, read_played
 from .replay import Playing
@@ -21,8 +27,9 @@ from .state import open_record
 from .telling import NOTICE
 from .terminal import Terminal
 from .web import Web, open_web
+from .words import SharedWords
 
-FAULTS = (BoardFault, HostEnded, NetworkFault, NoProgram, NoRoom, OSError, RecordFault)
+FAULTS = (BoardFault, HostEnded, InvitationFault, KeyFault, NetworkFault, NoProgram, NoRoom, OSError, RecordFault)
 
 
 def replay(options: Options, program: str, events: Events, path: str) -> Member:
@@ -35,24 +42,38 @@ def replay(options: Options, program: str, events: Events, path: str) -> Member:
     return member
 
 
-def make_member(options: Options, events: Events) -> Member:
-    """The member of the network, or of a record that is shown."""
+def make_member(options: Options, events: Events) -> Tuple[Member, Optional[Guests]]:
+    """The member of the network, or of a record that is shown; and those of browsers, where each has its own."""
     program = find_program()
     if options.replay:
-        return replay(options, program, events, options.replay)
+        return replay(options, program, events, options.replay), None
     record, me, may_have_drawn = open_record(options)
-    network = open_network(options)
-    member = Member(options, program, record, network, events, me)
+    carrier, udp, seal = open_network(options, me)
+    hub = Hub(carrier) if options.guests else None
+    words = SharedWords(program) if hub else None
+    member = Member(options, program, record, Worse(hub.place() if hub else carrier, options), events, me, words)
     member.judge(Judging(member, may_have_drawn))
-    Offer(member, network).begin()
-    return member
+    if udp:
+        member.streams = Streams(udp, seal)
+        Offer(member, member.streams).begin()
+    return member, Guests(member, hub) if hub else None
+
+
+def invite(options: Options) -> None:
+    """Prints the line that brings others into the session, and for people that look on the same as a picture."""
+    line = write_invitation(options)
+    print(line)
+    if sys.stdout.isatty():
+        print(code_of(line), end="")
+    if not options.key:
+        print("wb-live: this session has no key: whoever is on its network can read and draw", file=sys.stderr)
 
 
 def hold(options: Options) -> None:
     """Holds the session until it is ended."""
     events = Events()
-    member = make_member(options, events)
-    web: Optional[Web] = open_web(options, member, events) if options.web else None
+    member, guests = make_member(options, events)
+    web: Optional[Web] = open_web(options, member, events, guests) if options.web else None
     for number in (signal.SIGINT, signal.SIGTERM, signal.SIGHUP):
         signal.signal(number, lambda *_: member.end())
     print("member %d, %s" % (member.me, member.network.where), flush=True)
@@ -71,14 +92,22 @@ def hold(options: Options) -> None:
         events.end()
         if terminal:
             terminal.end()
+        if guests:
+            guests.end()
+            guests.hub.end()
 
 
 def main(words: List[str]) -> int:
     """The status of the program: 0 at its end, 1 where it can't start or go on, 2 where its words are wrong."""
     options = read_options(words)
-    print(NOTICE, flush=True)
     try:
-        hold(options)
+        if options.new_key:
+            write_key(options.new_key)
+        elif options.invite:
+            invite(options)
+        else:
+            print(NOTICE, flush=True)
+            hold(options)
     except FAULTS as fault:
         print("wb-live: %s" % (fault or "the host ended"), file=sys.stderr)
         return 1

@@ -10,10 +10,13 @@ from wbhost import Block, HostEnded
 
 from .alarms import Alarms
 from .board import Board
+from .carriers.carrier import MOST_BYTES, Carrier, Origin
+from .carriers.mqtt import GONE
 from .drawn import Drawn
 from .events import Events
+from .inbox import Inbox
+from .joining import Streams
 from .judging import Judging
-from .network import MOST_BYTES, Inbox, Network, Nobody
 from .options import Options
 from .people import People
 from .presence import Point, Presence, write
@@ -24,19 +27,21 @@ from .views import Drawop, Page
 from .wire import Wire
 from .words import Words
 
-# the page that is in view at first
+# the page that is in view at first, and the one that a convention reserves for names, titles and the chat
 FIRST_PAGE: Page = (1, 1)
+NOTES: Page = (0, 0)
 
 
 class Member:
     """The loop, and what its parts share."""
 
-    def __init__(self, options: Options, program: str, record: Record, network: Union[Network, Nobody], events: Events, me: int) -> None:
+    def __init__(self, options: Options, program: str, record: Record, network: Carrier, events: Events, me: int, words: Optional[Words] = None) -> None:
         self.options = options
         self.network = network
+        self.streams: Optional[Streams] = None  # beside the network, where it has some
         self.me = me
-        self.words = Words(program)
-        self.inbox = Inbox(options)
+        self.words = words or Words(program)
+        self.inbox = Inbox()
         self.wire = Wire(events)
         self.alarms = Alarms()
         self.drawn = Drawn()
@@ -59,7 +64,9 @@ class Member:
 
     def run(self) -> None:
         """Goes on until it is ended."""
-        self.network.aside = Presence(self.me, self.telling.events).hear
+        self.presence = Presence(self.me, self.telling.events)
+        self.inbox.aside = self.hear_aside
+        self.inbox.back = lambda: self.judging.begin_again()
         self.network.begin(self.inbox)
         while not self.is_ended:
             try:
@@ -67,6 +74,13 @@ class Member:
             except HostEnded:
                 self.telling.is_changed = True
         self.close()
+
+    def hear_aside(self, data: bytes, origin: Origin) -> None:
+        """A datagram that no host hears of, on the carrier's thread: where somebody points, or that he who spoke from there is gone."""
+        if not data.startswith(GONE):
+            self.presence.hear(data)
+        elif data[len(GONE):] == origin.text.encode():
+            self.inbox.call(lambda: self.judging.heard.leave(origin))
 
     def turn(self) -> None:
         calls, arrivals = self.inbox.take(self.seconds_to_wait())
@@ -98,7 +112,7 @@ class Member:
         self.judging.end()
         self.network.end()
         self.board.host.end()
-        self.words.child.end()
+        self.words.end()
         self.board.record.close()
 
     def end(self) -> None:
@@ -137,7 +151,7 @@ class Member:
     def hold(self, drawop: Drawop) -> None:
         """The host has taken in a drawop."""
         page = drawop.name[1]
-        if not self.has_turned and not self.drawn.count(self.page):
+        if not self.has_turned and not self.drawn.count(self.page) and page != NOTES:
             self.page = page
         self.drawn.add(drawop)
         self.telling.is_changed = self.telling.is_changed or page == self.page
@@ -159,6 +173,7 @@ class Member:
         """Goes on under another number, with all that is held."""
         self.board.renumber(me, new_path(self.board.record.path, self.me, me), list(self.drawn.all()))
         self.me = me
+        self.presence.renumber(me)
         self.judging.end()
         self.judge(Judging(self, may_have_drawn=False))
         self.telling.is_changed = True

@@ -3,13 +3,23 @@ from __future__ import annotations
 
 import argparse
 import re
-from typing import Any, Callable, List, Optional, Tuple
+from typing import Any, Callable, Dict, List, Optional, Tuple
+
+from .carriers.mqtt import Broker, Login
+from .carriers.udp import PORTS
+from .invitation import FIRST_NAME, InvitationFault, login_in, read_broker, read_invitation, session_in
+from .keys import KeyFault, read_key, secret_text
 
 Address = Tuple[str, int]
 
 GROUP = "239.255.42.99:24299"
 FIRST_PORT = 24200
-PORTS = 32
+
+# browsers that may have a member each
+GUESTS = 64
+
+# hosts of this machine, to which a password may go without TLS
+THIS_MACHINE = ("127.0.0.1", "localhost", "::1")
 
 
 class Options(argparse.Namespace):
@@ -21,7 +31,18 @@ class Options(argparse.Namespace):
     listen: Optional[Address]
     peer: List[Address]
     ports: int
+    invitation: Optional[Dict[str, str]]
+    broker: Optional[Broker]
+    login: Optional[Login]
+    ca: Optional[str]
+    session: str
+    key: Optional[str]  # its text
+    new_key: Optional[str]
+    invite: bool
+    page: Optional[str]
     web: Optional[Address]  # None: serves no page
+    is_for_each = False  # the page is served at an address of the words
+    guests: int  # so many browsers may have a member of their own; 0: all browsers are one member
     origin: List[str]
     terminal: bool
     open: bool
@@ -41,6 +62,10 @@ class Options(argparse.Namespace):
         """How the network is made worse on purpose, where datagrams come in."""
         return {"lose": self.lose, "delay": self.delay, "twice": self.twice, "mix": self.mix}
 
+    def is_level(self) -> bool:
+        """Whether the members of its network are about equally far from one another, and may be many."""
+        return bool(self.lan or self.broker or self.guests)
+
 
 def address(text: str) -> Address:
     """HOST:PORT."""
@@ -53,6 +78,43 @@ def address(text: str) -> Address:
 def web_address(text: str) -> Address:
     """PORT of this machine alone, or ADDRESS:PORT."""
     return address(text if ":" in text else "127.0.0.1:" + text)
+
+
+class WebAction(argparse.Action):
+    """Where the page is served. Where the words name an address, each browser has a member of its own."""
+
+    def __call__(self, made: argparse.ArgumentParser, options: Any, text: Any, option: Optional[str] = None) -> None:
+        try:
+            options.web = web_address(text)
+        except argparse.ArgumentTypeError as fault:
+            raise argparse.ArgumentError(self, str(fault)) from fault
+        options.is_for_each = ":" in text
+
+
+def checked(read: Callable[[str], Any]) -> Callable[[str], Any]:
+    """Reads a word, whose fault is told as one of the words."""
+
+    def made(text: str) -> Any:
+        try:
+            return read(text)
+        except (InvitationFault, KeyFault) as fault:
+            raise argparse.ArgumentTypeError(str(fault)) from fault
+
+    return made
+
+
+def login_of(path: str) -> Login:
+    """The name and the password in a file."""
+    name, colon, password = secret_text(path).partition(":")
+    if not colon:
+        raise KeyFault("%s does not begin with NAME:PASSWORD" % path)
+    return login_in(name, password)
+
+
+def page_address(text: str) -> str:
+    if not re.match("https?://[^#\\s]+$", text):
+        raise argparse.ArgumentTypeError("%r is no address of a page" % text)
+    return text
 
 
 def origin(text: str) -> str:
@@ -85,14 +147,25 @@ def parser() -> argparse.ArgumentParser:
     )
     net = made.add_argument_group("whom to draw with").add_argument
     net("--lan", nargs="?", const=address(GROUP), type=address, metavar="ADDRESS:PORT", help="a multicast group, %s where none is given" % GROUP)
+    net("--broker", metavar="URL", help="a session at a broker of MQTT 5: mqtts://HOST[:PORT]/SESSION, or wss://HOST[:PORT]/PATH with --session")
+    net("--password-file", dest="login", type=checked(login_of), metavar="FILE", help="has NAME:PASSWORD for the broker in its first line")
+    net("--ca", metavar="FILE", help="the certificates that vouch for the broker, where they are not those of the system")
     net("--interface", default="0.0.0.0", metavar="A", help="the address of the interface on which the group is joined")
     net("--listen", type=address, metavar="HOST:PORT", help="listens here, and sends to each --peer")
     net("--peer", type=address, action="append", metavar="HOST:PORT", help="another member, which listens there; as often as there are")
     net("--ports", type=within(1, 65_535 - PORTS, int), default=FIRST_PORT, metavar="FIRST", help="the first of the %d ports of this machine, else %d" % (PORTS, FIRST_PORT))
     net("--me", type=within(0, 2**32 - 1, int), metavar="N", help="the number of this member, which no other has; else that of its record, or one at random")
     net("--members", type=within(1, 10**6, int), default=0, metavar="N", help="how many are expected: the constants of the timers are those for N members")
+    shut = made.add_argument_group("who may read").add_argument
+    shut("invitation", nargs="?", type=checked(read_invitation), metavar="INVITATION", help="a line that --invite printed: joins that session")
+    shut("--session", type=checked(session_in), default=FIRST_NAME, metavar="NAME", help="the name of the session, else %s" % FIRST_NAME)
+    shut("--key", type=checked(read_key), metavar="FILE", help="seals each datagram by the key in this file")
+    shut("--new-key", metavar="FILE", help="makes a file with a new key, which only its owner reads, and ends")
+    shut("--invite", action="store_true", help="prints a line that brings others into this session, with its key, and ends")
+    shut("--page", type=page_address, metavar="URL", help="the line of --invite begins with the address of this page, which wb --page built")
     seen = made.add_argument_group("where it is seen").add_argument
-    seen("--web", type=web_address, default=("127.0.0.1", -1), metavar="PORT", help="serves the page on this port of 127.0.0.1, or with ADDRESS:PORT elsewhere")
+    seen("--web", action=WebAction, default=("127.0.0.1", -1), metavar="PORT", help="serves the page on this port of 127.0.0.1; with ADDRESS:PORT it is served there, and each browser is a member of its own")
+    seen("--guests", type=within(1, GUESTS, int), metavar="N", help="so many browsers have a member of their own at most, else %d" % GUESTS)
     seen("--origin", type=origin, action="append", default=[], metavar="URL", help="the page is seen under this address too, as https://board.example.org, where a proxy stands before it; as often as there are")
     seen("--no-web", dest="web", action="store_const", const=None, help="serves no page, and paints it in the terminal")
     seen("--terminal", action="store_true", default=None, help="paints the page in the terminal")
@@ -115,15 +188,55 @@ def parser() -> argparse.ArgumentParser:
     return made
 
 
+def take_invitation(options: Options) -> None:
+    """The words of an invitation, in the place of those that name a network."""
+    words = options.invitation or {}
+    if options.broker or options.lan or options.listen:
+        raise InvitationFault("an invitation names the network: --broker, --lan and --listen go without one")
+    options.session = words["session"]
+    options.key = words.get("key") or options.key
+    options.broker = words.get("broker")  # type: ignore[assignment]
+    try:
+        options.lan = address(words["lan"]) if "lan" in words else None
+        options.ports = within(1, 65_535 - PORTS, int)(words.get("ports", "%d" % options.ports))
+    except argparse.ArgumentTypeError as fault:
+        raise InvitationFault("the invitation names no network: %s" % fault) from fault
+
+
+def take_broker(options: Options) -> None:
+    """The broker of an address, with what else the address says."""
+    broker, session, login = read_broker(str(options.broker))
+    if session:
+        options.session = session_in(session)
+    elif not broker.scheme.startswith("ws") and not options.invitation:
+        raise InvitationFault("--broker names a session too: %s/SESSION" % broker.text)
+    options.login = options.login or login
+    if options.login and not broker.is_safe and broker.host not in THIS_MACHINE:
+        raise InvitationFault("a password goes by TLS alone: mqtts:// or wss://")
+    options.broker = broker
+
+
 def read_options(words: List[str]) -> Options:
     """The options that the words ask for. Wrong words end this process with status 2."""
     made = parser()
     options = made.parse_args(words, Options())
+    try:
+        if options.invitation:
+            take_invitation(options)
+        if options.broker:
+            take_broker(options)
+    except InvitationFault as fault:
+        made.error(str(fault))
+    if options.broker and (options.lan or options.listen):
+        made.error("--broker, --lan and --listen exclude each other")
+    if (options.login or options.ca) and not options.broker:
+        made.error("--password-file and --ca go with --broker")
+    options.guests = (options.guests or GUESTS) if options.is_for_each and options.web and not options.replay else 0
     if (options.listen is None) != (not options.peer):
         made.error("--listen and --peer go together")
     if options.lan and options.listen:
         made.error("--lan and --listen exclude each other")
-    if options.replay and (options.record or options.lan or options.listen or options.forget):
+    if options.replay and (options.record or options.lan or options.listen or options.broker or options.forget):
         made.error("--replay goes without a network, --record and --forget")
     if options.terminal is None:
         options.terminal = options.web is None

@@ -5,7 +5,7 @@ import random
 from dataclasses import dataclass
 from typing import Dict, List, Optional, Tuple
 
-from .options import Address
+from .carriers.carrier import Origin
 from .views import Page
 
 SECOND = 1_000_000
@@ -19,9 +19,11 @@ MOST_INTERVAL = 64 * SECOND
 GONE_AFTER = 60 * SECOND
 GONE_AFTER_INTERVALS = 3
 
-# members that are remembered, those of one address, and new ones: so many at once, and then one in each pause
+# members that are remembered; those of one origin that have not answered us, and all of one, behind which the browsers of a program may
+# be; and new ones: so many at once, and then one in each pause
 MOST_MEMBERS = 1_024
-MOST_OF_ADDRESS = 8
+MOST_OF_ORIGIN = 8
+MOST_BEHIND_ORIGIN = 72
 MOST_NEW = 64
 NEW_PAUSE = SECOND // 4
 
@@ -42,7 +44,7 @@ class Other:
     moment that it told there."""
 
     at: int
-    address: Address
+    origin: Origin
     distance: Optional[int] = None
     page: Optional[Page] = None
     sent: Optional[int] = None
@@ -58,27 +60,32 @@ class Heard:
         self.paid = 0  # new members are paid for up to this moment
         self.told = 0  # the member that was echoed last
 
-    def hear(self, member: int, address: Address, now: int) -> bool:
+    def hear(self, member: int, origin: Origin, now: int) -> bool:
         """Whether it is heard for the first time. Of too many new ones some are passed over."""
         other = self.others.pop(member, None)
-        if other is None and not self.admits(address, now):
+        if other is None and not self.admits(origin, now):
             return False
-        self.others[member] = other or Other(now, address)
+        self.others[member] = other or Other(now, origin)
         self.others[member].at = now
-        self.others[member].address = address
+        self.others[member].origin = origin
         if len(self.others) > MOST_MEMBERS:
             del self.others[next(iter(self.others))]
         return other is None
 
-    def admits(self, address: Address, now: int) -> bool:
-        """Whether there is room for a new member, who speaks from an address. The oldest one there makes room for it."""
+    def admits(self, origin: Origin, now: int) -> bool:
+        """Whether there is room for a new member, who speaks from there. The oldest one there makes room for it."""
         if max(self.paid, now) - now > (MOST_NEW - 1) * NEW_PAUSE:
             return False
         self.paid = max(self.paid, now) + NEW_PAUSE
-        here = [member for member, other in self.others.items() if other.address == address]
-        for member in here[:max(0, len(here) + 1 - MOST_OF_ADDRESS)]:
+        here = [member for member, other in self.others.items() if other.origin == origin]
+        unknown = [member for member in here if self.others[member].distance is None]
+        for member in unknown[:max(0, len(unknown) + 1 - MOST_OF_ORIGIN)] or here[:max(0, len(here) + 1 - MOST_BEHIND_ORIGIN)]:
             del self.others[member]
         return True
+
+    def leave(self, origin: Origin) -> None:
+        """Those who spoke from there are gone."""
+        self.others = {member: other for member, other in self.others.items() if other.origin != origin}
 
     def forget(self, now: int) -> None:
         """The members that were not heard for long are forgotten."""

@@ -81,8 +81,19 @@ class Presence:
             self.others.pop(point.member, None)
             if point.cell is not None:
                 self.others[point.member] = time.monotonic(), point
-            self.forget()
-            told = [{"member": other.member, "page": page_text(other.page), "cell": other.cell, "begun": other.begun} for _, other in self.others.values()]
+            self.tell()
+
+    def renumber(self, me: int) -> None:
+        """We have another number: who has the old one is another member, and who points under the new one is none."""
+        with self.changed:
+            self.me = me
+            self.others.pop(me, None)
+            self.tell()
+
+    def tell(self) -> None:
+        """Tells who points where."""
+        self.forget()
+        told = [{"member": other.member, "page": page_text(other.page), "cell": other.cell, "begun": other.begun} for _, other in self.others.values()]
         self.events.tell("presence", {"others": told})
 
     def heeds(self, member: int) -> bool:

@@ -5,9 +5,10 @@ from __future__ import annotations
 from typing import TYPE_CHECKING, Any, Callable, Dict, Iterator, List, Optional, Tuple
 
 from .asking import Asking
+from .carriers.carrier import Origin
 from .drawn import Drawn
 from .film import SPEEDS, Film, scenes_of
-from .network import Arrival
+from .inbox import Arrival
 from .pacing import SECOND, Heard
 from .times import wall
 from .views import Drawop, Page, kind_of
@@ -51,10 +52,10 @@ class Playing:
         self.tell_at = self.member.board.clock.now() + TELL_PAUSE
 
     def change(self, at: Optional[float] = None, speed: Optional[float] = None, stopped: Optional[bool] = None) -> Dict[str, Any]:
-        """Jumps to a moment, in milliseconds; goes faster or slower; stops or goes on."""
+        """Jumps to the end of a millisecond, so that the last has all; goes faster or slower; stops or goes on."""
         self.film.change(speed, stopped)
         if at is not None:
-            self.jump(int(at * 1000))
+            self.jump(int(at) * 1000 + 999)
         self.tell()
         return {"at": self.film.at() // 1000}
 
@@ -83,7 +84,7 @@ class Playing:
         """A drawop of the record comes in or goes out once more, and any other line is said once more."""
         member, word = self.member, line.split(" ", 1)[0]
         if word == "datagram" and len(line) % 2:
-            self.arrive([Arrival(bytes.fromhex(line[9:]), ("record", 0))])
+            self.arrive([Arrival(bytes.fromhex(line[9:]), Origin("record"))])
         elif line.startswith("say draw "):
             for digits in member.board.draw(line[4:]).sent():
                 member.send(digits)

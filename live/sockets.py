@@ -41,7 +41,9 @@ def frame(kind: int, data: bytes) -> bytes:
 
 def has_ended(connection: socket.socket) -> bool:
     """Whether the other side closes, or sends what is none of a browser's."""
-    while select.select([connection], [], [], 0)[0]:
+    poll = select.poll()
+    poll.register(connection, select.POLLIN)
+    while poll.poll(0):
         data = connection.recv(MOST_BYTES)
         if not data or data[0] & 15 == CLOSE or len(data) == MOST_BYTES:
             return True

@@ -7,6 +7,8 @@ import secrets
 from pathlib import Path
 from typing import Iterator, List, Tuple
 
+from .invitation import FIRST_NAME
+from .keys import digest_of
 from .options import Options
 from .record import Record, RecordFault
 
@@ -17,7 +19,14 @@ def random_number() -> int:
 
 
 def session_name(options: Options) -> str:
-    """What tells sessions apart: a group, where one listens, or the ports of this machine."""
+    """What tells sessions apart: a broker, a group, where one listens, or the ports of this machine; a name; and a key, since what was
+    drawn under one is nothing for those who have another."""
+    return carrier_name(options) + ("" if options.session == FIRST_NAME else "-" + options.session) + ("-" + digest_of(options.key) if options.key else "")
+
+
+def carrier_name(options: Options) -> str:
+    if options.broker:
+        return "broker-%s-%d" % (options.broker.host, options.broker.port)
     if options.lan:
         return "group-%s-%d" % options.lan
     if options.listen:

@@ -160,7 +160,7 @@ class Telling:
         elif page in self.missing:
             self.missing.remove(page)
             self.caught_up[page] = member.board.clock.now()
-        counts = dict(member.wire.counts, dropped=member.inbox.dropped, starts=1 + len(member.board.ends), differences=self.differences)
+        counts = dict(member.wire.counts, dropped=member.inbox.dropped, foreign=member.inbox.foreign, starts=1 + len(member.board.ends), differences=self.differences)
         self.events.tell("health", {
             "page": page_text(page), "phrase": self.phrase(missing, asking, given_up), "missing": missing,
             "asking": asking, "given_up": given_up, "warnings": self.warnings(), "counts": counts,
@@ -172,6 +172,7 @@ class Telling:
         lasting = [
             (member.judging.has_twin, "another member has our number %d: nothing is drawn until this member has a new one" % member.me),
             (member.board.is_broken, "the record can't be written: nothing is drawn until there is room"),
+            (bool(member.inbox.trouble), member.inbox.trouble),
         ]
         return member.alarms.told() + [text for is_so, text in lasting if is_so]
 

@@ -10,10 +10,23 @@ TUNINGS: Tuple[Tuple[int, str], ...] = (
     (500, "2,8,1,8"),
 )
 
+# The same for members that are all equally far from one another, as at a broker and on a LAN: there nothing but chance parts them. Of G
+# members 1 + (G - 1) / C2 ask in the mean at most, and so many repair by D2; these are the least constants that make both at most 6, and
+# for more members the greatest that there are.
+LEVEL_TUNINGS: Tuple[Tuple[int, str], ...] = (
+    (10, "2,2,1,2"),
+    (50, "2,10,1,10"),
+    (500, "2,16,1,16"),
+)
+
+# of such a network of which nobody says how many are expected
+LEVEL_MEMBERS = 50
+
 # those of a record that names none
 FIRST_TUNING = "2,2,1,1"
 
 
-def tuning_for(members: int) -> str:
-    """The constants for so many members; of more than were measured, those for the most."""
-    return next((tuning for most, tuning in TUNINGS if members <= most), TUNINGS[-1][1])
+def tuning_for(members: int, is_level: bool = False) -> str:
+    """The constants for so many members; of more than the table has, those for the most."""
+    table = LEVEL_TUNINGS if is_level else TUNINGS
+    return next((tuning for most, tuning in table if members <= most), table[-1][1])

@@ -16,6 +16,7 @@ from urllib.parse import parse_qs, urlsplit
 
 from .connections import Connections
 from .events import Events, Watcher, compact
+from .guests import Guest, Guests
 from .member import Member
 from .options import Address, Options
 from .people import Refused
@@ -46,6 +47,9 @@ QUIET = 5.0
 
 # ports that the page tries first, so that its address stays
 PORTS = range(8040, 8072)
+
+# by which a browser is known again that has a member of its own
+COOKIE = "wb"
 
 # no script, style or address but our own: none stands in the page itself
 POLICY = (
@@ -78,12 +82,12 @@ def page_files() -> Dict[str, Tuple[str, bytes]]:
 
 
 class Web(ThreadingHTTPServer):
-    """Serves one member."""
+    """Serves one member, or each browser its own."""
 
     daemon_threads = True
     request_queue_size = 256
 
-    def __init__(self, address: Address, options: Options, member: Member, events: Events) -> None:
+    def __init__(self, address: Address, options: Options, member: Member, events: Events, guests: Optional[Guests] = None) -> None:
         self.connections = Connections()
         super().__init__(address, Handler)
         host, port = address[0], self.server_address[1]
@@ -97,6 +101,7 @@ class Web(ThreadingHTTPServer):
         self.urls = ["%s/%s/" % (origin, self.token) for origin in [here, *options.origin]]
         self.member = member
         self.events = events
+        self.guests = guests
         self.streams = threading.Semaphore(MOST_STREAMS)
         index = PAGE / "index.html"
         self.page = (index.read_text() if index.exists() else BARE_PAGE).replace("__TOKEN__", self.token).encode()
@@ -130,6 +135,8 @@ class Handler(BaseHTTPRequestHandler):
     def setup(self) -> None:
         super().setup()
         self.has_asked = False
+        self.member, self.events = self.server.member, self.server.events
+        self.guest: Optional[Guest] = None
 
     def finish(self) -> None:
         """The connection ends, and its place is free."""
@@ -170,6 +177,8 @@ class Handler(BaseHTTPRequestHandler):
             if path not in paths:
                 raise Fault(405, "method") if path in ("/", "/events", "/board", "/record", "/draw", "/page") else Fault(404, "no such path")
             self.file = path
+            if self.server.guests and path not in self.server.files:
+                self.admit(self.server.guests, path == "/")
             paths[path]()
         except Fault as fault:
             self.send_json(fault.status, {"ok": False, "fault": str(fault)})
@@ -191,23 +200,35 @@ class Handler(BaseHTTPRequestHandler):
         if not hmac.compare_digest((token or "").encode("latin-1", "replace"), self.server.token.encode()):
             raise Fault(403, fault)
 
+    def admit(self, guests: Guests, may_begin: bool) -> None:
+        """Finds the member of this browser by its cookie. Who opens the page gets one."""
+        guest = guests.find(cookie_in(self.headers.get("Cookie", "")))
+        if guest is None and may_begin:
+            guest = guests.begin()
+            if guest is None:
+                raise Fault(503, "%d browsers have members here, and there is no room for more" % guests.most)
+        if guest is None:
+            raise Fault(403, "open the page anew: this browser has no member here")
+        self.guest, self.member, self.events = guest, guest.member, guest.events
+
     # ---- what is served
 
     def send_page(self) -> None:
-        self.send_bytes("text/html; charset=utf-8", self.server.page)
+        cookie = {"Set-Cookie": "%s=%s; HttpOnly; SameSite=Lax; Path=/%s/" % (COOKIE, self.guest.cookie, self.server.token)} if self.guest else {}
+        self.send_bytes("text/html; charset=utf-8", self.server.page, cookie)
 
     def send_file(self) -> None:
         """A script or a style of the page."""
         self.send_bytes(*self.server.files[self.file])
 
-    def send_bytes(self, kind: str, body: bytes) -> None:
-        self.send_head(200, kind, len(body))
+    def send_bytes(self, kind: str, body: bytes, more: Optional[Dict[str, str]] = None) -> None:
+        self.send_head(200, kind, len(body), more)
         self.wfile.write(body)
 
     def send_board(self) -> None:
         """What a page shows that need not be in view."""
         self.check_token(self.headers.get("X-Wb-Token"))
-        member = self.server.member
+        member = self.member
         try:
             page = page_of(parse_qs(urlsplit(self.path).query).get("page", [""])[0])
         except ValueError:
@@ -218,7 +239,7 @@ class Handler(BaseHTTPRequestHandler):
     def send_record(self) -> None:
         """The record as it is now."""
         self.check_token(self.headers.get("X-Wb-Token"))
-        member = self.server.member
+        member = self.member
         text = member.people.call(member.board.record.text).result(DRAW_PATIENCE)
         self.send_bytes("text/plain; charset=latin-1", text)
 
@@ -237,10 +258,20 @@ class Handler(BaseHTTPRequestHandler):
                 self.send_header(name, value)
             self.end_headers()
             self.connection.setsockopt(socket.IPPROTO_TCP, socket.TCP_NODELAY, 1)
-            self.stream(Watcher(self.server.events))
+            self.watch()
         finally:
             self.close_connection = True
             self.server.streams.release()
+
+    def watch(self) -> None:
+        """A window looks on, for as long as it does."""
+        if self.guest is None:
+            return self.stream(Watcher(self.events))
+        self.guest.watch(1)
+        try:
+            self.stream(Watcher(self.events))
+        finally:
+            self.guest.watch(-1)
 
     def stream(self, watcher: Watcher) -> None:
         """Sends what is told until the other side or the program ends."""
@@ -263,10 +294,10 @@ class Handler(BaseHTTPRequestHandler):
         self.send_head(status, "application/json", len(body))
         self.wfile.write(body)
 
-    def send_head(self, status: int, kind: str, length: Optional[int]) -> None:
+    def send_head(self, status: int, kind: str, length: Optional[int], more: Optional[Dict[str, str]] = None) -> None:
         self.send_response(status)
         self.send_header("Content-Type", kind)
-        for name, value in HEADERS.items():
+        for name, value in {**HEADERS, **(more or {})}.items():
             self.send_header(name, value)
         if length is not None:
             self.send_header("Content-Length", str(length))
@@ -306,10 +337,10 @@ class Handler(BaseHTTPRequestHandler):
         page = self.page_in(body, ["op", "page"])
         if not body["op"].isprintable():
             raise Fault(400, "control characters")
-        self.give(self.server.member.people.draw(page, body["op"]))
+        self.give(self.member.people.draw(page, body["op"]))
 
     def turn(self) -> None:
-        body, people = self.body(), self.server.member.people
+        body, people = self.body(), self.member.people
         if body == {"new": True}:
             self.give(people.call(people.new_page))
         else:
@@ -317,7 +348,7 @@ class Handler(BaseHTTPRequestHandler):
 
     def point(self) -> None:
         """Where this member points, which is told to others but kept by nobody."""
-        body, member = self.body(), self.server.member
+        body, member = self.body(), self.member
         page = self.page_in({"page": body.pop("page", None)}, ["page"])
         point = point_in(body, member.me, page)
         if point is None:
@@ -325,20 +356,20 @@ class Handler(BaseHTTPRequestHandler):
         self.give(member.people.call(member.point, point))
 
     def film(self) -> None:
-        body, member = self.body(), self.server.member
+        body, member = self.body(), self.member
         change = change_in(body)
         if change is None:
             raise Fault(400, "fields")
         self.give(member.people.call(lambda: member.judging.change(**change)))
 
     def renumber(self) -> None:
-        body, people = self.body(), self.server.member.people
+        body, people = self.body(), self.member.people
         if body != {"new": True}:
             raise Fault(400, "fields")
         self.give(people.call(people.renumber))
 
     def worsen(self) -> None:
-        people = self.server.member.people
+        people = self.member.people
         self.give(people.call(people.worsen, worse_of(self.body())))
 
     def page_in(self, body: Dict[str, Any], names: List[str]) -> Page:
@@ -351,6 +382,11 @@ class Handler(BaseHTTPRequestHandler):
             raise Fault(400, "page") from None
 
 
+def cookie_in(header: str) -> str:
+    """The cookie of ours among those that a browser sends."""
+    return dict(part.strip().partition("=")[::2] for part in header.split(";")).get(COOKIE, "")
+
+
 def worse_of(body: Dict[str, Any]) -> Dict[str, Any]:
     """How the network is to be made worse, in range."""
     most = {"lose": 1, "twice": 1, "delay": 5000}
@@ -361,13 +397,13 @@ def worse_of(body: Dict[str, Any]) -> Dict[str, Any]:
     return body
 
 
-def open_web(options: Options, member: Member, events: Events) -> Web:
+def open_web(options: Options, member: Member, events: Events, guests: Optional[Guests] = None) -> Web:
     """Serves at the address of the words; where its port is -1, at the first that is free."""
     address = options.web or ("127.0.0.1", 0)
     ports = list(PORTS) + [0] if address[1] < 0 else [address[1]]
     for port in ports[:-1]:
         try:
-            return Web((address[0], port), options, member, events)
+            return Web((address[0], port), options, member, events, guests)
         except OSError:
             continue
-    return Web((address[0], ports[-1]), options, member, events)
+    return Web((address[0], ports[-1]), options, member, events, guests)

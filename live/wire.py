@@ -4,12 +4,12 @@ from __future__ import annotations
 import time
 from typing import Any, Dict, Optional
 
+from .carriers.carrier import Origin
 from .events import Events
-from .network import Arrival
-from .options import Address
+from .inbox import Arrival
 from .views import Name, name_in, page_text, speaker_of
 
-# characters of a datagram that are told, and requests and addresses that are remembered
+# characters of a datagram that are told, and requests and origins that are remembered
 MOST_CHARACTERS = 400
 MOST_REMEMBERED = 1_024
 
@@ -23,15 +23,15 @@ class Wire:
         self.events = events
         self.began = time.monotonic()
         self.last = 0
-        self.addresses: Dict[Address, int] = {}
+        self.origins: Dict[Origin, int] = {}
         self.requests: Dict[Name, int] = {}
         self.counts = dict.fromkeys(COUNTED, 0)
 
-    def learn(self, address: Address, member: int) -> None:
-        """A member sends from an address."""
-        if len(self.addresses) >= MOST_REMEMBERED:
-            self.addresses.clear()
-        self.addresses[address] = member
+    def learn(self, origin: Origin, member: int) -> None:
+        """A member sends from there."""
+        if len(self.origins) >= MOST_REMEMBERED:
+            self.origins.clear()
+        self.origins[origin] = member
 
     def entry(self, way: str, words: Optional[str], arrival: Optional[Arrival]) -> Dict[str, Any]:
         """The entry of a datagram, which is told to nobody yet."""
@@ -45,8 +45,8 @@ class Wire:
             "member": speaker_of(text) if text else None, "name": "%d %s %d" % (name[0], page_text(name[1]), name[2]) if name else None,
             "answers": self.requests.get(name) if name and kind == "draw" else None,
             "lost": arrival is not None and arrival.is_lost, "twice": arrival is not None and arrival.is_second,
-            "refused": None, "from": "%s:%d" % arrival.address if arrival else None,
-            "by": self.addresses.get(arrival.address) if arrival else None,
+            "refused": None, "from": arrival.origin.text if arrival else None,
+            "by": self.origins.get(arrival.origin) if arrival else None,
         }
 
     def came(self, arrival: Arrival, words: Optional[str]) -> Dict[str, Any]:

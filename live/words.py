@@ -1,12 +1,17 @@
 """Datagrams in words, by `wb words`, which is proved: what it can't say is none."""
 from __future__ import annotations
 
-from typing import List, NamedTuple, Optional, Sequence
+import threading
+from typing import Dict, List, NamedTuple, Optional, Sequence
 
 from wbhost import LINES, Child, HostEnded
 
 # a line of the program has 65,536 bytes at most
 MOST_DIGITS = 65_536 - len("send ")
+
+# datagrams that are remembered for many members, and the digits of the longest of them
+MOST_REMEMBERED = 1_024
+MOST_LENGTH = 4_096
 
 
 class Told(NamedTuple):
@@ -24,6 +29,9 @@ class Words:
         self.child = Child(self.command)
         self.last = ""
         self.told = Told(None, "datagram 1")
+
+    def end(self) -> None:
+        self.child.end()
 
     def of(self, digits: str) -> Told:
         if digits != self.last:
@@ -50,3 +58,34 @@ class Words:
 def told_by(line: str) -> Told:
     """What a line of the filter tells: words behind `send`, or a comment with the fault, as `# line 1: word 2: datagram 4`."""
     return Told(line[5:], None) if line.startswith("send ") else Told(None, line.rpartition(": ")[2])
+
+
+class SharedWords(Words):
+    """For many members of this program: each datagram comes to all of them, and is said once."""
+
+    def __init__(self, program: str) -> None:
+        super().__init__(program)
+        self.lock = threading.Lock()
+        self.remembered: Dict[str, Told] = {}
+
+    def end(self) -> None:
+        """It ends with the program."""
+
+    def of(self, digits: str) -> Told:
+        return self.all([digits])[0]
+
+    def all(self, many: Sequence[str]) -> List[Told]:
+        known = [self.remembered.get(digits) for digits in many]
+        found = [told for told in known if told is not None]
+        return found if len(found) == len(known) else self.say(many)
+
+    def say(self, many: Sequence[str]) -> List[Told]:
+        """Those that are not known yet, one member after another."""
+        with self.lock:
+            new = [digits for digits in dict.fromkeys(many) if digits not in self.remembered]
+            told = {digits: each for digits, each in zip(new, super().all(new))}
+            found = [told.get(digits) or self.remembered[digits] for digits in many]
+            self.remembered.update((digits, told[digits]) for digits in new[-MOST_REMEMBERED:] if len(digits) <= MOST_LENGTH)
+            while len(self.remembered) > MOST_REMEMBERED:
+                del self.remembered[next(iter(self.remembered))]
+            return found

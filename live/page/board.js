@@ -173,8 +173,16 @@ export class Board {
     listenToClipboard(this.hand, () => this.place());
     new Keys(this.view, this.hand, this.pointing, { keys, undo, redo, describe: (cell) => this.describe(cell) });
     addEventListener('beforeprint', () => this.fitPrint());
-    matchMedia('(prefers-color-scheme: dark)').addEventListener('change', () => { this.painter.readColours(); this.painter.soon(); });
+    this.painter.night.addEventListener('change', () => this.changeColours());
     new ResizeObserver(() => this.view.resize()).observe($('sheet'));
+  }
+
+  /** It has become day or night: all that has the colour of a member is shown anew. */
+  changeColours() {
+    this.painter.readColours();
+    this.painter.soon();
+    this.session.emit('notes', this.notes.told);
+    this.film.paint();
   }
 
   /** Makes the text that is printed as wide as the paper. */

@@ -60,7 +60,7 @@ function setHealth(kind, phrase) {
 /** @param {Session} session */
 export function showHealth(session) {
   session.on('health', ({ phrase, missing, warnings, counts }) => {
-    const more = [['lost', 'lost on purpose'], ['twice', 'twice on purpose'], ['refused', 'refused'], ['dropped', 'dropped']]
+    const more = [['lost', 'lost on purpose'], ['twice', 'twice on purpose'], ['refused', 'refused'], ['dropped', 'dropped'], ['foreign', 'sealed by no key of ours']]
       .map(([name, what]) => (counts[name] ? `, ${counts[name]} ${what}` : '')).join('');
     setHealth(missing ? 'missing' : '', session.hello.ready ? phrase : 'listening before it draws');
     $('counts').textContent = `sent ${counts.requests} requests and ${counts.repairs} repairs; ${counts.in} in, ${counts.out} out${more}`;

@@ -17,11 +17,15 @@ from typing import Any
 # the names under which Debian and others install it
 NAMES = ("chromium", "chromium-browser", "google-chrome")
 
+# what has to come is waited for so many seconds, on a slow machine too
+PATIENCE = 40.0
+
 # the bits of the protocol for keys that are held
 ALT, CONTROL, SHIFT = 1, 2, 8
 
 # what a key is called, and the number that a browser gives it, where it writes no letter
-KEYS = {"Enter": 13, "Escape": 27, "Tab": 9, "Backspace": 8, "ArrowLeft": 37, "ArrowUp": 38, "ArrowRight": 39, "ArrowDown": 40}
+KEYS = {"Enter": 13, "Escape": 27, "Tab": 9, "Backspace": 8, "ArrowLeft": 37, "ArrowUp": 38, "ArrowRight": 39, "ArrowDown": 40,
+        "End": 35, "Home": 36}
 
 
 def find_chromium() -> str | None:
@@ -36,7 +40,7 @@ class BrowserFault(Exception):
 class Browser:
     """A browser of its own, with a profile that is removed at the end."""
 
-    def __init__(self, program: str, patience: float = 20.0) -> None:
+    def __init__(self, program: str, patience: float = 2 * PATIENCE) -> None:
         self.patience = patience
         self.profile = tempfile.mkdtemp(prefix="wb-browser-")
         commands, self.out = os.pipe()
@@ -156,7 +160,7 @@ class Page:
             raise BrowserFault(told.get("exception", {}).get("description") or told["text"])
         return answer["result"].get("value")
 
-    def wait(self, expression: str, seconds: float = 10.0) -> bool:
+    def wait(self, expression: str, seconds: float = PATIENCE) -> bool:
         """Whether an expression comes to be true within the seconds."""
         end = time.monotonic() + seconds
         while not self.holds(expression):

@@ -10,10 +10,11 @@ from pathlib import Path
 from wbhost import Host
 
 from ..board import Board
+from ..carriers.carrier import Origin
 from ..options import read_options
 from ..pacing import GONE_AFTER, MOST_INTERVAL, SECOND, Heard, mean_interval
 from ..record import Record, comment
-from ..tunings import FIRST_TUNING, TUNINGS, tuning_for
+from ..tunings import FIRST_TUNING, LEVEL_TUNINGS, TUNINGS, tuning_for
 from ..views import Drawop
 from ..words import Words
 from .hostile import Attacker, report
@@ -30,6 +31,16 @@ def test_table(judge) -> None:
     judge("sizes ascend, and a group of two gets the first", (sizes, tuning_for(2)), (sorted(set(sizes)), TUNINGS[0][1]))
     judge("a size and one more", [tuning_for(sizes[0]), tuning_for(sizes[0] + 1)], [TUNINGS[0][1], TUNINGS[1][1]])
     judge("more than were measured", tuning_for(10**6), TUNINGS[-1][1])
+
+
+def test_level(judge) -> None:
+    """Members at one distance: with the least constants that keep both means at most 6, where there are such."""
+    means = {}
+    for members, tuning in LEVEL_TUNINGS:
+        _, c2, _, d2 = map(int, tuning.split(","))
+        means[members] = [1 + (members - 1) / width <= 6 for width in (c2, c2 - 1, d2, d2 - 1) if width]
+    judge("means of requests and repairs", means, {10: [True, False, True, False], 50: [True, False, True, False], 500: [False] * 4})
+    judge("a network of one distance has its own", [tuning_for(members, True) for members in (2, 11, 51)], [tuning for _, tuning in LEVEL_TUNINGS])
 
 
 def test_record(judge) -> None:
@@ -83,7 +94,7 @@ def test_member(judge) -> None:
         words = ["--ports", str(FIRST_PORT), "--me", "1", "--speed", "10", "--record", record]
         member = Process(words)
         numbers = [member.draw("1/1", "line 0 %d 3 %d e" % (y, y))[1].get("seq") for y in range(2)]
-        Attacker(member.udp_port).send([report(sender, 1, range(1, 2), 1) for sender in range(2, MANY + 1)], 0.001)
+        Attacker(member.udp_port).reach(member, [report(sender, 1, range(1, 2), 1) for sender in range(2, MANY + 1)])
         time.sleep(1)
         judge("members that are heard change no constants", Path(record).read_text().count("\n# constants "), 0)
         judge("and start no host", member.counts()["starts"], 1)
@@ -102,7 +113,7 @@ def test_member(judge) -> None:
 def test_presence(judge) -> None:
     """Members that speak seldom, since there are many of them, are still counted."""
     heard = Heard()
-    heard.hear(8, ("127.0.0.1", 1), 0)
+    heard.hear(8, Origin("127.0.0.1:1"), 0)
     heard.expect(mean_interval(2, 100))
     judge("a few members speak often", len(heard.present(GONE_AFTER)), 0)
     heard.expect(mean_interval(500, 400))
@@ -111,5 +122,5 @@ def test_presence(judge) -> None:
 
 
 def test(judge) -> None:
-    for part in (test_table, test_record, test_answers, test_member, test_presence):
+    for part in (test_table, test_level, test_record, test_answers, test_member, test_presence):
         part(judge)

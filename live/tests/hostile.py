@@ -12,6 +12,9 @@ from .members import SLOW_FROM, Process, milliseconds_a_line
 FIRST_PORT = 26_080
 PAGE = "1/1"
 
+# bytes that a socket has room for, and what a datagram takes there beside its own
+ROOM, BESIDE = 250_000, 800
+
 
 def draw_datagram(source: int, seq: int, moment: int, glyph: bytes) -> bytes:
     """A line from (0, 1) to (4, 1), by docs/FORMAT.md."""
@@ -78,10 +81,22 @@ class Attacker:
         self.socket.bind(("127.0.0.1", 0))
         self.target = ("127.0.0.1", port)
 
-    def send(self, datagrams: List[bytes], pause: float) -> None:
+    def send(self, *datagrams: bytes) -> None:
         for datagram in datagrams:
             self.socket.sendto(datagram, self.target)
-            time.sleep(pause)
+
+    def reach(self, member: Process, datagrams: List[bytes]) -> bool:
+        """Sends datagrams, so many at a time as its socket has room for. Whether all came in or were dropped: a few fewer, where the
+        member hears others meanwhile."""
+        member.wait_for(lambda states: "health" in states)
+        count, room = came(member), ROOM
+        for number, datagram in enumerate(datagrams):
+            room -= len(datagram) + BESIDE
+            if room < 0:
+                member.wait_for(lambda states, sent=number: came(member) >= count + sent)
+                room = ROOM - len(datagram) - BESIDE
+            self.send(datagram)
+        return member.wait_for(lambda states: came(member) >= count + len(datagrams))
 
 
 def shows(states, start: str) -> bool:
@@ -89,9 +104,10 @@ def shows(states, start: str) -> bool:
     return any(row.startswith(start) for row in states["board"]["rows"])
 
 
-def came(member: Process, count: int) -> bool:
-    """Whether so many datagrams came in or were dropped."""
-    return member.wait_for(lambda states: states["health"]["counts"]["in"] + states["health"]["counts"]["dropped"] >= count, 20)
+def came(member: Process) -> int:
+    """How many datagrams came in or were dropped."""
+    counts = member.counts()
+    return counts["in"] + counts["dropped"]
 
 
 def test_noise(judge, member: Process, attacker: Attacker) -> None:
@@ -101,36 +117,33 @@ def test_noise(judge, member: Process, attacker: Attacker) -> None:
     noise = [bytes(chance.randrange(256) for _ in range(chance.randrange(1, 300))) for _ in range(500)]
     noise += [mutated(chance, good) for _ in range(500)]
     before, refused = member.rows(PAGE), member.counts()["refused"]
-    attacker.send(noise, 0.001)
-    judge("a thousand bad datagrams come in", came(member, 1000), True)
+    judge("a thousand bad datagrams come in", attacker.reach(member, noise), True)
+    member.wait_for(lambda states: member.counts()["refused"] - refused >= 1000)
     judge("each is refused by name", member.counts()["refused"] - refused, 1000)
     faults = {entry["refused"] for entry in member.entries if entry["refused"]}
     judge("with a fault of the host", (faults - {"datagram %d" % number for number in range(1, 10)}, len(faults) > 3), (set(), True))
     judge("bad datagrams change nothing that is shown", member.rows(PAGE), before)
 
 
-def test_too_many_sources(judge, member: Process, attacker: Attacker) -> None:
+def test_too_many_sources(judge, member: Process, attacker: Attacker, stars: bytes) -> None:
     """Reports of 72,000 sources of a page: of what they tell some is asked for, and the page is drawn on as before."""
-    before, count = member.rows(PAGE), member.counts()["in"]
+    before = member.rows(PAGE)
     crowd = [report(77, 1, range(first, first + 4000), 3) for first in range(1000, 73_000, 4000)]
-    attacker.send(crowd, 0.05)
-    judge("reports of too many sources come in", came(member, count + len(crowd)), True)
+    judge("reports of too many sources come in", attacker.reach(member, crowd), True)
     judge("too many sources change nothing that is shown", member.rows(PAGE), before)
-    judge("of what they tell at most 32 are asked for", member.wait_for(lambda states: 0 < states["health"]["asking"] <= 32, 20), True)
-    attacker.send([draw_datagram(9, 1, 1 << 50, b"*")], 0)
-    drawn = member.wait_for(lambda states: shows(states, "*****"), 30)
-    judge("beside too many sources a drawop is shown", drawn, True)
+    judge("of what they tell at most 32 are asked for", member.wait_for(lambda states: 0 < states["health"]["asking"] <= 32), True)
+    attacker.send(stars)
+    judge("beside too many sources a drawop is shown", member.wait_for(lambda states: shows(states, "*****")), True)
     judge("beside too many sources one draws", member.draw(PAGE, "line 0 3 4 3 =")[0], 200)
 
 
-def test_flood(judge, member: Process, attacker: Attacker) -> None:
+def test_flood(judge, member: Process, attacker: Attacker, stars: bytes) -> None:
     """Twenty thousand datagrams at once: some are dropped and counted, and the member still answers."""
-    attacker.send([draw_datagram(9, 1, 1 << 50, b"*")] * 20_000, 0)
+    attacker.send(*[stars] * 20_000)
     began = time.monotonic()
     judge("in a flood one draws", member.draw(PAGE, "line 0 4 4 4 ~")[0], 200)
     print("in a flood a drawing took %.2f s" % (time.monotonic() - began))
-    shown = member.wait_for(lambda states: shows(states, "~~~~~"), 20)
-    judge("in a flood the page is shown", shown, True)
+    judge("in a flood the page is shown", member.wait_for(lambda states: shows(states, "~~~~~")), True)
 
 
 def test(judge) -> None:
@@ -140,12 +153,13 @@ def test(judge) -> None:
     try:
         judge("a first drawing", member.draw(PAGE, "frame 0 0 9 5 #")[0], 200)
         judge("is shown by the other", other.wait_for(lambda states: "##########" in states["board"]["rows"]), True)
+        stars = draw_datagram(9, 1, time.time_ns() // 1000, b"*")  # drawn after the frame, so it lies on top
         test_noise(judge, member, attacker)
         if milliseconds_a_line() < SLOW_FROM:
-            test_too_many_sources(judge, member, attacker)
+            test_too_many_sources(judge, member, attacker, stars)
         else:
             print("skipped: too many sources, since this program is a slow build")
-        test_flood(judge, member, attacker)
+        test_flood(judge, member, attacker, stars)
         judge("the host was never started again", member.counts()["starts"], 1)
     finally:
         judge("both end with 0", [member.end(), other.end()], [0, 0])

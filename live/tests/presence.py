@@ -1,6 +1,8 @@
 """Datagrams of drivers alone: their bytes, and what of them is heeded."""
 from __future__ import annotations
 
+import tempfile
+from pathlib import Path
 from typing import Any, Dict, List
 
 from wbhost import find_program
@@ -8,6 +10,9 @@ from wbhost import find_program
 from live.presence import MOST_A_SECOND, MOST_BEGUN, Point, Presence, point_in, read, write
 from live.words import Words
 
+from .members import Process
+
+FIRST_PORT = 26_280
 POINT = Point(7, (1, 2), (3, 4), ["line 0 0 1 1 *", 'text 0 0 "a"'])
 
 
@@ -50,11 +55,47 @@ def test_heeding(judge) -> None:
     for member in range(1_000):
         presence.hear(write(POINT._replace(member=100 + member)))
     judge("members have a bound", len(told.others) <= 64, True)
+    again = Presence(1, told)  # type: ignore[arg-type]
+    again.hear(write(POINT._replace(member=9)))
+    again.renumber(9)
+    judge("who points under our new number is none", told.others, [])
+    again.hear(write(POINT._replace(member=9)))
+    again.hear(write(POINT._replace(member=1)))
+    judge("under another number we are another", [other["member"] for other in told.others], [1])
+
+
+def point(member: Process, column: int) -> None:
+    member.post("/point", {"page": "1/1", "cell": [column, 1], "begun": []})
+
+
+def sees(member: Process, number: int, column: int) -> bool:
+    """Whether a member comes to be told that another points at a column, and of nobody else."""
+    wanted = [(number, [column, 1])]
+    return member.wait_for(lambda states: [(other["member"], other["cell"]) for other in states["presence"]["others"]] == wanted)
+
+
+def test_renumbering(judge) -> None:
+    """Of two members of one number one takes another: each then sees where the other points."""
+    with tempfile.TemporaryDirectory() as folder:
+        words = ["--ports", str(FIRST_PORT), "--speed", "10", "--me", "77", "--record"]
+        twins = [Process([*words, str(Path(folder) / ("%d.wb" % number))]) for number in range(2)]
+        try:
+            point(twins[1], 3)
+            twins[0].wait_for(lambda states: states["hello"]["twin"])
+            judge("one takes a new number", twins[0].post("/number", {"new": True})[0], 200)
+            twins[0].wait_for(lambda states: states["hello"]["me"] != 77)
+            point(twins[1], 4)
+            judge("who has the old one is seen", sees(twins[0], 77, 4), True)
+            point(twins[0], 5)
+            judge("and sees the new one", sees(twins[1], twins[0].states["hello"]["me"], 5), True)
+        finally:
+            judge("both end with 0", [each.end() for each in twins], [0, 0])
 
 
 def test(judge) -> None:
     test_bytes(judge)
     test_heeding(judge)
+    test_renumbering(judge)
     good = {"cell": [1, 2], "begun": []}
     bad: List[Dict[str, Any]] = [{}, {"cell": [1], "begun": []}, {"cell": [1, 4096], "begun": []}, {"cell": [True, 1], "begun": []}, {"cell": None, "begun": ["\n"]},
                                  {"cell": None, "begun": ["\u00e9"]}, {"cell": None, "begun": "a"}]

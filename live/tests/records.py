@@ -8,8 +8,8 @@ import time
 from pathlib import Path
 from typing import Dict, List
 
-from .hostile import Attacker, came
-from .members import Process
+from .hostile import Attacker
+from .members import PATIENCE, Process
 
 FIRST_PORT = 26_400
 PAGE = "1/1"
@@ -22,7 +22,7 @@ def status_of(words: List[str]) -> int:
     """The status of a start that is refused; -1 where it is not."""
     started = Process(words, web=False)
     try:
-        return started.process.wait(20) if "member" not in "".join(started.lines[1:2]) else -1
+        return started.process.wait(PATIENCE) if "member" not in "".join(started.lines[1:2]) else -1
     finally:
         started.end()
 
@@ -49,8 +49,8 @@ def test_noise(judge, folder: Path) -> None:
         member.draw(PAGE, "line 0 0 4 0 a")
         before = path.stat().st_size
         chance = random.Random(5)
-        Attacker(member.udp_port).send([bytes(chance.randrange(256) for _ in range(1_000)) for _ in range(500)], 0.002)
-        judge("half a megabyte of noise comes in", came(member, 500), True)
+        noise = [bytes(chance.randrange(256) for _ in range(1_000)) for _ in range(500)]
+        judge("half a megabyte of noise comes in", Attacker(member.udp_port).reach(member, noise), True)
         judge("the record is as before", path.stat().st_size - before < 1_000, True)
     finally:
         judge("it ends with 0", member.end(), 0)
@@ -69,13 +69,13 @@ def test_full_disk(judge, folder: Path) -> None:
                 break
             drawn += 1
         judge("a full disk refuses a drawing", (status, "no drawing" if drawn == 0 else "record" in answer["fault"]), (422, True))
-        judge("it is told", member.wait_for(lambda states: any("record" in text for text in states["health"]["warnings"]), 10), True)
+        judge("it is told", member.wait_for(lambda states: any("record" in text for text in states["health"]["warnings"])), True)
         judge("no line is torn", path.read_bytes()[-1:], b"\n")
         resource.prlimit(member.process.pid, resource.RLIMIT_FSIZE, (resource.RLIM_INFINITY, resource.RLIM_INFINITY))
         time.sleep(1.5)
         status, answer = member.draw(PAGE, "line 0 1 4 1 b")
         judge("with room one draws on, by the next number", (status, answer.get("seq")), (200, drawn + 1))
-        judge("and is not warned any more", member.wait_for(lambda states: not any("record" in text for text in states["health"]["warnings"]), 10), True)
+        judge("and is not warned any more", member.wait_for(lambda states: not any("record" in text for text in states["health"]["warnings"])), True)
     finally:
         judge("it ends with 0", member.end(), 0)
 

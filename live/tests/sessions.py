@@ -14,6 +14,9 @@ PAGES = ["1/1", "2/1"]
 DRAWOPS = 50
 SPEED = 10
 
+# seconds until all of a session hold all, at most
+LONGEST = 240
+
 # of eight members, where the program is a slow build
 FEW_DRAWOPS = 12
 
@@ -106,7 +109,7 @@ def strip_due(text: str) -> str:
     return "\n".join("ok" if line.startswith("ok ") else line for line in text.split("\n"))
 
 
-def hold(judge, count: int, drawops: int, first_port: int, seconds: float) -> None:
+def hold(judge, count: int, drawops: int, first_port: int) -> None:
     """One session: one member joins late, one is killed and starts again from its record."""
     name = "%d members" % count
     with tempfile.TemporaryDirectory() as folder:
@@ -119,7 +122,7 @@ def hold(judge, count: int, drawops: int, first_port: int, seconds: float) -> No
         faults += draw_together(late, drawops)
         began = time.monotonic()
         judge(name + " draw, and nothing is refused", faults, [])
-        judge(name + " hold all drawops", session.wait_until_whole(count * drawops, seconds), True)
+        judge(name + " hold all drawops", session.wait_until_whole(count * drawops, LONGEST), True)
         quiet = (time.monotonic() - began) * SPEED
         rows = {page: [member.rows(page) for member in session.members] for page in PAGES}
         for page in PAGES:
@@ -147,5 +150,5 @@ def test(judge) -> None:
     is_slow = milliseconds_a_line() >= SLOW_FROM
     if is_slow:
         print("skipped: of eight members each draws %d drawops on a page, not %d, since this program is a slow build" % (FEW_DRAWOPS, DRAWOPS))
-    hold(judge, 3, DRAWOPS, 26_000, 60)
-    hold(judge, 8, FEW_DRAWOPS if is_slow else DRAWOPS, 26_040, 60)
+    hold(judge, 3, DRAWOPS, 26_000)
+    hold(judge, 8, FEW_DRAWOPS if is_slow else DRAWOPS, 26_040)

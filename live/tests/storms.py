@@ -24,6 +24,9 @@ STORM_SECONDS = 20
 SOAK_SECONDS = 40
 SOAK_DRAWINGS = 1_200
 
+# seconds until boards are equal, at most
+LONGEST = 240
+
 # rows of a page that are compared: forged drawops are below
 ROWS = 38
 
@@ -151,7 +154,7 @@ def wait_until_equal(records: List[str], honest: Set[int], seconds: float) -> bo
     return False
 
 
-def test_storm(judge) -> None:
+def test_storm(judge, seconds: float = STORM_SECONDS) -> None:
     """Four members draw, a third of what comes to each is lost, and everything is forged."""
     with tempfile.TemporaryDirectory() as folder:
         records = [str(Path(folder) / ("%d.wb" % number)) for number in range(1, 5)]
@@ -160,7 +163,7 @@ def test_storm(judge) -> None:
         faults: List[str] = []
         try:
             with Storm(members, [1, 2, 3, 4]) as storm:
-                end = time.monotonic() + STORM_SECONDS
+                end = time.monotonic() + seconds
                 threads = [threading.Thread(target=draw_while, args=(member, end, faults, 0.2)) for member in members]
                 for thread in threads:
                     thread.start()
@@ -169,8 +172,8 @@ def test_storm(judge) -> None:
                 judge("in a storm the page is served", [member.get_page()[0] for member in members], [200] * 4)
             began = time.monotonic()
             judge("in a storm nothing that is drawn is refused", faults[:3], [])
-            judge("after it all boards are equal, and whole but for what was forged", wait_until_equal(records, {1, 2, 3, 4}, 90), True)
-            print("a storm of %d datagrams in %d s: equal %.0f s after it" % (storm.sent, STORM_SECONDS, time.monotonic() - began))
+            judge("after it all boards are equal, and whole but for what was forged", wait_until_equal(records, {1, 2, 3, 4}, LONGEST), True)
+            print("a storm of %d datagrams in %d s: equal %.0f s after it" % (storm.sent, seconds, time.monotonic() - began))
             judge("no host was started again", [member.counts()["starts"] for member in members], [1] * 4)
             judge("what was told is what the hosts show", [member.counts()["differences"] for member in members], [0] * 4)
         finally:
@@ -209,7 +212,7 @@ class Soak:
                 try:
                     status, answer = self.members[index].draw(page, operation(chance, own[page], index + 1))
                 except (OSError, ValueError) as fault:
-                    status, answer = 0, {"fault": repr(fault)}
+                    status, answer = 0, {"fault": "%r %s" % (fault, self.members[index].last_words())}
             if status == 200:
                 name = (answer["source"], page, answer["seq"])
                 self.names[name] = self.names.get(name, 0) + 1
@@ -222,16 +225,18 @@ class Soak:
             time.sleep(max(0.0, due - time.monotonic()))
 
     def kill(self, end: float) -> None:
-        """A member or a host dies now and then, as by a crash."""
+        """A member or a host dies now and then, as by a crash. A host dies twice within two minutes at most: a member gives up after four."""
+        killed: Dict[int, List[float]] = {index: [] for index in range(8)}
         while time.monotonic() < end:
             time.sleep(max(0.5, min(6.0, self.seconds / 10)) * self.chance.uniform(0.5, 1.5))
-            index = self.chance.randrange(8)
+            index, now = self.chance.randrange(8), time.monotonic()
             with self.locks[index]:
-                if self.chance.random() < 0.5:
+                if self.chance.random() < 0.5 or sum(now - at < 120 for at in killed[index]) >= 2:
                     self.members[index].kill()
                     self.members[index] = self.start(index + 1)
                     self.kills += 1
                 else:
+                    killed[index].append(now)
                     for host in hosts_of(self.members[index].process.pid):
                         os.kill(host, signal.SIGKILL)
                         self.host_kills += 1
@@ -266,7 +271,10 @@ def test_soak(judge, seconds: float = SOAK_SECONDS, drawings: int = SOAK_DRAWING
             began = time.monotonic()
             judge("a soak: nothing is refused", soak.faults[:3], [])
             judge("a soak: no number is used twice", [name for name, times in soak.names.items() if times > 1], [])
-            judge("a soak: all boards are equal and whole", wait_until_equal(soak.records, set(range(1, 9)), 120), True)
+            is_equal = wait_until_equal(soak.records, set(range(1, 9)), LONGEST)
+            judge("a soak: all boards are equal and whole", is_equal, True)
+            for member in soak.members if not is_equal else []:
+                print("member %d: %s, %s" % (member.me, member.states["health"]["phrase"], member.counts()))
             print("a soak of %d s: %d drawings, %d members and %d hosts killed; equal after %.0f s" % (
                 seconds, len(soak.names), soak.kills, soak.host_kills, time.monotonic() - began))
             marks = [soak.memory[len(soak.memory) * part // 4] for part in range(4)] + [soak.memory[-1]]
@@ -285,10 +293,11 @@ def test(judge) -> None:
 
 
 def main(words: Optional[List[str]] = None) -> int:
-    """The soak by itself: `python3 -m live.tests.storms --minutes 10 --drawings 20000`."""
+    """The soak by itself: `python3 -m live.tests.storms --minutes 10 --drawings 20000`; or a storm of a minute, with `--storm`."""
     made = argparse.ArgumentParser(description=main.__doc__)
     made.add_argument("--minutes", type=float, default=10)
     made.add_argument("--drawings", type=int, default=20_000)
+    made.add_argument("--storm", action="store_true")
     options = made.parse_args(words)
     program()
     failed = 0
@@ -298,7 +307,10 @@ def main(words: Optional[List[str]] = None) -> int:
         failed += found != wanted
         print("%s: %s" % (name, "as wanted" if found == wanted else "%r, not %r" % (found, wanted)), flush=True)
 
-    test_soak(judge, options.minutes * 60, options.drawings, FIRST_PORT + 80)
+    if options.storm:
+        test_storm(judge, 60)
+    else:
+        test_soak(judge, options.minutes * 60, options.drawings, FIRST_PORT + 80)
     return 1 if failed else 0
 
 

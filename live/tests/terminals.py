@@ -14,7 +14,7 @@ import termios
 import time
 from typing import List
 
-from .members import TOP, Process
+from .members import PATIENCE, TOP, Process
 
 FIRST_PORT = 26_200
 ROWS, COLUMNS = 24, 80
@@ -56,7 +56,7 @@ class Screen:
         if found and int(found[1]) <= ROWS:
             self.rows[int(found[1])] = re.sub(r"\x1b\[\d*m", "", found[2])
 
-    def wait_for(self, is_so, seconds: float = 20) -> bool:
+    def wait_for(self, is_so, seconds: float = PATIENCE) -> bool:
         end = time.monotonic() + seconds
         while not is_so(self.rows):
             if time.monotonic() > end:
@@ -66,7 +66,7 @@ class Screen:
 
     def end(self) -> int:
         self.type("quit")
-        end = time.monotonic() + 10
+        end = time.monotonic() + PATIENCE
         while self.process.poll() is None and time.monotonic() < end:
             self.read()
         self.process.kill()

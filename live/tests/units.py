@@ -10,10 +10,11 @@ from typing import List
 
 from ..alarms import Alarms
 from ..asking import MOST_ASKED, MOST_FAR, MOST_FAR_ASKED, MOST_RANGES, PATIENCE, SHORT_PATIENCE, Asking
+from ..carriers.carrier import Origin
 from ..drawn import Drawn, Sheet
-from ..network import MOST_WAITING, Inbox
+from ..inbox import MOST_WAITING, Inbox
 from ..options import read_options
-from ..pacing import ANSWER_PAUSE, MOST_ECHOES, MOST_INTERVAL, MOST_NEW, MOST_OF_ADDRESS, SECOND, Answers, Heard, Questions, session_interval
+from ..pacing import ANSWER_PAUSE, MOST_BEHIND_ORIGIN, MOST_ECHOES, MOST_INTERVAL, MOST_NEW, MOST_OF_ORIGIN, SECOND, Answers, Heard, Questions, session_interval
 from ..record import Record, RecordFault
 from ..times import MINUTE, MOST_LEAD, MOST_OF_SOURCE, Future, Times, wall
 from ..views import Drawop, name_in, page_of, report_of
@@ -21,7 +22,7 @@ from ..views import Drawop, name_in, page_of, report_of
 PAGE = (7, 1)
 
 
-HOME = ("127.0.0.1", 1)
+HOME = Origin("127.0.0.1:1")
 
 
 def test_words(judge) -> None:
@@ -111,6 +112,11 @@ def test_stops(judge) -> None:
         asked.update(name for name in many.asked)
         for name in many.give_up(PATIENCE + turn):
             many.given_up.clear()
+    moving, standing = Asking(), set()
+    for turn in range(50):
+        standing -= set(moving.learn(PAGE, [(source, 2, 2) for source in range(12_800 - 256 * turn, 13_800 - 256 * turn)]))
+        standing |= set(moving.next_names(turn))
+    judge("where others are wanted each time, no more timers stand than are asked for", len(standing) <= MOST_ASKED, True)
     judge("of many ranges each has its turn", len(asked) >= 4 * MOST_ASKED and len(ranges) > MOST_RANGES, True)
     for number in range(5000):
         many.tell((1, (9, number), 5), 0)
@@ -157,17 +163,23 @@ def test_times(judge) -> None:
 def test_members(judge) -> None:
     """Who is heard: so many new ones at a time, so many of one address, and none for good."""
     heard = Heard()
-    judge("a flood of members", sum(heard.hear(number, ("127.0.0.1", number), 0) for number in range(1, 2000)), MOST_NEW)
+    judge("a flood of members", sum(heard.hear(number, Origin("127.0.0.1:%d" % number), 0) for number in range(1, 2000)), MOST_NEW)
     heard.forget(200 * SECOND)
     judge("who is not heard is forgotten", len(heard.others), 0)
     later = 1000 * SECOND
     for number in range(1, 50):
         heard.hear(number, HOME, later + number * SECOND)
-    judge("of one address so many", len(heard.others), MOST_OF_ADDRESS)
+    judge("of one origin so many", len(heard.others), MOST_OF_ORIGIN)
+    for number in range(1, 2 * MOST_BEHIND_ORIGIN):
+        heard.hear(number, HOME, 2 * later + number * SECOND)
+        heard.others[number].distance = SECOND
+    judge("of those that answered more", len(heard.others), MOST_BEHIND_ORIGIN)
+    heard.leave(HOME)
+    judge("and none once it is gone", len(heard.others), 0)
     crowd = Heard()
     for number in range(1, 101):
         now = number * SECOND
-        crowd.hear(number, ("127.0.0.1", number), now)
+        crowd.hear(number, Origin("127.0.0.1:%d" % number), now)
         crowd.others[number].sent, crowd.others[number].sent_at = now, now
     crowd.patience = 1000 * SECOND
     seen = [set(echo[0] for echo in crowd.echoes(200 * SECOND)) for _ in range(4)]
@@ -247,17 +259,11 @@ def test_pace(judge) -> None:
 
 
 def test_inbox(judge) -> None:
-    inbox = Inbox(read_options([]))
+    inbox = Inbox()
     for number in range(MOST_WAITING + 10):
-        inbox.arrive(b"%d" % number, ("127.0.0.1", 1))
+        inbox.arrive(b"%d" % number, HOME)
     first = inbox.take(1)[1][0]
     judge("the oldest are dropped first", (inbox.dropped, first.data), (10, b"10"))
-    inbox = Inbox(read_options(["--lose", "1"]))
-    inbox.arrive(b"a", ("127.0.0.1", 1))
-    judge("what is lost on purpose is told", inbox.take(1)[1][0].is_lost, True)
-    inbox = Inbox(read_options(["--twice", "1"]))
-    inbox.arrive(b"a", ("127.0.0.1", 1))
-    judge("what comes twice", [inbox.take(1)[1][0].is_second for _ in range(2)], [False, True])
 
 
 def test_options(judge) -> None:

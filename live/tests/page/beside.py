@@ -26,8 +26,8 @@ CONTRAST = """(([front, ground]) => {
 
 def test_meeting(tally: Tally, one: Sheet, other: Sheet) -> None:
     for sheet in (one, other):
-        tally.judge("two members are shown", sheet.page.wait("document.querySelectorAll('#members li').length === 2", 20), sheet.text_of("members"))
-        tally.judge("it may draw", sheet.page.wait("wb.session.hello.ready", 20))
+        tally.judge("two members are shown", sheet.page.wait("document.querySelectorAll('#members li').length === 2"), sheet.text_of("members"))
+        tally.judge("it may draw", sheet.page.wait("wb.session.hello.ready"))
     tally.judge("the first line is told", "not proved" in one.text_of("notice"), one.text_of("notice"))
 
 
@@ -44,7 +44,7 @@ def test_side(tally: Tally, one: Sheet, other: Sheet) -> None:
     tally.judge("a part is lost on purpose", one.page.wait("wb.session.hello.worsen.lose === 0.9"), str(one.page.value("JSON.stringify(wb.session.hello.worsen)")))
     one.page.value("""document.querySelector('#worsen input').value = 0; document.querySelector('#worsen input').dispatchEvent(new Event('change', { bubbles: true }))""")
     tally.judge("nothing is lost on purpose any more", one.page.wait("wb.session.hello.worsen.lose === 0"))
-    tally.judge("the distance of the other is shown", one.page.wait("/ ms/.test(document.getElementById('members').textContent)", 30), one.text_of("members"))
+    tally.judge("the distance of the other is shown", one.page.wait("/ ms/.test(document.getElementById('members').textContent)"), one.text_of("members"))
 
 
 def test_policy(tally: Tally, one: Sheet) -> None:

@@ -7,22 +7,44 @@ from pathlib import Path
 from live.tests.browser import Browser
 
 from .sheets import Member, Sheet, Tally
-from .tools import on_a_new_page
+from .tools import USUAL, WINDOWS, on_a_new_page
+
+# drawings of the page that a film shows
+DRAWN = 12
 
 
 def test_presence(tally: Tally, one: Sheet, other: Sheet) -> None:
+    """By a finger in a wide window by night, and by mouse in a narrow one by day."""
+    for width, height, scheme, hand in (WINDOWS[1], (*WINDOWS[2][:3], "mouse")):
+        one.be(width, height, scheme, hand)
+        one.page.value(f"wb.view.setSize({9 if width > 1000 else 6}); wb.view.goTo(0, 0)")
+        with tally.told(f"{width} points, {scheme}, {hand}"):
+            judge_presence(tally, one, other)
+    one.be(*USUAL)
+    one.keys("0")
+
+
+def judge_presence(tally: Tally, one: Sheet, other: Sheet) -> None:
     on_a_new_page(one, other)
+    one.page.value("wb.hand.setGlyph('#'); wb.view.sheet.focus(); 0")
     number = one.page.value("wb.session.hello.me")
     refused = other.page.value("Number(/([0-9]+) refused/.exec(document.getElementById('counts').textContent)?.[1] ?? 0)")
     one.keys("f")
-    one.page.press(*one.point(10, 5))
-    one.page.mouse("mouseMoved", *one.point(20, 9))
+    if one.hand == "finger":
+        one.page.touch("touchStart", one.point(10, 5))
+        one.page.touch("touchMove", one.point(20, 9))
+    else:
+        one.page.press(*one.point(10, 5))
+        one.page.mouse("mouseMoved", *one.point(20, 9))
     seen = f"wb.presence.others.some(({{ pointed }}) => pointed.member === {number} && pointed.cell[0] === 20 && pointed.begun[0] === 'frame 10 5 20 9 #')"
     tally.judge("others see what is begun", other.page.wait(seen), str(other.page.value("JSON.stringify(wb.presence.others)")))
     tally.judge("it is painted", other.page.wait("!wb.painter.isPlanned") and other.is_inked(15, 5))
     tally.judge("it is nobody's drawing", not other.page.value("wb.session.board.drawops.length"))
     one.page.key("Escape")
-    one.page.mouse("mouseReleased", *one.point(20, 9))
+    if one.hand == "finger":
+        one.page.touch("touchEnd")
+    else:
+        one.page.mouse("mouseReleased", *one.point(20, 9))
     tally.judge("what is dropped is seen no more", other.page.wait("wb.presence.others.every(({ pointed }) => !pointed.begun.length)"))
     one.page.value("document.getElementById('pointing').click()")
     tally.judge("who does not want to is not seen", other.page.wait("!wb.presence.others.length"))
@@ -33,25 +55,29 @@ def test_presence(tally: Tally, one: Sheet, other: Sheet) -> None:
 
 def test_film(tally: Tally, browser: Browser, room: Path, one: Sheet) -> None:
     """The record of a member, shown in a window of its own."""
+    on_a_new_page(one, one)
+    for row in range(DRAWN):
+        one.page.value(f"wb.session.send('line 2 {row} 9 {row} #').then(({{ ok }}) => ok)")
+    page = one.page.value("wb.session.board.page")
     path = room / "film.record"
     path.write_text(one.page.value("wb.session.member.record()"))
-    page = one.page.value("wb.session.pages.reduce((most, each) => (each.drawn > most.drawn ? each : most)).page")
-    drawn = one.page.value(f"wb.session.member.read({json.dumps(page)}).then(({{ drawops }}) => drawops.length)")
     member = Member(room, 0, words=["--replay", str(path)])
     try:
         film = Sheet(browser.open(member.address))
-        tally.judge("a film has scenes", film.page.wait("wb.film?.scenes.length > 10", 20))
-        film.page.value("document.getElementById('film-stop').click()")
+        tally.judge("a film has scenes", film.page.wait(f"wb.film?.scenes.length >= {DRAWN}"))
+        film.press("#film-stop")
         tally.judge("it stops", film.page.wait("wb.film.film?.stopped"))
         film.page.value(f"wb.session.goToPage({json.dumps(page)}); 0")
-        film.page.value("""(() => { const slider = document.getElementById('film-at'); slider.value = slider.max; slider.dispatchEvent(new Event('input')); })()""")
-        tally.judge("a jump to the end shows the page as it was", film.page.wait(f"wb.session.board.page === {json.dumps(page)} && wb.session.board.drawops.length === {drawn}", 20),
-                    f"{film.page.value('wb.session.board.drawops.length')} of {drawn}")
-        film.page.value("""(() => { const slider = document.getElementById('film-at'); slider.value = 0; slider.dispatchEvent(new Event('input')); })()""")
-        tally.judge("a jump to the beginning shows nothing", film.page.wait("wb.session.board.drawops.length === 0", 20), film.text_of("film-told"))
+        for width, height, scheme, hand in ((*WINDOWS[0][:3], "keys"), WINDOWS[1], WINDOWS[3]):
+            film.be(width, height, scheme, hand)
+            film.slide("#film-at", True)
+            is_whole = film.page.wait(f"wb.session.board.page === {json.dumps(page)} && wb.session.board.drawops.length === {DRAWN}")
+            tally.judge(f"a jump to the end shows the page as it was ({width} points, {hand})", is_whole, f"{film.page.value('wb.session.board.drawops.length')} of {DRAWN}")
+            film.slide("#film-at", False)
+            tally.judge(f"a jump to the beginning shows nothing ({width} points, {hand})", film.page.wait("wb.session.board.drawops.length === 0"), film.text_of("film-told"))
         film.page.value("document.getElementById('film-speed').value = '20'; document.getElementById('film-speed').dispatchEvent(new Event('change'))")
-        film.page.value("document.getElementById('film-stop').click()")
-        tally.judge("it goes on, faster", film.page.wait("!wb.film.film.stopped && wb.film.film.speed === 20 && wb.film.film.at > 1000", 10))
+        film.press("#film-stop")
+        tally.judge("it goes on, faster", film.page.wait("!wb.film.film.stopped && wb.film.film.speed === 20 && wb.film.film.at > 1000"))
         tally.judge("who drew what is told", film.page.wait("/: (line|frame|text|delete|restore)/.test(document.getElementById('film-told').textContent)"), film.text_of("film-told"))
         tally.judge("nothing is drawn in a film", film.page.value("wb.session.send('line 0 0 1 1 *').then(({ ok }) => ok)") is False)
     finally:

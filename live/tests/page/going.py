@@ -70,7 +70,7 @@ def test_cells(tally: Tally, one: Sheet, other: Sheet) -> None:
     chance = random.Random(7)
     for _ in range(DRAWINGS):
         one.page.value(f"wb.session.send({json.dumps(some_drawing(chance))})")
-    tally.judge("all are drawn", one.page.wait(f"wb.session.board.drawops.length === {DRAWINGS}", 20), str(one.page.value("wb.session.board.drawops.length")))
+    tally.judge("all are drawn", one.page.wait(f"wb.session.board.drawops.length === {DRAWINGS}"), str(one.page.value("wb.session.board.drawops.length")))
     wrong = one.page.value("""(() => {
         const own = Array.from({ length: 40 }, (_, y) => Array.from({ length: 100 }, (_, x) => wb.layout.markAt(x, y)).join('').trimEnd());
         return own.map((row, y) => [y, row, (wb.session.board.rows[y] ?? '').slice(0, 100).trimEnd()]).filter(([, row, host]) => row !== host);

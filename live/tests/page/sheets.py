@@ -11,7 +11,7 @@ from contextlib import contextmanager
 from pathlib import Path
 from typing import Iterator
 
-from live.tests.browser import BrowserFault, Page
+from live.tests.browser import PATIENCE, BrowserFault, Page
 
 TOP = Path(__file__).resolve().parent.parent.parent.parent
 
@@ -24,7 +24,7 @@ class Member:
         environment = {**os.environ, "XDG_STATE_HOME": str(room)}
         self.process = subprocess.Popen(words, cwd=room, env=environment, stdin=subprocess.DEVNULL, stdout=subprocess.PIPE, text=True)
         # where it tells no address, it is ended, so that reading does not last
-        guard = threading.Timer(3_600 if "WB_PROGRAM" not in os.environ else 30, self.process.kill)
+        guard = threading.Timer(3_600 if "WB_PROGRAM" not in os.environ else 2 * PATIENCE, self.process.kill)
         guard.start()
         told = ""
         while not (found := re.search(r"^page (\S+)$", told, re.MULTILINE)):
@@ -39,7 +39,7 @@ class Member:
     def end(self) -> int:
         self.process.terminate()
         try:
-            return self.process.wait(10)
+            return self.process.wait(PATIENCE)
         except subprocess.TimeoutExpired:
             self.process.kill()
             return self.process.wait()
@@ -50,12 +50,12 @@ class Sheet:
 
     def __init__(self, page: Page) -> None:
         self.page = page
-        self.is_touched = False  # it is drawn on by a finger, and else by a mouse
+        self.hand = "mouse"  # or "finger", or "keys"
 
-    def be(self, width: int, height: int, scheme: str, is_touched: bool) -> None:
-        """A window of this size, by day or by night, under a mouse or a finger."""
-        self.is_touched = is_touched
-        self.page.resize(width, height, mobile=is_touched)
+    def be(self, width: int, height: int, scheme: str, hand: str) -> None:
+        """A window of this size, by day or by night, under a mouse, a finger or keys alone."""
+        self.hand = hand
+        self.page.resize(width, height, mobile=hand == "finger")
         self.page.prefer(color_scheme=scheme)
 
     def point(self, x: int, y: int) -> tuple[float, float]:
@@ -67,14 +67,14 @@ class Sheet:
         return found[0], found[1]
 
     def drag(self, start: tuple[int, int], end: tuple[int, int]) -> None:
-        if self.is_touched:
+        if self.hand == "finger":
             self.stroke([start, ((start[0] + end[0]) // 2, (start[1] + end[1]) // 2), end])
         else:
             self.page.drag(self.point(*start), self.point(*end))
 
     def stroke(self, cells: list[tuple[int, int]]) -> None:
         """The mouse goes along cells with its left button down, or a finger does."""
-        if self.is_touched:
+        if self.hand == "finger":
             self.page.touch("touchStart", self.point(*cells[0]))
             for cell in cells[1:]:
                 self.page.touch("touchMove", self.point(*cell))
@@ -86,12 +86,58 @@ class Sheet:
         self.page.mouse("mouseReleased", *self.point(*cells[-1]))
 
     def click(self, x: int, y: int) -> None:
-        if self.is_touched:
+        if self.hand == "finger":
             self.stroke([(x, y)])
         else:
             self.page.click(*self.point(x, y))
 
-    def shows(self, x: int, y: int, text: str, seconds: float = 10.0) -> bool:
+    def press(self, chosen: str) -> None:
+        """Presses what a selector chooses first, as the hand does: where it is, or by Enter."""
+        one = f"document.querySelector({json.dumps(chosen)})"
+        if self.hand == "keys":
+            self.page.value(f"{one}.focus(); 0")
+            self.page.key("Enter")
+            return
+        x, y = self.page.value(f"""(() => {{
+            {one}.scrollIntoView({{ block: 'nearest' }});
+            const box = {one}.getBoundingClientRect();
+            return [box.left + box.width / 2, box.top + box.height / 2];
+        }})()""")
+        if self.hand == "finger":
+            self.page.touch("touchStart", (x, y))
+            self.page.touch("touchEnd")
+        else:
+            self.page.click(x, y)
+
+    def slide(self, chosen: str, is_end: bool) -> None:
+        """Moves a slider to its end, or to its beginning."""
+        if self.hand == "keys":
+            self.page.value(f"document.querySelector({json.dumps(chosen)}).focus(); 0")
+            self.page.key("End" if is_end else "Home")
+            return
+        left, right, y = self.page.value(f"""(() => {{
+            const box = document.querySelector({json.dumps(chosen)}).getBoundingClientRect();
+            return [box.left + 1, box.right - 1, box.top + box.height / 2];
+        }})()""")
+        x = right if is_end else left
+        if self.hand == "finger":
+            self.page.touch("touchStart", (x, y))
+            self.page.touch("touchEnd")
+        else:
+            self.page.click(x, y)
+
+    def unfold(self, chosen: str) -> None:
+        """Has what stands beside the sheet in view."""
+        if self.page.value("getComputedStyle(document.getElementById('side')).display === 'none'"):
+            self.press("#fold")
+        self.page.wait(f"document.querySelector({json.dumps(chosen)}).getClientRects().length > 0")
+
+    def fold(self) -> None:
+        if self.page.value("document.getElementById('side').classList.contains('open')"):
+            self.press("#fold")
+        self.page.value("wb.view.sheet.focus(); 0")
+
+    def shows(self, x: int, y: int, text: str, seconds: float = PATIENCE) -> bool:
         """Whether a row comes to show a text from a column on. Where nothing stands, it is spaces."""
         row = f"(document.getElementById('text').textContent.split('\\n')[{y}] ?? '')"
         return self.page.wait(f"{row}.padEnd(300).substr({x}, {len(text)}) === {json.dumps(text)}", seconds)

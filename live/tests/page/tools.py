@@ -2,14 +2,33 @@
 from __future__ import annotations
 
 import json
+import math
 import time
 
 from live.tests.browser import CONTROL, SHIFT
 
 from .sheets import Sheet, Tally
 
-# what is drawn by a stroke of a second at most
-MOST_OF_A_STROKE = 10
+# windows by their width, height, scheme and hand: each two of these meet
+WINDOWS = (1600, 900, "light", "mouse"), (1600, 900, "dark", "finger"), (390, 780, "light", "finger"), (390, 780, "dark", "mouse")
+USUAL = 1280, 800, "light", "mouse"
+
+# by keys, from the cell 5, 5 on: what is there before, the keys, and rows from column 5 on after them
+RIGHT, DOWN = ["ArrowRight"] * 6, ["ArrowDown"] * 2
+HERE = ["line 5 5 11 5 -"]
+BY_KEYS = (
+    ("the pen", [], ["p", "Enter", *RIGHT, *DOWN, "Enter"], {5: "#######", 6: "      #", 7: "      #"}),
+    ("an arrow", [], ["a", "Enter", *RIGHT, "Enter"], {5: "######>"}),
+    ("a frame", [], ["f", "Enter", *RIGHT, *DOWN, "Enter"], {5: "#######", 6: "#     #", 7: "#######"}),
+    ("a filled frame", [], ["b", "Enter", *RIGHT, *DOWN, "Enter"], {5: "#######", 6: "#######", 7: "#######"}),
+    ("a text of lines", [], ["t", "Enter", "a", "b", ("Enter", SHIFT), "c", "Enter"], {5: "ab ", 6: "c  "}),
+    ("the eraser", [*HERE, "line 5 7 11 7 -"], ["e", "Enter", *DOWN, "Enter"], {5: " " * 7, 7: " " * 7}),
+    ("a selection", HERE, ["s", "Enter", *DOWN, "Enter"], {5: " " * 7, 7: "-" * 7}),
+    ("a deletion", HERE, [("a", CONTROL), "Delete"], {5: " " * 7}),
+)
+
+# drawops of a stroke for each second, and for a shorter one
+MOST_OF_A_SECOND = 10
 
 
 def on_a_new_page(one: Sheet, other: Sheet) -> None:
@@ -34,10 +53,12 @@ def test_pen(tally: Tally, one: Sheet, other: Sheet) -> None:
     on_a_new_page(one, other)
     one.keys("p")
     points = [(4, 4), (10, 3), (16, 6), (22, 9), (28, 6), (34, 3), (40, 6), (46, 9), (52, 6), (58, 4), (50, 12), (30, 14), (10, 12)]
+    began = time.monotonic()
     one.stroke(points)
+    most = math.ceil(MOST_OF_A_SECOND * max(1.0, time.monotonic() - began))
     tally.judge("a stroke of the pen appears in the other window", other.page.wait("wb.session.board.drawops.length > 3 && wb.layout.markAt(4, 4) === '#'"))
     one.page.wait("!wb.session.waiting.size")
-    tally.judge("it took few drawops", count(one) <= MOST_OF_A_STROKE, str(count(one)))
+    tally.judge("it took few drawops", count(one) <= most, str(count(one)))
     tally.judge("it ends where the hand let go", other.page.wait("wb.layout.markAt(10, 12) === '#'"))
     one.page.key("z", CONTROL)
     tally.judge("one undo takes the stroke back", has(one, 0) and has(other, 0))
@@ -131,21 +152,44 @@ COPY = """((kind) => {
 
 
 def test_tools(tally: Tally, one: Sheet, other: Sheet) -> None:
-    """All that is drawn, erased and moved: in a wide window by mouse, by day, and in a narrow one by a finger, by night."""
-    for width, height, scheme, is_touched, wide in ((1600, 900, "light", False, 9), (390, 780, "dark", True, 6)):
-        one.be(width, height, scheme, is_touched)
-        one.page.value(f"wb.view.setSize({wide}); wb.view.goTo(0, 0)")
+    """All that is drawn, erased and moved, by mouse and by a finger, in windows of each kind."""
+    for width, height, scheme, hand in WINDOWS:
+        one.be(width, height, scheme, hand)
+        one.page.value(f"wb.view.setSize({9 if width > 1000 else 6}); wb.view.goTo(0, 0)")
         for test in (test_pen, test_groups, test_eraser, test_selection):
-            with tally.told(f"{width} points, {scheme}"):
+            with tally.told(f"{width} points, {scheme}, {hand}"):
                 test(tally, one, other)
-    one.be(1280, 800, "light", False)
+    one.be(*USUAL)
     one.keys("0")
+
+
+def test_keys(tally: Tally, one: Sheet, other: Sheet) -> None:
+    """Each tool by keys alone, in windows of each kind; one undo takes back what it did."""
+    for width, height, scheme, _ in WINDOWS[1:3]:
+        one.be(width, height, scheme, "keys")
+        on_a_new_page(one, other)
+        for name, ground, keys, wanted in BY_KEYS:
+            if ground:  # without, the undo before has left the page empty
+                on_a_new_page(one, other)
+            for line in ground:
+                one.page.value(f"wb.session.send({json.dumps(line)}).then(({{ ok }}) => ok)")
+            has(one, len(ground))
+            one.page.value("wb.hand.setGlyph('#'); wb.hand.drop(); wb.view.sheet.focus(); Object.assign(wb.hand.cursor, { x: 5, y: 5, on: true }); 0")
+            for key in keys:
+                one.page.key(*key) if isinstance(key, tuple) else one.keys(key)
+            is_so = all(other.shows(5, y, row) for y, row in wanted.items())
+            tally.judge(f"{name} by keys ({width} points, {scheme})", is_so, other.text_of("text"))
+            one.page.key("z", CONTROL)
+            rows = {y: " " * len(row) for y, row in wanted.items()}
+            rows.update({int(line.split()[2]): line[-1] * 7 for line in ground})
+            tally.judge(f"undo of {name} by keys ({width} points, {scheme})", all(other.shows(5, y, row) for y, row in rows.items()), other.text_of("text"))
+    one.be(*USUAL)
 
 
 def test_pinch(tally: Tally, one: Sheet, other: Sheet) -> None:
     """Two fingers move the sheet and make it larger; what one of them had begun is dropped."""
     on_a_new_page(one, other)
-    one.be(390, 780, "light", True)
+    one.be(390, 780, "light", "finger")
     one.keys("l")
     (x, y), wide = one.point(12, 12), one.page.value("wb.view.wide")
     before = one.page.value(f"wb.view.cellAt({{ clientX: {x}, clientY: {y} }})")
@@ -154,11 +198,11 @@ def test_pinch(tally: Tally, one: Sheet, other: Sheet) -> None:
     one.page.touch("touchMove", (x - 45, y), (x + 45, y))
     one.page.touch("touchMove", (x - 60, y), (x + 60, y))
     one.page.touch("touchEnd")
+    tally.judge("two fingers make the sheet larger", one.page.wait(f"wb.view.wide > {wide} * 1.5"))
     after = one.page.value(f"wb.view.cellAt({{ clientX: {x}, clientY: {y} }})")
-    tally.judge("two fingers make the sheet larger", one.page.value("wb.view.wide") > wide * 1.5)
     tally.judge("about their middle", abs(after["x"] - before["x"]) <= 1 and abs(after["y"] - before["y"]) <= 1, f"{before} {after}")
     tally.judge("and draw nothing", not other.page.wait("wb.session.board.drawops.length", 0.4))
-    one.be(1280, 800, "light", False)
+    one.be(*USUAL)
     one.keys("0")
     one.page.value("wb.view.goTo(0, 0)")
 
@@ -202,10 +246,10 @@ def test_letters(tally: Tally, one: Sheet, other: Sheet) -> None:
 
 def test_zoom(tally: Tally, one: Sheet, other: Sheet) -> None:
     x, y = one.point(40, 12)
-    before = one.page.value(f"wb.view.cellAt({{ clientX: {x}, clientY: {y} }})")
-    for turn in (-100, -100, 100):
-        one.page.call("Input.dispatchMouseEvent", type="mouseWheel", x=x, y=y, deltaX=0, deltaY=turn, modifiers=CONTROL)
-    time.sleep(0.1)
+    before, wide = (one.page.value(what) for what in (f"wb.view.cellAt({{ clientX: {x}, clientY: {y} }})", "wb.view.wide"))
+    for turn in range(2):
+        one.page.call("Input.dispatchMouseEvent", type="mouseWheel", x=x, y=y, deltaX=0, deltaY=-100, modifiers=CONTROL)
+        tally.judge("it becomes larger by the wheel", one.page.wait(f"wb.view.wide === {wide + turn + 1}"))
     after = one.page.value(f"wb.view.cellAt({{ clientX: {x}, clientY: {y} }})")
     tally.judge("what is under the pointer stays there when it becomes larger", before == after, f"{before} {after}")
     one.keys("0")

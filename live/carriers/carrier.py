@@ -1,0 +1,69 @@
+"""A carrier moves datagrams, which may be lost, repeated and reordered. It has four calls: begin with an inbox, send bytes, where it
+is, and end. Of members, their numbers and drawings it knows nothing."""
+from __future__ import annotations
+
+from dataclasses import dataclass
+from typing import TYPE_CHECKING, Optional, Protocol
+
+if TYPE_CHECKING:
+    from ..options import Address
+
+# the longest datagram that UDP carries
+MOST_BYTES = 65_507
+
+
+class NetworkFault(Exception):
+    """There is no such port, group, peer, broker or package."""
+
+
+@dataclass(frozen=True)
+class Origin:
+    """Where a datagram came from. Two that differ are two senders. Where it is kept, the network lets nobody else send from there."""
+
+    text: str
+    is_kept: bool = False
+    address: Optional[Address] = None  # of UDP, beside which a stream may be had
+
+
+class Taker(Protocol):
+    """What a carrier begins with: an inbox, or what stands before it."""
+
+    def arrive(self, data: bytes, origin: Origin) -> None:
+        """A datagram came in."""
+
+    def miss(self) -> None:
+        """Something came in that is none of this session's."""
+
+    def tell(self, trouble: str) -> None:
+        """What is the matter with the network; empty where it carries."""
+
+
+class Carrier(Protocol):
+    @property
+    def where(self) -> str:
+        """Where it is, for people."""
+
+    def begin(self, inbox: Taker) -> None:
+        """From now on what arrives goes to the inbox."""
+
+    def send(self, data: bytes) -> bool:
+        """Whether it could be sent to all."""
+
+    def end(self) -> None:
+        """Nothing arrives any more, and nothing is sent."""
+
+
+class Nobody:
+    """A carrier without anyone, for a replay."""
+
+    def __init__(self, where: str) -> None:
+        self.where = where
+
+    def begin(self, inbox: Taker) -> None:
+        """Nothing arrives."""
+
+    def send(self, data: bytes) -> bool:
+        return True
+
+    def end(self) -> None:
+        """There is nothing to close."""

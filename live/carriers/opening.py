@@ -1,0 +1,44 @@
+"""The carrier that the words ask for, and what else a member needs of its network."""
+from __future__ import annotations
+
+from typing import TYPE_CHECKING, NamedTuple, Optional
+
+from .carrier import Carrier
+from .mqtt import GONE, MqttCarrier, Room
+from .sealed import Seal, Sealed
+from .udp import Group, Peers, Ports, UdpCarrier
+
+if TYPE_CHECKING:
+    from ..options import Options
+
+
+class Opened(NamedTuple):
+    """A carrier; the one by UDP beside which streams can be had; and the key that seals both."""
+
+    carrier: Carrier
+    udp: Optional[UdpCarrier]
+    seal: Optional[Seal]
+
+
+def open_udp(options: Options) -> UdpCarrier:
+    if options.lan:
+        return Group(options.lan, options.interface)
+    if options.listen:
+        return Peers(options.listen, options.peer)
+    return Ports(options.ports)
+
+
+def open_broker(options: Options, me: int, seal: Optional[Seal]) -> MqttCarrier:
+    """A member speaks under the name by which the broker knows it; where it asks for none, under its number."""
+    assert options.broker is not None
+    name = options.login.name if options.login else "%d" % me
+    will = GONE + name.encode()
+    return MqttCarrier(Room(options.broker, options.session, name, options.login, options.ca), seal.close(will) if seal else will)
+
+
+def open_network(options: Options, me: int) -> Opened:
+    """The network of the words, for the member of this number."""
+    seal = Seal(options.key, options.session) if options.key else None
+    udp = None if options.broker else open_udp(options)
+    carrier: Carrier = udp or open_broker(options, me, seal)
+    return Opened(Sealed(carrier, seal) if seal else carrier, udp, seal)

@@ -1,0 +1,159 @@
+"""Datagrams by UDP: the ports of this machine, a multicast group, or peers one by one."""
+from __future__ import annotations
+
+import socket
+import threading
+import time
+from typing import TYPE_CHECKING, Dict, List, Tuple
+
+from .carrier import MOST_BYTES, NetworkFault, Origin, Taker
+
+if TYPE_CHECKING:
+    from ..options import Address
+
+# ports of this machine at which members are
+PORTS = 32
+
+# bytes that the system keeps for us, and what a sealed datagram is longer than a plain one
+WAITING_BYTES = 1 << 20
+SEALED = 28
+
+# datagrams of ours that are told apart when a group brings them back
+MOST_RECENT = 64
+
+
+def udp() -> socket.socket:
+    return socket.socket(socket.AF_INET, socket.SOCK_DGRAM)
+
+
+class UdpCarrier:
+    """A socket that a thread reads, one that sends, and to whom."""
+
+    def __init__(self, where: str, bound: socket.socket, sender: socket.socket, targets: List[Address]) -> None:
+        self.where = where
+        self.socket = bound
+        self.sender = sender
+        self.targets = targets
+        self.is_open = True
+
+    def begin(self, inbox: Taker) -> None:
+        self.socket.setsockopt(socket.SOL_SOCKET, socket.SO_RCVBUF, WAITING_BYTES)
+        threading.Thread(target=self.read, args=(inbox,), daemon=True).start()
+
+    def read(self, inbox: Taker) -> None:
+        while self.is_open:
+            try:
+                data, address = self.socket.recvfrom(MOST_BYTES + SEALED)
+            except OSError:
+                if self.is_open:
+                    time.sleep(0.05)
+                continue
+            if self.takes(data, address):
+                inbox.arrive(data, Origin("%s:%d" % address, address=address))
+
+    def takes(self, data: bytes, address: Address) -> bool:
+        """Whether a datagram from there is for us."""
+        return True
+
+    def send(self, data: bytes) -> bool:
+        done = True
+        for target in self.targets:
+            try:
+                self.sender.sendto(data, target)
+            except OSError:
+                done = False
+        return done
+
+    def end(self) -> None:
+        self.is_open = False
+        self.socket.close()
+        self.sender.close()
+
+    # ---- streams beside it
+
+    def place(self) -> Address:
+        """Where a stream is asked for: the address that datagrams of ours come from."""
+        return self.sender.getsockname()
+
+    def is_there(self, address: Address) -> bool:
+        """Whether a member may be at an address: where it is known who there can be, nobody else is spoken to."""
+        return address in self.targets
+
+    def may_ask(self, address: Address) -> bool:
+        """Whether a stream may be asked for from an address."""
+        return address[0] in {host for host, _ in self.targets}
+
+
+class Ports(UdpCarrier):
+    """The first port of this machine that is free, and to all others. Its number is nobody's: a member's number is not that of its port."""
+
+    def __init__(self, first: int) -> None:
+        ports = list(range(first, first + PORTS))
+        bound, own = self.first_free(ports)
+        where = "this machine, port %d of %d to %d" % (own, first, ports[-1])
+        super().__init__(where, bound, bound, [("127.0.0.1", port) for port in ports if port != own])
+
+    def first_free(self, ports: List[int]) -> Tuple[socket.socket, int]:
+        for port in ports:
+            bound = udp()
+            try:
+                bound.bind(("127.0.0.1", port))
+                return bound, port
+            except OSError:
+                bound.close()
+        raise NetworkFault("no port of %d to %d is free" % (ports[0], ports[-1]))
+
+
+class Group(UdpCarrier):
+    """A multicast group, one hop wide, on an interface. It brings back what is sent, which is known again."""
+
+    def __init__(self, group: Address, interface: str) -> None:
+        bound, sender = udp(), udp()
+        try:
+            bound.setsockopt(socket.SOL_SOCKET, socket.SO_REUSEADDR, 1)
+            bound.setsockopt(socket.SOL_SOCKET, socket.SO_REUSEPORT, 1)
+            bound.bind(group)
+            bound.setsockopt(socket.IPPROTO_IP, socket.IP_ADD_MEMBERSHIP, socket.inet_aton(group[0]) + socket.inet_aton(interface))
+            sender.setsockopt(socket.IPPROTO_IP, socket.IP_MULTICAST_TTL, 1)
+            sender.setsockopt(socket.IPPROTO_IP, socket.IP_MULTICAST_LOOP, 1)
+            if interface != "0.0.0.0":
+                sender.setsockopt(socket.IPPROTO_IP, socket.IP_MULTICAST_IF, socket.inet_aton(interface))
+            sender.bind((interface, 0))
+        except OSError as fault:
+            raise NetworkFault("the group %s:%d can't be joined: %s" % (group[0], group[1], fault)) from fault
+        super().__init__("the group %s:%d" % group, bound, sender, [group])
+        self.recent: Dict[bytes, None] = {}
+        self.own_port = sender.getsockname()[1]
+
+    def takes(self, data: bytes, address: Address) -> bool:
+        """It is none of ours that the group brings back."""
+        return data not in self.recent or address[1] != self.own_port
+
+    def send(self, data: bytes) -> bool:
+        self.recent[data] = None
+        if len(self.recent) > MOST_RECENT:
+            del self.recent[next(iter(self.recent))]
+        return super().send(data)
+
+    def is_there(self, address: Address) -> bool:
+        """Anyone may be in a group."""
+        return True
+
+    def may_ask(self, address: Address) -> bool:
+        return True
+
+
+class Peers(UdpCarrier):
+    """Listens at one address, and sends to each peer; from others nothing is taken."""
+
+    def __init__(self, listen: Address, peers: List[Address]) -> None:
+        bound = udp()
+        try:
+            bound.bind(listen)
+            targets = [(socket.gethostbyname(host), port) for host, port in peers]
+        except OSError as fault:
+            raise NetworkFault("%s:%d or a peer can't be used: %s" % (listen[0], listen[1], fault)) from fault
+        super().__init__("%s:%d, with %d peers" % (listen + (len(peers),)), bound, bound, targets)
+
+    def takes(self, data: bytes, address: Address) -> bool:
+        return address in self.targets

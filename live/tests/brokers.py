@@ -1,0 +1,237 @@
+"""Sessions by a broker: a real mosquitto with TLS and passwords, one that goes and comes, and whom it and the members keep out. All of it
+runs in a network of its own. What is not installed is said, and skipped."""
+from __future__ import annotations
+
+import json
+import os
+import re
+import socket
+import subprocess
+import sys
+import time
+from pathlib import Path
+from typing import Any, Dict, List, Optional
+
+from ..carriers.carrier import NetworkFault, Origin
+from ..carriers.mqtt import GONE, Broker, Login, MqttCarrier, Room as Place
+from ..keys import new_key
+from .carriers import NODE, Kept
+from .carried import test_session
+from .members import TOP
+from .mosquitto import INSIDE, PLAIN_PORT, TLS_PORT, WEB_PORT, Room, found, way_inside
+from .recipes import test_recipes
+
+SESSION = "class-7"
+PACKAGES = "import cryptography.hazmat.primitives.ciphers.aead, paho.mqtt.client"
+
+
+def place(room: Room, name: str, ca: Optional[str] = "own", host: str = "127.0.0.1", port: int = TLS_PORT) -> Place:
+    """Where somebody comes to the broker with TLS."""
+    login = (room.path / ("%s.login" % name)).read_text().strip().partition(":")
+    return Place(Broker("mqtts", host, port, ""), SESSION, login[0], Login(login[0], login[2]), str(room.path / ("%s.pem" % ca)) if ca else None)
+
+
+def open_place(name: str, scheme: str) -> Place:
+    port, path = (WEB_PORT, "/mqtt") if scheme == "ws" else (PLAIN_PORT, "")
+    return Place(Broker(scheme, "127.0.0.1", port, path), SESSION, name, None, None)
+
+
+def fault_of(where: Place) -> str:
+    try:
+        MqttCarrier(where, b"").end()
+        return ""
+    except NetworkFault as fault:
+        return str(fault)
+
+
+def test_refusals(judge, room: Room) -> None:
+    """Who does not come in, and what he is told. The certificate is for the address and for a name that is not asked for here."""
+    cases = {
+        "a certificate of nobody we trust": (place(room, "m1", "other"), "has no certificate that is taken: .*--ca FILE"),
+        "one that the system does not trust": (place(room, "m1", None), "has no certificate that is taken: self.signed"),
+        "a certificate for another name": (place(room, "m1", host="localhost"), "has no certificate that is taken: Hostname mismatch"),
+        "a wrong password": (place(room, "wrong"), "refuses: the name or the password is wrong"),
+        "no broker there": (place(room, "m1", port=TLS_PORT + 1), "does not answer: Connection refused"),
+        "no TLS there": (place(room, "m1", port=PLAIN_PORT), "the broker 127.0.0.1 does not (speak TLS|answer)"),
+    }
+    for name, (where, wanted) in cases.items():
+        told = fault_of(where)
+        judge("%s: %s" % (name, told), bool(re.search(wanted, told)) and "\n" not in told, True)
+
+
+def test_names(judge, room: Room) -> None:
+    """A name writes its own topic alone, hears the others, and is told of when it goes."""
+    kept = {name: Kept() for name in ("m1", "m2", "mallory")}
+    carriers = {name: MqttCarrier(place(room, name), GONE + name.encode()) for name in kept}
+    for name, carrier in carriers.items():
+        carrier.begin(kept[name])
+    judge("a carrier tells where it is", carriers["m1"].where, "the broker 127.0.0.1, session class-7, as m1")
+    judge("a datagram goes", carriers["m1"].send(b"from m1"), True)
+    judge("and comes from its name", kept["m2"].wait_for(b"from m1"), Origin("m1", True))
+    judge("nobody hears himself", [data for data, _ in kept["m1"].came], [])
+    client = carriers["mallory"].client
+    client.publish("wb/%s/m1" % SESSION, b"as m1")
+    client.publish("wb/%s/mallory" % SESSION, b"kept for later", retain=True)
+    carriers["mallory"].send(b"as mallory")
+    judge("who writes another's topic", (kept["m2"].wait_for(b"as mallory"), kept["m2"].wait_for(b"as m1", 0.5)), (Origin("mallory", True), None))
+    late = MqttCarrier(place(room, "m3"), GONE + b"m3")
+    kept["m3"] = Kept()
+    late.begin(kept["m3"])
+    judge("what a broker keeps is not heard by who comes later", kept["m3"].wait_for(b"kept for later", 0.5), None)
+    late.end()
+    judge("who ends is gone", kept["m1"].wait_for(GONE + b"m3"), Origin("m3", True))
+    client._sock.shutdown(socket.SHUT_RDWR)
+    judge("who is cut off is gone too", kept["m1"].wait_for(GONE + b"mallory"), Origin("mallory", True))
+    for carrier in carriers.values():
+        carrier.end()
+
+
+def test_outage(judge, room: Room) -> None:
+    """A broker that goes is told of, and found again when it is back."""
+    broker = room.brokers[0]
+    one, two, kept, other = MqttCarrier(place(room, "m1"), b"x"), MqttCarrier(place(room, "m2"), b"x"), Kept(), Kept()
+    one.begin(kept)
+    two.begin(other)
+    broker.stop()
+    judge("a broker that is gone", wait(lambda: (kept.trouble or "").startswith("the broker 127.0.0.1 does not answer"), 10), True)
+    judge("takes nothing", one.send(b"lost"), False)
+    broker.start()
+    judge("one that is back is found", wait(lambda: kept.trouble == other.trouble == "", 20), True)
+    one.send(b"again")
+    judge("and carries again", other.wait_for(b"again"), Origin("m1", True))
+    for carrier in (one, two):
+        carrier.end()
+
+
+def wait(is_so: Any, seconds: float) -> bool:
+    end = time.monotonic() + seconds
+    while not is_so() and time.monotonic() < end:
+        time.sleep(0.02)
+    return bool(is_so())
+
+
+def test_ways(judge) -> None:
+    """Without a name, by TCP and by a WebSocket: one session."""
+    one, two, kept, other = MqttCarrier(open_place("1", "mqtt"), b"x"), MqttCarrier(open_place("2", "ws"), b"x"), Kept(), Kept()
+    one.begin(kept)
+    two.begin(other)
+    large = os.urandom(65_507)
+    one.send(b"from one")
+    judge("what goes by TCP comes by a WebSocket", other.wait_for(b"from one"), Origin("1", False))
+    two.send(large)
+    judge("and back, as long as a datagram may be", kept.wait_for(large), Origin("2", False))
+    for carrier in (one, two):
+        carrier.end()
+
+
+BROWSER = """
+import { Broker } from '%(web)s/transports.js';
+import { Seal, Sealed } from '%(web)s/seal.js';
+const { address, session, key } = JSON.parse(process.argv[1]);
+const seal = await Seal.of(key, session);
+const heard = [], sealed = new Sealed(seal, (bytes) => {
+  heard.push(Buffer.from(bytes).toString('hex'));
+  sealed.send(new Uint8Array([...bytes, 0x21]));
+});
+const gone = await seal.close(new TextEncoder().encode('WG424242'));
+sealed.under = new Broker(address, session, '424242', gone, (bytes, place) => sealed.take(bytes, place));
+const begin = setInterval(() => { if (!sealed.state) { clearInterval(begin); console.log('ready'); } }, 20);
+process.stdin.on('end', () => { sealed.end(); console.log(JSON.stringify({ heard, foreign: sealed.foreign })); setTimeout(() => process.exit(0), 200); }).resume();
+"""
+
+
+def test_browser(judge) -> None:
+    """The page's own broker and seal, under Node, in one session with a member of ours."""
+    from ..carriers.sealed import Seal, Sealed
+
+    if not NODE or subprocess.run([NODE, "--experimental-websocket", "-e", "new WebSocket('ws://127.0.0.1:9/')"], capture_output=True, check=False).returncode == 9:
+        print("skipped: a browser's part by a broker, since there is no node with WebSockets here (20.10 or later)")
+        return
+    key, kept, plain = new_key(), Kept(), Kept()
+    asked = json.dumps({"address": "ws://127.0.0.1:%d/mqtt" % WEB_PORT, "session": SESSION, "key": key})
+    program = BROWSER % {"web": TOP / "web" / "page"}
+    page = subprocess.Popen([NODE, "--no-warnings", "--experimental-websocket", "--input-type=module", "-e", program, asked],
+                            stdin=subprocess.PIPE, stdout=subprocess.PIPE, stderr=subprocess.PIPE, text=True)
+    assert page.stdout
+    judge("a browser comes to the broker", page.stdout.readline(), "ready\n")
+    ours, stranger = Sealed(MqttCarrier(open_place("7", "mqtt"), b"x"), Seal(key, SESSION)), MqttCarrier(open_place("8", "ws"), b"x")
+    ours.begin(kept)
+    stranger.begin(plain)
+    stranger.send(b"WB not sealed")
+    ours.send(b"WB hello")
+    judge("a browser opens what we send, and we its answer", kept.wait_for(b"WB hello!"), Origin("424242", False))
+    judge("a stranger hears both, sealed", wait(lambda: len(plain.came) == 2, 5) and not any(b"hello" in data for data, _ in plain.came), True)
+    told = json.loads(page.communicate("")[0])
+    judge("and is not heard by the browser", told, {"heard": [b"WB hello".hex()], "foreign": 1})
+    judge("nor by us", kept.missed, 1)
+    for carrier in (ours, stranger):
+        carrier.end()
+
+
+def test_packages(judge, room: Room) -> None:
+    """A start without the package ends with one line that names the one command."""
+    for name, words, package in (("paho", ["--broker", "mqtts://127.0.0.1/x"], "python3-paho-mqtt"), ("cryptography", ["--key", str(room.path / "a.key")], "python3-cryptography")):
+        empty = room.path / ("without " + name)
+        (empty / name).mkdir(parents=True)
+        (empty / name / "__init__.py").write_text("raise ImportError\n")
+        if "--key" in words:
+            subprocess.run([sys.executable, str(TOP / "wb-live"), "--new-key", words[1]], check=True)
+        ran = subprocess.run([sys.executable, str(TOP / "wb-live"), "--no-web", *words], env={**os.environ, "PYTHONPATH": str(empty), "XDG_STATE_HOME": str(room.path)},
+                             stdin=subprocess.DEVNULL, capture_output=True, text=True, timeout=60, check=False)
+        line = ran.stderr.strip()
+        judge("without %s: %s" % (name, line), (ran.returncode, line.count("\n"), ("apt-get install " + package in line) or "start it as /usr/bin/python3" in line), (1, 0, True))
+
+
+def test_inside(judge) -> None:
+    room = Room()
+    try:
+        room.sealed()
+        room.open()
+        test_refusals(judge, room)
+        test_names(judge, room)
+        test_outage(judge, room)
+        test_ways(judge)
+        test_browser(judge)
+        test_packages(judge, room)
+        test_recipes(judge, room)
+        test_session(judge, room)
+    finally:
+        room.end()
+
+
+def interpreter() -> Optional[str]:
+    """A Python that has the packages."""
+    for each in (sys.executable, "/usr/bin/python3"):
+        try:
+            if subprocess.run([each, "-c", PACKAGES], capture_output=True, check=False).returncode == 0:
+                return each
+        except OSError:
+            continue
+    return None
+
+
+def reason_to_skip() -> str:
+    for program, package in (("mosquitto", "mosquitto"), ("mosquitto_passwd", "mosquitto"), ("openssl", "openssl")):
+        if not found(program):
+            return "there is no %s: apt-get install %s" % (program, package)
+    if not interpreter():
+        return "no Python here has what it takes: apt-get install python3-paho-mqtt python3-cryptography"
+    return "" if way_inside() else "a network and mounts of its own can't be had here (unshare), and a broker listens at every interface"
+
+
+def test(judge) -> None:
+    if os.environ.get(INSIDE):
+        test_inside(judge)
+        return
+    reason = reason_to_skip()
+    if reason:
+        print("skipped: sessions by a broker, since %s" % reason)
+        return
+    command = [*(way_inside() or []), str(interpreter()), str(Path(TOP) / "live" / "test"), "brokers"]
+    ran = subprocess.run(command, env={**os.environ, INSIDE: "1"}, stdin=subprocess.DEVNULL, stdout=subprocess.PIPE, text=True, check=False)
+    *lines, last = ran.stdout.rstrip("\n").split("\n")
+    print("".join(line + "\n" for line in lines), end="", flush=True)
+    counts: List[int] = [int(number) for number in re.findall("[0-9]+", last)] if re.fullmatch("[0-9]+ passed, [0-9]+ failed", last) else [0, 1]
+    for _ in range(counts[0]):
+        judge("by a broker", True, True)
+    judge("by a broker: %s" % last, counts[1], 0)
