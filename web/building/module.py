@@ -1,7 +1,7 @@
 """From the proved program to modules of WebAssembly: what each step takes and makes."""
 from __future__ import annotations
 
-import os
+import shutil
 import subprocess
 from pathlib import Path
 
@@ -30,34 +30,31 @@ class Failed(Exception):
     """A step failed, with what it told."""
 
 
-def run(words: list[str | Path], folder: Path, **more: str) -> None:
+def run(words: list[str | Path], folder: Path) -> None:
     """Runs a step in a folder. Failed where it does not end with 0."""
-    ran = subprocess.run([str(word) for word in words], cwd=folder, env={**os.environ, **more}, stdin=subprocess.DEVNULL,
-                         stdout=subprocess.PIPE, stderr=subprocess.STDOUT, errors="replace", check=False)
+    ran = subprocess.run([str(word) for word in words], cwd=folder, stdin=subprocess.DEVNULL, stdout=subprocess.PIPE, stderr=subprocess.STDOUT,
+                         errors="replace", check=False)
     if ran.returncode:
         raise Failed("%s ended with %d:\n%s" % (Path(str(words[0])).name, ran.returncode, ran.stdout[-4000:]))
 
 
 def lay_toolchain(needs: Needs, folder: Path) -> None:
     """A folder like the toolchain's, whose clang keeps the module that it is given."""
-    (folder / "bin").mkdir(parents=True, exist_ok=True)
+    shutil.rmtree(folder, ignore_errors=True)
+    (folder / "bin").mkdir(parents=True)
     theirs = needs.kit / "toolchain"
     for path in [*theirs.iterdir(), *(theirs / "bin").iterdir()]:
-        link = folder / path.relative_to(theirs)
-        if path.name not in ("bin", "clang") and not link.exists():
-            link.symlink_to(path)
-    keeper = folder / "bin" / "clang"
-    keeper.unlink(missing_ok=True)
-    keeper.symlink_to(HERE / "clang")
+        if path.name not in ("bin", "clang"):
+            (folder / path.relative_to(theirs)).symlink_to(path)
+    (folder / "bin" / "clang").symlink_to(HERE / "clang")
+    (folder / "bin" / "true-clang").symlink_to(needs.clang)
 
 
 def write_bitcode(needs: Needs, build_words: list[str], crate: Path, room: Path) -> Path:
     """The LLVM module of a crate that is proved, which `rattle build` makes of what it proved and of nothing else."""
-    kept = room / "program.bc"
-    kept.unlink(missing_ok=True)
+    kept = room / "toolchain" / "kept.bc"
     lay_toolchain(needs, room / "toolchain")
-    words = [needs.kit / "bin" / "rattle", "build", *build_words, "--toolchain", room / "toolchain", "-o", room / "program.x86.o"]
-    run(words, crate, KEPT_MODULE=str(kept), TRUE_CLANG=str(needs.clang))
+    run([needs.kit / "bin" / "rattle", "build", *build_words, "--toolchain", room / "toolchain", "-o", room / "program.x86.o"], crate)
     if not kept.exists():
         raise Failed("this toolchain gave its clang no LLVM module: it is another one than this was written for")
     return kept

@@ -1,221 +1,337 @@
-/** What a member judges for itself: when it asks, looks and reports, for which names, and when it gives up.
+/** What a member concludes from what comes in, and what it says by itself: reports, questions, answers, and what it asks for.
  *
  * The host keeps the board and the timers; this decides which of its lines to write when. It is a module by itself, so that a host
- * that judges for itself takes its place. It is `live/asking.py` and `live/pacing.py` once more. */
-import { distanceTold, kindOf, reportedPage, speakerOf } from './views.js';
+ * that judges for itself takes its place. It is `live/judging.py` once more. */
+import { Asking } from './asking.js';
+import { Answers, Heard, LEAST_INTERVAL, Questions, SECOND, meanInterval, sessionInterval } from './pacing.js';
+import { Future, MINUTE, Times } from './times.js';
+import { distanceOf, drawopOf, isDrawing, kindOf, orderOfPages, pageWords, reportOf, speakerOf } from './views.js';
 
-const SECOND = 1_000_000;
+/** @typedef {import('./views.js').Drawop} Drawop */
+/** @typedef {import('./views.js').Name} Name */
+/** @typedef {import('./views.js').Report} Report */
 
-/** Session messages of all members together have 5 in 100 of 64 kbit/s, and a member sends one each two seconds at most. */
-const SHARED_BITS = 3_200, LEAST_INTERVAL = 2 * SECOND;
+/** A member whose number may have drawn before draws only once reports of others would have come. */
+const LISTENING = (LEAST_INTERVAL * 3) / 2;
 
-/** A member that was not heard for so long is gone, and for so many intervals; of more members, those heard last are remembered. */
-const GONE_AFTER = 60 * SECOND, GONE_AFTER_INTERVALS = 3, MOST_MEMBERS = 4_096;
+/** Pages on which something may be missing, and those that are looked at in one turn. */
+const MOST_STALE = 1_024, MOST_PAGES = 4;
 
-/** Questions for pages come more and more seldom, up to this interval. */
-const MOST_BACKOFF = 300 * SECOND;
+/** Looks take one part in so many of the time. */
+const LOOKS = 8;
 
-/** Names that are asked for at a time, and how many of them may be of sources of which nothing is held on the page. */
-const MOST_ASKED = 64, MOST_OF_STRANGERS = 32;
+/** Marks of a report that are told, and that are heeded; pages of an answer. */
+export const MARKS = 64, PAGES_OF_ANSWER = 16;
+const MOST_MARKS = 256;
 
-/** How long a name is asked for. One that was given up is tried again after as long, and then after twice as long each time. */
-const PATIENCE = 60 * SECOND, MOST_DOUBLINGS = 6, MOST_GIVEN_UP = 1_024;
+/** Distances that timers go by: below the first, computers differ more than networks. */
+const LEAST_DISTANCE = SECOND / 100, MOST_DISTANCE = SECOND;
 
-/** Pages of which gaps are remembered, ranges of each, pages that may lack something, and those that are looked at in one turn. */
-const MOST_PAGES = 1_024, MOST_RANGES = 256, MOST_STALE = 1_024, MOST_LOOKS = 4;
+/** While it listens, a member believes marks of its own number that are so far above what its record has: lines that a crash of the
+ * machine lost, or, without a record, as many as a board has room for. Any above is forged. */
+const LOST_LINES = 1_024, ALL_CELLS = 65_536;
 
-/** A look rests for twenty times what it took, and for so long at most: where the machine is busy, that says nothing of the page. */
-const MOST_REST = 2 * SECOND;
+/** How a session message begins, and reports of ours that are known again. */
+const SESSION = '57420102', MOST_OWN = 256;
 
-/** Missing numbers of a source on a page.
- * @typedef {{ source: number, first: number, last: number }} Range */
-/** A name that is asked for.
- * @typedef {{ source: number, page: string, seq: number }} Name */
-/** Another member: when it was heard, how far away it is, in microseconds, and the page of its last report.
- * @typedef {{ at: number, distance: number | null, page: string | null }} Other */
+/** One part in so many of the cells is kept for deletes and restores. A source of which no member that answers us has reported has one
+ * part in so many, and all such sources together have one in so many. */
+const RESERVE = 32, SHARE = 16, STRANGERS = 4;
 
-/** @param {Name} name */
-const spelled = ({ source, page, seq }) => `${source} ${page} ${seq}`;
-const between = (/** @type {number} */ low, /** @type {number} */ high) => low + Math.random() * (high - low);
+/** From so many parts of the cells in a hundred on, the board is said to become full. */
+const NEARLY_FULL = 80;
 
-/** Which missing drawops a member asks for: so many at a time, fairly, and for so long. */
-export class Asking {
-  constructor() {
-    /** @type {Map<string, { ranges: Range[], missing: number, sources: Set<number> }>} */
-    this.gaps = new Map();
-    /** @type {Map<string, { name: Name, since: number }>} */
-    this.asked = new Map();
-    /** @type {Map<string, { name: Name, times: number, until: number }>} */
-    this.givenUp = new Map();
-  }
-
-  /** The gaps of a page, and the sources of which something is held there. Found names are asked for no more.
-   * @param {string} page @param {Range[]} ranges @param {Set<number>} sources */
-  learn(page, ranges, sources) {
-    this.gaps.delete(page);
-    if (ranges.length && this.gaps.size < MOST_PAGES) {
-      const missing = ranges.reduce((sum, { first, last }) => sum + last - first + 1, 0);
-      const known = ranges.filter(({ source }) => sources.has(source)), strange = ranges.filter(({ source }) => !sources.has(source));
-      this.gaps.set(page, { ranges: [...known, ...strange].slice(0, MOST_RANGES), missing, sources });
-    }
-    for (const names of [this.asked, this.givenUp]) {
-      for (const [key, { name }] of names) if (name.page === page && !this.isMissing(name)) names.delete(key);
-    }
-  }
-
-  /** @param {Name} name */
-  isMissing({ source, page, seq }) {
-    return (this.gaps.get(page)?.ranges ?? []).some((range) => range.source === source && range.first <= seq && seq <= range.last);
-  }
-
-  /** Nothing of the source is held on the page: there may be no such drawops, or no such source.
-   * @param {string} page @param {number} source */
-  isStranger(page, source) {
-    return !this.gaps.get(page)?.sources.has(source);
-  }
-
-  /** The names to ask for now. Each range has its share, so that none takes all the room.
-   * @param {number} now */
-  nextNames(now) {
-    /** @type {Name[]} */
-    const names = [];
-    for (const [areStrangers, most] of /** @type {[boolean, number][]} */ ([[false, MOST_ASKED], [true, MOST_OF_STRANGERS]])) {
-      const ranges = [...this.gaps].flatMap(([page, { ranges: all }]) => all.map((range) => ({ page, range })))
-        .filter(({ page, range }) => this.isStranger(page, range.source) === areStrangers);
-      const share = Math.max(1, Math.floor(most / Math.max(1, ranges.length)));
-      for (const { page, range } of ranges) names.push(...this.firstNames(page, range, share, this.room(areStrangers), now));
-    }
-    return names;
-  }
-
-  /** How many names may be asked for beside those that are.
-   * @param {boolean} areStrangers */
-  room(areStrangers) {
-    const room = MOST_ASKED - this.asked.size;
-    if (!areStrangers) return room;
-    const strangers = [...this.asked.values()].filter(({ name }) => this.isStranger(name.page, name.source)).length;
-    return Math.min(room, MOST_OF_STRANGERS - strangers);
-  }
-
-  /** The first names of a range that may be asked for, as far as its share and the room go: from now on they are.
-   * @param {string} page @param {Range} range @param {number} share @param {number} room @param {number} now */
-  firstNames(page, { source, first, last }, share, room, now) {
-    /** @type {Name[]} */
-    const found = [];
-    for (let seq = first, left = share; seq <= last && left > 0 && found.length < room; seq += 1) {
-      const name = { source, page, seq }, key = spelled(name);
-      if (this.asked.has(key)) left -= 1;
-      else if ((this.givenUp.get(key)?.until ?? 0) <= now) {
-        left -= 1;
-        found.push(name);
-      }
-    }
-    for (const name of found) this.asked.set(spelled(name), { name, since: now });
-    return found;
-  }
-
-  /** The names that nobody answered for long: they are asked for no more.
-   * @param {number} now */
-  giveUp(now) {
-    const old = [...this.asked].filter(([, { since }]) => now - since >= PATIENCE);
-    for (const [key, { name }] of old) {
-      const times = this.givenUp.get(key)?.times ?? 0;
-      this.asked.delete(key);
-      this.givenUp.delete(key);
-      this.givenUp.set(key, { name, times: times + 1, until: now + PATIENCE * 2 ** Math.min(times, MOST_DOUBLINGS) });
-    }
-    for (const key of [...this.givenUp.keys()].slice(0, Math.max(0, this.givenUp.size - MOST_GIVEN_UP))) this.givenUp.delete(key);
-    return old.map(([, { name }]) => name);
-  }
-
-  /** How many names of a page are missing, asked for, and given up.
-   * @param {string} page */
-  counts(page) {
-    const asking = [...this.asked.values()].filter(({ name }) => name.page === page).length;
-    const givenUp = [...this.givenUp].filter(([key, { name }]) => name.page === page && !this.asked.has(key)).length;
-    return { missing: this.gaps.get(page)?.missing ?? 0, asking, givenUp };
-  }
-}
+/** What `batch` tells of one drawop. */
+export const NEW = 'batch 1 0 0 0', CLASH = 'batch 0 0 1 0', FULL = 'batch 0 0 0 1';
 
 /** What a judgement asks of its member.
  * @typedef {object} Judged
  * @property {number} me
  * @property {string} page   the page in view
- * @property {import('./views.js').Drawn} drawn
- * @property {() => number} now   the present moment, in microseconds
+ * @property {boolean} isReady   whether it may draw
+ * @property {import('./drawn.js').Drawn} drawn
+ * @property {import('./alarms.js').Alarms} alarms
+ * @property {import('./wire.js').Wire} wire
+ * @property {import('./board.js').Board} board
  * @property {(line: string) => Promise<import('./host.js').Block>} tell   the block of a line, after its datagrams were sent
  * @property {() => Promise<void>} advance   makes this the host's moment
- * @property {(page: string) => Promise<Range[]>} gaps */
+ * @property {() => Promise<void>} begin   from now on it may draw */
 
-/** When a member speaks by itself, whom it heard, and what it asks for. */
-export class Judgement {
+/** @param {string} word @param {Name} name */
+const lineOf = (word, { source, page, seq }) => `${word} ${pageWords(page)} ${source} ${seq}`;
+
+/** Some of these at random.
+ * @template T @param {T[]} all @param {number} most */
+function sample(all, most) {
+  const left = [...all];
+  return Array.from({ length: Math.min(most, left.length) }, () => left.splice(Math.floor(Math.random() * left.length), 1)[0]);
+}
+
+/** Who may fill the cells of the board. */
+export class Room {
   /** @param {Judged} member */
   constructor(member) {
     this.member = member;
-    this.asking = new Asking();
-    /** The members that were heard, the one heard last at the end.
-     * @type {Map<number, Other>} */
-    this.others = new Map();
-    this.patience = GONE_AFTER;
-    /** Pages on which something may be missing.
-     * @type {Set<string>} */
-    this.stale = new Set();
-    this.reports = 0;
-    this.isAnswered = false;
-    this.backoff = SECOND / 2;
-    this.reportAt = this.questionAt = this.lookAt = this.readyAt = Infinity;
+    this.vouched = new Set([member.me]);
   }
 
-  /** From now on it speaks. It may draw after a report of others would have come. */
-  begin() {
-    const now = this.member.now();
-    this.reportAt = now + this.interval(1, 0) / 2;
-    this.questionAt = now + between(0, SECOND / 5);
-    this.lookAt = now;
-    this.readyAt = now + (LEAST_INTERVAL * 3) / 2;
+  /** A member that answers us has reported these sources. Of what is held on the page alone is taken note.
+   * @param {Report} report */
+  vouch({ sender, marks }) {
+    for (const source of marks.keys()) if (source !== sender && this.member.drawn.bySource.has(source)) this.vouched.add(source);
   }
+
+  /** No drawing has room, and deletes and restores alone have. */
+  isFull() {
+    const { cells } = this.member.board;
+    return this.member.drawn.total >= cells - Math.floor(cells / RESERVE);
+  }
+
+  /** Why a drawop has no room.
+   * @param {Drawop} drawop @returns {string | null} */
+  fault(drawop) {
+    const { drawn, board: { cells } } = this.member, isVouched = this.vouched.has(drawop.source);
+    if (this.isFull() && (isDrawing(drawop) || !isVouched)) return 'the board is full';
+    if (isVouched) return null;
+    let strangers = 0;
+    for (const [source, count] of drawn.bySource) if (!this.vouched.has(source)) strangers += count;
+    const isOver = (drawn.bySource.get(drawop.source) ?? 0) >= Math.max(16, Math.floor(cells / SHARE)) || strangers >= Math.max(16, Math.floor(cells / STRANGERS));
+    return isOver ? 'over its share' : null;
+  }
+}
+
+/** When a member speaks by itself, whom it heard, and what it asks for. */
+export class Judgement {
+  /** @param {Judged} member @param {boolean} mayHaveDrawn whether its number may have drawn before what its record has */
+  constructor(member, mayHaveDrawn) {
+    this.member = member;
+    this.asking = new Asking();
+    this.heard = new Heard();
+    this.times = new Times();
+    this.future = new Future();
+    this.answers = new Answers();
+    this.room = new Room(member);
+    /** Pages on which something may be missing.
+     * @type {Set<string>} */
+    this.stale = new Set(member.drawn.drawnPages());
+    /** @type {Set<string>} */
+    this.ownReports = new Set();
+    /** The last source of a page that was reported.
+     * @type {Map<string, number>} */
+    this.told = new Map();
+    this.turns = 0;
+    this.answerTurn = 0;
+    this.hasTwin = false;
+    const now = member.board.now();
+    this.sessionAt = now + sessionInterval(1, 0) / 2;
+    this.questions = new Questions(now);
+    this.lookAt = now;
+    this.readyAt = mayHaveDrawn ? now + LISTENING : now;
+    this.mostLost = member.drawn.total ? LOST_LINES : ALL_CELLS;
+  }
+
+  // ---- when to do what
 
   /** What is to be done, each with its moment.
    * @returns {[number, () => Promise<void>][]} */
   plan() {
+    const { member, asking } = this;
     /** @type {[number, () => Promise<void>][]} */
-    const plan = [[this.reportAt, () => this.report()]];
-    if (!this.isAnswered) plan.push([this.questionAt, () => this.question()]);
-    if (this.stale.size || this.asking.gaps.size) plan.push([this.stale.size ? this.lookAt : this.lookAt + SECOND, () => this.look()]);
+    const plan = [[this.sessionAt, () => this.saySession()]];
+    if (member.board.due !== null) plan.push([member.board.due, () => member.advance()]);
+    if (!this.questions.isAnswered) plan.push([this.questions.at, () => this.askPages()]);
+    if (this.answers.at !== null) plan.push([this.answers.at, () => this.answer()]);
+    if (this.stale.size || asking.gaps.size || asking.near.size || asking.far.size || asking.asked.size) {
+      plan.push([this.stale.size ? this.lookAt : this.lookAt + SECOND, () => this.look()]);
+    }
+    if (!member.isReady) plan.push([this.readyAt, () => member.begin()]);
+    const coming = this.future.next();
+    if (coming !== null) {
+      const ahead = coming - MINUTE - this.now();
+      plan.push([ahead <= 0 ? 0 : member.board.now() + Math.min(ahead, 3_600 * SECOND), () => this.takeDue()]);
+    }
     return plan;
   }
 
-  /** Draws the conclusions from a datagram of others that the host took.
-   * @param {string} words @param {boolean} isNew a drawop that was not held */
-  heed(words, isNew) {
-    if (kindOf(words) === 'draw') {
-      if (isNew) this.doubt(words.split(' ', 3)[2]);
-      return;
+  /** The time of day of the session. */
+  now() {
+    return this.times.now(this.heard.present(this.member.board.now()).keys());
+  }
+
+  // ---- what comes in
+
+  /** Draws the conclusions from a datagram of others. Why it changes nothing, where it is so.
+   * @param {string} words @param {string} digits @param {string} place @param {string[]} sent gets what the host answers at once
+   * @returns {Promise<string | null>} */
+  async heed(words, digits, place, sent) {
+    const kind = kindOf(words), { member } = this, report = reportOf(words);
+    if (kind === 'draw') return this.heedDrawop(drawopOf(words, digits));
+    if (report) return this.heedReport(report, digits, place);
+    if (speakerOf(words) === member.me) return null;
+    if (kind === 'ask-pages' && member.drawn.total) this.answers.asked(member.board.moment);
+    if (kind !== 'request') return null;
+    const block = await member.board.tell(`datagram ${digits}`);
+    sent.push(...block.sent());
+    return block.fault;
+  }
+
+  // ---- drawops
+
+  /** @param {Drawop} drawop */
+  async heedDrawop(drawop) {
+    const fault = this.refusal(drawop);
+    if (fault === null) await this.take(drawop);
+    return fault;
+  }
+
+  /** Why a drawop is not handed to the host, or not yet.
+   * @param {Drawop} drawop @returns {string | null} */
+  refusal(drawop) {
+    if (this.member.drawn.holds(drawop.page, drawop.name)) return null;
+    this.times.learn(drawop.source, drawop.time);
+    if (drawop.time > this.now() + MINUTE) {
+      this.future.put(drawop);
+      return 'ahead of the clock';
     }
-    const speaker = speakerOf(words), page = reportedPage(words), now = this.member.now();
-    if (speaker === this.member.me) return;
-    const other = this.hear(speaker, now);
-    if (page) this.doubt(page);
-    if (kindOf(words) === 'page-state') this.isAnswered = true;
-    if (kindOf(words) === 'session-message') Object.assign(other, { distance: distanceTold(words, this.member.me, now) ?? other.distance, page });
+    const fault = this.room.fault(drawop);
+    if (fault !== null) this.member.alarms.warn(`${fault}: drawings of member ${drawop.source} are not kept`);
+    return fault;
   }
 
-  /** A member was heard. Who is heard for the first time may have what nobody else had.
-   * @param {number} member @param {number} now */
-  hear(member, now) {
-    const known = this.others.get(member), other = known ?? { at: now, distance: null, page: null };
-    if (!known) this.asking.givenUp.clear();
-    this.others.delete(member);
-    this.others.set(member, Object.assign(other, { at: now }));
-    if (this.others.size > MOST_MEMBERS) this.others.delete([...this.others.keys()][0]);
-    return other;
+  /** Gives the host a drawop, and draws the conclusions from its answer.
+   * @param {Drawop} drawop */
+  async take(drawop) {
+    const { member } = this, { source, page, seq } = drawop, top = member.drawn.top(page, member.me);
+    const told = (await member.board.take(drawop)).lines.join('\n');
+    if (told === NEW) {
+      this.asking.come(drawop);
+      this.doubt(page);
+      if (source === member.me && member.isReady && seq > top) this.meetTwin();
+    } else if (told === CLASH && source === member.me) this.meetTwin();
+    else if (told === CLASH) member.alarms.warn(`two members draw with number ${source}: what they drew differs from member to member`);
+    else if (told === FULL) member.alarms.warn('the board is full: new drawops are not kept');
   }
 
-  /** The members that were heard lately. */
-  present() {
-    const now = this.member.now();
-    return [...this.others].filter(([, { at }]) => now - at < this.patience);
+  /** The drawops whose time has come. */
+  async takeDue() {
+    await this.member.advance();
+    for (const drawop of this.future.due(this.now())) await this.heedDrawop(drawop);
   }
+
+  /** Somebody else has our number: nothing is drawn until this member has another. */
+  meetTwin() {
+    this.hasTwin = true;
+  }
+
+  // ---- reports
+
+  /** Draws the conclusions from a session message or a page state. The host gets of it what sets a timer's distance.
+   * @param {Report} report @param {string} digits @param {string} place @returns {Promise<string | null>} */
+  async heedReport(report, digits, place) {
+    const { member } = this, now = member.board.moment, { sender } = report;
+    if (sender === member.me) {
+      if (report.isSession && !this.ownReports.has(digits)) this.meetTwin();
+      return null;
+    }
+    if (this.heard.hear(sender, place, now)) this.asking.tryAgain();
+    const other = this.heard.others.get(sender);
+    if (!other) return 'too many members';
+    if (report.isSession) {
+      member.wire.learn(place, sender);
+      Object.assign(other, { page: report.page, sent: report.sent, sentAt: now });
+      await this.measure(report);
+    } else {
+      this.questions.isAnswered = true;
+      this.answers.answered(now);
+    }
+    if (other.distance !== null) this.room.vouch(report);
+    await this.heedMarks(report);
+    return null;
+  }
+
+  /** The timers go by the distance that an echo tells, within bounds.
+   * @param {Report} report */
+  async measure(report) {
+    const { member } = this, told = distanceOf(report, member.me, member.board.moment), other = this.heard.others.get(report.sender);
+    if (told === null || !other) return;
+    const was = other.distance === null ? null : bounded(other.distance), is = bounded(told);
+    other.distance = told;
+    if (was === null || Math.abs(was - is) > is / 8) await member.tell(`distance ${report.sender} ${is}`);
+  }
+
+  /** Who reports a number holds it, so it is asked for where it is missing here.
+   * @param {Report} report */
+  async heedMarks({ page, marks, sender }) {
+    const { member } = this, own = marks.get(member.me) ?? 0, top = member.drawn.top(page, member.me);
+    const isBelieved = !member.isReady && own <= top + this.mostLost;
+    if (own > top && isBelieved) await member.board.mark(`page-state ${sender} ${page} ${member.me}=${own}`);
+    else if (own > top) member.alarms.warn('a report tells of a drawing of ours that we did not make');
+    for (const [source, high] of sample([...marks], MOST_MARKS)) {
+      const name = { source, page, seq: high };
+      if ((source === member.me && !isBelieved) || member.drawn.holds(page, `${source} ${page} ${high}`)) continue;
+      await this.stop(this.asking.tell(name, member.drawn.top(page, source)));
+      this.doubt(page);
+    }
+  }
+
+  // ---- what it says by itself
+
+  /** Asks the others which pages there are. */
+  async askPages() {
+    await this.member.advance();
+    await this.member.tell(`say ask-pages ${this.member.me}`);
+    this.questions.asked(this.member.board.now());
+  }
+
+  /** Marks of a page as words: of more than a report has, the next ones in turn.
+   * @param {string} page */
+  async marksOf(page) {
+    let marks = await this.member.board.marks(page);
+    if (marks.length > MARKS) {
+      const after = this.told.get(page) ?? -1, later = marks.filter(([source]) => source > after);
+      marks = (later.length ? later : marks).slice(0, MARKS);
+      this.told.set(page, marks[marks.length - 1][0]);
+    } else this.told.delete(page);
+    return marks.map(([source, high]) => ` ${source}=${high}`).join('');
+  }
+
+  /** The report of the page in view, and each other time of one of the pages that are drawn on, in turn. */
+  async saySession() {
+    const { member, heard, turns } = this;
+    this.sessionAt = member.board.now() + LEAST_INTERVAL; // also where the host breaks off
+    await member.advance();
+    const now = member.board.moment;
+    heard.forget(now);
+    this.turns += 1;
+    const pages = turns % 2 ? member.drawn.drawnPages() : [], page = pages[Math.floor(turns / 2) % (pages.length || 1)] ?? member.page;
+    const echoes = heard.echoes(now).map(([other, sent, held]) => ` ${other}@${sent}+${held}`).join('');
+    const block = await member.tell(`say session-message ${member.me} ${now} ${page}${await this.marksOf(page)}${echoes}`);
+    const members = heard.others.size + 1, size = block.sent().join('').length / 2;
+    this.sessionAt = member.board.now() + sessionInterval(members, size);
+    heard.expect(meanInterval(members, size));
+    this.warnOfRoom();
+  }
+
+  /** Tells when few cells are left. */
+  warnOfRoom() {
+    const { drawn: { total }, board: { cells }, alarms } = this.member;
+    if (this.room.isFull()) alarms.warn(`the board is full: ${total} of ${cells} cells; deletes and restores alone have room`);
+    else if (total * 100 >= cells * NEARLY_FULL) alarms.warn(`the board becomes full: ${total} of ${cells} cells are taken`);
+  }
+
+  /** Page states of some pages, of others the next time. */
+  async answer() {
+    const { member } = this, pages = member.drawn.drawnPages().sort(orderOfPages), start = this.answerTurn % pages.length;
+    this.answers.answered(member.board.moment);
+    await member.advance();
+    for (const page of [...pages.slice(start), ...pages.slice(0, start)].slice(0, PAGES_OF_ANSWER)) {
+      await member.tell(`say page-state ${member.me} ${page}${await this.marksOf(page)}`);
+    }
+    this.answerTurn = start + PAGES_OF_ANSWER;
+    this.answers.answered(member.board.moment);
+  }
+
+  // ---- what it asks for
 
   /** Something may be missing on a page. Of too many pages one is forgotten until it is heard of again.
    * @param {string} page */
@@ -224,50 +340,50 @@ export class Judgement {
     if (this.stale.size > MOST_STALE) this.stale.delete([...this.stale][0]);
   }
 
-  /** Asks the others which pages there are. */
-  async question() {
-    this.questionAt = this.member.now() + this.backoff * between(0.5, 1.5);
-    this.backoff = Math.min(2 * this.backoff, MOST_BACKOFF);
-    await this.member.advance();
-    await this.member.tell(`say ask-pages ${this.member.me}`);
-  }
-
-  /** The session message of the page in view, and each other time of one of the pages that are drawn on, in turn. */
-  async report() {
-    const { member } = this, members = this.present().length + 1, turn = this.reports;
-    this.reports += 1;
-    const pages = turn % 2 ? [...member.drawn.pages.keys()] : [], page = pages[Math.floor(turn / 2) % (pages.length || 1)] ?? member.page;
-    this.reportAt = member.now() + LEAST_INTERVAL;
-    await member.advance();
-    const size = (await member.tell(`session ${page.replace('/', ' ')}`)).sent().join('').length / 2;
-    this.reportAt = member.now() + this.interval(members, size);
-    this.patience = Math.max(GONE_AFTER, GONE_AFTER_INTERVALS * this.mean(members, size));
-  }
-
-  /** Microseconds from one session message of a member to the next, in the mean.
-   * @param {number} members @param {number} size in bytes */
-  mean(members, size) {
-    return Math.max(LEAST_INTERVAL, (members * size * 8 * SECOND) / SHARED_BITS);
-  }
-
-  /** The same at random, so that members do not speak all at once.
-   * @param {number} members @param {number} size */
-  interval(members, size) {
-    return this.mean(members, size) * between(0.5, 1.5);
-  }
-
   /** Asks for what is missing on the pages of which something was heard, and gives up what nobody answers. */
   async look() {
-    const { member, asking } = this, began = member.now();
+    const { member, asking, room } = this, began = performance.now(), members = this.heard.answering();
+    /** @type {Name[]} */
+    const noMore = [];
+    this.lookAt = member.board.now() + SECOND; // also where the host breaks off
     await member.advance();
-    for (const page of [...this.stale].sort((one, other) => Number(other === member.page) - Number(one === member.page)).slice(0, MOST_LOOKS)) {
+    for (const page of [...this.stale].sort((one, other) => Number(other === member.page) - Number(one === member.page)).slice(0, MOST_PAGES)) {
       this.stale.delete(page);
-      asking.learn(page, await member.gaps(page), member.drawn.sources(page));
+      noMore.push(...asking.learn(page, await member.board.gaps(page)));
     }
-    const line = (/** @type {string} */ word, /** @type {Name} */ name) => `${word} ${name.page.replace('/', ' ')} ${name.source} ${name.seq}`;
-    for (const name of asking.nextNames(began)) await member.tell(line('ask', name));
-    for (const name of asking.giveUp(began)) await member.tell(line('stop', name));
-    const now = member.now();
-    this.lookAt = now + Math.max(SECOND / 10, Math.min(20 * (now - began), MOST_REST));
+    const { moment } = member.board, wanted = room.isFull() ? [] : asking.nextNames(moment, members);
+    noMore.push(...room.isFull() ? asking.end() : asking.giveUp(moment, members));
+    for (const name of wanted) await member.tell(lineOf('ask', name));
+    await this.stop(noMore);
+    this.lookAt = member.board.now() + Math.max(SECOND / 10, LOOKS * (performance.now() - began) * 1_000);
+  }
+
+  /** The timers of names that are wanted no more end.
+   * @param {Name[]} names */
+  async stop(names) {
+    for (const name of names) await this.member.tell(lineOf('stop', name));
+  }
+
+  /** A datagram of ours goes out. A report of ours that comes back is nobody else's.
+   * @param {string} digits */
+  went(digits) {
+    if (!digits.startsWith(SESSION)) return;
+    this.ownReports.add(digits);
+    if (this.ownReports.size > MOST_OWN) this.ownReports.delete([...this.ownReports][0]);
+  }
+
+  /** A new host stands in the place of one that broke off: it has no timers, and no distances. */
+  startAgain() {
+    this.asking.end();
+    for (const other of this.heard.others.values()) other.distance = null;
+    for (const page of this.member.drawn.drawnPages()) this.doubt(page);
+  }
+
+  /** Why nothing can be drawn now. */
+  faultOfDrawing() {
+    return this.hasTwin ? 'another member has our number: take a new one' : null;
   }
 }
+
+/** @param {number} distance */
+const bounded = (distance) => Math.min(Math.max(distance, LEAST_DISTANCE), MOST_DISTANCE);

@@ -46,6 +46,14 @@ export class Panel {
     $('help').before(open);
   }
 
+  /** While no datagram is carried, the health of the page is nobody's: the board's own dot would stay green.
+   * @param {{ carried: boolean, phrase: string }} health */
+  take({ carried, phrase }) {
+    if (carried) return;
+    $('phrase').className = $('fold').className = 'lost';
+    $('phrase').textContent = phrase;
+  }
+
   /** Who can draw here, and how others come to. */
   carrying() {
     const { broker } = this.invitation;
@@ -60,8 +68,8 @@ export class Panel {
   }
 
   keeping() {
-    return [make('h2', 'What is kept'), make('p', 'This browser keeps a record of all that the host was given, so that a reload, or a start without '
-      + 'a network, shows the board again. Others have their own. File, Save the record, gives it as a file.')];
+    return [make('h2', 'What is kept'), make('p', 'This browser keeps a record of what was drawn, so that a reload, or a start without a network, '
+      + 'shows the board again. Others have their own. File, Save the record, gives it as a file.')];
   }
 
   proving() {
@@ -101,7 +109,8 @@ export class Panel {
 
   /** @param {string} module */
   begun(module) {
-    this.module.append(` This browser runs ${module}.`);
+    const told = ` This browser runs ${module}.`;
+    if (!this.module.textContent.endsWith(told)) this.module.append(told);
   }
 
   /** The member has ended, and does not come again by itself.

@@ -1,7 +1,28 @@
-/** The record of a member in the browser's own database: every line that its host was given, in their order. */
+/** The record of a member in the browser's own database: the lines that made its board, as `live/record.py` has them in a file.
+ *
+ * It has the line of the board, each drawop that was new, with the moment at which it came, and marks of the member's own number that were
+ * heard at its start. Questions, what was refused, and what others asked for change nothing that is held: they are not there. */
+import { FIRST_TUNING } from './tunings.js';
 
 /** A member of a session, kept: its number is not taken again while its record is there.
  * @typedef {{ session: string, me: number, at: number }} Kept */
+
+/** Milliseconds until lines are written, and after which what could not be written is tried again. */
+const PAUSE = 100, AGAIN = 1_000;
+
+/** A comment that says by which constants the host answers from here on, and for how many members they were chosen. */
+const CONSTANTS = /^# constants ([0-9,]{1,20}) for ([0-9]{1,9}) members /;
+
+/** The lines that change a host: all but comments.
+ * @param {string[]} lines */
+export const actsOf = (lines) => lines.filter((line) => line && !line.startsWith('#'));
+
+/** The constants by which the host answered last, and for how many members they were chosen.
+ * @param {string[]} lines */
+export function constantsOf(lines) {
+  const [, tuning, members] = lines.map((line) => CONSTANTS.exec(line)).findLast((found) => found) ?? ['', FIRST_TUNING, '0'];
+  return { tuning, members: Number(members) };
+}
 
 /** @param {IDBRequest | IDBTransaction} request @returns {Promise<any>} */
 const done = (request) => new Promise((take, fail) => {
@@ -36,13 +57,18 @@ export class Record {
     this.database = database;
     this.session = session;
     this.me = me;
-    /** Lines that wait for the next transaction.
+    /** Lines that are not in the database yet.
      * @type {string[]} */
     this.waiting = [];
-    /** All lines, where there is no database.
+    /** All lines that are, where there is no database.
      * @type {string[]} */
     this.held = [];
+    /** Those that were written last.
+     * @type {string[]} */
+    this.last = [];
     this.parts = 0;
+    this.timer = 0;
+    /** Why it can't be written, where it is so. */
     this.fault = '';
     /** @type {Promise<void>} */
     this.written = Promise.resolve();
@@ -53,26 +79,21 @@ export class Record {
     return IDBKeyRange.bound([this.session, this.me], [this.session, this.me, []]);
   }
 
-  /** All lines, from the first.
-   * @returns {Promise<string[]>} */
+  /** All lines, from the first. */
   async lines() {
-    if (!this.database) return [...this.held, ...this.waiting];
     await this.flush();
-    const texts = await done(this.database.transaction('lines').objectStore('lines').getAll(this.range()));
-    this.parts = texts.length;
-    return texts.join('').split('\n').slice(0, -1);
+    if (!this.database) return [...this.held, ...this.waiting];
+    const store = this.database.transaction('lines').objectStore('lines');
+    const [texts, keys] = await Promise.all([done(store.getAll(this.range())), done(store.getAllKeys(this.range()))]);
+    this.parts = Math.max(this.parts, keys.length ? keys[keys.length - 1][2] + 1 : 0);
+    return [...texts.join('').split('\n').slice(0, -1), ...this.waiting];
   }
 
-  /** The lines that change a host: all but comments. */
-  async acts() {
-    return (await this.lines()).filter((line) => line && !line.startsWith('#'));
-  }
-
-  /** Puts a line into the record. It is in the database when `flush` is done.
-   * @param {string} line */
-  add(line) {
-    if (!this.waiting.length) setTimeout(() => this.flush(), 100);
-    this.waiting.push(line);
+  /** Puts lines into the record. They are in the database soon, or when `flush` is done.
+   * @param {string[]} lines */
+  add(...lines) {
+    this.waiting.push(...lines);
+    this.soon(PAUSE);
   }
 
   /** Adds a comment with the time of day, which changes nothing.
@@ -81,28 +102,76 @@ export class Record {
     this.add(`# ${text} at ${new Date().toISOString().slice(0, 19).replace('T', ' ')}`);
   }
 
-  /** Done when all lines until now are in the database. */
+  /** Puts lines into the database at once, behind those that wait. Whether it has them; else they are not in the record at all.
+   * @param {string[]} lines */
+  async keep(lines) {
+    this.waiting.push(...lines);
+    await this.flush();
+    if (this.fault) this.waiting.splice(-lines.length);
+    return !this.fault;
+  }
+
+  /** Takes off so many of the lines that were written last: nobody was told of them.
+   * @param {number} count */
+  async takeBack(count) {
+    if (!this.database) this.held.splice(-count);
+    else {
+      this.last.splice(-count);
+      await this.put(this.parts - 1, this.last).catch((fault) => this.fail(fault));
+    }
+  }
+
+  /** @param {number} pause */
+  soon(pause) {
+    this.timer ||= setTimeout(() => {
+      this.timer = 0;
+      this.flush();
+    }, pause);
+  }
+
+  /** Done when all lines until now are in the database, or could not be put there. */
   flush() {
     this.written = this.written.then(() => this.write());
     return this.written;
   }
 
   async write() {
-    const lines = this.waiting;
-    this.waiting = [];
+    const lines = [...this.waiting];
     if (!lines.length) return;
-    if (!this.database) {
-      this.held.push(...lines);
-      return;
-    }
     try {
-      const stores = this.database.transaction(['lines', 'members'], 'readwrite');
-      stores.objectStore('lines').put(lines.map((line) => `${line}\n`).join(''), [this.session, this.me, this.parts]);
-      stores.objectStore('members').put({ session: this.session, me: this.me, at: Date.now() });
+      if (this.database) await this.put(this.parts, lines);
+      else this.held.push(...lines);
+      this.waiting.splice(0, lines.length);
       this.parts += 1;
-      await done(stores);
+      this.last = lines;
+      this.fault = '';
     } catch (fault) {
-      this.fault = `the record is not kept: ${fault}`;
+      this.fail(fault);
     }
+  }
+
+  /** @param {any} fault */
+  fail(fault) {
+    this.fault = `the record can't be written (${fault?.message ?? fault})`;
+    this.soon(AGAIN);
+  }
+
+  /** @param {number} part @param {string[]} lines */
+  async put(part, lines) {
+    const stores = /** @type {IDBDatabase} */ (this.database).transaction(['lines', 'members'], 'readwrite');
+    stores.objectStore('lines').put(lines.map((line) => `${line}\n`).join(''), [this.session, this.me, part]);
+    stores.objectStore('members').put({ session: this.session, me: this.me, at: Date.now() });
+    await done(stores);
+  }
+
+  /** Removes it from the database. */
+  async remove() {
+    await this.written;
+    clearTimeout(this.timer);
+    if (!this.database) return;
+    const stores = this.database.transaction(['lines', 'members'], 'readwrite');
+    stores.objectStore('lines').delete(this.range());
+    stores.objectStore('members').delete([this.session, this.me]);
+    await done(stores).catch(() => {});
   }
 }

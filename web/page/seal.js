@@ -56,7 +56,7 @@ export class Seal {
 
 /** A transport whose datagrams are sealed. What does not open is dropped and counted. */
 export class Sealed {
-  /** @param {Seal} seal @param {(bytes: Uint8Array) => void} take */
+  /** @param {Seal} seal @param {import('./transports.js').Take} take */
   constructor(seal, take) {
     this.seal = seal;
     this.hand = take;
@@ -73,10 +73,10 @@ export class Sealed {
     return this.under?.state ?? '';
   }
 
-  /** @param {Uint8Array} sealed */
-  async take(sealed) {
+  /** @param {Uint8Array} sealed @param {string} place */
+  async take(sealed, place) {
     const bytes = await this.seal.open(sealed);
-    if (bytes) this.hand(bytes);
+    if (bytes) this.hand(bytes, place);
     else this.foreign += 1;
   }
 

@@ -22,6 +22,7 @@ function begin() {
     sessionStorage.setItem(place, String(me));
     panel.begun(module);
   });
+  board.session.on('health', (health) => panel.take(health));
   board.session.on('broken', (fault) => panel.broke(fault));
 }
 

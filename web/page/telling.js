@@ -1,17 +1,22 @@
-/** What a member tells the board: the page, the pages, who is there, what is missing and what goes by. */
+/** What a member tells the board: what changed on the page, the pages, who is there, what is missing and what goes by. `live/telling.py`
+ * once more. */
 import { COLUMNS } from './board.js';
-import { fieldsOf } from './views.js';
+import { Sheet } from './drawn.js';
+import { GONE_AFTER, SECOND } from './pacing.js';
+import { fieldsOf, orderOfPages } from './views.js';
+
+/** @typedef {import('./views.js').Drawop} Drawop */
 
 /** The page is told after so many milliseconds at the earliest, and takes at most one part in so many of the time. */
 const LEAST_PAUSE = 15, PART = 6;
 
-/** Milliseconds between two tellings of who is there. */
-const MEMBERS_PAUSE = 500;
+/** Milliseconds between two tellings of who is there, and of the pages. */
+const MEMBERS_PAUSE = 500, PAGES_PAUSE = 100;
+
+/** Milliseconds from a change to the comparison of what is told with the host's view, which takes at most one part in so many of the time. */
+const CHECK_PAUSE = 2_000, CHECK_PART = 50;
 
 const MOST_PAGES = 1_000, MOST_MEMBERS = 500;
-
-/** For so many microseconds it is said that the page was caught up. */
-const REMEMBERED = 60_000_000;
 
 export class Telling {
   /** @param {import('./member.js').Member} member @param {(name: string, news: any) => void} post */
@@ -19,9 +24,17 @@ export class Telling {
     this.member = member;
     this.post = post;
     this.isChanged = true;
-    this.nextAt = 0;
-    this.nextMembers = 0;
+    this.arePagesChanged = true;
+    this.nextAt = this.nextMembers = this.nextPages = this.checkAt = 0;
+    this.isChecked = true;
+    this.differences = 0;
     this.hello = '';
+    this.page = ''; // that was told last
+    /** The drawings that the board was told of, shown or hidden.
+     * @type {Set<string>} */
+    this.names = new Set();
+    /** @type {string[]} */
+    this.rows = [];
     /** @type {Map<string, number>} */
     this.caughtUp = new Map();
     /** @type {Set<string>} */
@@ -30,7 +43,8 @@ export class Telling {
 
   /** Milliseconds until something has to be told. */
   pause() {
-    return Math.max(0, (this.isChanged ? Math.min(this.nextAt, this.nextMembers) : this.nextMembers) - performance.now());
+    const moments = [this.nextMembers, ...this.isChanged ? [this.nextAt] : this.isChecked ? [] : [this.checkAt], ...this.arePagesChanged ? [this.nextPages] : []];
+    return Math.max(0, Math.min(...moments) - performance.now());
   }
 
   /** Tells what has changed, where the last time is long enough ago. */
@@ -41,68 +55,122 @@ export class Telling {
     if (this.isChanged && began >= this.nextAt) {
       this.isChanged = false;
       await this.tellBoard();
-      await this.tellPages();
       const ended = performance.now();
       this.nextAt = ended + Math.max(LEAST_PAUSE, (PART - 1) * (ended - began));
-      this.nextMembers = 0;
+      [this.checkAt, this.isChecked] = [Math.max(this.checkAt, ended + CHECK_PAUSE), false];
+    }
+    if (this.arePagesChanged && began >= this.nextPages) {
+      this.arePagesChanged = false;
+      this.tellPages();
+      this.nextPages = performance.now() + PAGES_PAUSE;
     }
     if (began >= this.nextMembers) {
       this.tellMembers();
       this.tellHealth();
       this.nextMembers = performance.now() + MEMBERS_PAUSE;
     }
+    if (!this.isChecked && !this.isChanged && began >= this.checkAt) await this.check();
   }
 
   tellHello() {
-    const { me, isReady, inbox, transport, options } = this.member;
-    const hello = { me, mode: transport.where, notice: options.notice, ready: isReady, teach: options.teach, worsen: inbox.worse };
+    const { me, isReady, inbox, transport, options, board, judgement } = this.member;
+    const hello = { me, mode: transport.where, notice: options.notice, ready: isReady, teach: options.teach, worsen: inbox.worse, cells: board.cells,
+      twin: judgement.hasTwin, broken: Boolean(board.record.fault) };
     const text = JSON.stringify(hello);
     if (text !== this.hello) this.post('hello', hello);
     this.hello = text;
   }
 
-  /** What a page shows: its drawings in the order of display, what was deleted, and its rows as the host paints them.
+  // ---- the page
+
+  /** The whole of another page, and of the same what changed since. */
+  async tellBoard() {
+    const { page, drawn, board } = this.member, sheet = drawn.sheet(page), rows = await board.canvas(page), { changed } = sheet;
+    sheet.changed = new Map();
+    if (this.page !== page) {
+      this.post('board', this.whole(page, sheet, rows));
+      [this.page, this.arePagesChanged, this.nextMembers, this.nextPages] = [page, true, 0, 0];
+      this.names = new Set([...sheet.shown.map(({ name }) => name), ...sheet.hidden.keys()]);
+    } else if (changed.size || rows.length !== this.rows.length || rows.some((row, y) => row !== this.rows[y])) {
+      this.post('change', this.changeOf(sheet, [...changed.values()], rows));
+    }
+    this.rows = rows;
+  }
+
+  /** What a page shows, which need not be in view: its drawings in the order of display, what was deleted, and its rows as the host paints them.
    * @param {string} page */
   async boardOf(page) {
-    const { board, drawn } = this.member, shown = await board.view(page), rows = await board.canvas(page);
-    return { page, columns: COLUMNS, rows, drawops: shown.map(fieldsOf), hidden: drawn.hidden(page, shown).map(fieldsOf) };
+    return this.whole(page, this.member.drawn.pages.get(page) ?? new Sheet(), await this.member.board.canvas(page));
   }
 
-  async tellBoard() {
-    this.post('board', await this.boardOf(this.member.page));
+  /** @param {string} page @param {Sheet} sheet @param {string[]} rows */
+  whole(page, sheet, rows) {
+    return { page, columns: COLUMNS, rows, drawops: sheet.shown.map(fieldsOf), hidden: [...sheet.hidden.values()].map(fieldsOf) };
   }
 
-  async tellPages() {
-    const { board, page, drawn } = this.member, numbers = (/** @type {string} */ text) => text.split('/').map(Number);
-    const pages = [...new Set([...await board.known(), page])].sort((one, other) => {
-      const [a, b] = [numbers(one), numbers(other)];
-      return a[0] - b[0] || a[1] - b[1];
-    });
-    this.post('pages', { page, pages: pages.slice(0, MOST_PAGES).map((one) => ({ page: one, drawn: drawn.on(one).size })) });
+  /** The names of what changed; where of it stands what is shown now, in the order in which it is put in; what of it is hidden; and the rows
+   * that are other ones.
+   * @param {Sheet} sheet @param {Drawop[]} changed @param {string[]} rows */
+  changeOf(sheet, changed, rows) {
+    const names = changed.filter(({ name }) => this.names.has(name)).map(({ source, seq }) => [source, seq]);
+    const added = changed.filter(({ name }) => !sheet.hidden.has(name)).map((drawop) => /** @type {const} */ ([sheet.index(drawop), drawop]))
+      .sort(([one], [other]) => one - other).map(([at, drawop]) => [at, fieldsOf(drawop)]);
+    for (const { name } of changed) this.names.add(name);
+    const others = rows.map((row, y) => /** @type {const} */ ([y, row])).filter(([y, row]) => row !== this.rows[y]);
+    return { page: this.member.page, names, added, hidden: changed.filter(({ name }) => sheet.hidden.has(name)).map(fieldsOf),
+      rows: Object.fromEntries(others), height: rows.length };
+  }
+
+  /** Compares what is told with the host's view; what differs is told anew, as the host has it. */
+  async check() {
+    const began = performance.now(), { page, drawn, board } = this.member, sheet = drawn.sheet(page), view = await board.view(page);
+    this.isChecked = true;
+    if (!sheet.agrees(view)) {
+      this.differences += 1;
+      sheet.replace(view);
+      [this.page, this.isChanged] = ['', true];
+    }
+    this.checkAt = performance.now() + CHECK_PART * (performance.now() - began);
+  }
+
+  // ---- what stands beside it
+
+  tellPages() {
+    const { page, drawn, judgement } = this.member, told = [...judgement.asking.far.values()].map((name) => name.page);
+    const pages = [...new Set([...drawn.drawnPages(), ...told, page])].sort(orderOfPages).slice(0, MOST_PAGES);
+    this.post('pages', { page, pages: pages.map((one) => ({ page: one, drawn: drawn.count(one) })) });
   }
 
   tellMembers() {
-    const { me, judgement } = this.member, now = this.member.now();
-    const told = judgement.present().sort(([one], [other]) => one - other).map(([member, { at, distance, page }]) => (
-      { member, distance: distance === null ? null : distance / 1000, heard: Math.round((now - at) / 100_000) / 10, page }));
+    const { me, judgement, board } = this.member, now = board.now();
+    const told = [...judgement.heard.present(now)].sort(([one], [other]) => one - other).map(([member, { at, distance, page }]) => (
+      { member, distance: distance === null ? null : distance / 1_000, heard: Math.round((now - at) / 100_000) / 10, page }));
     this.post('members', { me, members: told.slice(0, MOST_MEMBERS) });
   }
 
   tellHealth() {
     const { page, judgement, wire, inbox, board, transport } = this.member, { missing, asking, givenUp } = judgement.asking.counts(page);
     if (missing) this.missing.add(page);
-    else if (this.missing.delete(page)) this.caughtUp.set(page, this.member.now());
-    const counts = { ...wire.counts, dropped: inbox.dropped, foreign: transport.foreign ?? 0, starts: 1 + board.ends.length };
-    const warnings = [...this.member.warnings, transport.state, board.record.fault].filter(Boolean);
-    this.post('health', { page, phrase: transport.state || this.phrase(missing, asking, givenUp), missing, asking, given_up: givenUp, warnings, counts });
+    else if (this.missing.delete(page)) this.caughtUp.set(page, board.now());
+    const counts = { ...wire.counts, dropped: inbox.dropped, foreign: transport.foreign ?? 0, starts: 1 + board.ends.length, differences: this.differences };
+    const phrase = transport.state || this.phrase(missing, asking, givenUp);
+    this.post('health', { page, phrase, missing, asking, given_up: givenUp, warnings: this.warnings(), counts, carried: !transport.state });
+  }
+
+  /** What lasts stands behind what goes. */
+  warnings() {
+    const { alarms, judgement, me, board } = this.member;
+    const twin = judgement.hasTwin ? `another member has our number ${me}: nothing is drawn until this member has a new one` : '';
+    const broken = board.record.fault && `${board.record.fault}: nothing is drawn until there is room`;
+    return [...alarms.told(), twin, broken].filter(Boolean);
   }
 
   /** The health of the page in one phrase.
    * @param {number} missing @param {number} asking @param {number} givenUp */
   phrase(missing, asking, givenUp) {
     if (missing) return `${missing} missing${givenUp ? `, ${givenUp} given up` : asking ? ', asking' : ''}`;
-    const passed = this.member.now() - (this.caughtUp.get(this.member.page) ?? -REMEMBERED);
-    if (passed < REMEMBERED) return `caught up ${Math.floor(passed / 1_000_000)} s ago`;
-    return this.member.judgement.present().length ? 'whole' : 'whole; nobody else is heard';
+    const now = this.member.board.now(), passed = now - (this.caughtUp.get(this.member.page) ?? -GONE_AFTER);
+    if (passed < GONE_AFTER) return `caught up ${Math.floor(passed / SECOND)} s ago`;
+    return this.member.judgement.heard.present(now).size ? 'whole' : 'whole; nobody else is heard';
   }
 }

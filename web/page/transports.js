@@ -1,7 +1,10 @@
 /** What carries datagrams between members: the tabs of one browser, or a topic of an MQTT broker. They may lose, repeat and
  * reorder them, so nothing is sent twice here. */
 
-/** What a member needs of a transport. Each is given, as it begins, what takes the bytes that come from others.
+/** Is given the bytes that come from others, and from where, where that is told.
+ * @typedef {(bytes: Uint8Array, place: string) => void} Take */
+
+/** What a member needs of a transport. Each is given, as it begins, what takes the bytes.
  * @typedef {object} Transport
  * @property {(bytes: Uint8Array) => void} send   to all others
  * @property {() => void} end
@@ -10,10 +13,10 @@
 
 /** The tabs of one browser that have this page open, by a channel of the browser's own. */
 export class Tabs {
-  /** @param {string} session @param {(bytes: Uint8Array) => void} take */
+  /** @param {string} session @param {Take} take */
   constructor(session, take) {
     this.channel = new BroadcastChannel(`wb ${session}`);
-    this.channel.onmessage = ({ data }) => { if (data instanceof Uint8Array) take(data); };
+    this.channel.onmessage = ({ data }) => { if (data instanceof Uint8Array) take(data, ''); };
     this.where = `the tabs of this browser, session ${session}`;
     this.state = '';
   }
@@ -29,10 +32,19 @@ export class Tabs {
 }
 
 /** Kinds of packets of MQTT 3.1.1, each with its flags. */
-const CONNECT = 0x10, CONNACK = 0x20, PUBLISH = 0x30, SUBSCRIBE = 0x82, SUBACK = 0x90, PINGREQ = 0xc0, DISCONNECT = 0xe0;
+const CONNECT = 0x10, CONNACK = 0x20, PUBLISH = 0x30, SUBSCRIBE = 0x82, SUBACK = 0x90, PINGREQ = 0xc0;
 
-/** Seconds between two signs of life, as the broker is told; the page gives one in half of them. */
+/** How a member comes: without what the broker kept of it, with a last will, a name, and a password. */
+const WITH_WILL = 6, WITH_NAME = 0x80, WITH_PASSWORD = 0x40;
+
+/** Seconds between two signs of life, as the broker is told. */
 const KEEP_ALIVE = 60;
+
+/** Milliseconds between two signs of life of ours, and of the broker's silence after which it is taken for gone: it answers each. */
+const BEAT = 10_000, SILENCE = 25_000;
+
+/** Datagrams of ours that are told apart when the broker brings them back. */
+const MOST_RECENT = 256;
 
 /** Milliseconds from a loss to the next try: the first and the greatest. */
 const FIRST_PAUSE = 500, MOST_PAUSE = 30_000;
@@ -43,7 +55,7 @@ const MOST_WAITING = 1 << 20, MOST_PACKET = 1 << 18;
 /** Why a broker refuses, by the number that it gives. */
 const REFUSALS = ['', 'it knows no MQTT 3.1.1', 'it does not take this name', 'it is not available', 'the name or the password is wrong', 'it does not allow it'];
 
-const encoder = new TextEncoder(), decoder = new TextDecoder();
+const encoder = new TextEncoder(), decoder = new TextDecoder(), latin = new TextDecoder('latin1');
 
 /** A text of MQTT: its length in two bytes, and its bytes.
  * @param {string} words @returns {number[]} */
@@ -96,43 +108,71 @@ export class Packets {
   }
 }
 
-/** A broker of MQTT 3.1.1 over WebSockets, at most once (QoS 0), which is what a datagram is. A member publishes under a topic of
- * its own, so that what comes back of ours is known by that. */
+/** The name under which a member speaks at a broker: that by which the broker knows it, or one that nobody else has.
+ * @param {string} address @param {number} me */
+export function nameAt(address, me) {
+  return decodeURIComponent(new URL(address).username) || `${me}-${crypto.getRandomValues(new Uint32Array(1))[0].toString(36)}`;
+}
+
+/** A broker of MQTT 3.1.1 over WebSockets, at most once (QoS 0), which is what a datagram is. What it brings back of ours is known by its
+ * topic and its bytes: where the broker gives each name one topic, two devices of one name have the same. */
 export class Broker {
   /** @param {string} address with a name and a password where the broker asks for them
-   * @param {string} session @param {number} me @param {(bytes: Uint8Array) => void} take */
-  constructor(address, session, me, take) {
+   * @param {string} session @param {string} name under which this member speaks
+   * @param {Uint8Array} will what the broker tells the others when this member is gone
+   * @param {Take} take */
+  constructor(address, session, name, will, take) {
     const url = new URL(address);
-    this.name = decodeURIComponent(url.username);
-    this.password = decodeURIComponent(url.password);
+    this.login = [url.username, url.password].map(decodeURIComponent);
     [url.username, url.password, url.hash] = ['', '', ''];
     this.address = url.href;
+    this.client = `wb-${crypto.getRandomValues(new BigUint64Array(1))[0].toString(36)}`;
     this.topics = `wb/${session}/+`;
-    this.own = `wb/${session}/${this.name || me}`;
-    this.client = `wb-${me}-${crypto.getRandomValues(new Uint32Array(1))[0].toString(36)}`;
+    this.own = `wb/${session}/${name}`;
+    this.will = will;
     this.take = take;
     this.where = `the broker ${url.host}, session ${session}`;
     this.pause = FIRST_PAUSE;
     this.isEnded = false;
     this.state = '';
+    /** Datagrams of ours that were sent last.
+     * @type {Set<string>} */
+    this.recent = new Set();
+    this.heardAt = performance.now();
     this.socket = this.open();
-    this.beat = setInterval(() => this.put(packet(PINGREQ)), KEEP_ALIVE * 500);
+    this.beat = setInterval(() => this.sign(), BEAT);
   }
 
   /** A new connection, which asks for the session's topics. */
   open() {
     const socket = new WebSocket(this.address, 'mqtt'), packets = new Packets();
-    this.state = 'connecting to the broker';
+    if (!this.state) this.state = 'connecting to the broker';
+    this.heardAt = performance.now();
     socket.binaryType = 'arraybuffer';
-    const secret = this.name ? (this.password ? 0xc0 : 0x80) : 0, texts = [this.client, this.name, this.password].filter((words, i) => !i || words);
-    socket.onopen = () => this.put(packet(CONNECT, text('MQTT'), [4, secret | 2, 0, KEEP_ALIVE], ...texts.map(text)));
+    socket.onopen = () => this.put(this.greeting());
     socket.onmessage = ({ data }) => this.hear(packets, new Uint8Array(data));
     socket.onclose = () => this.lose();
     return socket;
   }
 
+  /** The packet that begins: who connects, and what is to be told when it is gone. */
+  greeting() {
+    const [name, password] = this.login, flags = WITH_WILL | (name ? WITH_NAME : 0) | (name && password ? WITH_PASSWORD : 0);
+    const login = [name, password].filter((words, i) => words && (!i || name)).map(text);
+    return packet(CONNECT, text('MQTT'), [4, flags, 0, KEEP_ALIVE], text(this.client), text(this.own), [this.will.length >> 8, this.will.length & 255], this.will, ...login);
+  }
+
+  /** Gives a sign of life. A broker that has given none for long is gone, though its connection may seem to stand. */
+  sign() {
+    if (performance.now() - this.heardAt < SILENCE) this.put(packet(PINGREQ));
+    else if (this.socket.onclose) this.lose();
+  }
+
   /** The connection was lost, or there was none: another try, after a pause that grows. */
   lose() {
+    const { socket } = this;
+    [socket.onopen, socket.onmessage, socket.onclose] = [null, null, null];
+    socket.close();
     if (this.isEnded) return;
     if (!this.state.startsWith('refused')) this.state = 'the broker does not answer';
     setTimeout(() => { if (!this.isEnded) this.socket = this.open(); }, this.pause * (0.5 + Math.random()));
@@ -141,11 +181,12 @@ export class Broker {
 
   /** @param {Packets} packets @param {Uint8Array} bytes */
   hear(packets, bytes) {
+    this.heardAt = performance.now();
     try {
       packets.add(bytes);
       for (let found = packets.next(); found; found = packets.next()) this.answer(found);
     } catch {
-      this.socket.close();
+      this.lose();
     }
   }
 
@@ -153,14 +194,21 @@ export class Broker {
   answer({ kind, body }) {
     if (kind === CONNACK && body[1]) {
       this.state = `refused by the broker: ${REFUSALS[body[1]] ?? body[1]}`;
-      this.socket.close();
+      this.lose();
     } else if (kind === CONNACK) this.put(packet(SUBSCRIBE, [0, 1], text(this.topics), [0]));
     else if (kind === SUBACK && body[2] > 2) this.state = 'refused by the broker: it does not let us hear this session';
     else if (kind === SUBACK) [this.state, this.pause] = ['', FIRST_PAUSE];
-    else if ((kind & 0xf0) === PUBLISH) {
-      const behind = 2 + ((body[0] << 8) | body[1]);
-      if (decoder.decode(body.subarray(2, behind)) !== this.own) this.take(body.slice(behind));
-    }
+    else if ((kind & 0xf0) === PUBLISH) this.publish(kind, body);
+  }
+
+  /** Somebody has published something under the session's topics.
+   * @param {number} kind @param {Uint8Array} body */
+  publish(kind, body) {
+    const behind = 2 + ((body[0] << 8) | body[1]), topic = decoder.decode(body.subarray(2, behind)), quality = kind & 6;
+    // what a broker keeps for those who come later is no datagram
+    if (kind & 1) return;
+    const bytes = body.slice(behind + (quality ? 2 : 0));
+    if (topic !== this.own || !this.recent.has(latin.decode(bytes))) this.take(bytes, topic);
   }
 
   /** Hands bytes to the network, where it carries and not too many wait.
@@ -171,13 +219,16 @@ export class Broker {
 
   /** @param {Uint8Array} bytes */
   send(bytes) {
-    if (!this.state) this.put(packet(PUBLISH, text(this.own), bytes));
+    if (this.state) return;
+    this.recent.add(latin.decode(bytes));
+    if (this.recent.size > MOST_RECENT) this.recent.delete([...this.recent][0]);
+    this.put(packet(PUBLISH, text(this.own), bytes));
   }
 
+  /** Without the packet that says goodbye, so that the broker tells the others. */
   end() {
     this.isEnded = true;
     clearInterval(this.beat);
-    this.put(packet(DISCONNECT));
     this.socket.close();
   }
 }

@@ -2,15 +2,22 @@
 
 /** @typedef {import('../../live/page/types.js').Drawing} Drawing */
 
-/** A drawop, as its words say. `page` is spelled C/N, as everywhere.
- * @typedef {{ source: number, page: string, seq: number, time: number, operation: string[], words: string }} Drawop */
+/** A drawop, as its words say. `page` is spelled C/N, as everywhere; `name` is its source, page and number; `digits` are its datagram.
+ * @typedef {{ name: string, source: number, page: string, seq: number, time: number, operation: string[], words: string, digits: string }} Drawop */
+
+/** A name that is asked for.
+ * @typedef {{ source: number, page: string, seq: number }} Name */
+
+/** What a session message or a page state tells: the page, the greatest number of each source, and of whom the sender heard: the moment that
+ * was told, and how long ago. `sent` is as it was spelled.
+ * @typedef {{ isSession: boolean, sender: number, sent: string, page: string, marks: Map<number, number>, echoes: Map<number, [number, number]> }} Report */
 
 /** The drawop of the words `draw SOURCE PAGE SEQ TIME ..`, as the program spells them.
- * @param {string} words @returns {Drawop} */
-export function drawopOf(words) {
+ * @param {string} words @param {string} [digits] @returns {Drawop} */
+export function drawopOf(words, digits = '') {
   const [, source, page, seq, time] = words.split(' ', 5), rest = words.split(' ').slice(5);
   const operation = rest[0] === 'text' ? [...rest.slice(0, 3), rest.slice(3).join(' ')] : rest;
-  return { source: Number(source), page, seq: Number(seq), time: Number(time), operation, words };
+  return { name: `${source} ${page} ${seq}`, source: Number(source), page, seq: Number(seq), time: Number(time), operation, words, digits };
 }
 
 /** It puts glyphs on the page: it is no delete and no restore.
@@ -19,7 +26,7 @@ export function isDrawing({ operation }) {
   return ['line', 'frame', 'text'].includes(operation[0]);
 }
 
-/** @param {Drawop} drawop */
+/** @param {Name} name */
 export const nameOf = ({ source, page, seq }) => `${source} ${page} ${seq}`;
 
 /** What a board gets of a drawing.
@@ -53,67 +60,40 @@ export function nameIn(words) {
   return parts[0] === 'request' ? parts.slice(2, 5).join(' ') : null;
 }
 
-/** The page that a session message or a page state reports on.
- * @param {string} words @returns {string | null} */
-export function reportedPage(words) {
-  const parts = words.split(' ', 4);
-  if (parts[0] === 'session-message') return parts[3];
-  return parts[0] === 'page-state' ? parts[2] : null;
+/** The report of a session message or a page state; null of another datagram.
+ * @param {string} words @returns {Report | null} */
+export function reportOf(words) {
+  const [kind, sender, ...rest] = words.split(' '), isSession = kind === 'session-message';
+  if (!isSession && kind !== 'page-state') return null;
+  const sent = isSession ? String(rest.shift()) : '', page = String(rest.shift());
+  /** @type {Report} */
+  const report = { isSession, sender: Number(sender), sent, page, marks: new Map(), echoes: new Map() };
+  for (const word of rest) {
+    const [member, told, held] = word.split(/[@+=]/).map(Number);
+    if (word.includes('@')) report.echoes.set(member, [told, held]);
+    else report.marks.set(member, told);
+  }
+  return report;
 }
 
-/** The microseconds to the sender of a session message, by its echo of ours, where one tells them.
- * @param {string} words @param {number} me @param {number} now @returns {number | null} */
-export function distanceTold(words, me, now) {
-  const echo = words.split(' ').findLast((word) => word.startsWith(`${me}@`));
-  if (!echo) return null;
-  const [sent, held] = echo.slice(`${me}@`.length).split('+').map(Number), passed = now - sent;
-  return held >= 0 && held <= passed && passed < 2 ** 25 ? Math.floor((passed - held) / 2) : null;
+/** The microseconds to the sender of a report, by its echo of ours, where it has one.
+ * @param {Report} report @param {number} me @param {number} now @returns {number | null} */
+export function distanceOf({ echoes }, me, now) {
+  const [sent, held] = echoes.get(me) ?? [now + 1, 0], passed = now - sent;
+  return held <= passed && passed < 2 ** 25 ? Math.floor((passed - held) / 2) : null;
 }
 
 /** The words of a page for a line: `C N`.
  * @param {string} page */
 export const pageWords = (page) => page.replace('/', ' ');
 
-/** The drawops that the host was given, by page: a view has only those that are shown now. */
-export class Drawn {
-  constructor() {
-    /** @type {Map<string, Map<string, Drawop>>} */
-    this.pages = new Map();
-    this.count = 0;
-  }
+/** The creator and the number of a page.
+ * @param {string} page */
+export const pageNumbers = (page) => page.split('/').map(Number);
 
-  /** @param {Drawop} drawop */
-  add(drawop) {
-    const held = this.pages.get(drawop.page) ?? new Map();
-    this.pages.set(drawop.page, held);
-    if (held.has(nameOf(drawop))) return;
-    held.set(nameOf(drawop), drawop);
-    this.count += 1;
-  }
-
-  /** @param {string} page */
-  on(page) {
-    return this.pages.get(page) ?? new Map();
-  }
-
-  /** The latest time on a page. One that lies an hour ahead or more is not believed.
-   * @param {string} page @param {number} now */
-  latest(page, now) {
-    let latest = 0;
-    for (const { time } of this.on(page).values()) if (time > latest && time < now + 3_600_000_000) latest = time;
-    return latest;
-  }
-
-  /** @param {string} page @returns {Set<number>} */
-  sources(page) {
-    return new Set([...this.on(page).values()].map(({ source }) => source));
-  }
-
-  /** The drawings of a page that were deleted.
-   * @param {string} page @param {Drawop[]} shown */
-  hidden(page, shown) {
-    const names = new Set(shown.map(nameOf));
-    return [...this.on(page).values()].filter((drawop) => !names.has(nameOf(drawop)) && isDrawing(drawop))
-      .sort((one, other) => one.source - other.source || one.seq - other.seq);
-  }
+/** By their creators, and then by their numbers.
+ * @param {string} one @param {string} other */
+export function orderOfPages(one, other) {
+  const [a, b] = [pageNumbers(one), pageNumbers(other)];
+  return a[0] - b[0] || a[1] - b[1];
 }

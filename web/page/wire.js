@@ -6,10 +6,16 @@ import { kindOf, nameIn, speakerOf } from './views.js';
 /** Characters of a datagram that are told, requests that are remembered, and entries that wait to be told. */
 const MOST_CHARACTERS = 400, MOST_REMEMBERED = 1_024, MOST_ENTRIES = 600;
 
+/** What came in: from where, and what was done to it on purpose.
+ * @typedef {{ place: string, isLost: boolean, isSecond: boolean }} Came */
+
 export class Wire {
   constructor() {
     this.began = performance.now();
     this.last = 0;
+    /** Which member sends from a place.
+     * @type {Map<string, number>} */
+    this.places = new Map();
     /** @type {Map<string, number>} */
     this.requests = new Map();
     this.counts = { in: 0, out: 0, lost: 0, twice: 0, refused: 0, requests: 0, repairs: 0 };
@@ -18,25 +24,33 @@ export class Wire {
     this.entries = [];
   }
 
-  /** @param {'in' | 'out'} way @param {string | null} words @returns {Entry} */
-  entry(way, words) {
+  /** A member sends from a place.
+   * @param {string} place @param {number} member */
+  learn(place, member) {
+    if (!place) return;
+    if (this.places.size >= MOST_REMEMBERED) this.places.clear();
+    this.places.set(place, member);
+  }
+
+  /** @param {'in' | 'out'} way @param {string | null} words @param {string} [place] @returns {Entry} */
+  entry(way, words, place = '') {
     this.last += 1;
     const text = words ?? '', name = nameIn(text), kind = kindOf(text) || 'bad';
     return {
       id: this.last, at: Math.round(performance.now() - this.began) / 1000, way, kind,
       words: text.length > MOST_CHARACTERS ? `${text.slice(0, MOST_CHARACTERS)} ..` : text,
       member: text ? speakerOf(text) : null, name, answers: kind === 'draw' && name ? this.requests.get(name) ?? null : null,
-      lost: false, twice: false, refused: null, by: null,
+      lost: false, twice: false, refused: null, by: this.places.get(place) ?? null,
     };
   }
 
   /** A datagram came in, and what became of it.
-   * @param {string | null} words @param {{ isLost: boolean, isSecond: boolean }} arrival @param {string | null} refused */
-  came(words, { isLost, isSecond }, refused) {
+   * @param {string | null} words @param {Came} arrival @param {string | null} refused */
+  came(words, { place, isLost, isSecond }, refused) {
     this.counts.in += 1;
     this.counts.lost += Number(isLost);
     this.counts.twice += Number(isSecond);
-    this.tell({ ...this.entry('in', words), lost: isLost, twice: isSecond, refused });
+    this.tell({ ...this.entry('in', words, place), lost: isLost, twice: isSecond, refused });
   }
 
   /** A datagram went out.

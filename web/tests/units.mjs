@@ -1,32 +1,20 @@
 // Tests what the scripts of the page do by themselves, under Node. The last line is 'N passed, M failed'.
 import crypto from 'node:crypto';
-import { Asking, Judgement } from '../page/judgement.js';
+import { Alarms } from '../page/alarms.js';
+import { Drawn, Sheet } from '../page/drawn.js';
 import { Block } from '../page/host.js';
 import { Inbox } from '../page/inbox.js';
 import { newName, readInvitation, writeInvitation } from '../page/invitation.js';
+import { Presence, isAside, pointOf, readGone, readPoint, writeGone, writePoint } from '../page/presence.js';
+import { Record, actsOf, constantsOf } from '../page/record.js';
 import { Seal, keyBytes, newKey } from '../page/seal.js';
-import { Packets, packet } from '../page/transports.js';
-import { Drawn, distanceTold, drawopOf, fieldsOf, nameIn, reportedPage, speakerOf } from '../page/views.js';
+import { tuningFor } from '../page/tunings.js';
+import { distanceOf, drawopOf, fieldsOf, nameIn, orderOfPages, reportOf, speakerOf } from '../page/views.js';
 import { Wire } from '../page/wire.js';
-
-let passed = 0, failed = 0;
-
-function judge(name, found, wanted) {
-  if (JSON.stringify(found) === JSON.stringify(wanted)) passed += 1;
-  else {
-    failed += 1;
-    console.log(`test ${name}: ${JSON.stringify(found)}, not ${JSON.stringify(wanted)}`);
-  }
-}
-
-function fault(act) {
-  try {
-    act();
-    return 'none';
-  } catch (it) {
-    return it.message;
-  }
-}
+import { toldBy } from '../page/words.js';
+import { testBrokers, testPackets } from './brokers.mjs';
+import { counts, fault, judge } from './judge.mjs';
+import { testAsking, testJudgement, testPacing, testTimes } from './judging.mjs';
 
 function testBlocks() {
   const taken = new Block(['send 01ff', 'batch 1 0 0 0'], 'ok 34890'), refused = new Block([], 'refused word 3');
@@ -40,19 +28,38 @@ function testWords() {
   judge('a text', fieldsOf(text), { source: 7, seq: 3, time: '12', op: 'text', words: text.words, x: 0, y: 2, text: 'a "b" \\ c' });
   judge('a line', fieldsOf(line), { source: 4294967295, seq: 65535, time: '18446744073709551615', op: 'line', words: line.words, x0: 0, y0: 1, x1: 4, y1: 2, glyph: '*' });
   judge('a name', nameIn('request 9 7 7/1 2'), '7 7/1 2');
-  judge('a report', [reportedPage('session-message 9 5 7/1 7=2 1@4+2'), reportedPage('page-state 9 7/2'), reportedPage('ask-pages 9')], ['7/1', '7/2', null]);
   judge('a speaker', speakerOf('ask-pages 9'), 9);
-  judge('a distance', distanceTold('session-message 9 5 7/1 7=2 1@100+20', 1, 200), 40);
-  judge('no distance to others', distanceTold('session-message 9 5 7/1 11@100+20', 1, 200), null);
-  judge('no distance of what lies ahead', [distanceTold('session-message 9 5 7/1 1@300+0', 1, 200), distanceTold('session-message 9 5 7/1 1@100+101', 1, 200)], [null, null]);
+  judge('a fault of words', [toldBy('# line 1: word 2: datagram 4'), toldBy('send ask-pages 9')], [{ words: null, fault: 'datagram 4' }, { words: 'ask-pages 9', fault: null }]);
+  judge('pages by their numbers', ['10/1', '9/2', '9/10'].sort(orderOfPages), ['9/2', '9/10', '10/1']);
 }
 
+function testReports() {
+  const report = reportOf('session-message 9 18446744073709551615 7/1 7=2 8=3 1@100+20 2@7+0');
+  judge('a report', [report.isSession, report.sender, report.sent, report.page, [...report.marks]], [true, 9, '18446744073709551615', '7/1', [[7, 2], [8, 3]]]);
+  judge('a distance', distanceOf(report, 1, 200), 40);
+  judge('no distance to others', distanceOf(report, 11, 200), null);
+  judge('no distance of what lies ahead', [[300, 0], [100, 101]].map(([sent, held]) => distanceOf(reportOf(`session-message 9 5 7/1 1@${sent}+${held}`), 1, 200)), [null, null]);
+  judge('a page state', [...reportOf('page-state 9 7/2 8=4').marks], [[8, 4]]);
+  judge('what is no report', [reportOf('ask-pages 9'), reportOf('draw 7 7/1 1 5 line 0 0 1 1 *')], [null, null]);
+}
+
+const LINES = ['draw 7 7/1 1 10 line 0 1 4 1 *', 'draw 7 7/1 2 90 line 0 1 4 1 *', 'draw 8 7/1 1 50 delete 7 1', 'draw 8 7/1 2 60 restore 7 1',
+  'draw 9 7/1 1 60 delete 7 1', 'draw 7 7/1 3 5 frame 0 0 4 1 +'];
+
 function testDrawn() {
-  const drawn = new Drawn(), words = ['draw 8 7/1 1 5 line 0 0 1 1 *', 'draw 7 7/1 2 9 frame 0 0 1 1 *', 'draw 7 7/1 1 4 text 0 0 "x"', 'draw 7 7/1 3 3 delete 7 1'];
-  words.map(drawopOf).forEach((drawop) => { drawn.add(drawop); drawn.add(drawop); });
-  judge('each once', [drawn.count, drawn.on('7/1').size, drawn.on('7/2').size], [4, 4, 0]);
-  judge('hidden ones by source and number', drawn.hidden('7/1', [drawopOf(words[1])]).map(({ words: its }) => its), [words[2], words[0]]);
-  judge('the latest time, but for what lies an hour ahead', [drawn.latest('7/1', 0), drawn.latest('7/1', -3_600_000_000 + 9)], [9, 5]);
+  for (let round = 0; round < 20; round += 1) {
+    const sheet = new Sheet(), order = [...LINES].sort(() => Math.random() - 0.5);
+    order.map((words) => drawopOf(words)).forEach((drawop) => { sheet.add(drawop); sheet.add(drawop); });
+    judge('what is shown, in any order of coming', sheet.shown.map(({ words }) => words), [LINES[5], LINES[1]]);
+    judge('and what is hidden', [...sheet.hidden.keys()], ['7 7/1 1']);
+  }
+  const drawn = new Drawn();
+  LINES.forEach((words) => { drawn.add(drawopOf(words)); drawn.add(drawopOf(words)); });
+  judge('each once', [drawn.total, drawn.count('7/1'), drawn.count('7/2'), drawn.bySource.get(7)], [6, 6, 0, 3]);
+  judge('the greatest numbers', [drawn.top('7/1', 7), drawn.top('7/1', 1), drawn.holds('7/1', '8 7/1 2'), drawn.holds('7/2', '8 7/2 2')], [3, 0, true, false]);
+  judge('the latest time, and below a bound', [drawn.latest('7/1', 100), drawn.latest('7/1', 59), drawn.latest('7/2', 9)], [90, 50, 0]);
+  const sheet = drawn.sheet('7/1'), view = [LINES[5], LINES[0], LINES[1]].map((words) => drawopOf(words));
+  judge('what differs from the host is seen', [sheet.agrees(view), (sheet.replace(view), sheet.agrees(view)), sheet.hidden.size], [false, true, 0]);
 }
 
 function testInvitations() {
@@ -80,26 +87,6 @@ async function testSeal() {
   judge('a key that is none', fault(() => keyBytes('abcd')), 'a key has 32 bytes');
 }
 
-/** The packets that come out of bytes that come in parts of one size. */
-function parted(bytes, size) {
-  const packets = new Packets(), found = [];
-  for (let at = 0; at < bytes.length; at += size) {
-    packets.add(bytes.subarray(at, at + size));
-    for (let it = packets.next(); it; it = packets.next()) found.push([it.kind, it.body.length]);
-  }
-  return found;
-}
-
-function testPackets() {
-  judge('a packet without a body', [...packet(0xc0)], [0xc0, 0]);
-  judge('lengths of one and two bytes', [[...packet(0x30, new Uint8Array(127)).subarray(0, 2)], [...packet(0x30, new Uint8Array(200)).subarray(0, 3)]], [[0x30, 127], [0x30, 200, 1]]);
-  const parts = [packet(0x20, [0, 0]), packet(0x30, new Uint8Array(70_000)), packet(0xd0), packet(0x30, [1], [2, 3])];
-  const bytes = new Uint8Array(Buffer.concat(parts)), wanted = [[0x20, 2], [0x30, 70_000], [0xd0, 0], [0x30, 3]];
-  for (const size of [1, 7, 4_096, bytes.length]) judge(`packets in parts of ${size}`, parted(bytes, size), wanted);
-  judge('a packet that is too long', fault(() => parted(new Uint8Array([0x30, 255, 255, 255, 127]), 5)), 'a packet that is too long');
-  judge('a length that does not end', fault(() => parted(new Uint8Array([0x30, 128, 128, 128, 128, 128]), 6)), 'a packet that is too long');
-}
-
 function testInbox() {
   const inbox = new Inbox();
   for (let i = 0; i < 2_100; i += 1) inbox.take(new Uint8Array([i & 255]));
@@ -114,46 +101,72 @@ function testInbox() {
 }
 
 function testWire() {
-  const wire = new Wire(), plain = { isLost: false, isSecond: false };
+  const wire = new Wire(), plain = { place: 'wb/a/b', isLost: false, isSecond: false };
+  wire.learn('wb/a/b', 9);
   wire.came('request 9 7 7/1 2', plain, null);
   wire.went('draw 7 7/1 2 11 text 0 1 "found"');
-  wire.came('draw 7 7/1 3 11 line 0 0 1 1 *', { isLost: true, isSecond: false }, null);
+  wire.came('draw 7 7/1 3 11 line 0 0 1 1 *', { place: '', isLost: true, isSecond: false }, null);
   wire.came(null, plain, 'datagram 1');
-  const [, repair, lost, bad] = wire.taken();
+  const [request, repair, lost, bad] = wire.taken();
+  judge('who sends from a place', [request.by, lost.by], [9, null]);
   judge('a repair answers its request', [repair.answers, lost.lost, bad.kind, bad.refused], [1, true, 'bad', 'datagram 1']);
   judge('what went by', wire.counts, { in: 3, out: 1, lost: 1, twice: 0, refused: 1, requests: 0, repairs: 1 });
 }
 
-function testAsking() {
-  const asking = new Asking();
-  asking.learn('7/1', [{ source: 7, first: 1, last: 100 }, { source: 9, first: 1, last: 100 }], new Set([7]));
-  const first = asking.nextNames(0);
-  judge('sixty-four at a time, those of known sources first', [first.length, first.filter(({ source }) => source === 9).length], [64, 0]);
-  judge('no more until some came', asking.nextNames(0).length, 0);
-  asking.learn('7/1', [{ source: 9, first: 1, last: 100 }], new Set([7]));
-  judge('half the room for strangers', asking.nextNames(0).length, 32);
-  judge('given up after a minute', [asking.giveUp(59_999_999).length, asking.giveUp(60_000_000).length, asking.counts('7/1')], [0, 32, { missing: 100, asking: 0, givenUp: 32 }]);
-  judge('others are asked for then', asking.nextNames(60_000_001)[0].seq, 33);
+function testPresence() {
+  const point = { member: 4_000_000_000, page: '7/4294967295', cell: [12, 4_095], begun: ['line 0 0 4 4 *', 'text 1 2 "a"'] }, bytes = writePoint(point);
+  judge('a point as Python writes it', Buffer.from(writePoint({ member: 258, page: '7/9', cell: [3, 515], begun: ['line 0 0 4 4 *'] })).toString('hex'),
+    `57500100000001020000000700000009000302036c696e652030203020342034202a0a`);
+  judge('a point there and back', readPoint(bytes), point);
+  judge('nowhere', readPoint(writePoint({ ...point, cell: null, begun: [] })), { ...point, cell: null, begun: [] });
+  judge('it is no datagram of a host', [isAside(bytes), isAside(writeGone('ann')), isAside(new Uint8Array([0x57, 0x42, 1]))], [true, true, false]);
+  judge('who is gone', [Buffer.from(writeGone('ann')).toString('hex'), readGone(writeGone('ann')), readGone(bytes)], ['57470100616e6e', 'ann', null]);
+  judge('as many lines as there is room for', readPoint(writePoint({ ...point, begun: Array(60).fill('line 100 100 200 200 *') })).begun.length, 30);
+  const broken = [bytes.subarray(0, 19), new Uint8Array([...bytes, 200]), Uint8Array.of(...bytes.subarray(0, 16), 16, 0, 0, 0), new Uint8Array(900).fill(0x57)];
+  judge('what is no point', broken.map(readPoint), [null, null, null, null]);
+  judge('what a page may not point at', [pointOf(1, '7/1', [0, 4_096], []), pointOf(1, '7/1', [0], []), pointOf(1, '7/1', null, ['\n']), pointOf(1, 'x', null, [])], [null, null, null, null]);
 }
 
-async function testJudgement() {
-  const told = [], member = { me: 1, page: '7/1', drawn: new Drawn(), time: 0, now: () => member.time, advance: async () => {},
-    tell: async (line) => { told.push(line); return new Block([], 'ok never'); }, gaps: async () => [{ source: 7, first: 2, last: 3 }] };
-  const judgement = new Judgement(member), act = async (time) => {
-    member.time = time;
-    for (const [moment, what] of judgement.plan()) if (moment <= time) await what();
-  };
-  judgement.begin();
-  await act(300_000);
-  judge('it asks for pages at once', told, ['say ask-pages 1']);
-  judgement.heed('page-state 9 7/1 7=3', false);
-  await act(1_600_000);
-  judge('it reports and asks for what is missing', told.slice(1).sort(), ['ask 7 1 7 2', 'ask 7 1 7 3', 'session 7 1']);
-  judge('it asks for pages no more', judgement.isAnswered, true);
-  judge('who was heard', [judgement.present().map(([member_]) => member_), (member.time = 70_000_000, judgement.present().length)], [[9], 0]);
-  judge('it listens before it draws', judgement.readyAt, 3_000_000);
+function testPresences() {
+  const told = [], presence = new Presence(({ others }) => told.push(others.map(({ member }) => member)));
+  const hear = (member, cell = [1, 1]) => presence.hear(writePoint({ member, page: '7/1', cell, begun: [] }), 1);
+  [2, 1, 3, 2].forEach((member) => hear(member));
+  hear(3, null);
+  judge('who points, but for ourselves', told, [[2], [2, 3], [3, 2], [2]]);
+  for (let i = 0; i < 100; i += 1) hear(2);
+  judge('not too many of one are heeded in a second', told.length < 60, true);
+  for (let member = 10; member < 200; member += 1) hear(member);
+  judge('nor of too many members', presence.others.size <= 64, true);
 }
 
-for (const test of [testBlocks, testWords, testDrawn, testInvitations, testSeal, testPackets, testInbox, testWire, testAsking, testJudgement]) await test();
-console.log(`${passed} passed, ${failed} failed`);
-process.exit(failed ? 1 : 0);
+function testAlarms() {
+  const alarms = new Alarms();
+  for (let i = 0; i < 10; i += 1) alarms.warn(`warning ${i}`);
+  alarms.warn('warning 5');
+  judge('the last warnings', [alarms.told().length, alarms.told()[7], alarms.told()[0]], [8, 'warning 5', 'warning 2']);
+  alarms.given.set('warning 5', -60_001);
+  judge('a warning goes', alarms.told().includes('warning 5'), false);
+}
+
+async function testRecords() {
+  const record = new Record(null, 'here', 7);
+  record.note('constants 2,2,1,1 for 1 members');
+  record.add('board 7 100 1 1', 'tick 5', 'datagram 00');
+  judge('the lines of a record', [actsOf(await record.lines()), constantsOf(await record.lines())], [['board 7 100 1 1', 'tick 5', 'datagram 00'], { tuning: '2,2,1,1', members: 1 }]);
+  judge('a line that is kept at once', [await record.keep(['tick 9', 'say draw']), (await record.lines()).at(-1)], [true, 'say draw']);
+  await record.takeBack(2);
+  judge('and taken back', (await record.lines()).at(-1), 'datagram 00');
+  record.note('constants 2,4,1,8 for 70 members');
+  judge('the last constants', constantsOf(await record.lines()), { tuning: '2,4,1,8', members: 70 });
+  judge('those of a record that names none', constantsOf(['board 7 100 1 1']), { tuning: '2,2,1,1', members: 0 });
+  judge('constants by members', [1, 50, 51, 100, 101, 5_000].map(tuningFor), ['2,2,1,1', '2,2,1,1', '2,4,1,8', '2,4,1,8', '2,8,1,8', '2,8,1,8']);
+  const broken = new Record(/** @type {any} */ ({ transaction: () => { throw new Error('no room'); } }), 'here', 7);
+  broken.add('board 7 100 1 1');
+  judge('a record that can\u2019t be written', [await broken.keep(['say draw']), broken.waiting, broken.fault], [false, ['board 7 100 1 1'], "the record can't be written (no room)"]);
+}
+
+const TESTS = [testBlocks, testWords, testReports, testDrawn, testInvitations, testSeal, testPackets, testBrokers, testInbox, testWire, testPresence, testPresences, testAlarms,
+  testRecords, testAsking, testPacing, testTimes, testJudgement];
+for (const test of TESTS) await test();
+console.log(`${counts.passed} passed, ${counts.failed} failed`);
+process.exit(counts.failed ? 1 : 0);

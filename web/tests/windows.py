@@ -8,9 +8,9 @@ from pathlib import Path
 from typing import Any
 
 TOP = Path(__file__).resolve().parent.parent.parent
-sys.path.insert(0, str(TOP / "live"))
+sys.path.insert(0, str(TOP))
 
-from browser import Browser, Page  # noqa: E402
+from live.tests.browser import Browser, Page  # noqa: E402
 
 # switches that keep a hidden page's clock going, which nobody's browser has
 FOR_TESTS_ALONE = ("--disable-background-timer-throttling", "--disable-renderer-backgrounding", "--disable-backgrounding-occluded-windows")
@@ -21,7 +21,7 @@ WIDE, PHONE = (1280, 800), (390, 780)
 class Ordinary(Browser):
     """A browser that slows the pages down that nobody sees, as it comes."""
 
-    def __init__(self, program: str, patience: float = 20.0) -> None:
+    def __init__(self, program: str, patience: float) -> None:
         super().__init__(program, patience)
         self.attached: list[str] = []  # the sessions of workers, as they are told
 
@@ -43,7 +43,7 @@ class Window:
         if size == PHONE:
             self.page.resize(*size, mobile=True)
 
-    def is_ready(self, seconds: float = 30.0) -> bool:
+    def is_ready(self, seconds: float = 90.0) -> bool:
         return self.page.wait("wb.session.hello.ready", seconds)
 
     @property
@@ -72,19 +72,23 @@ class Window:
         """Has an operation drawn as the page would, and gives the answer."""
         return dict(self.page.value(f"wb.session.send({json.dumps(operation)})"))
 
+    def draw_all(self, operations: list[str]) -> bool:
+        """Has operations drawn, one after another. Whether all were taken."""
+        return bool(self.page.value(f"Promise.all({json.dumps(operations)}.map((it) => wb.session.send(it))).then((all) => all.every(({{ ok }}) => ok))"))
+
     def rows(self) -> list[str]:
         return list(self.page.value("wb.session.board.rows"))
 
     def drawings(self) -> int:
         return int(self.page.value("wb.session.board.drawops.length"))
 
-    def shows(self, x: int, y: int, text: str, seconds: float = 10.0) -> bool:
+    def shows(self, x: int, y: int, text: str, seconds: float = 60.0) -> bool:
         """Whether a row comes to show a text from a column on."""
         return self.page.wait(f"(wb.session.board.rows[{y}] ?? '').padEnd(300).substr({x}, {len(text)}) === {json.dumps(text)}", seconds)
 
     def go_to(self, page: str) -> bool:
         self.page.value(f"wb.session.goToPage({json.dumps(page)}); 0")
-        return self.page.wait(f"wb.session.board.page === {json.dumps(page)}")
+        return self.page.wait(f"wb.session.board.page === {json.dumps(page)}", 60.0)
 
     def health(self) -> str:
         return str(self.page.value("document.getElementById('phrase').textContent"))

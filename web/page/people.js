@@ -1,0 +1,134 @@
+/** What people do: they draw, delete, turn pages, and take a new number. All of it is done in a turn of the member. `live/people.py` once more. */
+import { NoRoom } from './board.js';
+import { CLASH } from './judgement.js';
+import { pointOf, writePoint } from './presence.js';
+import { MINUTE, MOST_LEAD, wall } from './times.js';
+
+const OPERATIONS = ['line', 'frame', 'text', 'delete', 'restore'];
+
+/** `draw SOURCE PAGE SEQ TIME` stands before an operation: in the fault of a word its place is told without them. */
+const WORDS_BEFORE = 5;
+
+/** Drawings that wait until the member may draw. */
+const MOST_WAITING = 1_024;
+
+/** Numbers of pages. */
+const MOST_PAGE = 2 ** 32 - 1;
+
+/** A drawing or a page is refused, and why. */
+export class Refused extends Error {}
+
+export class People {
+  /** @param {import('./member.js').Member} member */
+  constructor(member) {
+    this.member = member;
+    /** What is to be done in the next turn.
+     * @type {(() => Promise<void>)[]} */
+    this.calls = [];
+    /** What waits to be drawn until it may draw.
+     * @type {(() => Promise<void>)[]} */
+    this.draws = [];
+  }
+
+  /** Has something done in a turn.
+   * @template T @param {() => Promise<T>} what @returns {Promise<T>} */
+  call(what) {
+    return new Promise((done, fail) => {
+      this.calls.push(() => what().then(done, fail));
+      this.member.wake();
+    });
+  }
+
+  /** Has an operation drawn, such as `line 0 0 4 4 *`, as soon as the member may draw.
+   * @param {string} page @param {string} operation @returns {Promise<{ source: number, seq: number }>} */
+  draw(page, operation) {
+    return new Promise((done, fail) => {
+      const draw = () => this.drawNow(page, operation).then(done, fail);
+      this.calls.push(async () => {
+        if (this.member.isReady) await draw();
+        else if (this.draws.length < MOST_WAITING) this.draws.push(draw);
+        else fail(new Refused('busy'));
+      });
+      this.member.wake();
+    });
+  }
+
+  /** From now on the member may draw: it draws what waited. */
+  async begin() {
+    for (const draw of this.draws.splice(0)) await draw();
+  }
+
+  /** Accepts a drawop of ours and sends it. Whether it is one, the host says.
+   * @param {string} page @param {string} operation */
+  async drawNow(page, operation) {
+    const { member } = this, { judgement, board } = member, [kind] = operation.split(' ', 1);
+    if (!OPERATIONS.includes(kind) || !/^[ -~]*$/.test(operation)) throw new Refused('unknown');
+    const fault = judgement.faultOfDrawing();
+    if (fault !== null) throw new Refused(fault);
+    if (judgement.room.isFull() && !['delete', 'restore'].includes(kind)) throw new Refused('full');
+    await member.advance();
+    const seq = await board.nextNumber(page);
+    if (seq === null) throw new Refused('too many');
+    const block = await this.tellDrawing(`draw ${member.me} ${page} ${seq} ${this.timeOn(page)} ${operation}`);
+    if (block.fault !== null) throw new Refused(block.fault.replace(/^(word )(\d+)/, (_all, word, place) => word + (Number(place) - WORDS_BEFORE)));
+    if (!block.sent().length) throw new Refused(block.lines[0] === CLASH ? 'clash' : 'full');
+    for (const digits of block.sent()) await member.send(digits);
+    return { source: member.me, seq };
+  }
+
+  /** @param {string} words */
+  async tellDrawing(words) {
+    try {
+      return await this.member.board.draw(words);
+    } catch (fault) {
+      throw fault instanceof NoRoom ? new Refused(`${fault.message}: nothing is drawn until there is room`) : fault;
+    }
+  }
+
+  /** The time of a drawing: that of the session's day, or one more than the latest on the page, within a day of this machine's clock. So
+   * what is drawn last lies on top, also where this clock is late.
+   * @param {string} page */
+  timeOn(page) {
+    return Math.max(this.member.judgement.now(), this.member.drawn.latest(page, wall() + MOST_LEAD + MINUTE) + 1);
+  }
+
+  /** Makes this the page in view; null is a new one of ours, or the one in view where that is ours and empty yet.
+   * @param {string | null} page */
+  async choose(page) {
+    this.member.turnTo(page ?? await this.newPage());
+    return { page: this.member.page };
+  }
+
+  /** The number of a new page is the first that nobody told of. */
+  async newPage() {
+    const { me, page, board, drawn, judgement } = this.member, ours = (/** @type {string} */ one) => one.startsWith(`${me}/`);
+    if (ours(page) && !drawn.count(page)) return page;
+    const told = [...judgement.asking.far.values()].map((name) => name.page);
+    const used = new Set([...await board.known(), ...told, page].filter(ours).map((one) => Number(one.split('/')[1])));
+    let number = 1;
+    while (used.has(number)) number += 1;
+    return `${me}/${Math.min(number, MOST_PAGE)}`;
+  }
+
+  /** Tells others where one points, by a datagram that no host hears of.
+   * @param {string} page @param {any} cell @param {any} begun */
+  async point(page, cell, begun) {
+    const point = pointOf(this.member.me, page, cell, begun);
+    if (!point) throw new Refused('no point');
+    this.member.transport.send(writePoint(point));
+    return {};
+  }
+
+  /** Changes how the network is made worse.
+   * @param {import('../../live/page/types.js').Worse} worse */
+  async worsen(worse) {
+    const { inbox } = this.member;
+    inbox.worse = { ...inbox.worse, ...worse };
+    return { ...worse };
+  }
+
+  /** The record, as a text. */
+  async record() {
+    return { text: (await this.member.board.record.lines()).map((line) => `${line}\n`).join('') };
+  }
+}

@@ -1,0 +1,121 @@
+// Tests the packets of MQTT, and what a member makes of a broker that is slow, gone or refuses, without one.
+import { Broker, Packets, nameAt, packet } from '../page/transports.js';
+import { fault, judge } from './judge.mjs';
+
+/** The packets that come out of bytes that come in parts of one size. */
+function parted(bytes, size) {
+  const packets = new Packets(), found = [];
+  for (let at = 0; at < bytes.length; at += size) {
+    packets.add(bytes.subarray(at, at + size));
+    for (let it = packets.next(); it; it = packets.next()) found.push([it.kind, it.body.length]);
+  }
+  return found;
+}
+
+export function testPackets() {
+  judge('a packet without a body', [...packet(0xc0)], [0xc0, 0]);
+  judge('lengths of one and two bytes', [[...packet(0x30, new Uint8Array(127)).subarray(0, 2)], [...packet(0x30, new Uint8Array(200)).subarray(0, 3)]], [[0x30, 127], [0x30, 200, 1]]);
+  const parts = [packet(0x20, [0, 0]), packet(0x30, new Uint8Array(70_000)), packet(0xd0), packet(0x30, [1], [2, 3])];
+  const bytes = new Uint8Array(Buffer.concat(parts)), wanted = [[0x20, 2], [0x30, 70_000], [0xd0, 0], [0x30, 3]];
+  for (const size of [1, 7, 4_096, bytes.length]) judge(`packets in parts of ${size}`, parted(bytes, size), wanted);
+  judge('a packet that is too long', fault(() => parted(new Uint8Array([0x30, 255, 255, 255, 127]), 5)), 'a packet that is too long');
+  judge('a length that does not end', fault(() => parted(new Uint8Array([0x30, 128, 128, 128, 128, 128]), 6)), 'a packet that is too long');
+}
+
+/** A socket that remembers what is sent, and says what it is told to. */
+class Socket {
+  static OPEN = 1;
+  static all = [];
+
+  constructor(address) {
+    Object.assign(this, { address, readyState: 0, bufferedAmount: 0, sent: [], isClosed: false });
+    Socket.all.push(this);
+  }
+
+  send(bytes) {
+    this.sent.push([...bytes]);
+  }
+
+  close() {
+    this.isClosed = true;
+  }
+
+  open() {
+    this.readyState = 1;
+    this.onopen();
+  }
+
+  say(...parts) {
+    this.onmessage({ data: packet(...parts).buffer });
+  }
+}
+
+const topic = (words) => [0, words.length, ...Buffer.from(words)];
+const CONNACK = [0x20, [0, 0]], SUBACK = [0x90, [0, 1, 0]];
+
+/** A broker whose connections are sockets of this test, as far as it is subscribed. */
+function begun(taken) {
+  Socket.all = [];
+  const broker = new Broker('ws://ann:word@host/mqtt', 'maths', 'ann', new Uint8Array([87, 71]), (bytes, place) => taken.push([[...bytes], place])), [socket] = Socket.all;
+  socket.open();
+  socket.say(...CONNACK);
+  socket.say(...SUBACK);
+  return { broker, socket };
+}
+
+function testCarrying() {
+  const taken = [], { broker, socket } = begun(taken);
+  const text = (words) => [0, words.length, ...Buffer.from(words)];
+  judge('it comes with a will, a name and a password', socket.sent[0],
+    [...packet(0x10, text('MQTT'), [4, 0xc6, 0, 60], text(broker.client), text('wb/maths/ann'), [0, 2, 87, 71], text('ann'), text('word'))]);
+  judge('names at a broker', [nameAt('ws://a%20b:c@host/', 7), /^7-[0-9a-z]+$/.test(nameAt('ws://host/', 7))], ['a b', true]);
+  judge('it carries', [broker.state, broker.own, socket.sent.length], ['', 'wb/maths/ann', 2]);
+  broker.send(new Uint8Array([1, 2, 3]));
+  judge('a datagram is published', socket.sent[2], [...packet(0x30, topic('wb/maths/ann'), [1, 2, 3])]);
+  socket.say(0x30, topic('wb/maths/ann'), [1, 2, 3]);
+  socket.say(0x30, topic('wb/maths/ann'), [4]);
+  socket.say(0x30, topic('wb/maths/bob'), [1, 2, 3]);
+  socket.say(0x31, topic('wb/maths/bob'), [5]);
+  judge('what is ours is not taken, another device of our name is, and nothing that was kept', taken, [[[4], 'wb/maths/ann'], [[1, 2, 3], 'wb/maths/bob']]);
+  broker.end();
+}
+
+function testSilence() {
+  const { broker, socket } = begun([]);
+  broker.sign();
+  judge('a sign of life', socket.sent.at(-1), [0xc0, 0]);
+  broker.heardAt -= 26_000;
+  broker.sign();
+  judge('a broker that says nothing for long is gone, though its connection stands', [broker.state, socket.isClosed], ['the broker does not answer', true]);
+  broker.send(new Uint8Array([9]));
+  judge('nothing is sent to it', socket.sent.at(-1), [0xc0, 0]);
+  broker.socket = broker.open();
+  judge('it is told until a new connection carries', broker.state, 'the broker does not answer');
+  const again = Socket.all.at(-1);
+  again.open();
+  again.say(...CONNACK);
+  again.say(...SUBACK);
+  judge('and then no more', broker.state, '');
+  broker.end();
+}
+
+function testRefusals() {
+  Socket.all = [];
+  const broker = new Broker('ws://host/mqtt', 'maths', nameAt('ws://host/mqtt', 7), new Uint8Array(0), () => {}), [socket] = Socket.all;
+  judge('nothing is carried yet', broker.state, 'connecting to the broker');
+  broker.heardAt -= 26_000;
+  broker.sign();
+  judge('a connection that does not come', broker.state, 'the broker does not answer');
+  broker.socket = broker.open();
+  Socket.all[1].open();
+  Socket.all[1].say(0x20, [0, 5]);
+  judge('a refusal is told', [broker.state, socket.isClosed], ['refused by the broker: it does not allow it', true]);
+  broker.end();
+}
+
+export function testBrokers() {
+  const before = globalThis.WebSocket;
+  globalThis.WebSocket = Socket;
+  for (const test of [testCarrying, testSilence, testRefusals]) test();
+  globalThis.WebSocket = before;
+}
