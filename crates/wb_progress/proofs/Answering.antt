@@ -109,11 +109,11 @@ module _ (places : Places) (terms : Terms) (turns : List Turn) (is : KeepTime pl
 
       at_j : (desk_at (x ∷ before) j).calls ≡ Hear h.now (Request asker n) h.word true ∷ (desk_at before j).calls
       at_j =
-          let there : h.held ≡ true = (called.heard h.now h.word (Request asker n) h.held h.heard).1 ∙ ap (λ (k : ℕ). has before k n) h.place ∙ held in
+          let there : h.held ≡ true = (called.heard h.now asker h.word n h.held h.heard).1 ∙ ap (λ (k : ℕ). has before k n) h.place ∙ held in
           ap (λ d. d.calls) (desk_here before x j h.place) ∙ h.heard ∙ ap (λ (b : Bool). Hear h.now (Request asker n) h.word b ∷ (desk_at before x.place).calls) there ∙ ap (λ (k : ℕ). Hear h.now (Request asker n) h.word true ∷ (desk_at before k).calls) h.place
 
       moment : h.now ≡ x.time + terms.offset j
-      moment = (called.heard h.now h.word (Request asker n) h.held h.heard).0 ∙ ap (λ (k : ℕ). x.time + terms.offset k) h.place
+      moment = (called.heard h.now asker h.word n h.held h.heard).0 ∙ ap (λ (k : ℕ). x.time + terms.offset k) h.place
 
       other : asker ≡ places.me j → ⊥
       other same = differ (is.are.apart e.place j lone a.1 (sym who.0 ∙ same))
@@ -143,11 +143,11 @@ module _ (places : Places) (terms : Terms) (turns : List Turn) (is : KeepTime pl
                 let recent : settled_by terms < g.e.time = omega (arith, u, m, lt, not_sooner, later_yet) in
                 let at = joined (h.later ++ x ∷ []) g.newer g.older g.e turns before part_before g.split in
                 let past : g.e.time ≤ x.time =
-                let order' = subst AreInOrder g.split order.1 in
-                let le : g.e.time ≤ time_of (g.newer ++ g.e ∷ g.older) = before_end g.newer (g.e ∷ g.older) order' in
-                let top : time_of before ≡ time_of (g.newer ++ g.e ∷ g.older) = ap time_of g.split in
-                let o = order.0 in
-                omega (arith, le, top, o) in
+                    let order' = subst AreInOrder g.split order.1 in
+                    let le : g.e.time ≤ time_of (g.newer ++ g.e ∷ g.older) = before_end g.newer (g.e ∷ g.older) order' in
+                    let top : time_of before ≡ time_of (g.newer ++ g.e ∷ g.older) = ap time_of g.split in
+                    let o = order.0 in
+                    omega (arith, le, top, o) in
                 let soon = h.soon in
                 let reach : g.e.time + terms.delivery ≤ end = omega (arith, past, soon) in
                 ⊎_elim

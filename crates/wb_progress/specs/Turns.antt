@@ -10,7 +10,7 @@ use Rattle.wb_recovery.specs.declared.tuning.Tuning.{Tuning}
 use Rattle.wb_recovery.specs.declared.timers.AskTimer.{AskTimer}
 use Rattle.wb_recovery.specs.declared.timers.AnswerTimer.{AnswerTimer}
 use Rattle.wb_recovery.specs.declared.timers.Timers.{Timers}
-use Rattle.wb_host.specs.Hearing.{marks_heard, asks_for_held}
+use Rattle.wb_host.specs.Hearing.{marks_heard}
 use Rattle.wb_host.specs.Keeper.{KeeperCall, Hear, Arrive, Miss, GoOn, GiveUp, moment_at, events_of, holds}
 use Rattle.wb_host.specs.Missing.{wanted_of}
 use Rattle.wb_host.specs.Ticks.{sent_by_tick, stopped_after}
@@ -105,8 +105,8 @@ pub record IsTurn (places : Places) (terms : Terms) (older : List Turn) (e : Tur
   -- it accepts one call at most, and what is held stays
   pub called : (e.desk.calls ≡ (desk_at older e.place).calls) ⊎ ((call : KeeperCall) × Accepts older e call)
   pub kept : (n : NameValue) → has older e.place n ≡ true → holds e.desk.held n ≡ true
-  -- a datagram is heard at the moment of its time, with what is held then
-  pub heard : (now word : ℕ) (v : Datagram) (held : Bool) → Accepts older e (Hear now v word held) → (now ≡ e.time + terms.offset e.place) × (held ≡ asks_for_held (desk_at older e.place).held v)
+  -- a request is heard at the moment of its time, with what is held then
+  pub heard : (now asker word : ℕ) (n : NameValue) (held : Bool) → Accepts older e (Hear now (Request asker n) word held) → (now ≡ e.time + terms.offset e.place) × (held ≡ has older e.place n)
   -- a tick stops what is held, and sends what is due
   pub stops : (now : ℕ) (words : List ℕ) (stopped : List NameValue) → Accepts older e (GoOn now words stopped) → stopped ≡ stopped_after (places.me e.place) (places.constants e.place) (desk_at older e.place).calls (desk_at older e.place).held
   pub sends : (now : ℕ) (words : List ℕ) (stopped : List NameValue) → Accepts older e (GoOn now words stopped)

@@ -32,3 +32,9 @@ pub mod Agreed
 pub mod BoardMoves
 pub mod NothingNew
 pub mod MarksSpread
+pub mod LineCalls
+pub mod TraceTurns
+pub mod TimelyTurns
+pub mod Requesting
+pub mod TimelySession
+pub mod Arriving
