@@ -3,3 +3,5 @@ pub mod DrawingTimes
 pub mod NextPages
 pub mod KeptLines
 pub mod Parts
+pub mod Performed
+pub mod AskedTimers
