@@ -143,11 +143,11 @@ module _ (places : Places) (terms : Terms) (turns : List Turn) (is : KeepTime pl
                 let recent : settled_by terms < g.e.time = omega (arith, u, m, lt, not_sooner, later_yet) in
                 let at = joined (h.later ++ x ∷ []) g.newer g.older g.e turns before part_before g.split in
                 let past : g.e.time ≤ x.time =
-                    let order' = subst AreInOrder g.split order.1 in
-                    let le : g.e.time ≤ time_of (g.newer ++ g.e ∷ g.older) = before_end g.newer (g.e ∷ g.older) order' in
-                    let top : time_of before ≡ time_of (g.newer ++ g.e ∷ g.older) = ap time_of g.split in
-                    let o = order.0 in
-                    omega (arith, le, top, o) in
+                let order' = subst AreInOrder g.split order.1 in
+                let le : g.e.time ≤ time_of (g.newer ++ g.e ∷ g.older) = before_end g.newer (g.e ∷ g.older) order' in
+                let top : time_of before ≡ time_of (g.newer ++ g.e ∷ g.older) = ap time_of g.split in
+                let o = order.0 in
+                omega (arith, le, top, o) in
                 let soon = h.soon in
                 let reach : g.e.time + terms.delivery ≤ end = omega (arith, past, soon) in
                 ⊎_elim

@@ -284,9 +284,9 @@ module _ (far me : ℕ) (t : Tuning) (call : KeeperCall) (calls : List KeeperCal
       (λ h. inl (ap (λ (k : Timers). k.answer) h.becomes ∙ asked_answer t h.by.held h.by.now h.delay h.by.word s_0 answer is))
       (λ m. inl (m.1.answer ∙ is))
       (λ k. ⊎_elim
-          (λ (e : fired_answer k.now (Some answer) ≡ Some answer). inl (ap (λ (r : Timers). r.answer) k.becomes ∙ ap (fired_answer k.now) is ∙ e))
-          (λ (le : answer.due ≤ k.now). inr (inr (fires answer.due k.is le)))
-          (answer_fires k.now answer))
+      (λ (e : fired_answer k.now (Some answer) ≡ Some answer). inl (ap (λ (r : Timers). r.answer) k.becomes ∙ ap (fired_answer k.now) is ∙ e))
+      (λ (le : answer.due ≤ k.now). inr (inr (fires answer.due k.is le)))
+      (answer_fires k.now answer))
 
   pub ask_goes_on : (ask : AskTimer) → s_0.ask ≡ Some ask → (s_1.ask ≡ Some ask) ⊎ (Brings n call ⊎ (Fires ask.due call ⊎ Requests me n call))
   ask_goes_on ask is = by_case
@@ -295,9 +295,9 @@ module _ (far me : ℕ) (t : Tuning) (call : KeeperCall) (calls : List KeeperCal
       (λ h. inr (inr (inr h.by)))
       (λ m. inl (m.1.stays ask is))
       (λ k. ⊎_elim
-          (λ (e : fired_ask t k.now k.word (Some ask) ≡ Some ask). inl (ap (λ (r : Timers). r.ask) k.becomes ∙ ap (fired_ask t k.now k.word) is ∙ e))
-          (λ (le : ask.due ≤ k.now). inr (inr (inl (fires ask.due k.is le))))
-          (ask_fires t k.now k.word ask))
+      (λ (e : fired_ask t k.now k.word (Some ask) ≡ Some ask). inl (ap (λ (r : Timers). r.ask) k.becomes ∙ ap (fired_ask t k.now k.word) is ∙ e))
+      (λ (le : ask.due ≤ k.now). inr (inr (inl (fires ask.due k.is le))))
+      (ask_fires t k.now k.word ask))
 
   pub quiet_begins : (s_1.quiet ≡ s_0.quiet) ⊎ ((Brings n call ⊎ Answers me t calls n call) × (s_1.quiet ≤ moment_at (call ∷ calls) + 3 * far))
   quiet_begins =
@@ -308,9 +308,9 @@ module _ (far me : ℕ) (t : Tuning) (call : KeeperCall) (calls : List KeeperCal
       (λ h. inl (ap (λ (k : Timers). k.quiet) h.becomes ∙ asked_quiet t h.by.held h.by.now h.delay h.by.word s_0))
       (λ m. inl m.1.quiet)
       (λ k. ⊎_elim
-          (λ (e : quiet_after k.now s_0.quiet s_0.answer ≡ s_0.quiet). inl (ap (λ (r : Timers). r.quiet) k.becomes ∙ e))
-          (λ (r : (answer : AnswerTimer) × (s_0.answer ≡ Some answer) × (answer.due ≤ k.now)). inr (inr (r.0, r.1, fires r.0.due k.is r.2), near))
-          (quiet_fires k.now s_0.quiet s_0.answer))
+      (λ (e : quiet_after k.now s_0.quiet s_0.answer ≡ s_0.quiet). inl (ap (λ (r : Timers). r.quiet) k.becomes ∙ e))
+      (λ (r : (answer : AnswerTimer) × (s_0.answer ≡ Some answer) × (answer.due ≤ k.now)). inr (inr (r.0, r.1, fires r.0.due k.is r.2), near))
+      (quiet_fires k.now s_0.quiet s_0.answer))
 
   none_some : (o : Option AskTimer) (ask : AskTimer) → o ≡ None → o ≡ Some ask → ⊥
   none_some o ask e f = cc

@@ -208,7 +208,7 @@ module _ (places : Places) (terms : Terms) (turns : List Turn) (is : KeepTime pl
       let due : is_answer_due fires.now (timers_there places older i d.0.name).answer ≡ true = subst (λ (m : NameValue). is_answer_due fires.now (timers_there places older i m).answer ≡ true) (sym d.2) (ap (is_answer_due fires.now) stands ∙ le_true answer.due fires.now fires.due_by) in
       let sends = ticks_answer (places.me i) (places.constants i) (desk_at older i).calls (desk_at older i).held fires.now d.0 (is.are.history (newer ++ e ∷ []) older i part live) d.1 none due in
       let there = (is.are.turn newer older e split live').sends fires.now fires.words fires.stopped (c.accepts ∙ ap (λ (k : KeeperCall). k ∷ (desk_at older e.place).calls) fires.is) (Draw d.0)
-          (subst (λ (k : ℕ). Contains (sent_by_tick (places.me k) (places.constants k) (desk_at older k).calls (desk_at older k).held fires.now) (Draw d.0)) (sym here) sends) in
+      (subst (λ (k : ℕ). Contains (sent_by_tick (places.me k) (places.constants k) (desk_at older k).calls (desk_at older k).held fires.now) (Draw d.0)) (sym here) sends) in
       record {
         newer = newer;
         e = e;

@@ -60,7 +60,7 @@ module _ (places : Places) (terms : Terms) (turns : List Turn) (is : KeepTime pl
         let due : is_ask_due f.now (timers_there places older i n).ask ≡ true = ap (is_ask_due f.now) stands ∙ le_true ask.due f.now f.due_by in
         let sends = ticks_ask (places.me i) (places.constants i) (desk_at older i).calls (desk_at older i).held f.now n due lost in
         let there = (is.are.turn newer older e split (subst (Contains terms.live) (sym c.place) live)).sends f.now f.words f.stopped (c.accepts ∙ ap (λ (k : KeeperCall). k ∷ (desk_at older e.place).calls) f.is) (Request (places.me i) n)
-            (subst (λ (k : ℕ). Contains (sent_by_tick (places.me k) (places.constants k) (desk_at older k).calls (desk_at older k).held f.now) (Request (places.me i) n)) (sym c.place) sends) in
+        (subst (λ (k : ℕ). Contains (sent_by_tick (places.me k) (places.constants k) (desk_at older k).calls (desk_at older k).held f.now) (Request (places.me i) n)) (sym c.place) sends) in
         asked_for newer older e (places.me i) e.time split late (omega arith) le there
 
     heard : e.time ≤ limit → (c : Called places terms turns is older e i) → Requests (places.me i) n c.call → AllHoldBehind terms turns (limit + answering_by terms) n
@@ -84,9 +84,9 @@ module _ (places : Places) (terms : Terms) (turns : List Turn) (is : KeepTime pl
         ⊎_elim
         (λ (s : (timers_at (places.me i) (places.constants i) (c.call ∷ (desk_at older i).calls) n).ask ≡ Some ask). inl (ap (λ (calls : List KeeperCall). (timers_at (places.me i) (places.constants i) calls n).ask) c.calls ∙ s, le))
         (λ (g : Brings n c.call ⊎ (Fires ask.due c.call ⊎ Requests (places.me i) n c.call)). inr (⊎_elim
-            (λ (b : Brings n c.call). came le c b)
-            (λ (k : Fires ask.due c.call ⊎ Requests (places.me i) n c.call). ⊎_elim (λ (f : Fires ask.due c.call). fired le c f) (λ (r : Requests (places.me i) n c.call). heard le c r) k)
-            g))
+        (λ (b : Brings n c.call). came le c b)
+        (λ (k : Fires ask.due c.call ⊎ Requests (places.me i) n c.call). ⊎_elim (λ (f : Fires ask.due c.call). fired le c f) (λ (r : Requests (places.me i) n c.call). heard le c r) k)
+        g))
         (ask_goes_on terms.far (places.me i) (places.constants i) c.call (desk_at older i).calls n within ask stands))
         (changes places terms turns is newer older e i split live)
 

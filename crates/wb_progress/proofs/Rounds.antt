@@ -130,9 +130,9 @@ module _ (places : Places) (terms : Terms) (turns : List Turn) (i from to : ℕ)
       let k : ℕ = 64 - length standing in
       let stand = listed_of (λ (s : Timers). is_some s.ask) refl t (events_of me calls) in
       let full : length (take k f.0) ≡ k = ⊎_elim
-          (λ (c : Contains (take k f.0) n). absurd (left (subst (λ (names : List NameValue). Contains names n) (sym f.2) c)))
-          (λ (e : length (take k f.0) ≡ k). e)
-          (in_take k f.0 n ((f.1.members n).1 w)) in
+      (λ (c : Contains (take k f.0) n). absurd (left (subst (λ (names : List NameValue). Contains names n) (sym f.2) c)))
+      (λ (e : length (take k f.0) ≡ k). e)
+      (in_take k f.0 n ((f.1.members n).1 w)) in
       let count : length (standing ++ take k f.0) ≡ length standing + length (take k f.0) = length-append standing (take k f.0) in
       record {
         names = standing ++ take k f.0;
@@ -258,10 +258,10 @@ module _ (places : Places) (terms : Terms) (turns : List Turn) (is : KeepTime pl
         let timed : (n : NameValue) → Contains r.those n → is_some (timers_there places q i n).ask ≡ true = λ n c. asks.asked n (r.among n c).0 in
         let count : length (names ++ r.those) ≡ length names + length r.those = length-append names r.those in
         let all = claim i look.newer q (names ++ r.those) live look.split b (apart_append names r.those apart r.apart (λ n c d. untimed n c (timed n d)))
-            (λ n c. ⊎_elim
-                (λ (h : Contains names n). let x = lacked n h in (x.0, x.1, lost n h))
-                (λ (h : Contains r.those n). let x = (r.among n h).1 in (of_page i live look.newer q look.split (omega (arith, b)) n x (timed n h), x, not_held i live look.newer q look.split (omega (arith, b)) n x (timed n h)))
-                (Contains-append_cases names r.those n c)) in
+        (λ n c. ⊎_elim
+        (λ (h : Contains names n). let x = lacked n h in (x.0, x.1, lost n h))
+        (λ (h : Contains r.those n). let x = (r.among n h).1 in (of_page i live look.newer q look.split (omega (arith, b)) n x (timed n h), x, not_held i live look.newer q look.split (omega (arith, b)) n x (timed n h)))
+        (Contains-append_cases names r.those n c)) in
         omega (arith, u, few, many, enough, count, all)
 
   next : (k : ℕ) → Claim k → Claim (suc k)

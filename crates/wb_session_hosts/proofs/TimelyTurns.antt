@@ -128,7 +128,6 @@ module _ (constants : ℕ → Tuning) (older : List TimedLine) (e : TimedLine) w
 
 -- ---- a part of a timely trace
 
-
 abbrev pub me_of : Option Opened → ℕ
 me_of None = 0
 me_of (Some host) = host.me
@@ -206,14 +205,14 @@ module _ (constants : ℕ → Tuning) (terms : Terms) (trace : List TimedLine) (
         let is : moment_at (desk_of (host_at constants (lines_of (e ∷ older)) e.at.place)).calls ≡ present w.next = ap (λ (o : Option Opened). moment_at (desk_of o).calls) w.now in
         let before = here (present w.host) was rest in
         subst (λ (m : ℕ). m ≤ e.time + terms.offset e.at.place) (sym is) (⊎_elim
-            (λ (same : w.next.calls ≡ w.host.calls). subst (λ (m : ℕ). m ≤ e.time + terms.offset e.at.place) (sym (ap moment_at same)) before)
-            (λ (c : (call : KeeperCall) × (w.next.calls ≡ call ∷ w.host.calls) × IsMade w.host w.line call). subst (λ (m : ℕ). m ≤ e.time + terms.offset e.at.place) (sym (ap moment_at c.1)) (⊎_elim
-                (λ (h : moment_at (c.0 ∷ w.host.calls) ≡ present w.host). subst (λ (m : ℕ). m ≤ e.time + terms.offset e.at.place) (sym h) before)
-                (λ (t : (now : ℕ) × (w.line ≡ Script (lines.Tick now)) × (moment_at (c.0 ∷ w.host.calls) ≡ now)).
-                let told = timely.times front older e t.0 split (taken_of older e w (Script (lines.Tick t.0)) t.1) in
-                subst (λ (m : ℕ). m ≤ e.time + terms.offset e.at.place) (sym (t.2 ∙ told)) (itself (e.time + terms.offset e.at.place)))
-                (call_moment w.host w.line c.0 c.2)))
-            w.did.calls))
+        (λ (same : w.next.calls ≡ w.host.calls). subst (λ (m : ℕ). m ≤ e.time + terms.offset e.at.place) (sym (ap moment_at same)) before)
+        (λ (c : (call : KeeperCall) × (w.next.calls ≡ call ∷ w.host.calls) × IsMade w.host w.line call). subst (λ (m : ℕ). m ≤ e.time + terms.offset e.at.place) (sym (ap moment_at c.1)) (⊎_elim
+        (λ (h : moment_at (c.0 ∷ w.host.calls) ≡ present w.host). subst (λ (m : ℕ). m ≤ e.time + terms.offset e.at.place) (sym h) before)
+        (λ (t : (now : ℕ) × (w.line ≡ Script (lines.Tick now)) × (moment_at (c.0 ∷ w.host.calls) ≡ now)).
+        let told = timely.times front older e t.0 split (taken_of older e w (Script (lines.Tick t.0)) t.1) in
+        subst (λ (m : ℕ). m ≤ e.time + terms.offset e.at.place) (sym (t.2 ∙ told)) (itself (e.time + terms.offset e.at.place)))
+        (call_moment w.host w.line c.0 c.2)))
+        w.did.calls))
         (step constants older e) where
           itself : (n : ℕ) → n ≤ n
           itself n = omega arith
@@ -304,8 +303,8 @@ module _ (constants : ℕ → Tuning) (terms : Terms) (trace : List TimedLine) (
         let m = made constants back e (GoOn now words names) accepts in
         let w = m.0 in
         let same : sent_by_tick (places.me q) (constants q) was.calls was.held now ≡ sent_by_tick w.host.me w.host.constants w.host.calls w.host.board.drawops now =
-            ap (λ (d : Desk). sent_by_tick (places.me q) (constants q) d.calls d.held now) (desk_at_part back q w.host w.there)
-            ∙ ap (λ (k : ℕ). sent_by_tick k (constants q) w.host.calls w.host.board.drawops now) (me_at (front ++ e ∷ []) back q w.host part w.there)
-            ∙ ap (λ (t : Tuning). sent_by_tick w.host.me t w.host.calls w.host.board.drawops now) (sym (constants_at back q w.host w.there)) in
+        ap (λ (d : Desk). sent_by_tick (places.me q) (constants q) d.calls d.held now) (desk_at_part back q w.host w.there)
+        ∙ ap (λ (k : ℕ). sent_by_tick k (constants q) w.host.calls w.host.board.drawops now) (me_at (front ++ e ∷ []) back q w.host part w.there)
+        ∙ ap (λ (t : Tuning). sent_by_tick w.host.me t w.host.calls w.host.board.drawops now) (sym (constants_at back q w.host w.there)) in
         let out = tick_sends w.host now m.1.2 v (subst (λ (ds : List Datagram). Contains ds v) same c) in
         subst (λ (ds : List Datagram). Contains ds v) (sym (ap (λ (o : Option Opened). sends_by o (saying e.at)) w.there ∙ ap (sends_by (Some w.host)) (w.says ∙ ap (λ (l : DriverLine). Ok l) m.1.0))) out
