@@ -1,4 +1,5 @@
-"""A host with its record: every drawing is in the record before its datagrams leave, and a host that ended starts from it."""
+"""A host that keeps itself, with its record: every drawing is in the record before its datagrams leave, and a host that ended starts
+from it."""
 from __future__ import annotations
 
 import secrets
@@ -7,10 +8,10 @@ from typing import Callable, List, Optional, Sequence, Tuple
 
 from wbhost import Block, Host, HostEnded
 
-from .clock import Clock
+from .clock import SECOND, Clock
+from .held import held_of
 from .options import Options
-from .record import NoRoom, Record, comment, write_record
-from .tunings import LEVEL_MEMBERS, tuning_for
+from .record import FIRST_LINE, NoRoom, Record, comment, write_record
 from .views import Drawop, Page
 from .words import Words
 
@@ -19,6 +20,17 @@ Listener = Callable[[Drawop], None]
 
 # the part of a page that is painted: the greatest canvas that a host gives
 COLUMNS, ROWS = 200, 100
+
+# A number that may have drawn before listens for so long, since someone may hold drawings of it that its record lacks. Any other
+# listens to its record alone, which may have a mark of its own.
+LISTENING = 6 * SECOND
+LEAST_LISTENING = 1
+
+# a line for which a record has room has room for any drawing of ours, with its moment
+ROOM = "#" + 255 * "-"
+
+# how a drawop begins, in either version, and where it has its name
+DRAWOPS, NAME = ("57420101", "57420201"), slice(16, 48)
 
 # a host that is started so often within a minute is not started again
 MOST_STARTS = 4
@@ -32,7 +44,7 @@ class BoardFault(Exception):
 
 
 class Board:
-    """The lines that go to the host, the moment of the last, and the moment at which a timer is due."""
+    """The lines that go to the host, the moment of the last, and the moment at which it has something to do."""
 
     def __init__(self, program: str, options: Options, record: Record, words: Words, listener: Listener) -> None:
         self.program = program
@@ -41,50 +53,50 @@ class Board:
         self.words = words
         self.listener = listener
         self.moment = 0
+        self.ready_at = 0  # from then on it may draw
         self.kept_moment = 0
         self.due: Optional[int] = None
         self.ends: List[float] = []
         self.unkept: List[str] = []  # lines that the record has no room for yet
         self.is_broken = False  # the record could not be written
-        self.tuning, self.members = record.constants()
 
     def open(self, me: int) -> None:
-        """Starts the host: from the lines of the record, or with a new board. Its constants are those for the members that
-        are expected, where it is said how many are, and else those of the record. Members that are heard change none."""
-        is_level = self.options.is_level()
-        expected = self.options.members or self.members or (LEVEL_MEMBERS if is_level else 1)
-        notes: List[str] = []
-        if self.record.size == 0 or expected != self.members:
-            self.tuning, self.members = tuning_for(expected, is_level), expected
-            notes = [comment("constants %s for %d members" % (self.tuning, expected))]
-        if self.record.size == 0:
-            notes.append("board %d %d 1 %d" % (me, self.options.cells, secrets.randbits(64)))
-        self.record.add(*notes, comment("started"))
-        lines = list(self.record.acts())
-        self.cells = int(lines[0].split()[2])
-        self.tell_held(lines, self.start(lines))
+        """Starts the host: with what the record has, or with a new board. It listens where the number may have drawn what the record lacks."""
+        may_have_drawn = not self.record.is_ended() if self.record.size else me == self.options.me
+        head = [FIRST_LINE, "board %d %d 1 %d" % (me, self.options.cells, secrets.randbits(64))] if self.record.size == 0 else []
+        self.record.add(*head, comment("started"))
+        self.cells = int((self.record.first() or "").split()[2])
+        self.tell_held(self.start(LISTENING if may_have_drawn else 0))
         self.clock = Clock(self.moment + 1, self.options.speed)
 
-    def start(self, lines: List[str]) -> List[Block]:
-        """Gives a new host the lines that make the board."""
-        self.host = Host(self.program, "--tuning", self.tuning)
+    def start(self, listening: int = 0) -> List[Tuple[str, Block]]:
+        """Starts a host that keeps itself, and gives it the datagrams of the record, each with its block. A record that is shown
+        has a host that keeps nothing."""
+        held = held_of(self.program, [*self.record.acts(), *self.unkept])
+        self.me = int(held.board.split()[1])
+        self.host = Host(self.program, "--tuning", self.options.tuning())
+        self.moment, self.kept_moment = max(self.moment, held.moment), held.moment
+        self.ready_at = self.moment + max(LEAST_LISTENING, listening)
+        keep = "keep %d %d" % (self.options.rate, self.ready_at - self.moment)
+        self.ask([held.board] if self.options.replay else [held.board, "tick %d" % self.moment, keep])
+        return list(zip(held.datagrams, self.ask(["came %d %s" % (self.moment, digits) for digits in held.datagrams])))
+
+    def ask(self, lines: Sequence[str]) -> List[Block]:
+        """The blocks of lines. HostEnded where the host ended."""
         blocks = self.host.ask_all(lines)
         for line, block in zip(lines, blocks):
-            self.heed(line, block)
-        self.kept_moment = self.moment
+            if block.fault is None:
+                self.due = block.due
+                self.moment = int(line.split(" ", 2)[1]) if line.startswith(("tick ", "came ", "add ")) else self.moment
         return blocks
 
-    def heed(self, line: str, block: Block) -> None:
-        """Remembers what a block says of time."""
-        if block.fault is None:
-            self.due = block.due
-            if line.startswith("tick "):
-                self.moment = int(line[5:])
+    def now(self) -> int:
+        """The present moment, above that of each line that was told."""
+        return max(self.clock.now(), self.moment + 1)
 
-    def tell_held(self, lines: List[str], blocks: List[Block]) -> None:
-        """Tells the drawops of lines that were given."""
-        taken = [(line, block) for line, block in zip(lines, blocks) if block.lines == NEW or line.startswith("say draw ") and block.sent()]
-        digits = [block.sent()[0] if line.startswith("say ") else line.split(" ", 1)[1] for line, block in taken]
+    def tell_held(self, given: List[Tuple[str, Block]]) -> None:
+        """Tells the drawops that a host was given at its start."""
+        digits = [each for each, block in given if block.lines[-1:] == NEW]
         for each, told in zip(digits, self.words.all(digits)):
             if told.words is not None:
                 self.listener(Drawop(told.words, each))
@@ -96,60 +108,71 @@ class Board:
         self.host.end()
         if sum(now - end < 60 for end in self.ends) >= MOST_STARTS:
             raise BoardFault("the host ended %d times within a minute" % MOST_STARTS)
-        moment = self.moment
-        self.start(list(self.record.acts()) + self.unkept)
-        self.moment = max(moment, self.moment)
+        self.start(self.ready_at - self.moment)
+
+    def change_over(self, program: str) -> None:
+        """Goes on by another build of the program, from the record. HostEnded where that one ended, and the one before goes on."""
+        before, self.program = self.program, program
+        self.host.end()
+        try:
+            self.start(self.ready_at - self.moment)
+        except HostEnded:
+            self.program = before
+            self.start_again()
+            raise
 
     # ---- lines
 
     def tell(self, line: str) -> Block:
-        """The block of a line that changes nothing that is held. HostEnded where the host ended and was started again."""
+        """The block of a line. HostEnded where the host ended and was started again."""
         return self.tell_all([line])[0]
 
     def tell_all(self, lines: Sequence[str]) -> List[Block]:
         try:
-            blocks = self.host.ask_all(lines)
+            return self.ask(lines)
         except HostEnded:
             self.start_again()
             raise
-        for line, block in zip(lines, blocks):
-            self.heed(line, block)
-        return blocks
+
+    def came(self, many: Sequence[str]) -> List[Block]:
+        """Gives the host datagrams that came in."""
+        now = self.now()
+        return self.tell_all(["came %d %s" % (now, digits) for digits in many])
 
     def take(self, drawops: Sequence[Drawop]) -> List[Block]:
         """Gives the host drawops of others. Those that are new are kept and told."""
-        lines = ["datagram " + drawop.digits for drawop in drawops]
-        blocks = self.tell_all(lines)
-        self.keep([line for line, block in zip(lines, blocks) if block.lines == NEW])
-        for drawop, block in zip(drawops, blocks):
-            if block.lines == NEW:
-                self.listener(drawop)
+        blocks = self.came([drawop.digits for drawop in drawops])
+        new = [drawop for drawop, block in zip(drawops, blocks) if block.lines[-1:] == NEW]
+        self.keep(["datagram " + drawop.digits for drawop in new])
+        for drawop in new:
+            self.listener(drawop)
         return blocks
 
-    def mark(self, line: str) -> None:
-        """Gives the host a mark of its own number that was heard, and keeps it."""
-        if self.tell(line).fault is None:
-            self.keep([line])
-
-    def draw(self, words: str) -> Block:
-        """Gives the host a drawing of ours, which the record has before the host does. NoRoom where it can't have it."""
-        line = "say " + words
+    def draw(self, page: Page, seq: int, time_of_day: int, operation: str) -> Tuple[Block, Optional[Drawop]]:
+        """Has the host draw, which gives a drawing its number and its time. The record has room for it before. NoRoom where it has none."""
         self.keep([])
+        self.reserve()
+        try:
+            block = self.tell("add %d %d %d/%d %s" % (self.now(), time_of_day, *page, operation))
+        finally:
+            self.record.take_back()
+        name = "%08x%08x%08x%08x" % (self.me, *page, seq)
+        digits = next((each for each in block.sent() if each.startswith(DRAWOPS) and each[NAME] == name), None)
+        if digits is None:
+            return block, None
+        words = self.words.of(digits).words or self.words.all([digits])[0].words
+        if words is None:
+            raise HostEnded("wb words ended")
+        drawop = Drawop(words, digits)
+        self.keep(["say " + words])
+        self.listener(drawop)
+        return block, drawop
+
+    def reserve(self) -> None:
+        """Puts a line into the record that is taken off again. NoRoom where it can't have it."""
         if self.unkept:
             raise NoRoom("the record can't be written")
-        self.write([*self.tick_line(), line])
-        try:
-            block = self.host.ask(line)
-        except HostEnded:
-            self.record.take_back()
-            self.start_again()
-            raise
-        self.heed(line, block)
-        if not block.sent():
-            self.record.take_back()
-        else:
-            self.listener(Drawop(words, block.sent()[0]))
-        return block
+        self.write([ROOM])
 
     def tick_line(self) -> List[str]:
         return ["tick %d" % self.moment] if self.moment > self.kept_moment else []
@@ -158,20 +181,17 @@ class Board:
         """Puts lines into the record, and those before them for which there was no room."""
         self.unkept += self.tick_line() + lines if lines else []
         if self.unkept:
+            self.kept_moment = self.moment
             try:
                 self.write(self.unkept)
                 self.unkept = []
             except NoRoom:
-                self.kept_moment = self.moment
+                pass
 
     def write(self, lines: List[str]) -> None:
-        try:
-            self.record.add(*lines)
-            self.kept_moment = self.moment
-            self.is_broken = False
-        except NoRoom:
-            self.is_broken = True
-            raise
+        self.is_broken = True
+        self.record.add(*lines)
+        self.is_broken = False
 
     def sync(self) -> None:
         """Puts what is kept on the disk, and tries again what could not be kept."""
@@ -183,7 +203,7 @@ class Board:
 
     def renumber(self, me: int, path: Optional[str], held: List[Drawop]) -> None:
         """Goes on under another number, with a record of its own and with all that was held."""
-        head = [comment("constants %s for %d members" % (self.tuning, self.members)), "board %d %d 1 %d" % (me, self.cells, secrets.randbits(64))]
+        head = [FIRST_LINE, "board %d %d 1 %d" % (me, self.cells, secrets.randbits(64))]
         lines = [*head, "tick %d" % self.moment, *("datagram " + drawop.digits for drawop in held)]
         record = write_record(path, lines)
         if path != self.record.path:
@@ -191,7 +211,7 @@ class Board:
         self.record.close()
         self.record, self.unkept = record, []
         self.host.end()
-        self.start(list(record.acts()))
+        self.start()
 
     # ---- questions
 
@@ -205,19 +225,6 @@ class Board:
         while rows and not rows[-1]:
             rows.pop()
         return rows
-
-    def gaps(self, pages: Sequence[Page]) -> List[List[Tuple[int, int, int]]]:
-        """The missing numbers of each of these pages: source, first and last."""
-        blocks = self.tell_all(["gaps %d %d" % page for page in pages])
-        return [[(int(s), int(a), int(b)) for s, a, b in map(str.split, block.lines[1:])] for block in blocks]
-
-    def marks(self, page: Page) -> List[Tuple[int, int]]:
-        """The greatest number of each source that is held of a page."""
-        return [(int(s), int(high)) for s, high in map(str.split, self.tell("report %d %d" % page).lines[1:])]
-
-    def known(self) -> List[Page]:
-        """The pages that were heard of."""
-        return [(int(c), int(n)) for c, n in map(str.split, self.tell("known").lines[1:])]
 
     def next_number(self, page: Page) -> Optional[int]:
         """The number for the next drawop of ours on a page, where one is left."""

@@ -3,6 +3,8 @@ from __future__ import annotations
 
 import time
 
+SECOND = 1_000_000
+
 
 class Clock:
     """Moments count from a start that lies above every moment of the record. A test's clock may run faster."""

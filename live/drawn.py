@@ -14,7 +14,6 @@ class Sheet:
     def __init__(self) -> None:
         self.drawops: Dict[Name, Drawop] = {}
         self.tops: Dict[int, int] = {}  # the greatest number of each source
-        self.latest = 0
         self.shown: List[Drawop] = []
         self.keys: List[Key] = []
         self.hidden: Dict[Name, Drawop] = {}
@@ -28,7 +27,6 @@ class Sheet:
             return False
         self.drawops[drawop.name] = drawop
         self.tops[source] = max(seq, self.tops.get(source, 0))
-        self.latest = max(self.latest, drawop.time)
         if drawop.is_drawing():
             self.place(drawop)
         else:
@@ -106,12 +104,10 @@ class Drawn:
         """The pages that have drawops."""
         return [page for page, sheet in self.pages.items() if sheet.drawops]
 
-    def latest(self, page: Page, bound: int) -> int:
-        """The latest time on a page that is not above a bound."""
+    def missing(self, page: Page) -> int:
+        """How many numbers of a page are missing below the greatest that is held of each source."""
         sheet = self.pages.get(page)
-        if sheet is None or sheet.latest <= bound:
-            return sheet.latest if sheet else 0
-        return max((drawop.time for drawop in sheet.drawops.values() if drawop.time <= bound), default=0)
+        return sum(sheet.tops.values()) - len(sheet.drawops) if sheet else 0
 
     def all(self) -> Iterable[Drawop]:
         return [drawop for sheet in list(self.pages.values()) for drawop in list(sheet.drawops.values())]

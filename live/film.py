@@ -4,7 +4,7 @@ from __future__ import annotations
 from bisect import bisect_right
 from typing import Any, Callable, Dict, List, Optional, Sequence, Tuple
 
-from .pacing import SECOND
+from .clock import SECOND
 from .views import Drawop
 from .words import Words
 

@@ -17,6 +17,7 @@ from .carriers.worse import Worse
 from .events import Events
 from .judging import Judging
 from .member import Member
+from .proving import Stage
 from .record import NoRoom, Record
 from .state import random_number
 
@@ -42,8 +43,9 @@ class Guest:
         options = copy.copy(keeper.options)
         carrier = Worse(hub.place(), options)
         self.member = Member(options, keeper.board.program, Record(None), carrier, self.events, random_number(), keeper.words)
-        self.member.judge(Judging(self.member, may_have_drawn=False))
+        self.member.judge(Judging(self.member))
         self.member.streams = keeper.streams
+        self.member.stage = keeper.stage
 
     def watch(self, by: int) -> None:
         """So many windows more, or fewer, look at it."""
@@ -109,6 +111,11 @@ class Guests:
         finally:
             self.guests.pop(guest.cookie, None)
             guest.events.end()
+
+    def take_stage(self, stage: Stage) -> None:
+        """Hands on how far the proof is, and which build is there now."""
+        for guest in list(self.guests.values()):
+            guest.member.inbox.call(lambda member=guest.member: member.take_stage(stage))  # type: ignore[misc]
 
     def end(self) -> None:
         for guest in list(self.guests.values()):

@@ -57,10 +57,9 @@ class Inbox:
 
     def tell(self, trouble: str) -> None:
         """What is the matter with the network; empty where it carries."""
-        is_back = bool(self.trouble) and not trouble
-        self.trouble = trouble
-        if is_back:
+        if self.trouble and not trouble:
             self.call(self.back)
+        self.trouble = trouble
 
     def put(self, arrival: Arrival, delay: float) -> None:
         """A datagram is due after so many seconds. What is for drivers alone does not wait."""

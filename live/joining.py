@@ -9,8 +9,8 @@ from typing import TYPE_CHECKING, Dict, Iterator, List, Optional
 from .carriers.carrier import MOST_BYTES
 from .carriers.sealed import NONCE, TAG, Seal
 from .carriers.udp import UdpCarrier
+from .heard import Other
 from .options import Address
-from .pacing import Other
 
 if TYPE_CHECKING:
     from .member import Member

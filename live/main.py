@@ -6,7 +6,7 @@ import sys
 import webbrowser
 from typing import List, Optional, Tuple
 
-from wbhost import HostEnded, NoProgram, find_program
+from wbhost import HostEnded, NoProgram
 
 from .board import BoardFault
 from .carriers.carrier import NetworkFault, Nobody
@@ -21,10 +21,11 @@ from .judging import Judging
 from .keys import KeyFault, write_key
 from .member import Member
 from .options import Options, read_options
+from .proving import Proof, Stage, Teller, build_of, find_now
 from .record import NoRoom, Record, RecordFault, read_played
 from .replay import Playing
 from .state import open_record
-from .telling import NOTICE
+from .telling import notice_of
 from .terminal import Terminal
 from .web import Web, open_web
 from .words import SharedWords
@@ -44,15 +45,24 @@ def replay(options: Options, program: str, events: Events, path: str) -> Member:
 
 def make_member(options: Options, events: Events) -> Tuple[Member, Optional[Guests]]:
     """The member of the network, or of a record that is shown; and those of browsers, where each has its own."""
-    program = find_program()
+    guests: Optional[Guests] = None
+    program, is_proved = find_now()
     if options.replay:
-        return replay(options, program, events, options.replay), None
-    record, me, may_have_drawn = open_record(options)
+        member = replay(options, program, events, options.replay)
+    else:
+        member, guests = join(options, program, events)
+    member.stage = Stage(program, is_proved, is_beside=not options.replay, build=build_of(program))
+    return member, guests
+
+
+def join(options: Options, program: str, events: Events) -> Tuple[Member, Optional[Guests]]:
+    """The member of the network, and those of browsers, where each has its own."""
+    record, me = open_record(options)
     carrier, udp, seal = open_network(options, me)
     hub = Hub(carrier) if options.guests else None
     words = SharedWords(program) if hub else None
     member = Member(options, program, record, Worse(hub.place() if hub else carrier, options), events, me, words)
-    member.judge(Judging(member, may_have_drawn))
+    member.judge(Judging(member))
     if udp:
         member.streams = Streams(udp, seal)
         Offer(member, member.streams).begin()
@@ -69,6 +79,22 @@ def invite(options: Options) -> None:
         print("wb-live: this session has no key: whoever is on its network can read and draw", file=sys.stderr)
 
 
+def prove_beside(member: Member, guests: Optional[Guests], is_told: bool) -> Optional[Proof]:
+    """The proof beside a member whose program is not proved. When it is done, the member changes over, and those of browsers."""
+    if member.stage.is_proved or member.options.replay:
+        return None
+    teller = Teller(sys.stderr.isatty(), member.stage)
+
+    def take(stage: Stage) -> None:
+        member.take_stage(stage)
+        if guests:
+            guests.take_stage(stage)
+        if is_told:
+            teller.tell(stage)
+
+    return Proof(member.stage.program, lambda stage: member.inbox.call(lambda: take(stage)))
+
+
 def hold(options: Options) -> None:
     """Holds the session until it is ended."""
     events = Events()
@@ -76,6 +102,7 @@ def hold(options: Options) -> None:
     web: Optional[Web] = open_web(options, member, events, guests) if options.web else None
     for number in (signal.SIGINT, signal.SIGTERM, signal.SIGHUP):
         signal.signal(number, lambda *_: member.end())
+    print(notice_of(member), flush=True)
     print("member %d, %s" % (member.me, member.network.where), flush=True)
     if web:
         web.begin()
@@ -86,9 +113,14 @@ def hold(options: Options) -> None:
     terminal = Terminal(member, events) if options.terminal and sys.stdin.isatty() and sys.stdout.isatty() else None
     if terminal:
         terminal.begin()
+    proof = prove_beside(member, guests, terminal is None)
     try:
         member.run()
     finally:
+        if proof:
+            proof.end()
+            if sys.stderr.isatty():
+                print(file=sys.stderr)  # behind the bar, which renews its line
         events.end()
         if terminal:
             terminal.end()
@@ -106,7 +138,6 @@ def main(words: List[str]) -> int:
         elif options.invite:
             invite(options)
         else:
-            print(NOTICE, flush=True)
             hold(options)
     except FAULTS as fault:
         print("wb-live: %s" % (fault or "the host ended"), file=sys.stderr)

@@ -4,7 +4,7 @@ from __future__ import annotations
 
 import os
 import time
-from typing import Any, Dict, List, Optional, Union
+from typing import Any, Dict, Optional, Sequence, Union
 
 from wbhost import Block, HostEnded
 
@@ -19,6 +19,7 @@ from .joining import Streams
 from .judging import Judging
 from .options import Options
 from .people import People
+from .proving import Stage
 from .presence import Point, Presence, write
 from .record import Record
 from .replay import Playing
@@ -49,6 +50,7 @@ class Member:
         self.has_turned = False  # until then it goes where something is drawn
         self.is_ready = False
         self.is_ended = False
+        self.stage = Stage(program, is_proved=True)
         self.synced_at = time.monotonic()
         self.people = People(self)
         self.telling = Telling(self, events)
@@ -66,7 +68,7 @@ class Member:
         """Goes on until it is ended."""
         self.presence = Presence(self.me, self.telling.events)
         self.inbox.aside = self.hear_aside
-        self.inbox.back = lambda: self.judging.begin_again()
+        self.inbox.back = self.begin_again
         self.network.begin(self.inbox)
         while not self.is_ended:
             try:
@@ -113,7 +115,7 @@ class Member:
         self.network.end()
         self.board.host.end()
         self.words.end()
-        self.board.record.close()
+        self.board.record.end()
 
     def end(self) -> None:
         """Ends its thread."""
@@ -122,22 +124,39 @@ class Member:
 
     # ---- the host
 
+    def take_stage(self, stage: Stage) -> None:
+        """Tells how far the proof is; where another build is there, goes on by that one."""
+        before, self.stage = self.stage, stage
+        if (stage.program, stage.build) == (before.program, before.build):
+            return
+        try:
+            self.board.change_over(stage.program)
+            self.words.change_over(stage.program)
+        except HostEnded:
+            self.stage = Stage(before.program, False, fault="the host of another build ended", build=before.build)
+        # what is told is compared with what this host shows
+        self.telling.is_changed = True
+
+    def begin_again(self) -> None:
+        """The network was gone and is back: a host that starts from the record asks at once, without the waits that have grown."""
+        try:
+            self.board.change_over(self.board.program)
+        except HostEnded:
+            pass
+
     def tell(self, line: str) -> Block:
         """The block of a line, after its datagrams were sent."""
-        return self.tell_all([line])[0]
+        block = self.board.tell(line)
+        self.send_all(block.sent())
+        return block
 
-    def tell_all(self, lines: List[str]) -> List[Block]:
-        """The blocks of lines, after their datagrams were sent."""
-        blocks = self.board.tell_all(lines)
-        for digits in (digits for block in blocks for digits in block.sent()):
+    def tick(self) -> None:
+        """The host does what is due."""
+        self.tell("tick %d" % self.board.now())
+
+    def send_all(self, many: Sequence[str]) -> None:
+        for digits in many:
             self.send(digits)
-        return blocks
-
-    def advance(self) -> None:
-        """Makes this the present moment, where the last is older than a millisecond."""
-        now = self.board.clock.now()
-        if now - self.board.moment >= 1000:
-            self.tell("tick %d" % now)
 
     def send(self, digits: str) -> None:
         data = bytes.fromhex(digits)
@@ -166,7 +185,6 @@ class Member:
         """Makes this the page in view."""
         self.page = page
         self.has_turned = True
-        self.judging.doubt(page)
         self.telling.is_changed = True
 
     def renumber(self, me: int) -> None:
@@ -175,7 +193,7 @@ class Member:
         self.me = me
         self.presence.renumber(me)
         self.judging.end()
-        self.judge(Judging(self, may_have_drawn=False))
+        self.judge(Judging(self))
         self.telling.is_changed = True
 
 

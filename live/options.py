@@ -15,6 +15,13 @@ Address = Tuple[str, int]
 GROUP = "239.255.42.99:24299"
 FIRST_PORT = 24200
 
+# bytes a second of the reports of all members
+RATE = 4_000
+
+# The constants of the timers, C1,C2,D1,D2. Where members are about equally far from one another nothing but chance parts them. Of 50 at one
+# distance at most 6 ask and 6 repair for a loss, in the mean: by the second up to 5 ms, by the third farther apart (docs/LABORATORY.md).
+TUNING, NEAR_TUNING, LEVEL_TUNING = "2,2,1,1", "2,8,1,6", "3,16,1,11"
+
 # browsers that may have a member each
 GUESTS = 64
 
@@ -50,7 +57,7 @@ class Options(argparse.Namespace):
     forget: bool
     replay: Optional[str]
     cells: int
-    members: int  # 0: nobody says
+    rate: int
     lose: float
     delay: float
     twice: float
@@ -62,9 +69,11 @@ class Options(argparse.Namespace):
         """How the network is made worse on purpose, where datagrams come in."""
         return {"lose": self.lose, "delay": self.delay, "twice": self.twice, "mix": self.mix}
 
-    def is_level(self) -> bool:
-        """Whether the members of its network are about equally far from one another, and may be many."""
-        return bool(self.lan or self.broker or self.guests)
+    def tuning(self) -> str:
+        """The constants of the timers: at a broker, on a LAN and for members of browsers all are at about one distance."""
+        if self.broker:
+            return LEVEL_TUNING
+        return NEAR_TUNING if self.lan or self.guests else TUNING
 
 
 def address(text: str) -> Address:
@@ -143,43 +152,47 @@ def parser() -> argparse.ArgumentParser:
     made = argparse.ArgumentParser(
         prog="wb-live",
         description="Holds a session of wb: people draw together, in a browser or a terminal. With no words it is for "
-        "this machine alone. The host that keeps the board is proved; what stands round it here is not.",
+        "this machine alone. The host that keeps the board is proved; until its first proof is done, a build of it serves that is "
+        "only checked while it runs. The network, the clock and the page are tested, and not proved.",
+        epilog="Records stand in $XDG_STATE_HOME/wb, or else in ~/.local/state/wb, in a folder for each session. All checkouts and "
+        "installations of one user share them, so a start of any goes on with the same boards. XDG_STATE_HOME=FOLDER "
+        "before the command chooses another place, --record a file, and --forget a new board.",
     )
     net = made.add_argument_group("whom to draw with").add_argument
     net("--lan", nargs="?", const=address(GROUP), type=address, metavar="ADDRESS:PORT", help="a multicast group, %s where none is given" % GROUP)
     net("--broker", metavar="URL", help="a session at a broker of MQTT 5: mqtts://HOST[:PORT]/SESSION, or wss://HOST[:PORT]/PATH with --session")
     net("--password-file", dest="login", type=checked(login_of), metavar="FILE", help="has NAME:PASSWORD for the broker in its first line")
-    net("--ca", metavar="FILE", help="the certificates that vouch for the broker, where they are not those of the system")
+    net("--ca", metavar="FILE", help="the certificate authority of the broker, where the system does not trust it already")
     net("--interface", default="0.0.0.0", metavar="A", help="the address of the interface on which the group is joined")
     net("--listen", type=address, metavar="HOST:PORT", help="listens here, and sends to each --peer")
-    net("--peer", type=address, action="append", metavar="HOST:PORT", help="another member, which listens there; as often as there are")
+    net("--peer", type=address, action="append", metavar="HOST:PORT", help="another member, which listens there; may be repeated")
     net("--ports", type=within(1, 65_535 - PORTS, int), default=FIRST_PORT, metavar="FIRST", help="the first of the %d ports of this machine, else %d" % (PORTS, FIRST_PORT))
-    net("--me", type=within(0, 2**32 - 1, int), metavar="N", help="the number of this member, which no other has; else that of its record, or one at random")
-    net("--members", type=within(1, 10**6, int), default=0, metavar="N", help="how many are expected: the constants of the timers are those for N members")
+    net("--me", type=within(0, 2**32 - 1, int), metavar="N", help="the number of this member, which no other may have; else that of its record, or a random one")
+    net("--rate", type=within(1, 10**6, int), default=RATE, metavar="BYTES", help="what the reports of all members may take together, in bytes a second, else %d; 400 for slow links" % RATE)
     shut = made.add_argument_group("who may read").add_argument
     shut("invitation", nargs="?", type=checked(read_invitation), metavar="INVITATION", help="a line that --invite printed: joins that session")
     shut("--session", type=checked(session_in), default=FIRST_NAME, metavar="NAME", help="the name of the session, else %s" % FIRST_NAME)
     shut("--key", type=checked(read_key), metavar="FILE", help="seals each datagram by the key in this file")
-    shut("--new-key", metavar="FILE", help="makes a file with a new key, which only its owner reads, and ends")
-    shut("--invite", action="store_true", help="prints a line that brings others into this session, with its key, and ends")
+    shut("--new-key", metavar="FILE", help="makes a file with a new key, which only its owner can read, and ends")
+    shut("--invite", action="store_true", help="prints a line by which others join this session, with its key, and ends")
     shut("--page", type=page_address, metavar="URL", help="the line of --invite begins with the address of this page, which wb --page built")
     seen = made.add_argument_group("where it is seen").add_argument
     seen("--web", action=WebAction, default=("127.0.0.1", -1), metavar="PORT", help="serves the page on this port of 127.0.0.1; with ADDRESS:PORT it is served there, and each browser is a member of its own")
     seen("--guests", type=within(1, GUESTS, int), metavar="N", help="so many browsers have a member of their own at most, else %d" % GUESTS)
-    seen("--origin", type=origin, action="append", default=[], metavar="URL", help="the page is seen under this address too, as https://board.example.org, where a proxy stands before it; as often as there are")
+    seen("--origin", type=origin, action="append", default=[], metavar="URL", help="another address of the page, as https://board.example.org, behind a proxy; may be repeated")
     seen("--no-web", dest="web", action="store_const", const=None, help="serves no page, and paints it in the terminal")
     seen("--terminal", action="store_true", default=None, help="paints the page in the terminal")
     seen("--no-terminal", dest="terminal", action="store_false", help="paints nothing in the terminal")
     seen("--open", action="store_true", help="opens the page in a browser")
     kept = made.add_argument_group("what is kept").add_argument
-    kept("--record", metavar="FILE", help="keeps the board in this file, and goes on from what is there; else in the state directory (docs/LIVE.md)")
+    kept("--record", metavar="FILE", help="keeps the board in this file, and goes on from its lines; else in a file of the session's folder, as told below")
     kept("--forget", action="store_true", help="forgets the record, and starts anew with another number")
     kept("--replay", metavar="FILE", help="shows a record as it went, and sends nothing")
     kept("--cells", type=within(1, 65_535, int), default=65_535, metavar="N", help="room for so many drawops, else 65535")
     worse = made.add_argument_group("a worse network, on purpose").add_argument
-    worse("--lose", type=within(0, 1, float), default=0.0, metavar="P", help="loses this part of what comes in, 0 to 1")
+    worse("--lose", type=within(0, 1, float), default=0.0, metavar="P", help="loses this share of what comes in, 0 to 1")
     worse("--delay", type=within(0, 5000, float), default=0.0, metavar="MS", help="delays what comes in, up to 5000 milliseconds")
-    worse("--twice", type=within(0, 1, float), default=0.0, metavar="P", help="lets this part come in twice")
+    worse("--twice", type=within(0, 1, float), default=0.0, metavar="P", help="lets this share come in twice")
     worse("--mix", action="store_true", help="delays at random, so that order is lost")
     worse("--teach", action="store_true", help="lets the page change these four")
     made.add_argument_group("for tests").add_argument(

@@ -7,10 +7,8 @@ from typing import TYPE_CHECKING, Any, Callable, Dict, List, Tuple
 
 from wbhost import HostEnded
 
-from .board import CLASH
 from .record import NoRoom
 from .state import random_number
-from .times import MINUTE, MOST_LEAD, wall
 from .views import Page, page_text
 
 if TYPE_CHECKING:
@@ -18,8 +16,8 @@ if TYPE_CHECKING:
 
 OPERATIONS = ("line", "frame", "text", "delete", "restore")
 
-# `draw SOURCE PAGE SEQ TIME` stands before an operation: in the fault of a word its place is told without them
-WORDS_BEFORE = 5
+# `NOW TIME PAGE` stands before an operation: in the fault of a word its place is told without them
+WORDS_BEFORE = 3
 
 # drawings that wait until the member may draw
 MOST_WAITING = 1_024
@@ -91,24 +89,16 @@ class People:
             raise Refused(fault)
         if member.judging.room.is_full() and kind not in ("delete", "restore"):
             raise Refused("full")
-        member.advance()
         seq = member.board.next_number(page)
         if seq is None:
             raise Refused("too many")
-        words = "draw %d %s %d %d %s" % (member.me, page_text(page), seq, self.time_on(page), operation)
-        block = member.board.draw(words)
+        block, drawop = member.board.draw(page, seq, member.judging.now(), operation)
+        member.send_all(block.sent())
         if block.fault is not None:
             raise Refused(re.sub("(?<=^word )[0-9]+", lambda place: str(int(place[0]) - WORDS_BEFORE), block.fault))
-        if not block.sent():
-            raise Refused("clash" if block.lines == CLASH else "full")
-        for digits in block.sent():
-            member.send(digits)
-        return {"source": member.me, "seq": seq, "page": page_text(page), "words": words}
-
-    def time_on(self, page: Page) -> int:
-        """The time of a drawing: that of the session's day, or one more than the latest on the page, within a day of this machine's
-        clock. So what is drawn last lies on top, also where this clock is late."""
-        return max(self.member.judging.now(), self.member.drawn.latest(page, wall() + MOST_LEAD + MINUTE) + 1)
+        if drawop is None:
+            raise Refused("full")
+        return {"source": member.me, "seq": seq, "page": page_text(page), "words": drawop.words}
 
     def turn_to(self, page: Page) -> Dict[str, Any]:
         """Makes this the page in view."""
@@ -120,8 +110,7 @@ class People:
         member = self.member
         if member.page[0] == member.me and not member.drawn.count(member.page):
             return self.turn_to(member.page)
-        used = {page[1] for page in [*member.board.known(), member.page] if page[0] == member.me}
-        used |= {page[1] for _, page, _ in member.judging.asking.far if page[0] == member.me}
+        used = {page[1] for page in [*member.drawn.drawn_pages(), *member.judging.told.pages(), member.page] if page[0] == member.me}
         number = next(number for number in range(1, len(used) + 2) if number not in used)
         return self.turn_to((member.me, min(number, MOST_PAGE)))
 

@@ -9,9 +9,7 @@ import os
 import re
 import tempfile
 import time
-from typing import Iterator, List, Optional, Tuple
-
-from .tunings import FIRST_TUNING
+from typing import Iterator, List, Optional
 
 # no line of a record is longer than this: the longest has a datagram of 65,507 bytes
 MOST_LINE = 131_072
@@ -19,8 +17,14 @@ MOST_LINE = 131_072
 # lines of older records that change nothing
 QUERIES = ("view", "show", "gaps", "report", "pages", "known", "next", "#")
 
-# a comment that says by which constants the host answers from here on, and for how many members they were chosen
-CONSTANTS = re.compile(r"# constants ([0-9,]{1,20}) for ([0-9]{1,9}) members ")
+# The first line of a record, with the version of its lines. Records before version 1 have none, and are read the same.
+VERSION = 1
+FIRST_LINE = "# wb record %d" % VERSION
+WRITTEN_BY = re.compile(rb"# wb record ([0-9]{1,9})\n")
+
+# the last line of a member that ended as it should, and more bytes than that has
+ENDED = "ended"
+MOST_END = 64
 
 # how a record begins: comments, and then the line of the board
 HEAD = re.compile(rb"(?:#[^\n]*\n)*board [0-9]{1,10} [0-9]{1,5} [0-9] [0-9]{1,20}\n")
@@ -36,8 +40,11 @@ class NoRoom(Exception):
 
 
 def check_head(file: int, path: Optional[str]) -> bool:
-    """Whether a file is empty. One that does not begin as a record is refused; its rest is not read."""
+    """Whether a file is empty. One that does not begin as a record is refused, and one of a later version; its rest is not read."""
     head = os.pread(file, MOST_HEAD, 0)
+    version = WRITTEN_BY.match(head)
+    if version and int(version[1]) > VERSION:
+        raise RecordFault("%s is a record of version %d, of a later wb; this one reads version %d. It stays as it is" % (path, int(version[1]), VERSION))
     if head and not HEAD.match(head):
         raise RecordFault("%s does not begin as a record: it stays as it is" % path)
     return not head
@@ -121,12 +128,9 @@ class Record:
         """The line of the board, where there is one."""
         return next(self.acts(), None)
 
-    def constants(self) -> Tuple[str, int]:
-        """The constants by which the host answered last, and for how many members they were chosen."""
-        last = FIRST_TUNING, 0
-        for found in filter(None, map(CONSTANTS.match, lines_of(self.file))):
-            last = found[1], int(found[2])
-        return last
+    def is_ended(self) -> bool:
+        """Whether the member ended as it should, so that no line is lost."""
+        return os.pread(self.file, MOST_END, max(0, self.size - MOST_END)).split(b"\n")[-2:][0].startswith(b"# " + ENDED.encode())
 
     def add(self, *lines: str) -> None:
         """Puts lines into the file, all or none: a crash of this process does not lose them from now on."""
@@ -163,6 +167,14 @@ class Record:
     def remove(self) -> None:
         if self.path is not None:
             os.unlink(self.path)
+
+    def end(self) -> None:
+        """Closes it, and says that nothing was lost."""
+        try:
+            self.add(comment(ENDED))
+        except NoRoom:
+            pass
+        self.close()
 
     def close(self) -> None:
         try:

@@ -4,14 +4,15 @@ from __future__ import annotations
 
 from typing import TYPE_CHECKING, Any, Callable, Dict, Iterator, List, Optional, Tuple
 
-from .asking import Asking
+from .board import NEW
 from .carriers.carrier import Origin
+from .clock import SECOND
 from .drawn import Drawn
 from .film import SPEEDS, Film, scenes_of
+from .heard import Heard, Told
 from .inbox import Arrival
-from .pacing import SECOND, Heard
 from .times import wall
-from .views import Drawop, Page, kind_of
+from .views import Drawop
 
 if TYPE_CHECKING:
     from .member import Member
@@ -30,7 +31,7 @@ class Playing:
         self.member = member
         self.film = Film(list(lines), member.board.clock.now)
         self.tell_at = 0
-        self.asking = Asking()
+        self.told = Told()
         self.heard = Heard()
         self.has_twin = False
         member.telling.events.tell("scenes", scenes_of(self.film, member.words))
@@ -44,8 +45,8 @@ class Playing:
 
     def tell(self) -> None:
         """Tells where the film is, and how many drawops are missing there."""
-        film, sheets = self.film, self.member.drawn.pages.values()
-        missing = sum(sum(sheet.tops.values()) - len(sheet.drawops) for sheet in sheets)
+        film, drawn = self.film, self.member.drawn
+        missing = sum(map(drawn.missing, drawn.pages))
         self.member.telling.events.tell("film", {
             "at": film.at() // 1000, "last": film.last // 1000, "speed": film.speed, "stopped": film.is_stopped, "missing": missing,
         })
@@ -65,7 +66,7 @@ class Playing:
         if moment < self.film.at():
             member.board.host.end()
             member.board.moment = 0
-            member.board.start([member.board.record.first() or ""])
+            member.board.start()
             member.drawn = Drawn()
             member.telling.page, member.telling.is_changed = None, True
             self.film.next = 0
@@ -86,30 +87,22 @@ class Playing:
         if word == "datagram" and len(line) % 2:
             self.arrive([Arrival(bytes.fromhex(line[9:]), Origin("record"))])
         elif line.startswith("say draw "):
-            for digits in member.board.draw(line[4:]).sent():
-                member.send(digits)
+            for digits in member.tell(line).sent():
+                member.hold(Drawop(line[4:], digits))
         elif word != "board":
             member.tell(line)
 
     def arrive(self, arrivals: List[Arrival]) -> None:
+        member = self.member
         for arrival in arrivals:
-            self.arrive_one(arrival)
-
-    def arrive_one(self, arrival: Arrival) -> None:
-        member, digits = self.member, arrival.data.hex()
-        told = member.words.of(digits)
-        entry = member.wire.came(arrival, told.words)
-        if told.words is not None and kind_of(told.words) == "draw":
-            entry["refused"] = member.board.take([Drawop(told.words, digits)])[0].fault
-        else:
-            entry["refused"] = member.board.tell("datagram " + digits).fault
-        member.wire.tell(entry)
+            digits = arrival.data.hex()
+            told, block = member.words.of(digits), member.board.tell("datagram " + digits)
+            if told.words is not None and block.lines == NEW:
+                member.hold(Drawop(told.words, digits))
+            member.wire.tell({**member.wire.came(arrival, told.words), "refused": block.fault})
 
     def now(self) -> int:
         return wall()
-
-    def doubt(self, page: Page) -> None:
-        """Nothing is asked for."""
 
     def went(self, digits: str) -> None:
         """Nothing is sent."""

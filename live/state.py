@@ -85,14 +85,14 @@ def first_free(options: Options) -> Tuple[Record, int]:
     return Record(str(folder / ("%d.wb" % number))), number
 
 
-def open_record(options: Options) -> Tuple[Record, int, bool]:
-    """The record of this start, the member's number, and whether the number may have drawn before what the record has."""
+def open_record(options: Options) -> Tuple[Record, int]:
+    """The record of this start, and the member's number."""
     record, number = (named(options), 0) if options.record or options.me is not None else first_free(options)
     first = record.first()
     if first is None:
-        return record, number or (random_number() if options.me is None else options.me), options.me is not None
+        return record, number or (random_number() if options.me is None else options.me)
     me = int(first.split()[1])
     if options.me not in (None, me):
         record.close()
         raise RecordFault("%s is the record of member %d" % (record.path, me))
-    return record, me, True
+    return record, me

@@ -1,13 +1,15 @@
 """What a member tells its views: what changed on the page, the pages, who is there, and what is missing."""
 from __future__ import annotations
 
+import os
 import time
 from typing import TYPE_CHECKING, Any, Dict, List, Set
 
 from .board import COLUMNS
+from .clock import SECOND
 from .drawn import Sheet
 from .events import Events, Whole
-from .pacing import GONE_AFTER, SECOND
+from .heard import GONE_AFTER
 from .views import Name, Page, page_text
 
 if TYPE_CHECKING:
@@ -30,6 +32,12 @@ CHECK_PART = 50
 # pages that are told
 MOST_PAGES = 1_000
 MOST_MEMBERS = 500
+
+
+def notice_of(member: Member) -> str:
+    if not member.stage.is_proved:
+        return member.stage.text()
+    return NOTICE.replace("which is proved", "the program that WB_PROGRAM names") if os.environ.get("WB_PROGRAM") else NOTICE
 
 
 class Telling:
@@ -81,9 +89,9 @@ class Telling:
     def tell_hello(self) -> None:
         member, options = self.member, self.member.options
         self.events.tell("hello", {
-            "me": member.me, "mode": member.network.where, "notice": NOTICE, "program": member.board.program,
+            "me": member.me, "mode": member.network.where, "notice": notice_of(member), "program": member.board.program,
             "teach": options.teach, "worsen": options.worse(), "cells": member.board.cells, "ready": member.is_ready,
-            "twin": member.judging.has_twin, "broken": member.board.is_broken,
+            "twin": member.judging.has_twin, "broken": member.board.is_broken, "proof": member.stage.told(),
         })
 
     # ---- the page
@@ -140,7 +148,7 @@ class Telling:
 
     def tell_pages(self) -> None:
         member = self.member
-        pages = sorted({*member.drawn.drawn_pages(), *(name[1] for name in member.judging.asking.far), member.page})
+        pages = sorted({*member.drawn.drawn_pages(), *member.judging.told.pages(), member.page})
         told = [{"page": page_text(page), "drawn": member.drawn.count(page)} for page in pages[:MOST_PAGES]]
         self.events.tell("pages", {"page": page_text(member.page), "pages": told})
 
@@ -148,13 +156,13 @@ class Telling:
         now = self.member.board.clock.now()
         told = [{
             "member": number, "distance": None if other.distance is None else other.distance / 1000,
-            "heard": round((now - other.at) / SECOND, 1), "page": page_text(other.page) if other.page else None,
+            "heard": round((now - other.at) / SECOND, 1),
         } for number, other in sorted(self.member.judging.heard.present(now).items())]
         self.events.tell("members", {"me": self.member.me, "members": told[:MOST_MEMBERS]})
 
     def tell_health(self) -> None:
         member, page = self.member, self.member.page
-        missing, asking, given_up = member.judging.asking.counts(page)
+        missing = member.judging.told.missing(page, member.drawn)
         if missing:
             self.missing.add(page)
         elif page in self.missing:
@@ -162,8 +170,7 @@ class Telling:
             self.caught_up[page] = member.board.clock.now()
         counts = dict(member.wire.counts, dropped=member.inbox.dropped, foreign=member.inbox.foreign, starts=1 + len(member.board.ends), differences=self.differences)
         self.events.tell("health", {
-            "page": page_text(page), "phrase": self.phrase(missing, asking, given_up), "missing": missing,
-            "asking": asking, "given_up": given_up, "warnings": self.warnings(), "counts": counts,
+            "page": page_text(page), "phrase": self.phrase(missing), "missing": missing, "warnings": self.warnings(), "counts": counts,
         })
 
     def warnings(self) -> List[str]:
@@ -176,10 +183,10 @@ class Telling:
         ]
         return member.alarms.told() + [text for is_so, text in lasting if is_so]
 
-    def phrase(self, missing: int, asking: int, given_up: int) -> str:
+    def phrase(self, missing: int) -> str:
         """The health of the page in one phrase."""
         if missing:
-            return "%d missing" % missing + (", %d given up" % given_up if given_up else ", asking" if asking else "")
+            return "%d missing" % missing
         now, at = self.member.board.clock.now(), self.caught_up.get(self.member.page)
         if at is not None and now - at < GONE_AFTER:
             return "caught up %d s ago" % ((now - at) // SECOND)

@@ -11,7 +11,7 @@ from typing import Any, Callable, Dict
 from .events import Events, Watcher
 from .member import Member
 from .people import OPERATIONS, Refused
-from .telling import NOTICE
+from .telling import notice_of
 from .views import page_of
 
 HELP = 'line X0 Y0 X1 Y1 GLYPH | frame .. | text X Y "TEXT" | delete SOURCE SEQ | restore .. | undo | page C/N | new | number | who | wire | quit'
@@ -30,7 +30,7 @@ class Terminal:
         self.member = member
         self.watcher = Watcher(events)
         self.state: Dict[str, Any] = {"board": {"rows": []}, "health": {}, "members": {"members": []}}
-        self.said = NOTICE
+        self.said = notice_of(member)
         self.shows_wire = False
         self.lock = threading.Lock()
 
@@ -64,6 +64,8 @@ class Terminal:
 
     def take_in(self, name: str, value: Dict[str, Any]) -> None:
         """A state, or what changed of the page's rows."""
+        if name == "hello" and value["proof"]["text"] != self.state.get("hello", value)["proof"]["text"]:
+            self.said = value["proof"]["text"]
         if name != "change":
             self.state[name] = value
             return
@@ -85,7 +87,8 @@ class Terminal:
     def status(self) -> str:
         health, others = self.state["health"], len(self.state["members"]["members"])
         there = "member %d and %d other%s" % (self.member.me, others, "" if others == 1 else "s")
-        return " | ".join(["page " + health.get("page", ""), health.get("phrase", ""), there] + health.get("warnings", [])[-1:])
+        proof = self.state.get("hello", {}).get("proof", {}).get("progress")
+        return " | ".join((["NOT PROVED YET, " + proof] if proof else []) + ["page " + health.get("page", ""), health.get("phrase", ""), there] + health.get("warnings", [])[-1:])
 
     # ---- what is typed
 

@@ -5,9 +5,9 @@ import heapq
 import time
 from typing import Dict, Iterable, List, Optional, Set, Tuple
 
+from .clock import SECOND
 from .views import Drawop, Name
 
-SECOND = 1_000_000
 MINUTE = 60 * SECOND
 
 # a clock is believed to be so late at most

@@ -33,6 +33,12 @@ class Words:
     def end(self) -> None:
         self.child.end()
 
+    def change_over(self, program: str) -> None:
+        """Goes on by another build of the program."""
+        self.command = [program, *self.command[1:]]
+        self.child.end()
+        self.child = Child(self.command)
+
     def of(self, digits: str) -> Told:
         if digits != self.last:
             self.told = self.all([digits])[0]
@@ -70,6 +76,12 @@ class SharedWords(Words):
 
     def end(self) -> None:
         """It ends with the program."""
+
+    def change_over(self, program: str) -> None:
+        """The first of its members that changes over does so for all."""
+        with self.lock:
+            if self.command[0] != program:
+                super().change_over(program)
 
     def of(self, digits: str) -> Told:
         return self.all([digits])[0]

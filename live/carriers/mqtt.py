@@ -7,6 +7,7 @@ import secrets
 import ssl
 import sys
 import threading
+from types import ModuleType
 from typing import Any, NamedTuple, Optional
 
 from ..packages import module_of
@@ -96,7 +97,7 @@ class MqttCarrier:
     def made(self, will: bytes) -> Any:
         broker, login = self.room.broker, self.room.login
         is_web = broker.scheme in ("ws", "wss")
-        client = self.mqtt.Client("wb-" + secrets.token_hex(8), protocol=self.mqtt.MQTTv5, transport="websockets" if is_web else "tcp")
+        client = lasting(self.mqtt)("wb-" + secrets.token_hex(8), protocol=self.mqtt.MQTTv5, transport="websockets" if is_web else "tcp")
         client.suppress_exceptions = True
         client.will_set(self.topic, will)
         client.reconnect_delay_set(random.uniform(0.5, 1.5), MOST_PAUSE)
@@ -191,6 +192,27 @@ class MqttCarrier:
         codes = module_of("paho.mqtt.reasoncodes", "python3-paho-mqtt", "--broker")
         if not self.client.disconnect(codes.ReasonCodes(self.mqtt.DISCONNECT >> 4, "Disconnect with will message")):
             self.ended.wait(FAREWELL)
+
+
+def lasting(mqtt: ModuleType) -> Any:
+    """A client whose thread goes on whatever befalls its connection. That of the package ends by each fault but a connection that was
+    reset: by one of TLS, a network that can't be reached, a time that ran out, or a packet that can't be read."""
+
+    class Lasting(mqtt.Client):  # type: ignore[name-defined, misc]
+        def loop_forever(self, *words: Any, **named: Any) -> int:
+            while True:
+                try:
+                    return int(super().loop_forever(*words, **named))
+                except Exception:
+                    self.lose()
+
+        def lose(self) -> None:
+            """What is closed counts as lost, and the next turn connects again, after the pause of one that failed."""
+            self.on_disconnect(self, None, mqtt.MQTT_ERR_CONN_LOST)
+            if self.socket():
+                self.socket().close()
+
+    return Lasting
 
 
 def words_of(fault: Any) -> str:

@@ -29,6 +29,9 @@ import { Wire } from './wire.js';
 /** So many drawings that come at once are no more marked one by one. */
 const MANY = 200;
 
+/** For so many milliseconds it is told that the member has changed over to the proved program. */
+const CHANGED_FOR = 60_000;
+
 export class Board {
   /** @param {Member} member */
   constructor(member) {
@@ -86,6 +89,22 @@ export class Board {
   takeHello(hello) {
     document.title = `wb: member ${hello.me}`;
     $('notice').textContent = `${hello.notice} You are member ${hello.me}; ${hello.mode}.`;
+    this.takeProof(hello.proof);
+  }
+
+  /** Tells that the program is not proved yet, and how far the proof is; and, for a time, that it was done.
+   * @param {import('./types.js').Proof | undefined} proof */
+  takeProof(proof) {
+    const line = $('proof'), [bar, done, text] = /** @type {[HTMLProgressElement, HTMLElement, HTMLElement]} */ (/** @type {unknown} */ (line.children));
+    if (proof?.proved && proof.text && text.textContent !== proof.text) setTimeout(() => { line.hidden = true; }, CHANGED_FOR);
+    else if (!proof || proof.proved) return;
+    line.hidden = false;
+    line.classList.toggle('proved', proof.proved);
+    bar.hidden = !proof.progress;
+    bar.max = proof.many || 1;
+    bar.value = proof.crates;
+    if (done.textContent !== proof.progress) done.textContent = proof.progress;
+    if (text.textContent !== proof.text) text.textContent = proof.text;
   }
 
   /** @param {import('./types.js').Board} board @param {import('./types.js').Board} before */

@@ -40,6 +40,12 @@ export class Session {
     /** What was let go, until the board shows it.
      * @type {Set<{ ghost: Shape, name: string }>} */
     this.waiting = new Set();
+    /** Is called with the first page that is shown.
+     * @type {(page: string) => void} */
+    this.open = () => {};
+    /** The first page that is shown: what is drawn before waits for it.
+     * @type {Promise<string>} */
+    this.opened = new Promise((open) => { this.open = open; });
     this.isLinked = false;
     /** The names of members, and the titles of pages.
      * @type {Map<number, string>} */
@@ -87,6 +93,7 @@ export class Session {
       this.wished = this.wished === news.page ? null : this.wished;
     }
     this.board = news;
+    this.open(news.page);
     this.names = new Set([...news.drawops, ...news.hidden].map(nameOf));
     this.waiting.forEach((wait) => this.names.has(wait.name) && this.waiting.delete(wait));
   }
@@ -119,7 +126,7 @@ export class Session {
     const wait = ghost && { ghost, name: '' };
     if (wait) this.waiting.add(wait);
     this.emit('ghosts');
-    const answer = await this.member.draw(this.board.page, operation);
+    const answer = await this.member.draw(this.board.page || await this.opened, operation);
     if (!answer.ok) this.emit('fault', `Not drawn: ${answer.fault}`);
     if (wait) this.settle(wait, answer);
     return answer;

@@ -9,7 +9,8 @@
 
 /** @typedef {{ lose: number, delay: number, twice: number, mix: boolean }} Worse */
 /** Which member this is, and what it says of itself.
- * @typedef {{ me: number, mode: string, notice: string, ready: boolean, teach: boolean, twin?: boolean, worsen?: Worse }} Hello */
+ * @typedef {{ me: number, mode: string, notice: string, ready: boolean, teach: boolean, twin?: boolean, worsen?: Worse, proof?: Proof }} Hello
+ * @typedef {{ proved: boolean, text: string, progress: string, crates: number, many: number }} Proof   of the program that the member runs by */
 /** The page in view: what it shows in the order of painting, what was deleted, and its rows as the host painted them.
  * @typedef {{ page: string, drawops: Drawing[], hidden: Drawing[], rows: string[] }} Board */
 /** What changed of it: the names of what goes, hidden or shown; what is shown now, each with its place, in the order of putting in; what is

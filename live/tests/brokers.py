@@ -2,12 +2,14 @@
 runs in a network of its own. What is not installed is said, and skipped."""
 from __future__ import annotations
 
+import contextlib
 import json
 import os
 import re
 import socket
 import subprocess
 import sys
+import threading
 import time
 from pathlib import Path
 from typing import Any, Dict, List, Optional
@@ -103,6 +105,61 @@ def test_outage(judge, room: Room) -> None:
         carrier.end()
 
 
+class Relay:
+    """Stands between a member and the broker, and can write into what comes from there."""
+
+    def __init__(self) -> None:
+        self.listener = socket.create_server(("127.0.0.1", 0))
+        self.port = self.listener.getsockname()[1]
+        self.to_member: Optional[socket.socket] = None
+        threading.Thread(target=self.run, daemon=True).start()
+
+    def run(self) -> None:
+        with contextlib.suppress(OSError):
+            while True:
+                near, far = self.listener.accept()[0], socket.create_connection(("127.0.0.1", TLS_PORT))
+                self.to_member = near
+                for source, sink in ((near, far), (far, near)):
+                    threading.Thread(target=self.carry, args=(source, sink), daemon=True).start()
+
+    def carry(self, source: socket.socket, sink: socket.socket) -> None:
+        with contextlib.suppress(OSError):
+            while True:
+                data = source.recv(1 << 16)
+                if not data:
+                    break
+                sink.sendall(data)
+        for end in (source, sink):
+            with contextlib.suppress(OSError):
+                end.shutdown(socket.SHUT_RDWR)
+
+    def spoil(self) -> None:
+        """Writes what is no TLS, as a broken line does."""
+        assert self.to_member
+        self.to_member.sendall(b"\x17\x03\x03\x00\x20" + os.urandom(32))
+
+    def end(self) -> None:
+        self.listener.close()
+
+
+def test_broken(judge, room: Room) -> None:
+    """A connection that breaks in another way than by an end is told of too, and made again."""
+    relay, kept, other = Relay(), Kept(), Kept()
+    one, two = MqttCarrier(place(room, "m1", port=relay.port), b"x"), MqttCarrier(place(room, "m2"), b"x")
+    one.begin(kept)
+    two.begin(other)
+    for again in (b"first", b"second"):
+        troubles = len(kept.troubles)
+        relay.spoil()
+        judge("a connection that is spoilt is told of", wait(lambda: "the broker 127.0.0.1 does not answer" in kept.troubles[troubles:], 10), True)
+        judge("and made again", wait(lambda: kept.trouble == "", 20), True)
+        one.send(again)
+        judge("and carries again", other.wait_for(again), Origin("m1", True))
+    for carrier in (one, two):
+        carrier.end()
+    relay.end()
+
+
 def wait(is_so: Any, seconds: float) -> bool:
     end = time.monotonic() + seconds
     while not is_so() and time.monotonic() < end:
@@ -190,6 +247,7 @@ def test_inside(judge) -> None:
         test_refusals(judge, room)
         test_names(judge, room)
         test_outage(judge, room)
+        test_broken(judge, room)
         test_ways(judge)
         test_browser(judge)
         test_packages(judge, room)

@@ -127,7 +127,8 @@ def test_session(judge, room: Room) -> None:
             test_strangers(judge, held)
             test_outage(judge, held)
             began = time.monotonic()
-            judge("all hold all drawops", held.wait_until_whole(MEMBERS * DRAWOPS, PATIENCE), True)
+            # the clock goes ten times as fast here, so a busy machine makes distances, and with them the timers, ten times as long
+            judge("all hold all drawops", held.wait_until_whole(MEMBERS * DRAWOPS, 3 * PATIENCE), True)
             print("eight members by a broker that was gone for %.0f s, a third lost: all whole %.1f s after it was back" % (OUTAGE, time.monotonic() - began))
             rows = [[member.rows(page) for page in PAGES] for member in members]
             judge("all show the same pages", all(each == rows[0] for each in rows), True)

@@ -67,6 +67,7 @@ class Kept:
         self.came: List[Tuple[bytes, Origin]] = []
         self.missed = 0
         self.trouble: Optional[str] = None
+        self.troubles: List[str] = []
 
     def arrive(self, data: bytes, origin: Origin) -> None:
         self.came.append((data, origin))
@@ -76,6 +77,7 @@ class Kept:
 
     def tell(self, trouble: str) -> None:
         self.trouble = trouble
+        self.troubles.append(trouble)
 
     def wait_for(self, data: bytes, seconds: float = 10.0) -> Optional[Origin]:
         """Where a datagram came from, once it has come."""

@@ -13,9 +13,8 @@ HOME = (1, 1)
 MOST = 2**32 - 1
 MINUTE = 60_000_000
 
-# seconds for which it is watched that nothing happens, and after which a name makes room for another
+# seconds for which it is watched that nothing happens
 WHILE = 2
-SHORT_PATIENCE = 16
 
 
 def now() -> int:
@@ -88,30 +87,29 @@ def test_clock(judge, member: Process, attacker: Attacker) -> None:
 
 
 def test_questions(judge, member: Process, attacker: Attacker) -> None:
-    """Many questions for pages: an answer comes within half a second, and then none for three."""
-    for number in range(1, 31):
+    """Many questions for pages: an answer comes within half a second, and then none for one."""
+    for number in range(1, 71):
         member.draw("8/%d" % number, "line 0 0 4 0 q")
     start = len(member.entries)
     attacker.send(*[asking(9)] * 20)
     judge("a question is answered", member.wait_for(lambda states: sent_since(member, start, "page-state")), True)
     time.sleep(WHILE)
-    judge("twenty have one answer, of some pages", len(sent_since(member, start, "page-state")), 16)
+    judge("twenty have one answer, of 64 pages", len(sent_since(member, start, "page-state")), 64)
     time.sleep(WHILE)
     start = len(member.entries)
     attacker.reach(member, [state(10, (8, 1), {member.me: 1}), asking(9)])
-    time.sleep(WHILE)
+    time.sleep(1)
     judge("where another answers nothing is said", len(sent_since(member, start, "page-state")), 0)
 
 
 def test_gaps(judge, member: Process, attacker: Attacker) -> None:
-    """Gaps of more sources than are looked at in one turn, the lowest last, so that others are wanted each time."""
+    """Gaps of many sources that nobody fills."""
     start, began = len(member.entries), time.monotonic()
     for top in (600, 300):
         attacker.reach(member, [drawn(source, seq, now(), 9, b"g") for source in range(top, top - 300, -1) for seq in (1, 3)])
     time.sleep(WHILE)
     names = {entry["name"] for entry in sent_since(member, start, "request")}
-    turns = 2 + (time.monotonic() - began) / SHORT_PATIENCE  # in each others have the place of what was asked for in vain
-    judge("beside 600 gaps 64 are asked for at a time", 0 < len(names) <= 64 * turns or len(names), True)
+    judge("beside 600 gaps 64 are asked for, and then four a second", 0 < len(names) <= 65 + 4 * (time.monotonic() - began) or len(names), True)
 
 
 def test_cells(judge) -> None:

@@ -285,7 +285,7 @@ def test_fifty(judge) -> None:
         time.sleep(5)
         idle = costs(served.process.pid)[1] - used
         print("%d browsers with members: all there after %.1f s; a line on the others after %.0f ms in the median, %.0f in 95 of 100, %.0f at most, for %.0f ms of processors; "
-              "each costs %.1f MB, and at rest %.2f parts of 100 of a processor; load %.0f" % (
+              "each costs %.1f MB, and at rest %.2f percent of a processor; load %.0f" % (
                   CROWD, begun, statistics.median(found), sorted(found)[len(found) * 95 // 100], max(found), (used - before) * 1000 / LINES, (more - memory) / CROWD,
                   idle / 5 * 100 / CROWD, os.getloadavg()[0]))
         for window in windows:

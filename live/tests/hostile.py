@@ -11,6 +11,7 @@ from .members import SLOW_FROM, Process, milliseconds_a_line
 
 FIRST_PORT = 26_080
 PAGE = "1/1"
+SPEED = 10
 
 # bytes that a socket has room for, and what a datagram takes there beside its own
 ROOM, BESIDE = 250_000, 800
@@ -127,11 +128,13 @@ def test_noise(judge, member: Process, attacker: Attacker) -> None:
 
 def test_too_many_sources(judge, member: Process, attacker: Attacker, stars: bytes) -> None:
     """Reports of 72,000 sources of a page: of what they tell some is asked for, and the page is drawn on as before."""
-    before = member.rows(PAGE)
+    before, start, began = member.rows(PAGE), len(member.entries), time.monotonic()
     crowd = [report(77, 1, range(first, first + 4000), 3) for first in range(1000, 73_000, 4000)]
     judge("reports of too many sources come in", attacker.reach(member, crowd), True)
     judge("too many sources change nothing that is shown", member.rows(PAGE), before)
-    judge("of what they tell at most 32 are asked for", member.wait_for(lambda states: 0 < states["health"]["asking"] <= 32), True)
+    judge("what they tell is missing", member.wait_for(lambda states: states["health"]["missing"] > 0), True)
+    asked = {entry["name"] for entry in list(member.entries)[start:] if entry["way"] == "out" and entry["kind"] == "request"}
+    judge("64 names of them are asked for, and then four a second", len(asked) <= 65 + 4 * SPEED * (time.monotonic() - began), True)
     attacker.send(stars)
     judge("beside too many sources a drawop is shown", member.wait_for(lambda states: shows(states, "*****")), True)
     judge("beside too many sources one draws", member.draw(PAGE, "line 0 3 4 3 =")[0], 200)
@@ -147,8 +150,8 @@ def test_flood(judge, member: Process, attacker: Attacker, stars: bytes) -> None
 
 
 def test(judge) -> None:
-    member = Process(["--ports", str(FIRST_PORT), "--speed", "10"])
-    other = Process(["--ports", str(FIRST_PORT), "--speed", "10"])
+    member = Process(["--ports", str(FIRST_PORT), "--speed", str(SPEED)])
+    other = Process(["--ports", str(FIRST_PORT), "--speed", str(SPEED)])
     attacker = Attacker(member.udp_port)
     try:
         judge("a first drawing", member.draw(PAGE, "frame 0 0 9 5 #")[0], 200)

@@ -41,6 +41,26 @@ def test_files(judge, folder: Path) -> None:
     judge("a replay makes no file", (status_of(["--replay", str(none), "--no-terminal"]), none.exists()), (1, False))
 
 
+def test_versions(judge, folder: Path) -> None:
+    """A record says its version. One without is of an earlier wb, and goes on; one of a later wb stays as it is."""
+    path = folder / "old.wb"
+    old = '# started at 2025-01-01 10:00:00\nboard 7 100 1 42\ntick 5\nsay draw 7 1/1 1 1000 line 0 0 4 0 o\n'
+    path.write_text(old)
+    words = ["--ports", str(FIRST_PORT), "--record", str(path)]
+    member = Process(words)
+    judge("a record without a version goes on", member.wait_for(lambda states: states["board"]["rows"] == ["ooooo"]), True)
+    member.end()
+    judge("and keeps its lines", path.read_text().startswith(old), True)
+    later = "# wb record 2\n" + old
+    path.write_text(later)
+    judge("a record of a later version is refused, and stays as it is", (status_of([*words, "--no-terminal"]), path.read_text() == later), (1, True))
+    judge("nor shown", status_of(["--replay", str(path), "--no-terminal"]), 1)
+    path.unlink()
+    Process(words).end()
+    judge("a new record begins with its version", path.read_text().split("\n")[0], "# wb record 1")
+    path.unlink()
+
+
 def test_noise(judge, folder: Path) -> None:
     """Half a megabyte of noise, and many questions, leave nothing in the record."""
     path = folder / "noise.wb"
@@ -107,7 +127,7 @@ def test_state(judge, folder: Path) -> None:
 
 def test(judge) -> None:
     with tempfile.TemporaryDirectory() as folder:
-        for part in (test_files, test_noise, test_full_disk, test_state):
+        for part in (test_files, test_versions, test_noise, test_full_disk, test_state):
             try:
                 part(judge, Path(folder))
             except (OSError, KeyError, IndexError, AttributeError) as fault:

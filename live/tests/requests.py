@@ -183,7 +183,7 @@ def test_teaching(judge) -> None:
 def test(judge) -> None:
     member = Process(["--ports", str(FIRST_PORT), "--speed", "10"])
     try:
-        judge("the first line says what is proved", "which is proved; live/" in member.lines[0], True)
+        judge("the first line says what is proved", "the program that WB_PROGRAM names; live/" in member.lines[0], True)
         judge("the states come in order", list(member.states)[:5] if member.wait_for(lambda s: len(s) >= 5) else [], ["hello", "board", "pages", "members", "health"])
         for part in (test_page, test_files, test_strangers, test_bodies, test_pages, test_crowds):
             part(judge, member)

@@ -1,4 +1,4 @@
-"""Parts by themselves: words and their fields, what is asked for, the record, the pace."""
+"""Parts by themselves: words and their fields, who is heard, what is told, the record, the inbox."""
 from __future__ import annotations
 
 import contextlib
@@ -9,12 +9,12 @@ import tempfile
 from typing import List
 
 from ..alarms import Alarms
-from ..asking import MOST_ASKED, MOST_FAR, MOST_FAR_ASKED, MOST_RANGES, PATIENCE, SHORT_PATIENCE, Asking
 from ..carriers.carrier import Origin
+from ..clock import SECOND
 from ..drawn import Drawn, Sheet
+from ..heard import GONE_AFTER, MOST_BEHIND_ORIGIN, MOST_NEW, MOST_OF_ORIGIN, MOST_TOLD, Heard, Told
 from ..inbox import MOST_WAITING, Inbox
 from ..options import read_options
-from ..pacing import ANSWER_PAUSE, MOST_BEHIND_ORIGIN, MOST_ECHOES, MOST_INTERVAL, MOST_NEW, MOST_OF_ORIGIN, SECOND, Answers, Heard, Questions, session_interval
 from ..record import Record, RecordFault
 from ..times import MINUTE, MOST_LEAD, MOST_OF_SOURCE, Future, Times, wall
 from ..views import Drawop, name_in, page_of, report_of
@@ -66,82 +66,25 @@ def test_drawn(judge) -> None:
     for line in [*lines, lines[0]]:
         drawn.add(Drawop(line))
     judge("each counts once", (drawn.total, drawn.count(PAGE), drawn.top(PAGE, 7), drawn.top((1, 1), 7)), (6, 6, 3, 0))
-    judge("the latest time", (drawn.latest(PAGE, 100), drawn.latest(PAGE, 89)), (90, 60))
+    judge("nothing is missing", (drawn.missing(PAGE), drawn.missing((1, 1))), (0, 0))
+    drawn.add(Drawop("draw 7 7/1 6 10 line 0 1 4 1 *"))
+    judge("two numbers are missing", drawn.missing(PAGE), 2)
 
 
-def test_asking(judge) -> None:
-    asking = Asking()
-    asking.learn(PAGE, [(7, 3, 4), (9, 1, 2**32 - 1)])
-    for source in range(100, 140):
-        asking.tell((source, PAGE, 5), 0)
-    first = asking.next_names(0)
-    judge("what is told alone has half of the room", (len(first), sum(name[0] >= 100 for name in first)), (MOST_ASKED, MOST_FAR_ASKED))
-    judge("nothing is asked for twice", asking.next_names(1), [])
-    judge("nothing is given up early", asking.give_up(SHORT_PATIENCE - 1), [])
-    judge("where others wait, all of them after some seconds", len(asking.give_up(SHORT_PATIENCE)), MOST_ASKED)
-    again = asking.next_names(SHORT_PATIENCE + 1)
-    judge("others come next", len(set(again) & set(first)), 0)
-    asking.try_again()
-    judge("a newcomer may have them", len(asking.given_up), 0)
-
-
-def test_stops(judge) -> None:
-    """What is no more wanted is stopped, and what has come needs no stop."""
-    asking = Asking()
-    asking.learn(PAGE, [(7, 1, 10)])
-    judge("asked for", len(asking.next_names(0)), 10)
-    asking.come((7, PAGE, 1))
-    judge("what is no more missing is stopped", asking.learn(PAGE, [(7, 2, 8)]), [(7, PAGE, 9), (7, PAGE, 10)])
-    asking.tell((8, PAGE, 5), 4)
-    asking.tell((8, PAGE, 60), 4)
-    asking.tell((8, PAGE, 2**32 - 1), 4)
-    judge("what is told is asked for, the near ones too", asking.next_names(1), [(8, PAGE, 5), (8, PAGE, 60), (8, PAGE, 2**32 - 1)])
-    asking.come((8, PAGE, 60))
-    judge("what has come needs no other near one", (sorted(asking.near), [name for name in asking.asked if name[0] == 8]), ([], [(8, PAGE, 5), (8, PAGE, 2**32 - 1)]))
-    judge("the other is stopped then", asking.learn(PAGE, [(7, 2, 8)]), [(8, PAGE, 5)])
-    judge("all of it", len(asking.end()), 8)
-    first = Asking()
-    first.learn(PAGE, [(source, 1, 1) for source in range(100, 1000)] + [(7, 5, 5)])
-    judge("members that answer us come first", first.next_names(0, {7})[0], (7, PAGE, 5))
-    many = Asking()
-    ranges = [(7, 2 * n, 2 * n) for n in range(1, 1001)]
-    asked = set()
-    for turn in range(20):
-        many.learn(PAGE, ranges)
-        asked.update(many.next_names(turn))
-        asked.update(name for name in many.asked)
-        for name in many.give_up(PATIENCE + turn):
-            many.given_up.clear()
-    moving, standing = Asking(), set()
-    for turn in range(50):
-        standing -= set(moving.learn(PAGE, [(source, 2, 2) for source in range(12_800 - 256 * turn, 13_800 - 256 * turn)]))
-        standing |= set(moving.next_names(turn))
-    judge("where others are wanted each time, no more timers stand than are asked for", len(standing) <= MOST_ASKED, True)
-    judge("of many ranges each has its turn", len(asked) >= 4 * MOST_ASKED and len(ranges) > MOST_RANGES, True)
+def test_told(judge) -> None:
+    """What reports tell of is missing until it comes."""
+    told, drawn = Told(), Drawn()
+    for line in ("draw 7 7/1 1 10 line 0 1 4 1 *", "draw 7 7/1 4 10 line 0 1 4 1 *"):
+        drawn.add(Drawop(line))
+    for name in ((7, PAGE, 3), (7, PAGE, 9), (8, PAGE, 2), (8, (7, 2), 2)):
+        told.tell(name)
+    judge("a number of a gap counts once", told.missing(PAGE, drawn), 4)
+    told.come((7, PAGE, 9))
+    judge("what came is missing no more", (told.missing(PAGE, drawn), told.missing((7, 2), drawn)), (3, 1))
+    judge("pages of which nothing is held are told", (7, 2) in told.pages(), True)
     for number in range(5000):
-        many.tell((1, (9, number), 5), 0)
-    judge("what is told alone is bounded", len(many.far) <= MOST_FAR, True)
-
-
-def test_shares(judge) -> None:
-    asking = Asking()
-    asking.learn(PAGE, [(7, 1, 100), (8, 1, 2), (9, 1, 2**32 - 1)])
-    names = asking.next_names(0)
-    judge("each source has its share", [sum(name[0] == source for name in names) for source in (7, 8, 9)], [21, 2, 21])
-    asking.learn(PAGE, [])
-    judge("what came is asked for no more", (asking.asked, asking.counts(PAGE)), ({}, (0, 0, 0)))
-
-
-def test_retry(judge) -> None:
-    """A name that nobody answers is tried again, at twice the pause each time."""
-    asking = Asking()
-    asking.learn(PAGE, [(7, 3, 3)])
-    asked: List[int] = []
-    for second in range(0, 1200, 10):
-        now = second * SECOND
-        asked += [second] * len(asking.next_names(now))
-        asking.give_up(now)
-    judge("when a name is asked for", asked, [0, 120, 300, 600, 1140])
+        told.tell((1, (9, number), 5))
+    judge("what is told is bounded", len(told.names), MOST_TOLD)
 
 
 def test_times(judge) -> None:
@@ -164,7 +107,7 @@ def test_members(judge) -> None:
     """Who is heard: so many new ones at a time, so many of one address, and none for good."""
     heard = Heard()
     judge("a flood of members", sum(heard.hear(number, Origin("127.0.0.1:%d" % number), 0) for number in range(1, 2000)), MOST_NEW)
-    heard.forget(200 * SECOND)
+    heard.spoke(100, 4_000, 200 * SECOND)
     judge("who is not heard is forgotten", len(heard.others), 0)
     later = 1000 * SECOND
     for number in range(1, 50):
@@ -176,29 +119,6 @@ def test_members(judge) -> None:
     judge("of those that answered more", len(heard.others), MOST_BEHIND_ORIGIN)
     heard.leave(HOME)
     judge("and none once it is gone", len(heard.others), 0)
-    crowd = Heard()
-    for number in range(1, 101):
-        now = number * SECOND
-        crowd.hear(number, Origin("127.0.0.1:%d" % number), now)
-        crowd.others[number].sent, crowd.others[number].sent_at = now, now
-    crowd.patience = 1000 * SECOND
-    seen = [set(echo[0] for echo in crowd.echoes(200 * SECOND)) for _ in range(4)]
-    judge("echoes have turns", (max(map(len, seen)), len(set.union(*seen))), (MOST_ECHOES, 100))
-
-
-def test_answers(judge) -> None:
-    """One answer to many questions, and none where another was heard."""
-    answers = Answers()
-    answers.asked(0)
-    first = answers.at
-    for now in range(1, 100):
-        answers.asked(now)
-    judge("many questions have one answer", answers.at, first)
-    answers.answered(SECOND)
-    answers.asked(SECOND + ANSWER_PAUSE - 1)
-    judge("and none for some seconds", answers.at, None)
-    answers.asked(SECOND + ANSWER_PAUSE)
-    judge("then again", answers.at is not None, True)
 
 
 def test_alarms(judge) -> None:
@@ -244,18 +164,27 @@ def test_long_record(judge) -> None:
     record.close()
 
 
+def test_ends(judge) -> None:
+    """A record says whether its member ended as it should."""
+    record = Record(None)
+    record.add("board 1 16 1 42", "# ended at 2026-01-01 10:00:00")
+    judge("it did", record.is_ended(), True)
+    record.add("tick 5")
+    judge("it did not", record.is_ended(), False)
+    record.close()
+
+
 def test_pace(judge) -> None:
-    random.seed(1)
-    pauses = [session_interval(2, 100) for _ in range(200)]
-    judge("two members speak each 1 to 3 seconds", (min(pauses) >= SECOND, max(pauses) <= 3 * SECOND), (True, True))
-    pauses = [session_interval(100, 400) for _ in range(200)]
-    judge("a hundred members speak each 32 to 96 s", (min(pauses) >= MOST_INTERVAL // 2, max(pauses) <= MOST_INTERVAL * 3 // 2), (True, True))
+    """Members that speak seldom, since there are many of them, are still there."""
     heard = Heard()
     judge("a member is new once", [heard.hear(8, HOME, 0), heard.hear(8, HOME, 50 * SECOND)], [True, False])
-    judge("and gone after a minute", [len(heard.present(now * SECOND)) for now in (100, 111)], [1, 0])
-    questions = Questions(0)
-    asked = [now for now in range(0, 1000 * SECOND, SECOND // 10) if now >= questions.at and questions.asked(now) is None]
-    judge("a lonely newcomer asks more and more seldom", 8 <= len(asked) <= 32, True)
+    judge("and gone after a minute", [len(heard.present(50 * SECOND + now)) for now in (GONE_AFTER - 1, GONE_AFTER)], [1, 0])
+    for number in range(9, 59):
+        heard.hear(number, Origin("127.0.0.1:%d" % number), 50 * SECOND)
+    heard.spoke(1_000, 4_000, 50 * SECOND)
+    judge("of fifty each speaks once in 13 s", heard.patience, GONE_AFTER)
+    heard.spoke(1_000, 400, 50 * SECOND)
+    judge("or, where reports have a tenth, once in 64", heard.patience, 192 * SECOND)
 
 
 def test_inbox(judge) -> None:
@@ -264,6 +193,9 @@ def test_inbox(judge) -> None:
         inbox.arrive(b"%d" % number, HOME)
     first = inbox.take(1)[1][0]
     judge("the oldest are dropped first", (inbox.dropped, first.data), (10, b"10"))
+    for trouble in ("", "gone", "gone", "", ""):
+        inbox.tell(trouble)
+    judge("a network that is back is told once", inbox.take(0)[0], [inbox.back])
 
 
 def test_options(judge) -> None:
@@ -277,12 +209,18 @@ def test_options(judge) -> None:
 
     judge("no words", read_options([]).web, ("127.0.0.1", -1))
     judge("help", status(["--help"]), 0)
-    for words in ("--lose 2", "--me x", "--web a:b", "--listen 127.0.0.1:1", "--peer 127.0.0.1:1", "--lan 1", "--ports 0", "draw", "--replay a --record b", "--replay a --forget", "--origin example.org", "--origin https://a/b"):
+    for words in ("--lose 2", "--me x", "--web a:b", "--listen 127.0.0.1:1", "--peer 127.0.0.1:1", "--lan 1", "--ports 0", "--rate 0", "draw", "--replay a --record b", "--replay a --forget", "--origin example.org", "--origin https://a/b"):
         judge("words that are wrong: " + words, status(words.split()), 2)
+    networks = ("", "--listen 127.0.0.1:1 --peer 127.0.0.1:2", "--lan", "--web 127.0.0.1:0", "--broker mqtts://a/b", "--broker mqtts://a/b --web 127.0.0.1:0")
+    tunings = [read_options(words.split()).tuning() for words in networks]
+    judge("members at one distance have constants of their own", tunings, 2 * ["2,2,1,1"] + 2 * ["2,8,1,6"] + 2 * ["3,16,1,11"])
+    spreads = [[reach / int(constant) for constant in tuning.split(",")[1::2]] for tuning, reach in ((tunings[2], 5 / 10), (tunings[4], 1))]
+    few = [all(1 + (50 - 1) * share <= 6 for share in shares) for shares in spreads]
+    judge("of fifty at most six ask or repair in a round, where 5 ms count as 10 too", few, [True, True])
     judge("no page, so the terminal", (read_options(["--no-web"]).web, read_options(["--no-web"]).terminal), (None, True))
 
 
 def test(judge) -> None:
-    for part in (test_words, test_drawn, test_asking, test_stops, test_shares, test_retry, test_times, test_members, test_answers, test_alarms,
-                 test_record, test_long_record, test_pace, test_inbox, test_options):
+    for part in (test_words, test_drawn, test_told, test_times, test_members, test_alarms, test_record, test_long_record, test_ends,
+                 test_pace, test_inbox, test_options):
         part(judge)

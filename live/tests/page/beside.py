@@ -8,7 +8,7 @@ from .sheets import Sheet, Tally
 
 # what stands on what, by the names of the page's colours; AA asks for a contrast of 4.5
 PAIRS = [("ink", "paper"), ("ink", "panel"), ("ink", "soft"), ("quiet", "panel"), ("quiet", "paper"), ("accent", "paper"), ("accent", "soft"),
-         ("on-accent", "accent"), ("good", "panel"), ("good", "paper"), ("warn", "panel"), ("warn", "paper"), ("bad", "panel"), ("bad", "paper"),
+         ("on-accent", "accent"), ("good", "panel"), ("good", "paper"), ("good", "soft"), ("warn", "panel"), ("warn", "paper"), ("bad", "panel"), ("bad", "paper"),
          ("bad", "bad-soft"), *((member, ground) for member in range(60) for ground in ("paper", "soft"))]
 
 CONTRAST = """(([front, ground]) => {

@@ -6,6 +6,7 @@ import { htmlOf, svgOf, textOf } from '../../page/exports.js';
 import { clockOf, sceneAt } from '../../page/film.js';
 import { Layout } from '../../page/layout.js';
 import { initialsOf, readNotes } from '../../page/notes.js';
+import { Session } from '../../page/session.js';
 import { arrow, filled, plainOf, simplify, stroke, writing } from '../../page/shapes.js';
 import { inside } from '../../page/tools.js';
 
@@ -141,5 +142,17 @@ function testFilm() {
   judge('times', [clockOf(0), clockOf(61_999), clockOf(3_600_000)], ['0:00', '1:01', '60:00']);
 }
 
+async function testSession() {
+  const drawn = [], session = new Session({ draw: async (page, operation) => ({ ok: drawn.push([page, operation]) > 0, source: 1, seq: drawn.length }) });
+  const show = (page) => session.take('board', { page, drawops: [], hidden: [], rows: [] }), early = ['line 0 0 1 1 *', 'line 0 0 2 2 *'].map((it) => session.send(it));
+  await null;
+  judge('nothing is drawn before a page is shown', drawn, []);
+  show('1/1');
+  show('1/2');
+  await Promise.all([...early, session.send('line 0 0 3 3 *')]);
+  judge('then it is, where it was drawn', drawn.map(([page, operation]) => `${page} ${operation}`).sort(), ['1/1 line 0 0 1 1 *', '1/1 line 0 0 2 2 *', '1/2 line 0 0 3 3 *']);
+}
+
+await testSession();
 [testNotes, testExports, testFilm, testCells, testShapes, testTexts, testWords, testColours, testLayout].forEach((test) => test());
 console.log(`${counts.passed} passed, ${counts.failed} failed`);
