@@ -19,14 +19,14 @@ use Rattle.wb_feed.specs.Batches.{counts_in, Takes, IsShared, IsTotal}
 use Rattle.wb_feed.specs.Workers.{Work, Worked}
 use Rattle.wb_feed.specs.Channel.{once_below, IsComplete, AreRight, spots}
 use Rattle.wb_feed.specs.Marks.{unmarked, Marks, Retakes}
-use Rattle.wb_feed.specs.Served.{Spot, is_left, entries, accepted_at, offered, Serves}
+use Rattle.wb_feed.specs.Served.{Spot, is_left, entries, accepted_at, offered, OffersRight, times_offered, Serves}
 use Rattle.wb_host.proofs.InOrder.{one_run}
 use Rattle.wb_feed.proofs.Log.{is_taken, chosen, taken_or_left, drawops-append, tally-append, tally_all, left_many, AreAnswered, Gathers, gathers_none, gathers_run, runs_empty}
 use Rattle.wb_feed.proofs.Members.{nothing, at_named}
 use Rattle.wb_feed.proofs.Numbers.{times}
 use Rattle.wb_feed.proofs.OneThread.{counted_as, same_counts}
 use Rattle.wb_feed.proofs.OneWorker.{in_given_order}
-use Rattle.wb_feed.proofs.Placing.{OffersRight, places_and_rest, serves_offer, serves_once, workers_offer, workers_once, workers_gather, taken_at}
+use Rattle.wb_feed.proofs.Placing.{places_and_rest, accepted_few, serves_offer, serves_offered, workers_offer, workers_offered, workers_gather, taken_at}
 use Rattle.wb_feed.proofs.Prefixes.{prefix_length}
 use Rattle.wb_feed.proofs.OneRun.{in_some_order}
 use Rattle.wb_feed.proofs.WholeDesks.{left_lacks, stays_whole}
@@ -52,15 +52,15 @@ once_rises i m n h = grind (arith, nat_tests)
 -- What workers did, whether each had a part of the rows or the one the desk itself: p is the desk before, q the desk after
 record Gained (p : PassValue) (log : List Spot) (gots : List Message) (q : PassValue) : Type 0 where
   gathers : Gathers p (entries log) q
-  once : (i : ℕ) → times i (accepted_at log) ≤ spots i gots
+  many : (i : ℕ) → times_offered i (offered log) ≡ spots i gots
   offers : (sent ds : List DrawopValue) → IsPrefix sent ds → AreRight sent gots → OffersRight ds (offered log)
 
 gained : (n : ℕ) (p q : PassValue) (log : List Spot) (gots : List Message) → Work n p log gots q → Gained p log gots q
 gained n p q log gots (inl x) =
     let s = x.1 in
     let run : Runs p (entries log) q = s.runs in
-    record { gathers = gathers_run p p q [] (entries log) (gathers_none p) run; once = λ i. serves_once i s; offers = λ sent ds h right. serves_offer sent ds h right s }
-gained n p q log gots (inr x) = record { gathers = workers_gather x.1; once = λ i. workers_once i x.1; offers = λ sent ds h right. workers_offer sent ds h right x.1 }
+    record { gathers = gathers_run p p q [] (entries log) (gathers_none p) run; many = λ i. serves_offered i s; offers = λ sent ds h right. serves_offer sent ds h right s }
+gained n p q log gots (inr x) = record { gathers = workers_gather x.1; many = λ i. workers_offered i x.1; offers = λ sent ds h right. workers_offer sent ds h right x.1 }
 
 alone : (n : ℕ) (p q : PassValue) (log : List Spot) (gots : List Message) → Work n p log gots q → n ≡ 1 → Serves p log gots q
 alone n p q log gots (inl x) one = x.1
@@ -71,38 +71,38 @@ abbrev pub AllWorked : ℕ → PassValue → PassValue → ChannelView → Chann
 AllWorked n p q g h a = Worked (λ log gots. Work n p log gots q) n g h a
 
 -- what the workers accepted, as drawops, and what is not marked are the drawops arrived
-pub record Whole (arrived : List DrawopValue) (ms : List Bool) (log : List Spot) (gots : List Message) : Type 0 where
+pub record Whole (arrived : List DrawopValue) (ms : List Bool) (log : List Spot) : Type 0 where
   pub moved : IsPermutation arrived (drawops (chosen is_taken (entries log)) ++ unmarked ms arrived)
   pub low : ℕ
   pub most : low ≤ length arrived
-  pub once : (p : ℕ) → spots p gots ≡ once_below p low
+  pub once : (p : ℕ) → times_offered p (offered log) ≡ once_below p low
   pub right : OffersRight arrived (offered log)
   pub marks : Marks (accepted_at log) (length arrived) ms
 
 pub whole_from : (n : ℕ) (p q : PassValue) (g h : ChannelView) (a : Accepted) (arrived : List DrawopValue) (ms : List Bool) (c : AllWorked n p q g h a) → g.got ≡ [] → IsComplete h → IsPrefix h.sent arrived
-    → Marks a.positions.items (length arrived) ms → Whole arrived ms c.log c.gots
+    → Marks a.positions.items (length arrived) ms → Whole arrived ms c.log
 whole_from n p q g h a arrived ms c none all sent m =
     let work = gained n p q c.log c.gots c.did in
     let got : h.got ≡ c.gots = c.got ∙ ap (λ l. l ++ c.gots) none in
     let right : AreRight h.sent c.gots = subst (λ l. AreRight h.sent l) got all.right in
     let most : (i : ℕ) → times i a.positions.items ≤ once_below i (length arrived) =
-    λ i. omega (arith, ap (times i) c.tells.positions, work.once i, ap (λ l. spots i l) got, all.once i, once_rises i all.low (length arrived) (omega (arith, all.most, prefix_length h.sent arrived sent))) in
+    λ i. omega (arith, ap (times i) c.tells.positions, accepted_few i c.log, work.many i, ap (λ l. spots i l) got, all.once i, once_rises i all.low (length arrived) (omega (arith, all.most, prefix_length h.sent arrived sent))) in
     let e : map (λ i. get_or arrived i nothing) a.positions.items ≡ drawops (chosen is_taken (entries c.log)) =
     ap (map (λ i. get_or arrived i nothing)) c.tells.positions ∙ sym (taken_at arrived c.log (work.offers h.sent arrived sent right)) in
     record {
       moved = subst (λ l. IsPermutation arrived (l ++ unmarked ms arrived)) e (places_and_rest arrived a.positions.items ms m most);
       low = all.low;
       most = omega (arith, all.most, prefix_length h.sent arrived sent);
-      once = λ i. sym (ap (λ l. spots i l) got) ∙ all.once i;
+      once = λ i. work.many i ∙ (sym (ap (λ l. spots i l) got) ∙ all.once i);
       right = work.offers h.sent arrived sent right;
       marks = subst (λ l. Marks l (length arrived) ms) c.tells.positions m;
     }
 
 -- how the workers shared them
-abbrev pub shares : (n : ℕ) (p q r : PassValue) (g h : ChannelView) (a : Accepted) (arrived : List DrawopValue) (ms : List Bool) (t : Batch) (c : AllWorked n p q g h a) → Whole arrived ms c.log c.gots → Retakes q (unmarked ms arrived) r t → IsShared n p arrived r
-shares n p q r g h a arrived ms t c whole m = record { log = c.log; gots = c.gots; joined = q; work = c.did; marks = ms; marked = whole.marks; left_over = m.log; rest = m.runs; all = m.all }
+abbrev pub shares : (n : ℕ) (p q r : PassValue) (g h : ChannelView) (a : Accepted) (arrived : List DrawopValue) (ms : List Bool) (t : Batch) (c : AllWorked n p q g h a) → Whole arrived ms c.log → Retakes q (unmarked ms arrived) r t → IsShared n p arrived r
+shares n p q r g h a arrived ms t c whole m = record { log = c.log; right = whole.right; received = whole.low; few = whole.most; once = whole.once; gots = c.gots; joined = q; work = c.did; marks = ms; marked = whole.marks; left_over = m.log; rest = m.runs; all = m.all }
 
-pub takes_all : (n : ℕ) (p q r : PassValue) (g h : ChannelView) (a : Accepted) (arrived : List DrawopValue) (ms : List Bool) (t b : Batch) (c : AllWorked n p q g h a) → Whole arrived ms c.log c.gots
+pub takes_all : (n : ℕ) (p q r : PassValue) (g h : ChannelView) (a : Accepted) (arrived : List DrawopValue) (ms : List Bool) (t b : Batch) (c : AllWorked n p q g h a) → Whole arrived ms c.log
     → IsSound p → IsSound q → IsSound r → Retakes q (unmarked ms arrived) r t → IsTotal a t b → Takes p arrived n r b
 takes_all n p q r g h a arrived ms t b c whole sp sq sr m e =
     let work = gained n p q c.log c.gots c.did in
@@ -138,7 +138,7 @@ takes_all n p q r g h a arrived ms t b c whole sp sq sr m e =
           (in_given_order whole.low p q r c.log c.gots more arrived ms sp w sq sr (alone n p q c.log c.gots c.did is) m.runs m.all whole.most whole.once whole.right whole.marks);
     }
 
-pub total_few : (n : ℕ) (p q r : PassValue) (g h : ChannelView) (a : Accepted) (arrived : List DrawopValue) (ms : List Bool) (t : Batch) (c : AllWorked n p q g h a) → Whole arrived ms c.log c.gots → Retakes q (unmarked ms arrived) r t
+pub total_few : (n : ℕ) (p q r : PassValue) (g h : ChannelView) (a : Accepted) (arrived : List DrawopValue) (ms : List Bool) (t : Batch) (c : AllWorked n p q g h a) → Whole arrived ms c.log → Retakes q (unmarked ms arrived) r t
     → (((a.fresh + t.fresh) + (a.again + t.again)) + (a.clash + t.clash)) + t.left ≤ length arrived
 total_few n p q r g h a arrived ms t c whole m =
     let taken = drawops (chosen is_taken (entries c.log)) in

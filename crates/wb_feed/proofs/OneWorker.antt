@@ -14,17 +14,17 @@ use Rattle.wb_feed.proofs.OneThread.{Lacks, both_batches, counted_as, same_count
 use Rattle.wb_feed.proofs.InOrder.{in_order}
 use Rattle.wb_feed.proofs.Members.{at_named}
 use Rattle.wb_feed.specs.declared.channel.Message.{Message}
-use Rattle.wb_feed.specs.Channel.{spots, once_below}
-use Rattle.wb_feed.specs.Served.{Spot, is_left, entries, accepted_at, offered, Rises, Serves}
+use Rattle.wb_feed.specs.Channel.{once_below}
+use Rattle.wb_feed.specs.Served.{Spot, is_left, entries, accepted_at, offered, OffersRight, times_offered, Rises, Serves}
 use Rattle.wb_feed.specs.Marks.{has, unmarked, Marks}
-use Rattle.wb_feed.proofs.Placing.{OffersRight, pair_times, accepted_few, takes_spots, once_under, once_past}
+use Rattle.wb_feed.proofs.Placing.{accepted_few, once_under, once_past}
 
 -- positions that rise from low on have none below
-rises_none : (low p : ℕ) (xs : List (ℕ × DrawopValue)) → p < low → Rises low xs → pair_times p xs ≡ 0
+rises_none : (low p : ℕ) (xs : List (ℕ × DrawopValue)) → p < low → Rises low xs → times_offered p xs ≡ 0
 rises_none low p [] lt r = refl
 rises_none low p (x ∷ xs) lt r =
     let t : (x.0 == p) ≡ false = test_apart x.0 p (λ e. absurd (omega (arith, e, lt, r.0))) in
-    ap (λ b. cond b 1 0 + pair_times p xs) t ∙ (zero_plus (pair_times p xs) ∙ rises_none (x.0 + 1) p xs (omega (arith, lt, r.0)) r.1)
+    ap (λ b. cond b 1 0 + times_offered p xs) t ∙ (zero_plus (times_offered p xs) ∙ rises_none (x.0 + 1) p xs (omega (arith, lt, r.0)) r.1)
 
 slice_mid : (a r : List DrawopValue) (x d : DrawopValue) (k : ℕ) → k ≡ length a → slice_get (a ++ x ∷ r) k ≡ Some d → x ≡ d
 slice_mid [] r x d k e h = let g : slice_get (x ∷ r) 0 ≡ Some d = ap (λ n. slice_get (x ∷ r) n) (sym e) ∙ h in cc (g)
@@ -47,13 +47,13 @@ pub record Split (ss : List Spot) (ds : List DrawopValue) (ms : List Bool) : Typ
   pub left : unmarked ms ds ≡ drawops (chosen is_left (entries ss)) ++ rest
 
 -- the first position that was received is the next one
-first_is : (p k low : ℕ) (d : DrawopValue) (xs : List (ℕ × DrawopValue)) → Rises k ((p, d) ∷ xs) → ((q : ℕ) → k ≤ q → pair_times q ((p, d) ∷ xs) ≡ once_below q low) → (p ≡ k) × (k < low)
+first_is : (p k low : ℕ) (d : DrawopValue) (xs : List (ℕ × DrawopValue)) → Rises k ((p, d) ∷ xs) → ((q : ℕ) → k ≤ q → times_offered q ((p, d) ∷ xs) ≡ once_below q low) → (p ≡ k) × (k < low)
 first_is p k low d xs rise once =
     let mine : cond (p == p) 1 0 ≡ suc zero = ap (λ b. cond b 1 (zero)) (test_same p p refl) in
     let under : p < low = ⊎_elim (λ (h : p < low). h) (λ (h : low ≤ p). absurd (omega (arith, once p rise.0, mine, once_past p low h))) (cases_lt p low) in
     ⊎_elim
     (λ (h : k < p).
-    let none : pair_times k ((p, d) ∷ xs) ≡ 0 = ap (λ b. cond b 1 0 + pair_times k xs) (test_apart p k (λ e. absurd (omega (arith, e, h)))) ∙ (zero_plus (pair_times k xs) ∙ rises_none (p + 1) k xs (omega (arith, h)) rise.1) in
+    let none : times_offered k ((p, d) ∷ xs) ≡ 0 = ap (λ b. cond b 1 0 + times_offered k xs) (test_apart p k (λ e. absurd (omega (arith, e, h)))) ∙ (zero_plus (times_offered k xs) ∙ rises_none (p + 1) k xs (omega (arith, h)) rise.1) in
     absurd (omega (arith, once k (omega arith), none, once_under k low (omega (arith, h, under)))))
     (λ (h : p ≤ k). let e : p ≡ k = omega (arith, h, rise.0) in (e, omega (arith, e, under))) (cases_lt k p)
 
@@ -70,9 +70,9 @@ has_false p (q ∷ ps) h =
 none_left : (k p : ℕ) (ss : List Spot) → p ≤ k → Rises (k + 1) (offered ss) → has p (accepted_at ss) ≡ false
 none_left k p ss le rise = has_false p (accepted_at ss) (omega (arith, accepted_few p ss, rises_none (k + 1) p (offered ss) (omega (arith, le)) rise))
 
-once_next : (p k low : ℕ) (d : DrawopValue) (xs : List (ℕ × DrawopValue)) → p ≡ k → ((q : ℕ) → k ≤ q → pair_times q ((p, d) ∷ xs) ≡ once_below q low) → (q : ℕ) → k + 1 ≤ q → pair_times q xs ≡ once_below q low
+once_next : (p k low : ℕ) (d : DrawopValue) (xs : List (ℕ × DrawopValue)) → p ≡ k → ((q : ℕ) → k ≤ q → times_offered q ((p, d) ∷ xs) ≡ once_below q low) → (q : ℕ) → k + 1 ≤ q → times_offered q xs ≡ once_below q low
 once_next p k low d xs here once q le =
-    let t : pair_times q ((p, d) ∷ xs) ≡ pair_times q xs = ap (λ b. cond b 1 0 + pair_times q xs) (test_apart p q (λ e. absurd (omega (arith, e, here, le)))) ∙ zero_plus (pair_times q xs) in
+    let t : times_offered q ((p, d) ∷ xs) ≡ times_offered q xs = ap (λ b. cond b 1 0 + times_offered q xs) (test_apart p q (λ e. absurd (omega (arith, e, here, le)))) ∙ zero_plus (times_offered q xs) in
     sym t ∙ once q (omega (arith, le))
 
 regroup : (k j : ℕ) → k + suc j ≡ k + 1 + j
@@ -95,7 +95,7 @@ left_or_marked true m a d o un rest es open' same more = ap (λ c. cond c un (a 
 left_or_marked false m a d o un rest es shut same more = ap (λ c. cond c un (a ∷ un)) shut ∙ more
 
 pub split_from : (whole : List DrawopValue) (low : ℕ) (pre ds : List DrawopValue) (k : ℕ) (ms : List Bool) (ss : List Spot) → k ≡ length pre → pre ++ ds ≡ whole → length ms ≡ length ds → low ≤ length whole
-    → Rises k (offered ss) → ((p : ℕ) → k ≤ p → pair_times p (offered ss) ≡ once_below p low) → OffersRight whole (offered ss) → Marked k ms ss → Split ss ds ms
+    → Rises k (offered ss) → ((p : ℕ) → k ≤ p → times_offered p (offered ss) ≡ once_below p low) → OffersRight whole (offered ss) → Marked k ms ss → Split ss ds ms
 split_from whole low pre ds k ms [] at is long most rise once right mark = record { rest = ds; all = refl; left = all_unmarked ms ds long mark }
 split_from whole low pre [] k ms ((p, (d, o)) ∷ ss) at is long most rise once right mark =
     let f = first_is p k low d (offered ss) rise once in absurd (omega (arith, f.1, most, at, ap length is, length-append pre []))
@@ -206,10 +206,10 @@ phases v w z es more rest all sv hv sw sz runs run split whole' =
 
 -- one worker, through the channel
 pub in_given_order : (low : ℕ) (v w z : PassValue) (log : List Spot) (gots : List Message) (more : List Entry) (all : List DrawopValue) (ms : List Bool) → IsSound v → IsWhole v → IsSound w → IsSound z
-    → Serves v log gots w → Runs w more z → drawops more ≡ unmarked ms all → low ≤ length all → ((p : ℕ) → spots p gots ≡ once_below p low) → OffersRight all (offered log) → Marks (accepted_at log) (length all) ms
+    → Serves v log gots w → Runs w more z → drawops more ≡ unmarked ms all → low ≤ length all → ((p : ℕ) → times_offered p (offered log) ≡ once_below p low) → OffersRight all (offered log) → Marks (accepted_at log) (length all) ms
     → IsBatch v.cells v.seen all z.seen (counts (tally (entries log ++ more)).fresh (tally (entries log ++ more)).again (tally (entries log ++ more)).clash (tally more).left)
 in_given_order low v w z log gots more all ms sv hv sw sz one run again' most once right marks =
     let rise : Rises 0 (offered log) = subst (λ l. Rises 0 l) (sym one.offered) one.rises in
-    let s = split_from all low [] all 0 ms log refl refl marks.long most rise (λ q _. ap (pair_times q) one.offered ∙ (takes_spots q gots ∙ once q)) right
+    let s = split_from all low [] all 0 ms log refl refl marks.long most rise (λ q _. once q) right
     (λ i lt. marks.each i (omega (arith, lt, marks.long)) ∙ ap (λ n. has n (accepted_at log)) (sym (zero_plus i))) in
     phases v w z (entries log) more s.rest all sv hv sw sz one.runs run (again' ∙ s.left) s.all

@@ -20,10 +20,10 @@ use Rattle.wb_feed.proofs.OneThread.{zero_plus}
 use Rattle.wb_feed.specs.declared.channel.Message.{Message}
 use Rattle.wb_feed.specs.declared.channel.Message.TheVariants.{Take, End}
 use Rattle.wb_feed.specs.Channel.{spots, once_below, AreRight}
-use Rattle.wb_feed.specs.Served.{Spot, entries, accepted_at, takes, offered, Serves}
+use Rattle.wb_feed.specs.Served.{Spot, entries, accepted_at, takes, offered, OffersRight, times_offered, Serves}
 use Rattle.wb_feed.specs.Marks.{has, unmarked, Marks}
 use Rattle.wb_feed.specs.Workers.{Workers, nobody, worker}
-use Rattle.wb_feed.proofs.Serving.{entries-append, accepted-append, offered-append}
+use Rattle.wb_feed.proofs.Serving.{entries-append, offered-append}
 use Rattle.wb_feed.proofs.Rules.{spots-append}
 
 abbrev free_places : ℕ → List Bool → List ℕ
@@ -114,11 +114,6 @@ places_and_rest ds ps ms m most =
     let moved : IsPermutation ds (map at (ps ++ free)) = subst (λ l. IsPermutation l (map at (ps ++ free))) whole (IsPermutation-map at (range_with_len 0 n) (ps ++ free) all) in
     subst (λ l. IsPermutation ds (map at ps ++ l)) (sym rest) (subst (λ l. IsPermutation ds l) (map-append at ps free) moved)
 
--- each arrival offered has its drawop from the list
-abbrev pub OffersRight : List DrawopValue → List (ℕ × DrawopValue) → Type 0
-OffersRight ds [] = Unit {0}
-OffersRight ds (x ∷ xs) = (slice_get ds x.0 ≡ Some x.1) × OffersRight ds xs
-
 offers_append : (ds : List DrawopValue) (xs ys : List (ℕ × DrawopValue)) → OffersRight ds xs → OffersRight ds ys → OffersRight ds (xs ++ ys)
 offers_append ds [] ys a b = b
 offers_append ds (x ∷ xs) ys a b = (a.0, offers_append ds xs ys a.1 b)
@@ -141,29 +136,30 @@ workers_offer sent ds p r (worker es others got gots _ s c _) =
     let h = right_front sent gots got r in
     subst (λ l. OffersRight ds l) (sym (offered-append es others)) (offers_append ds (offered es) (offered others) (serves_offer sent ds p h.1 s) (workers_offer sent ds p h.0 c))
 
-abbrev pub pair_times : ℕ → List (ℕ × DrawopValue) → ℕ
-pair_times p [] = 0
-pair_times p (x ∷ xs) = cond (x.0 == p) 1 0 + pair_times p xs
+offered_append : (p : ℕ) (xs ys : List (ℕ × DrawopValue)) → times_offered p (xs ++ ys) ≡ times_offered p xs + times_offered p ys
+offered_append p [] ys = omega arith
+offered_append p (x ∷ xs) ys = omega (arith, offered_append p xs ys)
 
-pub accepted_few : (p : ℕ) (log : List Spot) → times p (accepted_at log) ≤ pair_times p (offered log)
+pub accepted_few : (p : ℕ) (log : List Spot) → times p (accepted_at log) ≤ times_offered p (offered log)
 accepted_few p [] = omega arith
 accepted_few p ((q, (d, Left)) ∷ ss) = omega (arith, accepted_few p ss)
 accepted_few p ((q, (d, Fresh i)) ∷ ss) = omega (arith, accepted_few p ss)
 accepted_few p ((q, (d, Known i)) ∷ ss) = omega (arith, accepted_few p ss)
 accepted_few p ((q, (d, Clashed i)) ∷ ss) = omega (arith, accepted_few p ss)
 
-pub takes_spots : (p : ℕ) (ms : List Message) → pair_times p (takes ms) ≡ spots p ms
+pub takes_spots : (p : ℕ) (ms : List Message) → times_offered p (takes ms) ≡ spots p ms
 takes_spots p [] = refl
 takes_spots p (Take q d ∷ ms) = omega (arith, takes_spots p ms)
 takes_spots p (End ∷ ms) = omega (arith, takes_spots p ms)
 
-pub serves_once : {v w : PassValue} {log : List Spot} {gots : List Message} → (p : ℕ) → Serves v log gots w → times p (accepted_at log) ≤ spots p gots
-serves_once {log = log} {gots = gots} p s = omega (arith, accepted_few p log, ap (pair_times p) s.offered, takes_spots p gots)
+-- what was offered stands among the messages that were received, each as often
+pub serves_offered : {v w : PassValue} {log : List Spot} {gots : List Message} → (p : ℕ) → Serves v log gots w → times_offered p (offered log) ≡ spots p gots
+serves_offered {gots = gots} p s = ap (times_offered p) s.offered ∙ takes_spots p gots
 
-pub workers_once : {rows n : ℕ} {v w : PassValue} {log : List Spot} {gots : List Message} → (p : ℕ) → Workers rows n v log gots w → times p (accepted_at log) ≤ spots p gots
-workers_once p nobody = omega arith
-workers_once p (worker es others got gots _ s c _) =
-    omega (arith, workers_once p c, serves_once p s, times-append p (accepted_at es) (accepted_at others), ap (times p) (accepted-append es others), spots-append p gots got)
+pub workers_offered : {rows n : ℕ} {v w : PassValue} {log : List Spot} {gots : List Message} → (p : ℕ) → Workers rows n v log gots w → times_offered p (offered log) ≡ spots p gots
+workers_offered p nobody = refl
+workers_offered p (worker es others got gots _ s c _) =
+    omega (arith, ap (times_offered p) (offered-append es others), offered_append p (offered es) (offered others), serves_offered p s, workers_offered p c, spots-append p gots got)
 
 pub workers_gather : {rows n : ℕ} {v w : PassValue} {log : List Spot} {gots : List Message} → Workers rows n v log gots w → Gathers v (entries log) w
 workers_gather {v = v} nobody = gathers_none v

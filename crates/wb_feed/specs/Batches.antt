@@ -1,5 +1,5 @@
 -- What a batch leaves: p is the desk before it, given the drawops that came, q the desk after it, and b the counts.
-use Rattle.std.specs.Prelude.{◌≡◌, ℕ, ◌+◌, ◌<◌, Bool, List, ◌++◌, length, All}
+use Rattle.std.specs.Prelude.{◌≡◌, ℕ, ◌+◌, ◌<◌, ◌≤◌, Bool, List, ◌++◌, length, All}
 use Rattle.std.specs.List.Sorted.{IsPermutation}
 use Rattle.wb_names.specs.Values.{DrawopValue}
 use Rattle.wb_names.specs.History.{HoldsName}
@@ -10,7 +10,8 @@ use Rattle.wb_feed.specs.declared.channel.Message.{Message}
 use Rattle.wb_feed.specs.declared.worker.Accepted.{Accepted}
 use Rattle.wb_feed.specs.Accepts.{Entry, Runs, drawops}
 use Rattle.wb_feed.specs.Marks.{Marks, unmarked}
-use Rattle.wb_feed.specs.Served.{Spot, accepted_at}
+use Rattle.wb_feed.specs.Channel.{once_below}
+use Rattle.wb_feed.specs.Served.{Spot, accepted_at, offered, OffersRight, times_offered}
 use Rattle.wb_feed.specs.Workers.{Work}
 
 abbrev pub counts_in : Batch → Counts
@@ -51,10 +52,14 @@ pub record IsTotal (a : Accepted) (t b : Batch) : Type 0 where
   pub clash : b.clash ≡ a.clash + t.clash
   pub left : b.left ≡ t.left
 
--- How the workers shared what was given: their desks came back into the desk `joined`, which then took, in order, what none of them
--- had accepted
+-- How the workers shared what was given: they received the first ones, each once and by its position; their desks came back into the
+-- desk `joined`, which then took, in order, what none of them had accepted
 pub record IsShared (workers : ℕ) (p : PassValue) (given : List DrawopValue) (q : PassValue) : Type 0 where
   pub log : List Spot
+  pub right : OffersRight given (offered log)
+  pub received : ℕ
+  pub few : received ≤ length given
+  pub once : (i : ℕ) → times_offered i (offered log) ≡ once_below i received
   pub gots : List Message
   pub joined : PassValue
   pub work : Work workers p log gots joined

@@ -1,5 +1,5 @@
 -- What a worker does with the messages that it receives.
-use Rattle.std.specs.Prelude.{◌≡◌, ℕ, ◌+◌, ◌≤◌, ◌^◌, Bool, true, false, cond, List, [], ◌∷◌, ◌++◌}
+use Rattle.std.specs.Prelude.{◌≡◌, ℕ, ◌+◌, ◌≤◌, ◌==◌, ◌^◌, Bool, true, false, cond, List, [], ◌∷◌, ◌++◌, slice_get, Some}
 use Rattle.wb_names.specs.Values.{DrawopValue}
 use Rattle.wb_names.specs.Arrivals.{Outcome, Fresh, Known, Clashed, Left, counts_of}
 use Rattle.wb_host.specs.Desks.{PassValue}
@@ -38,6 +38,16 @@ takes (End ∷ ms) = takes ms
 abbrev pub offered : List Spot → List (ℕ × DrawopValue)
 offered [] = []
 offered (s ∷ ss) = (s.0, s.1.0) ∷ offered ss
+
+-- each of these has at its position just what came there
+abbrev pub OffersRight : List DrawopValue → List (ℕ × DrawopValue) → Type 0
+OffersRight given [] = Unit {0}
+OffersRight given (x ∷ xs) = (slice_get given x.0 ≡ Some x.1) × OffersRight given xs
+
+-- how many of these have the position p
+abbrev pub times_offered : ℕ → List (ℕ × DrawopValue) → ℕ
+times_offered p [] = 0
+times_offered p (x ∷ xs) = cond (x.0 == p) 1 0 + times_offered p xs
 
 -- the positions rise, from low on
 abbrev pub Rises : ℕ → List (ℕ × DrawopValue) → Type 0

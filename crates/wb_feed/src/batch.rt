@@ -1,5 +1,5 @@
 //! A batch: the workers take what comes, and the desk takes again what none of them accepted.
-ghost use Rattle.std.specs.Prelude.{◌≡◌, ◌+◌, ◌<◌, ◌≤◌, ◌^◌, ◌⊎◌, ◌↔◌, true, List, [], Err, length, IfOk, OnOk};
+ghost use Rattle.std.specs.Prelude.{◌≡◌, ◌≢◌, ◌+◌, ◌<◌, ◌≤◌, ◌^◌, ◌⊎◌, ◌↔◌, true, List, [], Err, length, IfOk, OnOk};
 ghost use Rattle.crossbeam_channel.specs.Claims.{view};
 ghost use Rattle.crossbeam_channel.specs.Ends.{sends_on, receives_on};
 ghost use Rattle.wb_names.specs.Values.{DrawopValue};
@@ -78,11 +78,13 @@ pub fn run_batch<R: Threads + Wait + Sync, S: Arrivals, G: Gate + Sync>(
     requires desk { IsPassOf board.now desk.old }
     ensures kept { Keeps desk.old desk.new }
     ensures rows { LosesAtMost (handed_out workers desk.old.free) desk.old desk.new }
+    ensures every_row { result ≢ Err FeedFault.Memory → LosesAtMost 0 desk.old desk.new }
     ensures workers { (result ≡ Err FeedFault.Workers) ↔ ((workers ≡ 0) ⊎ (8 < workers)) }
     ensures untouched { (workers ≡ 0) ⊎ (8 < workers) → (desk.new ≡ desk.old) × (arrivals.new ≡ arrivals.old) }
     ensures started { result ≡ Err FeedFault.Start → (arrivals.new ≡ arrivals.old) × LosesAtMost 0 desk.old desk.new }
     ensures arrived { (given : List DrawopValue) × S.gives arrivals.old given arrivals.new }
     ensures given { IfOk result (λ r. S.gives arrivals.old r.1.items arrivals.new) }
+    ensures few { IfOk result (λ r. length r.1.items + S.most_to_come arrivals.new ≤ S.most_to_come arrivals.old) }
     ensures taken { IfOk result (λ r. Takes desk.old r.1.items workers desk.new r.0) }
     ensures shared { IfOk result (λ r. IsShared workers desk.old r.1.items desk.new) }
     ensures ended { OnOk result (S.has_ended arrivals.new ≡ true) }

@@ -11,7 +11,7 @@
 //!
 //! `relay` has one desk accept a drawop on a thread of its own, and another desk told of it.
 //!
-//! In reading order: where drawops come from (`arrivals`) and what is called round each accept (`gate`);
+//! In reading order: where drawops come from (`arrivals`, or a list: `listed`) and what is called round each accept (`gate`);
 //! the call (`batch`), its workers (`workers`) or the one (`alone`), what each does (`worker`) and where (`place`), and the
 //! sender's part (`sender`); the `channel` with its messages; `relays`; and what a batch told (`laws`).
 #![tactic(auto)]
@@ -23,14 +23,16 @@ mod channel;
 mod fault;
 mod gate;
 pub mod laws;
+mod listed;
 mod place;
 mod relays;
 mod sender;
 mod worker;
 mod workers;
 
-pub use arrivals::Arrivals;
+pub use arrivals::{Arrivals, KnownArrivals};
 pub use batch::{Batch, run_batch};
 pub use fault::FeedFault;
 pub use gate::{Gate, NoGate};
+pub use listed::Listed;
 pub use relays::{RelayFault, relay};

@@ -1,8 +1,9 @@
 -- The reports of all pages of a history: there is one list of them, and a function gives it.
-use Rattle.std.proofs.Common.{◌≡◌, ℕ, ◌+◌, ◌<◌, ◌≤◌, List, [], ◌∷◌, get_or, length, take, refl, ap, ◌∙◌, sym, subst, arith}
+use Rattle.std.proofs.Common.{◌≡◌, ℕ, ◌+◌, ◌<◌, ◌≤◌, List, [], ◌∷◌, get_or, length, take, refl, ap, sym, subst, arith}
 use Rattle.std.specs.Prelude.{All, map, ◌++◌}
 use Rattle.std.proofs.lemmas.List.{map-append, take_more}
 use Rattle.std.proofs.lemmas.List.Elements.{All-cons, All-head, All-push, All-tail}
+use Rattle.std.proofs.lemmas.Grind.{common_steps}
 use Rattle.wb_names.specs.Values.{DrawopValue, MarkValue}
 use Rattle.wb_names.specs.Marks.{IsReport}
 use Rattle.wb_names.specs.declared.name.PageId.{PageId}
@@ -24,9 +25,7 @@ AreOf history reports = All (λ r. IsReport history r.page r.marks) reports
 -- a walk over the pages adds the report of the next one
 pub pages_more : (reports after : List PageReport) (pages : List PageId) (i : ℕ) (d : PageId) (marks : List MarkValue) → i < length pages → after ≡ reports ++ (record { page = get_or pages i d; marks = marks }) ∷ []
     → map (λ (r : PageReport). r.page) reports ≡ take i pages → map (λ (r : PageReport). r.page) after ≡ take (i + 1) pages
-pages_more reports after pages i d marks lt more so =
-    ap (map (λ (r : PageReport). r.page)) more ∙ map-append (λ (r : PageReport). r.page) reports ((record { page = get_or pages i d; marks = marks }) ∷ []) ∙ ap (λ (ps : List PageId). ps ++ get_or pages i d ∷ []) so
-    ∙ sym (take_more pages i d lt)
+pages_more reports after pages i d marks lt more so = grind (arith, common_steps, map-append, take_more)
 
 pub each_more : (history : List DrawopValue) (reports after : List PageReport) (page : PageId) (marks : List MarkValue) → after ≡ reports ++ (record { page = page; marks = marks }) ∷ [] → AreOf history reports → IsReport history page marks → AreOf history after
 each_more history reports after page marks more each report =

@@ -5,9 +5,10 @@ use Rattle.std.specs.List.{find, flat_map}
 use Rattle.std.specs.Option.{option_or}
 use Rattle.std.specs.Ordering.{is_lt, ordering_reverse, ordering_then}
 use Rattle.std.specs.declared.cmp.Ordering.{Ordering}
-use Rattle.std.specs.declared.cmp.Ordering.TheVariants.{Less, Equal, Greater}
+use Rattle.std.specs.declared.cmp.Ordering.TheVariants.{Less}
 use Rattle.std.proofs.lemmas.List.{drop_all}
 use Rattle.std.proofs.lemmas.List.Folds.{find-append}
+use Rattle.std.proofs.lemmas.Grind.{common_steps}
 use Rattle.wb_names.specs.Ascending.{AreMarks}
 use Rattle.wb_names.specs.Orders.{page_cmp}
 use Rattle.wb_names.specs.declared.gap.Gap.{Gap}
@@ -37,11 +38,7 @@ pub found_later : {X Y : Type 0} (p : Y → Bool) (f : X → Y) (x : X) (xs : Li
 found_later {X} {Y} p f x xs fails = ap (λ (b : Bool). cond b (Some (f x)) (find p (map f xs))) fails
 
 pub is_less : (p q : PageId) → is_lt (page_cmp p q) ≡ true → page_cmp p q ≡ Less
-is_less p q lt = at (page_cmp p q) lt where
-  at : (o : Ordering) → is_lt o ≡ true → o ≡ Less
-  at Less e = refl
-  at Equal e = absurd (true≢false (sym e))
-  at Greater e = absurd (true≢false (sym e))
+is_less p q lt = grind (arith, common_steps)
 
 pub no_marks : AreMarks []
 no_marks = record { ascending = λ i j d ij lt. omega arith; positive = λ k d lt. omega arith; few = omega arith }

@@ -1,10 +1,11 @@
 -- The walk over ascending runs that keeps the last one of each source.
-use Rattle.std.proofs.Common.{◌≡◌, ℕ, suc, ◌<◌, ◌≤◌, true, false, cond, List, [], ◌∷◌, ◌++◌, append_assoc, Option, None, Some, Bool, length, refl, ap, ◌∙◌, sym, subst, arith, ◌⊎◌, inl, inr, ⊎_elim, eqb-true}
+use Rattle.std.proofs.Common.{◌≡◌, ℕ, suc, ◌<◌, ◌≤◌, true, false, cond, List, [], ◌∷◌, ◌++◌, append_assoc, Option, None, Some, length, refl, ap, ◌∙◌, sym, subst, arith, ◌⊎◌, inl, inr, ⊎_elim, eqb-true}
 use Rattle.std.proofs.lemmas.Bool.{cases_lt}
-use Rattle.std.specs.Prelude.{◌≢◌, All, AllPairs, Contains, MatchOption, nat_eq}
+use Rattle.std.specs.Prelude.{◌≢◌, All, AllPairs, MatchOption, nat_eq}
 use Rattle.std.proofs.lemmas.Bool.Decides.{nat_tests}
 use Rattle.std.proofs.lemmas.List.Elements.{All-nil, All-cons, All-head, All-tail, All-weaker, All-contains}
 use Rattle.std.proofs.lemmas.List.Kept.{AllPairs-cons}
+use Rattle.std.proofs.lemmas.Grind.{common_steps}
 use Rattle.wb_names.specs.Values.{MarkValue}
 use Rattle.wb_names.specs.Marks.{mark_of}
 use Rattle.wb_names.proofs.Listings.{Contains-here, Contains-there, Contains-cases, Contains-none}
@@ -37,10 +38,7 @@ later_runs x xs r = record {
 
 -- of the first run: the number lies in it, or in a later one
 pub number_cases : (x : Run) (xs : List Run) (s n : ℕ) → InRuns (x ∷ xs) s n → ((x.source ≡ s) × (x.first ≤ n) × (n ≤ x.last)) ⊎ InRuns xs s n
-number_cases x xs s n h = ⊎_elim
-    (λ (e : x ≡ h.0). inl (subst (λ (r : Run). (r.source ≡ s) × (r.first ≤ n) × (n ≤ r.last)) (sym e) (h.2, h.3, h.4)))
-    (λ (c : Contains xs h.0). inr (h.0, c, h.2, h.3, h.4))
-    (Contains-cases x h.0 xs h.1)
+number_cases x xs s n h = grind (arith, common_steps, nat_tests, Contains-cases)
 
 pub number_here : (x : Run) (xs : List Run) (s n : ℕ) → x.source ≡ s → x.first ≤ n → n ≤ x.last → InRuns (x ∷ xs) s n
 number_here x xs s n e low high = (x, Contains-here x xs, e, low, high)
@@ -81,18 +79,11 @@ module _ (x : Run) (left later : List Run) (next : Option Run) (is : MatchOption
 
   -- a run that the next one of its source passes
   pub passed : (marks all : List MarkValue) → continues x.source next ≡ true → marks ++ last_marks (x ∷ left) ≡ all → marks ++ last_marks (ahead next later) ≡ all
-  passed marks all goes kept =
-      let a = ahead_is next later left is in
-      let same : last_marks (x ∷ left) ≡ last_marks left = ap (λ (b : Bool). cond b (last_marks left) (mark x ∷ last_marks left)) (ap (continues x.source) a.1 ∙ goes) in
-      ap (λ (rs : List Run). marks ++ last_marks rs) a.0 ∙ sym (ap (λ (ms : List MarkValue). marks ++ ms) same) ∙ kept
+  passed marks all goes kept = grind (arith, common_steps, nat_tests, ahead_is)
 
   -- the last run of its source
   pub pushed : (marks after all : List MarkValue) (m : MarkValue) → continues x.source next ≡ false → m ≡ mark x → after ≡ marks ++ m ∷ [] → marks ++ last_marks (x ∷ left) ≡ all → after ++ last_marks (ahead next later) ≡ all
-  pushed marks after all m ends made more kept =
-      let a = ahead_is next later left is in
-      let same : last_marks (x ∷ left) ≡ mark x ∷ last_marks left = ap (λ (b : Bool). cond b (last_marks left) (mark x ∷ last_marks left)) (ap (continues x.source) a.1 ∙ ends) in
-      ap (λ (rs : List Run). after ++ last_marks rs) a.0 ∙ ap (λ (ms : List MarkValue). ms ++ last_marks left) (more ∙ ap (λ (k : MarkValue). marks ++ k ∷ []) made)
-      ∙ append_assoc marks (mark x ∷ []) (last_marks left) ∙ sym (ap (λ (ms : List MarkValue). marks ++ ms) same) ∙ kept
+  pushed marks after all m ends made more kept = grind (arith, common_steps, nat_tests, ahead_is, append_assoc)
 
 above_last : (b : ℕ) (xs : List Run) → All (λ r. b < r.source) xs → All (λ m. b < m.source) (last_marks xs)
 above_last b [] all = All-nil _
@@ -128,12 +119,7 @@ rises_last (x ∷ xs) s =
 
 few_last : (xs : List Run) → length (last_marks xs) ≤ length xs
 few_last [] = omega arith
-few_last (x ∷ xs) =
-    let rest = few_last xs in
-    elim (continues x.source (first xs)) as (λ c. length (cond c (last_marks xs) (mark x ∷ last_marks xs)) ≤ suc (length xs)) [
-      | true ↦ omega arith
-      | false ↦ omega arith
-    ]
+few_last (x ∷ xs) = grind (arith, common_steps, nat_tests, few_last xs)
 
 -- a first run that the next one of its source passes
 greatest_passed : (x y : Run) (ys : List Run) (s high : ℕ) → AreRuns (x ∷ y ∷ ys) → y.source ≡ x.source → IsGreatest (InRuns (y ∷ ys) s) high → IsGreatest (InRuns (x ∷ y ∷ ys) s) high
@@ -202,7 +188,4 @@ are_greatest xs runs = record { ascending = rises_last xs runs; positive = posit
 
 -- two tests of one thing give one greatest number
 pub one_greatest : (P Q : ℕ → Type 0) (a b : ℕ) → IsGreatest P a → IsGreatest Q b → ((n : ℕ) → P n → Q n) → ((n : ℕ) → Q n → P n) → a ≡ b
-one_greatest P Q a b g h up down =
-    let le : a ≤ b = ⊎_elim (λ (e : a ≡ 0). omega arith) (λ (p : P a). h.bound a (up a p)) g.reached in
-    let ge : b ≤ a = ⊎_elim (λ (e : b ≡ 0). omega arith) (λ (q : Q b). g.bound b (down b q)) h.reached in
-    omega arith
+one_greatest P Q a b g h up down = grind (arith, common_steps, nat_tests)

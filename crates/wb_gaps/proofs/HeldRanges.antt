@@ -11,6 +11,7 @@ use Rattle.std.proofs.lemmas.Bool.Decides.{nat_tests}
 use Rattle.std.proofs.lemmas.List.Elements.{All-contains}
 use Rattle.std.proofs.lemmas.Map.Views.{All-found, Contains-from_lookup}
 use Rattle.std.specs.List.{list_any}
+use Rattle.std.proofs.lemmas.Grind.{common_steps}
 use Rattle.wb_names.specs.Values.{NameValue, DrawopValue}
 use Rattle.wb_names.specs.Orders.{same_page, same_name}
 use Rattle.wb_names.specs.declared.name.PageId.{PageId}
@@ -88,12 +89,7 @@ module _ (name : NameValue) where
         (and_is _ _ (and_is _ _ (page_tested name.page) (nat_eq_equiv.refl name.source)) (and_is _ _ (le_tested c.0 name.seq c.3) (le_tested name.seq c.1 c.4)))
 
 apart_as : (f g : ℕ → Option ℕ) → ((j : ℕ) → g j ≡ f j) → AreApart f → AreApart g
-apart_as f g is a = record {
-  positive = λ j l h. a.positive j l (sym (is j) ∙ h);
-  filled = λ j l h. a.filled j l (sym (is j) ∙ h);
-  fits = λ j l h. a.fits j l (sym (is j) ∙ h);
-  apart = λ j l k m h i lt. a.apart j l k m (sym (is j) ∙ h) (sym (is k) ∙ i) lt;
-}
+apart_as f g is a = grind (arith, common_steps, nat_tests)
 
 covers_as : (f g : ℕ → Option ℕ) → ((j : ℕ) → g j ≡ f j) → (n : ℕ) → Covers f n → Covers g n
 covers_as f g is n c = (c.0, c.1, is c.0 ∙ c.2, c.3, c.4)
@@ -107,10 +103,7 @@ module _ (m n : BTreeMap Start ℕ) (page : PageId) (source x s e : ℕ) (low : 
   elsewhere p t unlike j = others (start p t j) (λ f. unlike (sym (ap (λ (k : Start). k.page) f), sym (ap (λ (k : Start). k.source) f))) (λ f. unlike (sym (ap (λ (k : Start). k.page) f), sym (ap (λ (k : Start). k.source) f)))
 
   place : (p : PageId) (t : ℕ) → ((p ≡ page) × (t ≡ source)) ⊎ ((p ≡ page) × (t ≡ source) → ⊥)
-  place p t = from (same_page p page && nat_eq t source) refl where
-    from : (c : Bool) → (same_page p page && nat_eq t source) ≡ c → ((p ≡ page) × (t ≡ source)) ⊎ ((p ≡ page) × (t ≡ source) → ⊥)
-    from true h = let g = and_both (same_page p page) _ h in inl (same_page-is p page g.0, eqb-true t source g.1)
-    from false h = inr (λ g. true≢false (sym (and_is _ _ (subst (λ (q : PageId). same_page q page ≡ true) (sym g.0) (page_tested page)) (subst (λ (u : ℕ). nat_eq u source ≡ true) (sym g.1) (nat_eq_equiv.refl source))) ∙ h))
+  place p t = grind (arith, common_steps, nat_tests, and_is, page_tested, eqb-true, nat_eq_equiv, and_both, same_page-is)
 
   apart_after : (p : PageId) (t : ℕ) → AreApart (last_at n.entries p t)
   apart_after p t = ⊎_elim
@@ -119,10 +112,7 @@ module _ (m n : BTreeMap Start ℕ) (page : PageId) (source x s e : ℕ) (low : 
       (place p t)
 
   sources_after : (p : PageId) (t first last : ℕ) → last_at n.entries p t first ≡ Some last → t ≤ 4294967295
-  sources_after p t first last h = ⊎_elim
-      (λ (g : (p ≡ page) × (t ≡ source)). let is = g.1 in omega arith)
-      (λ (unlike : (p ≡ page) × (t ≡ source) → ⊥). ranges.sources p t first last (sym (elsewhere p t unlike first) ∙ h))
-      (place p t)
+  sources_after p t first last h = grind (arith, common_steps, nat_tests, elsewhere, place)
 
   pub ranges_after : AreRanges n.entries
   ranges_after = record { apart = apart_after; sources = sources_after }
@@ -162,10 +152,7 @@ name_at page source x = record { source = source; page = page; seq = x }
 
 -- a name that is held is put again
 pub already : (m : BTreeMap Start ℕ) (page : PageId) (source x : ℕ) → Covers (last_at m.entries page source) x → HoldsToo (ranges_of m.entries) (name_at page source x) (ranges_of m.entries)
-already m page source x c o = or_bits (holds (ranges_of m.entries) o) (same_name (name_at page source x) o) (holds (ranges_of m.entries) o)
-    (λ h. inr h)
-    (λ h. subst (λ (w : NameValue). holds (ranges_of m.entries) w ≡ true) (same_name-is (name_at page source x) o h) (name_covered (name_at page source x) m c))
-    (λ h. h)
+already m page source x c o = grind (arith, common_steps, nat_tests, or_bits, name_covered, same_name-is)
 
 -- a number that is taken in with the range above it
 pub joined_after : (m mid n : BTreeMap Start ℕ) (page : PageId) (source x e : ℕ) (k next : Start) → source ≤ 4294967295 → AreRanges m.entries → k.page ≡ page → k.source ≡ source → Begins (last_at m.entries page source) x k.first → next.page ≡ page → next.source ≡ source → next.first ≡ x + 1 → last_at m.entries page source (x + 1) ≡ Some e → Updates start_cmp m mid k (Some e) → UpdatesBy start_cmp (start_cmp next) mid n None → IsOrdered start_cmp m → IsOrdered start_cmp n → AreRanges n.entries × HoldsToo (ranges_of m.entries) (name_at page source x) (ranges_of n.entries)
@@ -199,17 +186,11 @@ some_there o l h = subst (λ (p : Option ℕ). IsSome p) (sym h) refl
 -- what `range(..=at)` says of the ranges of the page and source of `at`
 module _ (m : BTreeMap Start ℕ) (at : Start) where
   pub none_up_to : ((q : Start) → IsInRange start_cmp Unbounded (Included at) q → get start_cmp m q ≡ None) → (first last : ℕ) → last_at m.entries at.page at.source first ≡ Some last → at.first < first
-  none_up_to none first last h = ⊎_elim
-      (λ (over : at.first < first). over)
-      (λ (le : first ≤ at.first). absurd (none_some last (sym (none (start at.page at.source first) (tt, up_to at.page at.source first at.first le)) ∙ h)))
-      (cases_lt at.first first)
+  none_up_to none first last h = grind (arith, common_steps, nat_tests, cases_lt, none_some, up_to)
 
   module _ (e : Start) (l : ℕ) (here : IsEntryInRange start_cmp Unbounded (Included at) m (e, l)) (top : (q : Start) → IsInRange start_cmp Unbounded (Included at) q → IsSome (get start_cmp m q) → is_lt (start_cmp e q) ≡ false) where
     pub others_up_to : ((e.page ≡ at.page) × (e.source ≡ at.source) → ⊥) → (first last : ℕ) → last_at m.entries at.page at.source first ≡ Some last → at.first < first
-    others_up_to unlike first last h = ⊎_elim
-        (λ (over : at.first < first). over)
-        (λ (le : first ≤ at.first). absurd (unlike (between e at.page at.source first at.first here.0.1 (top (start at.page at.source first) (tt, up_to at.page at.source first at.first le) (some_there _ last h)))))
-        (cases_lt at.first first)
+    others_up_to unlike first last h = grind (arith, common_steps, nat_tests, some_there, cases_lt, between, up_to)
 
     pub last_up_to : e.page ≡ at.page → e.source ≡ at.source → (e.page ≡ at.page) × (e.source ≡ at.source) × (e.first ≤ at.first) × (last_at m.entries at.page at.source e.first ≡ Some l) × ((first last : ℕ) → last_at m.entries at.page at.source first ≡ Some last → first ≤ at.first → first ≤ e.first)
     last_up_to p s =
@@ -217,16 +198,10 @@ module _ (m : BTreeMap Start ℕ) (at : Start) where
         (p, s, up_to_is at.page at.source e.first at.first (subst (λ (k : Start). is_gt (start_cmp k at) ≡ false) place here.0.1), subst (λ (k : Start). get start_cmp m k ≡ Some l) place here.1, λ first last h le. from_is at.page at.source e.first first (subst (λ (k : Start). is_lt (start_cmp k (start at.page at.source first)) ≡ false) place (top (start at.page at.source first) (tt, up_to at.page at.source first at.first le) (some_there _ last h))))
 
 pub same_pages : (p q : PageId) → not (same_page p q) ≡ false → p ≡ q
-same_pages p q h = same_page-is p q (from (same_page p q) h) where
-  from : (b : Bool) → not b ≡ false → b ≡ true
-  from true g = refl
-  from false g = absurd (true≢false g)
+same_pages p q h = grind (arith, common_steps, nat_tests, same_page-is)
 
 pub other_pages : (p q : PageId) → not (same_page p q) ≡ true → p ≡ q → ⊥
-other_pages p q h is = from (same_page p q) h (subst (λ (w : PageId). same_page p w ≡ true) is (page_tested p)) where
-  from : (b : Bool) → not b ≡ true → b ≡ true → ⊥
-  from true g f = true≢false (sym g)
-  from false g f = true≢false (sym f)
+other_pages p q h is = grind (arith, common_steps, nat_tests, page_tested)
 
 -- the greatest number is the end of the last range
 module _ (m : BTreeMap Start ℕ) (ordered : IsOrdered start_cmp m) (ranges : AreRanges m.entries) (page : PageId) (source : ℕ) where
@@ -247,25 +222,11 @@ module _ (m : BTreeMap Start ℕ) (ordered : IsOrdered start_cmp m) (ranges : Ar
 
 last_any : {X : Type 0} (p : X → Bool) (xs : List X) (x : X) → list_any p (xs ++ x ∷ []) ≡ (p x || list_any p xs)
 last_any p [] x = refl
-last_any p (y ∷ xs) x = ap (λ (b : Bool). p y || b) (last_any p xs x) ∙ swapped (p y) (p x) (list_any p xs) where
-  swapped : (a b c : Bool) → (a || (b || c)) ≡ (b || (a || c))
-  swapped true true c = refl
-  swapped true false c = refl
-  swapped false b c = refl
+last_any p (y ∷ xs) x = grind (arith, common_steps, nat_tests, last_any p xs x)
 
 -- a number that would begin a range, or be the next of one, is in none
 pub not_covered : (lasts : ℕ → Option ℕ) (n first : ℕ) → Begins lasts n first → Covers lasts n → ⊥
-not_covered lasts n first b c =
-    let low = c.3 in
-    let high = c.4 in
-    let under = b.low in
-    ⊎_elim
-    (λ (lt : c.0 < first). let t = b.below c.0 c.1 c.2 lt in let w : ⊥ = omega arith in w)
-    (λ (le : first ≤ c.0). ⊎_elim
-    (λ (over : first < c.0). let t = b.above c.0 c.1 c.2 over in let w : ⊥ = omega arith in w)
-    (λ (ge : c.0 ≤ first). let is : c.0 ≡ first = omega arith in let t = b.here c.1 (ap lasts (sym is) ∙ c.2) in let w : ⊥ = omega arith in w)
-    (cases_lt first c.0))
-    (cases_lt c.0 first)
+not_covered lasts n first b c = grind (arith, common_steps, nat_tests, cases_lt)
 
 -- so a name that is held begins none
 pub held_begins_none : (m : BTreeMap Start ℕ) (page : PageId) (source n first : ℕ) → IsOrdered start_cmp m → Begins (last_at m.entries page source) n first → holds (ranges_of m.entries) (name_of page source n) ≡ true → ⊥

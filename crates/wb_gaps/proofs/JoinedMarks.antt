@@ -1,11 +1,12 @@
 -- What the marks of two ascending lists are, taken together.
-use Rattle.std.proofs.Common.{◌≡◌, ℕ, suc, ◌+◌, ◌<◌, ◌≤◌, Bool, true, false, cond, max, List, [], ◌∷◌, length, refl, ap, ◌∙◌, sym, subst, arith, ⊎_elim}
+use Rattle.std.proofs.Common.{◌≡◌, ℕ, suc, ◌+◌, ◌<◌, ◌≤◌, Bool, true, cond, max, List, [], ◌∷◌, length, refl, ap, ◌∙◌, sym, subst, arith, ⊎_elim}
 use Rattle.std.specs.Prelude.{◌≢◌, filter, nat_eq, nat_lt}
 use Rattle.std.proofs.lemmas.Bool.{cases_lt}
 use Rattle.std.proofs.lemmas.Bool.Decides.{nat_tests}
 use Rattle.std.proofs.lemmas.List.Elements.{All-cons, All-head, All-tail}
 use Rattle.std.proofs.lemmas.List.Sums.{length-filter, count_by-le-length}
 use Rattle.std.proofs.lemmas.List.Kept.{AllPairs-cons}
+use Rattle.std.proofs.lemmas.Grind.{common_steps}
 use Rattle.wb_names.specs.Values.{MarkValue}
 use Rattle.wb_names.specs.Ascending.{AreMarks}
 use Rattle.wb_names.specs.Marks.{mark_of, IsMerge}
@@ -25,10 +26,7 @@ absent_some : (high : ℕ) → 1 ≤ high → absent high ≡ 0
 absent_some high pos = grind (arith, nat_tests)
 
 lacking_step : (a ns : List MarkValue) (n : MarkValue) → lacking a (n ∷ ns) ≡ absent (mark_of a n.source) + lacking a ns
-lacking_step a ns n = counted (nat_eq (mark_of a n.source) 0) (filter (λ m. nat_eq (mark_of a m.source) 0) ns) where
-  counted : (b : Bool) (rest : List MarkValue) → length (cond b (n ∷ rest) rest) ≡ cond b 1 0 + length rest
-  counted true rest = omega arith
-  counted false rest = omega arith
+lacking_step a ns n = grind (arith, common_steps, nat_tests)
 
 lacking_none : (ns : List MarkValue) → lacking [] ns ≡ length ns
 lacking_none [] = refl
@@ -136,18 +134,10 @@ at_first : (m n : MarkValue) (ms ns : List MarkValue) (rest : List MarkValue →
 at_first m n ms ns rest lt = let a : nat_lt m.source n.source ≡ true = grind (arith, nat_tests) in ap (λ (b : Bool). cond b (m ∷ rest (n ∷ ns)) (cond (nat_lt n.source m.source) (n ∷ joined_at m ms rest ns) (greater m n ∷ rest ns))) a
 
 at_second : (m n : MarkValue) (ms ns : List MarkValue) (rest : List MarkValue → List MarkValue) → n.source < m.source → joined_at m ms rest (n ∷ ns) ≡ n ∷ joined_at m ms rest ns
-at_second m n ms ns rest lt =
-    let a : nat_lt m.source n.source ≡ false = grind (arith, nat_tests) in
-    let b : nat_lt n.source m.source ≡ true = grind (arith, nat_tests) in
-    ap (λ (c : Bool). cond c (m ∷ rest (n ∷ ns)) (cond (nat_lt n.source m.source) (n ∷ joined_at m ms rest ns) (greater m n ∷ rest ns))) a
-    ∙ ap (λ (c : Bool). cond c (n ∷ joined_at m ms rest ns) (greater m n ∷ rest ns)) b
+at_second m n ms ns rest lt = grind (arith, common_steps, nat_tests)
 
 at_both : (m n : MarkValue) (ms ns : List MarkValue) (rest : List MarkValue → List MarkValue) → m.source ≡ n.source → joined_at m ms rest (n ∷ ns) ≡ greater m n ∷ rest ns
-at_both m n ms ns rest e =
-    let a : nat_lt m.source n.source ≡ false = grind (arith, nat_tests) in
-    let b : nat_lt n.source m.source ≡ false = grind (arith, nat_tests) in
-    ap (λ (c : Bool). cond c (m ∷ rest (n ∷ ns)) (cond (nat_lt n.source m.source) (n ∷ joined_at m ms rest ns) (greater m n ∷ rest ns))) a
-    ∙ ap (λ (c : Bool). cond c (n ∷ joined_at m ms rest ns) (greater m n ∷ rest ns)) b
+at_both m n ms ns rest e = grind (arith, common_steps, nat_tests)
 
 joins_at : (m : MarkValue) (ms : List MarkValue) → Rises (m ∷ ms) → 1 ≤ m.high → ((ns : List MarkValue) → Rises ns → Joins ms ns (joined ms ns)) → (ns : List MarkValue) → Rises ns → Joins (m ∷ ms) ns (joined_at m ms (joined ms) ns)
 joins_at m ms um pos rest [] un = joins_all (m ∷ ms) um
@@ -173,14 +163,7 @@ joined_alone xs (y ∷ ys) m ms e none = absurd (omega arith)
 
 -- there are no more of them than in the two lists
 pub joined_count : (ms ns : List MarkValue) → AreMarks ms → AreMarks ns → (length (joined ms ns) ≡ source_count ms ns) × (length (joined ms ns) ≤ 131070)
-joined_count ms ns a b =
-    let j = joins ms a.ascending a.positive ns b.ascending in
-    let count = j.count in
-    let m = a.few in
-    let n = b.few in
-    let lack = length-filter (λ m. nat_eq (mark_of ms m.source) 0) ns in
-    let fits = count_by-le-length (λ m. nat_eq (mark_of ms m.source) 0) ns in
-    (count, omega arith)
+joined_count ms ns a b = grind (arith, common_steps, nat_tests, joins, length-filter, count_by-le-length)
 
 -- the same, of two lists that were read as slices
 pub joins_read : (a b first second items : List MarkValue) → first ≡ a → second ≡ b → AreMarks a → AreMarks b → items ≡ joined first second → Joins first second items

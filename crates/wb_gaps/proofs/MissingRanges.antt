@@ -8,6 +8,7 @@ use Rattle.std.proofs.lemmas.Bool.{cases_lt}
 use Rattle.std.proofs.lemmas.List.Elements.{All-cons, All-head, All-tail, All-weaker, Contains-get_or, Contains-append_left, Contains-append_right}
 use Rattle.std.proofs.lemmas.List.Kept.{AllPairs-cons, AllPairs-from_increasing}
 use Rattle.std.proofs.lemmas.Map.Keys.{sorted_tail, IsStrictlyIncreasing-from_sorted}
+use Rattle.std.proofs.lemmas.Grind.{common_steps}
 use Rattle.wb_names.specs.Values.{DrawopValue, MarkValue}
 use Rattle.wb_names.specs.History.{IsHeld, highest}
 use Rattle.wb_names.specs.Marks.{mark_of, known}
@@ -45,10 +46,7 @@ in_later : (g : Gap) (gaps : List Gap) (s m : ℕ) → Covers gaps s m → Cover
 in_later g gaps s m c = (c.0, Contains-there g c.0 gaps c.1, c.2, c.3, c.4)
 
 in_cases : (g : Gap) (gaps : List Gap) (s m : ℕ) → Covers (g ∷ gaps) s m → Within g s m ⊎ Covers gaps s m
-in_cases g gaps s m c = ⊎_elim
-    (λ (e : g ≡ c.0). inl (subst (λ (v : Gap). Within v s m) (sym e) (c.2, c.3, c.4)))
-    (λ (d : Contains gaps c.0). inr (c.0, d, c.2, c.3, c.4))
-    (Contains-cases g c.0 gaps c.1)
+in_cases g gaps s m c = grind (arith, common_steps, Contains-cases)
 
 in_none : (s m : ℕ) → Covers [] s m → ⊥
 in_none s m c = Contains-none c.0 c.1
@@ -79,23 +77,14 @@ alone_at source n s m e = let a = e.1 in (sym e.0, omega arith, omega arith)
 
 -- a range by itself, before others
 alone_ranges : (P : ℕ → ℕ → Type 0) (source n : ℕ) (gaps : List Gap) → Ranges P gaps → All (IsApart (alone source n)) gaps → Ranges (With source n P) (alone source n ∷ gaps)
-alone_ranges P source n gaps r a = record {
-  filled = All-cons (λ (g : Gap). g.first ≤ g.last) (alone source n) gaps (omega arith) r.filled;
-  apart = AllPairs-cons IsApart (alone source n) gaps a r.apart;
-  covers = λ s m. (
-    λ c. ⊎_elim (λ (w : Within (alone source n) s m). inl (at_alone source n s m w)) (λ (d : Covers gaps s m). inr ((r.covers s m).0 d)) (in_cases (alone source n) gaps s m c),
-    λ w. ⊎_elim (λ (e : (s ≡ source) × (m ≡ n)). in_first (alone source n) gaps s m (alone_at source n s m e)) (λ (p : P s m). in_later (alone source n) gaps s m ((r.covers s m).1 p)) w,
-  );
-}
+alone_ranges P source n gaps r a = grind (arith, common_steps, in_first, in_later, in_cases, at_alone, alone_at, All-cons, AllPairs-cons)
 
 -- a range that begins one number earlier
 grown_apart : (source n : ℕ) (g h : Gap) → g.source ≡ source → IsApart g h → IsApart (grown source n g) h
 grown_apart source n g h e a = ⊎_elim (λ (p : g.source < h.source). inl (omega arith)) (λ (p : (g.source ≡ h.source) × (g.last + 1 < h.first)). inr (sym e ∙ p.0, p.1)) a
 
 from_grown : (source n : ℕ) (g : Gap) (s m : ℕ) → g.source ≡ source → g.first ≡ n + 1 → Within (grown source n g) s m → ((s ≡ source) × (m ≡ n)) ⊎ Within g s m
-from_grown source n g s m e f w =
-    let low = w.1 in
-    ⊎_elim (λ (lt : n < m). inr (e ∙ w.0, omega arith, w.2)) (λ (ge : m ≤ n). inl (sym w.0, omega arith)) (cases_lt n m)
+from_grown source n g s m e f w = grind (arith, common_steps, cases_lt)
 
 grown_at : (source n : ℕ) (g : Gap) (s m : ℕ) → g.source ≡ source → g.first ≡ n + 1 → Within g s m → Within (grown source n g) s m
 grown_at source n g s m e f w = let low = w.1 in (sym e ∙ w.0, omega arith, w.2)
@@ -123,19 +112,11 @@ grown_ranges P source n g gaps r e f =
 
 -- what is later than the number is apart from it, unless it is a range that begins right after it
 later_apart : (source n : ℕ) (g : Gap) → Later source (n + 1) g → (g.source ≡ source → g.first ≡ n + 1 → ⊥) → IsApart (alone source n) g
-later_apart source n g later other = ⊎_elim
-    (λ (p : source < g.source). inl p)
-    (λ (p : (g.source ≡ source) × (n + 1 ≤ g.first)). let low = p.1 in ⊎_elim (λ (e : g.first ≡ n + 1). absurd (other p.0 e)) (λ (lt : (g.first < n + 1) ⊎ (n + 1 < g.first)). ⊎_elim (λ (a : g.first < n + 1). absurd (omega arith)) (λ (b : n + 1 < g.first). inr (sym p.0, b)) lt) (three g.first (n + 1)))
-    later where
-      three : (a b : ℕ) → (a ≡ b) ⊎ ((a < b) ⊎ (b < a))
-      three a b = ⊎_elim (λ (lt : a < b). inr (inl lt)) (λ (ge : b ≤ a). ⊎_elim (λ (gt : b < a). inr (inr gt)) (λ (le : a ≤ b). inl (omega arith)) (cases_lt b a)) (cases_lt a b)
+later_apart source n g later other = grind (arith, common_steps, cases_lt)
 
 -- what is apart from a later range is apart from the number
 apart_behind : (source n : ℕ) (g h : Gap) → g.first ≤ g.last → Later source (n + 1) g → IsApart g h → IsApart (alone source n) h
-apart_behind source n g h filled later a = ⊎_elim
-    (λ (p : source < g.source). ⊎_elim (λ (q : g.source < h.source). inl (omega arith)) (λ (q : (g.source ≡ h.source) × (g.last + 1 < h.first)). let same = q.0 in inl (omega arith)) a)
-    (λ (p : (g.source ≡ source) × (n + 1 ≤ g.first)). let same = p.0 in let low = p.1 in ⊎_elim (λ (q : g.source < h.source). inl (omega arith)) (λ (q : (g.source ≡ h.source) × (g.last + 1 < h.first)). let high = q.1 in inr (sym p.0 ∙ q.0, omega arith)) a)
-    later
+apart_behind source n g h filled later a = grind (arith, common_steps)
 
 tests : (a b c d : ℕ) → a ≡ b → c ≡ d → (nat_eq a b && nat_eq c d) ≡ true
 tests a b c d e f = let t : nat_eq a b ≡ true = eq-eqb a b e in let u : nat_eq c d ≡ true = eq-eqb c d f in rw (t, u) refl
@@ -171,11 +152,7 @@ onto_later source n (g ∷ gaps) later = at (nat_eq g.source source && nat_eq g.
 -- ---- the numbers of a source
 
 same_ranges : (P Q : ℕ → ℕ → Type 0) (gaps : List Gap) → ((s m : ℕ) → P s m → Q s m) → ((s m : ℕ) → Q s m → P s m) → Ranges P gaps → Ranges Q gaps
-same_ranges P Q gaps up down r = record {
-  filled = r.filled;
-  apart = r.apart;
-  covers = λ s m. (λ c. up s m ((r.covers s m).0 c), λ q. (r.covers s m).1 (down s m q));
-}
+same_ranges P Q gaps up down r = grind (arith, common_steps)
 
 -- one of so many numbers of a source from n on, which is not held
 abbrev Here : (ℕ → Bool) → ℕ → ℕ → ℕ → ℕ → ℕ → Type 0
@@ -192,19 +169,13 @@ here_later : (held : ℕ → Bool) (source n count s m : ℕ) → Here held sour
 here_later held source n count s m h = let low = h.1 in let high = h.2 in (h.0, omega arith, omega arith, h.3)
 
 here_cases : (held : ℕ → Bool) (source n count s m : ℕ) → Here held source n (suc count) s m → ((s ≡ source) × (m ≡ n)) ⊎ Here held source (n + 1) count s m
-here_cases held source n count s m h =
-    let low = h.1 in
-    let high = h.2 in
-    ⊎_elim (λ (lt : n < m). inr (h.0, omega arith, omega arith, h.3)) (λ (ge : m ≤ n). inl (h.0, omega arith)) (cases_lt n m)
+here_cases held source n count s m h = grind (arith, common_steps, cases_lt)
 
 here_new : (held : ℕ → Bool) (source n count s m : ℕ) → held n ≡ false → (s ≡ source) × (m ≡ n) → Here held source n (suc count) s m
 here_new held source n count s m e h = let at = h.1 in (h.0, omega arith, omega arith, ap held h.1 ∙ e)
 
 before_front : (held : ℕ → Bool) (P : ℕ → ℕ → Type 0) (source count n : ℕ) (later : List Gap) → Ranges P later → All (λ g. source < g.source) later → Front (Among held source n count P) source n (missing_before held source n count later)
-before_front held P source zero n later r behind = record {
-  ranges = same_ranges P (Among held source n 0 P) later (λ s m p. inr p) (λ s m a. ⊎_elim (λ (h : Here held source n 0 s m). let low = h.1 in let high = h.2 in absurd (omega arith)) (λ (p : P s m). p) a) r;
-  later = All-weaker (λ (g : Gap). source < g.source) (Later source n) (λ g lt. inl lt) later behind;
-}
+before_front held P source zero n later r behind = grind (arith, common_steps, same_ranges, All-weaker)
 before_front held P source (suc count) n later r behind = at (held n) refl (before_front held P source count (n + 1) later r behind) where
   at : (b : Bool) → held n ≡ b → Front (Among held source (n + 1) count P) source (n + 1) (missing_before held source (n + 1) count later)
       → Front (Among held source n (suc count) P) source n (cond b (missing_before held source (n + 1) count later) (onto_gaps source n (missing_before held source (n + 1) count later)))
@@ -239,15 +210,10 @@ module _ (held : ℕ → ℕ → Bool) (top : ℕ → ℕ) where
   Lacks sources s m = Contains sources s × (1 ≤ m) × (m ≤ top s) × (held s m ≡ false)
 
   to_lacks : (source : ℕ) (sources : List ℕ) (s m : ℕ) → Among (held source) source 1 (top source) (Lacks sources) s m → Lacks (source ∷ sources) s m
-  to_lacks source sources s m a = ⊎_elim
-      (λ (h : Here (held source) source 1 (top source) s m). let high = h.2 in subst (λ (v : ℕ). Lacks (source ∷ sources) v m) (sym h.0) (Contains-here source sources, h.1, omega arith, h.3))
-      (λ (l : Lacks sources s m). (Contains-there source s sources l.0, l.1, l.2, l.3)) a
+  to_lacks source sources s m a = grind (arith, common_steps, Contains-here, Contains-there)
 
   from_lacks : (source : ℕ) (sources : List ℕ) (s m : ℕ) → Lacks (source ∷ sources) s m → Among (held source) source 1 (top source) (Lacks sources) s m
-  from_lacks source sources s m l = ⊎_elim
-      (λ (e : source ≡ s). let high : m ≤ top source = subst (λ (v : ℕ). m ≤ top v) (sym e) l.2 in inl (sym e, l.1, omega arith, subst (λ (v : ℕ). held v m ≡ false) (sym e) l.3))
-      (λ (c : Contains sources s). inr (c, l.1, l.2, l.3))
-      (Contains-cases source s sources l.0)
+  from_lacks source sources s m l = grind (arith, common_steps, Contains-cases)
 
   -- the ranges of sources that are all above one
   all_above : (source : ℕ) (sources : List ℕ) (gaps : List Gap) → IsStrictlySortedBy nat_cmp (source ∷ sources) → Ranges (Lacks sources) gaps → All (λ g. source < g.source) gaps
@@ -273,11 +239,7 @@ module _ (held : ℕ → ℕ → Bool) (top : ℕ → ℕ) where
 
 mark_source : (marks : List MarkValue) (s : ℕ) → (mark_of marks s ≡ 0) ⊎ Contains (map (λ (m : MarkValue). m.source) marks) s
 mark_source [] s = inl refl
-mark_source (m ∷ marks) s = at (nat_eq m.source s) refl (mark_source marks s) where
-  at : (b : Bool) → nat_eq m.source s ≡ b → (mark_of marks s ≡ 0) ⊎ Contains (map (λ (n : MarkValue). n.source) marks) s
-      → (cond b m.high (mark_of marks s) ≡ 0) ⊎ Contains (m.source ∷ map (λ (n : MarkValue). n.source) marks) s
-  at true e rest = inr (subst (Contains (m.source ∷ map (λ (n : MarkValue). n.source) marks)) (eqb-true m.source s e) (Contains-here m.source (map (λ (n : MarkValue). n.source) marks)))
-  at false e rest = ⊎_elim (λ (none : mark_of marks s ≡ 0). inl none) (λ (c : Contains (map (λ (n : MarkValue). n.source) marks) s). inr (Contains-there m.source s (map (λ (n : MarkValue). n.source) marks) c)) rest
+mark_source (m ∷ marks) s = grind (arith, common_steps, eqb-true, Contains-here, Contains-there, mark_source marks s)
 
 has_known : (history : List DrawopValue) (page : PageId) (marks : List MarkValue) (s n : ℕ) → 1 ≤ n → n ≤ known history page marks s → Contains (known_sources history page marks) s
 has_known history page marks s n low below =

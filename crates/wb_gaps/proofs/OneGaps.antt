@@ -3,6 +3,7 @@ use Rattle.std.proofs.Common.{◌≡◌, ℕ, suc, ◌+◌, ◌<◌, ◌≤◌, 
 use Rattle.std.specs.Prelude.{All, AllPairs, Contains}
 use Rattle.std.proofs.lemmas.List.Elements.{All-head, All-tail}
 use Rattle.std.proofs.lemmas.Bool.{cases_lt}
+use Rattle.std.proofs.lemmas.Grind.{common_steps}
 use Rattle.wb_names.specs.Values.{DrawopValue, MarkValue}
 use Rattle.wb_names.specs.declared.name.PageId.{PageId}
 use Rattle.wb_names.specs.declared.gap.Gap.{Gap}
@@ -35,10 +36,7 @@ covers_later : (x : Gap) (xs : List Gap) (s n : ℕ) → Covers xs s n → Cover
 covers_later x xs s n c = (c.0, Contains-there x c.0 xs c.1, c.2, c.3, c.4)
 
 covers_cases : (x : Gap) (xs : List Gap) (s n : ℕ) → Covers (x ∷ xs) s n → At x s n ⊎ Covers xs s n
-covers_cases x xs s n c = ⊎_elim
-    (λ (e : x ≡ c.0). inl (subst (λ (v : Gap). At v s n) (sym e) (record { source_is = c.2; low = c.3; high = c.4 })))
-    (λ (d : Contains xs c.0). inr (c.0, d, c.2, c.3, c.4))
-    (Contains-cases x c.0 xs c.1)
+covers_cases x xs s n c = grind (arith, common_steps, Contains-cases)
 
 later_behind : (x : Gap) (xs : List Gap) (s n : ℕ) → AllPairs IsApart (x ∷ xs) → Covers xs s n → Behind x s n
 later_behind x xs s n a c = move_on x c.0 s n (apart_head x xs c.0 a c.1) c.2 c.3
@@ -57,23 +55,11 @@ behind_not : (x : Gap) (s n : ℕ) → Behind x s n → s ≡ x.source → n ≤
 behind_not x s n b e le = ⊎_elim (λ (p : x.source < s). omega arith) (λ (p : (x.source ≡ s) × (x.last + 1 < n)). let q = p.1 in omega arith) b.behind
 
 both_behind : (x y : Gap) → x.first ≤ x.last → y.first ≤ y.last → Behind y x.source x.first → Behind x y.source y.first → ⊥
-both_behind x y f g p q = ⊎_elim
-    (λ (a : y.source < x.source). ⊎_elim (λ (b : x.source < y.source). omega arith) (λ (b : (x.source ≡ y.source) × (x.last + 1 < y.first)). let c = b.0 in omega arith) q.behind)
-    (λ (a : (y.source ≡ x.source) × (y.last + 1 < x.first)). let d = a.0 in let e = a.1 in ⊎_elim (λ (b : x.source < y.source). omega arith) (λ (b : (x.source ≡ y.source) × (x.last + 1 < y.first)). let c = b.1 in omega arith) q.behind)
-    p.behind
+both_behind x y f g p q = grind (arith, common_steps)
 
 -- each begins where the other does
 same_start : (x y : Gap) → x.first ≤ x.last → y.first ≤ y.last → At y x.source x.first ⊎ Behind y x.source x.first → At x y.source y.first ⊎ Behind x y.source y.first → (x.source ≡ y.source) × (x.first ≡ y.first)
-same_start x y f g p q = ⊎_elim
-    (λ (h : At y x.source x.first). let a = h.source_is in let b = h.low in ⊎_elim
-    (λ (i : At x y.source y.first). let c = i.low in (sym h.source_is, omega arith))
-    (λ (i : Behind x y.source y.first). absurd (behind_not x y.source y.first i a (omega arith)))
-    q)
-    (λ (h : Behind y x.source x.first). ⊎_elim
-    (λ (i : At x y.source y.first). let c = i.low in absurd (behind_not y x.source x.first h i.source_is (omega arith)))
-    (λ (i : Behind x y.source y.first). absurd (both_behind x y f g h i))
-    q)
-    p
+same_start x y f g p q = grind (arith, common_steps, behind_not, both_behind)
 
 same_end : (x y : Gap) (xs : List Gap) → AllPairs IsApart (x ∷ xs) → x.source ≡ y.source → x.first ≡ y.first → x.first ≤ x.last → ((s n : ℕ) → At y s n → Covers (x ∷ xs) s n) → y.last ≤ x.last
 same_end x y xs a e f le up = ⊎_elim

@@ -1,6 +1,6 @@
 -- The report and the pages of a history, as functions: they are those that the relations define.
-use Rattle.std.proofs.Common.{◌≡◌, ℕ, ◌<◌, ◌≤◌, true, false, cond, List, [], ◌∷◌, length, get_or, refl, ap, ◌∙◌, sym, arith, ◌⊎◌, inl, inr, ⊎_elim, eqb-true}
-use Rattle.std.specs.Prelude.{Contains, All, AllPairs, Any, map, filter, IsTrue, nat_eq, nat_lt}
+use Rattle.std.proofs.Common.{◌≡◌, ℕ, ◌<◌, ◌≤◌, true, List, [], ◌∷◌, length, get_or, ap, ◌∙◌, sym, arith, ◌⊎◌, inl, inr, ⊎_elim, eqb-true}
+use Rattle.std.specs.Prelude.{Contains, All, AllPairs, Any, map, filter, IsTrue, nat_lt}
 use Rattle.std.specs.Cmp.{nat_cmp_total}
 use Rattle.std.specs.List.Sorted.{IsStrictlySortedBy}
 use Rattle.std.specs.Ordering.{is_eq, nat_cmp}
@@ -10,6 +10,7 @@ use Rattle.std.proofs.lemmas.List.Elements.{All-weaker, filter_passes}
 use Rattle.std.proofs.lemmas.List.Kept.{AllPairs-filter, AllPairs-from_increasing}
 use Rattle.std.proofs.lemmas.List.Sums.{length-filter, count_by-le-length}
 use Rattle.std.proofs.lemmas.Map.Keys.{IsStrictlyIncreasing-from_sorted}
+use Rattle.std.proofs.lemmas.Grind.{common_steps}
 use Rattle.wb_names.specs.Values.{NameValue, DrawopValue, MarkValue}
 use Rattle.wb_names.specs.History.{IsHeld, highest}
 use Rattle.wb_names.specs.Marks.{mark_of}
@@ -62,13 +63,7 @@ module _ (high : ℕ → ℕ) where
   -- a source that is not among them is to have the number 0
   mark_of-marks_at : (sources : List ℕ) (s : ℕ) → (high s ≡ 0) ⊎ Contains sources s → mark_of (marks_at sources) s ≡ high s
   mark_of-marks_at [] s has = ⊎_elim (λ (e : high s ≡ 0). sym e) (λ (c : Contains [] s). absurd (Contains-none s c)) has
-  mark_of-marks_at (t ∷ ts) s has = elim (nat_lt 0 (high t)) as (λ b. nat_lt 0 (high t) ≡ b → mark_of (cond b (mark_at t ∷ marks_at ts) (marks_at ts)) s ≡ high s) [
-    | true ↦ λ e. elim (nat_eq t s) as (λ b. nat_eq t s ≡ b → cond b (high t) (mark_of (marks_at ts) s) ≡ high s) [
-      | true ↦ λ f. ap high (eqb-true t s f)
-      | false ↦ λ f. mark_of-marks_at ts s (⊎_elim (λ (n : high s ≡ 0). inl n) (λ (c : Contains (t ∷ ts) s). ⊎_elim (λ (g : t ≡ s). absurd (eqb-false t s f g)) (λ (d : Contains ts s). inr d) (Contains-cases t s ts c)) has)
-    ] refl
-    | false ↦ λ e. mark_of-marks_at ts s (⊎_elim (λ (n : high s ≡ 0). inl n) (λ (c : Contains (t ∷ ts) s). ⊎_elim (λ (g : t ≡ s). let none : high t ≡ 0 = omega (arith, ltb-false 0 (high t) e) in inl (ap high (sym g) ∙ none)) (λ (d : Contains ts s). inr d) (Contains-cases t s ts c)) has)
-  ] refl
+  mark_of-marks_at (t ∷ ts) s has = grind (arith, common_steps, eqb-true, ltb-false, eqb-false, Contains-cases, mark_of-marks_at ts s)
 
 abbrev source_of : DrawopValue → ℕ
 source_of d = d.name.source
@@ -84,9 +79,7 @@ has_source history page source n held =
     (Contains-map source_of (filter (is_on page) history) source (c.0, d, c.1, c.2, is))
 
 few_sources : (history : List DrawopValue) (page : PageId) → length (sources_of history page) ≤ length history
-few_sources history page =
-    let on : List DrawopValue = filter (is_on page) history in
-    omega (arith, length-sorted-le nat_cmp (map source_of (filter (is_on page) history)), length-map (filter (is_on page) history) source_of, length-filter (is_on page) history, count_by-le-length (is_on page) history)
+few_sources history page = grind (arith, common_steps, length-map, length-filter, count_by-le-length, is_on, length-sorted-le)
 
 pub report_of_page : ReportOfPage
 unfolding report_of

@@ -1,11 +1,11 @@
 -- The ranges that are kept, page by page: as runs they hold what the page holds, and their pages are those of the drawops.
-use Rattle.std.proofs.Common.{◌≡◌, ℕ, suc, ◌+◌, ◌<◌, ◌≤◌, Bool, true, false, cond, List, [], ◌∷◌, get_or, length, refl, ap, ◌∙◌, sym, subst, arith, inl, inr, ⊎_elim, Some}
+use Rattle.std.proofs.Common.{◌≡◌, ℕ, suc, ◌<◌, ◌≤◌, Bool, true, false, cond, List, [], ◌∷◌, get_or, length, refl, ap, ◌∙◌, sym, subst, arith, inl, inr, ⊎_elim, Some}
 use Rattle.std.specs.Prelude.{All, AllPairs, Any, Contains, filter, map, not, ◌&&◌}
 use Rattle.std.specs.BTreeMap.{BTreeMap, IsOrdered, get}
 use Rattle.std.specs.BTreeMap.Range.{entries_between, range_contains}
-use Rattle.std.specs.List.Sorted.{IsSorted, IsStrictlySortedBy}
+use Rattle.std.specs.List.Sorted.{IsStrictlySortedBy}
 use Rattle.std.specs.Map.{keys_of}
-use Rattle.std.specs.Ordering.{is_eq, is_le, is_lt, nat_cmp, ordering_reverse, ordering_then}
+use Rattle.std.specs.Ordering.{is_eq, is_le, is_lt, nat_cmp, ordering_then}
 use Rattle.std.specs.declared.cmp.Ordering.{Ordering}
 use Rattle.std.specs.declared.cmp.Ordering.TheVariants.{Less, Equal, Greater}
 use Rattle.std.specs.declared.ops.Bound.TheVariants.{Included}
@@ -13,19 +13,19 @@ use Rattle.std.proofs.lemmas.Bool.Decides.{nat_tests}
 use Rattle.std.proofs.lemmas.List.{length-map}
 use Rattle.std.proofs.lemmas.List.Elements.{All-nil, All-cons, All-head, All-tail, All-map, All-contains, All-from_recursion, Contains-get_or}
 use Rattle.std.proofs.lemmas.List.Kept.{AllPairs-cons}
-use Rattle.std.proofs.lemmas.List.Sorted.{IsPermutation-refl}
 use Rattle.std.proofs.lemmas.Map.Keys.{sorted_head, sorted_tail}
 use Rattle.std.proofs.lemmas.Map.Views.{All-found, Contains-from_lookup}
 use Rattle.wb_names.specs.History.{IsHeld, name_of}
-use Rattle.wb_names.specs.Orders.{page_cmp, same_page}
+use Rattle.wb_names.specs.Listing.{Lists}
+use Rattle.wb_names.specs.Orders.{page_cmp}
 use Rattle.wb_names.specs.Values.{DrawopValue, NameValue}
 use Rattle.wb_names.specs.declared.name.PageId.{PageId}
-use Rattle.wb_names.proofs.Listings.{Any-from_map, Contains-filter, Contains-from_filter, Contains-map, lists_from_dedup, lists_same}
-use Rattle.wb_names.proofs.Orders.{equality, page_ties, page_total, same_page-is}
+use Rattle.wb_names.proofs.Listings.{Any-from_map, Contains-filter, Contains-from_filter, Contains-map, lists_same}
+use Rattle.wb_names.proofs.Orders.{name_parts, page_ties, page_total, same_page-is}
 use Rattle.wb_gaps.specs.Holdings.{HoldNamesOf}
 use Rattle.wb_gaps.specs.Pages.{ArePages}
 use Rattle.wb_gaps.specs.Runs.{AreRuns, AreRunsOf, InRuns, IsBelow}
-use Rattle.wb_gaps.specs.Starts.{AreRanges, Covers, is_on, last_at, pages_in, range_of, ranges_of, run_of, runs_on, start, start_cmp}
+use Rattle.wb_gaps.specs.Starts.{AreRanges, Covers, HasPage, is_on, last_at, range_of, ranges_of, run_of, runs_on, start, start_cmp}
 use Rattle.wb_gaps.specs.declared.holdings.Start.{Start}
 use Rattle.wb_gaps.specs.declared.run.Run.{Run}
 use Rattle.wb_gaps.proofs.HeldNames.{held-by, held-from}
@@ -33,9 +33,6 @@ use Rattle.wb_gaps.proofs.HeldNumbers.{same_page-here}
 use Rattle.wb_gaps.proofs.HeldRanges.{covers_name, name_covered}
 use Rattle.wb_gaps.proofs.LessPairs.{less_parts}
 use Rattle.wb_gaps.proofs.Starts.{page_itself, start_is, start_total}
-
-abbrev pub page_at : Start × ℕ → PageId
-page_at e = e.0.page
 
 pub few_in : {X : Type 0} (p : X → Bool) (xs : List X) → length (filter p xs) ≤ length xs
 few_in {X} p [] = omega arith
@@ -76,13 +73,6 @@ same_filter {X} p q (x ∷ xs) all =
     ap (λ (b : Bool). cond b (x ∷ filter p xs) (filter p xs)) (All-head (λ (y : X). p y ≡ q y) x xs all)
     ∙ ap (λ (ys : List X). cond (q x) (x ∷ ys) ys) (same_filter p q xs (All-tail (λ (y : X). p y ≡ q y) x xs all))
 
-pub not_less : (p q : PageId) (r : Ordering) → ordering_then (page_cmp p q) r ≡ Less → is_lt (page_cmp q p) ≡ false
-not_less p q r less = from (page_cmp q p) refl where
-  from : (o : Ordering) → page_cmp q p ≡ o → is_lt o ≡ false
-  from Less e = let over : page_cmp p q ≡ Greater = page_total.antisymm p q ∙ ap ordering_reverse e in let g : Greater ≡ Less = sym (ap (λ (o : Ordering). ordering_then o r) over) ∙ less in cc
-  from Equal e = refl
-  from Greater e = refl
-
 -- the entries after one in order
 pub after_all : (e : Start × ℕ) (es : List (Start × ℕ)) → IsStrictlySortedBy start_cmp (keys_of (e ∷ es)) → All (λ f. start_cmp e.0 f.0 ≡ Less) es
 after_all e es rising = keyed (λ (k : Start). start_cmp e.0 k ≡ Less) es (All-from_recursion _ (keys_of es) (sorted_head start_cmp e.0 (keys_of es) rising)) where
@@ -90,37 +80,22 @@ after_all e es rising = keyed (λ (k : Start). start_cmp e.0 k ≡ Less) es (All
   keyed P [] all = All-nil _
   keyed P (f ∷ fs) all = All-cons (λ (g : Start × ℕ). P g.0) f fs (All-head P f.0 (keys_of fs) all) (keyed P fs (All-tail P f.0 (keys_of fs) all))
 
--- the pages of entries in order are in order
-pages_rise : (es : List (Start × ℕ)) → IsStrictlySortedBy start_cmp (keys_of es) → AllPairs (λ p q. is_lt (page_cmp q p) ≡ false) (map page_at es)
-pages_rise [] rising = λ i j d ij lt. absurd (omega arith)
-pages_rise (e ∷ es) rising =
-    AllPairs-cons (λ (p q : PageId). is_lt (page_cmp q p) ≡ false) e.0.page (map page_at es)
-    (All-map (λ (q : PageId). is_lt (page_cmp q e.0.page) ≡ false) page_at es (λ k d lt. not_less e.0.page _ _ (after_all e es rising k d lt)))
-    (pages_rise es (sorted_tail start_cmp e.0 (keys_of es) rising))
-
-pages_sorted : (es : List (Start × ℕ)) → IsStrictlySortedBy start_cmp (keys_of es) → IsSorted page_cmp (map page_at es)
-pages_sorted es rising = λ k d low lt. pages_rise es rising k (k + 1) d (omega arith) lt
-
 module _ (m : BTreeMap Start ℕ) (ordered : IsOrdered start_cmp m) (ranges : AreRanges m.entries) where
   -- what is known of each range
-  record Kept (e : Start × ℕ) : Type 0 where
-    found : last_at m.entries e.0.page e.0.source e.0.first ≡ Some e.1
-    counted : 1 ≤ e.0.first
-    filled : e.0.first ≤ e.1
-    fits : e.1 ≤ 4294967295
-    small : e.0.source ≤ 4294967295
+  pub record Kept (e : Start × ℕ) : Type 0 where
+    pub found : last_at m.entries e.0.page e.0.source e.0.first ≡ Some e.1
+    pub counted : 1 ≤ e.0.first
+    pub filled : e.0.first ≤ e.1
+    pub fits : e.1 ≤ 4294967295
+    pub small : e.0.source ≤ 4294967295
 
-  kept : (e : Start × ℕ) → get start_cmp m e.0 ≡ Some e.1 → Kept e
+  pub kept : (e : Start × ℕ) → get start_cmp m e.0 ≡ Some e.1 → Kept e
   kept e found =
       let a = ranges.apart e.0.page e.0.source in
       record { found = found; counted = a.positive e.0.first e.1 found; filled = a.filled e.0.first e.1 found; fits = a.fits e.0.first e.1 found; small = ranges.sources e.0.page e.0.source e.0.first e.1 found }
 
   all_kept : All Kept m.entries
   all_kept k d lt = kept _ (All-found start_total m ordered k d lt)
-
-  -- the source of each is of 32 bits, and its first number too
-  pub small_parts : (k : ℕ) (d : Start × ℕ) → k < length m.entries → ((get_or m.entries k d).0.source ≤ 4294967295) × ((get_or m.entries k d).0.first ≤ 4294967295)
-  small_parts k d lt = let h = all_kept k d lt in let full = h.filled in let fits = h.fits in (h.small, omega arith)
 
   lies_kept : (page : PageId) (e : Start × ℕ) → Kept e → range_contains start_cmp (Included (start page 0 0)) (Included (start page 4294967295 4294967295)) e.0 ≡ is_on page e
   lies_kept page e h =
@@ -218,23 +193,14 @@ module _ (m : BTreeMap Start ℕ) (ordered : IsOrdered start_cmp m) (ranges : Ar
 
     -- ---- pages
 
-    page_has : (page : PageId) → Contains (map page_at m.entries) page → Any (λ d. d.name.page ≡ page) history
-    page_has page h =
-        let a = Any-from_map page_at m.entries page h in
-        let e : Start × ℕ = a.1 in
-        let k : Kept e = All-contains Kept m.entries e all_kept (a.0, a.2, a.3) in
-        let is_held = cover_held e.0.page e.0.source e.0.first (e.0.first, e.1, k.found, omega arith, k.filled) in
-        (is_held.0, is_held.1, is_held.2, is_held.3, ap (λ (v : NameValue). v.page) is_held.4 ∙ a.4)
-
-    page_of_held : (page : PageId) → Any (λ d. d.name.page ≡ page) history → Contains (map page_at m.entries) page
-    page_of_held page h =
+    pub pages_are : (pages : List PageId) → Lists page_cmp (HasPage m.entries) pages → ArePages history pages
+    pages_are pages = lists_same page_total (HasPage m.entries) (λ page. Any (λ (d : DrawopValue). d.name.page ≡ page) history) pages
+        (λ page h.
+        let is_held = cover_held page h.0 h.1 (h.1, h.2, h.3, omega arith, (ranges.apart page h.0).filled h.1 h.2 h.3) in
+        (is_held.0, is_held.1, is_held.2, is_held.3, ap (λ (v : NameValue). v.page) is_held.4))
+        (λ page h.
         let d : DrawopValue = h.1 in
-        let c = held_cover d.name.page d.name.source d.name.seq (h.0, d, h.2, h.3, refl) in
-        let e : Start × ℕ = (start d.name.page d.name.source c.0, c.1) in
-        let at = Contains-from_lookup start_is e.0 e.1 m.entries c.2 in
-        Contains-map page_at m.entries page (at.0, e, at.1, at.2, h.4)
-
-    pub pages_are : ArePages history (pages_in m.entries)
-    pages_are =
-        lists_same page_total (Contains (map page_at m.entries)) (λ page. Any (λ (d : DrawopValue). d.name.page ≡ page) history) (pages_in m.entries) page_has page_of_held
-        (lists_from_dedup page_total (equality page_total same_page page_ties) same_page-is page_ties (map page_at m.entries) (map page_at m.entries) (IsPermutation-refl _) (pages_sorted m.entries ordered))
+        let c = held_cover page d.name.source d.name.seq (h.0, d, h.2, h.3, name_on d.name page h.4) in
+        (d.name.source, c.0, c.1, c.2)) where
+          name_on : (n : NameValue) (page : PageId) → n.page ≡ page → n ≡ name_of page n.source n.seq
+          name_on n page e = name_parts n.source n.source n.page page n.seq n.seq refl e refl

@@ -1,213 +1,174 @@
 -- The steps from page to page over ranges that are in order: their pages are found, each once.
-use Rattle.std.proofs.Common.{◌≡◌, ℕ, suc, ◌<◌, ◌≤◌, Bool, true, false, cond, List, [], ◌∷◌, ◌++◌, append_assoc, append-nil, get_or, length, refl, ap, ◌∙◌, sym, subst, arith, true≢false, Option, None, Some}
-use Rattle.std.specs.Prelude.{All, AllPairs, filter, map, ⊤, ◌&&◌}
+use Rattle.std.proofs.Common.{◌≡◌, ℕ, ◌≤◌, ◌<◌, Bool, true, false, List, [], ◌∷◌, ◌++◌, refl, ap, ◌∙◌, sym, subst, arith, ◌⊎◌, inl, inr, ⊎_elim, true≢false, Option, None, Some}
+use Rattle.std.specs.Prelude.{Contains, IsSome}
+use Rattle.std.specs.List.{count_by}
 use Rattle.std.specs.BTreeMap.{BTreeMap, IsOrdered}
-use Rattle.std.specs.BTreeMap.Range.{entries_between, range_contains}
-use Rattle.std.specs.List.{dedup_from}
-use Rattle.std.specs.Ordering.{is_eq, is_lt, nat_cmp, ordering_reverse, ordering_then}
+use Rattle.std.specs.BTreeMap.Range.{IsFromStart, IsRangeOf}
+use Rattle.std.specs.List.Sorted.{IsStrictlySortedBy}
+use Rattle.std.specs.Ordering.{is_eq, is_gt, is_lt, nat_cmp, ordering_reverse, ordering_then}
 use Rattle.std.specs.declared.cmp.Ordering.{Ordering}
 use Rattle.std.specs.declared.cmp.Ordering.TheVariants.{Less, Equal, Greater}
-use Rattle.std.specs.declared.ops.Bound.TheVariants.{Excluded, Unbounded}
-use Rattle.std.proofs.lemmas.List.Elements.{All-head, All-tail, All-weaker, filter_passes}
-use Rattle.std.proofs.lemmas.List.Kept.{AllPairs-cons, AllPairs-filter}
+use Rattle.std.specs.declared.ops.Bound.{Bound}
+use Rattle.std.specs.declared.ops.Bound.TheVariants.{Included, Excluded, Unbounded}
+use Rattle.std.specs.Range.Bound.{IsForward}
+use Rattle.std.proofs.lemmas.List.Elements.{Contains-append_left, Contains-push, Contains-push_cases}
+use Rattle.std.proofs.lemmas.Grind.{common_steps}
 use Rattle.std.proofs.lemmas.Map.Keys.{sorted_tail}
-use Rattle.std.specs.List.Sorted.{IsStrictlySortedBy}
-use Rattle.std.specs.Map.{keys_of}
-use Rattle.wb_names.specs.Orders.{page_cmp, same_page}
+use Rattle.std.proofs.lemmas.Map.Views.{Contains-from_lookup}
+use Rattle.wb_names.specs.Listing.{Lists}
+use Rattle.wb_names.specs.Orders.{page_cmp}
 use Rattle.wb_names.specs.declared.name.PageId.{PageId}
-use Rattle.wb_names.proofs.Orders.{page_ties, page_total, same_page-is}
-use Rattle.wb_gaps.specs.Starts.{AreRanges, is_page, is_past, pages_in, start, start_cmp}
+use Rattle.wb_names.proofs.Listings.{Contains-here, Contains-cases, Contains-none, Contains-there, below_all}
+use Rattle.wb_names.proofs.Orders.{page_total}
+use Rattle.wb_gaps.specs.Starts.{AreRanges, HasPage, IsNextPage, IsPast, past_page, start, start_cmp}
 use Rattle.wb_gaps.specs.declared.holdings.Start.{Start}
-use Rattle.wb_gaps.proofs.PageRanges.{after_all, few_in, not_less, page_at, same_filter, small_parts, up_to_most}
-use Rattle.wb_gaps.proofs.Starts.{page_itself}
+use Rattle.wb_gaps.proofs.Adding.{none_some}
+use Rattle.wb_gaps.proofs.PageRanges.{kept, up_to_most}
+use Rattle.wb_gaps.proofs.Sorting.{rise_first, rise_none}
+use Rattle.wb_gaps.proofs.Starts.{not_gt_first, page_is, page_itself, start_is}
 
--- ---- the order of pages
+-- ---- the first place past a page
 
-lt_is : (o : Ordering) → is_lt o ≡ true → o ≡ Less
-lt_is Less e = refl
-lt_is Equal e = absurd (true≢false (sym e))
-lt_is Greater e = absurd (true≢false (sym e))
+abbrev rest_of : Start → Ordering
+rest_of s = ordering_then (nat_cmp 4294967295 s.source) (nat_cmp 4294967295 s.first)
 
-not_after : (p q : PageId) → page_cmp p q ≡ Less → is_lt (page_cmp q p) ≡ false
-not_after p q less = ap is_lt (page_total.antisymm q p ∙ ap ordering_reverse less)
+past_from : (last : Option PageId) (s : Start) → s.source ≤ 4294967295 → s.first ≤ 4294967295 → IsFromStart start_cmp (past_page last) s → IsPast last s.page
+past_from None s small low from = tt
+past_from (Some p) s small low from = past (page_cmp p s.page) from where
+  past : (o : Ordering) → ordering_then o (rest_of s) ≡ Less → o ≡ Less
+  past Less e = refl
+  past Equal e = absurd (true≢false (sym (ap is_lt e) ∙ up_to_most 4294967295 s.source s.first small low))
+  past Greater e = e
 
--- a page is below another, and so below those that are not below that
-below_more : (p q r : PageId) → page_cmp p q ≡ Less → is_lt (page_cmp r q) ≡ false → page_cmp p r ≡ Less
-below_more p q r less above = from (page_cmp q r) refl where
-  from : (o : Ordering) → page_cmp q r ≡ o → page_cmp p r ≡ Less
-  from Less e = page_total.trans p q r less e
-  from Equal e = page_total.antisymm p r ∙ ap ordering_reverse (sym (page_total.congr q r p e) ∙ page_total.antisymm q p ∙ ap ordering_reverse less)
-  from Greater e = absurd (true≢false (sym (ap is_lt (page_total.antisymm r q ∙ ap ordering_reverse e)) ∙ above))
+from_past : (last : Option PageId) (s : Start) → IsPast last s.page → IsFromStart start_cmp (past_page last) s
+from_past None s past = tt
+from_past (Some p) s less = ap (λ (o : Ordering). ordering_then o (rest_of s)) less
 
--- one that is not below, and is another, is above
-above_other : (p q : PageId) → same_page p q ≡ false → is_lt (page_cmp q p) ≡ false → page_cmp p q ≡ Less
-above_other p q other from = at (page_cmp p q) refl where
-  at : (o : Ordering) → page_cmp p q ≡ o → page_cmp p q ≡ Less
-  at Less e = e
-  at Equal e = absurd (true≢false (sym (page_ties p q ∙ ap is_eq e) ∙ other))
-  at Greater e = absurd (true≢false (sym (ap is_lt (page_total.antisymm q p ∙ ap ordering_reverse e)) ∙ from))
+not_less : (p q : PageId) (r : Ordering) → is_gt (ordering_then (page_cmp p q) r) ≡ false → is_lt (page_cmp q p) ≡ false
+not_less p q r h = at (page_cmp p q) (not_gt_first (page_cmp p q) r h) (page_total.antisymm q p) where
+  at : (o : Ordering) → is_gt o ≡ false → page_cmp q p ≡ ordering_reverse o → is_lt (page_cmp q p) ≡ false
+  at Less h e = ap is_lt e
+  at Equal h e = ap is_lt e
+  at Greater h e = absurd (true≢false h)
 
--- ---- entries that come later
+pub forward : {A : Type 0} (P Q : A → A → Type 0) (b : Bound A) → IsForward P Q b Unbounded
+forward P Q (Included a) = tt
+forward P Q (Excluded a) = tt
+forward P Q Unbounded = tt
 
--- of a page after the last one that was found
-abbrev pub is_later : Option PageId → Start × ℕ → Bool
-is_later None e = true
-is_later (Some p) e = is_past p e
+module _ (m : BTreeMap Start ℕ) (ordered : IsOrdered start_cmp m) (ranges : AreRanges m.entries) (last : Option PageId) where
+  pub next_none : (r : List (Start × ℕ)) → r ≡ [] → IsRangeOf start_cmp (past_page last) Unbounded m r → IsNextPage m.entries last None
+  next_none r none i page h past = none_some h.2 (sym (i.5 none (start page h.0 h.1) (from_past last (start page h.0 h.1) past, tt)) ∙ h.3)
 
--- of no page before it
-abbrev pub NotBefore : Option PageId → Start × ℕ → Type 0
-NotBefore None e = ⊤
-NotBefore (Some p) e = is_lt (page_cmp e.0.page p) ≡ false
-
--- the pages of two entries, one after the other
-abbrev pub InOrder : Start × ℕ → Start × ℕ → Type 0
-InOrder e f = is_lt (page_cmp f.0.page e.0.page) ≡ false
-
-filter_whole : {X : Type 0} (p : X → Bool) (xs : List X) → All (λ x. p x ≡ true) xs → filter p xs ≡ xs
-filter_whole {X} p [] all = refl
-filter_whole {X} p (x ∷ xs) all =
-    ap (λ (b : Bool). cond b (x ∷ filter p xs) (filter p xs)) (All-head (λ (y : X). p y ≡ true) x xs all)
-    ∙ ap (λ (ys : List X). x ∷ ys) (filter_whole p xs (All-tail (λ (y : X). p y ≡ true) x xs all))
-
--- what passes the narrower test passes the wider one
-filter_narrow : {X : Type 0} (p q : X → Bool) → ((x : X) → q x ≡ true → p x ≡ true) → (xs : List X) → filter q (filter p xs) ≡ filter q xs
-filter_narrow {X} p q f [] = refl
-filter_narrow {X} p q f (x ∷ xs) = at (p x) (q x) refl refl (filter_narrow p q f xs) where
-  at : (a b : Bool) → p x ≡ a → q x ≡ b → filter q (filter p xs) ≡ filter q xs → filter q (cond (p x) (x ∷ filter p xs) (filter p xs)) ≡ cond (q x) (x ∷ filter q xs) (filter q xs)
-  at true b e h rest = ap (λ (c : Bool). filter q (cond c (x ∷ filter p xs) (filter p xs))) e ∙ ap (λ (ys : List X). cond (q x) (x ∷ ys) ys) rest
-  at false true e h rest = absurd (true≢false (sym (f x h) ∙ e))
-  at false false e h rest = ap (λ (c : Bool). filter q (cond c (x ∷ filter p xs) (filter p xs))) e ∙ rest ∙ sym (ap (λ (c : Bool). cond c (x ∷ filter q xs) (filter q xs)) h)
-
-past_itself : (e : Start × ℕ) → is_past e.0.page e ≡ false
-past_itself e = ap is_lt (page_itself e.0.page)
-
--- the first is of the page, so it goes
-past_rest : (e : Start × ℕ) (es : List (Start × ℕ)) → filter (is_past e.0.page) (e ∷ es) ≡ filter (is_past e.0.page) es
-past_rest e es = ap (λ (b : Bool). cond b (e ∷ filter (is_past e.0.page) es) (filter (is_past e.0.page) es)) (past_itself e)
-
-order_head : (e : Start × ℕ) (es : List (Start × ℕ)) → AllPairs InOrder (e ∷ es) → All (InOrder e) es
-order_head e es order k d lt = order 0 (suc k) d (omega arith) (omega arith)
-
-order_tail : (e : Start × ℕ) (es : List (Start × ℕ)) → AllPairs InOrder (e ∷ es) → AllPairs InOrder es
-order_tail e es order i j d ij lt = order (suc i) (suc j) d (omega arith) (omega arith)
-
--- all entries after the first of a later page are later too
-all_past : (p : PageId) (e : Start × ℕ) (es : List (Start × ℕ)) → page_cmp p e.0.page ≡ Less → AllPairs InOrder (e ∷ es) → All (λ f. is_past p f ≡ true) es
-all_past p e es less order = All-weaker (InOrder e) (λ (f : Start × ℕ). is_past p f ≡ true) (λ f o. ap is_lt (below_more p e.0.page f.0.page less o)) es (order_head e es order)
-
--- the pages of entries in order: that of the first, and those of the entries past it
-skip : (p : PageId) (es : List (Start × ℕ)) → AllPairs InOrder es → All (λ f. is_lt (page_cmp f.0.page p) ≡ false) es → dedup_from same_page p (map page_at es) ≡ p ∷ pages_in (filter (is_past p) es)
-skip p [] order from = refl
-skip p (f ∷ fs) order from = at (same_page f.0.page p) refl (skip p fs (order_tail f fs order) (All-tail (λ (g : Start × ℕ). is_lt (page_cmp g.0.page p) ≡ false) f fs from)) where
-  above : is_lt (page_cmp f.0.page p) ≡ false
-  above = All-head (λ (g : Start × ℕ). is_lt (page_cmp g.0.page p) ≡ false) f fs from
-
-  at : (b : Bool) → same_page f.0.page p ≡ b → dedup_from same_page p (map page_at fs) ≡ p ∷ pages_in (filter (is_past p) fs) → cond (same_page f.0.page p) (dedup_from same_page p (map page_at fs)) (p ∷ dedup_from same_page f.0.page (map page_at fs)) ≡ p ∷ pages_in (filter (is_past p) (f ∷ fs))
-  at true e rest =
-      let is : f.0.page ≡ p = same_page-is f.0.page p e in
-      let gone : filter (is_past p) (f ∷ fs) ≡ filter (is_past p) fs = subst (λ (q : PageId). filter (is_past q) (f ∷ fs) ≡ filter (is_past q) fs) is (past_rest f fs) in
-      ap (λ (b : Bool). cond b (dedup_from same_page p (map page_at fs)) (p ∷ dedup_from same_page f.0.page (map page_at fs))) e
-      ∙ rest
-      ∙ sym (ap (λ (es : List (Start × ℕ)). p ∷ pages_in es) gone)
-  at false e rest =
-      let unlike : same_page p f.0.page ≡ false = other_way (same_page p f.0.page) refl in
-      let less = above_other p f.0.page unlike above in
-      let kept : filter (is_past p) (f ∷ fs) ≡ f ∷ fs = ap (λ (b : Bool). cond b (f ∷ filter (is_past p) fs) (filter (is_past p) fs)) (ap is_lt less) ∙ ap (λ (es : List (Start × ℕ)). f ∷ es) (filter_whole (is_past p) fs (all_past p f fs less order)) in
-      ap (λ (b : Bool). cond b (dedup_from same_page p (map page_at fs)) (p ∷ dedup_from same_page f.0.page (map page_at fs))) e
-      ∙ sym (ap (λ (es : List (Start × ℕ)). p ∷ pages_in es) kept) where
-        other_way : (b : Bool) → same_page p f.0.page ≡ b → b ≡ false
-        other_way true h = absurd (true≢false (sym (page_ties f.0.page p ∙ subst (λ (q : PageId). is_eq (page_cmp q p) ≡ true) (same_page-is p f.0.page h) (ap is_eq (page_itself p))) ∙ e))
-        other_way false h = refl
-
-pages_step : (e : Start × ℕ) (es : List (Start × ℕ)) → AllPairs InOrder (e ∷ es) → pages_in (e ∷ es) ≡ e.0.page ∷ pages_in (filter (is_past e.0.page) es)
-pages_step e es order = skip e.0.page es (order_tail e es order) (order_head e es order)
+  pub next_some : (e : Start × ℕ) (t r : List (Start × ℕ)) → r ≡ e ∷ t → IsRangeOf start_cmp (past_page last) Unbounded m r → IsNextPage m.entries last (Some e.0.page)
+  next_some e t r is i =
+      let j = subst (IsRangeOf start_cmp (past_page last) Unbounded m) is i in
+      let k = kept m ordered ranges e j.1.1 in
+      let full = k.filled in
+      let fits = k.fits in (
+        (e.0.source, e.0.first, e.1, j.1.1),
+        past_from last e.0 k.small (omega arith) j.1.0.0,
+        λ page h past. not_less e.0.page page _ (j.2 (start page h.0 h.1) (from_past last (start page h.0 h.1) past, tt) (some_found h.2 h.3)),
+      ) where
+        some_found : (v : ℕ) {o : Option ℕ} → o ≡ Some v → IsSome o
+        some_found v e = subst IsSome (sym e) refl
 
 -- ---- the walk
 
--- after the last page: the pages that were found and those that come are all pages, and what is left has the entries that come
-pub record At (entries : List (Start × ℕ)) (last : Option PageId) (pages : List PageId) (rest : List (Start × ℕ)) : Type 0 where
-  so_far : pages ++ pages_in (filter (is_later last) entries) ≡ pages_in entries
-  left : filter (is_later last) rest ≡ filter (is_later last) entries
-  order : AllPairs InOrder rest
-  from : All (NotBefore last) rest
+past_or_not : (last : Option PageId) (page : PageId) → IsPast last page ⊎ ¬ IsPast last page
+past_or_not None page = inl tt
+past_or_not (Some p) page = at (page_cmp p page) where
+  at : (o : Ordering) → (o ≡ Less) ⊎ ¬ (o ≡ Less)
+  at Less = inl refl
+  at Equal = inr (λ e. cc)
+  at Greater = inr (λ e. cc)
 
-pub begins : (entries rest : List (Start × ℕ)) → rest ≡ entries → AllPairs InOrder entries → At entries None [] rest
-begins entries rest is order = record {
-  so_far = ap pages_in (filter_whole (is_later None) entries (λ k d lt. refl));
-  left = ap (filter (is_later None)) is;
-  order = subst (AllPairs InOrder) (sym is) order;
-  from = λ k d lt. tt;
-}
+-- what is not past comes before what is
+before_past : (last : Option PageId) (page next : PageId) → ¬ IsPast last page → IsPast last next → page_cmp page next ≡ Less
+before_past None page next not past = absurd (not tt)
+before_past (Some p) page next not past = at (page_cmp p page) refl where
+  at : (o : Ordering) → page_cmp p page ≡ o → page_cmp page next ≡ Less
+  at Less e = absurd (not e)
+  at Equal e = subst (λ (q : PageId). page_cmp q next ≡ Less) (page_is p page (ap is_eq e)) past
+  at Greater e = page_total.trans page p next (page_total.antisymm page p ∙ ap ordering_reverse e) past
 
-later_all : (last : Option PageId) (e : Start × ℕ) (es : List (Start × ℕ)) → is_page last e.0.page ≡ false → NotBefore last e → AllPairs InOrder (e ∷ es) → filter (is_later last) (e ∷ es) ≡ e ∷ es
-later_all None e es other from order = filter_whole (is_later None) (e ∷ es) (λ k d lt. refl)
-later_all (Some p) e es other from order =
-    let less = above_other p e.0.page other from in
-    ap (λ (b : Bool). cond b (e ∷ filter (is_past p) es) (filter (is_past p) es)) (ap is_lt less) ∙ ap (λ (fs : List (Start × ℕ)). e ∷ fs) (filter_whole (is_past p) es (all_past p e es less order))
+past_on : (last : Option PageId) (next page : PageId) → IsPast last next → page_cmp next page ≡ Less → IsPast last page
+past_on None next page past less = tt
+past_on (Some p) next page past less = page_total.trans p next page past less
 
-later_past : (last : Option PageId) (e : Start × ℕ) → is_page last e.0.page ≡ false → NotBefore last e → (f : Start × ℕ) → is_past e.0.page f ≡ true → is_later last f ≡ true
-later_past None e other from f past = refl
-later_past (Some p) e other from f past = ap is_lt (page_total.trans p e.0.page f.0.page (above_other p e.0.page other from) (lt_is _ past))
+same_if : (p q : PageId) → is_lt (page_cmp p q) ≡ false → ¬ (page_cmp q p ≡ Less) → p ≡ q
+same_if p q h not = at (page_cmp p q) refl where
+  at : (o : Ordering) → page_cmp p q ≡ o → p ≡ q
+  at Less e = absurd (true≢false (sym (ap is_lt e) ∙ h))
+  at Equal e = page_is p q (ap is_eq e)
+  at Greater e = absurd (not (page_total.antisymm q p ∙ ap ordering_reverse e))
 
--- another page is found
-pub pushes : (entries : List (Start × ℕ)) (last : Option PageId) (pages : List PageId) (e : Start × ℕ) (rest : List (Start × ℕ)) → At entries last pages (e ∷ rest) → is_page last e.0.page ≡ false → At entries (Some e.0.page) (pages ++ e.0.page ∷ []) rest
-pushes entries last pages e rest at other =
-    let from = All-head (NotBefore last) e rest at.from in
-    let mine : List (Start × ℕ) = filter (is_past e.0.page) entries in
-    let coming : filter (is_later last) entries ≡ e ∷ rest = sym at.left ∙ later_all last e rest other from at.order in
-    let left : filter (is_past e.0.page) rest ≡ mine = sym (past_rest e rest) ∙ ap (filter (is_past e.0.page)) (sym coming) ∙ filter_narrow (is_later last) (is_past e.0.page) (later_past last e other from) entries in
-    record {
-      so_far = append_assoc pages (e.0.page ∷ []) (pages_in mine) ∙ sym (ap (λ (ps : List PageId). pages ++ ps) (ap pages_in coming ∙ pages_step e rest at.order ∙ ap (λ (es : List (Start × ℕ)). e.0.page ∷ pages_in es) left)) ∙ at.so_far;
-      left = left;
-      order = order_tail e rest at.order;
-      from = order_head e rest at.order;
-    }
+rises_on : (ps : List PageId) (q : PageId) → IsStrictlySortedBy page_cmp ps → ((p : PageId) → Contains ps p → page_cmp p q ≡ Less) → IsStrictlySortedBy page_cmp (ps ++ q ∷ [])
+rises_on [] q s below = rise_first page_cmp q [] (λ z c. absurd (Contains-none z c)) s
+rises_on (p ∷ ps) q s below = rise_first page_cmp p (ps ++ q ∷ [])
+    (λ z c. ⊎_elim (λ (d : Contains ps z). below_all page_total p z ps s d) (λ (e : q ≡ z). subst (λ (w : PageId). page_cmp p w ≡ Less) e (below p (Contains-here p ps))) (Contains-push_cases ps q z c))
+    (rises_on ps q (sorted_tail page_cmp p ps s) (λ z c. below z (Contains-there p z ps c)))
 
--- the page is found again, and what is left of it is passed
-pub passes_by : (entries : List (Start × ℕ)) (last : Option PageId) (pages : List PageId) (e : Start × ℕ) (rest next : List (Start × ℕ)) → AllPairs InOrder entries → At entries last pages (e ∷ rest) → is_page last e.0.page ≡ true → next ≡ filter (is_past e.0.page) entries
-    → At entries last pages next × (length next < length (e ∷ rest))
-passes_by entries None pages e rest next order at same is = absurd (true≢false (sym same))
-passes_by entries (Some p) pages e rest next order at same is =
-    let page : p ≡ e.0.page = same_page-is p e.0.page same in
-    let coming : next ≡ filter (is_past p) entries = is ∙ ap (λ (q : PageId). filter (is_past q) entries) (sym page) in
-    let kept : filter (is_past p) next ≡ filter (is_past p) entries = ap (filter (is_past p)) coming ∙ filter_narrow (is_past p) (is_past p) (λ f t. t) entries in
-    let fewer : next ≡ filter (is_past e.0.page) rest = coming ∙ sym at.left ∙ ap (λ (q : PageId). filter (is_past q) (e ∷ rest)) page ∙ past_rest e rest in
-    let size = ap length fewer in
-    let few = few_in (is_past e.0.page) rest in (
-      record {
-        so_far = at.so_far;
-        left = kept;
-        order = subst (AllPairs InOrder) (sym coming) (AllPairs-filter InOrder (is_past p) entries order);
-        from = subst (All (NotBefore (Some p))) (sym coming) (All-weaker (λ (f : Start × ℕ). is_past p f ≡ true) (NotBefore (Some p)) (λ f t. not_after p f.0.page (lt_is _ t)) (filter (is_past p) entries) (filter_passes (is_past p) entries));
-      },
-      omega arith,
-    )
+-- the pages that were found are those that are not past the last of them
+pub record Found (entries : List (Start × ℕ)) (last : Option PageId) (pages : List PageId) : Type 0 where
+  rising : IsStrictlySortedBy page_cmp pages
+  found : (page : PageId) → Contains pages page → HasPage entries page × ¬ IsPast last page
+  all : (page : PageId) → HasPage entries page → ¬ IsPast last page → Contains pages page
 
-pub ends : (entries : List (Start × ℕ)) (last : Option PageId) (pages : List PageId) (rest : List (Start × ℕ)) → rest ≡ [] → At entries last pages rest → pages ≡ pages_in entries
-ends entries last pages rest none at =
-    let nothing : filter (is_later last) entries ≡ [] = sym at.left ∙ ap (filter (is_later last)) none in
-    sym (append-nil pages) ∙ sym (ap (λ (es : List (Start × ℕ)). pages ++ pages_in es) nothing) ∙ at.so_far
+pub found_none : (entries : List (Start × ℕ)) → Found entries None []
+found_none entries = record { rising = rise_none page_cmp; found = λ page c. absurd (Contains-none page c); all = λ page h not. absurd (not tt) }
 
--- ---- the entries that are read
+pub found_more : (entries : List (Start × ℕ)) (last : Option PageId) (pages : List PageId) (next : PageId) → Found entries last pages → IsNextPage entries last (Some next) → Found entries (Some next) (pages ++ next ∷ [])
+found_more entries last pages next f n = record {
+  rising = rises_on pages next f.rising (λ p c. before_past last p next (f.found p c).1 n.1);
+  found = λ p c. ⊎_elim
+      (λ (d : Contains pages p). let h = f.found p d in (h.0, λ less. h.1 (past_on last next p n.1 less)))
+      (λ (e : next ≡ p). subst (λ (q : PageId). HasPage entries q × ¬ IsPast (Some next) q) e (n.0, λ less. itself less))
+      (Contains-push_cases pages next p c);
+  all = λ p h not. ⊎_elim
+      (λ (past : IsPast last p). subst (Contains (pages ++ next ∷ [])) (sym (same_if p next (n.2 p h past) not)) (Contains-push pages next))
+      (λ (before : ¬ IsPast last p). Contains-append_left pages (next ∷ []) p (f.all p h before))
+      (past_or_not last p);
+} where
+  itself : page_cmp next next ≡ Less → ⊥
+  itself less = let e : Equal ≡ Less = sym (page_itself next) ∙ less in cc
 
-ends_past : (r : Ordering) (s f : ℕ) → s ≤ 4294967295 → f ≤ 4294967295 → is_lt (ordering_then r (ordering_then (nat_cmp 4294967295 s) (nat_cmp 4294967295 f))) ≡ is_lt r
-ends_past Less s f small low = refl
-ends_past Equal s f small low = up_to_most 4294967295 s f small low
-ends_past Greater s f small low = refl
+pub found_all : (entries : List (Start × ℕ)) (last : Option PageId) (pages : List PageId) → Found entries last pages → IsNextPage entries last None → Lists page_cmp (HasPage entries) pages
+found_all entries last pages f none = record { rising = f.rising; members = λ page. (λ c. (f.found page c).0, λ h. f.all page h (none page h)) }
 
-and_true : (b : Bool) → (b && true) ≡ b
-and_true true = refl
-and_true false = refl
+-- ---- each page leaves fewer ranges
 
-module _ (m : BTreeMap Start ℕ) (ordered : IsOrdered start_cmp m) (ranges : AreRanges m.entries) where
-  pub after_pages : (page : PageId) → entries_between start_cmp (Excluded (start page 4294967295 4294967295)) Unbounded m.entries ≡ filter (is_past page) m.entries
-  after_pages page = same_filter (λ e. range_contains start_cmp (Excluded (start page 4294967295 4294967295)) Unbounded e.0) (is_past page) m.entries
-      (λ k d lt. let e = get_or m.entries k d in let small = small_parts m ordered ranges k d lt in and_true _ ∙ ends_past (page_cmp page e.0.page) e.0.source e.0.first small.0 small.1)
+module _ {X : Type 0} (p q : X → Bool) (narrow : (x : X) → q x ≡ true → p x ≡ true) where
+  no_more : (xs : List X) → count_by q xs ≤ count_by p xs
+  no_more [] = omega arith
+  no_more (x ∷ xs) = at (p x) (q x) refl refl (no_more xs) where
+    at : (a b : Bool) → p x ≡ a → q x ≡ b → count_by q xs ≤ count_by p xs → count_by q (x ∷ xs) ≤ count_by p (x ∷ xs)
+    at true b e f h = grind (arith, common_steps)
+    at false true e f h = absurd (true≢false (sym (narrow x f) ∙ e))
+    at false false e f h = grind (arith, common_steps)
 
--- all entries lie between no bounds
-pub all_between : (es : List (Start × ℕ)) → entries_between start_cmp Unbounded Unbounded es ≡ es
-all_between es = filter_whole (λ e. range_contains start_cmp Unbounded Unbounded e.0) es (λ k d lt. refl)
+  fewer : (xs : List X) (y : X) → Contains xs y → p y ≡ true → q y ≡ false → count_by q xs < count_by p xs
+  fewer [] y c on off = absurd (Contains-none y c)
+  fewer (x ∷ xs) y c on off = grind (arith, common_steps, no_more xs, fewer xs y, narrow x, Contains-cases)
 
-pub in_order : (es : List (Start × ℕ)) → IsStrictlySortedBy start_cmp (keys_of es) → AllPairs InOrder es
-in_order [] rising = λ i j d ij lt. absurd (omega arith)
-in_order (e ∷ es) rising = AllPairs-cons InOrder e es (All-weaker (λ (f : Start × ℕ). start_cmp e.0 f.0 ≡ Less) (InOrder e) (λ f less. not_less e.0.page f.0.page _ less) es (after_all e es rising)) (in_order es (sorted_tail start_cmp e.0 (keys_of es) rising))
+-- of a page past the last one
+abbrev pub is_past : Option PageId → Start × ℕ → Bool
+is_past None e = true
+is_past (Some p) e = is_lt (page_cmp p e.0.page)
+
+past_is : (last : Option PageId) (e : Start × ℕ) → IsPast last e.0.page → is_past last e ≡ true
+past_is None e past = refl
+past_is (Some p) e less = ap is_lt less
+
+is_past-is : (last : Option PageId) (e : Start × ℕ) → is_past last e ≡ true → IsPast last e.0.page
+is_past-is None e h = tt
+is_past-is (Some p) e h = at (page_cmp p e.0.page) h where
+  at : (o : Ordering) → is_lt o ≡ true → o ≡ Less
+  at Less h = refl
+  at Equal h = absurd (true≢false (sym h))
+  at Greater h = absurd (true≢false (sym h))
+
+pub fewer_past : (entries : List (Start × ℕ)) (last : Option PageId) (next : PageId) → IsNextPage entries last (Some next) → count_by (is_past (Some next)) entries < count_by (is_past last) entries
+fewer_past entries last next n =
+    let e : Start × ℕ = (start next n.0.0 n.0.1, n.0.2) in
+    fewer (is_past last) (is_past (Some next)) (λ x h. past_is last x (past_on last next x.0.page n.1 (is_past-is (Some next) x h))) entries e (Contains-from_lookup start_is e.0 e.1 entries n.0.3) (past_is last e n.1) (ap is_lt (page_itself next))

@@ -1,8 +1,8 @@
 -- The marks of the numbers that a page holds are its report.
-use Rattle.std.proofs.Common.{◌≡◌, ℕ, zero, suc, ◌<◌, ◌≤◌, Bool, true, false, cond, max, List, [], ◌∷◌, length, refl, ap, ◌∙◌, sym, subst, arith, ◌⊎◌, inl, inr, ⊎_elim, eqb-true, true≢false}
-use Rattle.std.specs.Prelude.{nat_eq, ◌&&◌}
+use Rattle.std.proofs.Common.{◌≡◌, ℕ, zero, suc, ◌<◌, ◌≤◌, true, false, cond, max, List, [], ◌∷◌, length, refl, ap, ◌∙◌, sym, subst, arith, ◌⊎◌, inl, inr, ⊎_elim, eqb-true, true≢false}
 use Rattle.std.proofs.lemmas.Bool.{cases_lt}
 use Rattle.std.proofs.lemmas.Bool.Decides.{nat_tests}
+use Rattle.std.proofs.lemmas.Grind.{common_steps}
 use Rattle.wb_names.specs.Values.{NameValue, DrawopValue, MarkValue}
 use Rattle.wb_names.specs.History.{IsHeld, name_of, is_of, highest}
 use Rattle.wb_names.specs.Marks.{mark_of, IsReport}
@@ -22,11 +22,7 @@ pub held_there : (d : DrawopValue) (history : List DrawopValue) (page : PageId) 
 held_there d history page source n h = (suc h.0, h.1, omega arith, h.3, h.4)
 
 pub is_of-here : (d : DrawopValue) (page : PageId) (source n : ℕ) → d.name ≡ name_of page source n → is_of page source d ≡ true
-is_of-here d page source n e =
-    let p = same_page-here d.name.page page (ap (λ (v : NameValue). v.page) e) in
-    let s : d.name.source ≡ source = ap (λ (v : NameValue). v.source) e in
-    let t : nat_eq d.name.source source ≡ true = grind (arith, nat_tests) in
-    ap (λ (b : Bool). b && nat_eq d.name.source source) p ∙ t
+is_of-here d page source n e = grind (arith, common_steps, nat_tests, same_page-here)
 
 -- of a first member: it has this number, or a later one has it
 pub held_cases : (d : DrawopValue) (history : List DrawopValue) (page : PageId) (source n : ℕ) → IsHeld (d ∷ history) page source n → (d.name ≡ name_of page source n) ⊎ IsHeld history page source n

@@ -1,5 +1,5 @@
 -- Lists that are sorted by insertion.
-use Rattle.std.proofs.Common.{◌≡◌, suc, ◌≤◌, List, [], ◌∷◌, length, get_or, refl, ap, ◌∙◌, sym, subst, arith, ◌⊎◌, inl, inr, ⊎_elim}
+use Rattle.std.proofs.Common.{◌≡◌, suc, ◌≤◌, List, [], ◌∷◌, length, get_or, refl, ap, ◌∙◌, sym, subst, arith, ◌⊎◌, ⊎_elim}
 use Rattle.std.specs.Prelude.{Contains}
 use Rattle.std.specs.Cmp.{IsTotalOrder}
 use Rattle.std.specs.List.Sorted.{IsStrictlySortedBy}
@@ -9,30 +9,24 @@ use Rattle.std.specs.declared.cmp.Ordering.TheVariants.{Less, Equal, Greater}
 use Rattle.std.proofs.lemmas.Cmp.{tied_itself}
 use Rattle.std.proofs.lemmas.List.Elements.{Contains-get_or, recursion_from_All}
 use Rattle.std.proofs.lemmas.Map.Keys.{sorted_tail}
+use Rattle.std.proofs.lemmas.Grind.{common_steps}
 use Rattle.wb_names.specs.Listing.{Lists}
 use Rattle.wb_names.proofs.Listings.{Contains-here, Contains-there, Contains-cases, Contains-none, below_all}
 use Rattle.wb_gaps.specs.Sorting.{inserted, sorted}
 
 module _ {X : Type 0} (R : X → X → Ordering) where
-  rise_none : IsStrictlySortedBy R []
+  pub rise_none : IsStrictlySortedBy R []
   unfolding IsStrictlySortedBy
   rise_none = tt
 
-  rise_first : (x : X) (xs : List X) → ((z : X) → Contains xs z → R x z ≡ Less) → IsStrictlySortedBy R xs → IsStrictlySortedBy R (x ∷ xs)
+  pub rise_first : (x : X) (xs : List X) → ((z : X) → Contains xs z → R x z ≡ Less) → IsStrictlySortedBy R xs → IsStrictlySortedBy R (x ∷ xs)
   unfolding IsStrictlySortedBy
   rise_first x xs below s = (recursion_from_All (λ y. R x y ≡ Less) xs (λ k d h. below (get_or xs k d) (Contains-get_or xs k d h)), s)
 
   -- the members of a list with x in its place
   inserted_from : (x z : X) (ys : List X) → Contains (inserted R x ys) z → (x ≡ z) ⊎ Contains ys z
   inserted_from x z [] c = Contains-cases x z [] c
-  inserted_from x z (y ∷ ys) c = at (R x y) (inserted_from x z ys) c where
-    at : (r : Ordering) → (Contains (inserted R x ys) z → (x ≡ z) ⊎ Contains ys z) → Contains (match_ordering r (x ∷ y ∷ ys) (y ∷ ys) (y ∷ inserted R x ys)) z → (x ≡ z) ⊎ Contains (y ∷ ys) z
-    at Less back h = Contains-cases x z (y ∷ ys) h
-    at Equal back h = inr h
-    at Greater back h = ⊎_elim
-        (λ (e : y ≡ z). inr (subst (λ (w : X). Contains (y ∷ ys) w) e (Contains-here y ys)))
-        (λ (c : Contains (inserted R x ys) z). ⊎_elim (λ (e : x ≡ z). inl e) (λ (d : Contains ys z). inr (Contains-there y z ys d)) (back c))
-        (Contains-cases y z (inserted R x ys) h)
+  inserted_from x z (y ∷ ys) c = grind (arith, Contains-here, Contains-there, Contains-cases, inserted_from x z ys)
 
   inserted_more : (x z : X) (ys : List X) → Contains ys z → Contains (inserted R x ys) z
   inserted_more x z [] c = absurd (Contains-none z c)
@@ -47,11 +41,7 @@ module _ {X : Type 0} (R : X → X → Ordering) where
 
   inserted-length : (x : X) (ys : List X) → length (inserted R x ys) ≤ suc (length ys)
   inserted-length x [] = omega arith
-  inserted-length x (y ∷ ys) = at (R x y) (inserted-length x ys) where
-    at : (r : Ordering) → length (inserted R x ys) ≤ suc (length ys) → length (match_ordering r (x ∷ y ∷ ys) (y ∷ ys) (y ∷ inserted R x ys)) ≤ suc (suc (length ys))
-    at Less h = omega arith
-    at Equal h = omega arith
-    at Greater h = omega arith
+  inserted-length x (y ∷ ys) = grind (arith, common_steps, inserted-length x ys)
 
   -- the members of the sorted list are among the list's
   pub Contains-from_sorted : (xs : List X) (z : X) → Contains (sorted R xs) z → Contains xs z

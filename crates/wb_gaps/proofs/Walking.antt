@@ -6,6 +6,7 @@ use Rattle.std.proofs.lemmas.Bool.{cases_lt}
 use Rattle.std.proofs.lemmas.Bool.Decides.{nat_tests}
 use Rattle.std.proofs.lemmas.List.Elements.{All-nil, All-cons, All-head, All-tail, All-weaker, All-contains}
 use Rattle.std.proofs.lemmas.List.Kept.{AllPairs-cons}
+use Rattle.std.proofs.lemmas.Grind.{common_steps}
 use Rattle.wb_names.specs.Values.{DrawopValue, MarkValue}
 use Rattle.wb_names.specs.History.{IsHeld}
 use Rattle.wb_names.specs.Marks.{mark_of}
@@ -42,9 +43,7 @@ abbrev IsAfter : ℕ → ℕ → Gap → Type 0
 IsAfter source last g = (source < g.source) ⊎ ((source ≡ g.source) × (last + 1 < g.first))
 
 in_gap : (source done last s n : ℕ) (g : Gap) → gap source done last ≡ g → g.source ≡ s → g.first ≤ n → n ≤ g.last → InSpan source done last s n
-in_gap source done last s n g e own low high =
-    let from : done + 1 ≤ n = subst (λ (h : Gap). h.first ≤ n) (sym e) low in
-    (sym own ∙ sym (ap (λ (h : Gap). h.source) e), omega arith, subst (λ (h : Gap). n ≤ h.last) (sym e) high)
+in_gap source done last s n g e own low high = grind (arith, common_steps, nat_tests)
 
 -- a span's gap, and gaps after it
 hold_gap : (source done last : ℕ) (gaps : List Gap) (P Q : ℕ → ℕ → Type 0) → done < last → Hold Q gaps → All (IsAfter source last) gaps → ((s n : ℕ) → P s n ↔ (InSpan source done last s n ⊎ Q s n)) → Hold P (gap source done last ∷ gaps)
@@ -67,17 +66,7 @@ hold_gap source done last gaps P Q lt rest after split =
 
 -- a span of no numbers
 hold_none : (source done last : ℕ) (gaps : List Gap) (P Q : ℕ → ℕ → Type 0) → last ≤ done → Hold Q gaps → ((s n : ℕ) → P s n ↔ (InSpan source done last s n ⊎ Q s n)) → Hold P gaps
-hold_none source done last gaps P Q le rest split = record {
-  filled = rest.filled;
-  apart = rest.apart;
-  covers = λ s n. (
-    λ c. (split s n).1 (inr ((rest.covers s n).0 c)),
-    λ p. ⊎_elim
-        (λ (i : InSpan source done last s n). let low = i.1 in let high = i.2 in absurd (omega arith))
-        (λ (q : Q s n). (rest.covers s n).1 q)
-        ((split s n).0 p),
-  );
-}
+hold_none source done last gaps P Q le rest split = grind (arith, common_steps, nat_tests)
 
 abbrev span : ℕ → ℕ → ℕ → Span
 span source done last = record { source = source; done = done; last = last }
@@ -91,11 +80,7 @@ hold_span source done last gaps P Q rest after split =
 
 -- what holds of a span's gap, where it has numbers, and of those after it
 all_span : (B : Gap → Type 0) (source done last : ℕ) (gaps : List Gap) → B (gap source done last) → All B gaps → All B (gap_of (span source done last) ++ gaps)
-all_span B source done last gaps first rest =
-    elim (nat_lt done last) as (λ b. All B (cond b (gap source done last ∷ []) [] ++ gaps)) [
-      | true ↦ All-cons B (gap source done last) gaps first rest
-      | false ↦ rest
-    ]
+all_span B source done last gaps first rest = grind (arith, common_steps, nat_tests, All-cons)
 
 -- ---- what a walk finds
 
@@ -133,17 +118,11 @@ done_there at done s e = grind (arith, nat_tests)
 
 -- where what is done of a source ends, seen from beyond
 done_below : (at done s first : ℕ) → 1 ≤ first → IsBeyond at done s first → done_of at done s < first
-done_below at done s first pos beyond = ⊎_elim
-    (λ (lt : at < s). let t = done_there at done s (omega arith) in omega arith)
-    (λ (p : (at ≡ s) × (done < first)). let t = done_here at done s p.0 in let lt = p.1 in omega arith)
-    beyond
+done_below at done s first pos beyond = grind (arith, common_steps, nat_tests, done_here, done_there)
 
 -- after what is done
 done_next : (at done s : ℕ) → at ≤ s → IsBeyond at done s (done_of at done s + 1)
-done_next at done s le = ⊎_elim
-    (λ (e : at ≡ s). let t = done_here at done s e in inr (e, omega arith))
-    (λ (n : at ≢ s). inl (omega arith))
-    (same_or_not at s)
+done_next at done s le = grind (arith, common_steps, nat_tests, done_here, same_or_not)
 
 -- runs after the first of a source
 above_first : (s : ℕ) (x : Run) (xs : List Run) → AreRuns (x ∷ xs) → x.source ≡ s → (n : ℕ) → InRuns xs s n → x.last < n
@@ -277,13 +256,7 @@ module _ (at done : ℕ) (x : Run) (xs : List Run) (marks : List MarkValue) (com
   )
 
   run_beyond : (source first : ℕ) → IsBeyond x.source x.last source first → IsBeyond at done source first
-  run_beyond source first b = ⊎_elim
-      (λ (lt : at < x.source). inl (⊎_elim (λ (l : x.source < source). omega arith) (λ (p : (x.source ≡ source) × (x.last < first)). let e = p.0 in omega arith) b))
-      (λ (q : (at ≡ x.source) × (done < x.first)).
-      let e = q.0 in
-      let low = q.1 in
-      ⊎_elim (λ (l : x.source < source). inl (omega arith)) (λ (p : (x.source ≡ source) × (x.last < first)). let over = p.1 in inr (q.0 ∙ p.0, omega (arith, full))) b)
-      starts
+  run_beyond source first b = grind (arith, common_steps, nat_tests, full, starts)
 
   at_or_before : at ≤ x.source
   at_or_before = ⊎_elim (λ (lt : at < x.source). omega arith) (λ (q : (at ≡ x.source) × (done < x.first)). let e = q.0 in omega arith) starts
@@ -315,13 +288,7 @@ module _ (at done : ℕ) (m : MarkValue) (ms : List MarkValue) (xs : List Run) (
   }
 
   lacks_up_to : (s n : ℕ) → InSpan m.source (done_of at done m.source) m.high s n → Lacks at done (m ∷ ms) xs s n
-  lacks_up_to s n i =
-      let own : m.source ≡ s = sym i.0 in
-      record {
-        not_done = subst (λ (k : ℕ). done_of at done k < n) own i.1;
-        known = inl (subst (λ (k : ℕ). n ≤ k) (sym (here m ms s own)) i.2);
-        free = λ h. none_under m.source xs over n (subst (λ (k : ℕ). InRuns xs k n) (sym own) h);
-      }
+  lacks_up_to s n i = grind (arith, common_steps, nat_tests, none_under, here)
 
   lacks_beside : (s n : ℕ) → Lacks at done ms xs s n → Lacks at done (m ∷ ms) xs s n
   lacks_beside s n l = record {
@@ -385,15 +352,7 @@ all_from : (b : ℕ) (m : MarkValue) (ms : List MarkValue) → Rises (m ∷ ms) 
 all_from b m ms up le = All-cons (λ (k : MarkValue). b ≤ k.source) m ms le (All-weaker (λ (k : MarkValue). m.source < k.source) (λ (k : MarkValue). b ≤ k.source) (λ k lt. omega arith) ms (rest_above m ms up))
 
 finds_nothing : (at done : ℕ) → Finds at done [] [] []
-finds_nothing at done = record {
-  hold = record {
-    filled = All-nil _;
-    apart = λ i j d ij h. absurd (omega arith);
-    covers = λ s n. (λ c. absurd (Contains-none c.0 c.1), λ l. absurd (⊎_elim (λ (le : n ≤ 0). let low = l.not_done in let w : ⊥ = omega arith in w) (λ (r : Reached [] s n). number_none s r.0 r.2) l.known));
-  };
-  beyond = All-nil _;
-  later = λ b above over. All-nil _;
-}
+finds_nothing at done = grind (arith, common_steps, nat_tests, All-nil, Contains-none, number_none)
 
 abbrev found : List Run → ℕ → ℕ → List MarkValue → List Gap
 found runs at done marks = flat_map gap_of (spans runs at done marks)

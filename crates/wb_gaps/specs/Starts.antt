@@ -1,10 +1,12 @@
 -- The ranges of numbers that are kept, by page, source and first number.
 use Rattle.std.specs.Prelude.{◌≡◌, ℕ, ◌+◌, ◌<◌, ◌≤◌, Bool, false, List, Option, Some, None, filter, map}
-use Rattle.std.specs.List.{dedup}
 use Rattle.std.specs.Map.{lookup}
 use Rattle.std.specs.BTreeMap.{is_at}
 use Rattle.std.specs.Ordering.{is_lt, nat_cmp, ordering_then}
 use Rattle.std.specs.declared.cmp.Ordering.{Ordering}
+use Rattle.std.specs.declared.cmp.Ordering.TheVariants.{Less}
+use Rattle.std.specs.declared.ops.Bound.{Bound}
+use Rattle.std.specs.declared.ops.Bound.TheVariants.{Excluded, Unbounded}
 use Rattle.wb_names.specs.Orders.{page_cmp, same_page}
 use Rattle.wb_names.specs.declared.name.PageId.{PageId}
 use Rattle.wb_gaps.specs.Holdings.{HeldRange}
@@ -34,22 +36,28 @@ is_on page e = same_page page e.0.page
 abbrev pub runs_on : PageId → List (Start × ℕ) → List Run
 runs_on page entries = map run_of (filter (is_on page) entries)
 
--- the page is the last one, where there is one
-abbrev pub is_page : Option PageId → PageId → Bool
-is_page None page = false
-is_page (Some last) page = same_page last page
-
--- of a page after this one
-abbrev pub is_past : PageId → Start × ℕ → Bool
-is_past page e = is_lt (page_cmp page e.0.page)
-
--- the pages of ranges, each that is not the page of the range before
-abbrev pub pages_in : List (Start × ℕ) → List PageId
-pages_in entries = dedup same_page (map (λ e. e.0.page) entries)
+-- all places after a page, or all of them
+abbrev pub past_page : Option PageId → Bound Start
+past_page None = Unbounded
+past_page (Some page) = Excluded (start page 4294967295 4294967295)
 
 -- the last number of the range that begins there, if one does
 abbrev pub last_at : List (Start × ℕ) → PageId → ℕ → ℕ → Option ℕ
 last_at entries page source first = lookup (is_at (start_cmp (start page source first))) entries
+
+-- the page has a range
+abbrev pub HasPage : List (Start × ℕ) → PageId → Type 0
+HasPage entries page = (source : ℕ) × (first : ℕ) × (last : ℕ) × (last_at entries page source first ≡ Some last)
+
+-- the page is after the last one, where there is one
+abbrev pub IsPast : Option PageId → PageId → Type 0
+IsPast None page = Unit {0}
+IsPast (Some last) page = page_cmp last page ≡ Less
+
+-- the first page after the last one that has a range, or none has
+abbrev pub IsNextPage : List (Start × ℕ) → Option PageId → Option PageId → Type 0
+IsNextPage entries last None = (page : PageId) → HasPage entries page → ¬ IsPast last page
+IsNextPage entries last (Some next) = HasPage entries next × IsPast last next × ((page : PageId) → HasPage entries page → IsPast last page → is_lt (page_cmp page next) ≡ false)
 
 -- Of one page and source, by first number: ranges are not empty, begin at 1 or later and end in 32 bits; one ends two or
 -- more below the next

@@ -1,14 +1,16 @@
 //! What is asked of holdings: which numbers a page lacks, its report, and which pages there are.
 
-ghost use Rattle.std.specs.Prelude.{◌≡◌, ◌≤◌, List, IfOk, filter, length};
+ghost use Rattle.std.specs.Prelude.{◌≡◌, ◌≤◌, List, IfOk, length};
 ghost use Rattle.std.specs.BTreeMap.{IsOrdered};
+ghost use Rattle.wb_names.specs.Listing.{Lists};
 ghost use Rattle.wb_names.specs.Marks.{IsReport};
+ghost use Rattle.wb_names.specs.Orders.{page_cmp};
 ghost use Rattle.wb_names.specs.Values.{DrawopValue};
 ghost use Rattle.wb_gaps.specs.Gaps.{AreGaps};
 ghost use Rattle.wb_gaps.specs.Holdings.{HoldNamesOf};
 ghost use Rattle.wb_gaps.specs.Pages.{ArePages};
 ghost use Rattle.wb_gaps.specs.Runs.{runs_left};
-ghost use Rattle.wb_gaps.specs.Starts.{AreRanges, is_page, is_past, pages_in, runs_on, start_cmp};
+ghost use Rattle.wb_gaps.specs.Starts.{AreRanges, HasPage, IsNextPage, past_page, runs_on, start_cmp};
 
 use crate::highest::highs;
 use crate::holdings::{Holdings, Start};
@@ -16,7 +18,6 @@ use crate::missing::Missing;
 use crate::run::Runs;
 use std::alloc::{AllocError, Global};
 use std::collections::BTreeMap;
-use std::collections::btree_map::Range;
 use std::ops::Bound;
 use wb_names::{Gap, Marks, PageId};
 
@@ -56,8 +57,7 @@ impl Holdings {
         self.ranges.len()
     }
 
-    /// The pages that have drawops, ascending, each once. It costs the pages: a step for each, and a look-up where
-    /// it has more ranges than one.
+    /// The pages that have drawops, ascending, each once. It costs the pages: a look-up for each.
     pub fn pages(&self, alloc: Global) -> Result<Vec<PageId>, AllocError>
         ensures { (history : List DrawopValue) → HoldNamesOf history self.now → IfOk result (λ pages. ArePages history pages.items) }
     {
@@ -87,45 +87,43 @@ pub(crate) fn runs_of(ranges: &BTreeMap<Start, u32>, page: PageId) -> Runs<'_>
     }
 }
 
-/// The pages of the ranges, ascending, each once. From the second range of a page it steps to the next page.
+/// The pages of the ranges, ascending, each once.
 fn pages_of(alloc: Global, ranges: &BTreeMap<Start, u32>) -> Result<Vec<PageId>, AllocError>
     requires { AreRanges ranges.now.entries }
     ensures ordered { IsOrdered start_cmp ranges.now }
-    ensures pages { IfOk result (λ pages. pages.items ≡ pages_in ranges.now.entries) }
+    ensures pages { IfOk result (λ pages. Lists page_cmp (HasPage ranges.now.entries) pages.items) }
 {
     let mut pages = Vec::new(alloc);
     let mut last = None;
-    let mut rest = ranges.range(..);
-    while let Some((start, _)) = rest.next() {
-        if is_page(last, start.page) {
-            rest = after_page(ranges, start.page);
-        } else {
-            pages.push(start.page)?;
-            last = Some(start.page);
-        }
+    while let Some(page) = next_page(ranges, last) {
+        pages.push(page)?;
+        last = Some(page);
     }
     Ok(pages)
 }
 
-/// Whether the page is the last one, where there is one.
-fn is_page(last: Option<PageId>, page: PageId) -> bool
-    ensures { result ≡ is_page last page }
+/// The first page after the last one, or the first of all.
+fn next_page(ranges: &BTreeMap<Start, u32>, last: Option<PageId>) -> Option<PageId>
+    requires { AreRanges ranges.now.entries }
+    ensures ordered { IsOrdered start_cmp ranges.now }
+    ensures next { IsNextPage ranges.now.entries last result }
 {
-    match last {
-        Some(last) => last == page,
-        None => false,
-    }
+    let Some((start, _)) = ranges.range((past_page(last), Bound::Unbounded)).next() else {
+        return None;
+    };
+    Some(start.page)
 }
 
-/// The ranges of the pages after this one.
-fn after_page(ranges: &BTreeMap<Start, u32>, page: PageId) -> Range<'_, Start, u32>
-    requires { AreRanges ranges.now.entries }
-    ensures { result ≡ filter (is_past page) ranges.now.entries }
+/// Where the ranges of later pages begin.
+fn past_page(last: Option<PageId>) -> Bound<Start>
+    ensures { result ≡ past_page last }
 {
-    let end = Start {
-        page,
-        source: u32::MAX,
-        first: u32::MAX,
-    };
-    ranges.range((Bound::Excluded(end), Bound::Unbounded))
+    match last {
+        Some(page) => Bound::Excluded(Start {
+            page,
+            source: u32::MAX,
+            first: u32::MAX,
+        }),
+        None => Bound::Unbounded,
+    }
 }

@@ -33,8 +33,8 @@ use Rattle.wb_history.proofs.Lists.{at-lt, at_same, at_nothing, at_some, at_appe
 abbrev TableState : Type 0
 TableState = State DrawopValue Knowledge
 
-apart_rows : (cells r q k l : ℕ) → r ≢ q → k < row_words → l < row_words → address cells r k ≢ address cells q l
-apart_rows cells r q k l ne a b e = ne (omega arith)
+apart_rows : (cells r q k l : ℕ) → r < cells → q < cells → r ≢ q → k < row_words → l < row_words → address cells r k ≢ address cells q l
+apart_rows cells r q k l inside inside' ne a b e = ne (omega arith)
 
 module _ (cells : ℕ) (s : TableState) (r : Lawful cells s) where
   rows_few : length r.rows ≤ cells
@@ -236,12 +236,12 @@ reads_last cells slots id m word unspent some_row long is s r _ at small =
     )
 
 -- a store into a free row of the pass id
-module _ (cells : ℕ) (s : TableState) (r : Lawful cells s) (id q k : ℕ) (own : r.owner q ≡ id) (free : (p : ℕ) → get_elem? r.rows p ≡ some q → ⊥) (short : k < row_words) (n : ℕ) where
+module _ (cells : ℕ) (s : TableState) (r : Lawful cells s) (id q k : ℕ) (own : r.owner q ≡ id) (below : q < cells) (free : (p : ℕ) → get_elem? r.rows p ≡ some q → ⊥) (short : k < row_words) (n : ℕ) where
   abbrev written : List ℕ
   written = set s.words (address cells q k) n
 
-  row_stays : (a l : ℕ) → a ≢ q → l < row_words → get_or written (address cells a l) 0 ≡ get_or s.words (address cells a l) 0
-  row_stays a l ne h = get_or-set_other s.words (address cells q k) (address cells a l) n 0 (apart_rows cells a q l k ne h short)
+  row_stays : (a l : ℕ) → a < cells → a ≢ q → l < row_words → get_or written (address cells a l) 0 ≡ get_or s.words (address cells a l) 0
+  row_stays a l inside ne h = get_or-set_other s.words (address cells q k) (address cells a l) n 0 (apart_rows cells a q l k inside below ne h short)
 
   cell_stays : (p : ℕ) → p < cells → get_or written p 0 ≡ get_or s.words p 0
   cell_stays p h = get_or-set_other s.words (address cells q k) p n 0 (λ e. omega arith)
@@ -255,9 +255,9 @@ module _ (cells : ℕ) (s : TableState) (r : Lawful cells s) (id q k : ℕ) (own
       reads = λ l x e. let old = known.reads l x e in (
         old.0,
         old.1,
-        row_stays (u.looking - 1) l (λ same. free (length u.seen) (subst (λ z. get_elem? r.rows (length u.seen) ≡ some z) same (known.looks old.0))) old.1 ∙ old.2,
+        row_stays (u.looking - 1) l (r.filled (length u.seen) (u.looking - 1) (known.looks old.0)).0 (λ same. free (length u.seen) (subst (λ z. get_elem? r.rows (length u.seen) ≡ some z) same (known.looks old.0))) old.1 ∙ old.2,
       );
-      stores = λ l x a e last. let old = known.stores l x a e last in (old.0, row_stays a l (λ same. other (sym (known.free_is (length u.free - 1) a last).1 ∙ (ap r.owner same ∙ own))) old.0 ∙ old.1);
+      stores = λ l x a e last. let old = known.stores l x a e last in (old.0, row_stays a l (known.free_is (length u.free - 1) a last).0 (λ same. other (sym (known.free_is (length u.free - 1) a last).1 ∙ (ap r.owner same ∙ own))) old.0 ∙ old.1);
     };
   }
 
@@ -271,9 +271,9 @@ stores_word cells slots id m word n q unspent last short is s r _ at small =
     let mine = known.free_is (length v.free - 1) q last in
     let wide = r.wide in
     let below = mine.0 in
-    let after = written cells s r id q k mine.1 mine.2 short n in
-    let cell = cell_stays cells s r id q k mine.1 mine.2 short n in
-    let row' = row_stays cells s r id q k mine.1 mine.2 short n in
+    let after = written cells s r id q k mine.1 mine.0 mine.2 short n in
+    let cell = cell_stays cells s r id q k mine.1 mine.0 mine.2 short n in
+    let row' = row_stays cells s r id q k mine.1 mine.0 mine.2 short n in
     let few_rows = rows_few cells s r in
     let knows : Knows cells after r.log r.rows r.owner id w = record {
       sees = known.sees;
@@ -283,7 +283,7 @@ stores_word cells slots id m word n q unspent last short is s r _ at small =
         reads = λ l x e. let old = known.reads l x e in (
           old.0,
           old.1,
-          row' (v.looking - 1) l (λ same. mine.2 (length v.seen) (subst (λ z. get_elem? r.rows (length v.seen) ≡ some z) same (known.looks old.0))) old.1 ∙ old.2,
+          row' (v.looking - 1) l (r.filled (length v.seen) (v.looking - 1) (known.looks old.0)).0 (λ same. mine.2 (length v.seen) (subst (λ z. get_elem? r.rows (length v.seen) ≡ some z) same (known.looks old.0))) old.1 ∙ old.2,
         );
         stores = λ l x a e la. let same = at_same v.free (length v.free - 1) a q la last in
             subst (λ z. (l < row_words) × (get_or after (address cells z l) 0 ≡ x)) (sym same)
@@ -303,12 +303,12 @@ stores_word cells slots id m word n q unspent last short is s r _ at small =
         filled = λ p a e. let f = r.filled p a e in let inside = at-lt r.rows p a e in (f.0, cell p (omega arith) ∙ f.1);
         unfilled = λ p h l. cell p l ∙ r.unfilled p h l;
         rows_once = r.rows_once;
-        records = λ p a d x y l z e. row' a l (λ same. mine.2 p (subst (λ t. get_elem? r.rows p ≡ some t) same x)) (let lt = at-lt (row d) l z e in let long = row_length d in omega arith) ∙ r.records p a d x y l z e;
+        records = λ p a d x y l z e. row' a l (r.filled p a x).0 (λ same. mine.2 p (subst (λ t. get_elem? r.rows p ≡ some t) same x)) (let lt = at-lt (row d) l z e in let long = row_length d in omega arith) ∙ r.records p a d x y l z e;
         valid = r.valid;
         names_once = r.names_once;
       };
       seated = λ a. let b = r.seated a in omega (arith, length-set s.views id w);
-      each_pass = seats (Knows cells after r.log r.rows r.owner) s.views id w knows (λ j u other e. others_after_store cells s r id q k mine.1 mine.2 short n j u other (r.each_pass j u e));
+      each_pass = seats (Knows cells after r.log r.rows r.owner) s.views id w knows (λ j u other e. others_after_store cells s r id q k mine.1 mine.0 mine.2 short n j u other (r.each_pass j u e));
     } in
     let next' = subst (λ a. Lawful cells (stepped s a n id m.1 w keeps)) (sym is) next in
     (w, keeps, tt, next', (refl, refl, consistent cells (stepped s word n id m.1 w keeps) next' id w (next'.each_pass id w (set_here s.views id w (at-lt s.views id v at))) unspent))

@@ -1,16 +1,18 @@
 -- Walks of a cursor along the history.
 use Rattle.std.proofs.lemmas.Grind.{common_steps}
-use Rattle.std.proofs.Common.{◌≢◌, ℕ, ◌+◌, ◌<◌, List, [], ◌∷◌, ◌++◌, length, refl, arith}
+use Rattle.std.proofs.Common.{◌≡◌, ◌≢◌, ℕ, ◌+◌, ◌<◌, List, [], ◌∷◌, ◌++◌, length, refl, sym, subst, arith, slice_get, Some}
+use mathlib.Core.Option.{some}
+use lib.ListN.{get_elem?}
 use Rattle.wb_names.specs.Values.{NameValue, DrawopValue}
 use Rattle.wb_history.specs.declared.cursor.Cursor.{Cursor}
 use Rattle.wb_history.specs.declared.cells.CellTable.{CellTable}
 use Rattle.wb_names.specs.History.{IsHistory, HoldsName}
-use Rattle.wb_history.specs.Cursors.{MatchesSeat, Walked, AtEnd, FoundFree, Won, TellsNamesake, Answered}
+use Rattle.wb_history.specs.Cursors.{MatchesSeat, Walked, ReadsOne, AtEnd, FoundFree, Won, TellsNamesake, Answered}
 use Rattle.wb_history.specs.declared.claim.Claim.{Claim}
 use Rattle.wb_history.specs.declared.claim.Claim.TheVariants.{Added, Present, Clash}
 use Rattle.wb_history.specs.Seats.{SitsAt}
 use Rattle.wb_history.proofs.Lists.{at-lt}
-use Rattle.wb_history.proofs.Words.{named_at, one_place}
+use Rattle.wb_history.proofs.Words.{get_is, named_at, one_place}
 use Rattle.atomic_table.proofs.Lists.{at_longer, at_last}
 
 pub walk_on : (h : Cursor) (a b : List DrawopValue) (j k : ℕ) (h' h'' : Cursor) → MatchesSeat h → Walked h a j h' → Walked h' b k h'' → Walked h (a ++ b) (j + k) h''
@@ -21,6 +23,13 @@ win_on h a b d place j k h' h'' o v w = grind (arith, common_steps)
 
 pub lacks_more : (l : List DrawopValue) (d : DrawopValue) (name : NameValue) → (HoldsName l name → ⊥) → d.name ≢ name → HoldsName (l ++ d ∷ []) name → ⊥
 lacks_more l d name lacks other held = grind (arith, common_steps)
+
+-- a member was read that has another name
+pub lacks_read : (h : Cursor) (place : ℕ) (h' : Cursor) (name : NameValue) → ReadsOne h place h' → (HoldsName h.seen.items name → ⊥) → ((d : DrawopValue) → slice_get h'.seen.items place ≡ Some d → d.name ≢ name) → HoldsName h'.seen.items name → ⊥
+lacks_read h place h' name r lacks other =
+    let d = r.0 in
+    let there : slice_get h'.seen.items place ≡ Some d = get_is h'.seen.items place d (subst (λ (l : List DrawopValue). get_elem? l place ≡ some d) (sym r.1.seen) (at_last h.seen.items d place (sym r.2))) in
+    subst (λ (l : List DrawopValue). HoldsName l name → ⊥) (sym r.1.seen) (lacks_more h.seen.items d name lacks (other d there))
 
 pub answered : (h : Cursor) (d : DrawopValue) (extra : ℕ) (h' : Cursor) (c : Claim) (more : List DrawopValue) → Walked h more extra h' → TellsNamesake h'.seen.items d c → Answered h d extra h' c
 answered h d extra h' (Added i) more w a = absurd a

@@ -35,6 +35,10 @@ pub record Walked (h : Cursor) (more : List DrawopValue) (extra : ℕ) (h' : Cur
   pub made : h'.seat.me.0.made ≡ h.seat.me.0.made + member_steps * length more + extra
   pub steps : h'.steps ≡ h.steps + member_steps * length more + extra
 
+-- the cursor after it has read one member, which stands at this place
+abbrev pub ReadsOne : Cursor → ℕ → Cursor → Type 0
+ReadsOne h place h' = (d : DrawopValue) × Walked h (d ∷ []) 0 h' × (place ≡ length h.seen.items)
+
 -- the last step found the next cell free
 abbrev pub FoundFree : Cursor → Type 0
 FoundFree h = (h.seat.me.0.last_word ≡ length h.seen.items) × (h.seat.me.0.last_found ≡ 0) × (h.seat.me.0.stored ≡ [])

@@ -14,9 +14,9 @@ use Rattle.wb_codec.specs.Ranges.{IsDrawop}
 use Rattle.wb_codec.specs.Rows.{row}
 use Rattle.wb_history.specs.Views.{HasAllRows}
 
--- the word k of a row
+-- The word k of a row. A pass uses its row of the greatest number first, so that row stands first
 abbrev pub address : ℕ → ℕ → ℕ → ℕ
-address cells r k = cells + r * row_stride + k
+address cells r k = cells + (cells - 1 - r) * row_stride + k
 
 -- what a pass with so many cells has seen, and the shorter list of its last join, are beginnings of the history
 pub record Sees (cells : ℕ) (log : List DrawopValue) (own_cells : ℕ) (seen joined : List DrawopValue) : Type 0 where

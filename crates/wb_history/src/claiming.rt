@@ -5,7 +5,7 @@ ghost use Rattle.std.specs.Prelude.{◌≡◌, ℕ, ◌+◌, ◌-◌, ◌*◌, �
 ghost use mathlib.Core.Option.{some};
 ghost use lib.ListN.{get_elem?};
 ghost use Rattle.wb_names.specs.Values.{DrawopValue};
-ghost use Rattle.wb_history.specs.Cursors.{MatchesSeat, Walked, Won, AtEnd, TellsNamesake, Answered, Refused};
+ghost use Rattle.wb_history.specs.Cursors.{MatchesSeat, Walked, ReadsOne, Won, AtEnd, TellsNamesake, Answered, Refused};
 ghost use Rattle.wb_names.specs.History.{HoldsName};
 ghost use Rattle.wb_codec.specs.Rows.{row as record_of};
 ghost use Rattle.wb_codec.specs.Ranges.{IsDrawop};
@@ -15,14 +15,14 @@ use crate::cells::CellTable;
 use crate::claim::{Claim, ClaimFault};
 use crate::cursor::Cursor;
 use crate::members::Members;
-use crate::walk::{answer, is_namesake};
+use crate::walk::{answer, answer_at};
 use std::alloc::AllocError;
 use wb_codec::ROW_WORDS;
 use wb_names::Drawop;
 
 impl CellTable {
     /// Exchanges the next cell for the row, in which the record of the drawop stands. Or else reads
-    /// the member whose cell it is. Room for the drawop is made before, so that nothing can be refused
+    /// the member whose cell it is, and answers its place. Room for the drawop is made before, so that nothing can be refused
     /// after the exchange is won; it is put into the list and the index after, since every moment
     /// between the look at a cell and its exchange is one in which another thread may win the cell.
     fn exchange(
@@ -30,13 +30,13 @@ impl CellTable {
         cursor: &mut Cursor,
         row: u32,
         drawop: &Drawop,
-    ) -> Result<Option<Drawop>, AllocError>
+    ) -> Result<Option<usize>, AllocError>
         requires cursor { SitsAt self.now cursor.old.seat × MatchesSeat cursor.old × (cursor.old.steps ≤ member_steps * length cursor.old.seen.items + member_steps) }
         requires row { get_elem? cursor.old.free.items (length cursor.old.free.items - 1) ≡ some row }
         requires stored { cursor.old.seat.me.0.stored ≡ record_of drawop.now }
         requires new { IsDrawop drawop.now × ¬ HoldsName cursor.old.seen.items drawop.now.name }
         ensures done { MatchResult result
-            (λ o. MatchOption o (Won cursor.old [] drawop.now (length cursor.old.seen.items) 1 cursor.new) (λ d. Walked cursor.old (d ∷ []) 0 cursor.new × (cursor.new.seat.me.0.stored ≡ cursor.old.seat.me.0.stored)))
+            (λ o. MatchOption o (Won cursor.old [] drawop.now (length cursor.old.seen.items) 1 cursor.new) (λ p. ReadsOne cursor.old p cursor.new × (cursor.new.seat.me.0.stored ≡ cursor.old.seat.me.0.stored)))
             (λ _. (cursor.new.steps ≤ cursor.old.steps + 1) × Walked cursor.old [] (cursor.new.steps - cursor.old.steps) cursor.new) }
     {
         cursor.seen.reserve(1)?;
@@ -50,8 +50,8 @@ impl CellTable {
             cursor.free.take_last();
             return Ok(None);
         }
-        let member = self.take_member(cursor, found)?;
-        Ok(Some(member))
+        self.take_member(cursor, found)?;
+        Ok(Some(place))
     }
 
     /// Exchanges the next cell for the row until it wins or a member has the name.
@@ -62,9 +62,9 @@ impl CellTable {
         requires new { IsDrawop drawop.now × ¬ HoldsName cursor.old.seen.items drawop.now.name }
         ensures done { MatchResult result (Answered cursor.old drawop.now 0 cursor.new) (λ _. (more : List DrawopValue) × (extra : ℕ) × (extra ≤ 1) × Walked cursor.old more extra cursor.new) }
     {
-        while let Some(member) = self.exchange(cursor, row, drawop)? {
-            if is_namesake(&member, drawop) {
-                return Ok(answer(drawop, &member, cursor.seen.len() - 1));
+        while let Some(place) = self.exchange(cursor, row, drawop)? {
+            if let Some(claim) = answer_at(&cursor.seen, place, drawop) {
+                return Ok(claim);
             }
         }
         Ok(Claim::Added(cursor.seen.len() as u32 - 1))

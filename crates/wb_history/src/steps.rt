@@ -30,12 +30,14 @@ impl CellTable {
         self.table.shared.load::<Look>(seat, place)
     }
 
-    /// The first word of a row: the rows stand after the cells.
+    /// The first word of a row. The rows stand after the cells, those of the greatest numbers first: a pass uses them in this
+    /// order, so that it goes forward in memory.
     fn row_start(&self, row: usize) -> usize
         requires { row < self.now.cells }
-        ensures { result ≡ self.now.cells + row * row_stride }
+        ensures { result ≡ self.now.cells + (self.now.cells - 1 - row) * row_stride }
     {
-        self.cells as usize + row * ROW_STRIDE
+        let cells = self.cells as usize;
+        cells + (cells - 1 - row) * ROW_STRIDE
     }
 
     /// Reads the row that the cell names which the seat looked at. Its owner stored it before that

@@ -1,9 +1,9 @@
 //! How a cursor goes on along the history. A walk begins at the first cell that the cursor has not seen,
 //! so that it reads no filled cell twice.
 ghost use Rattle.wb_history.specs.Sizes.{row_words, member_steps};
-ghost use Rattle.std.specs.Prelude.{◌≡◌, ℕ, ◌+◌, ◌*◌, ◌<◌, ◌≤◌, List, [], ◌∷◌, ◌++◌, length, slice_get, Some, MatchOption, MatchResult, IsTrue, ◌↔◌};
+ghost use Rattle.std.specs.Prelude.{◌≡◌, ◌≢◌, ℕ, ◌+◌, ◌*◌, ◌<◌, ◌≤◌, List, [], ◌∷◌, ◌++◌, length, slice_get, Some, MatchOption, MatchResult, IsTrue, ◌↔◌};
 ghost use Rattle.wb_names.specs.Values.{DrawopValue};
-ghost use Rattle.wb_history.specs.Cursors.{MatchesSeat, Walked, AtEnd, TellsNamesake, Sought};
+ghost use Rattle.wb_history.specs.Cursors.{MatchesSeat, Walked, ReadsOne, AtEnd, TellsNamesake, Sought};
 ghost use Rattle.wb_names.specs.History.{HoldsName};
 ghost use Rattle.wb_history.specs.Seats.{SitsAt, SameSeat};
 ghost use Rattle.wb_history.specs.Views.{IsMember};
@@ -11,6 +11,7 @@ ghost use Rattle.wb_history.specs.Views.{IsMember};
 use crate::cells::CellTable;
 use crate::claim::Claim;
 use crate::cursor::Cursor;
+use crate::members::Members;
 use std::alloc::AllocError;
 use wb_codec::ROW_WORDS;
 use wb_names::Drawop;
@@ -35,28 +36,41 @@ pub(crate) fn answer(drawop: &Drawop, member: &Drawop, place: usize) -> Claim
     }
 }
 
+/// The answer where the member at this place has the name of the drawop.
+pub(crate) fn answer_at(members: &Members, place: usize, drawop: &Drawop) -> Option<Claim>
+    requires { (place < length members.now.items) × (place < 65536) }
+    ensures { MatchOption result ((d : DrawopValue) → slice_get members.now.items place ≡ Some d → d.name ≢ drawop.now.name) (λ c. TellsNamesake members.now.items drawop.now c) }
+{
+    let member = &members.as_slice()[place];
+    if is_namesake(member, drawop) {
+        Some(answer(drawop, member, place))
+    } else {
+        None
+    }
+}
+
 impl CellTable {
-    /// Reads the member after those that were seen, whose cell was found to hold `found`. All growth
+    /// Reads the member after those that were seen, whose cell was found to hold `found`, and puts it last. All growth
     /// for it comes before its row is read, since the last word read makes it seen.
-    pub(crate) fn take_member(&self, cursor: &mut Cursor, found: u64) -> Result<Drawop, AllocError>
+    pub(crate) fn take_member(&self, cursor: &mut Cursor, found: u64) -> Result<(), AllocError>
         requires cursor { SitsAt self.now cursor.old.seat × MatchesSeat cursor.old × (cursor.old.steps ≤ member_steps * (length cursor.old.seen.items + 2)) }
         requires found { (0 < found) × (found ≤ self.now.cells) × (cursor.old.seat.me.0.looking ≡ found) × (cursor.old.seat.me.0.read ≡ []) }
         ensures matches { MatchesSeat cursor.new × (cursor.new.mine.items ≡ cursor.old.mine.items) × (cursor.new.free.items ≡ cursor.old.free.items) }
         ensures done { MatchResult result
-            (λ d. (cursor.new.seen.items ≡ cursor.old.seen.items ++ d ∷ []) × (cursor.new.steps ≡ cursor.old.steps + row_words) × IsMember cursor.old.seat.me.0 d cursor.new.seat.me.0 × SameSeat cursor.old.seat cursor.new.seat)
+            (λ _. (d : DrawopValue) × (cursor.new.seen.items ≡ cursor.old.seen.items ++ d ∷ []) × (cursor.new.steps ≡ cursor.old.steps + row_words) × IsMember cursor.old.seat.me.0 d cursor.new.seat.me.0 × SameSeat cursor.old.seat cursor.new.seat)
             (λ _. (cursor.new.seen.items ≡ cursor.old.seen.items) × (cursor.new.steps ≡ cursor.old.steps) × (cursor.new.seat ≡ cursor.old.seat)) }
     {
         cursor.seen.reserve(1)?;
         let drawop = self.read_row(&mut cursor.seat, found as usize - 1);
         cursor.seen.put(&drawop);
         cursor.steps += ROW_WORDS as u32;
-        Ok(drawop)
+        Ok(())
     }
 
-    /// Reads the next member, if there is one: a load of its cell, and one of each word of its row.
-    pub(crate) fn next_member(&self, cursor: &mut Cursor) -> Result<Option<Drawop>, AllocError>
+    /// Reads the next member, if there is one: a load of its cell, and one of each word of its row. It answers its place.
+    pub(crate) fn next_member(&self, cursor: &mut Cursor) -> Result<Option<usize>, AllocError>
         requires cursor { SitsAt self.now cursor.old.seat × MatchesSeat cursor.old × (cursor.old.steps ≤ member_steps * length cursor.old.seen.items) }
-        ensures done { MatchResult result (λ o. MatchOption o (AtEnd self.now.cells cursor.old [] cursor.new) (λ d. Walked cursor.old (d ∷ []) 0 cursor.new)) (λ _. Walked cursor.old [] 1 cursor.new) }
+        ensures done { MatchResult result (λ o. MatchOption o (AtEnd self.now.cells cursor.old [] cursor.new) (λ place. ReadsOne cursor.old place cursor.new)) (λ _. Walked cursor.old [] 1 cursor.new) }
     {
         let place = cursor.seen.len();
         if place == self.cells as usize {
@@ -67,8 +81,8 @@ impl CellTable {
         if found == 0 {
             return Ok(None);
         }
-        let drawop = self.take_member(cursor, found)?;
-        Ok(Some(drawop))
+        self.take_member(cursor, found)?;
+        Ok(Some(place))
     }
 
     /// Reads all members to the end.
@@ -90,9 +104,9 @@ impl CellTable {
         requires new { ¬ HoldsName cursor.old.seen.items drawop.now.name }
         ensures done { MatchResult result (Sought self.now.cells cursor.old drawop.now cursor.new) (λ _. (more : List DrawopValue) × Walked cursor.old more 1 cursor.new) }
     {
-        while let Some(member) = self.next_member(cursor)? {
-            if is_namesake(&member, drawop) {
-                return Ok(Some(answer(drawop, &member, cursor.seen.len() - 1)));
+        while let Some(place) = self.next_member(cursor)? {
+            if let Some(claim) = answer_at(&cursor.seen, place, drawop) {
+                return Ok(Some(claim));
             }
         }
         Ok(None)

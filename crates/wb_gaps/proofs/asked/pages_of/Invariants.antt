@@ -1,9 +1,9 @@
-use Rattle.std.proofs.Common.{length}
-use Rattle.wb_gaps.proofs.PageSteps.{At}
+use Rattle.std.specs.List.{count_by}
+use Rattle.wb_gaps.proofs.PageSteps.{Found, is_past}
 use Rattle.wb_gaps.proofs.asked.pages_of.Given as goal
 
-abbrev pub invariant-loop-start : goal.invariant-loop-start
-invariant-loop-start l = At l.fn.ranges.entries l.last l.pages.items l.rest
+abbrev pub invariant-loop-page : goal.invariant-loop-page
+invariant-loop-page l = Found l.fn.ranges.entries l.last l.pages.items
 
-abbrev pub decreases-loop-start : goal.decreases-loop-start
-decreases-loop-start l = length l.rest
+abbrev pub decreases-loop-page : goal.decreases-loop-page
+decreases-loop-page l = count_by (is_past l.last) l.fn.ranges.entries

@@ -1,11 +1,8 @@
 use Rattle.std.proofs.Common.{List, subst, sym}
-use Rattle.wb_names.specs.declared.name.PageId.{PageId}
 use Rattle.wb_gaps.specs.Holdings.{HeldRange, HoldNamesOf}
-use Rattle.wb_gaps.specs.Pages.{ArePages}
 use Rattle.wb_gaps.proofs.PageRanges.{pages_are}
 use Rattle.wb_gaps.proofs.holdings.Holdings.pages.Goals as goal
 
 pub returns : goal.returns
 returns c = λ history held.
-    subst (λ (pages : List PageId). ArePages history pages) (sym c.in_ok-pages.ensures.pages)
-    (pages_are c.self.inside.ranges c.pages_of.ensures.ordered c.self.invariant history (subst (λ (rs : List HeldRange). HoldNamesOf history rs) (sym c.self.view_is) held))
+    pages_are c.self.inside.ranges c.pages_of.ensures.ordered c.self.invariant history (subst (λ (rs : List HeldRange). HoldNamesOf history rs) (sym c.self.view_is) held) _ c.in_ok-pages.ensures.pages
