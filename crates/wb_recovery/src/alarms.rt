@@ -81,7 +81,7 @@ impl Alarms {
         self.dues.len()
     }
 
-    /// How many timers are due by this moment. Where none is, it mostly looks at none.
+    /// How many timers are due by this moment. Before the bound no timer is looked at.
     pub(crate) fn count_until(&self, now: u64) -> usize
         ensures { (dues : NameValue → Option ℕ) → Keep dues self.now → CountsUntil now dues result }
     {
@@ -109,8 +109,8 @@ impl Alarms {
         self.dues.values().filter(|due| **due <= now).count()
     }
 
-    /// The names whose timers are due by this moment, ascending, without the stopped ones. Where none
-    /// is due, it mostly looks at none, and takes no memory.
+    /// The names whose timers are due by this moment, ascending, without the stopped ones. Before the
+    /// bound no timer is looked at, and no memory is taken.
     pub(crate) fn names_until(
         &self,
         alloc: Global,
@@ -171,8 +171,29 @@ impl Alarms {
         Ok(names)
     }
 
-    /// Sets the alarm of a name, or moves it.
+    /// Sets the alarm of a name, or moves it. The bound is exact then. A refused call leaves it as it was.
     pub(crate) fn set(&mut self, name: Name, due: u64) -> Result<(), AllocError>
+        ensures ok { OnOk result ((dues : NameValue → Option ℕ) → Keep dues self.old → Keep (with_due dues name (some due)) self.new) }
+        ensures renewed { OnOk result (self.new.is_exact ≡ true) }
+        ensures err { OnErr result ((dues : NameValue → Option ℕ) → Keep dues self.old → Keep dues self.new) }
+        ensures exact { OnErr result (self.new.is_exact ≡ self.old.is_exact) }
+    {
+        self.put(name, due)?;
+        self.renew();
+        Ok(())
+    }
+
+    /// Takes the alarm of a name away. The bound is exact then.
+    pub(crate) fn end(&mut self, name: Name)
+        ensures kept { (dues : NameValue → Option ℕ) → Keep dues self.old → Keep (with_due dues name none) self.new }
+        ensures exact { self.new.is_exact ≡ true }
+    {
+        self.clear(name);
+        self.renew();
+    }
+
+    /// Sets the alarm of a name, or moves it, with a bound that need not be exact.
+    fn put(&mut self, name: Name, due: u64) -> Result<(), AllocError>
         ensures ok { OnOk result ((dues : NameValue → Option ℕ) → Keep dues self.old → Keep (with_due dues name (some due)) self.new) }
         ensures err { OnErr result ((dues : NameValue → Option ℕ) → Keep dues self.old → Keep dues self.new) }
         ensures exact { OnErr result (self.new.is_exact ≡ self.old.is_exact) }
@@ -184,7 +205,8 @@ impl Alarms {
         Ok(())
     }
 
-    /// Moves the alarm of a name that has one, or takes it away. It takes no memory.
+    /// Moves the alarm of a name that has one, or takes it away, as one of many: `renew` comes behind the
+    /// last. It takes no memory.
     pub(crate) fn follow(&mut self, name: Name, due: Option<u64>)
         requires { IsSome (get name_cmp self.old.dues name) }
         ensures { (dues : NameValue → Option ℕ) → Keep dues self.old → Keep (with_due dues name due) self.new }
@@ -200,7 +222,7 @@ impl Alarms {
         }
     }
 
-    /// Takes the alarm of a name away.
+    /// Takes the alarm of a name away, as one of many: `renew` comes behind the last.
     pub(crate) fn clear(&mut self, name: Name)
         ensures { (dues : NameValue → Option ℕ) → Keep dues self.old → Keep (with_due dues name none) self.new }
     {

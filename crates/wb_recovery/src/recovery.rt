@@ -85,6 +85,7 @@ impl Recovery {
     ) -> Result<(), RecoveryFault>
         ensures fault { IsCheckedBy (call_fault self.old.moment now (is_delay delay)) result }
         ensures ok { OnOk result (Accepts (Notice name now delay word) self.old self.new) }
+        ensures moment { OnOk result (self.new.moment ≡ now) }
         ensures err { OnErr result (self.new ≡ self.old) }
     {
         self.check(now, delay < DELAY_LIMIT)?;
@@ -150,7 +151,7 @@ impl Recovery {
     ///
     /// A request timer that fires backs off with its own delay, and takes a word: the first word goes
     /// to the smallest name. An answer timer that fires takes none; it ends, and its name is quiet for
-    /// three of its delays. Where nothing is due, mostly no timer is looked at. The moment is in
+    /// three of its delays. Where nothing is due, the timers are seldom looked at. The moment is in
     /// microseconds. There are at least as many words as `due_count` says at this moment.
     ///
     /// Refused with `BackInTime`, `Range` or `Memory`, in this order.
@@ -164,13 +165,14 @@ impl Recovery {
         ensures fault { IsCheckedBy (call_fault self.old.moment now true) result }
         ensures actions { IfOk result (λ actions. (constants : Constants) (events : List Event) → StandsFor constants events self.old → actions.items ≡ actions_of constants events now) }
         ensures ok { OnOk result (Accepts (Tick now words.now) self.old self.new) }
+        ensures moment { OnOk result (self.new.moment ≡ now) }
         ensures err { OnErr result (self.new ≡ self.old) }
     {
         self.stop_and_tick(alloc, &[], now, words)
     }
 
     /// How many request timers are due at a moment, in microseconds, and so how many words `tick` then
-    /// wants. Where none is due, it mostly looks at none.
+    /// wants. Where none is due, the timers are seldom looked at.
     pub fn due_count(&self, now: u64) -> usize
         ensures count { result ≡ length (due_asks (names_in self.now) (timers_in self.now) now) }
         ensures events { (constants : Constants) (events : List Event) → StandsFor constants events self.now → result ≡ length (due_asks (names_of events) (timers_of constants events) now) }
@@ -275,14 +277,12 @@ impl Recovery {
             return Ok(());
         };
         self.asks.set(name, ask.due)?;
-        self.asks.renew();
         let after = Timers {
             ask: Some(ask),
             ..before
         };
         if self.records.insert(name, after).is_err() {
-            self.asks.clear(name);
-            self.asks.renew();
+            self.asks.end(name);
             return Err(AllocError);
         }
         Ok(())
@@ -304,14 +304,12 @@ impl Recovery {
             return Ok(());
         };
         self.answers.set(name, answer.due)?;
-        self.answers.renew();
         let after = Timers {
             answer: Some(answer),
             ..before
         };
         if self.records.insert(name, after).is_err() {
-            self.answers.clear(name);
-            self.answers.renew();
+            self.answers.end(name);
             return Err(AllocError);
         }
         Ok(())
@@ -324,10 +322,8 @@ impl Recovery {
         requires standing { is_standing before ≡ true }
         ensures { Replaces self.old self.new name (record { ask = none; answer = none; quiet = quiet }) }
     {
-        self.asks.clear(name);
-        self.asks.renew();
-        self.answers.clear(name);
-        self.answers.renew();
+        self.asks.end(name);
+        self.answers.end(name);
         let after = Timers {
             ask: None,
             answer: None,

@@ -6,3 +6,4 @@ pub mod TextLaws
 pub mod LineLaws
 pub mod SpellingLaws
 pub mod Appending
+pub mod AddingLaws

@@ -45,7 +45,12 @@ fn stroke_of(rest: Rest<'_>) -> Result<(Stroke, Rest<'_>), WrongWord>
 }
 
 #[tactic(auto, unfolding(crate::specs::Reading::figure_at))]
-fn figure_of(figure: Figure, name: Name, time: u64, rest: Rest<'_>) -> Result<Drawop, WrongWord>
+pub(crate) fn figure_of(
+    figure: Figure,
+    name: Name,
+    time: u64,
+    rest: Rest<'_>,
+) -> Result<Drawop, WrongWord>
     ensures { result ≡ figure_at figure name time (words_left rest.entry) }
 {
     let (stroke, rest) = stroke_of(rest)?;
@@ -69,7 +74,12 @@ fn text_of(alloc: Global, place: u32, rest: Rest<'_>) -> Result<Vec<u8>, WordsFa
 }
 
 #[tactic(auto, unfolding(crate::specs::Reading::written_at))]
-fn written_of(alloc: Global, name: Name, time: u64, rest: Rest<'_>) -> Result<Drawop, WordsFault>
+pub(crate) fn written_of(
+    alloc: Global,
+    name: Name,
+    time: u64,
+    rest: Rest<'_>,
+) -> Result<Drawop, WordsFault>
     ensures { MayGive (λ d. d) result (written_at name time (words_left rest.entry)) }
 {
     let (x, rest) = coordinate_of(7, rest)?;

@@ -1,7 +1,7 @@
 //! The fields of a datagram from words.
 
 ghost use Rattle.std.specs.Prelude.{◌≡◌, ◌≤◌, IfOk};
-ghost use Rattle.wb_words.specs.Words.{number_in, pair_in, most32, most64};
+ghost use Rattle.wb_words.specs.Words.{number_in, pair_in, most32, most64, most_moment};
 ghost use Rattle.wb_words.specs.Rests.{words_left};
 ghost use Rattle.wb_words.specs.Reading.{Gives, number_at, page_at, glyph_at, name_at, named};
 
@@ -9,6 +9,9 @@ use crate::fault::{WordFault, WrongWord};
 use crate::number::number_in;
 use crate::rest::{Rest, next_word, split_once};
 use wb_names::{Name, PageId};
+
+/// The greatest moment, in microseconds.
+const MAX_MOMENT: u64 = (1 << 48) - 1;
 
 // Each of these reads a field from the word at a place, and gives what follows it.
 
@@ -23,6 +26,14 @@ fn number_of(place: u32, most: u64, rest: Rest<'_>) -> Result<(u64, Rest<'_>), W
         Some(number) => Ok((number, rest)),
         None => Err(WordFault::Number.at(place)),
     }
+}
+
+/// A moment in microseconds, below 2^48.
+pub(crate) fn moment_of(place: u32, rest: Rest<'_>) -> Result<(u64, Rest<'_>), WrongWord>
+    ensures number { Gives (λ x. (x.0, words_left x.1)) result (number_at place most_moment (words_left rest.entry)) }
+    ensures bound { IfOk result (λ x. x.0 ≤ most_moment) }
+{
+    number_of(place, MAX_MOMENT, rest)
 }
 
 /// A number of 64 bits.

@@ -4,6 +4,7 @@
 //! `write_words` gives it, and `read_words` reads it, or says which word is wrong first.
 #![tactic(auto)]
 
+mod adding;
 mod drawing;
 mod entries;
 mod fault;
@@ -17,6 +18,7 @@ mod rest;
 mod text;
 mod writing;
 
+pub use adding::{Adding, read_adding};
 pub use fault::{WordFault, WordsFault, WrongWord};
 pub use fault_text::wrong_text;
 pub use reading::read_words;

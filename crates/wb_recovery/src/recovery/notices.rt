@@ -118,8 +118,7 @@ impl Recovery {
         if timers.ask.is_none() {
             return;
         }
-        self.asks.clear(name);
-        self.asks.renew();
+        self.asks.end(name);
         if had {
             let after = Timers {
                 ask: None,
@@ -127,8 +126,7 @@ impl Recovery {
             };
             rewrite(&mut self.records, name, after);
         } else {
-            self.answers.clear(name);
-            self.answers.renew();
+            self.answers.end(name);
             self.records.remove(&name);
         }
     }

@@ -10,7 +10,7 @@ rewrite-requires c = ap is_standing (ap (λ (v : RecoveryValue). timers_in v c.a
 pub invariant_of-self : goal.invariant_of-self
 invariant_of-self c =
     let is = c.requires.before ∙ sym (ap (λ (v : RecoveryValue). timers_in v c.args.name) c.self.view_is) in
-    consistent_end _ _ c.self.inside.records c.rewrite.new.records c.self.inside.asks c.self.inside.answers c.self.invariant c.args.name c.args.before is c.rewrite.ensures.ordered c.args.quiet c.renew.new.self c.renew-2.new.self c.rewrite.ensures.written (λ dues keep. c.renew.ensures.kept _ (c.clear.ensures dues keep)) (λ dues keep. c.renew-2.ensures.kept _ (c.clear-2.ensures dues keep)) c.renew.ensures.exact c.renew-2.ensures.exact
+    consistent_end _ _ c.self.inside.records c.rewrite.new.records c.self.inside.asks c.self.inside.answers c.self.invariant c.args.name c.args.before is c.rewrite.ensures.ordered c.args.quiet c.end.new.self c.end-2.new.self c.rewrite.ensures.written c.end.ensures.kept c.end-2.ensures.kept c.end.ensures.exact c.end-2.ensures.exact
 
 pub returns : goal.returns
 returns c = replaced_value c.self.inside.records c.rewrite.new.records c.args.name (record { ask = None; answer = None; quiet = c.args.quiet }) c.self.inside.tuning c.self.inside.moment c.args.self.now c.self.view_is c.rewrite.ensures.written

@@ -14,7 +14,7 @@ invariant_of-self-else-is_err c =
     let is = c.requires.before ∙ sym (ap (λ (v : RecoveryValue). timers_in v c.args.name) c.self.view_is) in
     let updates = on_no_err c.insert.result (sym c.is_err.ensures.value ∙ c.if-is_err.false) c.insert.ensures.updates in
     let delay = subst (λ (o : Option AnswerTimer). IfSome o (λ timer. timer.delay < 2 ^ 24)) c.in-Some.is c.requires.delay in
-    consistent_answer _ _ c.self.inside.records c.insert.new.self c.self.inside.asks c.self.inside.answers c.self.invariant c.args.name c.args.before is c.insert.ensures.ordered c.in-Some.answer c.renew.new.self updates.0 delay (λ dues keep. c.renew.ensures.kept _ (c.in_ok-set.ensures.ok dues keep)) c.renew.ensures.exact
+    consistent_answer _ _ c.self.inside.records c.insert.new.self c.self.inside.asks c.self.inside.answers c.self.invariant c.args.name c.args.before is c.insert.ensures.ordered c.in-Some.answer c.set.new.self updates.0 delay c.in_ok-set.ensures.ok c.in_ok-set.ensures.renewed
 
 pub returns-clause-ok : goal.returns-clause-ok
 returns-clause-ok c =
@@ -28,5 +28,5 @@ invariant_of-self-then-is_err c =
     let refused = sym c.is_err.ensures.value ∙ c.if-is_err.true in
     let due = λ (n : NameValue). answer_due (timers_at c.self.inside.records.entries n) in
     let none : due c.args.name ≡ None = ap (λ (o : Option Timers). answer_due (unwrap_or o no_timers)) (on_err c.insert.result refused c.insert.ensures.absent) in
-    consistent_again _ _ c.self.inside.records c.insert.new.self c.self.inside.asks c.self.inside.answers c.self.inside.asks c.renew-then-is_err.new.self c.self.invariant (on_err c.insert.result refused c.insert.ensures.err) c.insert.ensures.ordered
-    c.self.invariant.asks (keep_back due c.args.name (Some c.in-Some.answer.due) c.renew-then-is_err.new.self none (c.renew-then-is_err.ensures.kept _ (c.clear.ensures _ (c.renew.ensures.kept _ (c.in_ok-set.ensures.ok due c.self.invariant.answers))))) c.self.invariant.first_ask c.renew-then-is_err.ensures.exact
+    consistent_again _ _ c.self.inside.records c.insert.new.self c.self.inside.asks c.self.inside.answers c.self.inside.asks c.end.new.self c.self.invariant (on_err c.insert.result refused c.insert.ensures.err) c.insert.ensures.ordered
+    c.self.invariant.asks (keep_back due c.args.name (Some c.in-Some.answer.due) c.end.new.self none (c.end.ensures.kept _ (c.in_ok-set.ensures.ok due c.self.invariant.answers))) c.self.invariant.first_ask c.end.ensures.exact

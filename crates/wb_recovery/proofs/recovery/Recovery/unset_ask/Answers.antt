@@ -10,13 +10,13 @@ use Rattle.wb_recovery.proofs.recovery.Recovery.unset_ask.Goals as goal
 pub invariant_of-self : goal.invariant_of-self
 invariant_of-self c =
     let is = c.timers-timers.ensures.timers ∙ sym (ap (λ (v : RecoveryValue). timers_in v c.args.name) c.self.view_is) in
-    consistent_unset _ _ c.self.inside.records c.rewrite.new.records c.self.inside.asks c.self.inside.answers c.self.invariant c.args.name c.timers-timers.result is c.rewrite.ensures.ordered c.renew.new.self c.rewrite.ensures.written (λ dues keep. c.renew.ensures.kept _ (c.clear.ensures dues keep)) c.renew.ensures.exact
+    consistent_unset _ _ c.self.inside.records c.rewrite.new.records c.self.inside.asks c.self.inside.answers c.self.invariant c.args.name c.timers-timers.result is c.rewrite.ensures.ordered c.end.new.self c.rewrite.ensures.written c.end.ensures.kept c.end.ensures.exact
 
 pub invariant_of-self-else-had : goal.invariant_of-self-else-had
 invariant_of-self-else-had c =
     let is = c.timers-timers.ensures.timers ∙ sym (ap (λ (v : RecoveryValue). timers_in v c.args.name) c.self.view_is) in
     let gone = timers_gone c.self.inside.records c.remove.new.self c.args.name (record_written c.self.inside.records c.remove.new.self c.args.name _ c.remove.ensures.updates.0) in
-    consistent_end _ _ c.self.inside.records c.remove.new.self c.self.inside.asks c.self.inside.answers c.self.invariant c.args.name c.timers-timers.result is c.remove.ensures.ordered 0 c.renew.new.self c.renew-else-had.new.self gone (λ dues keep. c.renew.ensures.kept _ (c.clear.ensures dues keep)) (λ dues keep. c.renew-else-had.ensures.kept _ (c.clear-else-had.ensures dues keep)) c.renew.ensures.exact c.renew-else-had.ensures.exact
+    consistent_end _ _ c.self.inside.records c.remove.new.self c.self.inside.asks c.self.inside.answers c.self.invariant c.args.name c.timers-timers.result is c.remove.ensures.ordered 0 c.end.new.self c.end-else-had.new.self gone c.end.ensures.kept c.end-else-had.ensures.kept c.end.ensures.exact c.end-else-had.ensures.exact
 
 pub returns-then-had-clause-back : goal.returns-then-had-clause-back
 returns-then-had-clause-back c = λ n.

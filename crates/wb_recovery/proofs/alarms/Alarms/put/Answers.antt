@@ -2,8 +2,8 @@ use Rattle.std.proofs.Common.{◌≡◌, ◌⊎◌, true, refl, ap, sym, ◌∙�
 use Rattle.wb_recovery.specs.Alarms.{earlier}
 use Rattle.wb_recovery.proofs.Outcomes.{even_on_err}
 use Rattle.wb_recovery.proofs.AlarmMoves.{keep_set, keep_unchanged}
-use Rattle.wb_recovery.proofs.alarms.Alarms.set.Goals as goal
-use Rattle.wb_recovery.proofs.alarms.Alarms.set.Goals.{then-soonest-due, else-soonest-due}
+use Rattle.wb_recovery.proofs.alarms.Alarms.put.Goals as goal
+use Rattle.wb_recovery.proofs.alarms.Alarms.put.Goals.{then-soonest-due, else-soonest-due}
 
 which : (c : goal.After-self-2-1) → c.if-soonest-due.self ≡ true → (earlier c.args.self.now.soonest c.args.due ≡ c.args.due) ⊎ ((c.args.self.now.is_exact ≡ true) × (c.in_ok-old.old ≡ c.args.self.now.soonest → ⊥))
 which c e = elim c.if-soonest-due.branch [
