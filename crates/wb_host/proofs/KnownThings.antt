@@ -1,5 +1,5 @@
 -- The pages and numbers that a keeper knows of, from what its maps hold and from its calls.
-use Rattle.std.proofs.Common.{◌≡◌, ◌≢◌, ℕ, ◌+◌, ◌<◌, Bool, true, false, cond, List, [], ◌∷◌, ◌++◌, Option, Some, None, length, get_or, take, refl, ap, ◌∙◌, sym, subst, arith, true≢false, ◌⊎◌, inl, inr, ⊎_elim}
+use Rattle.std.proofs.Common.{◌≡◌, ◌≢◌, ℕ, Bool, true, false, cond, List, [], ◌∷◌, ◌++◌, Option, Some, None, refl, ap, ◌∙◌, sym, subst, true≢false, ◌⊎◌, inl, inr, ⊎_elim}
 use Rattle.std.specs.Prelude.{Contains, Any, IsPermutation, ◌↔◌, map, max, unwrap_or}
 use Rattle.std.specs.BTreeMap.{is_at}
 use Rattle.std.specs.Cmp.{eq_by_cmp_equiv}
@@ -7,13 +7,11 @@ use Rattle.std.specs.List.{cons_option, dedup, filter_map}
 use Rattle.std.specs.List.Sorted.{IsSorted, IsStrictlySortedBy}
 use Rattle.std.specs.Map.{lookup, keys_of}
 use Rattle.std.specs.Ordering.{is_eq, eq_by_cmp}
-use Rattle.std.proofs.lemmas.List.{take_more}
 use Rattle.std.proofs.lemmas.List.Elements.{Contains-append_cases, Contains-append_left, Contains-append_right}
 use Rattle.std.proofs.lemmas.Map.Keys.{IsDistinct-from_sorted}
 use Rattle.std.proofs.lemmas.Map.Views.{Contains-from_lookup, lookup-from_Contains}
 use Rattle.wb_names.specs.Values.{DrawopValue, MarkValue}
 use Rattle.wb_names.specs.Orders.{page_cmp, same_page}
-use Rattle.wb_names.specs.History.{is_of, highest}
 use Rattle.wb_names.specs.declared.name.PageId.{PageId}
 use Rattle.wb_names.proofs.Orders.{page_total, same_page-is, page_ties, equality}
 use Rattle.wb_names.proofs.Listings.{Contains-cases, Contains-none, Contains-here, Contains-there, lists_from_dedup, lists_same, one_list, Any-from_map, Contains-map}
@@ -183,12 +181,3 @@ marked entries rises q = (has, some (lookup (is_at (page_cmp q)) entries) refl) 
   some None e h = absurd (h refl)
   some (Some []) e h = absurd (h refl)
   some (Some (m ∷ ms)) e h = to_pages entries q m ms (Contains-from_lookup page_is q (m ∷ ms) entries e)
-
--- ---- the greatest number of a source
-
--- one drawop more
-pub highest_more : (page : PageId) (source : ℕ) (history : List DrawopValue) (i : ℕ) (d : DrawopValue) → i < length history → d ≡ get_or history i d → highest page source (take (i + 1) history) ≡ max (cond (is_of page source d) d.name.seq 0) (highest page source (take i history))
-highest_more page source history i d lt is = ap (highest page source) (take_more history i d lt ∙ sym (ap (λ (x : DrawopValue). take i history ++ x ∷ []) is)) ∙ last (take i history) where
-  last : (ds : List DrawopValue) → highest page source (ds ++ d ∷ []) ≡ max (cond (is_of page source d) d.name.seq 0) (highest page source ds)
-  last [] = refl
-  last (x ∷ ds) = let e = last ds in omega arith

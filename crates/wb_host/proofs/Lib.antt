@@ -17,6 +17,7 @@ pub mod HeardNumbers
 pub mod MergedNumbers
 pub mod NextDues
 pub mod KnownThings
+pub mod LastNumbers
 pub mod MapEdits
 pub mod HeardCalls
 pub mod StoppedTimers

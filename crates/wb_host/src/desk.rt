@@ -161,6 +161,13 @@ impl Desk {
         Ok(number)
     }
 
+    /// The greatest number of a source on a page, of what it has seen. It takes in nothing, and so it needs no memory.
+    pub(crate) fn last_number(&self, page: PageId, source: u32) -> u32
+        ensures { result ≡ highest page source self.now.seen }
+    {
+        self.held.highest(self.list(), page, source)
+    }
+
     /// The pages of what it has seen.
     pub(crate) fn pages(&mut self, alloc: Global) -> Result<Vec<PageId>, AllocError>
         ensures same { self.new ≡ self.old }

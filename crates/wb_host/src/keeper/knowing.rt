@@ -1,12 +1,11 @@
 //! What a keeper knows of: pages, and the numbers of a source.
 
-ghost use Rattle.std.specs.Prelude.{◌≡◌, ◌≢◌, ◌↔◌, [], ℕ, List, Contains, IfOk, OnOk, if◌then◌else◌};
+ghost use Rattle.std.specs.Prelude.{◌≡◌, ◌≢◌, ◌↔◌, [], ℕ, List, Contains, IfOk, OnOk};
 ghost use Rattle.std.specs.List.Sorted.{IsStrictlySortedBy};
 ghost use Rattle.std.specs.Map.{keys_of};
 ghost use Rattle.wb_names.specs.Ascending.{AreMarks};
 ghost use Rattle.wb_names.specs.Orders.{page_cmp};
 ghost use Rattle.wb_history.specs.Passes.{IsPassOf, IsCaughtUp};
-ghost use Rattle.wb_names.specs.History.{highest, is_of};
 ghost use Rattle.wb_names.specs.Marks.{known, mark_of};
 ghost use Rattle.wb_names.specs.declared.name.PageId.{PageId};
 ghost use Rattle.wb_recovery.specs.declared.tuning.Tuning.{Tuning as Constants};
@@ -19,7 +18,7 @@ use crate::board::Board;
 use crate::desk::Desk;
 use crate::keeper::Keeper;
 use std::alloc::{AllocError, Global};
-use wb_names::{Drawop, Mark, Marks, PageId};
+use wb_names::{Mark, Marks, PageId};
 
 impl Keeper {
     /// The pages that have a drawop or of which some mark was heard, ascending, each once. It reads the
@@ -64,7 +63,7 @@ impl Keeper {
         ensures value { (me : ℕ) (constants : Constants) (calls : List KeeperCall) → StandsFor me constants calls self.now → result ≡ known_number me calls desk.now.seen page source }
     {
         let heard = number_of(self.marks(page).as_slice(), source);
-        heard.max(highest(desk.list(), page, source))
+        heard.max(desk.last_number(page, source))
     }
 }
 
@@ -86,28 +85,5 @@ pub(super) fn number_of(marks: &[Mark], source: u32) -> u32
     match marks.binary_search_by_key(&source, |mark| mark.source()) {
         Ok(place) => marks[place].high(),
         Err(_) => 0,
-    }
-}
-
-/// The greatest number of a source on a page, or 0 where it has no drawop there.
-fn highest(list: &[Drawop], page: PageId, source: u32) -> u32
-    ensures { result ≡ highest page source list.now }
-{
-    let mut highest = 0;
-    for drawop in list {
-        highest = number_on(drawop, page, source).max(highest);
-    }
-    highest
-}
-
-/// The number of a drawop, where it is of the source and on the page, and else 0.
-fn number_on(drawop: &Drawop, page: PageId, source: u32) -> u32
-    ensures { result ≡ (if is_of page source drawop.now then drawop.now.name.seq else 0) }
-{
-    let name = drawop.name();
-    if name.page() == page && name.source() == source {
-        name.seq()
-    } else {
-        0
     }
 }

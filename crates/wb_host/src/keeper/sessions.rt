@@ -70,7 +70,7 @@ impl Keeper {
         }
     }
 
-    /// The same, as a list.
+    /// The echoes at a moment, as a list.
     fn heard_echoes(&self, alloc: Global, now: u64) -> Result<Vec<Echo>, AllocError>
         ensures ordered { IsStrictlySortedBy nat_cmp (keys_of self.now.heard) }
         ensures few { length self.now.heard ≤ 65535 }

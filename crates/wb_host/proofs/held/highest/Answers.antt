@@ -1,7 +1,7 @@
 use Rattle.std.proofs.Common.{ℕ, ◌∙◌, ap, sym}
 use Rattle.std.specs.Prelude.{max}
-use Rattle.wb_host.proofs.KnownThings.{highest_more}
-use Rattle.wb_host.proofs.keeper.knowing.highest.Goals as goal
+use Rattle.wb_host.proofs.LastNumbers.{highest_more}
+use Rattle.wb_host.proofs.held.highest.Goals as goal
 
 pub loop-drawop-preserved : goal.loop-drawop-preserved
 loop-drawop-preserved c =
