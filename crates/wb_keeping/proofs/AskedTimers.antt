@@ -1,17 +1,24 @@
 -- The names that a host asks for, and their timers.
-use Rattle.std.proofs.Common.{◌≡◌, ℕ, suc, Bool, true, false, List, [], ◌∷◌, ◌∙◌, Option, Some, None, ap, cond, is_some, refl, sym, subst}
+use Rattle.std.proofs.Common.{◌≡◌, ℕ, suc, Bool, true, false, List, [], ◌∷◌, ◌∙◌, Option, Some, None, ap, cond, is_some, refl, sym, subst, arith, true≢false}
 use Rattle.std.specs.Prelude.{filter, length, map, ◌||◌}
 use Rattle.std.specs.List.{cons_option, find, list_any, filter_map}
 use Rattle.std.specs.Option.{option_map}
 use Rattle.wb_names.specs.Orders.{same_name}
 use Rattle.wb_names.specs.Values.{NameValue}
 use Rattle.wb_names.proofs.Orders.{same_name-is}
-use Rattle.wb_recovery.specs.Events.{asking}
+use Rattle.wb_recovery.specs.Events.{asking, names_of, timers_of}
+use Rattle.wb_recovery.proofs.TimerLaws.{unnamed}
+use Rattle.std.specs.Prelude.{Contains}
+use Rattle.std.proofs.lemmas.Bool.Decides.{nat_tests}
+use Rattle.std.proofs.lemmas.List.Folds.{list_any_at}
+use Rattle.wb_member.specs.Judged.{asked_names, level as member_level}
+use Rattle.wb_member.specs.Opened.{Opened, events}
+use Rattle.wb_keeping.specs.Policy.{level}
 use Rattle.wb_recovery.specs.declared.timers.AskTimer.{AskTimer}
 use Rattle.wb_recovery.specs.declared.timers.Timers.{Timers}
 use Rattle.wb_host.specs.GivingUp.{level as level_in}
 use Rattle.wb_keeping.specs.Kept.{Line, Stops}
-use Rattle.wb_keeping.specs.Performing.{asked_name, asked_with}
+use Rattle.wb_keeping.specs.Performing.{asked_name, asked_with, view_of}
 use Rattle.wb_keeping.specs.declared.wanting.AskedName.{AskedName}
 
 abbrev pub is_of : NameValue → AskedName → Bool
@@ -88,3 +95,24 @@ counted timers names = sym (count (asked_with timers names)) ∙ ap (λ (ns : Li
 pub stops_named : (asked : List AskedName) → map (λ (a : AskedName). Stops a.name) asked ≡ map Stops (map (λ (a : AskedName). a.name) asked)
 stops_named [] = refl
 stops_named (a ∷ asked) = ap (λ (lines : List Line). Stops a.name ∷ lines) (stops_named asked)
+
+-- ---- of a host
+
+same_itself : (n : NameValue) → same_name n n ≡ true
+same_itself n = grind (arith, nat_tests)
+
+amid_from : (x : NameValue) (names : List NameValue) → Contains names x → amid x names ≡ true
+amid_from x names (i, lt, e) = list_any_at (λ (n : NameValue). same_name n x) names i x lt (ap (λ (n : NameValue). same_name n x) e ∙ same_itself x)
+
+pub level_seen : (host : Opened) (x : NameValue) → level (view_of host) x ≡ member_level host x
+level_seen host x = levels (timers_of host.is.constants (events host)) x (names_of (events host)) (λ away.
+    ap (λ (t : Timers). t.ask) (unnamed host.is.constants (events host) x (λ c. true≢false (sym (amid_from x (names_of (events host)) c) ∙ away))))
+
+pub asked_seen : (host : Opened) → asked_with (timers_of host.is.constants (events host)) (asked_names host) ≡ (view_of host).asked
+asked_seen host = again (timers_of host.is.constants (events host)) (names_of (events host))
+
+pub count_seen : (host : Opened) → length (view_of host).asked ≡ length (asked_names host)
+count_seen host = counted (timers_of host.is.constants (events host)) (names_of (events host))
+
+pub stops_seen : (host : Opened) → map (λ (a : AskedName). Stops a.name) (view_of host).asked ≡ map Stops (asked_names host)
+stops_seen host = stops_named (view_of host).asked ∙ ap (λ (ns : List NameValue). map Stops ns) (named (timers_of host.is.constants (events host)) (names_of (events host)))

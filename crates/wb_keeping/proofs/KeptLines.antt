@@ -22,7 +22,7 @@ slices_are_short told marks = let few = length-take 64 (filter (λ (m : MarkValu
 -- ---- what is wanted
 
 -- the first and the last of four conditions
-all_hold : (held full kept credit : Bool) → (not held && (not full && (not kept && credit))) ≡ true → IsTrue credit × (held ≡ false)
+pub all_hold : (held full kept credit : Bool) → (not held && (not full && (not kept && credit))) ≡ true → IsTrue credit × (held ≡ false)
 all_hold false false false credit e = (e, refl)
 all_hold false false true credit e = absurd (true≢false (sym e))
 all_hold false true kept credit e = absurd (true≢false (sym e))

@@ -6,15 +6,15 @@ use Rattle.wb_keeping.specs.Laws.{Spending, Asks, Comes, owed_after, asks_in, co
 
 -- What is owed grows by each name that is asked for, and falls by each that comes. So names that were asked for and did not
 -- come are owed, unless time paid for them.
-record IsPaid (start end owed asks comes : ℕ) : Type 0 where
-  after : start ≤ end
-  owes : start + asks * 250000 ≤ max owed end + comes * 250000
-  few : asks * 250000 ≤ (64 + comes) * 250000 + (end - start)
+pub record IsPaid (start end owed asks comes : ℕ) : Type 0 where
+  pub after : start ≤ end
+  pub owes : start + asks * 250000 ≤ max owed end + comes * 250000
+  pub few : asks * 250000 ≤ (64 + comes) * 250000 + (end - start)
 
-one_asked : (start now end owed asks comes : ℕ) → now ≤ end → max owed now - now ≤ 63 * 250000 → IsPaid start now owed asks comes → IsPaid start end (max owed now + 250000) (asks + 1) comes
+pub one_asked : (start now end owed asks comes : ℕ) → now ≤ end → max owed now - now ≤ 63 * 250000 → IsPaid start now owed asks comes → IsPaid start end (max owed now + 250000) (asks + 1) comes
 one_asked start now end owed asks comes later credit p = record { after = omega arith; owes = omega arith; few = omega arith }
 
-one_came : (start end owed asks comes : ℕ) → IsPaid start end owed asks comes → IsPaid start end (owed - 250000) asks (comes + 1)
+pub one_came : (start end owed asks comes : ℕ) → IsPaid start end owed asks comes → IsPaid start end (owed - 250000) asks (comes + 1)
 one_came start end owed asks comes p = record { after = omega arith; owes = omega arith; few = omega arith }
 
 paid : (owed start end : ℕ) (spending : List Spending) → IsSpent owed start end spending → IsPaid start end (owed_after owed spending) (asks_in spending) (comes_in spending)

@@ -1,8 +1,18 @@
 -- Laws of a policy.
-use Rattle.std.specs.Prelude.{◌≡◌, ◌⊎◌, ℕ, ◌+◌, ◌-◌, ◌*◌, ◌≤◌, Bool, false, List, [], ◌∷◌, IsTrue, Option, length, nat_le}
+use Rattle.std.specs.Prelude.{◌≡◌, ◌⊎◌, ℕ, ◌+◌, ◌-◌, ◌*◌, ◌≤◌, ◌<◌, Bool, false, List, [], ◌∷◌, ◌++◌, IsTrue, Option, None, length, map, nat_le}
+use Rattle.wb_names.specs.Ascending.{AreEchoes}
+use Rattle.wb_names.specs.Drawing.{op_fault}
 use Rattle.wb_names.specs.Values.{MarkValue, NameValue}
+use Rattle.wb_names.specs.declared.echo.Echo.{Echo}
+use Rattle.wb_names.specs.declared.name.PageId.{PageId}
+use Rattle.wb_names.specs.declared.parts.Op.{Op}
 use Rattle.wb_codec.specs.declared.datagram.Datagram.{Datagram}
-use Rattle.wb_keeping.specs.Kept.{Line, Ticks, came, still, ticks, want}
+use Rattle.wb_recovery.specs.declared.tuning.Tuning.{Tuning}
+use Rattle.wb_member.specs.Opened.{last_number, opened_with, present}
+use Rattle.wb_keeping.specs.Kept.{Line, Ticks, Transition, adds, came, drawing, last_heard, still, ticks, want}
+use Rattle.wb_keeping.specs.Performing.{Keeping, after_doing, after_lines, sees, sent_by_doing, sent_by_lines, view_of}
+use Rattle.wb_keeping.specs.Refusing.{add_fault, came_fault, tick_fault}
+use Rattle.wb_keeping.specs.declared.kept_fault.KeptFault.{KeptFault}
 use Rattle.wb_keeping.specs.Policy.{Policy, View, after_wanting, holds}
 use Rattle.wb_keeping.specs.Questions.{is_due}
 use Rattle.wb_keeping.specs.Reports.{slice_after}
@@ -60,3 +70,61 @@ WantedIsPaid = (name : NameValue) (anew : Bool) (see : List Line → View) (p : 
 -- a report or a page state has at most 64 marks, whatever is held
 abbrev pub SlicesAreShort : Type 0
 SlicesAreShort = (told : Option ℕ) (marks : List MarkValue) → length (slice_after told marks) ≤ 64
+
+-- ---- a kept host, line by line
+
+-- what its driver hands in
+pub data KeptLine : Type 0 where
+  Came : (now : ℕ) (v : Datagram) → KeptLine
+  Ticked : (now : ℕ) → KeptLine
+  Added : (now : ℕ) (page : PageId) (time : ℕ) (op : Op) → KeptLine
+
+abbrev pub doing_of : KeptLine → Transition
+doing_of (Came now v) = came now v
+doing_of (Ticked now) = ticks now
+doing_of (Added now page time op) = adds now page time op
+
+abbrev pub fault_of : KeptLine → Keeping → Option KeptFault
+fault_of (Came now v) k = came_fault now v k
+fault_of (Ticked now) k = tick_fault now k
+fault_of (Added now page time op) k = add_fault now page time op k
+
+-- each of these lines is taken, and none is refused
+abbrev pub AreTaken : List KeptLine → Keeping → Type 0
+AreTaken [] k = Unit {0}
+AreTaken (line ∷ lines) k = (fault_of line k ≡ None) × AreTaken lines (after_doing (doing_of line) k)
+
+abbrev pub after_kept : List KeptLine → Keeping → Keeping
+after_kept [] k = k
+after_kept (line ∷ lines) k = after_kept lines (after_doing (doing_of line) k)
+
+abbrev pub sent_by_kept : List KeptLine → Keeping → List Datagram
+sent_by_kept [] k = []
+sent_by_kept (line ∷ lines) k = sent_by_doing (doing_of line) k ++ sent_by_kept lines (after_doing (doing_of line) k)
+
+-- the lines of today in their place
+abbrev pub expand : List KeptLine → Keeping → List Line
+expand [] k = []
+expand (line ∷ lines) k = (doing_of line (sees k.host) k.policy).lines ++ expand lines (after_doing (doing_of line) k)
+
+-- A kept host is a host whose driver hands in the expanded lines: it is what that host is, and sends what that sends, in order.
+abbrev pub KeptHostsAreHosts : Type 0
+KeptHostsAreHosts = (lines : List KeptLine) (k : Keeping)
+    → ((after_kept lines k).host ≡ after_lines (expand lines k) k.host) × (sent_by_kept lines k ≡ sent_by_lines (expand lines k) k.host)
+
+-- Whatever comes in, a member that keeps itself from its opening on, but for ticks, has a number left on each page.
+abbrev pub ANumberIsLeft : Type 0
+ANumberIsLeft = (constants : Tuning) (number cells seed : ℕ) (moments : List ℕ) (policy : Policy) (lines : List KeptLine)
+    → let start : Keeping = record { host = after_lines (map Ticks moments) (opened_with constants number cells seed); policy = policy } in
+    cells ≤ 65535 → AreTaken lines start → (page : PageId) → last_number page (after_kept lines start).host < 4294967295
+
+-- So a drawing is refused before the present moment, while the member listens, and where its operation is none of a drawop under the
+-- next number, and at no other time.
+abbrev pub DrawingIsNotLocked : Type 0
+DrawingIsNotLocked = (now : ℕ) (page : PageId) (time : ℕ) (op : Op) (k : Keeping)
+    → last_number page k.host < 4294967295 → present k.host ≤ now → k.policy.ready ≤ now → op_fault (drawing (view_of k.host) page time op).name op ≡ None
+    → add_fault now page time op k ≡ None
+
+-- A report has at most 64 marks and 32 echoes, and so at most 1,184 bytes.
+abbrev pub ReportsAreSmall : Type 0
+ReportsAreSmall = (told : Option ℕ) (marks : List MarkValue) (echoes : List Echo) → AreEchoes echoes → 32 + 8 * length (slice_after told marks) + 20 * length (last_heard echoes) ≤ 1184

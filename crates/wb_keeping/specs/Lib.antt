@@ -9,4 +9,8 @@ pub mod Drawings
 pub mod Policy
 pub mod Kept
 pub mod Performing
+pub mod Refusing
+pub mod Steps
 pub mod Laws
+pub mod Bounds
+pub mod Fairness

@@ -133,9 +133,9 @@ pub record IsKeptAt (v : KeptValue) (k : Keeping) : Type 0 where
 
 -- A transition was performed: whichever host the code was at, it is where that leads, and what was to be sent before is followed
 -- by what that sends.
-abbrev pub Does : Transition → KeptValue → KeptValue → List Datagram → List Datagram → Type 0
-Does does old new before after = (k : Keeping) → IsKeptAt old k → (after ≡ before ++ sent_by_doing does k) × IsKeptAt new (after_doing does k)
+pub record Does (does : Transition) (old new : KeptValue) (before after : List Datagram) : Type 0 where
+  pub at : (k : Keeping) → IsKeptAt old k → (after ≡ before ++ sent_by_doing does k) × IsKeptAt new (after_doing does k)
 
 -- one that sends nothing
-abbrev pub DoesQuietly : Transition → KeptValue → KeptValue → Type 0
-DoesQuietly does old new = (sent : List Datagram) → Does does old new sent sent
+pub record DoesQuietly (does : Transition) (old new : KeptValue) : Type 0 where
+  pub sends : (sent : List Datagram) → Does does old new sent sent

@@ -1,13 +1,14 @@
 //! Which part of what is heard or held a policy takes.
-ghost use Rattle.std.specs.Prelude.{◌≡◌, ◌≤◌, ◌<◌, IfOk, Bool, filter, length, nat_eq, nat_le, nat_lt, ◌&&◌};
+ghost use Rattle.std.specs.Prelude.{◌≡◌, ◌≤◌, ◌<◌, IfOk, Bool, filter, length, map, nat_eq, nat_le, nat_lt, ◌&&◌};
+ghost use Rattle.wb_names.specs.History.{name_of};
 ghost use Rattle.std.specs.List.{count_by};
-ghost use Rattle.wb_keeping.specs.Kept.{distance_in, heard_later, last_heard, last_source, own_echo, own_marks};
+ghost use Rattle.wb_keeping.specs.Kept.{distance_in, downwards, heard_later, last_heard, last_source, near_names, own_echo, own_marks, told_names};
 ghost use Rattle.wb_keeping.specs.Reports.{slice_after};
 ghost use Rattle.std.specs.Prelude.{None};
 
 use crate::reports::slice_after;
 use std::alloc::{AllocError, Global};
-use wb_names::{Echo, Echoes, Mark, Marks, Name};
+use wb_names::{Echo, Echoes, Mark, Marks, Name, PageId};
 use wb_recovery::distance;
 
 /// Marks of this member are believed below this number.
@@ -32,7 +33,7 @@ pub(crate) fn own_marks(
     Ok(Marks::from_ascending(own))
 }
 
-/// The same, as a list.
+/// The marks of this member that are believed, as a list.
 fn believed(alloc: Global, me: u32, listens: bool, marks: &[Mark]) -> Result<Vec<Mark>, AllocError>
     ensures { IfOk result (λ own. own.items ≡ own_marks me listens marks.now) }
 {
@@ -55,7 +56,7 @@ pub(crate) fn own_echo(alloc: Global, me: u32, echoes: &Echoes) -> Result<Echoes
     Ok(Echoes::from_ascending(own))
 }
 
-/// The same, as a list.
+/// The echoes of this member, as a list.
 fn echoes_of(alloc: Global, me: u32, echoes: &[Echo]) -> Result<Vec<Echo>, AllocError>
     ensures { IfOk result (λ own. own.items ≡ own_echo me echoes.now) }
 {
@@ -81,7 +82,7 @@ pub(crate) fn last_heard(alloc: Global, echoes: &Echoes) -> Result<Echoes, Alloc
     Ok(Echoes::from_ascending(last))
 }
 
-/// The same, as a list.
+/// The 32 senders that were heard last, as a list.
 fn latest(alloc: Global, all: &[Echo]) -> Result<Vec<Echo>, AllocError>
     ensures { IfOk result (λ last. last.items ≡ last_heard all.now) }
 {
@@ -126,12 +127,52 @@ pub(crate) fn last_source(marks: &[Mark]) -> Option<u32>
     last
 }
 
+/// The names of the marks of a page, but for numbers of this member from 2^31 on, which nobody but a forger tells.
+pub(crate) fn told_names(
+    alloc: Global,
+    me: u32,
+    page: PageId,
+    marks: &Marks,
+) -> Result<Vec<Name>, AllocError>
+    ensures { IfOk result (λ names. names.items ≡ told_names me page marks.now) }
+{
+    let told = marks
+        .as_slice()
+        .iter()
+        .filter(|mark| !is_forged(me, **mark));
+    told.map(|mark| name_of(page, *mark)).collect(alloc)
+}
+
+/// Whether it is a mark of this member from 2^31 on.
+fn is_forged(me: u32, mark: Mark) -> bool
+    ensures { result ≡ (nat_eq mark.source me && nat_le 2147483648 mark.high) }
+{
+    mark.source() == me && FORGED <= mark.high()
+}
+
+/// The name of a mark of a page.
+fn name_of(page: PageId, mark: Mark) -> Name
+    ensures { result ≡ name_of page mark.source mark.high }
+{
+    Name::new(mark.source(), page, mark.high()).unwrap()
+}
+
 /// The names near one, from 64 above to 64 below, down to number 1 and below the greatest that is held.
-pub(crate) fn near_names(alloc: Global, name: &Name, top: u32) -> Result<Vec<Name>, AllocError> {
+pub(crate) fn near_names(alloc: Global, name: &Name, top: u32) -> Result<Vec<Name>, AllocError>
+    ensures { IfOk result (λ names. names.items ≡ near_names name.now top) }
+{
     let high = name.seq().saturating_add(REACH).min(top.saturating_sub(1));
     let low = name.seq().saturating_sub(REACH).max(1);
+    names_down(alloc, name, high, (high + 1).saturating_sub(low))
+}
+
+/// So many names of the source and page of one, from a number down.
+fn names_down(alloc: Global, name: &Name, high: u32, count: u32) -> Result<Vec<Name>, AllocError>
+    requires { count ≤ high }
+    ensures { IfOk result (λ names. names.items ≡ map (name_of name.now.page name.now.source) (downwards high count)) }
+{
     let mut names = Vec::new(alloc);
-    for below in 0..(high + 1).saturating_sub(low) {
+    for below in 0..count {
         names.push(Name::new(name.source(), name.page(), high - below).unwrap())?;
     }
     Ok(names)

@@ -26,18 +26,34 @@ pub enum KeptFault {
 }
 
 impl From<KeepFault> for KeptFault {
+    ghost use Rattle.std.specs.Prelude.{◌≡◌};
+    ghost use Rattle.wb_keeping.specs.declared.kept_fault.KeptFault.TheVariants as kept_faults;
+
+    ghost from_gives = { λ fault kept. kept ≡ kept_faults.Host fault };
+
     fn from(fault: KeepFault) -> KeptFault {
         KeptFault::Host(fault)
     }
 }
 
 impl From<AllocError> for KeptFault {
+    ghost use Rattle.std.specs.Prelude.{◌≡◌};
+    ghost use Rattle.wb_host.specs.declared.keep_fault.KeepFault.TheVariants as keep_faults;
+    ghost use Rattle.wb_keeping.specs.declared.kept_fault.KeptFault.TheVariants as kept_faults;
+
+    ghost from_gives = { λ _ kept. kept ≡ kept_faults.Host keep_faults.Memory };
+
     fn from(_error: AllocError) -> KeptFault {
         KeptFault::Host(KeepFault::Memory)
     }
 }
 
 impl From<FieldFault> for KeptFault {
+    ghost use Rattle.std.specs.Prelude.{◌≡◌};
+    ghost use Rattle.wb_keeping.specs.declared.kept_fault.KeptFault.TheVariants as kept_faults;
+
+    ghost from_gives = { λ fault kept. kept ≡ kept_faults.Operation fault };
+
     fn from(fault: FieldFault) -> KeptFault {
         KeptFault::Operation(fault)
     }

@@ -1,11 +1,13 @@
 //! A member that keeps itself: it does what its policy judges, and hands out what is to be sent.
-ghost use Rattle.std.specs.Prelude.{◌≡◌, ◌≤◌, ◌<◌, ◌^◌, IfOk, IsErr, IsTrue, nat_lt};
-ghost use Rattle.wb_host.specs.declared.keep_fault.KeepFault.TheVariants.{BackInTime};
-ghost use Rattle.wb_member.specs.Holding.{IsOpenAt};
+ghost use Rattle.std.specs.Prelude.{◌≡◌, ◌≤◌, ◌<◌, ◌^◌, [], IfOk, IsTrue, is_some, nat_le};
+ghost use Rattle.wb_names.specs.Faults.{value_unless};
+ghost use Rattle.wb_names.specs.Shapes.{op_of};
+ghost use Rattle.wb_member.specs.Holding.{IsOpenAt, outcome_in};
 ghost use Rattle.wb_member.specs.Opened.{Opened, present};
-ghost use Rattle.wb_keeping.specs.Performing.{IsKeptAt, Keeping, due};
-ghost use Rattle.wb_keeping.specs.declared.kept_fault.KeptFault.TheVariants as refusals;
+ghost use Rattle.wb_keeping.specs.Kept.{adds, came, drawing, ticks};
+ghost use Rattle.wb_keeping.specs.Performing.{IsKeptAt, Keeping, after_doing, due, sent_by_doing, view_of};
 ghost use Rattle.wb_keeping.specs.Policy.{begun};
+ghost use Rattle.wb_keeping.specs.Refusing.{IsRefusedBy, add_fault, came_as, came_fault, drawing_fault, drawn_as, is_unknown, is_unknown_of_ours, tick_fault};
 
 mod asking;
 mod hearing;
@@ -19,15 +21,19 @@ use crate::policy::{Policy, sooner};
 use std::alloc::Global;
 use std::marker::Model;
 use wb_codec::Datagram;
-use wb_host::KeepFault;
+use wb_host::{KeepFault, Reply};
 use wb_member::Member;
 use wb_names::{Drawop, Name, PageId, Shape};
+
+/// From this number on a number of its own is one that the member would never come to.
+const FORGED: u32 = 1 << 31;
 
 /// A member of a session, and the policy that it keeps itself by: it is handed datagrams, moments and drawings, and
 /// gives what is to be sent.
 ///
 /// What it does is the list of lines of `specs/Kept.antt`, performed by the member. So the contracts speak of each member at
-/// which the code may be, as those of `Member` do.
+/// which the code may be, as those of `Member` do. A call that is refused changes nothing. Without memory it has performed the
+/// first of its lines, or none, and what these sent is lost, as a datagram may be.
 #[derive(Drop)]
 pub struct KeptMember {
     member: Member,
@@ -42,6 +48,15 @@ impl Model for KeptMember {
     ghost view = { λ k. record { member = k.member; policy = k.policy } };
 }
 
+/// What follows from a datagram that came, or from a drawing.
+#[derive(Drop)]
+pub struct Done {
+    /// What is to be sent, in this order.
+    pub sent: Vec<Datagram>,
+    /// What became of the drawop that came or was drawn: None where the board is full, or no drawop came.
+    pub became: Option<Reply>,
+}
+
 impl KeptMember {
     /// A member keeps itself from its present moment on. The reports of all members together may take so many bytes a second,
     /// from 1 on. For so many microseconds, below 2^32, nothing is added. The seed is that of the member.
@@ -54,37 +69,46 @@ impl KeptMember {
         KeptMember { member, policy }
     }
 
-    /// A datagram came in at a moment of its clock, in microseconds. Answers what is to be sent.
-    pub fn came(
-        &mut self,
-        alloc: Global,
-        now: u64,
-        datagram: &Datagram,
-    ) -> Result<Vec<Datagram>, KeptFault>
+    /// A datagram came in at a moment of its clock, in microseconds below 2^48. Answers what is to be sent, and what became of
+    /// a drawop. Refused before the present moment, and where it is a drawop of this member's own number that it would never
+    /// come to and does not hold.
+    pub fn came(&mut self, alloc: Global, now: u64, datagram: &Datagram) -> Result<Done, KeptFault>
         requires { now < 2 ^ 48 }
+        ensures fault { (k : Keeping) → IsKeptAt self.old k → IsRefusedBy (came_fault now datagram.now k) result }
+        ensures refused { (k : Keeping) → IsKeptAt self.old k → IsTrue (is_some (came_fault now datagram.now k)) → self.new ≡ self.old }
+        ensures sent { IfOk result (λ done. (k : Keeping) → IsKeptAt self.old k → (done.sent.items ≡ sent_by_doing (came now datagram.now) k) × IsKeptAt self.new (after_doing (came now datagram.now) k)) }
+        ensures became { IfOk result (λ done. (k : Keeping) → IsKeptAt self.old k → outcome_in done.became ≡ came_as datagram.now k.host) }
     {
-        self.check(now)?;
+        if !self.is_time(now) {
+            return Err(KeptFault::Host(KeepFault::BackInTime));
+        }
         if self.is_unknown_of_ours(datagram) {
             return Err(KeptFault::Ours);
         }
-        let mut sent = self.member.tick(alloc, now)?;
-        self.hears(alloc, datagram)?;
+        let mut sent = self.go_on(alloc, now)?;
+        let became = self.hears(alloc, datagram)?;
         self.timed(alloc, &mut sent)?;
-        Ok(sent)
+        Ok(Done { sent, became })
     }
 
-    /// Time goes on to a moment. Answers what is to be sent.
+    /// Time goes on to a moment, in microseconds below 2^48. Answers what is to be sent. Refused before the present moment.
     pub fn tick(&mut self, alloc: Global, now: u64) -> Result<Vec<Datagram>, KeptFault>
         requires { now < 2 ^ 48 }
+        ensures fault { (k : Keeping) → IsKeptAt self.old k → IsRefusedBy (tick_fault now k) result }
+        ensures refused { (k : Keeping) → IsKeptAt self.old k → IsTrue (is_some (tick_fault now k)) → self.new ≡ self.old }
+        ensures sent { IfOk result (λ sent. (k : Keeping) → IsKeptAt self.old k → (sent.items ≡ sent_by_doing (ticks now) k) × IsKeptAt self.new (after_doing (ticks now) k)) }
     {
-        self.check(now)?;
-        let mut sent = self.member.tick(alloc, now)?;
+        if !self.is_time(now) {
+            return Err(KeptFault::Host(KeepFault::BackInTime));
+        }
+        let mut sent = self.go_on(alloc, now)?;
         self.timed(alloc, &mut sent)?;
         Ok(sent)
     }
 
-    /// Its user draws on a page, at a time of the user's clock. Answers what is to be sent; the drawing is among that, unless
-    /// the board is full.
+    /// Its user draws on a page, at a time of the user's clock. Answers what is to be sent, and what became of the drawing: it is
+    /// among what is sent, unless the board is full. Refused before the present moment, while it listens, where no number is left
+    /// on the page, and where the operation is none of a drawop under the next number.
     pub fn add(
         &mut self,
         alloc: Global,
@@ -92,20 +116,25 @@ impl KeptMember {
         page: PageId,
         time: u64,
         shape: Shape<'_>,
-    ) -> Result<Vec<Datagram>, KeptFault>
+    ) -> Result<Done, KeptFault>
         requires { now < 2 ^ 48 }
-        ensures listens { IsTrue (nat_lt now self.old.policy.ready) → IsErr result × (self.new ≡ self.old) }
+        ensures fault { (k : Keeping) → IsKeptAt self.old k → IsRefusedBy (add_fault now page time (op_of shape.entry) k) result }
+        ensures refused { (k : Keeping) → IsKeptAt self.old k → IsTrue (is_some (add_fault now page time (op_of shape.entry) k)) → self.new ≡ self.old }
+        ensures sent { IfOk result (λ done. (k : Keeping) → IsKeptAt self.old k → (done.sent.items ≡ sent_by_doing (adds now page time (op_of shape.entry)) k) × IsKeptAt self.new (after_doing (adds now page time (op_of shape.entry)) k)) }
+        ensures became { IfOk result (λ done. (k : Keeping) → IsKeptAt self.old k → outcome_in done.became ≡ drawn_as page time (op_of shape.entry) k.host) }
     {
-        self.check(now)?;
+        if !self.is_time(now) {
+            return Err(KeptFault::Host(KeepFault::BackInTime));
+        }
         if self.policy.is_listening(now) {
             return Err(KeptFault::Listening);
         }
         let drawop = self.drawing(page, time, shape)?;
-        let mut sent = self.member.tick(alloc, now)?;
-        self.draw(&mut sent, &drawop)?;
+        let mut sent = self.go_on(alloc, now)?;
+        let became = self.draw(&mut sent, &drawop)?;
         self.end_where_full(alloc)?;
         self.timed(alloc, &mut sent)?;
-        Ok(sent)
+        Ok(Done { sent, became })
     }
 
     /// When it has something to do: the next tick.
@@ -115,18 +144,34 @@ impl KeptMember {
         sooner(self.policy.due(), self.member.next_due())
     }
 
-    /// Refuses a moment before the present one.
-    fn check(&self, now: u64) -> Result<(), KeptFault>
-        ensures early { (k : Keeping) → IsKeptAt self.now k → now < present k.host → result ≡ Err (refusals.Host BackInTime) }
+    /// Whether a moment is not before the present one.
+    fn is_time(&self, now: u64) -> bool
+        ensures { (k : Keeping) → IsKeptAt self.now k → result ≡ nat_le (present k.host) now }
     {
-        if now < self.member.moment() {
-            return Err(KeptFault::Host(KeepFault::BackInTime));
+        self.member.moment() <= now
+    }
+
+    /// Whether it is a drawop of this member of a number from 2^31 on that is not held.
+    fn is_unknown_of_ours(&self, datagram: &Datagram) -> bool
+        ensures { (k : Keeping) → IsKeptAt self.now k → result ≡ is_unknown_of_ours datagram.now k.host }
+    {
+        match datagram {
+            Datagram::Draw(drawop) => self.is_unknown(drawop.name()),
+            _ => false,
         }
-        Ok(())
+    }
+
+    /// Whether it is a name of this member of a number from 2^31 on that is not held.
+    fn is_unknown(&self, name: Name) -> bool
+        ensures { (k : Keeping) → IsKeptAt self.now k → result ≡ is_unknown name k.host }
+    {
+        name.source() == self.member.me() && name.seq() >= FORGED && !self.member.holds(&name)
     }
 
     /// Its next drawing on a page.
-    fn drawing(&self, page: PageId, time: u64, shape: Shape<'_>) -> Result<Drawop, KeptFault> {
+    fn drawing(&self, page: PageId, time: u64, shape: Shape<'_>) -> Result<Drawop, KeptFault>
+        ensures { (k : Keeping) → IsKeptAt self.now k → result ≡ value_unless (drawing_fault page time (op_of shape.entry) k) (drawing (view_of k.host) page time (op_of shape.entry)) }
+    {
         let Some(number) = self.member.next_number(page) else {
             return Err(KeptFault::Numbers);
         };

@@ -30,7 +30,7 @@ pub use credit::Credit;
 pub use distances::Distances;
 pub use drawings::time_of;
 pub use kept_fault::KeptFault;
-pub use kept_member::KeptMember;
+pub use kept_member::{Done, KeptMember};
 pub use policy::Policy;
 pub use questions::Questions;
 pub use reports::{Reports, members, page_after, slice_after};

@@ -1,9 +1,13 @@
 //! What a member that keeps itself asks for.
-ghost use Rattle.std.specs.Prelude.{◌≡◌, ◌≤◌, ◌<◌, ◌∷◌, [], IfOk, OnOk, IfSome};
-ghost use Rattle.wb_names.specs.Values.{NameValue};
-ghost use Rattle.wb_keeping.specs.Kept.{end, ends_full, is_unasked, learned, still, told_names, turn, want, want_near, want_told};
-ghost use Rattle.wb_keeping.specs.Performing.{Does, DoesQuietly, IsKeptAt, Keeping, view_of};
-ghost use Rattle.wb_keeping.specs.Policy.{is_asked};
+ghost use Rattle.std.specs.Prelude.{◌≡◌, ◌≤◌, ◌<◌, ◌^◌, ◌∷◌, [], IfOk, OnOk, IfSome, filter, length, nat_lt};
+ghost use Rattle.wb_keeping.specs.Kept.{Asks, and_then, end, ends_full, is_begun, is_unasked, learned, near_names, paid_for, performs, stops_oldest, turn, usual_lines, want, want_near, want_told};
+ghost use Rattle.wb_recovery.specs.Events.{timers_of};
+ghost use Rattle.wb_member.specs.Opened.{events};
+ghost use Rattle.wb_keeping.specs.Performing.{DoesQuietly, IsKeptAt, Keeping, asked_with, sees, view_of};
+ghost use Rattle.wb_keeping.specs.Policy.{holds, is_asked, is_full, level};
+ghost use Rattle.wb_keeping.specs.Wanting.{oldest};
+ghost use Rattle.wb_keeping.specs.Steps.{makes_room, performs_all, set_lines, turn_again, want_in};
+ghost use Rattle.wb_names.specs.History.{highest};
 
 use crate::choices::near_names;
 use crate::kept_member::KeptMember;
@@ -11,17 +15,13 @@ use crate::turns::Turns;
 use crate::wanting::{AskedName, Candidate, oldest};
 use std::alloc::{AllocError, Global};
 use wb_gaps::Hole;
-use wb_host::KeepFault;
-use wb_names::{Mark, Marks, Name, PageId};
+use wb_names::Name;
 
 /// The most request timers that stand.
 const TIMERS: usize = 64;
 
 /// The distance to a source that told none, in microseconds.
 const FIRST_DISTANCE: u64 = 100_000;
-
-/// From this number on nobody is believed about numbers of this member.
-const FORGED: u32 = 1 << 31;
 
 impl KeptMember {
     /// A name is wanted; its timer may start anew where somebody says that he holds it, or it has its turn. Answers whether it
@@ -31,90 +31,124 @@ impl KeptMember {
         alloc: Global,
         name: &Name,
         may_start_anew: bool,
-    ) -> Result<bool, KeepFault> {
+    ) -> Result<bool, AllocError>
+        ensures begun { IfOk result (λ begun. (k : Keeping) → IsKeptAt self.old k → begun ≡ is_begun (want name.now may_start_anew (sees k.host) k.policy)) }
+        ensures does { OnOk result (DoesQuietly (want name.now may_start_anew) self.old self.new) }
+    {
         let now = self.member.moment();
         let candidate = self.candidate(name);
-        let usual = self.usual_to(name.source());
+        let usual = self.usual_to(name);
         if !self.policy.want(&candidate, may_start_anew, now) {
             return Ok(false);
         }
-        self.make_room(alloc, name, candidate.level.is_some())?;
-        self.set_usual(name.source(), usual)?;
-        self.ask(alloc, name)?;
+        self.begin(alloc, name, usual)?;
         Ok(true)
     }
 
+    /// It begins to ask for a name, at the usual distance, where there is one to set. Before that there is room for its timer.
+    fn begin(&mut self, alloc: Global, name: &Name, usual: Option<u64>) -> Result<(), AllocError>
+        requires { IfSome usual (λ micros. micros < 2 ^ 24) }
+        ensures { OnOk result (DoesQuietly (and_then (makes_room name.now) (and_then (performs_all (set_lines name.now.source usual)) (performs (Asks name.now)))) self.old self.new) }
+    {
+        self.make_room(alloc, name)?;
+        self.set_usual(name, usual)?;
+        self.ask(alloc, name)?;
+        Ok(())
+    }
+
     /// What it shows of a name that it might ask for.
-    fn candidate(&self, name: &Name) -> Candidate {
+    fn candidate(&self, name: &Name) -> Candidate
+        ensures held { (k : Keeping) → IsKeptAt self.now k → result.is_held ≡ holds (view_of k.host) name.now }
+        ensures full { (k : Keeping) → IsKeptAt self.now k → result.is_full ≡ is_full (view_of k.host) }
+        ensures level { (k : Keeping) → IsKeptAt self.now k → result.level ≡ level (view_of k.host) name.now }
+    {
         Candidate {
             is_held: self.member.holds(name),
             is_full: self.member.is_full(),
-            level: self.member.level(name),
+            level: self.level(name),
         }
     }
 
-    /// The usual distance, where the one to a source is still the first.
-    fn usual_to(&self, source: u32) -> Option<u64> {
-        if self.member.delay(source) != FIRST_DISTANCE {
+    /// How often the timer of a name was backed off, where one stands.
+    fn level(&self, name: &Name) -> Option<u32>
+        ensures { (k : Keeping) → IsKeptAt self.now k → result ≡ level (view_of k.host) name.now }
+    {
+        self.member.level(name)
+    }
+
+    /// Whether a timer stands for a name.
+    pub(super) fn is_asked(&self, name: &Name) -> bool
+        ensures { (k : Keeping) → IsKeptAt self.now k → result ≡ is_asked (view_of k.host) name.now }
+    {
+        self.level(name).is_some()
+    }
+
+    /// The usual distance, where the one to the source of a name is still the first.
+    fn usual_to(&self, name: &Name) -> Option<u64>
+        ensures lines { (k : Keeping) → IsKeptAt self.now k → set_lines name.now.source result ≡ usual_lines name.now.source ((view_of k.host).distance name.now.source) k.policy.usual }
+        ensures near { IfSome result (λ micros. micros < 2 ^ 24) }
+    {
+        if self.member.delay(name.source()) != FIRST_DISTANCE {
             return None;
         }
         self.policy.usual()
     }
 
-    /// The distance to a source is set to this one, where there is one.
-    fn set_usual(&mut self, source: u32, usual: Option<u64>) -> Result<(), KeepFault> {
-        match usual {
-            Some(micros) => self.set_distance(source, micros),
-            None => Ok(()),
-        }
-    }
-
     /// Stops the timer of a name that is asked for, and else the oldest timer, where 64 stand.
-    fn make_room(&mut self, alloc: Global, name: &Name, is_asked: bool) -> Result<(), KeepFault> {
-        if is_asked {
+    fn make_room(&mut self, alloc: Global, name: &Name) -> Result<(), AllocError>
+        ensures { OnOk result (DoesQuietly (makes_room name.now) self.old self.new) }
+    {
+        if self.is_asked(name) {
             self.stop(name);
             return Ok(());
         }
         if self.member.asks() < TIMERS {
             return Ok(());
         }
-        if let Some(asked) = oldest(&self.asked(alloc)?) {
-            self.stop(&asked.name);
-        }
+        let asked = self.asked(alloc)?;
+        self.stop_oldest(&asked);
         Ok(())
     }
 
+    /// Stops the oldest of some timers, where there is one.
+    fn stop_oldest(&mut self, asked: &[AskedName])
+        ensures { DoesQuietly (performs_all (stops_oldest (oldest asked.now))) self.old self.new }
+    {
+        if let Some(oldest) = oldest(asked) {
+            self.stop(&oldest.name);
+        }
+    }
+
     /// The names that it asks for, ascending, and how often the timer of each was backed off.
-    fn asked(&self, alloc: Global) -> Result<Vec<AskedName>, AllocError> {
+    fn asked(&self, alloc: Global) -> Result<Vec<AskedName>, AllocError>
+        ensures { IfOk result (λ asked. (k : Keeping) → IsKeptAt self.now k → asked.items ≡ (view_of k.host).asked) }
+    {
+        let names = self.member.asked_names(alloc)?;
+        let asked = self.asked_of(alloc, &names)?;
+        Ok(asked)
+    }
+
+    /// Those of these names that it asks for, and how often the timer of each was backed off.
+    fn asked_of(&self, alloc: Global, names: &[Name]) -> Result<Vec<AskedName>, AllocError>
+        ensures { IfOk result (λ asked. (k : Keeping) → IsKeptAt self.now k → asked.items ≡ asked_with (timers_of k.host.is.constants (events k.host)) names.now) }
+    {
         let mut asked = Vec::new(alloc);
-        for name in &self.member.asked_names(alloc)? {
-            if let Some(level) = self.member.level(name) {
-                asked.push(AskedName { name: *name, level })?;
-            }
+        for name in names {
+            let Some(level) = self.member.level(name) else {
+                continue;
+            };
+            asked.push(AskedName { name: *name, level })?;
         }
         Ok(asked)
     }
 
-    /// The numbers that others report of a page are wanted.
-    pub(super) fn want_told(
-        &mut self,
-        alloc: Global,
-        page: PageId,
-        marks: &Marks,
-    ) -> Result<(), KeepFault> {
-        for mark in marks.as_slice() {
-            self.want_mark(alloc, page, mark)?;
+    /// Names that others say that they hold are wanted.
+    pub(super) fn want_told(&mut self, alloc: Global, names: &[Name]) -> Result<(), AllocError>
+        ensures { OnOk result (DoesQuietly (want_told names.now) self.old self.new) }
+    {
+        for name in names {
+            self.want(alloc, name, true)?;
         }
-        Ok(())
-    }
-
-    /// The number of a mark is wanted, but for a number of this member that was forged.
-    fn want_mark(&mut self, alloc: Global, page: PageId, mark: &Mark) -> Result<(), KeepFault> {
-        if mark.source() == self.member.me() && mark.high() >= FORGED {
-            return Ok(());
-        }
-        let name = Name::new(mark.source(), page, mark.high()).unwrap();
-        self.want(alloc, &name, true)?;
         Ok(())
     }
 
@@ -125,26 +159,49 @@ impl KeptMember {
         alloc: Global,
         name: &Name,
         was_asked: bool,
-    ) -> Result<(), KeepFault> {
+    ) -> Result<(), AllocError>
+        ensures { OnOk result (DoesQuietly (learned name.now was_asked) self.old self.new) }
+    {
         if self.member.is_full() {
-            return self.end(alloc);
+            self.end(alloc)?;
+            return Ok(());
         }
-        let top = self.member.highest(name.page(), name.source())?;
-        let near = near_names(alloc, name, top)?;
-        if was_asked {
-            self.policy.came();
-        }
+        let near = self.near(alloc, name)?;
+        self.pay(was_asked);
         if self.lacks_some(&near) {
-            return self.want_near(alloc, &near);
+            self.want_near(alloc, &near)?;
+            return Ok(());
         }
         if was_asked {
-            return self.turn(alloc);
+            self.turn(alloc)?;
+            return Ok(());
         }
         Ok(())
     }
 
+    /// The names near one.
+    fn near(&mut self, alloc: Global, name: &Name) -> Result<Vec<Name>, AllocError>
+        ensures same { self.new ≡ self.old }
+        ensures near { IfOk result (λ near. (k : Keeping) → IsKeptAt self.old k → near.items ≡ near_names name.now (highest name.now.page name.now.source (view_of k.host).held)) }
+    {
+        let top = self.member.highest(name.page(), name.source())?;
+        near_names(alloc, name, top)
+    }
+
+    /// What was asked for costs nothing.
+    fn pay(&mut self, was_asked: bool)
+        ensures member { self.new.member ≡ self.old.member }
+        ensures policy { self.new.policy ≡ paid_for was_asked self.old.policy }
+    {
+        if was_asked {
+            self.policy.came();
+        }
+    }
+
     /// Whether some of these names is neither held nor asked for.
-    fn lacks_some(&self, names: &[Name]) -> bool {
+    fn lacks_some(&self, names: &[Name]) -> bool
+        ensures { (k : Keeping) → IsKeptAt self.now k → result ≡ nat_lt 0 (length (filter (is_unasked (view_of k.host)) names.now)) }
+    {
         for name in names {
             if self.is_unasked(name) {
                 return true;
@@ -154,14 +211,23 @@ impl KeptMember {
     }
 
     /// Whether a name is neither held nor asked for.
-    fn is_unasked(&self, name: &Name) -> bool {
-        !self.member.holds(name) && self.member.level(name).is_none()
+    fn is_unasked(&self, name: &Name) -> bool
+        ensures { (k : Keeping) → IsKeptAt self.now k → result ≡ is_unasked (view_of k.host) name.now }
+    {
+        let is_known = self.member.holds(name) || self.is_asked(name);
+        !is_known
     }
 
     /// These names are wanted that have no timer, up to the first that is not asked for.
-    fn want_near(&mut self, alloc: Global, names: &[Name]) -> Result<(), KeepFault> {
+    fn want_near(&mut self, alloc: Global, names: &[Name]) -> Result<(), AllocError>
+        ensures { OnOk result (DoesQuietly (want_near names.now) self.old self.new) }
+    {
         for name in names {
-            if self.is_unasked(name) && !self.want(alloc, name, false)? {
+            if !self.is_unasked(name) {
+                continue;
+            }
+            let begun = self.want(alloc, name, false)?;
+            if !begun {
                 return Ok(());
             }
         }
@@ -169,24 +235,44 @@ impl KeptMember {
     }
 
     /// The next hole has its turn, or the first one in another round.
-    pub(super) fn turn(&mut self, alloc: Global) -> Result<(), KeepFault> {
+    pub(super) fn turn(&mut self, alloc: Global) -> Result<(), AllocError>
+        ensures { OnOk result (DoesQuietly turn self.old self.new) }
+    {
         let turns = self.policy.turns();
-        if let Some(hole) = self
+        let next = self
             .member
-            .hole_after(alloc, turns.page, turns.source, turns.number)?
-        {
-            return self.want_in(alloc, hole);
+            .hole_after(alloc, turns.page, turns.source, turns.number)?;
+        match next {
+            Some(hole) => {
+                self.want_in(alloc, hole)?;
+                Ok(())
+            }
+            None => {
+                self.turn_again(alloc)?;
+                Ok(())
+            }
         }
+    }
+
+    /// Another round begins, and the first hole has its turn, where there is one.
+    fn turn_again(&mut self, alloc: Global) -> Result<(), AllocError>
+        ensures { OnOk result (DoesQuietly turn_again self.old self.new) }
+    {
         self.policy.begin_round();
-        match self.member.hole_after(alloc, Turns::START.page, 0, 0)? {
-            Some(hole) => self.want_in(alloc, hole),
+        let first = self.member.hole_after(alloc, Turns::START.page, 0, 0)?;
+        match first {
+            Some(hole) => {
+                self.want_in(alloc, hole)?;
+                Ok(())
+            }
             None => Ok(()),
         }
     }
 
-    /// A hole has its turn: one of its names is wanted.
-    fn want_in(&mut self, alloc: Global, hole: Hole) -> Result<(), KeepFault> {
-        // no hole is without a number
+    /// A hole has its turn: one of its names is wanted. No hole is without a number.
+    fn want_in(&mut self, alloc: Global, hole: Hole) -> Result<(), AllocError>
+        ensures { OnOk result (1 ≤ hole.gap.first → hole.gap.first ≤ hole.gap.last → DoesQuietly (want_in hole) self.old self.new) }
+    {
         if hole.gap.first == 0 || hole.gap.last < hole.gap.first {
             return Ok(());
         }
@@ -196,19 +282,21 @@ impl KeptMember {
     }
 
     /// It gives up asking where its board is full.
-    pub(super) fn end_where_full(&mut self, alloc: Global) -> Result<(), KeepFault> {
+    pub(super) fn end_where_full(&mut self, alloc: Global) -> Result<(), AllocError>
+        ensures { OnOk result (DoesQuietly ends_full self.old self.new) }
+    {
         if self.member.is_full() {
-            return self.end(alloc);
+            self.end(alloc)?;
         }
         Ok(())
     }
 
     /// It gives up asking.
-    fn end(&mut self, alloc: Global) -> Result<(), KeepFault> {
+    fn end(&mut self, alloc: Global) -> Result<(), AllocError>
+        ensures { OnOk result (DoesQuietly end self.old self.new) }
+    {
         let names = self.member.asked_names(alloc)?;
-        for name in &names {
-            self.stop(name);
-        }
+        self.stop_all(&names);
         Ok(())
     }
 }

@@ -1,98 +1,114 @@
 //! What a member that keeps itself does with a datagram that came in.
-ghost use Rattle.std.specs.Prelude.{◌≡◌, ◌≤◌, ◌<◌, ◌∷◌, [], IfOk, OnOk};
-ghost use Rattle.wb_keeping.specs.Kept.{hears, hears_session, hears_state, measures, takes, takes_question};
-ghost use Rattle.wb_keeping.specs.Performing.{Does, DoesQuietly};
+ghost use Rattle.std.specs.Prelude.{◌≡◌, ◌≤◌, ◌<◌, ◌∷◌, ◌||◌, [], ℕ, false, IfOk, OnOk};
+ghost use Rattle.wb_codec.specs.declared.datagram.Datagram.TheVariants.{PageState, Session};
+ghost use Rattle.wb_host.specs.Hearing.{asks_for_pages};
+ghost use Rattle.wb_member.specs.Holding.{outcome_in};
+ghost use Rattle.wb_member.specs.Opened.{becomes};
+ghost use Rattle.wb_keeping.specs.Kept.{Hears, hears, hears_session, hears_some, hears_state, measures, of_other, performs, takes, takes_question};
+ghost use Rattle.wb_keeping.specs.Performing.{DoesQuietly, IsKeptAt, Keeping, view_of};
+ghost use Rattle.wb_keeping.specs.Policy.{holds, is_full};
+ghost use Rattle.wb_keeping.specs.Refusing.{came_as};
 
-use crate::choices::{distance_in, own_echo, own_marks};
+use crate::choices::{distance_in, own_echo, own_marks, told_names};
 use crate::kept_member::KeptMember;
-use std::alloc::Global;
+use std::alloc::{AllocError, Global};
 use wb_codec::Datagram;
-use wb_host::KeepFault;
-use wb_names::{Drawop, Marks, PageId};
-
-/// From this number on a number of its own is one that the member would never come to.
-const FORGED: u32 = 1 << 31;
+use wb_host::Reply;
+use wb_names::{Drawop, Echoes, Marks, Name, PageId};
 
 impl KeptMember {
-    /// Whether it is a drawop of this member of a number from 2^31 on that is not held.
-    pub(super) fn is_unknown_of_ours(&self, datagram: &Datagram) -> bool {
+    /// A datagram came in. What names this member as its sender is no news. Answers what became of a drawop.
+    pub(super) fn hears(
+        &mut self,
+        alloc: Global,
+        datagram: &Datagram,
+    ) -> Result<Option<Reply>, AllocError>
+        ensures became { IfOk result (λ reply. (k : Keeping) → IsKeptAt self.old k → outcome_in reply ≡ came_as datagram.now k.host) }
+        ensures does { OnOk result (DoesQuietly (hears datagram.now) self.old self.new) }
+    {
         match datagram {
             Datagram::Draw(drawop) => {
-                let name = drawop.name();
-                name.source() == self.member.me()
-                    && name.seq() >= FORGED
-                    && !self.member.holds(&name)
+                let became = self.takes(alloc, drawop)?;
+                return Ok(became);
             }
-            _ => false,
-        }
-    }
-
-    /// A datagram came in. What names this member as its sender is no news.
-    pub(super) fn hears(&mut self, alloc: Global, datagram: &Datagram) -> Result<(), KeepFault> {
-        let me = self.member.me();
-        match datagram {
-            Datagram::Draw(drawop) => self.takes(alloc, drawop),
-            Datagram::Session { sender, .. } if *sender == me => Ok(()),
-            Datagram::Session { .. } => self.hears_session(alloc, datagram),
-            Datagram::PageState { sender, .. } if *sender == me => Ok(()),
+            Datagram::Session {
+                sender,
+                sent,
+                page,
+                marks,
+                echoes,
+            } => self.hears_session(alloc, *sender, *sent, *page, marks, echoes)?,
             Datagram::PageState {
                 sender,
                 page,
                 marks,
-            } => self.hears_state(alloc, *sender, *page, marks),
-            Datagram::Request { asker, .. } if *asker == me => Ok(()),
-            Datagram::Request { .. } => self.hear(alloc, datagram),
-            Datagram::AskPages { asker } => {
-                if *asker != me {
-                    self.takes_question();
-                }
-                Ok(())
-            }
+            } => self.hears_state(alloc, *sender, *page, marks)?,
+            Datagram::Request { asker, .. } => self.hears_request(alloc, *asker, datagram)?,
+            Datagram::AskPages { asker } => self.takes_question(*asker),
         }
+        Ok(None)
     }
 
-    /// A drawop came.
-    fn takes(&mut self, alloc: Global, drawop: &Drawop) -> Result<(), KeepFault> {
+    /// A drawop came. Answers what became of it.
+    fn takes(&mut self, alloc: Global, drawop: &Drawop) -> Result<Option<Reply>, AllocError>
+        ensures became { IfOk result (λ reply. (k : Keeping) → IsKeptAt self.old k → outcome_in reply ≡ becomes drawop.now k.host) }
+        ensures does { OnOk result (DoesQuietly (takes drawop.now) self.old self.new) }
+    {
         let name = drawop.name();
-        let is_no_news = self.member.holds(&name) || self.member.is_full();
-        let was_asked = self.member.level(&name).is_some();
-        self.arrive(drawop)?;
+        let is_no_news = self.is_no_news(&name);
+        let was_asked = self.is_asked(&name);
+        let became = self.arrive(drawop)?;
         if is_no_news {
-            return Ok(());
+            return Ok(became);
         }
-        self.learned(alloc, &name, was_asked)
+        self.learned(alloc, &name, was_asked)?;
+        Ok(became)
     }
 
-    /// A session message of another member came: of it the keeper hears the own marks that are believed, and the own echo.
-    fn hears_session(&mut self, alloc: Global, message: &Datagram) -> Result<(), KeepFault> {
-        let Datagram::Session {
-            sender,
-            sent,
-            page,
-            marks,
-            echoes,
-        } = message
-        else {
-            return Ok(());
-        };
+    /// Whether a name is held, or there is no cell for it.
+    fn is_no_news(&self, name: &Name) -> bool
+        ensures { (k : Keeping) → IsKeptAt self.now k → result ≡ (holds (view_of k.host) name.now || is_full (view_of k.host)) }
+    {
+        self.member.holds(name) || self.member.is_full()
+    }
+
+    /// A session message came. Of another member's the keeper hears the own marks that are believed, and the own echo.
+    fn hears_session(
+        &mut self,
+        alloc: Global,
+        sender: u32,
+        sent: u64,
+        page: PageId,
+        marks: &Marks,
+        echoes: &Echoes,
+    ) -> Result<(), AllocError>
+        ensures { OnOk result (DoesQuietly (of_other sender (hears_session sender sent page marks.now echoes.now)) self.old self.new) }
+    {
         let (me, now) = (self.member.me(), self.member.moment());
+        if sender == me {
+            return Ok(());
+        }
         let own = own_marks(alloc, me, self.policy.is_listening(now), marks)?;
         let echo = own_echo(alloc, me, echoes)?;
         let distance = distance_in(now, echo.as_slice());
         let heard = Datagram::Session {
-            sender: *sender,
-            sent: *sent,
-            page: *page,
+            sender,
+            sent,
+            page,
             marks: own,
             echoes: echo,
         };
         self.hear(alloc, &heard)?;
-        self.measures(*sender, distance)?;
-        self.want_told(alloc, *page, marks)
+        self.measures(sender, distance)?;
+        let told = told_names(alloc, me, page, marks)?;
+        self.want_told(alloc, &told)?;
+        Ok(())
     }
 
     /// An echo told a distance, where it did.
-    fn measures(&mut self, sender: u32, distance: Option<u64>) -> Result<(), KeepFault> {
+    fn measures(&mut self, sender: u32, distance: Option<u64>) -> Result<(), AllocError>
+        ensures { OnOk result (DoesQuietly (measures sender distance) self.old self.new) }
+    {
         let Some(micros) = distance else {
             return Ok(());
         };
@@ -100,34 +116,78 @@ impl KeptMember {
         if near == micros {
             return Ok(());
         }
-        self.set_distance(sender, near)
+        self.set_distance(sender, near)?;
+        Ok(())
     }
 
-    /// A page state of another member came: its own marks that are believed are heard, and nobody else answers.
+    /// A page state came. Of another member's the own marks that are believed are heard, and nobody else answers.
     fn hears_state(
         &mut self,
         alloc: Global,
         sender: u32,
         page: PageId,
         marks: &Marks,
-    ) -> Result<(), KeepFault> {
+    ) -> Result<(), AllocError>
+        ensures { OnOk result (DoesQuietly (of_other sender (hears_state sender page marks.now)) self.old self.new) }
+    {
         let (me, now) = (self.member.me(), self.member.moment());
+        if sender == me {
+            return Ok(());
+        }
         let own = own_marks(alloc, me, self.policy.is_listening(now), marks)?;
         self.policy.hear_state(now);
-        if !own.as_slice().is_empty() {
-            let heard = Datagram::PageState {
-                sender,
-                page,
-                marks: own,
-            };
-            self.hear(alloc, &heard)?;
-        }
-        self.want_told(alloc, page, marks)
+        self.hears_some(alloc, sender, page, own)?;
+        let told = told_names(alloc, me, page, marks)?;
+        self.want_told(alloc, &told)?;
+        Ok(())
     }
 
-    /// Another member asks for pages.
-    fn takes_question(&mut self) {
-        let holds_some = !self.member.drawops().is_empty();
-        self.policy.take_question(self.member.moment(), holds_some);
+    /// A page state with these marks is heard, where there are some.
+    fn hears_some(
+        &mut self,
+        alloc: Global,
+        sender: u32,
+        page: PageId,
+        marks: Marks,
+    ) -> Result<(), AllocError>
+        ensures { OnOk result (DoesQuietly (hears_some sender page marks) self.old self.new) }
+    {
+        if marks.as_slice().is_empty() {
+            return Ok(());
+        }
+        let state = Datagram::PageState {
+            sender,
+            page,
+            marks,
+        };
+        self.hear(alloc, &state)?;
+        Ok(())
+    }
+
+    /// A request came. Another member's is heard.
+    fn hears_request(
+        &mut self,
+        alloc: Global,
+        asker: u32,
+        request: &Datagram,
+    ) -> Result<(), AllocError>
+        requires { (me : ℕ) → asks_for_pages me request.now ≡ false }
+        ensures { OnOk result (DoesQuietly (of_other asker (performs (Hears request.now))) self.old self.new) }
+    {
+        if asker == self.member.me() {
+            return Ok(());
+        }
+        self.hear(alloc, request)?;
+        Ok(())
+    }
+
+    /// A member asks for pages: another one's question is taken up.
+    fn takes_question(&mut self, asker: u32)
+        ensures { DoesQuietly (of_other asker takes_question) self.old self.new }
+    {
+        if asker != self.member.me() {
+            let holds_some = !self.member.drawops().is_empty();
+            self.policy.take_question(self.member.moment(), holds_some);
+        }
     }
 }

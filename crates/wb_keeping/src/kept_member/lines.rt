@@ -1,9 +1,12 @@
 //! The lines that a policy has its host perform, one by one.
-ghost use Rattle.std.specs.Prelude.{◌≡◌, ◌≤◌, ◌<◌, ◌^◌, ◌++◌, ◌∷◌, [], ℕ, false, IfOk, OnOk};
+ghost use Rattle.std.specs.Prelude.{◌≡◌, ◌≤◌, ◌<◌, ◌^◌, ◌++◌, ◌∷◌, [], ℕ, false, IfOk, OnOk, IfSome, map};
 ghost use Rattle.wb_codec.specs.declared.datagram.Datagram.TheVariants.{Draw};
 ghost use Rattle.wb_host.specs.Hearing.{asks_for_pages};
-ghost use Rattle.wb_keeping.specs.Kept.{Arrives, Asks, Hears, Says, SetsDistance, Stops, performs};
-ghost use Rattle.wb_keeping.specs.Performing.{Does, DoesQuietly};
+ghost use Rattle.wb_member.specs.Holding.{outcome_in};
+ghost use Rattle.wb_member.specs.Opened.{becomes};
+ghost use Rattle.wb_keeping.specs.Kept.{Arrives, Asks, Hears, Says, SetsDistance, Stops, Ticks, performs};
+ghost use Rattle.wb_keeping.specs.Performing.{Does, DoesQuietly, IsKeptAt, Keeping};
+ghost use Rattle.wb_keeping.specs.Steps.{performs_all, set_lines};
 
 use crate::kept_member::KeptMember;
 use std::alloc::{AllocError, Global};
@@ -12,29 +15,42 @@ use wb_host::{KeepFault, Reply};
 use wb_names::{Drawop, Name};
 
 impl KeptMember {
-    /// A drawop arrives.
-    pub(super) fn arrive(&mut self, drawop: &Drawop) -> Result<(), KeepFault>
-        ensures { OnOk result (DoesQuietly (performs (Arrives drawop.now)) self.old self.new) }
+    /// Time goes on to a moment that is not before the present one, so that nothing but want of memory refuses it. Answers
+    /// what is to be sent.
+    pub(super) fn go_on(&mut self, alloc: Global, now: u64) -> Result<Vec<Datagram>, AllocError>
+        requires { now < 2 ^ 48 }
+        ensures { IfOk result (λ sent. Does (performs (Ticks now)) self.old self.new [] sent.items) }
     {
-        self.member.accept(drawop)?;
-        Ok(())
+        match self.member.tick(alloc, now) {
+            Ok(sent) => Ok(sent),
+            Err(_fault) => Err(AllocError),
+        }
+    }
+
+    /// A drawop arrives. Answers what became of it.
+    pub(super) fn arrive(&mut self, drawop: &Drawop) -> Result<Option<Reply>, AllocError>
+        ensures became { IfOk result (λ reply. (k : Keeping) → IsKeptAt self.old k → outcome_in reply ≡ becomes drawop.now k.host) }
+        ensures does { OnOk result (DoesQuietly (performs (Arrives drawop.now)) self.old self.new) }
+    {
+        let reply = self.member.accept(drawop)?;
+        Ok(reply)
     }
 
     /// A datagram is heard that is no question for pages, so that nothing is sent at once. Where its marks would be too many it
-    /// changes nothing.
-    pub(super) fn hear(&mut self, alloc: Global, datagram: &Datagram) -> Result<(), KeepFault>
+    /// changes nothing. It is heard at the present moment, so that nothing else but want of memory refuses it.
+    pub(super) fn hear(&mut self, alloc: Global, datagram: &Datagram) -> Result<(), AllocError>
         requires { (me : ℕ) → asks_for_pages me datagram.now ≡ false }
         ensures { OnOk result (DoesQuietly (performs (Hears datagram.now)) self.old self.new) }
     {
         match self.member.hear(alloc, datagram) {
             Ok(_nothing) => Ok(()),
             Err(KeepFault::TooMany) => Ok(()),
-            Err(fault) => Err(fault),
+            Err(_fault) => Err(AllocError),
         }
     }
 
     /// It begins to ask for a name.
-    pub(super) fn ask(&mut self, alloc: Global, name: &Name) -> Result<(), KeepFault>
+    pub(super) fn ask(&mut self, alloc: Global, name: &Name) -> Result<(), AllocError>
         ensures { OnOk result (DoesQuietly (performs (Asks name.now)) self.old self.new) }
     {
         self.member.ask(alloc, name)?;
@@ -48,29 +64,58 @@ impl KeptMember {
         self.member.stop(name);
     }
 
-    /// The distance to a source is set.
-    pub(super) fn set_distance(&mut self, source: u32, micros: u64) -> Result<(), KeepFault>
-        ensures { OnOk result (DoesQuietly (performs (SetsDistance source micros)) self.old self.new) }
+    /// It gives up asking for these names.
+    pub(super) fn stop_all(&mut self, names: &[Name])
+        ensures { DoesQuietly (performs_all (map Stops names.now)) self.old self.new }
     {
-        self.member.set_delay(source, micros)?;
-        Ok(())
+        for name in names {
+            self.stop(name);
+        }
     }
 
-    /// A drawop of its own is taken, and then sent, unless its name means another one or the board is full.
+    /// The distance to a source is set, below 2^24 microseconds.
+    pub(super) fn set_distance(&mut self, source: u32, micros: u64) -> Result<(), AllocError>
+        requires { micros < 2 ^ 24 }
+        ensures { OnOk result (DoesQuietly (performs (SetsDistance source micros)) self.old self.new) }
+    {
+        match self.member.set_delay(source, micros) {
+            Ok(()) => Ok(()),
+            Err(_fault) => Err(AllocError),
+        }
+    }
+
+    /// The distance to the source of a name is set to this one, where there is one.
+    pub(super) fn set_usual(&mut self, name: &Name, usual: Option<u64>) -> Result<(), AllocError>
+        requires { IfSome usual (λ micros. micros < 2 ^ 24) }
+        ensures { OnOk result (DoesQuietly (performs_all (set_lines name.now.source usual)) self.old self.new) }
+    {
+        match usual {
+            Some(micros) => {
+                self.set_distance(name.source(), micros)?;
+                Ok(())
+            }
+            None => Ok(()),
+        }
+    }
+
+    /// A drawop of its own is taken, and then sent, unless its name means another one or the board is full. Answers what became
+    /// of it.
     pub(super) fn draw(
         &mut self,
         sent: &mut Vec<Datagram>,
         drawop: &Drawop,
-    ) -> Result<(), KeepFault>
-        ensures { OnOk result (Does (performs (Says (Draw drawop.now))) self.old self.new sent.old.items sent.new.items) }
+    ) -> Result<Option<Reply>, AllocError>
+        ensures became { IfOk result (λ reply. (k : Keeping) → IsKeptAt self.old k → outcome_in reply ≡ becomes drawop.now k.host) }
+        ensures does { OnOk result (Does (performs (Says (Draw drawop.now))) self.old self.new sent.old.items sent.new.items) }
     {
-        match self.member.accept(drawop)? {
+        let reply = self.member.accept(drawop)?;
+        match reply {
             Some(Reply::New(_)) | Some(Reply::Again(_)) => {
                 send(sent, Datagram::Draw(*drawop))?;
+                Ok(reply)
             }
-            Some(Reply::Clash(_)) | None => {}
+            Some(Reply::Clash(_)) | None => Ok(reply),
         }
-        Ok(())
     }
 }
 

@@ -1,7 +1,9 @@
 //! What a member that keeps itself tells others as time goes on.
-ghost use Rattle.std.specs.Prelude.{◌≡◌, ◌≤◌, ◌<◌, ◌∷◌, [], IfOk, OnOk};
-ghost use Rattle.wb_keeping.specs.Kept.{answers, asks_pages, reports, reports_due, reports_page, timed};
-ghost use Rattle.wb_keeping.specs.Performing.{Does, DoesQuietly};
+ghost use Rattle.std.specs.Prelude.{◌≡◌, ◌≤◌, ◌<◌, ◌+◌, ◌*◌, ◌++◌, ◌∷◌, [], IfOk, OnOk, length, map, take};
+ghost use Rattle.wb_gaps.specs.Answers.{pages_of, report_of};
+ghost use Rattle.wb_keeping.specs.Kept.{answers, asks_pages, reports, reports_due, reports_page, state_of, still, timed};
+ghost use Rattle.wb_keeping.specs.Performing.{Does, DoesQuietly, IsKeptAt, Keeping, view_of};
+ghost use Rattle.wb_keeping.specs.Reports.{slice_after};
 
 use crate::choices::{last_heard, last_source, slice_of};
 use crate::kept_member::KeptMember;
@@ -9,8 +11,7 @@ use crate::kept_member::lines::send;
 use crate::reports::{members, page_after};
 use std::alloc::{AllocError, Global};
 use wb_codec::Datagram;
-use wb_host::KeepFault;
-use wb_names::{Marks, PageId};
+use wb_names::{Echoes, Marks, PageId};
 
 /// How many pages an answer tells.
 const PAGES: usize = 64;
@@ -21,81 +22,98 @@ impl KeptMember {
         &mut self,
         alloc: Global,
         sent: &mut Vec<Datagram>,
-    ) -> Result<(), KeepFault> {
+    ) -> Result<(), AllocError>
+        ensures { OnOk result (Does timed self.old self.new sent.old.items sent.new.items) }
+    {
         self.answers(alloc, sent)?;
         self.asks_pages(sent)?;
-        self.reports_due(alloc, sent)
+        self.reports_due(alloc, sent)?;
+        Ok(())
     }
 
     /// A question for pages is answered, where that is due.
-    fn answers(&mut self, alloc: Global, sent: &mut Vec<Datagram>) -> Result<(), KeepFault> {
+    fn answers(&mut self, alloc: Global, sent: &mut Vec<Datagram>) -> Result<(), AllocError>
+        ensures { OnOk result (Does answers self.old self.new sent.old.items sent.new.items) }
+    {
         if !self.policy.answers(self.member.moment()) {
             return Ok(());
         }
         let pages = self.member.pages(alloc)?;
-        for page in pages.iter().take(PAGES) {
-            self.tells_page(alloc, sent, *page)?;
+        let first = first_pages(alloc, &pages)?;
+        self.tells_pages(alloc, sent, &first)?;
+        Ok(())
+    }
+
+    /// The states of these pages are sent.
+    fn tells_pages(
+        &mut self,
+        alloc: Global,
+        sent: &mut Vec<Datagram>,
+        pages: &[PageId],
+    ) -> Result<(), AllocError>
+        ensures same { self.new ≡ self.old }
+        ensures sent { OnOk result ((k : Keeping) → IsKeptAt self.old k → sent.new.items ≡ sent.old.items ++ map (state_of (view_of k.host)) pages.now) }
+    {
+        for page in pages {
+            let marks = self.slice(alloc, *page, None)?;
+            let state = Datagram::PageState {
+                sender: self.member.me(),
+                page: *page,
+                marks,
+            };
+            send(sent, state)?;
         }
         Ok(())
     }
 
-    /// The state of a page is sent.
-    fn tells_page(
-        &mut self,
-        alloc: Global,
-        sent: &mut Vec<Datagram>,
-        page: PageId,
-    ) -> Result<(), KeepFault> {
-        let marks = self.slice(alloc, page, None)?;
-        let state = Datagram::PageState {
-            sender: self.member.me(),
-            page,
-            marks,
-        };
-        send(sent, state)?;
-        Ok(())
-    }
-
     /// The next marks of a page above a source that was told.
-    fn slice(
-        &mut self,
-        alloc: Global,
-        page: PageId,
-        told: Option<u32>,
-    ) -> Result<Marks, AllocError> {
+    fn slice(&mut self, alloc: Global, page: PageId, told: Option<u32>) -> Result<Marks, AllocError>
+        ensures same { self.new ≡ self.old }
+        ensures slice { IfOk result (λ slice. (k : Keeping) → IsKeptAt self.old k → slice ≡ slice_after told (report_of k.host.is.held page)) }
+    {
         let report = self.member.report(alloc, page)?;
         slice_of(alloc, told, &report)
     }
 
     /// It asks for pages, where that is due.
-    fn asks_pages(&mut self, sent: &mut Vec<Datagram>) -> Result<(), KeepFault> {
-        if self.policy.asks_pages(self.member.moment()) {
-            let asker = self.member.me();
-            send(sent, Datagram::AskPages { asker })?;
+    fn asks_pages(&mut self, sent: &mut Vec<Datagram>) -> Result<(), AllocError>
+        ensures { OnOk result (Does asks_pages self.old self.new sent.old.items sent.new.items) }
+    {
+        if !self.policy.asks_pages(self.member.moment()) {
+            return Ok(());
         }
+        let asker = self.member.me();
+        send(sent, Datagram::AskPages { asker })?;
         Ok(())
     }
 
     /// It reports, where that is due, and then a hole has its turn.
-    fn reports_due(&mut self, alloc: Global, sent: &mut Vec<Datagram>) -> Result<(), KeepFault> {
+    fn reports_due(&mut self, alloc: Global, sent: &mut Vec<Datagram>) -> Result<(), AllocError>
+        ensures { OnOk result (Does reports_due self.old self.new sent.old.items sent.new.items) }
+    {
         if !self.policy.reports(self.member.moment()) {
             return Ok(());
         }
         self.reports(alloc, sent)?;
-        self.turn(alloc)
+        self.turn(alloc)?;
+        Ok(())
     }
 
     /// It reports the rest of the page that was told last, or the next page.
-    fn reports(&mut self, alloc: Global, sent: &mut Vec<Datagram>) -> Result<(), KeepFault> {
+    fn reports(&mut self, alloc: Global, sent: &mut Vec<Datagram>) -> Result<(), AllocError>
+        ensures { OnOk result (Does reports self.old self.new sent.old.items sent.new.items) }
+    {
         let (told_page, told) = self.policy.told();
         let rest = self.slice(alloc, told_page, told)?;
         if !rest.as_slice().is_empty() {
-            return self.reports_page(alloc, sent, told_page, rest);
+            self.reports_page(alloc, sent, told_page, rest)?;
+            return Ok(());
         }
         let pages = self.member.pages(alloc)?;
         let page = page_after(told_page, &pages);
         let first = self.slice(alloc, page, None)?;
-        self.reports_page(alloc, sent, page, first)
+        self.reports_page(alloc, sent, page, first)?;
+        Ok(())
     }
 
     /// It reports these marks of a page.
@@ -105,14 +123,16 @@ impl KeptMember {
         sent: &mut Vec<Datagram>,
         page: PageId,
         marks: Marks,
-    ) -> Result<(), KeepFault> {
-        let all = self.member.echoes(alloc)?;
+    ) -> Result<(), AllocError>
+        ensures { OnOk result (Does (reports_page page marks) self.old self.new sent.old.items sent.new.items) }
+    {
+        let all = self.heard(alloc)?;
         let echoes = last_heard(alloc, &all)?;
-        let bytes = 32 + 8 * marks.as_slice().len() + 20 * echoes.as_slice().len();
+        let bytes = report_bytes(&marks, &echoes);
         let last = last_source(marks.as_slice());
         let now = self.member.moment();
         let others = members(all.as_slice());
-        self.policy.reported(now, page, last, others, bytes as u64);
+        self.policy.reported(now, page, last, others, bytes);
         let report = Datagram::Session {
             sender: self.member.me(),
             sent: now,
@@ -123,4 +143,29 @@ impl KeptMember {
         send(sent, report)?;
         Ok(())
     }
+
+    /// An echo to each sender that is remembered.
+    fn heard(&mut self, alloc: Global) -> Result<Echoes, AllocError>
+        ensures same { DoesQuietly still self.old self.new }
+        ensures policy { self.new.policy ≡ self.old.policy }
+        ensures echoes { IfOk result (λ all. (k : Keeping) → IsKeptAt self.old k → all ≡ (view_of k.host).echoes) }
+    {
+        self.member.echoes(alloc)
+    }
+}
+
+/// The first 64 of some pages.
+fn first_pages(alloc: Global, pages: &[PageId]) -> Result<Vec<PageId>, AllocError>
+    ensures { IfOk result (λ first. first.items ≡ take 64 pages.now) }
+{
+    pages.iter().take(PAGES).copied().collect(alloc)
+}
+
+/// How many bytes a session message with these marks and echoes has.
+fn report_bytes(marks: &Marks, echoes: &Echoes) -> u64
+    ensures bytes { result ≡ 32 + 8 * length marks.now + 20 * length echoes.now }
+    ensures few { result ≤ 2000000 }
+{
+    let (marks, echoes) = (marks.as_slice().len(), echoes.as_slice().len());
+    32 + 8 * marks as u64 + 20 * echoes as u64
 }

@@ -1,0 +1,292 @@
+-- What is so of each step of a policy is so of all that a kept host does.
+use Rattle.std.proofs.Common.{◌≡◌, ℕ, ◌≤◌, Bool, true, false, cond, List, [], ◌∷◌, ◌++◌, ◌∙◌, ap, filter, length, map, refl, sym, subst}
+use Rattle.std.specs.Prelude.{Option, Some, None, ◌||◌, not, nat_eq, nat_le, nat_lt, take}
+use Rattle.std.proofs.lemmas.Bool.{leb-true}
+use Rattle.wb_names.specs.Faults.{fault_unless, first_of}
+use Rattle.wb_names.specs.History.{highest}
+use Rattle.wb_names.specs.Values.{DrawopValue, MarkValue, NameValue}
+use Rattle.wb_names.specs.declared.echo.Echo.{Echo}
+use Rattle.wb_names.specs.declared.name.PageId.{PageId}
+use Rattle.wb_codec.specs.declared.datagram.Datagram.{Datagram}
+use Rattle.wb_codec.specs.declared.datagram.Datagram.TheVariants.{Draw, Session, Request, AskPages, PageState}
+use Rattle.wb_gaps.specs.Answers.{pages_of, report_of}
+use Rattle.wb_gaps.specs.Holes.{hole_after}
+use Rattle.wb_gaps.specs.declared.holes.Hole.{Hole}
+use Rattle.wb_host.specs.declared.keep_fault.KeepFault.TheVariants.{BackInTime}
+use Rattle.wb_member.specs.Opened.{Opened, present}
+use Rattle.wb_keeping.specs.Distances.{bounded}
+use Rattle.wb_keeping.specs.Kept.{Arrives, Doing, Hears, Line, Says, SetsDistance, Stops, Ticks, Transition, and_then, answers, asks_pages, came, distance_in, draws_it, drawing, end, ends_full, hears, hears_session, hears_some, hears_state, is_begun, is_unasked, learned, measures, own_echo, own_marks, paid_for, performs, reports, reports_due, reports_page, reports_rest, state_of, still, takes, takes_question, timed, told_names, turn, turn_to, want, want_near, want_told}
+use Rattle.wb_keeping.specs.Laws.{Added, AreTaken, Came, KeptLine, Ticked, after_kept, doing_of, expand, fault_of}
+use Rattle.wb_keeping.specs.Performing.{Keeping, after_doing, after_line, after_lines, sees, view_of}
+use Rattle.wb_keeping.specs.Policy.{Policy, View, after_answer, after_came, after_question, after_state, after_taking_up, after_turn, holds, in_next_round, is_asked, is_full, with_distance}
+use Rattle.wb_keeping.specs.Questions.{is_due, is_to_answer}
+use Rattle.wb_keeping.specs.Reports.{page_after, slice_after}
+use Rattle.wb_keeping.specs.Turns.{name_in, nowhere}
+use Rattle.wb_keeping.specs.declared.kept_fault.KeptFault.{KeptFault}
+use Rattle.wb_keeping.specs.declared.kept_fault.KeptFault.TheVariants.{Host}
+use Rattle.wb_keeping.specs.declared.turns.Turns.{Turns}
+use Rattle.wb_keeping.specs.declared.wanting.AskedName.{AskedName}
+use Rattle.wb_keeping.proofs.Performed.{after_both, seen_then}
+use Rattle.wb_keeping.proofs.Wanted.{lacks_here, near_here, with_room_done}
+
+-- a host with another policy; one that performed a line
+abbrev pub with_policy : Policy → Keeping → Keeping
+with_policy p k = record { host = k.host; policy = p }
+
+abbrev pub having : Line → Keeping → Keeping
+having line k = record { host = after_line line k.host; policy = k.policy }
+
+-- a host that did what a policy said
+abbrev pub having_done : Doing → Keeping → Keeping
+having_done d k = record { host = after_lines d.lines k.host; policy = d.policy }
+
+abbrev pub doing : Policy → List Line → Doing
+doing p lines = record { policy = p; lines = lines }
+
+-- A relation of a host, of lines that it performs, and of what it is afterwards. It holds of each step of a policy, and of steps
+-- one after the other.
+pub record HoldsOfSteps (R : Keeping → List Line → Keeping → Type 0) : Type 0 where
+  pub nothing : (k : Keeping) → R k [] k
+  pub both : (k m n : Keeping) (one other : List Line) → R k one m → R m other n → R k (one ++ other) n
+  pub ticks : (now : ℕ) (k : Keeping) → present k.host ≤ now → R k (Ticks now ∷ []) (having (Ticks now) k)
+  pub arrives : (d : DrawopValue) (k : Keeping) → R k (Arrives d ∷ []) (having (Arrives d) k)
+  pub answered : (d : DrawopValue) (k : Keeping) → holds (view_of k.host) d.name ≡ false → is_asked (view_of k.host) d.name ≡ true → R k (Arrives d ∷ []) (with_policy (after_came k.policy) (having (Arrives d) k))
+  pub hears : (v : Datagram) (k : Keeping) → R k (Hears v ∷ []) (having (Hears v) k)
+  pub stops : (name : NameValue) (k : Keeping) → R k (Stops name ∷ []) (having (Stops name) k)
+  pub sets : (source micros : ℕ) (k : Keeping) → R k (SetsDistance source micros ∷ []) (having (SetsDistance source micros) k)
+  pub wants : (name : NameValue) (anew : Bool) (k : Keeping) → R k (want name anew (sees k.host) k.policy).lines (after_doing (want name anew) k)
+  pub draws : (d : DrawopValue) (k : Keeping) → R k (Says (Draw d) ∷ []) (having (Says (Draw d)) k)
+  pub turned : (t : Turns) (k : Keeping) → R k [] (with_policy (record k.policy { turns = t }) k)
+  pub measured : (micros : ℕ) (k : Keeping) → R k [] (with_policy (with_distance micros k.policy) k)
+  pub told : (k : Keeping) → R k [] (with_policy (after_state (present k.host) k.policy) k)
+  pub takes_up : (k : Keeping) → is_to_answer (present k.host) (nat_lt 0 (length k.host.is.held)) k.policy.questions ≡ true → R k [] (with_policy (after_taking_up (present k.host) k.policy) k)
+  pub answers : (k : Keeping) → is_due (present k.host) k.policy.questions.answer ≡ true
+      → R k (map (λ page. Says (state_of (view_of k.host) page)) (take 64 (pages_of k.host.is.held))) (having_done (doing (after_answer (present k.host) k.policy) (map (λ page. Says (state_of (view_of k.host) page)) (take 64 (pages_of k.host.is.held)))) k)
+  pub asks_pages : (k : Keeping) → is_due (present k.host) k.policy.questions.ask ≡ true → R k (Says (AskPages k.host.is.number) ∷ []) (with_policy (after_question (present k.host) k.policy) k)
+  pub reports : (page : PageId) (told : Option ℕ) (k : Keeping) → nat_le k.policy.reports.due (present k.host) ≡ true
+      → R k (reports_page page (slice_after told (report_of k.host.is.held page)) (sees k.host) k.policy).lines (after_doing (reports_page page (slice_after told (report_of k.host.is.held page))) k)
+
+pub either : (P : Doing → Type 0) (b : Bool) (one other : Doing) → (b ≡ true → P one) → (b ≡ false → P other) → P (cond b one other)
+either P true one other first second = first refl
+either P false one other first second = second refl
+
+module _ (R : Keeping → List Line → Keeping → Type 0) (is : HoldsOfSteps R) where
+  -- it holds of what a policy says that its host does, from a host on
+  abbrev pub HoldsOf : Keeping → Doing → Type 0
+  HoldsOf k d = R k d.lines (having_done d k)
+
+  abbrev pub HoldsAt : Transition → Keeping → Type 0
+  HoldsAt does k = HoldsOf k (does (sees k.host) k.policy)
+
+  abbrev pub Holds : Transition → Type 0
+  Holds does = (k : Keeping) → HoldsAt does k
+
+  still_holds : Holds still
+  still_holds k = is.nothing k
+
+  -- one after the other
+  behind : (k : Keeping) (d e : Doing) → HoldsOf k d → HoldsOf (having_done d k) e → HoldsOf k (doing e.policy (d.lines ++ e.lines))
+  behind k d e one other =
+      let joined = is.both k (having_done d k) (having_done e (having_done d k)) d.lines e.lines one other in
+      subst (λ (h : Opened). R k (d.lines ++ e.lines) (record { host = h; policy = e.policy })) (sym (after_both d.lines e.lines k.host)) joined
+
+  then_at : (first second : Transition) (k : Keeping) → HoldsAt first k → HoldsAt second (after_doing first k) → HoldsAt (and_then first second) k
+  then_at first second k one other =
+      let d = first (sees k.host) k.policy in
+      subst (λ (see : List Line → View). HoldsOf k (doing (second see d.policy).policy (d.lines ++ (second see d.policy).lines))) (sym (seen_then d.lines k.host))
+      (behind k d (second (sees (having_done d k).host) d.policy) one other)
+
+  then_holds : (first second : Transition) → Holds first → Holds second → Holds (and_then first second)
+  then_holds first second one other k = then_at first second k (one k) (other (after_doing first k))
+
+  -- the same from another policy on, to which a step leads
+  from_policy : (p : Policy) (k : Keeping) (d : Doing) → R k [] (with_policy p k) → HoldsOf (with_policy p k) d → HoldsOf k d
+  from_policy p k d step it = is.both k (with_policy p k) (having_done d k) [] d.lines step it
+
+  -- ---- what is wanted
+
+  told_holds : (names : List NameValue) → Holds (want_told names)
+  told_holds [] = still_holds
+  told_holds (name ∷ names) = then_holds (want name true) (want_told names) (is.wants name true) (told_holds names)
+
+  near_holds : (names : List NameValue) → Holds (want_near names)
+  near_holds [] k = is.nothing k
+  near_holds (name ∷ names) k =
+      let see = sees k.host in
+      let p = k.policy in
+      either (HoldsOf k) (is_unasked (see []) name) (cond (is_begun (want name false see p)) (and_then (want name false) (want_near names) see p) (still see p)) (want_near names see p)
+      (λ unasked. either (HoldsOf k) (is_begun (want name false see p)) (and_then (want name false) (want_near names) see p) (still see p)
+      (λ begun. then_holds (want name false) (want_near names) (is.wants name false) (near_holds names) k) (λ not_begun. is.nothing k))
+      (λ asked. near_holds names k)
+
+  turn_to_holds : (next first : Option Hole) → Holds (turn_to next first)
+  turn_to_holds (Some h) first k =
+      let p = after_turn h k.policy in
+      from_policy p k (want (name_in k.policy.turns.round h) true (sees k.host) p) (is.turned p.turns k) (is.wants (name_in k.policy.turns.round h) true (with_policy p k))
+  turn_to_holds None (Some h) k =
+      let q = in_next_round k.policy in
+      let p = after_turn h q in
+      from_policy p k (want (name_in q.turns.round h) true (sees k.host) p) (is.turned p.turns k) (is.wants (name_in q.turns.round h) true (with_policy p k))
+  turn_to_holds None None k = is.turned (in_next_round k.policy).turns k
+
+  turn_holds : Holds turn
+  turn_holds k = turn_to_holds (hole_after k.host.is.held k.policy.turns.page k.policy.turns.source k.policy.turns.number) (hole_after k.host.is.held nowhere 0 0) k
+
+  stops_hold : (asked : List AskedName) (k : Keeping) → HoldsOf k (doing k.policy (map (λ (a : AskedName). Stops a.name) asked))
+  stops_hold [] k = is.nothing k
+  stops_hold (a ∷ asked) k = is.both k (having (Stops a.name) k) (having_done (doing k.policy (map (λ (a : AskedName). Stops a.name) (a ∷ asked))) k) (Stops a.name ∷ []) (map (λ (a : AskedName). Stops a.name) asked) (is.stops a.name k) (stops_hold asked (having (Stops a.name) k))
+
+  end_holds : Holds end
+  end_holds k = stops_hold (view_of k.host).asked k
+
+  -- a drawop came that was asked for, which costs nothing by now; one came that was not
+  asked_holds : (name : NameValue) (k : Keeping) → HoldsOf (with_policy (after_came k.policy) k) (with_room_done name true (sees k.host) k.policy)
+  asked_holds name k =
+      let see = sees k.host in
+      let p = after_came k.policy in
+      let paid = with_policy p k in
+      let near = near_here name true see k.policy in
+      either (HoldsOf paid) (lacks_here name true see k.policy) (want_near near see p) (turn see p) (λ lacks. near_holds near paid) (λ has. turn_holds paid)
+
+  unasked_holds : (name : NameValue) (k : Keeping) → HoldsOf k (with_room_done name false (sees k.host) k.policy)
+  unasked_holds name k =
+      let see = sees k.host in
+      let near = near_here name false see k.policy in
+      either (HoldsOf k) (lacks_here name false see k.policy) (want_near near see k.policy) (still see k.policy) (λ lacks. near_holds near k) (λ has. is.nothing k)
+
+  -- ---- what is due
+
+  answers_hold : Holds answers
+  answers_hold k =
+      let lines = map (λ page. Says (state_of (view_of k.host) page)) (take 64 (pages_of k.host.is.held)) in
+      either (HoldsOf k) (is_due (present k.host) k.policy.questions.answer) (doing (after_answer (present k.host) k.policy) lines) (still (sees k.host) k.policy) (is.answers k) (λ later. is.nothing k)
+
+  asks_pages_hold : Holds asks_pages
+  asks_pages_hold k =
+      either (HoldsOf k) (is_due (present k.host) k.policy.questions.ask) (doing (after_question (present k.host) k.policy) (Says (AskPages k.host.is.number) ∷ [])) (still (sees k.host) k.policy) (is.asks_pages k) (λ later. is.nothing k)
+
+  rest_holds : (k : Keeping) → nat_le k.policy.reports.due (present k.host) ≡ true → (marks : List MarkValue) → marks ≡ slice_after k.policy.told (report_of k.host.is.held k.policy.told_page) → HoldsAt (reports_rest marks) k
+  rest_holds k due [] e = is.reports (page_after k.policy.told_page (pages_of k.host.is.held)) None k due
+  rest_holds k due (m ∷ marks) e = subst (λ (marks : List MarkValue). HoldsAt (reports_page k.policy.told_page marks) k) (sym e) (is.reports k.policy.told_page k.policy.told k due)
+
+  reports_due_hold : Holds reports_due
+  reports_due_hold k =
+      either (HoldsOf k) (nat_le k.policy.reports.due (present k.host)) (and_then reports turn (sees k.host) k.policy) (still (sees k.host) k.policy)
+      (λ due. then_at reports turn k (rest_holds k due (slice_after k.policy.told (report_of k.host.is.held k.policy.told_page)) refl) (turn_holds (after_doing reports k))) (λ later. is.nothing k)
+
+  timed_holds : Holds timed
+  timed_holds = then_holds answers (and_then asks_pages reports_due) answers_hold (then_holds asks_pages reports_due asks_pages_hold reports_due_hold)
+
+  ends_hold : Holds ends_full
+  ends_hold k = either (HoldsOf k) (is_full (view_of k.host)) (end (sees k.host) k.policy) (still (sees k.host) k.policy) (λ full. end_holds k) (λ room. is.nothing k)
+
+  -- ---- what comes in
+
+  -- a drawop that is new
+  came_in : (d : DrawopValue) (k : Keeping) (was : Bool) → is_asked (view_of k.host) d.name ≡ was → holds (view_of k.host) d.name ≡ false → HoldsAt (and_then (performs (Arrives d)) (learned d.name was)) k
+  came_in d k was asked lacks =
+      let m = having (Arrives d) k in
+      let see = sees m.host in
+      either (λ (e : Doing). HoldsOf k (doing e.policy (Arrives d ∷ e.lines))) (is_full (view_of m.host)) (end see m.policy) (with_room_done d.name was see m.policy)
+      (λ full. is.both k m (having_done (end see m.policy) m) (Arrives d ∷ []) (end see m.policy).lines (is.arrives d k) (end_holds m))
+      (λ room. by was asked) where
+        room_left : Bool → Doing
+        room_left b = with_room_done d.name b (sees (having (Arrives d) k).host) k.policy
+
+        by : (b : Bool) → is_asked (view_of k.host) d.name ≡ b → HoldsOf k (doing (room_left b).policy (Arrives d ∷ (room_left b).lines))
+        by true e =
+            let m = having (Arrives d) k in
+            is.both k (with_policy (after_came k.policy) m) (having_done (room_left true) m) (Arrives d ∷ []) (room_left true).lines (is.answered d k lacks e) (asked_holds d.name m)
+        by false e =
+            let m = having (Arrives d) k in
+            is.both k m (having_done (room_left false) m) (Arrives d ∷ []) (room_left false).lines (is.arrives d k) (unasked_holds d.name m)
+
+  takes_holds : (d : DrawopValue) → Holds (takes d)
+  takes_holds d k = by (holds (view_of k.host) d.name) refl where
+    new : Doing
+    new = and_then (performs (Arrives d)) (learned d.name (is_asked (view_of k.host) d.name)) (sees k.host) k.policy
+
+    by : (b : Bool) → holds (view_of k.host) d.name ≡ b → HoldsOf k (cond (b || is_full (view_of k.host)) (performs (Arrives d) (sees k.host) k.policy) new)
+    by true e = is.arrives d k
+    by false e = either (HoldsOf k) (is_full (view_of k.host)) (performs (Arrives d) (sees k.host) k.policy) new (λ full. is.arrives d k) (λ room. came_in d k (is_asked (view_of k.host) d.name) refl e)
+
+  measures_hold : (sender : ℕ) (distance : Option ℕ) → Holds (measures sender distance)
+  measures_hold sender None k = is.nothing k
+  measures_hold sender (Some micros) k = by (nat_eq (bounded micros) micros) where
+    p : Policy
+    p = with_distance micros k.policy
+
+    by : (b : Bool) → HoldsOf k (doing p (cond b [] (SetsDistance sender (bounded micros) ∷ [])))
+    by true = is.measured micros k
+    by false = from_policy p k (doing p (SetsDistance sender (bounded micros) ∷ [])) (is.measured micros k) (is.sets sender (bounded micros) (with_policy p k))
+
+  session_holds : (sender sent : ℕ) (page : PageId) (marks : List MarkValue) (echoes : List Echo) → Holds (hears_session sender sent page marks echoes)
+  session_holds sender sent page marks echoes k =
+      let v = view_of k.host in
+      let own = own_marks v.me (nat_lt v.now k.policy.ready) marks in
+      let echo = own_echo v.me echoes in
+      let first = performs (Hears (Session sender sent page own echo)) in
+      let second = measures sender (distance_in v.now echo) in
+      let third = want_told (told_names v.me page marks) in
+      then_at first (and_then second third) k (is.hears (Session sender sent page own echo) k)
+      (then_holds second third (measures_hold sender (distance_in v.now echo)) (told_holds (told_names v.me page marks)) (after_doing first k))
+
+  some_hold : (sender : ℕ) (page : PageId) (marks : List MarkValue) → Holds (hears_some sender page marks)
+  some_hold sender page [] k = is.nothing k
+  some_hold sender page (m ∷ marks) k = is.hears (PageState sender page (m ∷ marks)) k
+
+  state_holds : (sender : ℕ) (page : PageId) (marks : List MarkValue) → Holds (hears_state sender page marks)
+  state_holds sender page marks k =
+      let v = view_of k.host in
+      let own = own_marks v.me (nat_lt v.now k.policy.ready) marks in
+      let p = after_state v.now k.policy in
+      let does = and_then (hears_some sender page own) (want_told (told_names v.me page marks)) in
+      from_policy p k (does (sees k.host) p) (is.told k) (then_holds (hears_some sender page own) (want_told (told_names v.me page marks)) (some_hold sender page own) (told_holds (told_names v.me page marks)) (with_policy p k))
+
+  question_holds : Holds takes_question
+  question_holds k =
+      let p = after_taking_up (present k.host) k.policy in
+      either (HoldsOf k) (is_to_answer (present k.host) (nat_lt 0 (length k.host.is.held)) k.policy.questions) (still (sees k.host) p) (still (sees k.host) k.policy)
+      (λ takes. is.takes_up k takes) (λ not_taken. is.nothing k)
+
+  of_other_holds : (sender : ℕ) (does : Transition) (k : Keeping) → HoldsAt does k → HoldsOf k (cond (nat_eq sender k.host.is.number) (still (sees k.host) k.policy) (does (sees k.host) k.policy))
+  of_other_holds sender does k it = either (HoldsOf k) (nat_eq sender k.host.is.number) (still (sees k.host) k.policy) (does (sees k.host) k.policy) (λ own. is.nothing k) (λ other. it)
+
+  hears_holds : (v : Datagram) → Holds (hears v)
+  hears_holds (Draw d) k = takes_holds d k
+  hears_holds (Session sender sent page marks echoes) k = of_other_holds sender (hears_session sender sent page marks echoes) k (session_holds sender sent page marks echoes k)
+  hears_holds (PageState sender page marks) k = of_other_holds sender (hears_state sender page marks) k (state_holds sender page marks k)
+  hears_holds (Request asker name) k = of_other_holds asker (performs (Hears (Request asker name))) k (is.hears (Request asker name) k)
+  hears_holds (AskPages asker) k = of_other_holds asker takes_question k (question_holds k)
+
+  -- ---- lines
+
+  on_time : (past : Bool) (others : List (Option KeptFault)) → first_of (fault_unless past (Host BackInTime) ∷ others) ≡ None → past ≡ true
+  on_time true others e = refl
+  on_time false others e = absurd cc
+
+  first_none : (f : Option KeptFault) (others : List (Option KeptFault)) → first_of (f ∷ others) ≡ None → f ≡ None
+  first_none None others e = refl
+  first_none (Some f) others e = absurd cc
+
+  pub line_holds : (line : KeptLine) (k : Keeping) → fault_of line k ≡ None → HoldsAt (doing_of line) k
+  line_holds (Came now v) k none =
+      let first = performs (Ticks now) in
+      let later = leb-true _ _ (on_time (nat_le (present k.host) now) _ none) in
+      then_at first (and_then (hears v) timed) k (is.ticks now k later) (then_holds (hears v) timed (hears_holds v) timed_holds (after_doing first k))
+  line_holds (Ticked now) k none =
+      let later = leb-true _ _ (on_time (nat_le (present k.host) now) _ none) in
+      then_at (performs (Ticks now)) timed k (is.ticks now k later) (timed_holds (after_doing (performs (Ticks now)) k))
+  line_holds (Added now page time op) k none =
+      let first = performs (Ticks now) in
+      let second = draws_it page time op in
+      let later = leb-true _ _ (on_time (nat_le (present k.host) now) _ (first_none _ _ none)) in
+      then_at first (and_then second (and_then ends_full timed)) k (is.ticks now k later)
+      (then_holds second (and_then ends_full timed) (λ k. is.draws (drawing (view_of k.host) page time op) k) (then_holds ends_full timed ends_hold timed_holds) (after_doing first k))
+
+  -- all that a kept host does
+  pub all_hold : (lines : List KeptLine) (k : Keeping) → AreTaken lines k → R k (expand lines k) (after_kept lines k)
+  all_hold [] k taken = is.nothing k
+  all_hold (line ∷ lines) k taken =
+      let next = after_doing (doing_of line) k in
+      is.both k next (after_kept lines next) (doing_of line (sees k.host) k.policy).lines (expand lines next) (line_holds line k taken.0) (all_hold lines next taken.1)

@@ -1,0 +1,189 @@
+-- At most 64 request timers stand, whatever comes in.
+use Rattle.std.proofs.Common.{◌≡◌, ℕ, ◌+◌, ◌≤◌, ◌<◌, zero, suc, Bool, true, false, cond, List, [], ◌∷◌, ◌++◌, ◌∙◌, Option, Some, None, ap, arith, filter, inl, inr, length, map, refl, subst, sym, true≢false, ⊎_elim}
+use Rattle.std.specs.Prelude.{◌⊎◌, Contains, is_some, nat_eq, nat_le, nat_lt, take}
+use Rattle.std.specs.List.{fold}
+use Rattle.std.proofs.lemmas.Bool.{leb-false, leb-true}
+use Rattle.wb_names.specs.Values.{DrawopValue, MarkValue, NameValue}
+use Rattle.wb_names.specs.declared.name.PageId.{PageId}
+use Rattle.wb_names.proofs.Listings.{Contains-here, Contains-there}
+use Rattle.wb_gaps.specs.Answers.{pages_of, report_of}
+use Rattle.wb_recovery.specs.Events.{timers_of}
+use Rattle.wb_recovery.specs.declared.tuning.Tuning.{Tuning}
+use Rattle.wb_member.specs.Judged.{asked_names}
+use Rattle.wb_member.specs.Opened.{Opened, events, opened_with, present}
+use Rattle.wb_keeping.specs.Bounds.{FewRequestsAtOnce, FewTimersStand, is_ask, is_request, new_keeping, timer_count}
+use Rattle.wb_keeping.specs.Kept.{Asks, Doing, Line, Says, SetsDistance, Stops, Ticks, Transition, performs, reports_page, room_lines, state_of, still, stops_oldest, usual_lines, want}
+use Rattle.wb_keeping.specs.Laws.{AreTaken, KeptLine, after_kept, expand}
+use Rattle.wb_keeping.specs.Performing.{Keeping, after_doing, after_line, after_lines, sees, sent_by_line, view_of}
+use Rattle.wb_keeping.specs.Policy.{Policy, View, after_wanting, holds, is_asked, is_full, level}
+use Rattle.wb_keeping.specs.Wanting.{is_wanted, older, oldest}
+use Rattle.wb_keeping.specs.declared.wanting.AskedName.{AskedName}
+use Rattle.wb_keeping.proofs.AskedTimers.{count_seen, named}
+use Rattle.wb_keeping.proofs.EachStep.{HoldsOfSteps, all_hold, doing, having}
+use Rattle.wb_keeping.proofs.Performed.{after_both}
+use Rattle.wb_keeping.proofs.StandingTimers.{Stands, few_requests, no_more, one_less, one_more, stands_asked, stands_in}
+use Rattle.wb_keeping.proofs.Wanted.{lines_wanted}
+
+-- ---- before each line, and behind them
+
+abbrev AreFew : List Line → Opened → Type 0
+AreFew [] host = timer_count host ≤ 64
+AreFew (line ∷ lines) host = (timer_count host ≤ 64) × AreFew lines (after_line line host)
+
+few_behind : (lines : List Line) (host : Opened) → AreFew lines host → timer_count (after_lines lines host) ≤ 64
+few_behind [] host few = few
+few_behind (line ∷ lines) host few = few_behind lines (after_line line host) few.1
+
+few_both : (one other : List Line) (host : Opened) → AreFew one host → AreFew other (after_lines one host) → AreFew (one ++ other) host
+few_both [] other host a b = b
+few_both (line ∷ one) other host a b = (a.0, few_both one other (after_line line host) a.1 b)
+
+few_in : (lines : List Line) (host : Opened) (some : ℕ) → AreFew lines host → timer_count (after_lines (take some lines) host) ≤ 64
+few_in [] host zero few = few
+few_in [] host (suc some) few = few
+few_in (line ∷ lines) host zero few = few.0
+few_in (line ∷ lines) host (suc some) few = few_in lines (after_line line host) some few.1
+
+few_at : (one other : List Line) (line : Line) (host : Opened) → AreFew (one ++ line ∷ other) host → timer_count (after_lines one host) ≤ 64
+few_at [] other line host few = few.0
+few_at (first ∷ one) other line host few = few_at one other line (after_line first host) few.1
+
+-- ---- lines that do not ask
+
+abbrev AskNothing : List Line → Type 0
+AskNothing [] = Unit {0}
+AskNothing (line ∷ lines) = (is_ask line ≡ false) × AskNothing lines
+
+none_more : (lines : List Line) (host : Opened) (most : ℕ) → AskNothing lines → timer_count host ≤ most → timer_count (after_lines lines host) ≤ most
+none_more [] host most none few = few
+none_more (line ∷ lines) host most none few = let le = no_more line host none.0 in none_more lines (after_line line host) most none.1 (omega (arith, le, few))
+
+few_quietly : (lines : List Line) (host : Opened) → AskNothing lines → timer_count host ≤ 64 → AreFew lines host
+few_quietly [] host none few = few
+few_quietly (line ∷ lines) host none few = let le = no_more line host none.0 in (few, few_quietly lines (after_line line host) none.1 (omega (arith, le, few)))
+
+-- ---- a name that is wanted
+
+usual_asks_nothing : (source distance : ℕ) (usual : Option ℕ) → AskNothing (usual_lines source distance usual)
+usual_asks_nothing source distance None = tt
+usual_asks_nothing source distance (Some u) = by (nat_eq distance 100000) where
+  by : (b : Bool) → AskNothing (cond b (SetsDistance source u ∷ []) [])
+  by true = (refl, tt)
+  by false = tt
+
+asks_last : (lines : List Line) (name : NameValue) (host : Opened) → AskNothing lines → timer_count host ≤ 63 → AreFew (lines ++ Asks name ∷ []) host
+asks_last [] name host none few = let le = one_more name host in (omega (arith, few), omega (arith, le, few))
+asks_last (line ∷ lines) name host none few = let le = no_more line host none.0 in (omega (arith, few), asks_last lines name (after_line line host) none.1 (omega (arith, le, few)))
+
+-- a name is the oldest of some, or among those behind the first
+oldest_in : (a : AskedName) (later : List AskedName) → (fold older a later ≡ a) ⊎ Contains (map (λ (a : AskedName). a.name) later) (fold older a later).name
+oldest_in a [] = inl refl
+oldest_in a (b ∷ later) =
+    let rest = oldest_in (older a b) later in
+    ⊎_elim (λ (e : fold older a (b ∷ later) ≡ older a b). by (nat_lt a.level b.level) e)
+    (λ (c : Contains (map (λ (a : AskedName). a.name) later) (fold older a (b ∷ later)).name). inr (Contains-there b.name (fold older a (b ∷ later)).name (map (λ (a : AskedName). a.name) later) c)) rest where
+      names : List NameValue
+      names = map (λ (a : AskedName). a.name) later
+
+      by : (t : Bool) → fold older a (b ∷ later) ≡ cond t b a → (fold older a (b ∷ later) ≡ a) ⊎ Contains (b.name ∷ names) (fold older a (b ∷ later)).name
+      by true e = inr (subst (λ (n : NameValue). Contains (b.name ∷ names) n) (sym (ap (λ (a : AskedName). a.name) e)) (Contains-here b.name names))
+      by false e = inl e
+
+oldest_among : (a : AskedName) (later : List AskedName) → Contains (map (λ (a : AskedName). a.name) (a ∷ later)) (fold older a later).name
+oldest_among a later = ⊎_elim
+    (λ (e : fold older a later ≡ a). subst (λ (n : NameValue). Contains (a.name ∷ names) n) (sym (ap (λ (a : AskedName). a.name) e)) (Contains-here a.name names))
+    (λ (c : Contains names (fold older a later).name). Contains-there a.name (fold older a later).name names c) (oldest_in a later) where
+      names : List NameValue
+      names = map (λ (a : AskedName). a.name) later
+
+-- one of those that are asked for
+oldest_stands : (host : Opened) (asked : List AskedName) → asked ≡ (view_of host).asked → 64 ≤ length asked → timer_count host ≤ 64 → AreFew (stops_oldest (oldest asked)) host × (timer_count (after_lines (stops_oldest (oldest asked)) host) ≤ 63)
+oldest_stands host [] e many few = absurd (omega (arith, many))
+oldest_stands host (a ∷ later) e many few =
+    let name = (fold older a later).name in
+    let names : map (λ (a : AskedName). a.name) (a ∷ later) ≡ asked_names host = ap (map (λ (a : AskedName). a.name)) e ∙ named (timers_of host.is.constants (events host)) _ in
+    let stands = stands_in host name (subst (λ (ns : List NameValue). Contains ns name) names (oldest_among a later)) in
+    let lt = one_less name host stands in
+    ((few, omega (arith, lt, few)), omega (arith, lt, few))
+
+-- there is room for one timer more
+room_made : (name : NameValue) (host : Opened) → timer_count host ≤ 64 → AreFew (room_lines name (view_of host)) host × (timer_count (after_lines (room_lines name (view_of host)) host) ≤ 63)
+room_made name host few = by (is_asked (view_of host) name) (nat_le 64 (length (view_of host).asked)) refl refl where
+  by : (a b : Bool) → is_asked (view_of host) name ≡ a → nat_le 64 (length (view_of host).asked) ≡ b
+      → AreFew (cond a (Stops name ∷ []) (cond b (stops_oldest (oldest (view_of host).asked)) [])) host × (timer_count (after_lines (cond a (Stops name ∷ []) (cond b (stops_oldest (oldest (view_of host).asked)) [])) host) ≤ 63)
+  by true b e f = let lt = one_less name host (stands_asked host name e) in ((few, omega (arith, lt, few)), omega (arith, lt, few))
+  by false true e f = oldest_stands host (view_of host).asked refl (leb-true _ _ f) few
+  by false false e f = let lt = leb-false _ _ f in let counts = count_seen host in (few, omega (arith, lt, counts))
+
+wanted_few : (name : NameValue) (anew : Bool) (k : Keeping) → timer_count k.host ≤ 64 → AreFew (want name anew (sees k.host) k.policy).lines k.host
+wanted_few name anew k few = by (is_wanted (holds (view_of k.host) name) (is_full (view_of k.host)) anew (level (view_of k.host) name) k.policy.owed (present k.host)) where
+  by : (b : Bool) → AreFew (cond b (doing (after_wanting (present k.host) k.policy) (lines_wanted name anew (sees k.host) k.policy)) (still (sees k.host) k.policy)).lines k.host
+  by false = few
+  by true =
+      let usual = usual_lines name.source ((view_of k.host).distance name.source) k.policy.usual in
+      let room = room_made name k.host few in
+      few_both (room_lines name (view_of k.host)) (usual ++ Asks name ∷ []) k.host room.0 (asks_last usual name (after_lines (room_lines name (view_of k.host)) k.host) (usual_asks_nothing name.source ((view_of k.host).distance name.source) k.policy.usual) room.1)
+
+-- ---- all that a kept host does
+
+record KeepsFew (k : Keeping) (lines : List Line) (m : Keeping) : Type 0 where
+  at : m.host ≡ after_lines lines k.host
+  few : timer_count k.host ≤ 64 → AreFew lines k.host
+
+quietly : (k : Keeping) (lines : List Line) (p : Policy) → AskNothing lines → KeepsFew k lines (record { host = after_lines lines k.host; policy = p })
+quietly k lines p none = record { at = refl; few = few_quietly lines k.host none }
+
+both_few : (k m n : Keeping) (one other : List Line) → KeepsFew k one m → KeepsFew m other n → KeepsFew k (one ++ other) n
+both_few k m n one other a b = record {
+  at = b.at ∙ ap (after_lines other) a.at ∙ sym (after_both one other k.host);
+  few = λ few.
+      let first = a.few few in
+      let last = few_behind one k.host first in
+      few_both one other k.host first (subst (AreFew other) a.at (b.few (subst (λ (h : Opened). timer_count h ≤ 64) (sym a.at) last)));
+}
+
+says_ask_nothing : (v : View) (pages : List PageId) → AskNothing (map (λ (page : PageId). Says (state_of v page)) pages)
+says_ask_nothing v [] = tt
+says_ask_nothing v (page ∷ pages) = (refl, says_ask_nothing v pages)
+
+steps_keep_few : HoldsOfSteps KeepsFew
+steps_keep_few = record {
+  nothing = λ k. quietly k [] k.policy tt;
+  both = both_few;
+  ticks = λ now k later. quietly k (Ticks now ∷ []) k.policy (refl, tt);
+  arrives = λ d k. quietly k _ k.policy (refl, tt);
+  answered = λ d k lacks asked. quietly k _ _ (refl, tt);
+  hears = λ v k. quietly k _ k.policy (refl, tt);
+  stops = λ name k. quietly k _ k.policy (refl, tt);
+  sets = λ source micros k. quietly k _ k.policy (refl, tt);
+  wants = λ name anew k. record { at = refl; few = wanted_few name anew k };
+  draws = λ d k. quietly k _ k.policy (refl, tt);
+  turned = λ t k. quietly k [] _ tt;
+  measured = λ micros k. quietly k [] _ tt;
+  told = λ k. quietly k [] _ tt;
+  takes_up = λ k is. quietly k [] _ tt;
+  answers = λ k is. quietly k _ _ (says_ask_nothing (view_of k.host) (take 64 (pages_of k.host.is.held)));
+  asks_pages = λ k is. quietly k _ _ (refl, tt);
+  reports = λ page told k is. quietly k _ _ (refl, tt);
+}
+
+-- none stands at first
+ticks_ask_nothing : (moments : List ℕ) → AskNothing (map Ticks moments)
+ticks_ask_nothing [] = tt
+ticks_ask_nothing (moment ∷ moments) = (refl, ticks_ask_nothing moments)
+
+few_from_new : (constants : Tuning) (number cells seed : ℕ) (moments : List ℕ) (policy : Policy) (lines : List KeptLine) → let start = new_keeping constants number cells seed moments policy in AreTaken lines start → AreFew (expand lines start) start.host
+few_from_new constants number cells seed moments policy lines taken =
+    let start = new_keeping constants number cells seed moments policy in
+    let none = none_more (map Ticks moments) (opened_with constants number cells seed) 0 (ticks_ask_nothing moments) (omega arith) in
+    (all_hold KeepsFew steps_keep_few lines start taken).few (omega (arith, none))
+
+pub few_timers_stand : FewTimersStand
+few_timers_stand constants number cells seed moments policy lines some taken =
+    let start = new_keeping constants number cells seed moments policy in
+    few_in (expand lines start) start.host some (few_from_new constants number cells seed moments policy lines taken)
+
+pub few_requests_at_once : FewRequestsAtOnce
+few_requests_at_once constants number cells seed moments policy lines before later line taken is =
+    let start = new_keeping constants number cells seed moments policy in
+    few_requests line (after_lines before start.host) (few_at before later line start.host (subst (λ (ls : List Line). AreFew ls start.host) is (few_from_new constants number cells seed moments policy lines taken)))

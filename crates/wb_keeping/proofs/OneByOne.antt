@@ -1,0 +1,74 @@
+-- Names and pages that are gone over one by one.
+use Rattle.std.proofs.Common.{◌≡◌, ℕ, suc, ◌+◌, ◌-◌, ◌<◌, ◌≤◌, Bool, true, false, cond, List, [], ◌∷◌, ◌++◌, ◌∙◌, add-one, ap, append_assoc, append-nil, arith, drop, drop-cons, filter, get_or, length, map, refl, subst, sym}
+use Rattle.std.specs.Prelude.{nat_lt}
+use Rattle.std.proofs.lemmas.List.{drop_all}
+use Rattle.wb_names.specs.Values.{NameValue}
+use Rattle.wb_names.specs.declared.name.PageId.{PageId}
+use Rattle.wb_codec.specs.declared.datagram.Datagram.{Datagram}
+use Rattle.wb_member.specs.Opened.{Opened}
+use Rattle.wb_keeping.specs.Kept.{Line, Says, Stops, Transition, and_then, downwards, is_begun, is_unasked, still, want, want_near, want_told}
+use Rattle.wb_keeping.specs.Performing.{Does, DoesQuietly, IsKeptAt, Keeping, KeptValue, after_lines, sees, sent_by_lines, view_of}
+use Rattle.wb_keeping.specs.Policy.{Policy, View}
+use Rattle.wb_keeping.specs.Steps.{performs_all}
+use Rattle.wb_keeping.proofs.Performed.{does_as, quiet_as, quiet_more, quiet_still, quiet_then}
+use Rattle.wb_keeping.proofs.Wanted.{not_begun}
+
+-- ---- the next of a list
+
+pub next_of : {X : Type 0} (xs : List X) (i : ℕ) (d : X) → i < length xs → drop i xs ≡ get_or xs i d ∷ drop (i + 1) xs
+next_of xs i d lt = rw (add-one, drop-cons xs i d)
+
+-- what is done for the whole list is done for its rest, once that was done for the next
+pub at_next : {X : Type 0} (P : List X → Type 0) (xs : List X) (i : ℕ) (d : X) → i < length xs → P (get_or xs i d ∷ drop (i + 1) xs) → P (drop i xs)
+at_next P xs i d lt p = subst P (sym (next_of xs i d lt)) p
+
+pub at_end : {X : Type 0} (P : List X → Type 0) (xs : List X) (i : ℕ) → length xs ≤ i → P [] → P (drop i xs)
+at_end P xs i le p = subst P (sym (drop_all i xs le)) p
+
+-- ---- names that are stopped, and wanted
+
+pub stop_next : (names : List NameValue) (i : ℕ) (d : NameValue) {a b c : KeptValue} → i < length names → DoesQuietly (performs_all (Stops (get_or names i d) ∷ [])) a b → DoesQuietly (performs_all (map Stops (drop (i + 1) names))) b c → DoesQuietly (performs_all (map Stops (drop i names))) a c
+stop_next names i d {a} {b} {c} lt one rest = at_next (λ (ns : List NameValue). DoesQuietly (performs_all (map Stops ns)) a c) names i d lt (quiet_more (Stops (get_or names i d) ∷ []) (map Stops (drop (i + 1) names)) one rest)
+
+pub told_next : (names : List NameValue) (i : ℕ) (d : NameValue) {a b c : KeptValue} → i < length names → DoesQuietly (want (get_or names i d) true) a b → DoesQuietly (want_told (drop (i + 1) names)) b c → DoesQuietly (want_told (drop i names)) a c
+told_next names i d {a} {b} {c} lt one rest = at_next (λ (ns : List NameValue). DoesQuietly (want_told ns) a c) names i d lt (quiet_then (want (get_or names i d) true) (want_told (drop (i + 1) names)) one rest)
+
+-- the next one has a timer, or is held
+pub near_passed : (names : List NameValue) (i : ℕ) (d : NameValue) {a c : KeptValue} → i < length names → ((k : Keeping) → IsKeptAt a k → is_unasked (view_of k.host) (get_or names i d) ≡ false) → DoesQuietly (want_near (drop (i + 1) names)) a c → DoesQuietly (want_near (drop i names)) a c
+near_passed names i d {a} {c} lt known rest = at_next (λ (ns : List NameValue). DoesQuietly (want_near ns) a c) names i d lt (
+    let n = get_or names i d in
+    let ns = drop (i + 1) names in
+    quiet_as (want_near (n ∷ ns)) (want_near ns) (λ k at. ap (λ (b : Bool). cond b (cond (is_begun (want n false (sees k.host) k.policy)) (and_then (want n false) (want_near ns) (sees k.host) k.policy) (still (sees k.host) k.policy)) (want_near ns (sees k.host) k.policy)) (known k at)) rest)
+
+-- it is asked for
+pub near_begun : (names : List NameValue) (i : ℕ) (d : NameValue) {a b c : KeptValue} → i < length names → ((k : Keeping) → IsKeptAt a k → is_unasked (view_of k.host) (get_or names i d) ≡ true)
+    → ((k : Keeping) → IsKeptAt a k → is_begun (want (get_or names i d) false (sees k.host) k.policy) ≡ true)
+    → DoesQuietly (want (get_or names i d) false) a b → DoesQuietly (want_near (drop (i + 1) names)) b c → DoesQuietly (want_near (drop i names)) a c
+near_begun names i d {a} {b} {c} lt unknown begun one rest = at_next (λ (ns : List NameValue). DoesQuietly (want_near ns) a c) names i d lt (
+    let n = get_or names i d in
+    let ns = drop (i + 1) names in
+    quiet_as (want_near (n ∷ ns)) (and_then (want n false) (want_near ns)) (λ k at.
+    ap (λ (b : Bool). cond b (cond (is_begun (want n false (sees k.host) k.policy)) (and_then (want n false) (want_near ns) (sees k.host) k.policy) (still (sees k.host) k.policy)) (want_near ns (sees k.host) k.policy)) (unknown k at)
+    ∙ ap (λ (b : Bool). cond b (and_then (want n false) (want_near ns) (sees k.host) k.policy) (still (sees k.host) k.policy)) (begun k at)) (quiet_then (want n false) (want_near ns) one rest))
+
+-- it is not asked for, which ends it
+pub near_ended : (names : List NameValue) (i : ℕ) (d : NameValue) {a b : KeptValue} → i < length names → ((k : Keeping) → IsKeptAt a k → is_unasked (view_of k.host) (get_or names i d) ≡ true)
+    → ((k : Keeping) → IsKeptAt a k → is_begun (want (get_or names i d) false (sees k.host) k.policy) ≡ false)
+    → DoesQuietly (want (get_or names i d) false) a b → DoesQuietly (want_near (drop i names)) a b
+near_ended names i d {a} {b} lt unknown begun one = at_next (λ (ns : List NameValue). DoesQuietly (want_near ns) a b) names i d lt (
+    let n = get_or names i d in
+    let ns = drop (i + 1) names in
+    quiet_as (want_near (n ∷ ns)) (want n false) (λ k at.
+    ap (λ (b : Bool). cond b (cond (is_begun (want n false (sees k.host) k.policy)) (and_then (want n false) (want_near ns) (sees k.host) k.policy) (still (sees k.host) k.policy)) (want_near ns (sees k.host) k.policy)) (unknown k at)
+    ∙ ap (λ (b : Bool). cond b (and_then (want n false) (want_near ns) (sees k.host) k.policy) (still (sees k.host) k.policy)) (begun k at)
+    ∙ sym (not_begun n false (sees k.host) k.policy (begun k at))) one)
+
+-- ---- lines that tell what is so, and change nothing
+
+module _ (state : PageId → Datagram) (told : (page : PageId) (host : Opened) → (after_lines (Says (state page) ∷ []) host ≡ host) × (sent_by_lines (Says (state page) ∷ []) host ≡ state page ∷ [])) where
+  abbrev says : List PageId → List Line
+  says pages = map (λ (page : PageId). Says (state page)) pages
+
+  pub says_after : (pages : List PageId) (host : Opened) → after_lines (says pages) host ≡ host
+  says_after [] host = refl
+  says_after (page ∷ pages) host = ap (after_lines (says pages)) (told page host).0 ∙ says_after pages host

@@ -1,0 +1,452 @@
+-- No number of its own that a kept host knows of is greater than 2^31 - 1 and what its board holds, so that a number is always left.
+use Rattle.std.proofs.Common.{◌≡◌, ℕ, suc, ◌+◌, ◌≤◌, ◌<◌, Bool, true, false, cond, List, [], ◌∷◌, ◌++◌, ◌∙◌, ap, arith, filter, length, length-append, map, max, refl, subst, sym, true≢false, inl, inr, ⊎_elim}
+use Rattle.std.specs.Prelude.{Option, Some, None, ◌⊎◌, not, ◌&&◌, ◌||◌, nat_eq, nat_le, nat_lt, take}
+use Rattle.std.proofs.lemmas.Bool.{and_parts, eqb-true, ltb-true}
+use Rattle.std.proofs.lemmas.Bool.Decides.{nat_tests}
+use Rattle.wb_names.specs.Arrivals.{Outcome, Fresh, Known, Clashed, Left, history_with, outcome_from, outcome_of}
+use Rattle.wb_names.specs.Faults.{fault_unless, first_of}
+use Rattle.wb_names.specs.History.{highest, is_of}
+use Rattle.wb_names.specs.Marks.{mark_of}
+use Rattle.wb_names.specs.Orders.{same_name, same_page}
+use Rattle.wb_names.specs.Same.{same_drawop}
+use Rattle.wb_names.specs.Values.{DrawopValue, MarkValue, NameValue}
+use Rattle.wb_names.specs.declared.echo.Echo.{Echo}
+use Rattle.wb_names.specs.declared.name.PageId.{PageId}
+use Rattle.wb_codec.specs.declared.datagram.Datagram.{Datagram}
+use Rattle.wb_codec.specs.declared.datagram.Datagram.TheVariants.{Draw, Session, Request, AskPages, PageState}
+use Rattle.wb_gaps.specs.Answers.{pages_of, report_of}
+use Rattle.wb_gaps.specs.Holes.{hole_after}
+use Rattle.wb_gaps.specs.Joining.{greater, joined, joined_at}
+use Rattle.wb_gaps.specs.declared.holes.Hole.{Hole}
+use Rattle.wb_recovery.specs.declared.tuning.Tuning.{Tuning}
+use Rattle.wb_host.specs.Hearing.{asks_for_held, marks_heard, marks_in, marks_reported}
+use Rattle.wb_host.specs.Keeper.{KeeperCall, Hear, holds, is_own}
+use Rattle.wb_host.specs.declared.keep_fault.KeepFault.TheVariants.{BackInTime}
+use Rattle.wb_member.specs.Members.{Misses}
+use Rattle.wb_member.specs.Opened.{Opened, accepted, doing, has_room_for, heard, last_number, may_ask, opened_with, present, ticked, word_at}
+use Rattle.wb_member.specs.Random.{word_of}
+use Rattle.wb_keeping.specs.Distances.{bounded}
+use Rattle.wb_keeping.specs.Kept.{Arrives, Asks, Doing, Hears, Line, Says, SetsDistance, Stops, Ticks, Transition, and_then, answers, asks_pages, came, distance_in, draws_it, drawing, end, ends_full, hears, hears_session, hears_some, hears_state, is_begun, is_unasked, learned, measures, own_echo, own_marks, paid_for, performs, reports, reports_due, reports_rest, room_lines, state_of, still, stops_oldest, takes, takes_question, timed, told_names, turn, turn_to, usual_lines, want, want_near, want_told}
+use Rattle.wb_keeping.specs.Laws.{ANumberIsLeft, Added, AreTaken, Came, KeptLine, Ticked, after_kept, doing_of, fault_of}
+use Rattle.wb_keeping.specs.Performing.{Keeping, after_doing, after_line, after_lines, sees, view_of}
+use Rattle.wb_keeping.specs.Policy.{Policy, View, after_answer, after_question, after_state, after_taking_up, after_turn, after_wanting, holds as holds_in, in_next_round, is_asked, is_full, level}
+use Rattle.wb_keeping.specs.Questions.{is_due, is_to_answer}
+use Rattle.wb_keeping.specs.Refusing.{is_unknown, is_unknown_of_ours}
+use Rattle.wb_keeping.specs.Reports.{slice_after}
+use Rattle.wb_keeping.specs.Turns.{name_in, nowhere}
+use Rattle.wb_keeping.specs.Wanting.{is_wanted, oldest}
+use Rattle.wb_keeping.specs.declared.kept_fault.KeptFault.{KeptFault}
+use Rattle.wb_keeping.specs.declared.kept_fault.KeptFault.TheVariants.{Host, Ours}
+use Rattle.wb_keeping.specs.declared.wanting.AskedName.{AskedName}
+use Rattle.wb_keeping.proofs.Performed.{then_after}
+use Rattle.wb_keeping.proofs.Wanted.{lacks_here, lines_wanted, near_here, with_room_done}
+
+-- ---- marks of one source
+
+abbrev pub OwnBelow : ℕ → ℕ → List MarkValue → Type 0
+OwnBelow me most [] = Unit {0}
+OwnBelow me most (m ∷ marks) = (m.source ≡ me → m.high ≤ most) × OwnBelow me most marks
+
+module _ (me most : ℕ) where
+  mark_below : (marks : List MarkValue) → OwnBelow me most marks → mark_of marks me ≤ most
+  mark_below [] below = omega arith
+  mark_below (m ∷ marks) below = by (nat_eq m.source me) refl (mark_below marks below.1) where
+    by : (b : Bool) → nat_eq m.source me ≡ b → mark_of marks me ≤ most → cond b m.high (mark_of marks me) ≤ most
+    by true e rest = below.0 (eqb-true _ _ e)
+    by false e rest = rest
+
+  both_below : (m n : MarkValue) → nat_lt m.source n.source ≡ false → nat_lt n.source m.source ≡ false → (m.source ≡ me → m.high ≤ most) → (n.source ≡ me → n.high ≤ most) → (greater m n).source ≡ me → (greater m n).high ≤ most
+  both_below m n a b f g e = let s : n.source ≡ m.source = grind (arith, nat_tests) in let h = f e in let i = g (s ∙ e) in omega (arith, h, i)
+
+  at_below : (m : MarkValue) (ms : List MarkValue) (rest : List MarkValue → List MarkValue) → (m.source ≡ me → m.high ≤ most) → OwnBelow me most ms → ((ns : List MarkValue) → OwnBelow me most ns → OwnBelow me most (rest ns)) → (ns : List MarkValue) → OwnBelow me most ns → OwnBelow me most (joined_at m ms rest ns)
+  at_below m ms rest here all keeps [] below = (here, all)
+  at_below m ms rest here all keeps (n ∷ ns) below = by (nat_lt m.source n.source) (nat_lt n.source m.source) refl refl (at_below m ms rest here all keeps ns below.1) where
+    by : (a b : Bool) → nat_lt m.source n.source ≡ a → nat_lt n.source m.source ≡ b → OwnBelow me most (joined_at m ms rest ns) → OwnBelow me most (cond a (m ∷ rest (n ∷ ns)) (cond b (n ∷ joined_at m ms rest ns) (greater m n ∷ rest ns)))
+    by true b e f later = (here, keeps (n ∷ ns) below)
+    by false true e f later = (below.0, later)
+    by false false e f later = (both_below m n e f here below.0, keeps ns below.1)
+
+  joined_below : (ms ns : List MarkValue) → OwnBelow me most ms → OwnBelow me most ns → OwnBelow me most (joined ms ns)
+  joined_below [] ns a b = b
+  joined_below (m ∷ ms) ns a b = at_below m ms (joined ms) a.0 a.1 (λ ns b. joined_below ms ns a.1 b) ns b
+
+  -- those that are heard
+  marks_below : (page : PageId) (v : Datagram) → ((page : PageId) → OwnBelow me most (marks_in page v)) → (b : Bool) → OwnBelow me most (cond b [] (marks_in page v))
+  marks_below page v small true = tt
+  marks_below page v small false = small page
+
+  pub heard_below : (now : ℕ) (v : Datagram) (word : ℕ) (held : Bool) (calls : List KeeperCall) → ((page : PageId) → OwnBelow me most (marks_in page v)) → ((page : PageId) → OwnBelow me most (marks_heard me calls page)) → (page : PageId) → OwnBelow me most (marks_heard me (Hear now v word held ∷ calls) page)
+  heard_below now v word held calls small all page = joined_below (marks_reported me page (Hear now v word held)) (marks_heard me calls page) (marks_below page v small (is_own me v)) (all page)
+
+-- ---- numbers that are held
+
+highest_more : (page : PageId) (source : ℕ) (history : List DrawopValue) (d : DrawopValue) → highest page source (history ++ d ∷ []) ≡ max (highest page source history) (cond (is_of page source d) d.name.seq 0)
+highest_more page source [] d = omega arith
+highest_more page source (e ∷ history) d = let rest = highest_more page source history d in omega (arith, rest)
+
+-- one drawop more
+module _ (page : PageId) (me most : ℕ) (history : List DrawopValue) (d : DrawopValue) where
+  abbrev Kept : List DrawopValue → Type 0
+  Kept history = highest page me history ≤ most + length history
+
+  more : Kept history → (is_of page me d ≡ true → d.name.seq ≤ most + length history + 1) → Kept (history ++ d ∷ [])
+  more kept small = by (is_of page me d) refl where
+    long : length (history ++ d ∷ []) ≡ length history + 1
+    long = let a = length-append history (d ∷ []) in omega (arith, a)
+
+    by : (b : Bool) → is_of page me d ≡ b → Kept (history ++ d ∷ [])
+    by true e = let a = highest_more page me history d ∙ ap (λ (b : Bool). max (highest page me history) (cond b d.name.seq 0)) e in let s = small e in omega (arith, a, s, long, kept)
+    by false e = let a = highest_more page me history d ∙ ap (λ (b : Bool). max (highest page me history) (cond b d.name.seq 0)) e in omega (arith, a, long, kept)
+
+  with_outcome : (o : Outcome) → Kept history → (((i : ℕ) → o ≡ Fresh i → is_of page me d ≡ true → d.name.seq ≤ most + length history + 1)) → Kept (history_with history d o)
+  with_outcome (Fresh i) kept small = more kept (small i refl)
+  with_outcome (Known i) kept small = kept
+  with_outcome (Clashed i) kept small = kept
+  with_outcome Left kept small = kept
+
+-- a name that is held is not fresh
+not_fresh : (cells i : ℕ) (history : List DrawopValue) (d : DrawopValue) (place : ℕ) → holds history d.name ≡ true → outcome_from cells i history d ≡ Fresh place → ⊥
+not_fresh cells i [] d place there fresh = true≢false (sym there)
+not_fresh cells i (e ∷ es) d place there fresh = by (same_name e.name d.name) refl (λ a b. not_fresh cells (i + 1) es d place a b) where
+  known : (same : Bool) → cond same (Known i) (Clashed i) ≡ Fresh place → ⊥
+  known true e = cc
+  known false e = cc
+
+  by : (b : Bool) → same_name e.name d.name ≡ b → (holds es d.name ≡ true → outcome_from cells (i + 1) es d ≡ Fresh place → ⊥) → ⊥
+  by true t later = known (same_drawop e d) (sym (ap (λ (b : Bool). cond b (cond (same_drawop e d) (Known i) (Clashed i)) (outcome_from cells (i + 1) es d)) t) ∙ fresh)
+  by false f later = later (sym (ap (λ (b : Bool). b || holds es d.name) f) ∙ there) (sym (ap (λ (b : Bool). cond b (cond (same_drawop e d) (Known i) (Clashed i)) (outcome_from cells (i + 1) es d)) f) ∙ fresh)
+
+-- who is fresh has a cell
+fresh_room : (cells i : ℕ) (history : List DrawopValue) (d : DrawopValue) (place : ℕ) → outcome_from cells i history d ≡ Fresh place → i + length history < cells
+fresh_room cells i [] d place fresh = by (nat_lt i cells) refl fresh where
+  by : (b : Bool) → nat_lt i cells ≡ b → cond b (Fresh i) Left ≡ Fresh place → i + 0 < cells
+  by true e f = let lt = ltb-true _ _ e in omega (arith, lt)
+  by false e f = absurd cc
+fresh_room cells i (e ∷ es) d place fresh = by (same_name e.name d.name) refl (λ a. fresh_room cells (i + 1) es d place a) where
+  known : (same : Bool) → cond same (Known i) (Clashed i) ≡ Fresh place → ⊥
+  known true e = cc
+  known false e = cc
+
+  by : (b : Bool) → same_name e.name d.name ≡ b → (outcome_from cells (i + 1) es d ≡ Fresh place → i + 1 + length es < cells) → i + length (e ∷ es) < cells
+  by true t later = absurd (known (same_drawop e d) (sym (ap (λ (b : Bool). cond b (cond (same_drawop e d) (Known i) (Clashed i)) (outcome_from cells (i + 1) es d)) t) ∙ fresh))
+  by false f later = let rest = later (sym (ap (λ (b : Bool). cond b (cond (same_drawop e d) (Known i) (Clashed i)) (outcome_from cells (i + 1) es d)) f) ∙ fresh) in omega (arith, rest)
+
+with_room : (cells : ℕ) (history : List DrawopValue) (d : DrawopValue) (o : Outcome) → length history ≤ cells → ((i : ℕ) → o ≡ Fresh i → 0 + length history < cells) → length (history_with history d o) ≤ cells
+with_room cells history d (Fresh i) le fresh = let lt = fresh i refl in let long = length-append history (d ∷ []) in omega (arith, lt, long)
+with_room cells history d (Known i) le fresh = le
+with_room cells history d (Clashed i) le fresh = le
+with_room cells history d Left le fresh = le
+
+-- ---- lines
+
+-- Own numbers grow by one with each drawing, and else not beyond 2^31 - 1.
+pub record IsBounded (host : Opened) : Type 0 where
+  pub marks : (page : PageId) → OwnBelow host.is.number 2147483647 (marks_heard host.is.number host.is.calls page)
+  pub held : (page : PageId) → highest page host.is.number host.is.held ≤ 2147483647 + length host.is.held
+  pub room : length host.is.held ≤ host.is.cells
+  pub cells : host.is.cells ≤ 65535
+
+abbrev pub IsTame : Opened → Line → Type 0
+IsTame host (Ticks now) = Unit {0}
+IsTame host (Arrives d) = d.name.source ≡ host.is.number → (d.name.seq ≤ 2147483647) ⊎ (holds host.is.held d.name ≡ true)
+IsTame host (Hears v) = (page : PageId) → OwnBelow host.is.number 2147483647 (marks_in page v)
+IsTame host (Asks name) = Unit {0}
+IsTame host (Stops name) = Unit {0}
+IsTame host (SetsDistance source micros) = Unit {0}
+IsTame host (Says (Draw d)) = d.name.seq ≤ last_number d.name.page host + 1
+IsTame host (Says (Session sender sent page marks echoes)) = Unit {0}
+IsTame host (Says (Request asker name)) = Unit {0}
+IsTame host (Says (AskPages asker)) = Unit {0}
+IsTame host (Says (PageState sender page marks)) = Unit {0}
+
+pub number_left : (page : PageId) (host : Opened) → IsBounded host → last_number page host ≤ 2147483647 + length host.is.held
+number_left page host b = let m = mark_below host.is.number 2147483647 (marks_heard host.is.number host.is.calls page) (b.marks page) in let h = b.held page in omega (arith, m, h)
+
+taken : (d : DrawopValue) (host : Opened) → IsBounded host → ((page : PageId) (i : ℕ) → outcome_of host.is.cells host.is.held d ≡ Fresh i → is_of page host.is.number d ≡ true → d.name.seq ≤ 2147483647 + length host.is.held + 1) → IsBounded (accepted d host)
+taken d host b small = record {
+  marks = b.marks;
+  held = λ page. with_outcome page host.is.number 2147483647 host.is.held d (outcome_of host.is.cells host.is.held d) (b.held page) (small page);
+  room = with_room host.is.cells host.is.held d (outcome_of host.is.cells host.is.held d) b.room (λ i fresh. fresh_room host.is.cells 0 host.is.held d i fresh);
+  cells = b.cells;
+}
+
+arrival : (d : DrawopValue) (host : Opened) (page : PageId) (i : ℕ) → IsTame host (Arrives d) → outcome_of host.is.cells host.is.held d ≡ Fresh i → is_of page host.is.number d ≡ true → d.name.seq ≤ 2147483647 + length host.is.held + 1
+arrival d host page i tame fresh of = ⊎_elim (λ (small : d.name.seq ≤ 2147483647). omega (arith, small)) (λ (there : holds host.is.held d.name ≡ true). absurd (not_fresh host.is.cells 0 host.is.held d i there fresh)) (tame (eqb-true _ _ (and_parts _ _ of).1))
+
+drawn : (d : DrawopValue) (host : Opened) (page : PageId) → IsBounded host → d.name.seq ≤ last_number d.name.page host + 1 → d.name.seq ≤ 2147483647 + length host.is.held + 1
+drawn d host page b next = let left = number_left d.name.page host b in omega (arith, left, next)
+
+pub bounded_line : (line : Line) (host : Opened) → IsBounded host → IsTame host line → IsBounded (after_line line host)
+bounded_line (Ticks now) host b tame = record { marks = b.marks; held = b.held; room = b.room; cells = b.cells }
+bounded_line (Arrives d) host b tame = taken d host b (λ page i fresh of. arrival d host page i tame fresh of)
+bounded_line (Hears v) host b tame = by (has_room_for v host) where
+  by : (room : Bool) → IsBounded (cond room (heard v host) host)
+  by true = record { marks = heard_below host.is.number 2147483647 (present host) v (word_at v host.random) (asks_for_held host.is.held v) host.is.calls tame b.marks; held = b.held; room = b.room; cells = b.cells }
+  by false = b
+bounded_line (Asks name) host b tame = by (may_ask name host) where
+  by : (may : Bool) → IsBounded (cond may (doing (Misses (present host) (name ∷ []) (word_of host.random ∷ [])) 1 host) host)
+  by true = record { marks = b.marks; held = b.held; room = b.room; cells = b.cells }
+  by false = b
+bounded_line (Stops name) host b tame = record { marks = b.marks; held = b.held; room = b.room; cells = b.cells }
+bounded_line (SetsDistance source micros) host b tame = record { marks = b.marks; held = b.held; room = b.room; cells = b.cells }
+bounded_line (Says (Draw d)) host b tame = taken d host b (λ page i fresh of. drawn d host page b tame)
+bounded_line (Says (Session sender sent page marks echoes)) host b tame = b
+bounded_line (Says (Request asker name)) host b tame = b
+bounded_line (Says (AskPages asker)) host b tame = b
+bounded_line (Says (PageState sender page marks)) host b tame = b
+
+-- ---- lines that touch no number of its own
+
+abbrev pub IsQuiet : Line → Type 0
+IsQuiet (Ticks now) = Unit {0}
+IsQuiet (Arrives d) = ⊥
+IsQuiet (Hears v) = ⊥
+IsQuiet (Asks name) = Unit {0}
+IsQuiet (Stops name) = Unit {0}
+IsQuiet (SetsDistance source micros) = Unit {0}
+IsQuiet (Says (Draw d)) = ⊥
+IsQuiet (Says (Session sender sent page marks echoes)) = Unit {0}
+IsQuiet (Says (Request asker name)) = Unit {0}
+IsQuiet (Says (AskPages asker)) = Unit {0}
+IsQuiet (Says (PageState sender page marks)) = Unit {0}
+
+tame_quiet : (line : Line) (host : Opened) → IsQuiet line → IsTame host line
+tame_quiet (Ticks now) host q = tt
+tame_quiet (Arrives d) host q = absurd q
+tame_quiet (Hears v) host q = absurd q
+tame_quiet (Asks name) host q = tt
+tame_quiet (Stops name) host q = tt
+tame_quiet (SetsDistance source micros) host q = tt
+tame_quiet (Says (Draw d)) host q = absurd q
+tame_quiet (Says (Session sender sent page marks echoes)) host q = tt
+tame_quiet (Says (Request asker name)) host q = tt
+tame_quiet (Says (AskPages asker)) host q = tt
+tame_quiet (Says (PageState sender page marks)) host q = tt
+
+abbrev pub AreQuiet : List Line → Type 0
+AreQuiet [] = Unit {0}
+AreQuiet (line ∷ lines) = IsQuiet line × AreQuiet lines
+
+pub bounded_lines : (lines : List Line) (host : Opened) → AreQuiet lines → IsBounded host → IsBounded (after_lines lines host)
+bounded_lines [] host q b = b
+bounded_lines (line ∷ lines) host q b = bounded_lines lines (after_line line host) q.1 (bounded_line line host b (tame_quiet line host q.0))
+
+both_quiet : (one other : List Line) → AreQuiet one → AreQuiet other → AreQuiet (one ++ other)
+both_quiet [] other a b = b
+both_quiet (line ∷ one) other a b = (a.0, both_quiet one other a.1 b)
+
+either_quiet : (b : Bool) (one other : Doing) → AreQuiet one.lines → AreQuiet other.lines → AreQuiet (cond b one other).lines
+either_quiet true one other a b = a
+either_quiet false one other a b = b
+
+-- ---- transitions that touch no number of its own
+
+abbrev DoesQuiet : Transition → Type 0
+DoesQuiet does = (see : List Line → View) (p : Policy) → AreQuiet (does see p).lines
+
+then_quiet : (first second : Transition) → DoesQuiet first → DoesQuiet second → DoesQuiet (and_then first second)
+then_quiet first second f s = λ see p. both_quiet (first see p).lines (second (λ lines. see ((first see p).lines ++ lines)) (first see p).policy).lines (f see p) (s (λ lines. see ((first see p).lines ++ lines)) (first see p).policy)
+
+room_quiet : (name : NameValue) (v : View) → AreQuiet (room_lines name v)
+room_quiet name v = by (is_asked v name) (nat_le 64 (length v.asked)) (oldest v.asked) where
+  by : (a b : Bool) (o : Option AskedName) → AreQuiet (cond a (Stops name ∷ []) (cond b (stops_oldest o) []))
+  by true b o = (tt, tt)
+  by false true None = tt
+  by false true (Some a) = (tt, tt)
+  by false false o = tt
+
+usual_quiet : (source distance : ℕ) (usual : Option ℕ) → AreQuiet (usual_lines source distance usual)
+usual_quiet source distance None = tt
+usual_quiet source distance (Some u) = by (nat_eq distance 100000) where
+  by : (b : Bool) → AreQuiet (cond b (SetsDistance source u ∷ []) [])
+  by true = (tt, tt)
+  by false = tt
+
+want_quiet : (name : NameValue) (anew : Bool) → DoesQuiet (want name anew)
+want_quiet name anew see p =
+    either_quiet (is_wanted (holds_in (see []) name) (is_full (see [])) anew (level (see []) name) p.owed (see []).now)
+    (record { policy = after_wanting (see []).now p; lines = lines_wanted name anew see p }) (still see p)
+    (both_quiet (room_lines name (see [])) (usual_lines name.source ((see []).distance name.source) p.usual ++ Asks name ∷ []) (room_quiet name (see []))
+    (both_quiet (usual_lines name.source ((see []).distance name.source) p.usual) (Asks name ∷ []) (usual_quiet name.source ((see []).distance name.source) p.usual) (tt, tt))) tt
+
+told_quiet : (names : List NameValue) → DoesQuiet (want_told names)
+told_quiet [] = λ see p. tt
+told_quiet (name ∷ names) = then_quiet (want name true) (want_told names) (want_quiet name true) (told_quiet names)
+
+near_quiet : (names : List NameValue) → DoesQuiet (want_near names)
+near_quiet [] see p = tt
+near_quiet (name ∷ names) see p =
+    either_quiet (is_unasked (see []) name) (cond (is_begun (want name false see p)) (and_then (want name false) (want_near names) see p) (still see p)) (want_near names see p)
+    (either_quiet (is_begun (want name false see p)) (and_then (want name false) (want_near names) see p) (still see p) (then_quiet (want name false) (want_near names) (want_quiet name false) (near_quiet names) see p) tt)
+    (near_quiet names see p)
+
+turn_to_quiet : (next first : Option Hole) → DoesQuiet (turn_to next first)
+turn_to_quiet (Some h) first see p = want_quiet (name_in p.turns.round h) true see (after_turn h p)
+turn_to_quiet None (Some h) see p = want_quiet (name_in (in_next_round p).turns.round h) true see (after_turn h (in_next_round p))
+turn_to_quiet None None see p = tt
+
+turn_quiet : DoesQuiet turn
+turn_quiet see p = turn_to_quiet (hole_after (see []).held p.turns.page p.turns.source p.turns.number) (hole_after (see []).held nowhere 0 0) see p
+
+stops_quiet : (asked : List AskedName) → AreQuiet (map (λ (a : AskedName). Stops a.name) asked)
+stops_quiet [] = tt
+stops_quiet (a ∷ asked) = (tt, stops_quiet asked)
+
+end_quiet : DoesQuiet end
+end_quiet see p = stops_quiet (see []).asked
+
+learned_quiet : (name : NameValue) (was : Bool) → DoesQuiet (learned name was)
+learned_quiet name was see p =
+    either_quiet (is_full (see [])) (end see p) (with_room_done name was see p) (end_quiet see p)
+    (either_quiet (lacks_here name was see p) (want_near (near_here name was see p) see (paid_for was p)) (cond was (turn see (paid_for was p)) (still see p)) (near_quiet (near_here name was see p) see (paid_for was p))
+    (either_quiet was (turn see (paid_for was p)) (still see p) (turn_quiet see (paid_for was p)) tt))
+
+says_quiet : (v : View) (pages : List PageId) → AreQuiet (map (λ (page : PageId). Says (state_of v page)) pages)
+says_quiet v [] = tt
+says_quiet v (page ∷ pages) = (tt, says_quiet v pages)
+
+answers_quiet : DoesQuiet answers
+answers_quiet see p = either_quiet (is_due (see []).now p.questions.answer) (record { policy = after_answer (see []).now p; lines = map (λ (page : PageId). Says (state_of (see []) page)) (take 64 (pages_of (see []).held)) }) (still see p) (says_quiet (see []) (take 64 (pages_of (see []).held))) tt
+
+asks_pages_quiet : DoesQuiet asks_pages
+asks_pages_quiet see p = either_quiet (is_due (see []).now p.questions.ask) (record { policy = after_question (see []).now p; lines = Says (AskPages (see []).me) ∷ [] }) (still see p) (tt, tt) tt
+
+rest_quiet : (marks : List MarkValue) → DoesQuiet (reports_rest marks)
+rest_quiet [] see p = (tt, tt)
+rest_quiet (m ∷ marks) see p = (tt, tt)
+
+reports_quiet : DoesQuiet reports
+reports_quiet see p = rest_quiet (slice_after p.told (report_of (see []).held p.told_page)) see p
+
+due_quiet : DoesQuiet reports_due
+due_quiet see p = either_quiet (nat_le p.reports.due (see []).now) (and_then reports turn see p) (still see p) (then_quiet reports turn reports_quiet turn_quiet see p) tt
+
+timed_quiet : DoesQuiet timed
+timed_quiet = then_quiet answers (and_then asks_pages reports_due) answers_quiet (then_quiet asks_pages reports_due asks_pages_quiet due_quiet)
+
+ends_quiet : DoesQuiet ends_full
+ends_quiet see p = either_quiet (is_full (see [])) (end see p) (still see p) (end_quiet see p) tt
+
+measures_quiet : (sender : ℕ) (distance : Option ℕ) → DoesQuiet (measures sender distance)
+measures_quiet sender None see p = tt
+measures_quiet sender (Some micros) see p = by (nat_eq (bounded micros) micros) where
+  by : (b : Bool) → AreQuiet (cond b [] (SetsDistance sender (bounded micros) ∷ []))
+  by true = tt
+  by false = (tt, tt)
+
+-- ---- what a kept host does
+
+bounded_doing : (does : Transition) → DoesQuiet does → (k : Keeping) → IsBounded k.host → IsBounded (after_doing does k).host
+bounded_doing does q k b = bounded_lines (does (sees k.host) k.policy).lines k.host (q (sees k.host) k.policy) b
+
+bounded_then : (first second : Transition) (k : Keeping) → IsBounded (after_doing second (after_doing first k)).host → IsBounded (after_doing (and_then first second) k).host
+bounded_then first second k b = subst (λ (k : Keeping). IsBounded k.host) (sym (then_after first second k)) b
+
+bounded_either : (b : Bool) (one other : Doing) (host : Opened) → IsBounded (after_lines one.lines host) → IsBounded (after_lines other.lines host) → IsBounded (after_lines (cond b one other).lines host)
+bounded_either true one other host f g = f
+bounded_either false one other host f g = g
+
+own_below : (me : ℕ) (listens : Bool) (marks : List MarkValue) → OwnBelow me 2147483647 (own_marks me listens marks)
+own_below me listens [] = tt
+own_below me listens (m ∷ marks) = by (nat_eq m.source me && (listens && nat_lt m.high 2147483648)) refl (own_below me listens marks) where
+  by : (b : Bool) → (nat_eq m.source me && (listens && nat_lt m.high 2147483648)) ≡ b → OwnBelow me 2147483647 (own_marks me listens marks) → OwnBelow me 2147483647 (cond b (m ∷ own_marks me listens marks) (own_marks me listens marks))
+  by true e rest = let lt = ltb-true m.high 2147483648 (and_parts listens (nat_lt m.high 2147483648) (and_parts (nat_eq m.source me) (listens && nat_lt m.high 2147483648) e).1).1 in ((λ same. omega (arith, lt)), rest)
+  by false e rest = rest
+
+on_page : (me : ℕ) (b : Bool) (marks : List MarkValue) → OwnBelow me 2147483647 marks → OwnBelow me 2147483647 (cond b marks [])
+on_page me true marks below = below
+on_page me false marks below = tt
+
+-- a drawop of its own that comes is held, or its number is small
+one_of : (source me seq : ℕ) (held : Bool) → (nat_eq source me && (nat_le 2147483648 seq && not held)) ≡ false → source ≡ me → (seq ≤ 2147483647) ⊎ (held ≡ true)
+one_of source me seq true e same = inr refl
+one_of source me seq false e same = inl (grind (arith, nat_tests))
+
+bounded_takes : (d : DrawopValue) (k : Keeping) → is_unknown d.name k.host ≡ false → IsBounded k.host → IsBounded (after_doing (takes d) k).host
+bounded_takes d k known b =
+    let tame : IsTame k.host (Arrives d) = one_of d.name.source k.host.is.number d.name.seq (holds k.host.is.held d.name) known in
+    let arrived : IsBounded (after_line (Arrives d) k.host) = bounded_line (Arrives d) k.host b tame in
+    bounded_either (holds_in (view_of k.host) d.name || is_full (view_of k.host)) (performs (Arrives d) (sees k.host) k.policy) (and_then (performs (Arrives d)) (learned d.name (is_asked (view_of k.host) d.name)) (sees k.host) k.policy) k.host arrived
+    (bounded_then (performs (Arrives d)) (learned d.name (is_asked (view_of k.host) d.name)) k (bounded_doing (learned d.name (is_asked (view_of k.host) d.name)) (learned_quiet d.name (is_asked (view_of k.host) d.name)) (after_doing (performs (Arrives d)) k) arrived))
+
+bounded_session : (sender sent : ℕ) (page : PageId) (marks : List MarkValue) (echoes : List Echo) (k : Keeping) → IsBounded k.host → IsBounded (after_doing (hears_session sender sent page marks echoes) k).host
+bounded_session sender sent page marks echoes k b =
+    let v = view_of k.host in
+    let own = own_marks v.me (nat_lt v.now k.policy.ready) marks in
+    let echo = own_echo v.me echoes in
+    let first = performs (Hears (Session sender sent page own echo)) in
+    let second = measures sender (distance_in v.now echo) in
+    let third = want_told (told_names v.me page marks) in
+    let heard : IsBounded (after_line (Hears (Session sender sent page own echo)) k.host) = bounded_line (Hears (Session sender sent page own echo)) k.host b (λ p. on_page v.me (same_page page p) own (own_below v.me (nat_lt v.now k.policy.ready) marks)) in
+    bounded_then first (and_then second third) k (bounded_doing (and_then second third) (then_quiet second third (measures_quiet sender (distance_in v.now echo)) (told_quiet (told_names v.me page marks))) (after_doing first k) heard)
+
+bounded_some : (sender : ℕ) (page : PageId) (own : List MarkValue) (k : Keeping) → OwnBelow k.host.is.number 2147483647 own → IsBounded k.host → IsBounded (after_doing (hears_some sender page own) k).host
+bounded_some sender page [] k below b = b
+bounded_some sender page (m ∷ marks) k below b = bounded_line (Hears (PageState sender page (m ∷ marks))) k.host b (λ p. on_page k.host.is.number (same_page page p) (m ∷ marks) below)
+
+bounded_state : (sender : ℕ) (page : PageId) (marks : List MarkValue) (k : Keeping) → IsBounded k.host → IsBounded (after_doing (hears_state sender page marks) k).host
+bounded_state sender page marks k b =
+    let v = view_of k.host in
+    let own = own_marks v.me (nat_lt v.now k.policy.ready) marks in
+    let third = want_told (told_names v.me page marks) in
+    let there : Keeping = record { host = k.host; policy = after_state v.now k.policy } in
+    bounded_then (hears_some sender page own) third there (bounded_doing third (told_quiet (told_names v.me page marks)) (after_doing (hears_some sender page own) there) (bounded_some sender page own there (own_below v.me (nat_lt v.now k.policy.ready) marks) b))
+
+question_quiet : DoesQuiet takes_question
+question_quiet see p = either_quiet (is_to_answer (see []).now (nat_lt 0 (length (see []).held)) p.questions) (still see (after_taking_up (see []).now p)) (still see p) tt tt
+
+bounded_hears : (v : Datagram) (k : Keeping) → is_unknown_of_ours v k.host ≡ false → IsBounded k.host → IsBounded (after_doing (hears v) k).host
+bounded_hears (Draw d) k known b = bounded_takes d k known b
+bounded_hears (Session sender sent page marks echoes) k known b = bounded_either (nat_eq sender k.host.is.number) (still (sees k.host) k.policy) (hears_session sender sent page marks echoes (sees k.host) k.policy) k.host b (bounded_session sender sent page marks echoes k b)
+bounded_hears (PageState sender page marks) k known b = bounded_either (nat_eq sender k.host.is.number) (still (sees k.host) k.policy) (hears_state sender page marks (sees k.host) k.policy) k.host b (bounded_state sender page marks k b)
+bounded_hears (Request asker name) k known b = bounded_either (nat_eq asker k.host.is.number) (still (sees k.host) k.policy) (performs (Hears (Request asker name)) (sees k.host) k.policy) k.host b (bounded_line (Hears (Request asker name)) k.host b (λ p. tt))
+bounded_hears (AskPages asker) k known b = bounded_either (nat_eq asker k.host.is.number) (still (sees k.host) k.policy) (takes_question (sees k.host) k.policy) k.host b (bounded_doing takes_question question_quiet k b)
+
+-- ---- its lines
+
+none_of : (past unknown : Bool) → first_of (fault_unless past (Host BackInTime) ∷ fault_unless (not unknown) Ours ∷ []) ≡ None → unknown ≡ false
+none_of true false e = refl
+none_of true true e = absurd cc
+none_of false unknown e = absurd cc
+
+later_known : (v : Datagram) (now : ℕ) (host : Opened) → is_unknown_of_ours v (ticked now host) ≡ is_unknown_of_ours v host
+later_known (Draw d) now host = refl
+later_known (Session sender sent page marks echoes) now host = refl
+later_known (Request asker name) now host = refl
+later_known (AskPages asker) now host = refl
+later_known (PageState sender page marks) now host = refl
+
+pub bounded_kept : (line : KeptLine) (k : Keeping) → fault_of line k ≡ None → IsBounded k.host → IsBounded (after_doing (doing_of line) k).host
+bounded_kept (Came now v) k none b =
+    let first = performs (Ticks now) in
+    let one = after_doing first k in
+    let there : IsBounded one.host = bounded_line (Ticks now) k.host b tt in
+    bounded_then first (and_then (hears v) timed) k (bounded_then (hears v) timed one (bounded_doing timed timed_quiet (after_doing (hears v) one) (bounded_hears v one (later_known v now k.host ∙ none_of _ _ none) there)))
+bounded_kept (Ticked now) k none b = bounded_then (performs (Ticks now)) timed k (bounded_doing timed timed_quiet (after_doing (performs (Ticks now)) k) (bounded_line (Ticks now) k.host b tt))
+bounded_kept (Added now page time op) k none b =
+    let first = performs (Ticks now) in
+    let one = after_doing first k in
+    let second = draws_it page time op in
+    let there : IsBounded one.host = bounded_line (Ticks now) k.host b tt in
+    let drew : IsBounded (after_doing second one).host = bounded_line (Says (Draw (drawing (view_of one.host) page time op))) one.host there (omega arith) in
+    bounded_then first (and_then second (and_then ends_full timed)) k (bounded_then second (and_then ends_full timed) one (bounded_doing (and_then ends_full timed) (then_quiet ends_full timed ends_quiet timed_quiet) (after_doing second one) drew))
+
+bounded_all : (lines : List KeptLine) (k : Keeping) → AreTaken lines k → IsBounded k.host → IsBounded (after_kept lines k).host
+bounded_all [] k taken b = b
+bounded_all (line ∷ lines) k taken b = bounded_all lines (after_doing (doing_of line) k) taken.1 (bounded_kept line k taken.0 b)
+
+ticks_quiet : (moments : List ℕ) → AreQuiet (map Ticks moments)
+ticks_quiet [] = tt
+ticks_quiet (moment ∷ moments) = (tt, ticks_quiet moments)
+
+pub bounded_open : (constants : Tuning) (number cells seed : ℕ) → cells ≤ 65535 → IsBounded (opened_with constants number cells seed)
+bounded_open constants number cells seed few = record { marks = λ page. tt; held = λ page. omega arith; room = omega arith; cells = few }
+
+pub a_number_is_left : ANumberIsLeft
+a_number_is_left constants number cells seed moments policy lines few taken page =
+    let start : Keeping = record { host = after_lines (map Ticks moments) (opened_with constants number cells seed); policy = policy } in
+    let b = bounded_all lines start taken (bounded_lines (map Ticks moments) (opened_with constants number cells seed) (ticks_quiet moments) (bounded_open constants number cells seed few)) in
+    let most = number_left page (after_kept lines start).host b in
+    let room = b.room in
+    let cells = b.cells in
+    omega (arith, most, room, cells)

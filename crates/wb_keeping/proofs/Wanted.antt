@@ -1,0 +1,157 @@
+-- A name that is wanted.
+use Rattle.std.proofs.Common.{◌≡◌, ℕ, suc, ◌+◌, ◌<◌, Bool, true, false, cond, List, [], ◌∷◌, ◌++◌, ◌∙◌, ap, append-nil, append_assoc, arith, length, length-append, map, refl, sym, true≢false, ◌-◌, ◌≤◌}
+use Rattle.std.specs.Prelude.{Option, Some, None, filter, nat_le, nat_lt, nat_eq, not}
+use Rattle.std.specs.List.{cons_option}
+use Rattle.std.proofs.lemmas.Bool.{lt-ltb}
+use Rattle.std.proofs.lemmas.Bool.Decides.{nat_tests}
+use Rattle.wb_names.specs.Values.{NameValue}
+use Rattle.wb_names.specs.History.{highest}
+use Rattle.wb_gaps.specs.Holes.{hole_after}
+use Rattle.wb_gaps.specs.declared.holes.Hole.{Hole}
+use Rattle.wb_keeping.specs.Kept.{Asks, Doing, Line, SetsDistance, Stops, Transition, downwards, end, is_begun, is_unasked, learned, measures, near_names, paid_for, performs, room_lines, still, stops_oldest, turn, turn_to, usual_lines, want, want_near}
+use Rattle.wb_recovery.specs.declared.timers.AskTimer.{AskTimer}
+use Rattle.wb_host.specs.GivingUp.{level as level_in}
+use Rattle.wb_keeping.specs.Distances.{bounded}
+use Rattle.wb_keeping.specs.Performing.{asked_name}
+use Rattle.wb_keeping.specs.declared.wanting.AskedName.{AskedName}
+use Rattle.wb_keeping.specs.Policy.{Policy, View, after_wanting, holds, in_next_round, is_asked, is_full, level, with_distance}
+use Rattle.wb_keeping.specs.Steps.{makes_room, performs_all, set_lines, want_in}
+use Rattle.wb_keeping.specs.Turns.{nowhere}
+use Rattle.wb_keeping.specs.Wanting.{is_wanted, oldest}
+
+module _ (name : NameValue) (anew : Bool) (see : List Line → View) (p : Policy) where
+  abbrev pub is_wanted_here : Bool
+  is_wanted_here = is_wanted (holds (see []) name) (is_full (see [])) anew (level (see []) name) p.owed (see []).now
+
+  abbrev pub lines_wanted : List Line
+  lines_wanted = room_lines name (see []) ++ (usual_lines name.source ((see []).distance name.source) p.usual ++ Asks name ∷ [])
+
+  abbrev wanted : Doing
+  wanted = record { policy = after_wanting (see []).now p; lines = lines_wanted }
+
+  pub is_asked_for : is_wanted_here ≡ true → want name anew see p ≡ wanted
+  is_asked_for e = ap (λ (b : Bool). cond b wanted (still see p)) e
+
+  pub is_not_asked_for : is_wanted_here ≡ false → want name anew see p ≡ still see p
+  is_not_asked_for e = ap (λ (b : Bool). cond b wanted (still see p)) e
+
+  some_lines : (one other : List Line) (line : Line) → nat_lt 0 (length (one ++ (other ++ line ∷ []))) ≡ true
+  some_lines one other line = let a = length-append one (other ++ line ∷ []) in let b = length-append other (line ∷ []) in lt-ltb _ _ (omega arith)
+
+  pub begun : is_wanted_here ≡ true → is_begun (want name anew see p) ≡ true
+  begun e = ap is_begun (is_asked_for e) ∙ some_lines _ _ _
+
+  pub unbegun : is_wanted_here ≡ false → is_begun (want name anew see p) ≡ false
+  unbegun e = ap is_begun (is_not_asked_for e)
+
+  pub not_begun : is_begun (want name anew see p) ≡ false → want name anew see p ≡ still see p
+  not_begun e = by is_wanted_here refl where
+    by : (b : Bool) → is_wanted_here ≡ b → want name anew see p ≡ still see p
+    by true t = absurd (true≢false (sym (begun t) ∙ e))
+    by false f = is_not_asked_for f
+
+-- the distance that is set, by whether one was told
+pub usual_set : (source : ℕ) (distance : ℕ) (usual : Option ℕ) → nat_eq distance 100000 ≡ true → set_lines source usual ≡ usual_lines source distance usual
+usual_set source distance None first = refl
+usual_set source distance (Some u) first = sym (ap (λ (b : Bool). cond b (SetsDistance source u ∷ []) []) first)
+
+pub usual_kept : (source : ℕ) (distance : ℕ) (usual : Option ℕ) → nat_eq distance 100000 ≡ false → [] ≡ usual_lines source distance usual
+usual_kept source distance None told = refl
+usual_kept source distance (Some u) told = sym (ap (λ (b : Bool). cond b (SetsDistance source u ∷ []) []) told)
+
+-- ---- room
+
+module _ (name : NameValue) (see : List Line → View) (p : Policy) where
+  abbrev lines_to : List Line → Doing
+  lines_to lines = record { policy = p; lines = lines }
+
+  pub room_asked : is_asked (see []) name ≡ true → makes_room name see p ≡ performs (Stops name) see p
+  room_asked e = ap (λ (b : Bool). lines_to (cond b (Stops name ∷ []) (cond (nat_le 64 (length (see []).asked)) (stops_oldest (oldest (see []).asked)) []))) e
+
+  pub room_there : is_asked (see []) name ≡ false → nat_le 64 (length (see []).asked) ≡ false → makes_room name see p ≡ still see p
+  room_there e f =
+      ap (λ (b : Bool). lines_to (cond b (Stops name ∷ []) (cond (nat_le 64 (length (see []).asked)) (stops_oldest (oldest (see []).asked)) []))) e
+      ∙ ap (λ (b : Bool). lines_to (cond b (stops_oldest (oldest (see []).asked)) [])) f
+
+  pub room_made : is_asked (see []) name ≡ false → nat_le 64 (length (see []).asked) ≡ true → makes_room name see p ≡ performs_all (stops_oldest (oldest (see []).asked)) see p
+  room_made e f =
+      ap (λ (b : Bool). lines_to (cond b (Stops name ∷ []) (cond (nat_le 64 (length (see []).asked)) (stops_oldest (oldest (see []).asked)) []))) e
+      ∙ ap (λ (b : Bool). lines_to (cond b (stops_oldest (oldest (see []).asked)) [])) f
+
+-- ---- a drawop that is new
+
+module _ (name : NameValue) (was : Bool) (see : List Line → View) (p : Policy) where
+  abbrev pub near_here : List NameValue
+  near_here = near_names name (highest name.page name.source (see []).held)
+
+  abbrev pub lacks_here : Bool
+  lacks_here = nat_lt 0 (length (filter (is_unasked (see [])) near_here))
+
+  abbrev pub with_room_done : Doing
+  with_room_done = cond lacks_here (want_near near_here see (paid_for was p)) (cond was (turn see (paid_for was p)) (still see p))
+
+  pub learned_full : is_full (see []) ≡ true → learned name was see p ≡ end see p
+  learned_full e = ap (λ (b : Bool). cond b (end see p) with_room_done) e
+
+  pub learned_near : is_full (see []) ≡ false → lacks_here ≡ true → learned name was see p ≡ want_near near_here see (paid_for was p)
+  learned_near e f = ap (λ (b : Bool). cond b (end see p) with_room_done) e ∙ ap (λ (b : Bool). cond b (want_near near_here see (paid_for was p)) (cond was (turn see (paid_for was p)) (still see p))) f
+
+  pub learned_none : is_full (see []) ≡ false → lacks_here ≡ false → learned name was see p ≡ cond was (turn see (paid_for was p)) (still see p)
+  learned_none e f = ap (λ (b : Bool). cond b (end see p) with_room_done) e ∙ ap (λ (b : Bool). cond b (want_near near_here see (paid_for was p)) (cond was (turn see (paid_for was p)) (still see p))) f
+
+-- ---- the turn of a hole
+
+module _ (see : List Line → View) (p : Policy) where
+  abbrev next_hole : Option Hole
+  next_hole = hole_after (see []).held p.turns.page p.turns.source p.turns.number
+
+  abbrev first_hole : Option Hole
+  first_hole = hole_after (see []).held nowhere 0 0
+
+  pub turn_next : (h : Hole) → Some h ≡ next_hole → turn see p ≡ want_in h see p
+  turn_next h e = ap (λ (o : Option Hole). turn_to o first_hole see p) (sym e)
+
+  pub turn_first : (h : Hole) → None ≡ next_hole → Some h ≡ first_hole → turn see p ≡ want_in h see (in_next_round p)
+  turn_first h e f = ap (λ (o : Option Hole). turn_to o first_hole see p) (sym e) ∙ ap (λ (o : Option Hole). turn_to None o see p) (sym f)
+
+  pub turn_none : None ≡ next_hole → None ≡ first_hole → turn see p ≡ still see (in_next_round p)
+  turn_none e f = ap (λ (o : Option Hole). turn_to o first_hole see p) (sym e) ∙ ap (λ (o : Option Hole). turn_to None o see p) (sym f)
+
+-- ---- what an echo tells
+
+pub not_same : (a b : ℕ) → (a ≡ b → ⊥) → nat_eq a b ≡ false
+not_same a b ne = grind (arith, nat_tests)
+
+pub measured : (sender : ℕ) (distance : Option ℕ) (micros near : ℕ) (see : List Line → View) (p : Policy) → Some micros ≡ distance → near ≡ bounded micros → (near ≡ micros → ⊥) → measures sender distance see p ≡ performs (SetsDistance sender near) see (with_distance micros p)
+measured sender distance micros near see p d n ne =
+    ap (λ (o : Option ℕ). measures sender o see p) (sym d)
+    ∙ ap (λ (b : Bool). let d : Doing = record { policy = with_distance micros p; lines = cond b [] (SetsDistance sender (bounded micros) ∷ []) } in d) (not_same (bounded micros) micros (λ e. ne (n ∙ e)))
+    ∙ ap (λ (m : ℕ). let d : Doing = record { policy = with_distance micros p; lines = SetsDistance sender m ∷ [] } in d) (sym n)
+
+pub same_wanted : (held here full room anew : Bool) (old new : Option ℕ) (owed due then now : ℕ) → held ≡ here → full ≡ room → old ≡ new → owed ≡ due → then ≡ now → is_wanted held full anew old owed then ≡ is_wanted here room anew new due now
+same_wanted held here full room anew old new owed due then now h f l o n = λ i. is_wanted (h i) (f i) anew (l i) (o i) (n i)
+
+-- ---- names, one below the other
+
+pub down_next : (f : ℕ → NameValue) (names : List NameValue) (high count below : ℕ) → below < count → (names ++ f (high - below) ∷ []) ++ map f (downwards (high - (below + 1)) (count - (below + 1))) ≡ names ++ map f (downwards (high - below) (count - below))
+down_next f names high count below lt =
+    let left : count - below ≡ suc (count - (below + 1)) = omega arith in
+    let next : high - below - 1 ≡ high - (below + 1) = omega arith in
+    append_assoc names (f (high - below) ∷ []) (map f (downwards (high - (below + 1)) (count - (below + 1))))
+    ∙ ap (λ (h : ℕ). names ++ f (high - below) ∷ map f (downwards h (count - (below + 1)))) (sym next)
+    ∙ ap (λ (n : ℕ). names ++ map f (downwards (high - below) n)) (sym left)
+
+pub down_end : (f : ℕ → NameValue) (names : List NameValue) (high count below : ℕ) → count ≤ below → names ++ map f (downwards (high - below) (count - below)) ≡ names
+down_end f names high count below le =
+    let none : count - below ≡ 0 = omega arith in
+    ap (λ (n : ℕ). names ++ map f (downwards (high - below) n)) none ∙ append-nil names
+
+-- ---- who is asked for
+
+pub asked_some : (name : NameValue) (timer : Option AskTimer) (n : ℕ) (rest : List AskedName) → Some n ≡ level_in timer → cons_option (asked_name name timer) rest ≡ record { name = name; level = n } ∷ rest
+asked_some name None n rest e = absurd cc
+asked_some name (Some a) n rest e = let same : n ≡ a.level = cc in ap (λ (l : ℕ). let one : AskedName = record { name = name; level = l } in one ∷ rest) (sym same)
+
+pub asked_none : (name : NameValue) (timer : Option AskTimer) (rest : List AskedName) → None ≡ level_in timer → cons_option (asked_name name timer) rest ≡ rest
+asked_none name None rest e = refl
+asked_none name (Some a) rest e = absurd cc

@@ -1,0 +1,256 @@
+-- A name that is wanted has a request timer then, where there is credit.
+use Rattle.std.proofs.Common.{◌≡◌, ℕ, ◌+◌, Bool, true, false, cond, List, [], ◌∷◌, ◌++◌, ◌∙◌, Option, Some, None, ap, arith, inl, inr, refl, subst, sym, true≢false, ⊎_elim}
+use Rattle.std.specs.Prelude.{◌⊎◌, ◌&&◌, ◌||◌, filter, is_none, is_some, length, nat_eq, nat_le, not}
+use Rattle.std.specs.List.{list_any}
+use Rattle.std.proofs.lemmas.Bool.{and_parts}
+use Rattle.wb_names.specs.Arrivals.{Outcome, Fresh, Known, Clashed, Left, history_after, history_with, outcome_of}
+use Rattle.wb_names.specs.Orders.{same_name}
+use Rattle.wb_names.specs.Values.{DrawopValue, NameValue}
+use Rattle.wb_names.proofs.Orders.{same_name-is}
+use Rattle.wb_codec.specs.declared.datagram.Datagram.{Datagram}
+use Rattle.wb_codec.specs.declared.datagram.Datagram.TheVariants.{Draw, Session, Request, AskPages, PageState}
+use Rattle.wb_recovery.specs.Events.{Asked, Event, Got, Notice, Tick, timers_of}
+use Rattle.wb_recovery.specs.Laws.{arrives, ends_answer, notices, sets_answer, since}
+use Rattle.wb_recovery.specs.Stopping.{receipts}
+use Rattle.wb_recovery.specs.Timing.{is_answer_due}
+use Rattle.wb_recovery.specs.declared.missed.Received.{Received}
+use Rattle.wb_recovery.specs.declared.tuning.Tuning.{Tuning}
+use Rattle.wb_recovery.proofs.TimerLaws.{answer_stands, request_stands}
+use Rattle.wb_host.specs.GivingUp.{is_asked as is_asked_in, level as level_in}
+use Rattle.wb_host.specs.Hearing.{asks_for_held}
+use Rattle.wb_host.specs.Keeper.{asked_by, delay_to, given_up, holds, received_of}
+use Rattle.wb_host.specs.Ticks.{stopped_after}
+use Rattle.wb_member.specs.Members.{Misses}
+use Rattle.wb_member.specs.Opened.{Opened, doing as doing_act, events, has_room_for, heard, may_ask, opened_with, present, word_at}
+use Rattle.wb_member.specs.Random.{word_of}
+use Rattle.wb_keeping.specs.Credit.{has_credit}
+use Rattle.wb_keeping.specs.Fairness.{AnswersWhatIsHeld, OnlyHeldIsAnswered, WantedIsAsked, is_answering}
+use Rattle.wb_keeping.specs.Kept.{Arrives, Asks, Doing, Hears, Line, Says, SetsDistance, Stops, Ticks, room_lines, still, stops_oldest, usual_lines, want}
+use Rattle.wb_keeping.specs.Performing.{Keeping, after_doing, after_line, after_lines, sees, view_of}
+use Rattle.wb_keeping.specs.Policy.{View, after_wanting, is_asked, is_full, level}
+use Rattle.wb_keeping.specs.Wanting.{goes_on, is_wanted, oldest}
+use Rattle.wb_keeping.specs.declared.wanting.AskedName.{AskedName}
+use Rattle.wb_keeping.proofs.AskedTimers.{level_seen}
+use Rattle.wb_keeping.proofs.EachStep.{doing}
+use Rattle.wb_keeping.proofs.Performed.{after_both}
+use Rattle.wb_keeping.proofs.StandingTimers.{Stands, come, is_some_level, keeps, missed_from, missed_to, same_itself, stands_asked}
+
+-- ---- answer timers
+
+-- it is answered, told by the calls of the timers
+abbrev IsAnswered : Tuning → NameValue → List Event → Type 0
+IsAnswered t n calls = since (sets_answer t n) (ends_answer t n) calls ≡ true
+
+ends : (a b : Bool) → cond a false b ≡ true → b ≡ true
+ends true b e = absurd (true≢false (sym e))
+ends false b e = e
+
+received : (t : Tuning) (n : NameValue) (now : ℕ) (calls : List Event) (came : List Received) → IsAnswered t n (receipts now calls came) → IsAnswered t n calls
+received t n now calls [] is = is
+received t n now calls (c ∷ came) is = ends (same_name c.name n) (since (sets_answer t n) (ends_answer t n) calls) (received t n now (Got c.name now c.delay ∷ calls) came is)
+
+-- one that is set is set for the name, which was held
+set_or : (same some old : Bool) → ((same && some) || old) ≡ true → (same ≡ true) ⊎ (old ≡ true)
+set_or true some old e = inl refl
+set_or false some old e = inr e
+
+asked_held : (t : Tuning) (n : NameValue) (me now : ℕ) (delays : ℕ → ℕ) (v : Datagram) (word : ℕ) (history : List DrawopValue) (calls : List Event)
+    → IsAnswered t n (asked_by me delays now v word (asks_for_held history v) calls) → IsAnswered t n calls ⊎ (holds history n ≡ true)
+asked_held t n me now delays (Request asker name) word history calls is = by (nat_eq asker me) (holds history name) refl is where
+  by : (own held : Bool) → holds history name ≡ held → IsAnswered t n (cond own calls (Asked name held now (delays (cond held asker name.source)) word ∷ calls)) → IsAnswered t n calls ⊎ (holds history n ≡ true)
+  by true held e is = inl is
+  by false false e is = inl is
+  by false true e is =
+      let s = timers_of t calls n in
+      ⊎_elim (λ (same : same_name name n ≡ true). inr (subst (λ (m : NameValue). holds history m ≡ true) (same_name-is name n same) e)) (λ (old : IsAnswered t n calls). inl old)
+      (set_or (same_name name n) (is_none s.answer && nat_le s.quiet now) (since (sets_answer t n) (ends_answer t n) calls) is)
+asked_held t n me now delays (Draw d) word history calls is = inl is
+asked_held t n me now delays (Session sender sent page marks echoes) word history calls is = inl is
+asked_held t n me now delays (AskPages asker) word history calls is = inl is
+asked_held t n me now delays (PageState sender page marks) word history calls is = inl is
+
+given : (t : Tuning) (n : NameValue) (now : ℕ) (name : NameValue) (asked : Bool) (calls : List Event) → IsAnswered t n (given_up now name asked calls) → IsAnswered t n calls
+given t n now name true calls is = ends (same_name name n) (since (sets_answer t n) (ends_answer t n) calls) is
+given t n now name false calls is = is
+
+-- ---- what is held stays
+
+held_append : (history : List DrawopValue) (d : DrawopValue) (n : NameValue) → holds history n ≡ true → holds (history ++ d ∷ []) n ≡ true
+held_append [] d n e = absurd (true≢false (sym e))
+held_append (x ∷ history) d n e = by (same_name x.name n) e (held_append history d n) where
+  by : (b : Bool) → (b || holds history n) ≡ true → (holds history n ≡ true → holds (history ++ d ∷ []) n ≡ true) → (b || holds (history ++ d ∷ []) n) ≡ true
+  by true e later = refl
+  by false e later = later e
+
+held_with : (history : List DrawopValue) (d : DrawopValue) (o : Outcome) (n : NameValue) → holds history n ≡ true → holds (history_with history d o) n ≡ true
+held_with history d (Fresh i) n e = held_append history d n e
+held_with history d (Known i) n e = e
+held_with history d (Clashed i) n e = e
+held_with history d Left n e = e
+
+-- ---- lines
+
+module _ (n : NameValue) where
+  from : (host : Opened) → is_answering host n ≡ true → IsAnswered host.is.constants n (events host)
+  from host e = sym (answer_stands host.is.constants (events host) n) ∙ e
+
+  to : (host : Opened) → IsAnswered host.is.constants n (events host) → is_answering host n ≡ true
+  to host is = answer_stands host.is.constants (events host) n ∙ is
+
+  arrival : (d : DrawopValue) (host : Opened) → (is_answering host n ≡ true → holds host.is.held n ≡ true) → is_answering (after_line (Arrives d) host) n ≡ true → holds (after_line (Arrives d) host).is.held n ≡ true
+  arrival d host old e =
+      let is = received host.is.constants n (present host) (events host) (received_of (delay_to host.is.number host.is.calls) (filter (holds (after_line (Arrives d) host).is.held) (d.name ∷ []))) (from (after_line (Arrives d) host) e) in
+      held_with host.is.held d (outcome_of host.is.cells host.is.held d) n (old (to host is))
+
+  pub answers_held : (line : Line) (host : Opened) → (is_answering host n ≡ true → holds host.is.held n ≡ true) → is_answering (after_line line host) n ≡ true → holds (after_line line host).is.held n ≡ true
+  answers_held (Ticks now) host old e =
+      let calls = receipts now (events host) (received_of (delay_to host.is.number host.is.calls) (stopped_after host.is.number host.is.constants host.is.calls host.is.held)) in
+      let ticked_is = ends (is_answer_due now (timers_of host.is.constants calls n).answer) (since (sets_answer host.is.constants n) (ends_answer host.is.constants n) calls) (from (after_line (Ticks now) host) e) in
+      old (to host (received host.is.constants n now (events host) (received_of (delay_to host.is.number host.is.calls) (stopped_after host.is.number host.is.constants host.is.calls host.is.held)) ticked_is))
+  answers_held (Arrives d) host old e = arrival d host old e
+  answers_held (Hears v) host old e = by (has_room_for v host) e where
+    by : (b : Bool) → is_answering (cond b (heard v host) host) n ≡ true → holds (cond b (heard v host) host).is.held n ≡ true
+    by true e = ⊎_elim (λ (is : IsAnswered host.is.constants n (events host)). old (to host is)) (λ (h : holds host.is.held n ≡ true). h)
+        (asked_held host.is.constants n host.is.number (present host) (delay_to host.is.number host.is.calls) v (word_at v host.random) host.is.held (events host) (from (heard v host) e))
+    by false e = old e
+  answers_held (Asks name) host old e = by (may_ask name host) e where
+    asking : Opened
+    asking = doing_act (Misses (present host) (name ∷ []) (word_of host.random ∷ [])) 1 host
+
+    by : (b : Bool) → is_answering (cond b asking host) n ≡ true → holds (cond b asking host).is.held n ≡ true
+    by true e = old (to host (from asking e))
+    by false e = old e
+  answers_held (Stops name) host old e = old (to host (given host.is.constants n (present host) name (is_asked_in (timers_of host.is.constants (events host)) name) (events host) (from (after_line (Stops name) host) e)))
+  answers_held (SetsDistance source micros) host old e = old e
+  answers_held (Says (Draw d)) host old e = arrival d host old e
+  answers_held (Says (Session sender sent page marks echoes)) host old e = old e
+  answers_held (Says (Request asker name)) host old e = old e
+  answers_held (Says (AskPages asker)) host old e = old e
+  answers_held (Says (PageState sender page marks)) host old e = old e
+
+  pub lines_answer_held : (lines : List Line) (host : Opened) → (is_answering host n ≡ true → holds host.is.held n ≡ true) → is_answering (after_lines lines host) n ≡ true → holds (after_lines lines host).is.held n ≡ true
+  lines_answer_held [] host old = old
+  lines_answer_held (line ∷ lines) host old = lines_answer_held lines (after_line line host) (answers_held line host old)
+
+pub only_held_is_answered : OnlyHeldIsAnswered
+only_held_is_answered constants number cells seed lines name = lines_answer_held name lines (opened_with constants number cells seed) (λ e. absurd (true≢false (sym e)))
+
+-- ---- a name that is wanted
+
+-- lines that touch no board and ask for nothing
+abbrev AreSmall : List Line → Type 0
+AreSmall [] = Unit {0}
+AreSmall (Stops name ∷ lines) = AreSmall lines
+AreSmall (SetsDistance source micros ∷ lines) = AreSmall lines
+AreSmall (line ∷ lines) = ⊥
+
+small_held : (lines : List Line) (host : Opened) → AreSmall lines → (after_lines lines host).is.held ≡ host.is.held
+small_held [] host small = refl
+small_held (Stops name ∷ lines) host small = small_held lines (after_line (Stops name) host) small
+small_held (SetsDistance source micros ∷ lines) host small = small_held lines (after_line (SetsDistance source micros) host) small
+small_held (Ticks now ∷ lines) host small = absurd small
+small_held (Arrives d ∷ lines) host small = absurd small
+small_held (Hears v ∷ lines) host small = absurd small
+small_held (Asks name ∷ lines) host small = absurd small
+small_held (Says v ∷ lines) host small = absurd small
+
+small_stands : (lines : List Line) (host : Opened) (n : NameValue) → AreSmall lines → Stands (after_lines lines host) n → Stands host n
+small_stands [] host n small stands = stands
+small_stands (Stops name ∷ lines) host n small stands = keeps (Stops name) host refl n (small_stands lines (after_line (Stops name) host) n small stands)
+small_stands (SetsDistance source micros ∷ lines) host n small stands = small_stands lines (after_line (SetsDistance source micros) host) n small stands
+small_stands (Ticks now ∷ lines) host n small stands = absurd small
+small_stands (Arrives d ∷ lines) host n small stands = absurd small
+small_stands (Hears v ∷ lines) host n small stands = absurd small
+small_stands (Asks name ∷ lines) host n small stands = absurd small
+small_stands (Says v ∷ lines) host n small stands = absurd small
+
+usual_small : (source distance : ℕ) (usual : Option ℕ) → AreSmall (usual_lines source distance usual)
+usual_small source distance None = tt
+usual_small source distance (Some u) = by (nat_eq distance 100000) where
+  by : (b : Bool) → AreSmall (cond b (SetsDistance source u ∷ []) [])
+  by true = tt
+  by false = tt
+
+oldest_small : (o : Option AskedName) → AreSmall (stops_oldest o)
+oldest_small None = tt
+oldest_small (Some a) = tt
+
+-- behind the lines that make room, no request timer of the name stands
+room_clears : (name : NameValue) (host : Opened) → AreSmall (room_lines name (view_of host)) × (Stands (after_lines (room_lines name (view_of host)) host) name → ⊥)
+room_clears name host = by (is_asked (view_of host) name) (nat_le 64 (length (view_of host).asked)) refl where
+  lines_by : Bool → Bool → List Line
+  lines_by a b = cond a (Stops name ∷ []) (cond b (stops_oldest (oldest (view_of host).asked)) [])
+
+  away : is_asked (view_of host) name ≡ false → Stands host name → ⊥
+  away e stands = true≢false (sym (ap is_some (level_seen host name) ∙ is_some_level (timers_of host.is.constants (events host) name).ask ∙ stands) ∙ e)
+
+  by : (a b : Bool) → is_asked (view_of host) name ≡ a → AreSmall (lines_by a b) × (Stands (after_lines (lines_by a b) host) name → ⊥)
+  by true b e = (
+    tt,
+    λ stands.
+        let asked = stands_asked host name e in
+        let missed = missed_from (after_line (Stops name) host) name stands in
+        let came = come name name (events host) (subst (λ (b : Bool). since (notices name) (arrives name) (given_up (present host) name b (events host)) ≡ true) asked missed) in
+        true≢false (sym (same_itself name) ∙ came.1),
+  )
+  by false true e = (oldest_small (oldest (view_of host).asked), λ stands. away e (small_stands (stops_oldest (oldest (view_of host).asked)) host name (oldest_small (oldest (view_of host).asked)) stands))
+  by false false e = (tt, λ stands. away e stands)
+
+not_true : (b : Bool) → (b ≡ true → ⊥) → b ≡ false
+not_true true never = absurd (never refl)
+not_true false never = refl
+
+asks_stand : (name : NameValue) (host : Opened) → holds host.is.held name ≡ false → (Stands host name → ⊥) → (is_answering host name ≡ true → ⊥) → Stands (after_line (Asks name) host) name
+asks_stand name host lacks unasked unanswered =
+    let s = timers_of host.is.constants (events host) name in
+    let may : may_ask name host ≡ true =
+    ap (λ (b : Bool). not (b || (is_some s.ask || is_some s.answer))) lacks
+    ∙ ap (λ (b : Bool). not (b || is_some s.answer)) (not_true (is_some s.ask) unasked)
+    ∙ ap not (not_true (is_some s.answer) unanswered) in
+    subst (λ (b : Bool). Stands (cond b asking host) name) (sym may) (missed_to asking name (ap (λ (b : Bool). b || since (notices name) (arrives name) (events host)) (same_itself name))) where
+      asking : Opened
+      asking = doing_act (Misses (present host) (name ∷ []) (word_of host.random ∷ [])) 1 host
+
+wanted_or : (full on credit : Bool) → full ≡ false → credit ≡ true → (not full && (not on && credit)) ≡ false → on ≡ true
+wanted_or false true true a b e = refl
+wanted_or false false true a b e = absurd (true≢false e)
+wanted_or false on false a b e = absurd (true≢false (sym b))
+wanted_or true on credit a b e = absurd (true≢false a)
+
+went_on : (anew : Bool) (o : Option ℕ) → goes_on anew o ≡ true → is_some o ≡ true
+went_on anew None e = absurd (true≢false (sym e))
+went_on anew (Some n) e = refl
+
+pub wanted_is_asked : WantedIsAsked
+wanted_is_asked name anew k answers lacks room credit = by (is_wanted (holds k.host.is.held name) (is_full v) anew (level v name) k.policy.owed (present k.host)) refl where
+  v : View
+  v = view_of k.host
+
+  first : List Line
+  first = room_lines name v
+
+  usual : List Line
+  usual = usual_lines name.source (v.distance name.source) k.policy.usual
+
+  wanted : Doing
+  wanted = doing (after_wanting (present k.host) k.policy) (first ++ (usual ++ Asks name ∷ []))
+
+  one : Opened
+  one = after_lines first k.host
+
+  two : Opened
+  two = after_lines usual one
+
+  asked_at : (host : Opened) → Stands host name → is_asked (view_of host) name ≡ true
+  asked_at host stands = ap is_some (level_seen host name) ∙ is_some_level (timers_of host.is.constants (events host) name).ask ∙ stands
+
+  by : (b : Bool) → is_wanted (holds k.host.is.held name) (is_full v) anew (level v name) k.policy.owed (present k.host) ≡ b → is_asked (view_of (after_lines (cond b wanted (still (sees k.host) k.policy)).lines k.host)) name ≡ true
+  by false e = went_on anew (level v name) (wanted_or (is_full v) (goes_on anew (level v name)) (has_credit k.policy.owed (present k.host)) room credit (ap (λ (b : Bool). not b && (not (is_full v) && (not (goes_on anew (level v name)) && has_credit k.policy.owed (present k.host)))) (sym lacks) ∙ e))
+  by true e =
+      let clear = room_clears name k.host in
+      let small = usual_small name.source (v.distance name.source) k.policy.usual in
+      let held : two.is.held ≡ k.host.is.held = small_held usual one small ∙ small_held first k.host clear.0 in
+      let lacks_then : holds two.is.held name ≡ false = ap (λ (h : List DrawopValue). holds h name) held ∙ lacks in
+      let stands = asks_stand name two lacks_then (λ stands. clear.1 (small_stands usual one name small stands)) (λ is. true≢false (sym (lines_answer_held name usual one (lines_answer_held name first k.host (answers name)) is) ∙ lacks_then)) in
+      let there : after_lines (first ++ (usual ++ Asks name ∷ [])) k.host ≡ after_line (Asks name) two = after_both first (usual ++ Asks name ∷ []) k.host ∙ after_both usual (Asks name ∷ []) one in
+      subst (λ (h : Opened). is_asked (view_of h) name ≡ true) (sym there) (asked_at (after_line (Asks name) two) stands)

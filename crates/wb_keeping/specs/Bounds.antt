@@ -1,0 +1,94 @@
+-- Bounds on what a host that keeps itself asks for and says, whatever comes in.
+use Rattle.std.specs.Prelude.{◌≡◌, ℕ, ◌+◌, ◌-◌, ◌*◌, ◌≤◌, Bool, true, false, not, ◌&&◌, List, [], ◌∷◌, ◌++◌, filter, length, map, take, if◌then◌else◌}
+use Rattle.wb_codec.specs.declared.datagram.Datagram.{Datagram}
+use Rattle.wb_codec.specs.declared.datagram.Datagram.TheVariants.{Session, Request, AskPages, PageState}
+use Rattle.wb_recovery.specs.declared.tuning.Tuning.{Tuning}
+use Rattle.wb_member.specs.Judged.{asked_names}
+use Rattle.wb_member.specs.Opened.{Opened, opened_with, present}
+use Rattle.wb_keeping.specs.Credit.{cost}
+use Rattle.wb_keeping.specs.Kept.{Line, Ticks, Arrives, Asks, Says}
+use Rattle.wb_keeping.specs.Laws.{AreTaken, KeptLine, after_kept, expand}
+use Rattle.wb_keeping.specs.Performing.{Keeping, after_line, after_lines, sent_by_line, view_of}
+use Rattle.wb_keeping.specs.Policy.{Policy, holds, is_asked}
+
+-- ---- timers
+
+-- how many request timers stand at a host
+abbrev pub timer_count : Opened → ℕ
+timer_count host = length (asked_names host)
+
+-- a member that was opened, and to which nothing came but ticks, with a policy
+abbrev pub new_keeping : Tuning → ℕ → ℕ → ℕ → List ℕ → Policy → Keeping
+new_keeping constants number cells seed moments policy = record {
+  host = after_lines (map Ticks moments) (opened_with constants number cells seed);
+  policy = policy;
+}
+
+-- Whatever comes in, and however many of its lines were performed, at most 64 request timers stand.
+abbrev pub FewTimersStand : Type 0
+FewTimersStand = (constants : Tuning) (number cells seed : ℕ) (moments : List ℕ) (policy : Policy) (lines : List KeptLine) (some : ℕ)
+    → let start = new_keeping constants number cells seed moments policy in
+    AreTaken lines start → timer_count (after_lines (take some (expand lines start)) start.host) ≤ 64
+
+-- ---- requests
+
+abbrev pub is_request : Datagram → Bool
+is_request (Request asker name) = true
+is_request v = false
+
+-- No line sends more than 64 requests.
+abbrev pub FewRequestsAtOnce : Type 0
+FewRequestsAtOnce = (constants : Tuning) (number cells seed : ℕ) (moments : List ℕ) (policy : Policy) (lines : List KeptLine) (before later : List Line) (line : Line)
+    → let start = new_keeping constants number cells seed moments policy in
+    AreTaken lines start → expand lines start ≡ before ++ line ∷ later → length (filter is_request (sent_by_line line (after_lines before start.host))) ≤ 64
+
+-- ---- names that are asked for
+
+abbrev pub is_ask : Line → Bool
+is_ask (Asks name) = true
+is_ask line = false
+
+-- how many lines ask for a name
+abbrev pub ask_count : List Line → ℕ
+ask_count lines = length (filter is_ask lines)
+
+-- a drawop comes by a line that is not held yet, and was asked for
+abbrev pub is_answer : Line → Opened → Bool
+is_answer (Arrives d) host = not (holds (view_of host) d.name) && is_asked (view_of host) d.name
+is_answer line host = false
+
+-- how many such drawops come by some lines
+abbrev pub answer_count : List Line → Opened → ℕ
+answer_count [] host = 0
+answer_count (line ∷ lines) host = (if is_answer line host then 1 else 0) + answer_count lines (after_line line host)
+
+-- Whatever comes in, a host asks from one moment to another for at most 64 names, for one more in each quarter of a second, and for
+-- one more for each that it asked for and that came.
+abbrev pub FewNamesAreAsked : Type 0
+FewNamesAreAsked = (lines : List KeptLine) (k : Keeping) → AreTaken lines k
+    → ask_count (expand lines k) * cost ≤ (64 + answer_count (expand lines k) k.host) * cost + (present (after_kept lines k).host - present k.host)
+
+-- ---- what is said
+
+abbrev pub is_report : Line → Bool
+is_report (Says (Session sender sent page marks echoes)) = true
+is_report line = false
+
+abbrev pub is_state : Line → Bool
+is_state (Says (PageState sender page marks)) = true
+is_state line = false
+
+abbrev pub is_question : Line → Bool
+is_question (Says (AskPages asker)) = true
+is_question line = false
+
+-- Whatever comes in, reports are a second apart or more, page states come at most 64 at once and then a second apart or more, and
+-- questions for pages are half a second apart or more.
+pub record IsRarelySaid (lines : List Line) (micros : ℕ) : Type 0 where
+  pub reports : length (filter is_report lines) * 1000000 ≤ 1000000 + micros
+  pub states : length (filter is_state lines) * 1000000 ≤ 64 * (1000000 + micros)
+  pub questions : length (filter is_question lines) * 500000 ≤ 500000 + micros
+
+abbrev pub LittleIsSaid : Type 0
+LittleIsSaid = (lines : List KeptLine) (k : Keeping) → 1000000 ≤ k.policy.questions.wait → AreTaken lines k
+    → IsRarelySaid (expand lines k) (present (after_kept lines k).host - present k.host)

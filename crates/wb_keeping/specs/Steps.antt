@@ -1,0 +1,29 @@
+-- The parts of a transition, as a member performs them one by one.
+use Rattle.std.specs.Prelude.{ℕ, Bool, true, List, [], ◌∷◌, Option, Some, None}
+use Rattle.wb_names.specs.Values.{NameValue}
+use Rattle.wb_gaps.specs.Holes.{hole_after}
+use Rattle.wb_gaps.specs.declared.holes.Hole.{Hole}
+use Rattle.wb_keeping.specs.Kept.{Line, SetsDistance, Transition, room_lines, turn_to, want}
+use Rattle.wb_keeping.specs.Policy.{after_turn}
+use Rattle.wb_keeping.specs.Turns.{name_in, nowhere}
+
+-- these lines, whatever is seen
+abbrev pub performs_all : List Line → Transition
+performs_all lines see p = record { policy = p; lines = lines }
+
+-- there is room for the timer of a name
+abbrev pub makes_room : NameValue → Transition
+makes_room name see p = record { policy = p; lines = room_lines name (see []) }
+
+-- the distance to a source is set, where there is one to set
+abbrev pub set_lines : ℕ → Option ℕ → List Line
+set_lines source None = []
+set_lines source (Some micros) = SetsDistance source micros ∷ []
+
+-- another round begins, where no hole is left in this one
+abbrev pub turn_again : Transition
+turn_again see p = turn_to None (hole_after (see []).held nowhere 0 0) see p
+
+-- a hole has its turn
+abbrev pub want_in : Hole → Transition
+want_in hole see p = want (name_in p.turns.round hole) true see (after_turn hole p)
