@@ -4,40 +4,32 @@ use Rattle.std.specs.Io.KnownBytes.{Consumes, IsAtEnd}
 use Rattle.std.proofs.lemmas.Bool.{false≢true}
 use Rattle.wb_lines.specs.declared.fault.DriveFault.{DriveFault}
 use Rattle.wb_lines.specs.declared.fault.DriveFault.TheVariants as faults
+use Rattle.wb_lines.specs.declared.lines.Seen.{Seen}
+use Rattle.wb_lines.specs.declared.lines.Seen.TheVariants as seens
 use Rattle.wb_lines.specs.Ahead.{Ahead, Pulls}
-use Rattle.wb_lines.specs.Input.{MayFollow, MayRemain}
-use Rattle.wb_lines.specs.Driving.{Rules, Outcome, writes, stop, outcome, Gave, IsStop, Meets}
-use Rattle.wb_lines.specs.Steps.{Leads, Begins, TakesLines, TakesAll, Settles, Closes}
+use Rattle.wb_lines.specs.Input.{InputLine, input_lines, MayRemain}
+use Rattle.wb_lines.specs.Items.{Items, Grouping, items_from}
+use Rattle.wb_lines.specs.Groups.{Steps, IsOutcomeOf, IsOutcome, group_rules}
+use Rattle.wb_lines.specs.Driving.{Outcome, writes, before, stop, Gave, IsStop, IsStopped, Meets}
+use Rattle.wb_lines.specs.Moments.{LinesValue, MayCome, Rest, Moment, Moves, IsTrue}
+use Rattle.wb_lines.specs.Steps.{Begins, OutcomeAt, Answers, DrivesAll, Settles, Closes, IsLeftAt, MeetsOne}
 use Rattle.wb_lines.proofs.KnownBytes.{Consumes-none}
-use Rattle.wb_lines.proofs.Outcomes.{written_of, end_of}
+use Rattle.wb_lines.proofs.Outcomes.{Total, some_outcome}
 
 -- nothing was read yet
 abbrev pub fresh : Ahead
 fresh = record { bytes = []; ended = false }
 
-settles_then : {F : Type 0} (o next : Outcome F) (x y left : List ℕ) (result : Result ℕ (DriveFault F)) → Leads o x next → Settles next y left result → Settles o (x ++ y) left result
-settles_then (writes t e) (writes u f) x y left result p (inl m) = inl (ap (λ (s : List ℕ). x ++ s) m.0 ∙ sym (written_of t (x ++ u) e f p), m.1, m.2 ∙ sym (end_of t (x ++ u) e f p))
-settles_then (writes t e) (writes u f) x y left result p (inr m) = inr (m.0, (m.1.0, written_of t (x ++ u) e f p ∙ ap (λ (s : List ℕ). x ++ s) m.1.1 ∙ sym (append_assoc x y m.1.0)))
+-- ---- the text
+
+settled : {F : Type 0} (x y left : List ℕ) (end result : Result ℕ (DriveFault F)) → Settles (stop end) y left result → Settles (before x (stop end)) (x ++ y) left result
+settled x y left end result (inl m) = inl (ap (λ (s : List ℕ). x ++ s) m.0, m.1, m.2)
+settled x y left end result (inr m) = inr (m.0, (m.1.0, ap (λ (s : List ℕ). x ++ s) m.1.1 ∙ sym (append_assoc x y m.1.0)))
 
 settles_stop : {F : Type 0} (o : Outcome F) (x y left : List ℕ) (e : DriveFault F) (result : Result ℕ (DriveFault F)) → Begins o x → IsStop e → y ≡ [] → result ≡ Err e → Settles o (x ++ y) left result
 settles_stop (writes t f) x y left e result b halts none is =
     let all : x ++ y ≡ x = ap (λ (s : List ℕ). x ++ s) none ∙ append-nil x in
     inr (rw is halts, rw all b)
-
-pub follows : (ended failed : Bool) (more : List ℕ) → (ended ≡ true → failed ≡ false) → MayRemain ended failed more → MayFollow ended more failed
-follows ended failed more working may = λ e. (may.none_after_end e, working e)
-
-takes_all : {S F : Type 0} (rules : Rules S F) (s : S) (r : Ahead) (failed : Bool) (given w w1 left : List ℕ) (ending result : Result ℕ (DriveFault F)) → (r.ended ≡ true → failed ≡ false)
-    → TakesLines rules s given w r failed ending → Closes ending w1 left result → TakesAll rules s r.ended failed given (w ++ w1) left result
-takes_all rules s r failed given w w1 left (Ok m) result working p q = λ more may.
-    let o : Settles (outcome rules false s given) (w ++ w1) left result = settles_then (outcome rules false s given) (stop (Ok m)) w w1 left result p.1 q in
-    rw (may.none_after_end p.0, working p.0, append-nil) o
-takes_all rules s r failed given w w1 left (Err faults.Read) result working p q = λ more may.
-    let o : Settles (outcome rules true s given) (w ++ w1) left result = settles_then (outcome rules true s given) (stop (Err faults.Read)) w w1 left result p.2 q in
-    rw (may.none_after_failure p.0, p.0, append-nil) o
-takes_all rules s r failed given w w1 left (Err faults.Endless) result working p q = λ more may. settles_then (outcome rules failed s (given ++ more)) (stop (Err faults.Endless)) w w1 left result (p more failed (follows r.ended failed more working may)) q
-takes_all rules s r failed given w w1 left (Err (faults.Line n e)) result working p q = λ more may. settles_then (outcome rules failed s (given ++ more)) (stop (Err (faults.Line n e))) w w1 left result (p more failed (follows r.ended failed more working may)) q
-takes_all rules s r failed given w w1 left (Err e) result working p q = λ more may. settles_stop (outcome rules failed s (given ++ more)) w w1 left e result (p more failed (follows r.ended failed more working may)) tt q.0 q.1
 
 -- what was sent of a text is all of it, or a front where the driver stopped
 sent_of : {F : Type 0} (o : Outcome F) (text sent left : List ℕ) (result : Result ℕ (DriveFault F)) → text ≡ sent ++ left → Settles o text left result → Meets o sent result
@@ -68,17 +60,76 @@ input_of ended false (Some all) (Some rest) given c at_end = record { more = res
 pub input_from : (r : Ahead) (left left' : Option (List ℕ)) (failed failed' : Bool) (given : List ℕ) → Pulls fresh r left left' failed failed' given → Input r.ended failed' left left' given
 input_from r left left' failed failed' given pulls = input_of r.ended failed' left left' given pulls.consumes (pulls.at_end (λ e. absurd (false≢true e)))
 
-pub outcome_met : {S F : Type 0} (rules : Rules S F) (s : S) (left left' : Option (List ℕ)) (failed failed' : Bool) (r : Ahead) (given w w1 sent y : List ℕ) (ending result : Result ℕ (DriveFault F))
-    → (pulls : Pulls fresh r left left' failed failed' given) → w ++ w1 ≡ sent ++ y → TakesLines rules s given w r failed' ending → Closes ending w1 y result
-    → Meets (outcome rules failed' s (given ++ (input_from r left left' failed failed' given pulls).more)) sent result
-outcome_met rules s left left' failed failed' r given w w1 sent y ending result pulls split p q =
-    let input = input_from r left left' failed failed' given pulls in
-    sent_of (outcome rules failed' s (given ++ input.more)) (w ++ w1) sent y result split
-    (takes_all rules s r failed' given w w1 y ending result (pulls.working_at_end (λ e. absurd (false≢true e))) p q input.more input.remains)
-
 -- where nothing was read or written
 pub input_none : (left : Option (List ℕ)) (failed : Bool) → Input false failed left left []
 input_none left failed = input_of false failed left left [] (Consumes-none left) (λ e. absurd (false≢true e))
 
-pub memory_met : {F : Type 0} (o : Outcome F) (result : Result ℕ (DriveFault F)) → result ≡ Err faults.Memory → Meets o [] result
-memory_met (writes text end) result e = rw e (inr (tt, (text, refl)))
+-- ---- what may still come
+
+pub may_come : {T : Type 0} (m : Moment T) (more : List ℕ) → IsTrue m → (m.lines.reader.ended ≡ true → m.failed ≡ false) → MayRemain m.lines.reader.ended m.failed more → MayCome m.lines more m.failed
+may_come {T = T} m more is_true working may = at m.lines.seen refl where
+  plain : m.lines.reader.ended ≡ true → (more ≡ []) × (m.failed ≡ false)
+  plain e = (may.none_after_end e, working e)
+
+  at : (seen : Seen T) → m.lines.seen ≡ seen → MayCome m.lines more m.failed
+  at seens.Failed e = let failed = is_true.failed e in rw e (may.none_after_failure failed, failed)
+  at (seens.Line said) e = rw e plain
+  at seens.Nothing e = rw e plain
+  at seens.TooLong e = rw e plain
+  at seens.End e = rw e plain
+  at seens.TooMany e = rw e plain
+  at seens.Unwritten e = rw e plain
+  at seens.Memory e = rw e plain
+
+-- ---- the outcome
+
+left_where : {S F : Type 0} (is_at : S → Type 0) (t : S) (result : Result ℕ (DriveFault F)) → is_at t → IsLeftAt is_at t result
+left_where is_at t (Ok n) at_t = at_t
+left_where is_at t (Err e) at_t = tt
+
+left_after : {S F : Type 0} (is_at : S → Type 0) (t : S) (result : Result ℕ (DriveFault F)) (e : DriveFault F) (y left : List ℕ) → Settles (stop (Err e)) y left result → IsLeftAt is_at t result
+left_after is_at t (Ok n) e y left (inl m) = absurd cc
+left_after is_at t (Ok n) e y left (inr m) = absurd m.0
+left_after is_at t (Err f) e y left s = tt
+
+-- an outcome that was met
+met : {S F : Type 0} (A : Outcome F → S → Type 0) (is_at : S → Type 0) (x y sent left : List ℕ) (ending result : Result ℕ (DriveFault F)) (t : S) → (x ++ y ≡ sent ++ left) → Answers A x t ending → Closes ending y left result
+    → ((n : ℕ) → ending ≡ Ok n → is_at t) → MeetsOne A is_at sent result
+met A is_at x y sent left (Ok n) result t split a c at_t = (before x (stop (Ok n)), t, a, left_where is_at t result (at_t n refl), sent_of (before x (stop (Ok n))) (x ++ y) sent left result split (settled x y left (Ok n) result c))
+met A is_at x y sent left (Err (faults.Line k e)) result t split a c at_t = (before x (stop (Err (faults.Line k e))), t, a, left_after is_at t result (faults.Line k e) y left c, sent_of (before x (stop (Err (faults.Line k e)))) (x ++ y) sent left result split (settled x y left (Err (faults.Line k e)) result c))
+met {F = F} A is_at x y sent left (Err faults.Read) result t split a c at_t = (before x (stop (Err faults.Read)), t, a, left_after {F = F} is_at t result faults.Read y left c, sent_of (before x (stop (Err faults.Read))) (x ++ y) sent left result split (settled x y left (Err faults.Read) result c))
+met {F = F} A is_at x y sent left (Err faults.Endless) result t split a c at_t = (before x (stop (Err faults.Endless)), t, a, left_after {F = F} is_at t result faults.Endless y left c, sent_of (before x (stop (Err faults.Endless))) (x ++ y) sent left result split (settled x y left (Err faults.Endless) result c))
+met A is_at x y sent left (Err faults.Memory) result t split a c at_t = (a.0, a.1, a.2, rw c.1 tt, sent_of a.0 (x ++ y) sent left result split (settles_stop a.0 x y left faults.Memory result a.3 tt c.0 c.1))
+met A is_at x y sent left (Err faults.Write) result t split a c at_t = (a.0, a.1, a.2, rw c.1 tt, sent_of a.0 (x ++ y) sent left result split (settles_stop a.0 x y left faults.Write result a.3 tt c.0 c.1))
+
+-- of some outcomes that are outcomes of an input
+meets_of : {S F : Type 0} (A B : Outcome F → S → Type 0) (is_at : S → Type 0) (sent : List ℕ) (result : Result ℕ (DriveFault F)) → ((o : Outcome F) (u : S) → A o u → B o u) → MeetsOne A is_at sent result → MeetsOne B is_at sent result
+meets_of A B is_at sent result h m = (m.0, m.1, h m.0 m.1 m.2, m.3, m.4)
+
+-- From the first moment, at which nothing was read, to the last.
+pub all_met : {S F T : Type 0} {a b : Moment T} (by : Grouping) (Does : Steps S F) (most : ℕ) (is_at : S → Type 0) (s : S) (x y sent left : List ℕ) (ending result : Result ℕ (DriveFault F)) (m : Moves a b x)
+    → a.lines.seen ≡ seens.Nothing → a.lines.reader ≡ fresh → a.lines.done ≡ 0 → a.lines.most ≡ most → IsTrue b → x ++ y ≡ sent ++ left → DrivesAll is_at (OutcomeAt by Does a.lines None s) m.given x b.lines ending → Closes ending y left result
+    → (input : Input b.lines.reader.ended b.failed a.left b.left m.given) → MeetsOne (IsOutcome (group_rules by Does most) b.failed s (m.given ++ input.more)) is_at sent result
+all_met {S = S} {F = F} {a = a} {b = b} by Does most is_at s x y sent left ending result m unseen unread none most_is is_true split d c input = at ending d c where
+  may : MayCome b.lines input.more b.failed
+  may = may_come b input.more is_true (λ e. m.pulls.working_at_end (λ h. absurd (false≢true (sym (ap (λ (r : Ahead). r.ended) unread) ∙ h))) e) input.remains
+
+  A : Outcome F → S → Type 0
+  A o u = OutcomeAt by Does a.lines None s (m.given ++ input.more) b.failed o u
+
+  here : (o : Outcome F) (u : S) → A o u → IsOutcome (group_rules by Does most) b.failed s (m.given ++ input.more) o u
+  here o u h = subst (λ (is : Items). IsOutcomeOf Does is s o u) (whole_rest h.0 h.1) h.2 where
+    whole_rest : (is : Items) → Rest by a.lines None (m.given ++ input.more) b.failed is → is ≡ items_from by most b.failed 0 None (input_lines (m.given ++ input.more))
+    whole_rest is r = rw (unseen, unread, none, most_is) at r
+
+  at : (ending : Result ℕ (DriveFault F)) → DrivesAll is_at (OutcomeAt by Does a.lines None s) m.given x b.lines ending → Closes ending y left result → MeetsOne (IsOutcome (group_rules by Does most) b.failed s (m.given ++ input.more)) is_at sent result
+  at (Ok n) d c = meets_of A (IsOutcome (group_rules by Does most) b.failed s (m.given ++ input.more)) is_at sent result here (met A is_at x y sent left (Ok n) result d.0 split (d.2 input.more b.failed may) c (λ k e. d.1))
+  at (Err e) d c = let r = d input.more b.failed may in meets_of A (IsOutcome (group_rules by Does most) b.failed s (m.given ++ input.more)) is_at sent result here (met A is_at x y sent left (Err e) result r.0 split r.1 c (λ k h. absurd cc))
+
+-- memory ran out before anything was read
+pub memory_met : {S F : Type 0} (by : Grouping) (Does : Steps S F) (most : ℕ) (is_at : S → Type 0) (cut : Bool) (s : S) (input : List ℕ) (result : Result ℕ (DriveFault F)) → Total Does → result ≡ Err faults.Memory → MeetsOne (IsOutcome (group_rules by Does most) cut s input) is_at [] result
+memory_met {F = F} by Does most is_at cut s input result total e =
+    let one = some_outcome Does total (items_from by most cut 0 None (input_lines input)) s in
+    (one.o, one.u, one.is_one, rw e tt, rw e (empty_met one.o)) where
+      empty_met : (o : Outcome F) → Meets o [] (Err faults.Memory)
+      empty_met (writes text end) = inr (tt, (text, refl))

@@ -6,6 +6,10 @@ pub mod KnownBytes
 pub mod LineBytes
 pub mod InputLines
 pub mod StandingLines
+pub mod Moments
+pub mod Looking
+pub mod GroupedLines
 pub mod Outcomes
 pub mod LongLines
 pub mod Endings
+pub mod LoneLines

@@ -1,18 +1,25 @@
--- What a driver does, one line after the other.
-use Rattle.std.proofs.Common.{◌≡◌, ◌≢◌, ℕ, ◌+◌, ◌<◌, ◌≤◌, Bool, true, false, List, [], ◌∷◌, ◌++◌, length, Result, Ok, Err, refl, sym, ap, subst, ◌∙◌, append_assoc, arith, nat_eq, nat_le, nat_lt, ◌||◌, append-nil}
+-- What a driver does, one group after the other.
+use Rattle.std.proofs.Common.{◌≡◌, ◌≢◌, ℕ, ◌+◌, ◌<◌, ◌≤◌, Bool, true, false, List, [], ◌∷◌, ◌++◌, length, Option, Some, None, Result, Ok, Err, refl, sym, ap, subst, ◌∙◌, append_assoc, arith, nat_eq, nat_le, nat_lt, ◌||◌, append-nil}
 use Rattle.std.proofs.lemmas.Bool.{false≢true}
 use Rattle.std.proofs.lemmas.Bool.Decides.{nat_tests}
 use Rattle.wb_lines.specs.declared.handler.Stop.{Stop}
 use Rattle.wb_lines.specs.declared.handler.Stop.TheVariants as handler_stops
 use Rattle.wb_lines.specs.declared.fault.DriveFault.{DriveFault}
 use Rattle.wb_lines.specs.declared.fault.DriveFault.TheVariants as faults
-use Rattle.wb_lines.specs.Ahead.{Ahead, IsLine}
-use Rattle.wb_lines.specs.Input.{InputLine, input_lines, most_bytes, BeginsWith, MayFollow}
-use Rattle.wb_lines.specs.Handling.{whole, Step, goes, stops, ends, text_of, Does}
+use Rattle.wb_lines.specs.declared.lines.Seen.{Seen}
+use Rattle.wb_lines.specs.declared.lines.Seen.TheVariants as seens
+use Rattle.wb_lines.specs.Input.{InputLine, input_lines, standing, most_bytes, BeginsWith}
+use Rattle.wb_lines.specs.Handling.{Met, whole, too_long, Step, goes, stops, ends, text_of}
 use Rattle.wb_lines.specs.Taking.{most_passed}
 use Rattle.wb_lines.specs.Driving.{Rules, Outcome, writes, before, stop, proceed, outcome_from}
-use Rattle.wb_lines.specs.Steps.{fault_of, driven, Leads, Begins, ahead, Passes, Always, Stops, Ends, TakesLine}
-use Rattle.wb_lines.proofs.InputLines.{input_lines-whole, input_lines-last, whole_line, last_line, has_line}
+use Rattle.wb_lines.specs.Items.{InputEnd, finished, unreadable, endless, Items, over, group, Grouping, Begun, begin, items_from}
+use Rattle.wb_lines.specs.Groups.{Steps, answer_of, Proceeds, IsOutcomeOf}
+use Rattle.wb_lines.specs.Moments.{LinesValue, IsRead, StartsLong, IsSound, MayCome, Rest, unread, is_broken, HasJoined, IsGroupEnd, Moment, Moves, Reads, PassesLine, EndsBy, IsLineSeen, with_one}
+use Rattle.wb_lines.specs.Steps.{fault_of, DoesOne, TakesAll, DoesGroup, Begins, OutcomeAt, Answers, Drives, DrivesAll}
+use Rattle.wb_lines.specs.Output.{Sends}
+use Rattle.wb_lines.proofs.KnownBytes.{Sends-more, Sends-then}
+use Rattle.wb_lines.proofs.Moments.{Moves-none, Moves-then}
+use Rattle.wb_lines.proofs.GroupedLines.{any_group, any_long, group_end, first_taken}
 
 -- ---- what was written before
 
@@ -22,73 +29,16 @@ before-nil (writes text end) = refl
 pub before-before : {F : Type 0} (x y : List ℕ) (o : Outcome F) → before x (before y o) ≡ before (x ++ y) o
 before-before x y (writes text end) = ap (λ (t : List ℕ). writes t end) (sym (append_assoc x y text))
 
-pub Leads-refl : {F : Type 0} (o : Outcome F) → Leads o [] o
-Leads-refl (writes text end) = refl
-
-pub Leads-is : {F : Type 0} (o next : Outcome F) → o ≡ next → Leads o [] next
-Leads-is (writes text end) next e = e ∙ sym (before-nil next)
-
-pub Leads-then : {F : Type 0} (a b c : Outcome F) (x y : List ℕ) → Leads a x b → Leads b y c → Leads a (x ++ y) c
-Leads-then (writes t e) (writes u f) c x y p q = p ∙ ap (before x) q ∙ before-before x y c
-
-pub Leads-before : {F : Type 0} (o : Outcome F) (text written : List ℕ) → written ≡ text → Leads (before text o) written o
-Leads-before (writes rest end) text written is = rw is refl
-
-pub Begins-nil : {F : Type 0} (o : Outcome F) → Begins o []
+Begins-nil : {F : Type 0} (o : Outcome F) → Begins o []
 Begins-nil (writes text end) = (text, refl)
 
-pub Begins-before : {F : Type 0} (o : Outcome F) (text written : List ℕ) → BeginsWith text written → Begins (before text o) written
+Begins-before : {F : Type 0} (o : Outcome F) (text written : List ℕ) → BeginsWith text written → Begins (before text o) written
 Begins-before (writes rest end) text written b = (b.0 ++ rest, ap (λ (t : List ℕ). t ++ rest) b.1 ∙ append_assoc written b.0 rest)
 
-pub written_of : {F : Type 0} (t u : List ℕ) (e f : Result ℕ (DriveFault F)) → writes t e ≡ writes u f → t ≡ u
-written_of t u e f h = cc
+Begins-more : {F : Type 0} (o : Outcome F) (x y : List ℕ) → Begins o y → Begins (before x o) (x ++ y)
+Begins-more (writes text end) x y b = (b.0, ap (λ (t : List ℕ). x ++ t) b.1 ∙ sym (append_assoc x y b.0))
 
-pub end_of : {F : Type 0} (t u : List ℕ) (e f : Result ℕ (DriveFault F)) → writes t e ≡ writes u f → e ≡ f
-end_of t u e f h = cc
-
-pub Begins-then : {F : Type 0} (a b : Outcome F) (x y : List ℕ) → Leads a x b → Begins b y → Begins a (x ++ y)
-Begins-then (writes t e) (writes u f) x y p q =
-    let text : t ≡ x ++ u = written_of t (x ++ u) e f p in
-    (q.0, text ∙ ap (λ (s : List ℕ). x ++ s) q.1 ∙ sym (append_assoc x y q.0))
-
--- ---- one step
-
-Begins-proceed : {S F : Type 0} (number : ℕ) (step : Step S F) (rest : S → Outcome F) (printed : List ℕ) → BeginsWith (text_of step) printed → Begins (proceed number step rest) printed
-Begins-proceed number (goes text next) rest printed b = Begins-before (rest next) text printed b
-Begins-proceed number (stops text e) rest printed b = Begins-before (stop (Err (faults.Line number e))) text printed b
-Begins-proceed {F = F} number (ends text) rest printed b = Begins-before {F = F} (stop (Err faults.Endless)) text printed b
-
--- an outcome is that of a step, before some rest
-abbrev pub OfStep : {S F : Type 0} → ℕ → Step S F → Outcome F → Type 0
-OfStep number step o = (rest : _) × (o ≡ proceed number step rest)
-
--- a handler that stops stops the driver, whatever follows
-pub halts : {S F : Type 0} (rules : Rules S F) (n : ℕ) (s : S) (read printed : List ℕ) (reader : Ahead) (failed : Bool) (is_at : S → Type 0) (step : Step S F) (e : Stop F)
-    → Always rules n s read reader (OfStep (n + 1) step) → Does {U = Unit {0}} is_at printed (Err e) step → Stops rules n s read printed reader failed (fault_of (n + 1) e)
-halts rules n s read printed reader failed is_at (stops text g) (handler_stops.Fault f) h d = λ more cut may.
-    let o = h more cut may in
-    rw (o.1, d.1) (Leads-before (stop (Err (faults.Line (n + 1) g))) text printed d.0)
-halts rules n s read printed reader failed is_at (ends text) handler_stops.Endless h d = λ more cut may.
-    let o = h more cut may in
-    rw o.1 (Leads-before (stop (Err faults.Endless)) text printed d)
-halts rules n s read printed reader failed is_at step handler_stops.Memory h d = λ more cut may.
-    let o = h more cut may in
-    rw o.1 (Begins-proceed (n + 1) step o.0 printed d)
-halts rules n s read printed reader failed is_at step e h d = absurd d
-
--- ---- a line that is not too long
-
--- what the outcome is where a line was read
-abbrev pub Meant : {S F : Type 0} → Rules S F → ℕ → S → List ℕ → Ahead → Step S F → Type 0
-Meant rules n s read reader step =
-    (more : List ℕ) (cut : Bool) → MayFollow reader.ended more cut
-    → ahead rules cut n s (read ++ more) ≡ proceed (n + 1) step (λ next. ahead rules cut (n + 1) next (reader.bytes ++ more))
-
-pub takes : {S F : Type 0} (rules : Rules S F) (is_at : S → Type 0) (n : ℕ) (s : S) (read printed : List ℕ) (reader : Ahead) (failed : Bool) (step : Step S F) (answer : Result (Unit {0}) (Stop F))
-    → Meant rules n s read reader step → Does is_at printed answer step → TakesLine rules is_at n s read printed reader failed (driven (n + 1) answer)
-takes rules is_at n s read printed reader failed (goes text next) (Ok u) h d = (next, d.1, λ more cut may. rw (h more cut may) (Leads-before (ahead rules cut (n + 1) next (reader.bytes ++ more)) text printed d.0))
-takes rules is_at n s read printed reader failed step (Err e) h d = halts rules n s read printed reader failed is_at step e (λ more cut may. (λ next. ahead rules cut (n + 1) next (reader.bytes ++ more), h more cut may)) d
-takes rules is_at n s read printed reader failed step (Ok u) h d = absurd d
+-- ---- lines that are taken one by one
 
 pub few_lines : (most n : ℕ) → n < most → nat_lt n most ≡ true
 few_lines most n few = grind (arith, nat_tests)
@@ -108,100 +58,296 @@ pub short_line_taken : {S F : Type 0} (rules : Rules S F) (n : ℕ) (s : S) (l :
     → outcome_from rules false n s (l ∷ lines) ≡ proceed (n + 1) (rules.step s (n + 1) (whole l)) (λ next. outcome_from rules false (n + 1) next lines)
 short_line_taken rules n s l lines few short = rw (few_lines rules.most n few, short_line l.bytes short, passed_line l.bytes short, or_true l.ended) refl
 
-pub whole_meant : {S F : Type 0} (rules : Rules S F) (n : ℕ) (s : S) (read line : List ℕ) (reader : Ahead) → n < rules.most → IsLine line → read ≡ line ++ 10 ∷ reader.bytes
-    → Meant rules n s read reader (rules.step s (n + 1) (whole (whole_line line)))
-whole_meant rules n s read line reader few is e = λ more cut may.
-    let all : read ++ more ≡ line ++ 10 ∷ (reader.bytes ++ more) = ap (λ (t : List ℕ). t ++ more) e ∙ append_assoc line (10 ∷ reader.bytes) more in
-    let split : input_lines (read ++ more) ≡ whole_line line ∷ input_lines (reader.bytes ++ more) = ap input_lines all ∙ input_lines-whole line (reader.bytes ++ more) is.no_line_feed in
-    rw (split, few_lines rules.most n few, short_line line is.short, passed_line line is.short) refl
+-- ---- some outcome
 
-pub last_meant : {S F : Type 0} (rules : Rules S F) (n : ℕ) (s : S) (read line : List ℕ) (reader : Ahead) → n < rules.most → IsLine line → line ≢ [] → read ≡ line → reader.bytes ≡ [] → reader.ended ≡ true
-    → Meant rules n s read reader (rules.step s (n + 1) (whole (last_line line)))
-last_meant rules n s read line reader few is some e none ended = λ more cut may.
-    let follows = may ended in
-    let all : read ++ more ≡ line = ap (λ (t : List ℕ). read ++ t) follows.0 ∙ append-nil read ∙ e in
-    let split : input_lines (read ++ more) ≡ last_line line ∷ [] = ap input_lines all ∙ input_lines-last line is.no_line_feed some in
-    let left : reader.bytes ++ more ≡ [] = ap (λ (t : List ℕ). t ++ more) none ∙ follows.0 in
-    rw (split, left, follows.1, few_lines rules.most n few, short_line line is.short, passed_line line is.short) refl
+-- something can always be done
+abbrev pub Total : {S F : Type 0} → Steps S F → Type 0
+Total Does = (s : _) (number : ℕ) (met : Met) (joined : List InputLine) → (one : Step _ _) × Does s number met joined one
 
--- ---- no line
+pub record Some_outcome {S F : Type 0} (Does : Steps S F) (is : Items) (s : S) : Type 0 where
+  pub o : Outcome F
+  pub u : S
+  pub is_one : IsOutcomeOf Does is s o u
 
-pub unwritten_stops : {S F : Type 0} (rules : Rules S F) (n : ℕ) (s : S) (read : List ℕ) (reader : Ahead) (failed : Bool) → Stops rules n s read [] reader failed faults.Write
-unwritten_stops rules n s read reader failed = λ more cut may. Begins-nil (ahead rules cut n s (read ++ more))
+pub some_outcome : {S F : Type 0} (Does : Steps S F) → Total Does → (is : Items) (s : S) → Some_outcome Does is s
+some_outcome Does total (over end) s = record { o = stop (answer_of end); u = s; is_one = (refl, refl) }
+some_outcome {S = S} {F = F} Does total (group number met joined rest) s = let one = total s number met joined in at one.0 one.1 (λ next. some_outcome Does total rest next) where
+  at : (step : Step S F) → Does s number met joined step → ((next : S) → Some_outcome Does rest next) → Some_outcome Does (group number met joined rest) s
+  at (goes text next) d more =
+      let then_on = more next in
+      record { o = before text then_on.o; u = then_on.u; is_one = (goes text next, d, (then_on.o, then_on.is_one, refl)) }
+  at (stops text e) d more = record { o = before text (stop (Err (faults.Line number e))); u = s; is_one = (stops text e, d, refl) }
+  at (ends text) d more = record { o = before text (stop (Err faults.Endless)); u = s; is_one = (ends text, d, refl) }
 
-pub ends_here : {S F : Type 0} (rules : Rules S F) (n : ℕ) (s : S) (read : List ℕ) (reader : Ahead) → read ≡ [] → reader.ended ≡ true → Ends rules n s read [] n reader
-ends_here rules n s read reader e ended = (ended, Leads-is (ahead rules false n s read) (stop (Ok n)) (ap (λ (t : List ℕ). ahead rules false n s t) e))
+-- Of a step that may be done, of whose text a front was written.
+begun_outcome : {S F : Type 0} (Does : Steps S F) → Total Does → (number : ℕ) (met : Met) (joined : List InputLine) (rest : Items) (s : S) (step : Step S F) (printed : List ℕ) → Does s number met joined step → BeginsWith (text_of step) printed
+    → (o : Outcome F) × (u : S) × IsOutcomeOf Does (group number met joined rest) s o u × Begins o printed
+begun_outcome Does total number met joined rest s (goes text next) printed d b =
+    let then_on = some_outcome Does total rest next in
+    (before text then_on.o, then_on.u, (goes text next, d, (then_on.o, then_on.is_one, refl)), Begins-before then_on.o text printed b)
+begun_outcome Does total number met joined rest s (stops text e) printed d b =
+    (before text (stop (Err (faults.Line number e))), s, (stops text e, d, refl), Begins-before (stop (Err (faults.Line number e))) text printed b)
+begun_outcome {F = F} Does total number met joined rest s (ends text) printed d b =
+    (before text (stop (Err faults.Endless)), s, (ends text, d, refl), Begins-before {F = F} (stop (Err faults.Endless)) text printed b)
 
-cut_off : {S F : Type 0} (rules : Rules S F) (n : ℕ) (s : S) (line : List ℕ) → n < rules.most → IsLine line → ahead rules true n s line ≡ stop (Err faults.Read)
-cut_off rules n s [] few is = refl
-cut_off rules n s (b ∷ line) few is =
-    let split : input_lines (b ∷ line) ≡ last_line (b ∷ line) ∷ [] = input_lines-last (b ∷ line) is.no_line_feed (λ e. cc) in
-    rw (split, few_lines rules.most n few, short_line (b ∷ line) is.short) refl
+-- ---- a handler that stops
 
-pub failure_stops : {S F : Type 0} (rules : Rules S F) (n : ℕ) (s : S) (read line : List ℕ) (reader : Ahead) (failed : Bool) → n < rules.most → IsLine line → read ≡ line → reader.ended ≡ false → failed ≡ true → Stops rules n s read [] reader failed faults.Read
-failure_stops rules n s read line reader failed few is e going has = (has, going, Leads-is (ahead rules true n s read) (stop (Err faults.Read)) (ap (λ (t : List ℕ). ahead rules true n s t) e ∙ cut_off rules n s line few is))
+-- of items that begin with a group
+halts : {S F : Type 0} (Does : Steps S F) (is_at : S → Type 0) → Total Does → (number : ℕ) (met : Met) (joined : List InputLine) (rest : Items) (s : S) (printed : List ℕ) (e : Stop F)
+    → DoesOne {U = Unit {0}} is_at printed (Does s number met joined) (Err e) → (t : S) × Answers (IsOutcomeOf Does (group number met joined rest) s) printed t (Err (fault_of number e))
+halts Does is_at total number met joined rest s printed (handler_stops.Fault f) d = (s, (stops printed f, d, refl))
+halts Does is_at total number met joined rest s printed handler_stops.Endless d = (s, (ends printed, d, refl))
+halts Does is_at total number met joined rest s printed handler_stops.Memory d =
+    (s, begun_outcome Does total number met joined rest s d.0 printed d.1 d.2)
 
-pub failure_at_end : {S F : Type 0} (rules : Rules S F) (n : ℕ) (s : S) (read : List ℕ) (reader : Ahead) (failed : Bool) → read ≡ [] → reader.ended ≡ false → failed ≡ true → Stops rules n s read [] reader failed faults.Read
-failure_at_end rules n s read reader failed e going has = (has, going, Leads-is (ahead rules true n s read) (stop (Err faults.Read)) (ap (λ (t : List ℕ). ahead rules true n s t) e))
+-- an answer of some outcomes is one of others
+Answers-of : {S F : Type 0} (A B : Outcome F → S → Type 0) (written : List ℕ) (t : S) (result : Result ℕ (DriveFault F)) → ((o : Outcome F) (u : S) → A o u → B o u) → Answers A written t result → Answers B written t result
+Answers-of A B written t (Ok n) h a = h (before written (stop (Ok n))) t a
+Answers-of A B written t (Err (faults.Line k e)) h a = h (before written (stop (Err (faults.Line k e)))) t a
+Answers-of A B written t (Err faults.Read) h a = h (before written (stop (Err faults.Read))) t a
+Answers-of A B written t (Err faults.Endless) h a = h (before written (stop (Err faults.Endless))) t a
+Answers-of A B written t (Err faults.Memory) h a = (a.0, a.1, h a.0 a.1 a.2, a.3)
+Answers-of A B written t (Err faults.Write) h a = (a.0, a.1, h a.0 a.1 a.2, a.3)
 
-no_more : (most n : ℕ) → most ≤ n → nat_lt n most ≡ false
-no_more most n many = grind (arith, nat_tests)
+-- ---- a group that was handed over
 
-pub count_stops : {S F : Type 0} (rules : Rules S F) (n : ℕ) (s : S) (read : List ℕ) (reader : Ahead) (b : ℕ) (failed : Bool) → rules.most ≤ n → read ≡ b ∷ reader.bytes → Stops rules n s read [] reader failed faults.Endless
-count_stops rules n s read reader b failed many e = λ more cut may.
-    let rest = reader.bytes ++ more in
-    let one = has_line (nat_eq b 10) (record { bytes = []; ended = true }) b (input_lines rest) (input_lines rest) in
-    let split : input_lines (read ++ more) ≡ one.first ∷ one.others = ap (λ (t : List ℕ). input_lines (t ++ more)) e ∙ one.is in
-    Leads-is (ahead rules cut n s (read ++ more)) (stop (Err faults.Endless)) (rw (split, no_more rules.most n many) refl)
+pub stopped : {S F T : Type 0} (by : Grouping) (Does : Steps S F) (is_at : S → Type 0) (v w : LinesValue T) (s : S) (given printed : List ℕ) (e : Stop F) → Total Does → v.seen ≡ seens.Nothing
+    → ((all : List InputLine) → DoesOne {U = Unit {0}} is_at printed (Does s v.done (whole v.line) all) (Err e))
+    → Drives by Does is_at (OutcomeAt by Does v (Some (begin v.done v.line)) s) given printed w (Err (fault_of v.done e))
+stopped by Does is_at v w s given printed e total seen d = λ more cut may.
+    let g = any_group by v.most v.done cut (begin v.done v.line) (input_lines (v.reader.bytes ++ (given ++ more))) in
+    let h = halts Does is_at total v.done (whole v.line) g.joined g.rest s printed e (d g.joined) in (
+      h.0,
+      Answers-of (IsOutcomeOf Does (group v.done (whole v.line) g.joined g.rest) s) (OutcomeAt by Does v (Some (begin v.done v.line)) s (given ++ more) cut) printed h.0 (Err (fault_of v.done e))
+          (λ o u one. (group v.done (whole v.line) g.joined g.rest, rw seen (sym g.same), one)) h.1,
+    )
 
--- ---- line after line
+abbrev pub IsBrokenEnd : {F : Type 0} → DriveFault F → Type 0
+IsBrokenEnd faults.Memory = Unit {0}
+IsBrokenEnd faults.Write = Unit {0}
+IsBrokenEnd e = ⊥
 
-pub Passes-none : {S F : Type 0} (rules : Rules S F) (n : ℕ) (s : S) (reader : Ahead) → Passes rules n s (reader.bytes ++ []) [] n s reader
-Passes-none rules n s reader = λ more cut may. rw append-nil (Leads-refl (ahead rules cut n s (reader.bytes ++ more)))
+any_answer : {S F : Type 0} (Whole : Outcome F → S → Type 0) (written : List ℕ) (t : S) (e : DriveFault F) → IsBrokenEnd e → ((o : Outcome F) × (u : S) × Whole o u × Begins o written) → Answers Whole written t (Err e)
+any_answer Whole written t faults.Memory b h = h
+any_answer Whole written t faults.Write b h = h
+any_answer Whole written t e b h = absurd b
 
--- what is read from a later moment on, as read from an earlier one
-abbrev pub Joins : Ahead → Ahead → List ℕ → Type 0
-Joins mid reader given = (mid.ended ≡ true → given ≡ []) × (mid.ended ≡ true → reader.ended ≡ true)
+pub broken_off : {S F T : Type 0} (by : Grouping) (Does : Steps S F) (is_at : S → Type 0) (v w : LinesValue T) (s : S) (given printed : List ℕ) (e : DriveFault F) → Total Does → v.seen ≡ seens.Nothing → printed ≡ [] → IsBrokenEnd e
+    → Drives by Does is_at (OutcomeAt by Does v (Some (begin v.done v.line)) s) given printed w (Err e)
+broken_off by Does is_at v w s given printed e total seen none is_end = λ more cut may.
+    let is = items_from by v.most cut v.done (Some (begin v.done v.line)) (input_lines (v.reader.bytes ++ (given ++ more))) in
+    let one = some_outcome Does total is s in
+    (s, any_answer (OutcomeAt by Does v (Some (begin v.done v.line)) s (given ++ more) cut) printed s e is_end (one.o, one.u, (is, rw seen refl, one.is_one), rw none (Begins-nil one.o)))
 
-follows_more : (mid reader : Ahead) (given more : List ℕ) (cut : Bool) → Joins mid reader given → MayFollow reader.ended more cut → MayFollow mid.ended (given ++ more) cut
-follows_more mid reader given more cut j may = λ e. let m = may (j.1 e) in (ap (λ (t : List ℕ). t ++ more) (j.0 e) ∙ m.0, m.1)
+pub went : {S F T : Type 0} {a b : Moment T} (by : Grouping) (says : InputLine → T → Type 0) (Does : Steps S F) (is_at : S → Type 0) (s : S) (printed : List ℕ) (joined : List InputLine) (r : Reads by a b printed joined) → IsSound says b.lines
+    → TakesAll false by is_at printed (Does s a.lines.done (whole a.lines.line)) a.lines.line joined b.lines
+    → Drives by Does is_at (OutcomeAt by Does a.lines (Some (begin a.lines.done a.lines.line)) s) r.moves.given printed b.lines (Ok true)
+went {a = a} {b = b} by says Does is_at s printed joined r sound took = (
+  took.2.0,
+  took.2.1,
+  λ more cut may o u h.
+      let first = begin a.lines.done a.lines.line in
+      let is : Items = group a.lines.done (whole a.lines.line) joined h.0 in
+      let rest = group_end by says b.lines (record { number = a.lines.done; first = a.lines.line; joined = joined }) more cut h.0 sound took.1 may h.1 in
+      (is, r.joins (Some first) more cut is took.0 may rest, (goes printed took.2.0, took.2.2, (o, h.2, refl))),
+)
 
-link : {S F : Type 0} (rules : Rules S F) (cut : Bool) (a b : ℕ) (s t : S) (mid reader : Ahead) (bytes pulled given more w : List ℕ)
-    → Joins mid reader given → Passes rules a s (bytes ++ pulled) w b t mid → MayFollow reader.ended more cut
-    → Leads (ahead rules cut a s ((bytes ++ (pulled ++ given)) ++ more)) w (ahead rules cut b t ((mid.bytes ++ given) ++ more))
-link rules cut a b s t mid reader bytes pulled given more w j p may =
-    let all : (bytes ++ (pulled ++ given)) ++ more ≡ (bytes ++ pulled) ++ (given ++ more) = ap (λ (x : List ℕ). x ++ more) (sym (append_assoc bytes pulled given)) ∙ append_assoc (bytes ++ pulled) given more in
-    rw (all, append_assoc mid.bytes given more) (p (given ++ more) cut (follows_more mid reader given more cut j may))
+-- ---- a line that is too long
 
-pub Passes-then : {S F : Type 0} (rules : Rules S F) (a b c : ℕ) (s t u : S) (mid reader : Ahead) (bytes pulled given w w1 : List ℕ)
-    → Joins mid reader given → Passes rules a s (bytes ++ pulled) w b t mid → Passes rules b t (mid.bytes ++ given) w1 c u reader → Passes rules a s (bytes ++ (pulled ++ given)) (w ++ w1) c u reader
-Passes-then rules a b c s t u mid reader bytes pulled given w w1 j p q = λ more cut may.
-    Leads-then (ahead rules cut a s ((bytes ++ (pulled ++ given)) ++ more)) (ahead rules cut b t ((mid.bytes ++ given) ++ more)) (ahead rules cut c u (reader.bytes ++ more)) w w1 (link rules cut a b s t mid reader bytes pulled given more w j p may) (q more cut may)
+pub long_stopped : {S F T : Type 0} (by : Grouping) (Does : Steps S F) (is_at : S → Type 0) (v w : LinesValue T) (s : S) (given printed : List ℕ) (e : Stop F) → Total Does → v.seen ≡ seens.TooLong → v.done < v.most → StartsLong v.line.bytes
+    → DoesOne {U = Unit {0}} is_at printed (Does s (v.done + 1) too_long []) (Err e) → Drives by Does is_at (OutcomeAt by Does v None s) given printed w (Err (fault_of (v.done + 1) e))
+long_stopped by Does is_at v w s given printed e total seen few long d = λ more cut may.
+    let g = any_long by v.most v.done cut v.line.bytes (v.reader.bytes ++ (given ++ more)) few long in
+    let h = halts Does is_at total (v.done + 1) too_long [] g.rest s printed e d in (
+      h.0,
+      Answers-of (IsOutcomeOf Does (group (v.done + 1) too_long [] g.rest) s) (OutcomeAt by Does v None s (given ++ more) cut) printed h.0 (Err (fault_of (v.done + 1) e))
+          (λ o u one. (group (v.done + 1) too_long [] g.rest, rw seen (sym g.same ∙ ap (λ (t : List ℕ). items_from by v.most cut v.done None (input_lines t)) (sym (append_assoc v.line.bytes v.reader.bytes (given ++ more)))), one)) h.1,
+    )
 
--- where nothing more comes
-link_last : {S F : Type 0} (rules : Rules S F) (cut : Bool) (a b : ℕ) (s t : S) (mid : Ahead) (bytes pulled given w : List ℕ) → MayFollow mid.ended given cut → Passes rules a s (bytes ++ pulled) w b t mid
-    → Leads (ahead rules cut a s (bytes ++ (pulled ++ given))) w (ahead rules cut b t (mid.bytes ++ given))
-link_last rules cut a b s t mid bytes pulled given w may p = subst (λ (x : List ℕ). Leads (ahead rules cut a s x) w (ahead rules cut b t (mid.bytes ++ given))) (append_assoc bytes pulled given) (p given cut may)
+pub long_broken : {S F T : Type 0} (by : Grouping) (Does : Steps S F) (is_at : S → Type 0) (v w : LinesValue T) (s : S) (given printed : List ℕ) (e : DriveFault F) → Total Does → v.seen ≡ seens.TooLong → v.done < v.most → StartsLong v.line.bytes
+    → DoesOne {U = Unit {0}} is_at printed (Does s (v.done + 1) too_long []) (Ok tt) → IsBrokenEnd e → Drives by Does is_at (OutcomeAt by Does v None s) given printed w (Err e)
+long_broken by Does is_at v w s given printed e total seen few long d is_end = λ more cut may.
+    let g = any_long by v.most v.done cut v.line.bytes (v.reader.bytes ++ (given ++ more)) few long in
+    let one = begun_outcome Does total (v.done + 1) too_long [] g.rest s (goes printed d.0) printed d.2 ([], sym (append-nil printed)) in (
+      s,
+      any_answer (OutcomeAt by Does v None s (given ++ more) cut) printed s e is_end
+          (one.0, one.1, (group (v.done + 1) too_long [] g.rest, rw seen (sym g.same ∙ ap (λ (t : List ℕ). items_from by v.most cut v.done None (input_lines t)) (sym (append_assoc v.line.bytes v.reader.bytes (given ++ more)))), one.2), one.3),
+    )
 
-pub Passes-ends : {S F : Type 0} (rules : Rules S F) (a b m : ℕ) (s t : S) (mid reader : Ahead) (bytes pulled given w w1 : List ℕ)
-    → Joins mid reader given → Passes rules a s (bytes ++ pulled) w b t mid → Ends rules b t (mid.bytes ++ given) w1 m reader → Ends rules a s (bytes ++ (pulled ++ given)) (w ++ w1) m reader
-Passes-ends rules a b m s t mid reader bytes pulled given w w1 j p q =
-    (q.0, Leads-then (ahead rules false a s (bytes ++ (pulled ++ given))) (ahead rules false b t (mid.bytes ++ given)) (stop (Ok m)) w w1 (link_last rules false a b s t mid bytes pulled given w (λ e. (j.0 e, refl)) p) q.1)
+pub long_went : {S F T : Type 0} (by : Grouping) (Does : Steps S F) (is_at : S → Type 0) (v w : LinesValue T) (s : S) (given printed : List ℕ) → v.seen ≡ seens.TooLong → StartsLong v.line.bytes → PassesLine by (with_one v) w given
+    → DoesOne {U = Unit {0}} is_at printed (Does s (v.done + 1) too_long []) (Ok tt) → Drives by Does is_at (OutcomeAt by Does v None s) given printed w (Ok true)
+long_went by Does is_at v w s given printed seen long p d = (
+  d.0,
+  d.1,
+  λ more cut may o u h.
+      let same = p v.done refl long more cut h.0 may h.1 in
+      (group (v.done + 1) too_long [] h.0, rw seen (sym same ∙ ap (λ (t : List ℕ). items_from by v.most cut v.done None (input_lines t)) (sym (append_assoc v.line.bytes v.reader.bytes (given ++ more)))), (goes printed d.0, d.2, (o, h.2, refl))),
+)
 
-begins_then : {S F : Type 0} (rules : Rules S F) (a b : ℕ) (s t : S) (mid reader : Ahead) (bytes pulled given w w1 : List ℕ)
-    → Joins mid reader given → Passes rules a s (bytes ++ pulled) w b t mid → Always rules b t (mid.bytes ++ given) reader (λ o. Begins o w1) → Always rules a s (bytes ++ (pulled ++ given)) reader (λ o. Begins o (w ++ w1))
-begins_then rules a b s t mid reader bytes pulled given w w1 j p q = λ more cut may.
-    Begins-then (ahead rules cut a s ((bytes ++ (pulled ++ given)) ++ more)) (ahead rules cut b t ((mid.bytes ++ given) ++ more)) w w1 (link rules cut a b s t mid reader bytes pulled given more w j p may) (q more cut may)
+-- what was handed over, where it did not stop
+pub took : {S F T : Type 0} (by : Grouping) (is_at : S → Type 0) (printed : List ℕ) (May : List InputLine → Step S F → Type 0) (first : InputLine) (joined : List InputLine) (v : LinesValue T) (result : Result (Unit {0}) (Stop F)) → ((e : Stop F) → result ≡ Err e → ⊥)
+    → DoesGroup by is_at printed May first joined v result → TakesAll (is_broken v.seen) by is_at printed May first joined v
+took by is_at printed May first joined v (Ok u) h d = d
+took by is_at printed May first joined v (Err e) h d = absurd (h e refl)
 
-leads_then : {S F : Type 0} (rules : Rules S F) (a b : ℕ) (s t : S) (mid reader : Ahead) (bytes pulled given w w1 : List ℕ) (last : Outcome F)
-    → Joins mid reader given → Passes rules a s (bytes ++ pulled) w b t mid → Always rules b t (mid.bytes ++ given) reader (λ o. Leads o w1 last) → Always rules a s (bytes ++ (pulled ++ given)) reader (λ o. Leads o (w ++ w1) last)
-leads_then rules a b s t mid reader bytes pulled given w w1 last j p q = λ more cut may.
-    Leads-then (ahead rules cut a s ((bytes ++ (pulled ++ given)) ++ more)) (ahead rules cut b t ((mid.bytes ++ given) ++ more)) last w w1 (link rules cut a b s t mid reader bytes pulled given more w j p may) (q more cut may)
+pub did_one : {S F : Type 0} (is_at : S → Type 0) (printed : List ℕ) (May : Step S F → Type 0) (result : Result (Unit {0}) (Stop F)) → ((e : Stop F) → result ≡ Err e → ⊥) → DoesOne is_at printed May result → DoesOne {U = Unit {0}} is_at printed May (Ok tt)
+did_one is_at printed May (Ok u) h d = d
+did_one is_at printed May (Err e) h d = absurd (h e refl)
 
-pub Passes-stops : {S F : Type 0} (rules : Rules S F) (a b : ℕ) (s t : S) (mid reader : Ahead) (bytes pulled given w w1 : List ℕ) (failed : Bool) (e : DriveFault F)
-    → Joins mid reader given → Passes rules a s (bytes ++ pulled) w b t mid → Stops rules b t (mid.bytes ++ given) w1 reader failed e → Stops rules a s (bytes ++ (pulled ++ given)) (w ++ w1) reader failed e
-Passes-stops rules a b s t mid reader bytes pulled given w w1 failed faults.Endless j p q = leads_then rules a b s t mid reader bytes pulled given w w1 (stop (Err faults.Endless)) j p q
-Passes-stops rules a b s t mid reader bytes pulled given w w1 failed (faults.Line k e) j p q = leads_then rules a b s t mid reader bytes pulled given w w1 (stop (Err (faults.Line k e))) j p q
-Passes-stops rules a b s t mid reader bytes pulled given w w1 failed faults.Read j p q =
-    (q.0, q.1, Leads-then (ahead rules true a s (bytes ++ (pulled ++ given))) (ahead rules true b t (mid.bytes ++ given)) (stop (Err faults.Read)) w w1 (link_last rules true a b s t mid bytes pulled given w (λ e. absurd (false≢true (sym q.1 ∙ j.1 e))) p) q.2)
-Passes-stops rules a b s t mid reader bytes pulled given w w1 failed e j p q = begins_then rules a b s t mid reader bytes pulled given w w1 j p q
+-- ---- what comes of a later moment comes of an earlier one
+
+pub Drives-of : {S F T : Type 0} (by : Grouping) (Does : Steps S F) (is_at : S → Type 0) (A B : List ℕ → Bool → Outcome F → S → Type 0) (given given' printed : List ℕ) (w : LinesValue T) (result : Result Bool (DriveFault F))
+    → ((more : List ℕ) (cut : Bool) → MayCome w more cut → (o : Outcome F) (u : S) → A (given ++ more) cut o u → B (given' ++ more) cut o u) → Drives by Does is_at A given printed w result → Drives by Does is_at B given' printed w result
+Drives-of by Does is_at A B given given' printed w (Ok true) h d = (d.0, d.1, λ more cut may o u r. h more cut may (before printed o) u (d.2 more cut may o u r))
+Drives-of by Does is_at A B given given' printed w (Ok false) h d = (d.0, d.1, λ more cut may. h more cut may (before printed (stop (Ok w.done))) d.0 (d.2 more cut may))
+Drives-of by Does is_at A B given given' printed w (Err e) h d = λ more cut may. let r = d more cut may in (r.0, Answers-of (A (given ++ more) cut) (B (given' ++ more) cut) printed r.0 (Err e) (h more cut may) r.1)
+
+-- behind a look
+pub looked : {S F T : Type 0} {a b d : Moment T} (by : Grouping) (Does : Steps S F) (is_at : S → Type 0) (s : S) (printed : List ℕ) (result : Result Bool (DriveFault F)) (r : Reads by a b [] []) (m : Moves b d printed)
+    → Drives by Does is_at (OutcomeAt by Does b.lines None s) m.given printed d.lines result → Drives by Does is_at (OutcomeAt by Does a.lines None s) (r.moves.given ++ m.given) printed d.lines result
+looked {a = a} {b = b} {d = d} by Does is_at s printed result r m =
+    Drives-of by Does is_at (OutcomeAt by Does b.lines None s) (OutcomeAt by Does a.lines None s) m.given (r.moves.given ++ m.given) printed d.lines result
+    (λ more cut may o u h. (h.0, subst (λ (t : List ℕ). Rest by a.lines None t cut h.0) (sym (append_assoc r.moves.given m.given more)) (r.joins None (m.given ++ more) cut h.0 tt (m.may more cut may) h.1), h.2))
+
+-- one after the other
+pub chain : {S F T : Type 0} {a b d : Moment T} (by : Grouping) (Does : Steps S F) (is_at is_then : S → Type 0) (A : List ℕ → Bool → Outcome F → S → Type 0) (x y : List ℕ) (result : Result Bool (DriveFault F)) (m : Moves a b x) (n : Moves b d y)
+    → Drives by Does is_at A m.given x b.lines (Ok true) → ((t : S) → is_at t → Drives by Does is_then (OutcomeAt by Does b.lines None t) n.given y d.lines result) → Drives by Does is_then A (m.given ++ n.given) (x ++ y) d.lines result
+chain {S = S} {F = F} {b = b} {d = d} by Does is_at is_then A x y result m n p q = at result (q p.0 p.1) where
+  on : (more : List ℕ) (cut : Bool) → MayCome d.lines more cut → (o : Outcome F) (u : S) → OutcomeAt by Does b.lines None p.0 (n.given ++ more) cut o u → A ((m.given ++ n.given) ++ more) cut (before x o) u
+  on more cut may o u h = subst (λ (t : List ℕ). A t cut (before x o) u) (sym (append_assoc m.given n.given more)) (p.2 (n.given ++ more) cut (n.may more cut may) o u h)
+
+  on_written : (more : List ℕ) (cut : Bool) → MayCome d.lines more cut → (o : Outcome F) (u : S) → OutcomeAt by Does b.lines None p.0 (n.given ++ more) cut (before y o) u → A ((m.given ++ n.given) ++ more) cut (before (x ++ y) o) u
+  on_written more cut may o u h = subst (λ (r : Outcome F). A ((m.given ++ n.given) ++ more) cut r u) (before-before x y o) (on more cut may (before y o) u h)
+
+  answer : (e : DriveFault F) (more : List ℕ) (cut : Bool) (t : S) → MayCome d.lines more cut → Answers (OutcomeAt by Does b.lines None p.0 (n.given ++ more) cut) y t (Err e) → Answers (A ((m.given ++ n.given) ++ more) cut) (x ++ y) t (Err e)
+  answer (faults.Line k e) more cut t may h = on_written more cut may (stop (Err (faults.Line k e))) t h
+  answer faults.Read more cut t may h = on_written more cut may (stop (Err faults.Read)) t h
+  answer faults.Endless more cut t may h = on_written more cut may (stop (Err faults.Endless)) t h
+  answer faults.Memory more cut t may h = (before x h.0, h.1, on more cut may h.0 h.1 h.2, Begins-more h.0 x y h.3)
+  answer faults.Write more cut t may h = (before x h.0, h.1, on more cut may h.0 h.1 h.2, Begins-more h.0 x y h.3)
+
+  at : (result : Result Bool (DriveFault F)) → Drives by Does is_then (OutcomeAt by Does b.lines None p.0) n.given y d.lines result → Drives by Does is_then A (m.given ++ n.given) (x ++ y) d.lines result
+  at (Ok true) h = (h.0, h.1, λ more cut may o u r. on_written more cut may o u (h.2 more cut may o u r))
+  at (Ok false) h = (h.0, h.1, λ more cut may. on_written more cut may (stop (Ok d.lines.done)) h.0 (h.2 more cut may))
+  at (Err e) h = λ more cut may. let r = h more cut may in (r.0, answer e more cut r.0 may r.1)
+
+-- before anything was taken
+pub from_here : {S F T : Type 0} (by : Grouping) (Does : Steps S F) (is_at : S → Type 0) (v : LinesValue T) (s : S) → is_at s → Drives by Does is_at (OutcomeAt by Does v None s) [] [] v (Ok true)
+from_here by Does is_at v s at_s = (s, at_s, λ more cut may o u h. rw before-nil h)
+
+-- no more lines can be read
+some_rest : {T : Type 0} (by : Grouping) (v : LinesValue T) (more : List ℕ) (cut : Bool) → is_broken v.seen ≡ false → (is : Items) × Rest by v None more cut is
+some_rest {T = T} by v more cut whole_still = at v.seen refl where
+  at : (seen : Seen T) → v.seen ≡ seen → (is : Items) × Rest by v None more cut is
+  at (seens.Line said) e = (items_from by v.most cut v.done None (input_lines ((standing v.line ++ v.reader.bytes) ++ more)), rw e refl)
+  at seens.Nothing e = (items_from by v.most cut v.done None (input_lines (v.reader.bytes ++ more)), rw e refl)
+  at seens.TooLong e = (items_from by v.most cut v.done None (input_lines ((v.line.bytes ++ v.reader.bytes) ++ more)), rw e refl)
+  at seens.End e = (over (finished v.done), rw e refl)
+  at seens.Failed e = (over unreadable, rw e refl)
+  at seens.TooMany e = (over endless, rw e refl)
+  at seens.Unwritten e = absurd (false≢true (sym (rw e at whole_still)))
+  at seens.Memory e = absurd (false≢true (sym (rw e at whole_still)))
+
+pub look_broken : {S F T : Type 0} (by : Grouping) (Does : Steps S F) (is_at : S → Type 0) (v w : LinesValue T) (s : S) (given : List ℕ) (e : DriveFault F) → Total Does → is_broken v.seen ≡ false → IsBrokenEnd e → Drives by Does is_at (OutcomeAt by Does v None s) given [] w (Err e)
+look_broken by Does is_at v w s given e total whole_still is_end = λ more cut may.
+    let r = some_rest by v (given ++ more) cut whole_still in
+    let one = some_outcome Does total r.0 s in
+    (s, any_answer (OutcomeAt by Does v None s (given ++ more) cut) [] s e is_end (one.o, one.u, (r.0, r.1, one.is_one), Begins-nil one.o))
+
+-- so it ends
+pub broken_end : {F T : Type 0} (seen : Seen T) (result : Result Bool (DriveFault F)) → is_broken seen ≡ true → EndsBy seen result → (e : DriveFault F) × IsBrokenEnd e × (result ≡ Err e)
+broken_end seens.Unwritten result b is = (faults.Write, tt, is)
+broken_end seens.Memory result b is = (faults.Memory, tt, is)
+broken_end seen result b is = absurd (false≢true b)
+
+-- ---- of a driver, and what its handler was at before
+
+-- behind a look
+pub after_look : {S F T : Type 0} {a b d : Moment T} (by : Grouping) (Does : Steps S F) (was_at is_at : S → Type 0) (printed : List ℕ) (result : Result Bool (DriveFault F)) → Reads by a b [] [] → (m : Moves b d printed)
+    → ((s : S) → was_at s → Drives by Does is_at (OutcomeAt by Does b.lines None s) m.given printed d.lines result) → (text : List ℕ) × (moves : Moves a d text) × ((s : S) → was_at s → Drives by Does is_at (OutcomeAt by Does a.lines None s) moves.given text d.lines result)
+unfolding Moves-then
+after_look {a = a} {b = b} {d = d} by Does was_at is_at printed result r m h = (printed, Moves-then a b d [] printed r.moves m, λ s at. looked by Does is_at s printed result r m (h s at))
+
+-- behind a line that was taken
+pub after_line : {S F T : Type 0} {b e d : Moment T} (by : Grouping) (Does : Steps S F) (was_at is_at : S → Type 0) (said : T) (printed : List ℕ) (result : Result Bool (DriveFault F)) → b.lines.seen ≡ seens.Line said → b.lines.done < b.lines.most → IsRead b.lines.line b.lines.reader
+    → e ≡ record { lines = with_one b.lines; output = b.output; left = b.left; failed = b.failed; taken = b.taken; stuck = b.stuck } → (m : Moves e d printed)
+    → ((s : S) → was_at s → Drives by Does is_at (OutcomeAt by Does e.lines (Some (begin e.lines.done e.lines.line)) s) m.given printed d.lines result) → (text : List ℕ) × (moves : Moves b d text) × ((s : S) → was_at s → Drives by Does is_at (OutcomeAt by Does b.lines None s) moves.given text d.lines result)
+after_line {b = b} {e = e} {d = d} by Does was_at is_at said printed result seen few read same m h = (
+  printed,
+  record {
+    given = m.given;
+    pulls = rw same at m.pulls;
+    sends = rw same at m.sends;
+    most = m.most ∙ ap (λ (x : Moment _). x.lines.most) same;
+    done = omega (arith, m.done, ap (λ (x : Moment _). x.lines.done) same);
+    true_still = λ t. m.true_still (rw same (record { failed = λ f. absurd cc; stuck = λ f. absurd cc }));
+    may = λ more cut may. let before_it = rw same at m.may more cut may in rw seen before_it;
+  },
+  λ s at.
+      Drives-of by Does is_at (OutcomeAt by Does (with_one b.lines) (Some (begin (b.lines.done + 1) b.lines.line)) s) (OutcomeAt by Does b.lines None s) m.given m.given printed d.lines result
+      (λ more cut may o u k. (k.0, first_taken by b.lines said (m.given ++ more) cut k.0 seen few read (let before_it = rw same at m.may more cut may in rw seen before_it) k.1, k.2)) (rw same at h s at),
+)
+
+-- where no line was found
+pub ended : {S F T : Type 0} {a b : Moment T} (by : Grouping) (Does : Steps S F) (is_at : S → Type 0) (s : S) (result : Result Bool (DriveFault F)) (r : Reads by a b [] []) → Total Does → is_at s → is_broken a.lines.seen ≡ false → EndsBy b.lines.seen result → (b.lines.seen ≡ seens.Nothing → ⊥) → (IsLineSeen b.lines.seen → ⊥) → (b.lines.seen ≡ seens.TooLong → ⊥)
+    → Drives by Does is_at (OutcomeAt by Does a.lines None s) r.moves.given [] b.lines result
+ended {S = S} {F = F} {T = T} {a = a} {b = b} by Does is_at s result r total at_s whole_still ends_by looked_at no_line no_long = at b.lines.seen refl ends_by where
+  at : (seen : Seen T) → b.lines.seen ≡ seen → EndsBy seen result → Drives by Does is_at (OutcomeAt by Does a.lines None s) r.moves.given [] b.lines result
+  at seens.End e is = rw is (s, at_s, λ more cut may. (over (finished b.lines.done), r.joins None more cut (over (finished b.lines.done)) tt may (rw e refl), (refl, refl)))
+  at seens.Failed e is = rw is (λ more cut may. (s, (over unreadable, r.joins None more cut (over unreadable) tt may (rw e refl), (refl, refl))))
+  at seens.TooMany e is = rw is (λ more cut may. (s, (over endless, r.joins None more cut (over endless) tt may (rw e refl), (refl, refl))))
+  at seens.Unwritten e is = rw is (look_broken by Does is_at a.lines b.lines s r.moves.given faults.Write total whole_still tt)
+  at seens.Memory e is = rw is (look_broken by Does is_at a.lines b.lines s r.moves.given faults.Memory total whole_still tt)
+  at seens.Nothing e is = absurd (looked_at e)
+  at (seens.Line said) e is = absurd (no_line (rw e tt))
+  at seens.TooLong e is = absurd (no_long e)
+
+-- before anything was taken
+pub at_first : {S F T : Type 0} (by : Grouping) (Does : Steps S F) (is_at : S → Type 0) (m : Moment T) → (text : List ℕ) × (moves : Moves m m text) × ((s : S) → is_at s → Drives {F = F} by Does is_at (OutcomeAt by Does m.lines None s) moves.given text m.lines (Ok true))
+unfolding Moves-none
+at_first by Does is_at m = ([], Moves-none m, λ s at. from_here by Does is_at m.lines s at)
+
+-- one after the other
+pub chained : {S F T : Type 0} {a b d : Moment T} (by : Grouping) (Does : Steps S F) (was_at is_at is_then : S → Type 0) (x y : List ℕ) (result : Result Bool (DriveFault F)) (m : Moves a b x) (n : Moves b d y)
+    → ((s : S) → was_at s → Drives {F = F} by Does is_at (OutcomeAt by Does a.lines None s) m.given x b.lines (Ok true)) → ((t : S) → is_at t → Drives by Does is_then (OutcomeAt by Does b.lines None t) n.given y d.lines result)
+    → (text : List ℕ) × (moves : Moves a d text) × ((s : S) → was_at s → Drives by Does is_then (OutcomeAt by Does a.lines None s) moves.given text d.lines result)
+unfolding Moves-then
+chained {a = a} {b = b} {d = d} by Does was_at is_at is_then x y result m n p q = (x ++ y, Moves-then a b d x y m n, λ s at. chain by Does is_at is_then (OutcomeAt by Does a.lines None s) x y result m n (p s at) q)
+
+-- behind a line that is too long, which was taken, and of which text was printed
+pub after_long : {S F T : Type 0} {a b d : Moment T} (by : Grouping) (Does : Steps S F) (was_at is_at : S → Type 0) (text : List ℕ) (result : Result Bool (DriveFault F)) → a.lines.seen ≡ seens.TooLong → b.lines ≡ with_one a.lines
+    → b.left ≡ a.left → b.failed ≡ a.failed → b.taken ≡ a.taken → b.stuck ≡ a.stuck → b.output ≡ a.output ++ text → (m : Moves b d [])
+    → ((s : S) → was_at s → Drives by Does is_at (OutcomeAt by Does a.lines None s) m.given text d.lines result) → (printed : List ℕ) × (moves : Moves a d printed) × ((s : S) → was_at s → Drives by Does is_at (OutcomeAt by Does a.lines None s) moves.given printed d.lines result)
+after_long {a = a} {b = b} {d = d} by Does was_at is_at text result seen lines left failed taken stuck prints m h = (
+  text,
+  record {
+    given = m.given;
+    pulls = rw (lines, left, failed) at m.pulls;
+    sends = rw taken at sent;
+    most = m.most ∙ ap (λ (v : LinesValue _). v.most) lines;
+    done = omega (arith, m.done, ap (λ (v : LinesValue _). v.done) lines);
+    true_still = λ t. m.true_still (record { failed = λ f. absurd (unseen_failed f); stuck = λ f. absurd (unseen_stuck f) });
+    may = λ more cut may. let before_it = rw lines at m.may more cut may in rw seen before_it;
+  },
+  h,
+) where
+  sent : Sends b.taken a.output d.taken d.output text
+  sent = subst (Sends b.taken a.output d.taken d.output) (append-nil text) (Sends-then b.taken b.taken d.taken a.output b.output d.output text [] (Sends-more b.taken a.output b.output text prints) m.sends)
+
+  unseen_failed : b.lines.seen ≡ seens.Failed → ⊥
+  unseen_failed f = let e : seens.Nothing ≡ seens.Failed = sym (ap (λ (v : LinesValue _). v.seen) lines) ∙ f in absurd cc
+
+  unseen_stuck : b.lines.seen ≡ seens.Unwritten → ⊥
+  unseen_stuck f = let e : seens.Nothing ≡ seens.Unwritten = sym (ap (λ (v : LinesValue _). v.seen) lines) ∙ f in absurd cc
+
+-- a driver that ended
+pub all_driven : {S F T : Type 0} (by : Grouping) (Does : Steps S F) (is_at : S → Type 0) (A : List ℕ → Bool → Outcome F → S → Type 0) (given printed : List ℕ) (v : LinesValue T) (n : ℕ) → n ≡ v.done → Drives by Does is_at A given printed v (Ok false) → DrivesAll is_at A given printed v (Ok n)
+all_driven by Does is_at A given printed v n e d = rw e d
+
+-- a driver came to the end of the lines
+pub ends_all : {S F T : Type 0} {a b d : Moment T} (by : Grouping) (Does : Steps S F) (was_at is_at is_then : S → Type 0) (x y : List ℕ) (n : ℕ) → n ≡ d.lines.done → (m : Moves a b x) (k : Moves b d y)
+    → ((s : S) → was_at s → Drives {F = F} by Does is_at (OutcomeAt by Does a.lines None s) m.given x b.lines (Ok true)) → ((t : S) → is_at t → Drives {F = F} by Does is_then (OutcomeAt by Does b.lines None t) k.given y d.lines (Ok false))
+    → (text : List ℕ) × (moves : Moves a d text) × ((s : S) → was_at s → DrivesAll {F = F} is_then (OutcomeAt by Does a.lines None s) moves.given text d.lines (Ok n))
+ends_all {a = a} {b = b} {d = d} by Does was_at is_at is_then x y n count m k p q =
+    let all = chained {a = a} {b = b} {d = d} by Does was_at is_at is_then x y (Ok false) m k p q in
+    (all.0, all.1, λ s at. all_driven by Does is_then (OutcomeAt by Does a.lines None s) all.1.given all.0 d.lines n count (all.2 s at))

@@ -4,15 +4,8 @@ use Rattle.std.specs.Str.Lines.{strip_carriage_return}
 use Rattle.std.proofs.lemmas.Bool.Decides.{nat_tests}
 use Rattle.std.proofs.lemmas.List.{append-nil, take_more, take_all}
 use Rattle.wb_lines.specs.Ahead.{NoLineFeed}
-use Rattle.wb_lines.specs.Input.{InputLine, onto_first, input_lines}
+use Rattle.wb_lines.specs.Input.{InputLine, onto_first, input_lines, feed, standing}
 use Rattle.wb_lines.proofs.InputLines.{input_lines-whole, input_lines-last}
-
--- the line feed that ends a line
-abbrev pub feed : Bool → List ℕ
-feed ended = if ended then 10 ∷ [] else []
-
-abbrev pub standing : InputLine → List ℕ
-standing line = line.bytes ++ feed line.ended
 
 abbrev pub all_bytes : List InputLine → List ℕ
 all_bytes [] = []

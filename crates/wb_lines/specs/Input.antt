@@ -26,6 +26,14 @@ content line = if line.ended then strip_carriage_return line.bytes else line.byt
 abbrev pub most_bytes : ℕ
 most_bytes = 65536
 
+-- the line feed that ends a line
+abbrev pub feed : Bool → List ℕ
+feed ended = if ended then 10 ∷ [] else []
+
+-- its bytes as they stand in the input
+abbrev pub standing : InputLine → List ℕ
+standing line = line.bytes ++ feed line.ended
+
 -- a text begins with some bytes
 abbrev pub BeginsWith : List ℕ → List ℕ → Type 0
 BeginsWith text bytes = (rest : List ℕ) × (text ≡ bytes ++ rest)

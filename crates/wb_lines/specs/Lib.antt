@@ -5,4 +5,7 @@ pub mod Ahead
 pub mod Handling
 pub mod Taking
 pub mod Driving
+pub mod Items
+pub mod Groups
+pub mod Moments
 pub mod Steps

@@ -1,12 +1,15 @@
--- How far a driver has come: what was read and written, and what follows.
-use Rattle.std.specs.Prelude.{◌≡◌, ◌⊎◌, ℕ, ◌+◌, List, [], ◌++◌, length, Bool, true, false, Result, Ok, Err}
+-- How a driver takes lines: what a handler does with a group, what it came to, and how the driver ends.
+use Rattle.std.specs.Prelude.{◌≡◌, ◌⊎◌, ℕ, List, [], ◌++◌, Bool, true, false, Option, Some, None, Result, Ok, Err}
 use Rattle.wb_lines.specs.declared.fault.DriveFault.{DriveFault}
 use Rattle.wb_lines.specs.declared.fault.DriveFault.TheVariants as faults
 use Rattle.wb_lines.specs.declared.handler.Stop.{Stop}
 use Rattle.wb_lines.specs.declared.handler.Stop.TheVariants as handler_stops
-use Rattle.wb_lines.specs.Input.{input_lines, BeginsWith, MayFollow, MayRemain, most_bytes}
-use Rattle.wb_lines.specs.Ahead.{Ahead, NoLineFeed}
-use Rattle.wb_lines.specs.Driving.{Rules, Outcome, writes, before, stop, outcome_from, outcome, is_stop, IsStopped}
+use Rattle.wb_lines.specs.Input.{InputLine, BeginsWith}
+use Rattle.wb_lines.specs.Handling.{Step, goes, stops, ends, text_of}
+use Rattle.wb_lines.specs.Items.{Items, Grouping, Begun}
+use Rattle.wb_lines.specs.Driving.{Outcome, writes, before, stop, is_stop, IsStopped, Meets}
+use Rattle.wb_lines.specs.Groups.{Steps, IsOutcomeOf}
+use Rattle.wb_lines.specs.Moments.{LinesValue, MayCome, Rest, HasJoined, IsGroupEnd, is_broken}
 
 -- why a driver stops where its handler does, at the line of this number
 abbrev pub fault_of : {F : Type 0} → ℕ → Stop F → DriveFault F
@@ -14,71 +17,59 @@ fault_of number (handler_stops.Fault f) = faults.Line number f
 fault_of number handler_stops.Endless = faults.Endless
 fault_of number handler_stops.Memory = faults.Memory
 
--- what a driver answers of a line that was handed over
-abbrev pub driven : {F U : Type 0} → ℕ → Result U (Stop F) → Result Bool (DriveFault F)
-driven number (Ok u) = Ok true
-driven number (Err e) = Err (fault_of number e)
+-- ---- a handler
 
--- The text of an outcome begins with what was written, and the rest is another outcome.
-abbrev pub Leads : {F : Type 0} → Outcome F → List ℕ → Outcome F → Type 0
-Leads (writes text end) written next = writes text end ≡ before written next
+-- What the code did, where it may do some steps and is at some states afterwards: all of one; or memory ran out, and it printed a front of the text of one.
+abbrev pub DoesOne : {S F U : Type 0} → (S → Type 0) → List ℕ → (Step S F → Type 0) → Result U (Stop F) → Type 0
+DoesOne is_at printed May (Ok u) = (next : _) × is_at next × May (goes printed next)
+DoesOne is_at printed May (Err (handler_stops.Fault f)) = May (stops printed f)
+DoesOne is_at printed May (Err handler_stops.Endless) = May (ends printed)
+DoesOne is_at printed May (Err handler_stops.Memory) = (step : _) × May step × BeginsWith (text_of step) printed
+
+-- It took all of a group, or nothing where no more lines can be read.
+abbrev pub TakesAll : {S F T : Type 0} → Bool → Grouping → (S → Type 0) → List ℕ → (List InputLine → Step S F → Type 0) → InputLine → List InputLine → LinesValue T → Type 0
+TakesAll true by is_at printed May first joined v = printed ≡ []
+TakesAll false by is_at printed May first joined v = HasJoined by first joined × IsGroupEnd by first v × ((next : _) × is_at next × May joined (goes printed next))
+
+-- What it did with a group, of which these lines were taken behind the first. Where it stops, it does so whichever lines join it.
+abbrev pub DoesGroup : {S F U T : Type 0} → Grouping → (S → Type 0) → List ℕ → (List InputLine → Step S F → Type 0) → InputLine → List InputLine → LinesValue T → Result U (Stop F) → Type 0
+DoesGroup by is_at printed May first joined v (Ok u) = TakesAll (is_broken v.seen) by is_at printed May first joined v
+DoesGroup by is_at printed May first joined v (Err e) = (all : List InputLine) → DoesOne {U = Unit {0}} is_at printed (May all) (Err e)
+
+-- ---- what it comes to
 
 -- The text of an outcome begins with what was written.
 abbrev pub Begins : {F : Type 0} → Outcome F → List ℕ → Type 0
 Begins (writes text end) written = BeginsWith text written
 
--- After n lines and in a state, what follows some bytes.
-abbrev pub ahead : {S F : Type 0} → Rules S F → Bool → ℕ → S → List ℕ → Outcome F
-ahead rules cut n s bytes = outcome_from rules cut n s (input_lines bytes)
+-- Behind what was taken, with the group that is begun: an outcome of the rest, from a state on.
+abbrev pub OutcomeAt : {S F T : Type 0} → Grouping → Steps S F → LinesValue T → Option Begun → S → List ℕ → Bool → Outcome F → S → Type 0
+OutcomeAt by Does v g s more cut o t = (is : Items) × Rest by v g more cut is × IsOutcomeOf Does is s o t
 
--- From one moment, with the bytes that were read since, to a later one.
-abbrev pub Passes : {S F : Type 0} → Rules S F → ℕ → S → List ℕ → List ℕ → ℕ → S → Ahead → Type 0
-Passes rules n s read written m next reader =
-    (more : List ℕ) (cut : Bool) → MayFollow reader.ended more cut
-    → Leads (ahead rules cut n s (read ++ more)) written (ahead rules cut m next (reader.bytes ++ more))
+-- Behind a text, the driver ends so: it is an outcome, or a front of the text of one where the driver has to stop.
+abbrev pub Answers : {S F : Type 0} → (Outcome F → S → Type 0) → List ℕ → S → Result ℕ (DriveFault F) → Type 0
+Answers Whole written t (Err faults.Memory) = (o : _) × (u : _) × Whole o u × Begins o written
+Answers Whole written t (Err faults.Write) = (o : _) × (u : _) × Whole o u × Begins o written
+Answers Whole written t result = Whole (before written (stop result)) t
 
--- Whatever follows, this comes of what was read.
-abbrev pub Always : {S F : Type 0} → Rules S F → ℕ → S → List ℕ → Ahead → (Outcome F → Type 0) → Type 0
-Always rules n s read reader P = (more : List ℕ) (cut : Bool) → MayFollow reader.ended more cut → P (ahead rules cut n s (read ++ more))
-
--- A driver stops with a fault.
-abbrev pub Stops : {S F : Type 0} → Rules S F → ℕ → S → List ℕ → List ℕ → Ahead → Bool → DriveFault F → Type 0
-Stops rules n s read written reader failed faults.Read =
-    (failed ≡ true) × (reader.ended ≡ false) × Leads (ahead rules true n s read) written (stop (Err faults.Read))
-Stops rules n s read written reader failed faults.Endless = Always rules n s read reader (λ o. Leads o written (stop (Err faults.Endless)))
-Stops rules n s read written reader failed (faults.Line k e) = Always rules n s read reader (λ o. Leads o written (stop (Err (faults.Line k e))))
-Stops rules n s read written reader failed e = Always rules n s read reader (λ o. Begins o written)
-
--- The end of the input.
-abbrev pub Ends : {S F : Type 0} → Rules S F → ℕ → S → List ℕ → List ℕ → ℕ → Ahead → Type 0
-Ends rules n s read written m reader =
-    (reader.ended ≡ true) × Leads (ahead rules false n s read) written (stop (Ok m))
-
--- One line, or the end.
-abbrev pub TakesLine : {S F : Type 0} → Rules S F → (S → Type 0) → ℕ → S → List ℕ → List ℕ → Ahead → Bool → Result Bool (DriveFault F) → Type 0
-TakesLine rules is_at n s read written reader failed (Ok true) = (next : _) × is_at next × Passes rules n s read written (n + 1) next reader
-TakesLine rules is_at n s read written reader failed (Ok false) = Ends rules n s read written n reader
-TakesLine rules is_at n s read written reader failed (Err e) = Stops rules n s read written reader failed e
+-- What was to come is, behind a text, what comes now; or the driver ends. A handler is at some states afterwards.
+abbrev pub Drives : {S F T : Type 0} → Grouping → Steps S F → (S → Type 0) → (List ℕ → Bool → Outcome F → S → Type 0) → List ℕ → List ℕ → LinesValue T → Result Bool (DriveFault F) → Type 0
+Drives by Does is_at Whole given written v (Ok true) =
+    (t : _) × is_at t × ((more : List ℕ) (cut : Bool) → MayCome v more cut → (o : _) (u : _) → OutcomeAt by Does v None t more cut o u → Whole (given ++ more) cut (before written o) u)
+Drives by Does is_at Whole given written v (Ok false) =
+    (t : _) × is_at t × ((more : List ℕ) (cut : Bool) → MayCome v more cut → Answers (Whole (given ++ more) cut) written t (Ok v.done))
+Drives by Does is_at Whole given written v (Err e) = (more : List ℕ) (cut : Bool) → MayCome v more cut → (t : _) × Answers (Whole (given ++ more) cut) written t (Err e)
 
 -- All lines.
-abbrev pub TakesLines : {S F : Type 0} → Rules S F → S → List ℕ → List ℕ → Ahead → Bool → Result ℕ (DriveFault F) → Type 0
-TakesLines rules s read written reader failed (Ok m) = Ends rules 0 s read written m reader
-TakesLines rules s read written reader failed (Err e) = Stops rules 0 s read written reader failed e
-
--- the bytes of a line that make it too long
-pub record StartsLong (front : List ℕ) : Type 0 where
-  pub no_line_feed : NoLineFeed front
-  pub long : length front ≡ most_bytes + 1
+abbrev pub DrivesAll : {S F T : Type 0} → (S → Type 0) → (List ℕ → Bool → Outcome F → S → Type 0) → List ℕ → List ℕ → LinesValue T → Result ℕ (DriveFault F) → Type 0
+DrivesAll is_at Whole given written v (Ok n) = (t : _) × is_at t × ((more : List ℕ) (cut : Bool) → MayCome v more cut → Answers (Whole (given ++ more) cut) written t (Ok n))
+DrivesAll is_at Whole given written v (Err e) = (more : List ℕ) (cut : Bool) → MayCome v more cut → (t : _) × Answers (Whole (given ++ more) cut) written t (Err e)
 
 -- ---- the end
 
 -- Some text may wait to be written: none does where the end of the outcome is answered.
 abbrev pub Settles : {F : Type 0} → Outcome F → List ℕ → List ℕ → Result ℕ (DriveFault F) → Type 0
 Settles (writes text end) written waiting result = ((written ≡ text) × (waiting ≡ []) × (result ≡ end)) ⊎ (IsStopped result × BeginsWith text written)
-
--- Of all that was given, whatever remains.
-abbrev pub TakesAll : {S F : Type 0} → Rules S F → S → Bool → Bool → List ℕ → List ℕ → List ℕ → Result ℕ (DriveFault F) → Type 0
-TakesAll rules s ended failed given written waiting result = (more : List ℕ) → MayRemain ended failed more → Settles (outcome rules failed s (given ++ more)) written waiting result
 
 -- What waits is written, unless the driver had to stop.
 abbrev pub ClosesAfter : {F : Type 0} → Bool → DriveFault F → List ℕ → List ℕ → Result ℕ (DriveFault F) → Type 0
@@ -88,3 +79,12 @@ ClosesAfter false e written waiting result = Settles (stop (Err e)) written wait
 abbrev pub Closes : {F : Type 0} → Result ℕ (DriveFault F) → List ℕ → List ℕ → Result ℕ (DriveFault F) → Type 0
 Closes (Ok m) written waiting result = Settles (stop (Ok m)) written waiting result
 Closes (Err e) written waiting result = ClosesAfter (is_stop e) e written waiting result
+
+-- The handler is at a state, unless the driver ends with a fault.
+abbrev pub IsLeftAt : {S F : Type 0} → (S → Type 0) → S → Result ℕ (DriveFault F) → Type 0
+IsLeftAt is_at t (Ok n) = is_at t
+IsLeftAt is_at t (Err e) = Unit {0}
+
+-- One of some outcomes was met: its text was written, and its end answered.
+abbrev pub MeetsOne : {S F : Type 0} → (Outcome F → S → Type 0) → (S → Type 0) → List ℕ → Result ℕ (DriveFault F) → Type 0
+MeetsOne Whole is_at written result = (o : _) × (t : _) × Whole o t × IsLeftAt is_at t result × Meets o written result

@@ -1,31 +1,27 @@
 //! The loop from the lines of a source, over a handler, to a sink.
-ghost use Rattle.std.specs.Prelude.{◌≡◌, ◌<◌, ◌≤◌, ◌+◌, ◌-◌, ◌^◌, ◌++◌, [], List, ℕ, true, Result, Err, IfOk};
+ghost use Rattle.std.specs.Prelude.{◌≡◌, ◌≢◌, ◌<◌, ◌≤◌, List, ℕ, true, false, Ok, Err, Some, None, IfOk};
 ghost use Rattle.std.specs.Io.KnownBytes.{Appends};
+ghost use Rattle.wb_lines.specs.declared.lines.Seen.TheVariants as seens;
 ghost use Rattle.wb_lines.specs.Output.{Sends};
-ghost use Rattle.wb_lines.specs.Ahead.{Pulls};
-ghost use Rattle.wb_lines.specs.Handling.{whole, Does};
+ghost use Rattle.wb_lines.specs.Items.{begin};
+ghost use Rattle.wb_lines.specs.Groups.{IsOutcome, group_rules};
 ghost use Rattle.wb_lines.specs.Driving.{rules_of, outcome, Gave, Meets, is_stop};
-ghost use Rattle.wb_lines.specs.Steps.{fault_of, driven, StartsLong, TakesLine, TakesLines, Closes};
+ghost use Rattle.wb_lines.specs.Moments.{moment, is_broken, Moves, IsTrue};
+ghost use Rattle.wb_lines.specs.Steps.{fault_of, OutcomeAt, Drives, DrivesAll, Closes, MeetsOne};
 
 use crate::fault::DriveFault;
-use crate::handler::{Handler, Stop};
-use crate::line_reader::{Found, LineReader, Pulled};
+use crate::handler::{GroupHandler, Handler, Stop};
+use crate::lines::Lines;
+use crate::one_by_one::OneByOne;
 use crate::output::Output;
+use crate::progress::Progress;
 use std::alloc::Global;
 use wb_names::{Sink, Source};
 
-/// What stands between a source, a handler and a sink: the reader, the line that it read last, and what waits to be
-/// written.
-#[derive(Drop)]
-struct Desk {
-    reader: LineReader,
-    line: Vec<u8>,
-    output: Output,
-}
-
 /// Why the driver stops where its handler does, at the line of this number.
 fn fault_of<F>(number: u64, stop: Stop<F>) -> DriveFault<F>
-    ensures { result ≡ fault_of number stop }
+    ensures fault { result ≡ fault_of number stop }
+    ensures other { (result ≢ DriveFault.Read) × (result ≢ DriveFault.Write) }
 {
     match stop {
         Stop::Fault(fault) => DriveFault::Line(number, fault),
@@ -34,114 +30,115 @@ fn fault_of<F>(number: u64, stop: Stop<F>) -> DriveFault<F>
     }
 }
 
-/// Hands what was read to the handler as the next line, of which a line feed may be the end.
-fn hand_over<H: Handler>(
+/// Hands a line that was taken, and those that join it, to the handler.
+fn hand_over<H: GroupHandler, R: Source, W: Sink>(
     alloc: Global,
-    number: u64,
-    ended: bool,
+    said: H::Said,
     handler: &mut H,
-    desk: &mut Desk,
+    progress: &mut Progress<H::Said>,
+    source: &mut R,
+    sink: &mut W,
 ) -> Result<bool, DriveFault<H::Fault>>
-    ensures text { (printed : List ℕ) × (answer : Result (Unit {0}) (Stop H.Fault))
-        × (desk.new.output ≡ desk.old.output ++ printed) × (result ≡ driven number answer)
-        × ((s : H.State) → H.is_at handler.old s → Does (H.is_at handler.new) printed answer (H.step s number (whole (record { bytes = desk.old.line.items; ended = ended })))) }
-    ensures reader { desk.new.reader ≡ desk.old.reader }
+    requires said { H.Said.says progress.old.lines.line said }
+    requires taken { progress.old.lines.seen ≡ seens.Nothing }
+    ensures text { (printed : List ℕ) × (moves : Moves
+        (moment progress.old.lines progress.old.output (R.left source.old) (R.has_failed source.old) (W.taken sink.old) (W.has_failed sink.old))
+        (moment progress.new.lines progress.new.output (R.left source.new) (R.has_failed source.new) (W.taken sink.new) (W.has_failed sink.new)) printed)
+        × ((s : H.State) → H.is_at handler.old s
+        → Drives H.Said.by H.step (H.is_at handler.new) (OutcomeAt H.Said.by H.step progress.old.lines (Some (begin progress.old.lines.done progress.old.lines.line)) s) moves.given printed progress.new.lines result) }
+    ensures going { result ≡ Ok true → is_broken progress.new.lines.seen ≡ false }
+    ensures faults { (result ≡ Err DriveFault.Read → progress.new.lines.seen ≡ seens.Failed) × (result ≡ Err DriveFault.Write → progress.new.lines.seen ≡ seens.Unwritten) }
 {
-    match handler.take(alloc, number, &desk.line, ended, &mut desk.output) {
-        Ok(()) => Ok(true),
-        Err(stop) => Err(fault_of(number, stop)),
+    let number = progress.lines.done();
+    if let Err(stop) = handler.take(alloc, said, progress, source, sink) {
+        return Err(fault_of(number, stop));
+    }
+    if progress.lines.is_broken() {
+        progress.lines.end()
+    } else {
+        Ok(true)
     }
 }
 
 /// Tells the handler of a line of which one byte too many was read, and passes over the rest of it.
-fn hand_over_long<H: Handler, R: Source, W: Sink>(
+fn hand_over_long<H: GroupHandler, R: Source, W: Sink>(
     alloc: Global,
-    done: u64,
     handler: &mut H,
-    desk: &mut Desk,
+    progress: &mut Progress<H::Said>,
     source: &mut R,
     sink: &mut W,
 ) -> Result<bool, DriveFault<H::Fault>>
-    requires few { done < 2 ^ 64 - 1 }
-    ensures text { (given : List ℕ) × (written : List ℕ)
-        × Pulls desk.old.reader desk.new.reader (R.left source.old) (R.left source.new) (R.has_failed source.old) (R.has_failed source.new) given
-        × Sends (W.taken sink.old) desk.old.output (W.taken sink.new) desk.new.output written
-        × ((most : ℕ) (front : List ℕ) (s : H.State) → done < most → StartsLong front → H.is_at handler.old s
-        → TakesLine (rules_of H.step most) (H.is_at handler.new) done s (front ++ (desk.old.reader.bytes ++ given)) written desk.new.reader (R.has_failed source.new) result) }
-    ensures read { result ≡ Err DriveFault.Read → R.has_failed source.new ≡ true }
-    ensures failed { result ≡ Err DriveFault.Write → W.has_failed sink.new ≡ true }
+    requires long { progress.old.lines.seen ≡ seens.TooLong }
+    ensures text { (printed : List ℕ) × (moves : Moves
+        (moment progress.old.lines progress.old.output (R.left source.old) (R.has_failed source.old) (W.taken sink.old) (W.has_failed sink.old))
+        (moment progress.new.lines progress.new.output (R.left source.new) (R.has_failed source.new) (W.taken sink.new) (W.has_failed sink.new)) printed)
+        × ((s : H.State) → H.is_at handler.old s
+        → Drives H.Said.by H.step (H.is_at handler.new) (OutcomeAt H.Said.by H.step progress.old.lines None s) moves.given printed progress.new.lines result) }
+    ensures on { (progress.old.lines.done < progress.old.lines.most) × (progress.old.lines.done < progress.new.lines.done) }
+    ensures going { result ≡ Ok true → is_broken progress.new.lines.seen ≡ false }
+    ensures faults { (result ≡ Err DriveFault.Read → progress.new.lines.seen ≡ seens.Failed) × (result ≡ Err DriveFault.Write → progress.new.lines.seen ≡ seens.Unwritten) }
 {
-    if let Err(stop) = handler.take_too_long(alloc, done + 1, &mut desk.output) {
-        return Err(fault_of(done + 1, stop));
+    progress.lines.take_too_long();
+    let number = progress.lines.done();
+    if let Err(stop) = handler.take_too_long(alloc, number, &mut progress.output) {
+        return Err(fault_of(number, stop));
     }
-    match desk.reader.pass_over(source, &mut desk.output, sink) {
-        Found::Whole | Found::Last | Found::End => Ok(true),
-        Found::Failed => Err(DriveFault::Read),
-        Found::TooLong => Err(DriveFault::Endless),
-        Found::Unwritten => Err(DriveFault::Write),
+    progress.lines.pass_over(source, &mut progress.output, sink);
+    if progress.lines.is_broken() {
+        progress.lines.end()
+    } else {
+        Ok(true)
     }
 }
 
-/// Takes the next line. Answers whether there was one.
-fn drive_line<H: Handler, R: Source, W: Sink>(
+/// Takes the next line and those that join it. Answers whether there was one.
+fn drive_group<H: GroupHandler, R: Source, W: Sink>(
     alloc: Global,
-    done: u64,
     handler: &mut H,
-    desk: &mut Desk,
+    progress: &mut Progress<H::Said>,
     source: &mut R,
     sink: &mut W,
 ) -> Result<bool, DriveFault<H::Fault>>
-    requires few { done < 2 ^ 64 - 1 }
-    ensures text { (given : List ℕ) × (written : List ℕ)
-        × Pulls desk.old.reader desk.new.reader (R.left source.old) (R.left source.new) (R.has_failed source.old) (R.has_failed source.new) given
-        × Sends (W.taken sink.old) desk.old.output (W.taken sink.new) desk.new.output written
-        × ((most : ℕ) (s : H.State) → done < most → H.is_at handler.old s
-        → TakesLine (rules_of H.step most) (H.is_at handler.new) done s (desk.old.reader.bytes ++ given) written desk.new.reader (R.has_failed source.new) result) }
-    ensures read { result ≡ Err DriveFault.Read → R.has_failed source.new ≡ true }
-    ensures failed { result ≡ Err DriveFault.Write → W.has_failed sink.new ≡ true }
+    requires going { is_broken progress.old.lines.seen ≡ false }
+    ensures text { (printed : List ℕ) × (moves : Moves
+        (moment progress.old.lines progress.old.output (R.left source.old) (R.has_failed source.old) (W.taken sink.old) (W.has_failed sink.old))
+        (moment progress.new.lines progress.new.output (R.left source.new) (R.has_failed source.new) (W.taken sink.new) (W.has_failed sink.new)) printed)
+        × ((s : H.State) → H.is_at handler.old s
+        → Drives H.Said.by H.step (H.is_at handler.new) (OutcomeAt H.Said.by H.step progress.old.lines None s) moves.given printed progress.new.lines result) }
+    ensures on { result ≡ Ok true → (progress.old.lines.done < progress.old.lines.most) × (progress.old.lines.done < progress.new.lines.done) × (is_broken progress.new.lines.seen ≡ false) }
+    ensures faults { (result ≡ Err DriveFault.Read → progress.new.lines.seen ≡ seens.Failed) × (result ≡ Err DriveFault.Write → progress.new.lines.seen ≡ seens.Unwritten) }
 {
-    match desk
-        .reader
-        .next_line(source, &mut desk.line, &mut desk.output, sink)?
-    {
-        Found::Unwritten => Err(DriveFault::Write),
-        Found::End => Ok(false),
-        Found::Failed => Err(DriveFault::Read),
-        Found::TooLong => hand_over_long(alloc, done, handler, desk, source, sink),
-        Found::Last => hand_over(alloc, done + 1, false, handler, desk),
-        Found::Whole => hand_over(alloc, done + 1, true, handler, desk),
+    progress
+        .lines
+        .look(alloc, source, &mut progress.output, sink);
+    if progress.lines.is_too_long() {
+        return hand_over_long(alloc, handler, progress, source, sink);
+    }
+    match progress.lines.take_line() {
+        Some(said) => hand_over(alloc, said, handler, progress, source, sink),
+        None => progress.lines.end(),
     }
 }
 
-/// Takes line after line. Answers how many there were.
-fn drive_lines<H: Handler, R: Source, W: Sink>(
+/// Takes group after group. Answers how many lines there were.
+fn drive_all<H: GroupHandler, R: Source, W: Sink>(
     alloc: Global,
-    most_lines: u64,
     handler: &mut H,
-    desk: &mut Desk,
+    progress: &mut Progress<H::Said>,
     source: &mut R,
     sink: &mut W,
 ) -> Result<u64, DriveFault<H::Fault>>
-    ensures text { (given : List ℕ) × (written : List ℕ)
-        × Pulls desk.old.reader desk.new.reader (R.left source.old) (R.left source.new) (R.has_failed source.old) (R.has_failed source.new) given
-        × Sends (W.taken sink.old) desk.old.output (W.taken sink.new) desk.new.output written
+    requires going { is_broken progress.old.lines.seen ≡ false }
+    ensures text { (printed : List ℕ) × (moves : Moves
+        (moment progress.old.lines progress.old.output (R.left source.old) (R.has_failed source.old) (W.taken sink.old) (W.has_failed sink.old))
+        (moment progress.new.lines progress.new.output (R.left source.new) (R.has_failed source.new) (W.taken sink.new) (W.has_failed sink.new)) printed)
         × ((s : H.State) → H.is_at handler.old s
-        → TakesLines (rules_of H.step most_lines) s (desk.old.reader.bytes ++ given) written desk.new.reader (R.has_failed source.new) result) }
-    ensures few { IfOk result (λ lines. lines ≤ most_lines) }
-    ensures read { result ≡ Err DriveFault.Read → R.has_failed source.new ≡ true }
-    ensures failed { result ≡ Err DriveFault.Write → W.has_failed sink.new ≡ true }
+        → DrivesAll (H.is_at handler.new) (OutcomeAt H.Said.by H.step progress.old.lines None s) moves.given printed progress.new.lines result) }
+    ensures few { IfOk result (λ lines. lines ≤ progress.old.lines.most) }
+    ensures faults { (result ≡ Err DriveFault.Read → progress.new.lines.seen ≡ seens.Failed) × (result ≡ Err DriveFault.Write → progress.new.lines.seen ≡ seens.Unwritten) }
 {
-    for done in 0..most_lines {
-        if !drive_line(alloc, done, handler, desk, source, sink)? {
-            return Ok(done);
-        }
-    }
-    match desk.reader.next_byte(source, &mut desk.output, sink) {
-        Pulled::End => Ok(most_lines),
-        Pulled::Failed => Err(DriveFault::Read),
-        Pulled::Unwritten => Err(DriveFault::Write),
-        Pulled::Byte(_) => Err(DriveFault::Endless),
-    }
+    while drive_group(alloc, handler, progress, source, sink)? {}
+    Ok(progress.lines.done())
 }
 
 /// Whether what waits can't be written any more.
@@ -171,14 +168,40 @@ fn close<F: Drop, W: Sink>(
     ending
 }
 
-/// Hands the lines that a source has left to a handler, and writes what it prints to a sink. Before it waits for more
-/// it has written what it has. Answers how many lines there were; or the first fault in their order, and then all is
+/// Hands the lines that a source has left to a handler, in groups, and writes what it prints to a sink. Before it waits for
+/// more it has written what it has. Answers how many lines there were; or the first fault in their order, and then all is
 /// written that was printed before.
 ///
 /// The lines are taken up to the first at which the handler stops, and `most_lines` of them at most. A line that is too
 /// long is handed over as such; where the handler goes on, the rest of it is passed over.
 ///
 /// Where memory runs out or the sink fails, a front of the text is written.
+pub fn drive_groups<H: GroupHandler, R: Source, W: Sink>(
+    alloc: Global,
+    most_lines: u64,
+    handler: &mut H,
+    source: &mut R,
+    sink: &mut W,
+) -> Result<u64, DriveFault<H::Fault>>
+    requires { most_lines ≤ H.Said.at_most }
+    ensures lines { (input : List ℕ) × (written : List ℕ)
+        × Gave (R.left source.old) (R.left source.new) (R.has_failed source.new) input
+        × Appends (W.taken sink.old) (W.taken sink.new) written
+        × ((s : H.State) → H.is_at handler.old s → MeetsOne (IsOutcome (group_rules H.Said.by H.step most_lines) (R.has_failed source.new) s input) (H.is_at handler.new) written result) }
+    ensures few { IfOk result (λ lines. lines ≤ most_lines) }
+    ensures read { result ≡ Err DriveFault.Read → R.has_failed source.new ≡ true }
+    ensures write { result ≡ Err DriveFault.Write → W.has_failed sink.new ≡ true }
+{
+    let mut progress = Progress {
+        lines: Lines::new(alloc, most_lines)?,
+        output: Output::new(alloc),
+    };
+    let ending = drive_all(alloc, handler, &mut progress, source, sink);
+    close(ending, &mut progress.output, sink)
+}
+
+/// Hands the lines that a source has left to a handler one by one, as `drive_groups` does it with those of groups. What is
+/// written then is a function of the lines.
 pub fn drive<H: Handler, R: Source, W: Sink>(
     alloc: Global,
     most_lines: u64,
@@ -194,11 +217,6 @@ pub fn drive<H: Handler, R: Source, W: Sink>(
     ensures read { result ≡ Err DriveFault.Read → R.has_failed source.new ≡ true }
     ensures write { result ≡ Err DriveFault.Write → W.has_failed sink.new ≡ true }
 {
-    let mut desk = Desk {
-        reader: LineReader::new(alloc)?,
-        line: Vec::new(alloc),
-        output: Output::new(alloc),
-    };
-    let ending = drive_lines(alloc, most_lines, handler, &mut desk, source, sink);
-    close(ending, &mut desk.output, sink)
+    let mut one = OneByOne { handler };
+    drive_groups(alloc, most_lines, &mut one, source, sink)
 }

@@ -1,73 +1,39 @@
-use Rattle.std.proofs.Common.{[], ◌++◌, append-nil}
-use Rattle.wb_lines.specs.Driving.{rules_of}
-use Rattle.wb_lines.proofs.KnownBytes.{Sends-more, Sends-then}
-use Rattle.wb_lines.proofs.LineBytes.{Pulls-none}
-use Rattle.wb_lines.proofs.LongLines.{long_halts, long_on, long_failed, long_endless, long_unwritten}
+use Rattle.std.proofs.Common.{◌≡◌, ℕ, ◌+◌, true, false, Ok, Err, refl, sym, ap, ◌∙◌, []}
+use Rattle.wb_lines.specs.Handling.{too_long}
+use Rattle.wb_lines.specs.Moments.{LinesValue, is_broken}
+use Rattle.wb_lines.specs.Steps.{fault_of}
+use Rattle.wb_lines.proofs.Moments.{Moves-none}
+use Rattle.wb_lines.proofs.Outcomes.{long_stopped, long_broken, long_went, broken_end, did_one, after_long}
 use Rattle.wb_lines.proofs.driving.hand_over_long.Goals as goal
 
 pub returns-in-Err-clause-text : goal.returns-in-Err-clause-text
 returns-in-Err-clause-text g c =
-    let told = c.in-Err.ensures in (
-      [],
-      told.0,
-      Pulls-none c.args.desk.now.reader (g.R.Source.left c.args.source.now) (g.R.Source.has_failed c.args.source.now),
-      Sends-more (g.W.Sink.taken c.args.sink.now) c.args.desk.now.output c.take_too_long.new.output told.0 told.1,
-      λ most front s few is at.
-          rw c.fault_of.ensures (long_halts (rules_of g.H.Handler.step most) (g.H.Handler.is_at c.take_too_long.new.self) c.args.done s front (c.args.desk.now.reader.bytes ++ []) told.0 c.args.desk.now.reader (g.R.Source.has_failed c.args.source.now) c.in-Err.stop few is (told.2 s at)),
-    )
+    let t = c.take_too_long-2.ensures in
+    let number : c.done-number.result ≡ c.args.progress.now.lines.done + 1 = c.done-number.ensures.count ∙ ap (λ (v : LinesValue _). v.done) c.take_too_long.ensures.line in
+    after_long g.H.Said.Saying.by g.H.GroupHandler.step (g.H.GroupHandler.is_at c.args.handler.now) (g.H.GroupHandler.is_at c.take_too_long-2.new.self) t.0 (Err c.fault_of.result) c.requires.long c.take_too_long.ensures.line refl refl refl refl t.1 (Moves-none _)
+    (λ s at.
+    rw (c.fault_of.ensures.fault ∙ ap (λ (n : ℕ). fault_of n c.in-Err.stop) number)
+    (long_stopped g.H.Said.Saying.by g.H.GroupHandler.step (g.H.GroupHandler.is_at c.take_too_long-2.new.self) c.args.progress.now.lines c.take_too_long.new.self s _ t.0 c.in-Err.stop g.met.H.GroupHandler.some_step c.requires.long c.take_too_long.ensures.long.0 c.take_too_long.ensures.long.1 (rw (number, c.in-Err.is) at (t.2 s at))))
 
-pub returns-in-Whole-clause-text : goal.returns-in-Whole-clause-text
-returns-in-Whole-clause-text g c =
-    let told = c.in_default.ensures in
-    let over = c.pass_over.ensures.read in (
-      over.0,
-      told.0 ++ [],
-      over.2,
-      Sends-then (g.W.Sink.taken c.args.sink.now) (g.W.Sink.taken c.args.sink.now) (g.W.Sink.taken c.pass_over.new.sink) c.args.desk.now.output c.take_too_long.new.output c.pass_over.new.output told.0 []
-          (Sends-more (g.W.Sink.taken c.args.sink.now) c.args.desk.now.output c.take_too_long.new.output told.0 told.1) c.pass_over.ensures.sends,
-      λ most front s few is at.
-          rw append-nil
-          (long_on (rules_of g.H.Handler.step most) (g.H.Handler.is_at c.take_too_long.new.self) c.args.done s front over.1 over.0 told.0 c.args.desk.now.reader c.pass_over.new.self (g.R.Source.has_failed c.pass_over.new.source) few is c.pass_over.result c.in-Whole.is over.3 (told.2 s at)),
-    )
+pub returns-then-is_broken-clause-text : goal.returns-then-is_broken-clause-text
+returns-then-is_broken-clause-text g c =
+    let t = c.take_too_long-2.ensures in
+    let p = c.pass_over.ensures.passes in
+    let number : c.done-number.result ≡ c.args.progress.now.lines.done + 1 = c.done-number.ensures.count ∙ ap (λ (v : LinesValue _). v.done) c.take_too_long.ensures.line in
+    let broken : is_broken c.pass_over.new.self.seen ≡ true = sym c.is_broken.ensures.broken ∙ c.if-is_broken.true in
+    let e = broken_end c.pass_over.new.self.seen c.end.result broken c.end.ensures.end in
+    after_long g.H.Said.Saying.by g.H.GroupHandler.step (g.H.GroupHandler.is_at c.args.handler.now) (g.H.GroupHandler.is_at c.take_too_long-2.new.self) t.0 c.end.result c.requires.long c.take_too_long.ensures.line refl refl refl refl t.1 p.0
+    (λ s at.
+    let did = did_one (g.H.GroupHandler.is_at c.take_too_long-2.new.self) t.0 (g.H.GroupHandler.step s c.done-number.result too_long []) c.take_too_long-2.result c.in_default.not-Err (t.2 s at) in
+    rw e.2
+    (long_broken g.H.Said.Saying.by g.H.GroupHandler.step (g.H.GroupHandler.is_at c.take_too_long-2.new.self) c.args.progress.now.lines c.pass_over.new.self s p.0.given t.0 e.0 g.met.H.GroupHandler.some_step c.requires.long c.take_too_long.ensures.long.0 c.take_too_long.ensures.long.1 (rw number at did) e.1))
 
-pub returns-in-Failed-clause-text : goal.returns-in-Failed-clause-text
-returns-in-Failed-clause-text g c =
-    let told = c.in_default.ensures in
-    let over = c.pass_over.ensures.read in (
-      over.0,
-      told.0 ++ [],
-      over.2,
-      Sends-then (g.W.Sink.taken c.args.sink.now) (g.W.Sink.taken c.args.sink.now) (g.W.Sink.taken c.pass_over.new.sink) c.args.desk.now.output c.take_too_long.new.output c.pass_over.new.output told.0 []
-          (Sends-more (g.W.Sink.taken c.args.sink.now) c.args.desk.now.output c.take_too_long.new.output told.0 told.1) c.pass_over.ensures.sends,
-      λ most front s few is at.
-          rw append-nil
-          (long_failed (rules_of g.H.Handler.step most) (g.H.Handler.is_at c.take_too_long.new.self) c.args.done s front over.1 over.0 told.0 c.args.desk.now.reader c.pass_over.new.self (g.R.Source.has_failed c.pass_over.new.source) few is (rw c.in-Failed.is at over.3) (told.2 s at)),
-    )
-
-pub returns-in-TooLong-clause-text : goal.returns-in-TooLong-clause-text
-returns-in-TooLong-clause-text g c =
-    let told = c.in_default.ensures in
-    let over = c.pass_over.ensures.read in (
-      over.0,
-      told.0 ++ [],
-      over.2,
-      Sends-then (g.W.Sink.taken c.args.sink.now) (g.W.Sink.taken c.args.sink.now) (g.W.Sink.taken c.pass_over.new.sink) c.args.desk.now.output c.take_too_long.new.output c.pass_over.new.output told.0 []
-          (Sends-more (g.W.Sink.taken c.args.sink.now) c.args.desk.now.output c.take_too_long.new.output told.0 told.1) c.pass_over.ensures.sends,
-      λ most front s few is at.
-          rw append-nil
-          (long_endless (rules_of g.H.Handler.step most) (g.H.Handler.is_at c.take_too_long.new.self) c.args.done s front over.1 over.0 told.0 c.args.desk.now.reader c.pass_over.new.self (g.R.Source.has_failed c.pass_over.new.source) few is (rw c.in-TooLong.is at over.3) (told.2 s at)),
-    )
-
-pub returns-in-Unwritten-clause-text : goal.returns-in-Unwritten-clause-text
-returns-in-Unwritten-clause-text g c =
-    let told = c.in_default.ensures in
-    let over = c.pass_over.ensures.read in (
-      over.0,
-      told.0 ++ [],
-      over.2,
-      Sends-then (g.W.Sink.taken c.args.sink.now) (g.W.Sink.taken c.args.sink.now) (g.W.Sink.taken c.pass_over.new.sink) c.args.desk.now.output c.take_too_long.new.output c.pass_over.new.output told.0 []
-          (Sends-more (g.W.Sink.taken c.args.sink.now) c.args.desk.now.output c.take_too_long.new.output told.0 told.1) c.pass_over.ensures.sends,
-      λ most front s few is at.
-          rw append-nil
-          (long_unwritten (rules_of g.H.Handler.step most) (g.H.Handler.is_at c.take_too_long.new.self) c.args.done s front (c.args.desk.now.reader.bytes ++ over.0) told.0 c.pass_over.new.self (g.R.Source.has_failed c.pass_over.new.source) few is (told.2 s at)),
-    )
+pub returns-else-is_broken-clause-text : goal.returns-else-is_broken-clause-text
+returns-else-is_broken-clause-text g c =
+    let t = c.take_too_long-2.ensures in
+    let p = c.pass_over.ensures.passes in
+    let number : c.done-number.result ≡ c.args.progress.now.lines.done + 1 = c.done-number.ensures.count ∙ ap (λ (v : LinesValue _). v.done) c.take_too_long.ensures.line in
+    after_long g.H.Said.Saying.by g.H.GroupHandler.step (g.H.GroupHandler.is_at c.args.handler.now) (g.H.GroupHandler.is_at c.take_too_long-2.new.self) t.0 (Ok true) c.requires.long c.take_too_long.ensures.line refl refl refl refl t.1 p.0
+    (λ s at.
+    let did = did_one (g.H.GroupHandler.is_at c.take_too_long-2.new.self) t.0 (g.H.GroupHandler.step s c.done-number.result too_long []) c.take_too_long-2.result c.in_default.not-Err (t.2 s at) in
+    long_went g.H.Said.Saying.by g.H.GroupHandler.step (g.H.GroupHandler.is_at c.take_too_long-2.new.self) c.args.progress.now.lines c.pass_over.new.self s p.0.given t.0 c.requires.long c.take_too_long.ensures.long.1 (rw c.take_too_long.ensures.line at p.1) (rw number at did))

@@ -1,0 +1,92 @@
+-- From one moment of a driver to another: what was read and printed, step after step.
+use Rattle.std.proofs.Common.{◌≡◌, ◌≢◌, ℕ, ◌+◌, ◌<◌, ◌≤◌, Bool, true, false, cond, List, [], ◌∷◌, ◌++◌, length, Option, Some, None, refl, sym, ap, subst, ◌∙◌, append_assoc, append-nil, arith, nat_eq, nat_lt, nat_le, ◌||◌, not}
+use Rattle.std.proofs.lemmas.Bool.{false≢true}
+use Rattle.std.proofs.lemmas.Bool.Decides.{nat_tests}
+use Rattle.wb_lines.specs.declared.lines.Seen.{Seen}
+use Rattle.wb_lines.specs.declared.lines.Seen.TheVariants as seens
+use Rattle.wb_lines.specs.Ahead.{Ahead, Pulls, IsLine, NoLineFeed}
+use Rattle.wb_lines.specs.Output.{Sends}
+use Rattle.wb_lines.specs.Input.{InputLine, input_lines, standing, MayFollow, most_bytes}
+use Rattle.wb_lines.specs.Items.{InputEnd, finished, unreadable, endless, Items, over, group, Grouping, Begun, begin, grown, closed, items_from, entry, by_entry, short, none}
+use Rattle.wb_lines.specs.Moments.{LinesValue, IsRead, Moment, MayCome, Rest, unread, IsTrue, Moves, Reads, grown_by, Gathers, with_one}
+use Rattle.wb_lines.proofs.InputLines.{input_lines-whole, input_lines-last, whole_line, last_line, has_line}
+use Rattle.wb_lines.proofs.KnownBytes.{Sends-none, Sends-more, Sends-then}
+use Rattle.wb_lines.proofs.LineBytes.{Pulls-none, Pulls-then}
+
+unfoldable pub Moves-none : {S : Type 0} (m : Moment S) → Moves m m []
+Moves-none m = record {
+  given = [];
+  pulls = Pulls-none m.lines.reader m.left m.failed;
+  sends = Sends-none m.taken m.output;
+  most = refl;
+  done = omega arith;
+  true_still = λ t. t;
+  may = λ more cut may. may;
+}
+
+unfoldable pub Moves-then : {S : Type 0} (a b c : Moment S) (x y : List ℕ) → Moves a b x → Moves b c y → Moves a c (x ++ y)
+Moves-then a b c x y p q = record {
+  given = p.given ++ q.given;
+  pulls = Pulls-then a.lines.reader b.lines.reader c.lines.reader a.left b.left c.left a.failed b.failed c.failed p.given q.given p.pulls q.pulls;
+  sends = Sends-then a.taken b.taken c.taken a.output b.output c.output x y p.sends q.sends;
+  most = q.most ∙ p.most;
+  done = omega (arith, p.done, q.done);
+  true_still = λ t. q.true_still (p.true_still t);
+  may = λ more cut may. subst (λ (t : List ℕ). MayCome a.lines t cut) (sym (append_assoc p.given q.given more)) (p.may (q.given ++ more) cut (q.may more cut may));
+}
+
+-- ---- lines that join a group
+
+grown-more : (g : Option Begun) (js ks : List InputLine) → grown_by (grown_by g js) ks ≡ grown_by g (js ++ ks)
+grown-more None js ks = refl
+grown-more (Some g) js ks = ap (λ (ls : List InputLine). Some (record { number = g.number; first = g.first; joined = ls })) (append_assoc g.joined js ks)
+
+pub grown-none : (g : Option Begun) → grown_by g [] ≡ g
+grown-none None = refl
+grown-none (Some g) = ap (λ (ls : List InputLine). Some (record { number = g.number; first = g.first; joined = ls })) (append-nil g.joined)
+
+gathers_front : (by : Grouping) (g : Option Begun) (js ks : List InputLine) → Gathers by g (js ++ ks) → Gathers by g js
+gathers_front by None [] ks h = tt
+gathers_front by (Some g) [] ks h = tt
+gathers_front by None (j ∷ js) ks h = absurd h
+gathers_front by (Some g) (j ∷ js) ks h = h
+
+gathers_back : (by : Grouping) (g : Option Begun) (js ks : List InputLine) → Gathers by g (js ++ ks) → Gathers by (grown_by g js) ks
+gathers_back by None js [] h = tt
+gathers_back by (Some g) js [] h = tt
+gathers_back by None [] (k ∷ ks) h = absurd h
+gathers_back by None (j ∷ js) (k ∷ ks) h = absurd h
+gathers_back by (Some g) [] (k ∷ ks) h = h
+gathers_back by (Some g) (j ∷ js) (k ∷ ks) h = h
+
+pub Reads-none : {S : Type 0} (by : Grouping) (m : Moment S) → Reads by m m [] []
+unfolding Moves-none
+Reads-none by m = record {
+  moves = Moves-none m;
+  joins = λ g more cut is gathers may rest. subst (λ (h : Option Begun). Rest by m.lines h more cut is) (grown-none g) rest;
+}
+
+pub Reads-then : {S : Type 0} (by : Grouping) (a b c : Moment S) (x y : List ℕ) (js ks : List InputLine) → Reads by a b x js → Reads by b c y ks → Reads by a c (x ++ y) (js ++ ks)
+unfolding Moves-then
+Reads-then by a b c x y js ks p q = record {
+  moves = Moves-then a b c x y p.moves q.moves;
+  joins = λ g more cut is gathers may rest.
+      subst (λ (t : List ℕ). Rest by a.lines g t cut is) (sym (append_assoc p.moves.given q.moves.given more))
+      (p.joins g (q.moves.given ++ more) cut is (gathers_front by g js ks gathers) (q.moves.may more cut may)
+      (q.joins (grown_by g js) more cut is (gathers_back by g js ks gathers) may (subst (λ (h : Option Begun). Rest by c.lines h more cut is) (sym (grown-more g js ks)) rest)));
+}
+
+-- text was printed, and nothing else happened
+pub Reads-prints : {S : Type 0} (by : Grouping) (a b : Moment S) (text : List ℕ) → b.lines ≡ a.lines → b.left ≡ a.left → b.failed ≡ a.failed → b.taken ≡ a.taken → b.stuck ≡ a.stuck → b.output ≡ a.output ++ text → Reads by a b text []
+Reads-prints by a b text lines left failed taken stuck prints = record {
+  moves = record {
+    given = [];
+    pulls = rw (lines, left, failed) (Pulls-none a.lines.reader a.left a.failed);
+    sends = rw taken (Sends-more a.taken a.output b.output text prints);
+    most = rw lines refl;
+    done = rw lines (omega arith);
+    true_still = λ t. record { failed = rw (lines, failed) t.failed; stuck = rw (lines, stuck) t.stuck };
+    may = λ more cut may. rw lines at may;
+  };
+  joins = λ g more cut is gathers may rest. subst (λ (h : Option Begun). Rest by a.lines h more cut is) (grown-none g) (rw lines at rest);
+}

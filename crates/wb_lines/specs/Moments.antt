@@ -1,0 +1,196 @@
+-- Where a driver is: what was read, taken and written, and what follows.
+use Rattle.std.specs.Prelude.{◌≡◌, ◌≢◌, ◌≤◌, ◌<◌, ◌+◌, ℕ, List, [], ◌∷◌, ◌++◌, length, Bool, true, false, Option, Some, None, Result, Ok, Err}
+use Rattle.wb_lines.specs.declared.fault.DriveFault.{DriveFault}
+use Rattle.wb_lines.specs.declared.fault.DriveFault.TheVariants as faults
+use Rattle.wb_lines.specs.declared.line_reader.Found.{Found}
+use Rattle.wb_lines.specs.declared.line_reader.Found.TheVariants as founds
+use Rattle.wb_lines.specs.declared.lines.Seen.{Seen}
+use Rattle.wb_lines.specs.declared.lines.Seen.TheVariants as seens
+use Rattle.wb_lines.specs.Ahead.{Ahead, Pulls, IsLine, NoLineFeed}
+use Rattle.wb_lines.specs.Output.{Sends}
+use Rattle.wb_lines.specs.Input.{InputLine, input_lines, standing, MayFollow, most_bytes}
+use Rattle.wb_lines.specs.Handling.{too_long}
+use Rattle.wb_lines.specs.Items.{InputEnd, finished, unreadable, endless, Items, over, group, Grouping, Begun, closed, items_from}
+
+-- How many lines were taken, of at most so many; what the reader has ahead; the line that was read last; and what was found behind those that were taken.
+pub record LinesValue (S : Type 0) : Type 0 where
+  pub done : ℕ
+  pub most : ℕ
+  pub reader : Ahead
+  pub line : InputLine
+  pub seen : Seen S
+
+-- the bytes of a line that make it too long
+pub record StartsLong (front : List ℕ) : Type 0 where
+  pub no_line_feed : NoLineFeed front
+  pub long : length front ≡ most_bytes + 1
+
+-- a line that was read, with what the reader has behind it
+pub record IsRead (line : InputLine) (reader : Ahead) : Type 0 where
+  pub is_line : IsLine line.bytes
+  pub last : line.ended ≡ false → (line.bytes ≢ []) × (reader.bytes ≡ []) × (reader.ended ≡ true)
+
+-- what is known of what was found
+abbrev pub IsFound : {S : Type 0} → (InputLine → S → Type 0) → ℕ → ℕ → Ahead → InputLine → Seen S → Type 0
+IsFound says done most reader line (seens.Line said) = (done < most) × IsRead line reader × says line said
+IsFound says done most reader line seens.TooLong = (done < most) × StartsLong line.bytes
+IsFound says done most reader line seen = done ≤ most
+
+abbrev pub IsSound : {S : Type 0} → (InputLine → S → Type 0) → LinesValue S → Type 0
+IsSound says v = IsFound says v.done v.most v.reader v.line v.seen
+
+abbrev pub is_broken : {S : Type 0} → Seen S → Bool
+is_broken seens.Unwritten = true
+is_broken seens.Memory = true
+is_broken seen = false
+
+-- ---- what follows
+
+-- the bytes that were read and not taken
+abbrev pub held : {S : Type 0} → Seen S → InputLine → List ℕ
+held (seens.Line said) line = standing line
+held seens.TooLong line = line.bytes
+held seen line = []
+
+abbrev pub unread : {S : Type 0} → LinesValue S → List ℕ
+unread v = held v.seen v.line ++ v.reader.bytes
+
+-- What may still be pulled, and whether reading fails after it: nothing after the end or a failure.
+abbrev pub MayComeTo : {S : Type 0} → Seen S → Bool → List ℕ → Bool → Type 0
+MayComeTo seens.Failed ended more cut = (more ≡ []) × (cut ≡ true)
+MayComeTo seen ended more cut = MayFollow ended more cut
+
+abbrev pub MayCome : {S : Type 0} → LinesValue S → List ℕ → Bool → Type 0
+MayCome v more cut = MayComeTo v.seen v.reader.ended more cut
+
+-- Where this is still pulled, these items follow, with the group that is begun. Where no more lines can be read, though there may be some, nothing is said.
+abbrev pub RestBy : {S : Type 0} → Grouping → LinesValue S → Option Begun → List ℕ → Bool → Items → Seen S → Type 0
+RestBy by v g more cut is seens.End = is ≡ closed g (over (finished v.done))
+RestBy by v g more cut is seens.Failed = is ≡ closed g (over unreadable)
+RestBy by v g more cut is seens.TooMany = is ≡ closed g (over endless)
+RestBy by v g more cut is seens.Unwritten = ⊥
+RestBy by v g more cut is seens.Memory = ⊥
+RestBy by v g more cut is seen = is ≡ items_from by v.most cut v.done g (input_lines (unread v ++ more))
+
+abbrev pub Rest : {S : Type 0} → Grouping → LinesValue S → Option Begun → List ℕ → Bool → Items → Type 0
+Rest by v g more cut is = RestBy by v g more cut is v.seen
+
+-- ---- from one moment to another
+
+-- The lines and what waits to be written; what the source has left, and whether it failed; what the sink has taken, and whether it failed.
+pub record Moment (S : Type 0) : Type 0 where
+  pub lines : LinesValue S
+  pub output : List ℕ
+  pub left : Option (List ℕ)
+  pub failed : Bool
+  pub taken : Option (List ℕ)
+  pub stuck : Bool
+
+abbrev pub moment : {S : Type 0} → LinesValue S → List ℕ → Option (List ℕ) → Bool → Option (List ℕ) → Bool → Moment S
+moment lines output left failed taken stuck = record { lines = lines; output = output; left = left; failed = failed; taken = taken; stuck = stuck }
+
+-- It was found that the source failed, or the sink, only where it did.
+pub record IsTrue {S : Type 0} (m : Moment S) : Type 0 where
+  pub failed : m.lines.seen ≡ seens.Failed → m.failed ≡ true
+  pub stuck : m.lines.seen ≡ seens.Unwritten → m.stuck ≡ true
+
+-- Some bytes were pulled and some text was printed.
+pub record Moves {S : Type 0} (old new : Moment S) (written : List ℕ) : Type 0 where
+  pub given : List ℕ
+  pub pulls : Pulls old.lines.reader new.lines.reader old.left new.left old.failed new.failed given
+  pub sends : Sends old.taken old.output new.taken new.output written
+  pub most : new.lines.most ≡ old.lines.most
+  pub done : old.lines.done ≤ new.lines.done
+  pub true_still : IsTrue old → IsTrue new
+  pub may : (more : List ℕ) (cut : Bool) → MayCome new.lines more cut → MayCome old.lines (given ++ more) cut
+
+-- ---- lines that join a group
+
+abbrev pub grown_by : Option Begun → List InputLine → Option Begun
+grown_by None lines = None
+grown_by (Some g) lines = Some (record { number = g.number; first = g.first; joined = g.joined ++ lines })
+
+-- A line has others join it, where there are some.
+abbrev pub HasJoined : Grouping → InputLine → List InputLine → Type 0
+HasJoined by first [] = Unit {0}
+HasJoined by first (line ∷ lines) = by.gathers first ≡ true
+
+abbrev pub Gathers : Grouping → Option Begun → List InputLine → Type 0
+Gathers by None [] = Unit {0}
+Gathers by None (line ∷ lines) = ⊥
+Gathers by (Some g) lines = HasJoined by g.first lines
+
+-- These lines were taken, and join the group that is begun, if one is.
+pub record Reads {S : Type 0} (by : Grouping) (old new : Moment S) (written : List ℕ) (joined : List InputLine) : Type 0 where
+  pub moves : Moves old new written
+  pub joins : (g : Option Begun) (more : List ℕ) (cut : Bool) (is : Items) → Gathers by g joined → MayCome new.lines more cut
+      → Rest by new.lines (grown_by g joined) more cut is → Rest by old.lines g (moves.given ++ more) cut is
+
+-- The next line, if there is one, does not join them.
+abbrev pub IsBehind : {S : Type 0} → Grouping → InputLine → Seen S → Type 0
+IsBehind by line (seens.Line said) = by.joins line ≡ false
+IsBehind by line seens.Nothing = ⊥
+IsBehind by line seen = Unit {0}
+
+-- A group with this line as its first is at its end.
+abbrev pub IsGroupEnd : {S : Type 0} → Grouping → InputLine → LinesValue S → Type 0
+IsGroupEnd by first v = by.gathers first ≡ true → IsBehind by v.line v.seen
+
+-- ---- lines that are looked at, and taken
+
+abbrev pub with_seen : {S : Type 0} → LinesValue S → Seen S → LinesValue S
+with_seen v seen = record { done = v.done; most = v.most; reader = v.reader; line = v.line; seen = seen }
+
+-- one line more was taken
+abbrev pub with_one : {S : Type 0} → LinesValue S → LinesValue S
+with_one v = record { done = v.done + 1; most = v.most; reader = v.reader; line = v.line; seen = seens.Nothing }
+
+-- a line that was read, or memory ran out
+abbrev pub IsLineOrMemory : {S : Type 0} → (InputLine → S → Type 0) → InputLine → Seen S → Type 0
+IsLineOrMemory says line (seens.Line said) = says line said
+IsLineOrMemory says line seens.Memory = Unit {0}
+IsLineOrMemory says line seen = ⊥
+
+abbrev pub IsLineSeen : {S : Type 0} → Seen S → Type 0
+IsLineSeen (seens.Line said) = Unit {0}
+IsLineSeen seen = ⊥
+
+-- The line that was looked at is taken, where there is one.
+abbrev pub TakesLine : {S : Type 0} → (InputLine → S → Type 0) → LinesValue S → LinesValue S → Option S → Type 0
+TakesLine says old new (Some said) = (old.seen ≡ seens.Line said) × (new ≡ with_one old) × (old.done < old.most) × IsRead old.line old.reader × says old.line said
+TakesLine says old new None = (IsLineSeen old.seen → ⊥) × (new ≡ old)
+
+-- whether a line that was looked at joins those before it
+abbrev pub IsJoining : {S : Type 0} → Grouping → InputLine → Seen S → Bool → Type 0
+IsJoining by line (seens.Line said) joins = joins ≡ by.joins line
+IsJoining by line seen joins = joins ≡ false
+
+-- The next line is taken, where it joins those before it; else they are at their end, or no more lines can be read.
+abbrev pub TakesJoined : {S : Type 0} → (InputLine → S → Type 0) → Grouping → Moment S → Moment S → Option S → Type 0
+TakesJoined says by old new (Some said) = (line : InputLine) × says line said × (by.joins line ≡ true) × (old.lines.done < new.lines.done) × Reads by old new [] (line ∷ [])
+TakesJoined says by old new None = Reads by old new [] [] × IsBehind by new.lines.line new.lines.seen
+
+-- How a driver ends by what was found.
+abbrev pub EndsBy : {S F : Type 0} → Seen S → Result Bool (DriveFault F) → Type 0
+EndsBy seens.Failed result = result ≡ Err faults.Read
+EndsBy seens.TooMany result = result ≡ Err faults.Endless
+EndsBy seens.Unwritten result = result ≡ Err faults.Write
+EndsBy seens.Memory result = result ≡ Err faults.Memory
+EndsBy seen result = result ≡ Ok false
+
+-- The rest of a line that is too long is passed over: what follows then is what follows the line.
+abbrev pub PassesLine : {S : Type 0} → Grouping → LinesValue S → LinesValue S → List ℕ → Type 0
+PassesLine by old new given =
+    (n : ℕ) → old.done ≡ n + 1 → StartsLong old.line.bytes → (more : List ℕ) (cut : Bool) (is : Items) → MayCome new more cut → Rest by new None more cut is
+    → items_from by old.most cut n None (input_lines (old.line.bytes ++ (old.reader.bytes ++ (given ++ more)))) ≡ group (n + 1) too_long [] is
+
+-- nothing was read
+abbrev pub at_start : {S : Type 0} → ℕ → LinesValue S
+at_start most = record { done = 0; most = most; reader = record { bytes = []; ended = false }; line = record { bytes = []; ended = false }; seen = seens.Nothing }
+
+-- what passing over a line came to
+abbrev pub found_over : {S : Type 0} → Found → Seen S
+found_over founds.Failed = seens.Failed
+found_over founds.TooLong = seens.TooMany
+found_over founds.Unwritten = seens.Unwritten
+found_over found = seens.Nothing

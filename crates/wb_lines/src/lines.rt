@@ -1,0 +1,298 @@
+//! The lines of a source, of which the next is looked at before it is taken.
+ghost use Rattle.std.specs.Prelude.{◌≡◌, ◌≢◌, ◌<◌, ◌≤◌, ◌↔◌, [], List, ℕ, Err, IfOk, IsTrue};
+ghost use Rattle.wb_lines.specs.declared.lines.Seen.TheVariants as seens;
+ghost use Rattle.wb_lines.specs.Moments.{moment, is_broken, with_seen, Reads, IsSound, IsLineOrMemory, StartsLong, with_one, TakesLine, IsJoining, EndsBy, Moves, PassesLine, at_start, found_over};
+
+use crate::fault::DriveFault;
+use crate::line_reader::{Found, LineReader, Pulled};
+use crate::output::Output;
+use crate::saying::Saying;
+use std::alloc::{AllocError, Global};
+use std::marker::Model;
+use std::mem::replace;
+use wb_names::{Sink, Source};
+
+/// What was found behind the lines that were taken.
+#[derive(Drop)]
+pub enum Seen<S> {
+    /// It was not looked.
+    Nothing,
+    /// A line, and what it says.
+    Line(S),
+    /// A line that is too long.
+    TooLong,
+    /// The end of the input.
+    End,
+    /// The source failed.
+    Failed,
+    /// There are more lines than are taken.
+    TooMany,
+    /// What waited could not be written, so the source was not asked.
+    Unwritten,
+    /// Memory ran out.
+    Memory,
+}
+
+/// What passing over a line came to.
+fn found_over<S>(found: Found) -> Seen<S>
+    ensures { result ≡ found_over found }
+{
+    match found {
+        Found::Whole | Found::Last | Found::End => Seen::Nothing,
+        Found::Failed => Seen::Failed,
+        Found::TooLong => Seen::TooMany,
+        Found::Unwritten => Seen::Unwritten,
+    }
+}
+
+/// Reads a source line by line, and counts the lines. The next line can be looked at before it is taken, so that who takes
+/// lines together leaves the one behind them. Each line is read once, when it is looked at.
+#[derive(Drop)]
+pub struct Lines<S: Saying> {
+    reader: LineReader,
+    most: u64,
+    done: u64,
+    line: Vec<u8>,
+    ended: bool,
+    seen: Seen<S>,
+}
+
+impl<S: Saying> Model for Lines<S> {
+    ghost use Rattle.std.specs.Prelude.{◌≤◌};
+    ghost use Rattle.wb_lines.specs.Moments.{LinesValue, IsSound};
+
+    ghost Value = { LinesValue S };
+
+    ghost view = { λ l. record { done = l.done; most = l.most; reader = l.reader; line = record { bytes = l.line.items; ended = l.ended }; seen = l.seen } };
+
+    ghost invariant = { λ l. (l.most ≤ S.at_most) × IsSound S.says (record { done = l.done; most = l.most; reader = l.reader; line = record { bytes = l.line.items; ended = l.ended }; seen = l.seen }) };
+}
+
+impl<S: Saying> Lines<S> {
+    pub(crate) fn new(alloc: Global, most: u64) -> Result<Self, AllocError>
+        requires { most ≤ S.at_most }
+        ensures { IfOk result (λ l. l ≡ at_start most) }
+    {
+        Ok(Lines {
+            reader: LineReader::new(alloc)?,
+            most,
+            done: 0,
+            line: Vec::new(alloc),
+            ended: false,
+            seen: Seen::Nothing,
+        })
+    }
+
+    /// How many lines were taken.
+    pub fn done(&self) -> u64
+        ensures count { result ≡ self.now.done }
+        ensures few { result ≤ self.now.most }
+        ensures most { self.now.most ≤ S.at_most }
+    {
+        self.done
+    }
+
+    /// The line that was read last, without its line feed.
+    pub(crate) fn line(&self) -> &[u8]
+        ensures { result.now ≡ self.now.line.bytes }
+    {
+        &self.line
+    }
+
+    /// Whether a line feed ends it.
+    pub(crate) fn is_ended(&self) -> bool
+        ensures { result ≡ self.now.line.ended }
+    {
+        self.ended
+    }
+
+    /// Whether no more lines can be read, though there may be some: what waited could not be written, or memory ran out.
+    pub fn is_broken(&self) -> bool
+        ensures broken { result ≡ is_broken self.now.seen }
+        ensures sound { IsSound S.says self.now }
+    {
+        matches!(&self.seen, Seen::Unwritten | Seen::Memory)
+    }
+
+    /// Reads the next line.
+    fn read_line(&mut self, alloc: Global, ended: bool) -> Seen<S>
+        requires { self.old.seen ≡ seens.Nothing }
+        ensures line { self.new ≡ record self.old { line = record { bytes = self.old.line.bytes; ended = ended } } }
+        ensures said { IsLineOrMemory S.says self.new.line result }
+    {
+        self.ended = ended;
+        match S::read(alloc, &self.line, ended) {
+            Ok(said) => Seen::Line(said),
+            Err(AllocError) => Seen::Memory,
+        }
+    }
+
+    /// What is found where more lines may be taken.
+    fn find_line<R: Source, W: Sink>(
+        &mut self,
+        alloc: Global,
+        source: &mut R,
+        output: &mut Output,
+        sink: &mut W,
+    ) -> Seen<S>
+        requires next { (self.old.seen ≡ seens.Nothing) × (self.old.done < self.old.most) }
+        ensures reads { Reads S.by
+            (moment self.old output.old (R.left source.old) (R.has_failed source.old) (W.taken sink.old) (W.has_failed sink.old))
+            (moment (with_seen self.new result) output.new (R.left source.new) (R.has_failed source.new) (W.taken sink.new) (W.has_failed sink.new)) [] [] }
+        ensures sound { IsSound S.says (with_seen self.new result) }
+        ensures found { result ≢ seens.Nothing }
+        ensures count { (self.new.done ≡ self.old.done) × (self.new.most ≡ self.old.most) }
+    {
+        match self.reader.next_line(source, &mut self.line, output, sink) {
+            Ok(Found::Whole) => self.read_line(alloc, true),
+            Ok(Found::Last) => self.read_line(alloc, false),
+            Ok(Found::TooLong) => Seen::TooLong,
+            Ok(Found::End) => Seen::End,
+            Ok(Found::Failed) => Seen::Failed,
+            Ok(Found::Unwritten) => Seen::Unwritten,
+            Err(AllocError) => Seen::Memory,
+        }
+    }
+
+    /// What is found behind as many lines as are taken at most.
+    fn find_past_the_last<R: Source, W: Sink>(
+        &mut self,
+        source: &mut R,
+        output: &mut Output,
+        sink: &mut W,
+    ) -> Seen<S>
+        requires last { (self.old.seen ≡ seens.Nothing) × (self.old.done ≡ self.old.most) }
+        ensures reads { Reads S.by
+            (moment self.old output.old (R.left source.old) (R.has_failed source.old) (W.taken sink.old) (W.has_failed sink.old))
+            (moment (with_seen self.new result) output.new (R.left source.new) (R.has_failed source.new) (W.taken sink.new) (W.has_failed sink.new)) [] [] }
+        ensures sound { IsSound S.says (with_seen self.new result) }
+        ensures found { result ≢ seens.Nothing }
+        ensures count { (self.new.done ≡ self.old.done) × (self.new.most ≡ self.old.most) }
+    {
+        match self.reader.next_byte(source, output, sink) {
+            Pulled::End => Seen::End,
+            Pulled::Failed => Seen::Failed,
+            Pulled::Unwritten => Seen::Unwritten,
+            Pulled::Byte(_) => Seen::TooMany,
+        }
+    }
+
+    /// What is found behind the lines that were taken.
+    fn find<R: Source, W: Sink>(
+        &mut self,
+        alloc: Global,
+        source: &mut R,
+        output: &mut Output,
+        sink: &mut W,
+    ) -> Seen<S>
+        requires next { self.old.seen ≡ seens.Nothing }
+        ensures reads { Reads S.by
+            (moment self.old output.old (R.left source.old) (R.has_failed source.old) (W.taken sink.old) (W.has_failed sink.old))
+            (moment (with_seen self.new result) output.new (R.left source.new) (R.has_failed source.new) (W.taken sink.new) (W.has_failed sink.new)) [] [] }
+        ensures sound { IsSound S.says (with_seen self.new result) }
+        ensures found { result ≢ seens.Nothing }
+        ensures count { (self.new.done ≡ self.old.done) × (self.new.most ≡ self.old.most) }
+    {
+        if self.done < self.most {
+            self.find_line(alloc, source, output, sink)
+        } else {
+            self.find_past_the_last(source, output, sink)
+        }
+    }
+
+    /// Looks at what stands behind the lines that were taken, unless it was looked at.
+    pub(crate) fn look<R: Source, W: Sink>(
+        &mut self,
+        alloc: Global,
+        source: &mut R,
+        output: &mut Output,
+        sink: &mut W,
+    )
+        ensures reads { Reads S.by
+            (moment self.old output.old (R.left source.old) (R.has_failed source.old) (W.taken sink.old) (W.has_failed sink.old))
+            (moment self.new output.new (R.left source.new) (R.has_failed source.new) (W.taken sink.new) (W.has_failed sink.new)) [] [] }
+        ensures looked { self.new.seen ≢ seens.Nothing }
+        ensures count { (self.new.done ≡ self.old.done) × (self.new.most ≡ self.old.most) }
+    {
+        if !matches!(&self.seen, Seen::Nothing) {
+            return;
+        }
+        let seen = self.find(alloc, source, output, sink);
+        self.seen = seen;
+    }
+
+    /// Takes the line that was looked at, if it is one that is not too long. Answers what it says.
+    pub(crate) fn take_line(&mut self) -> Option<S>
+        ensures { TakesLine S.says self.old self.new result }
+    {
+        match replace(&mut self.seen, Seen::Nothing) {
+            Seen::Line(said) => {
+                self.done += 1;
+                Some(said)
+            }
+            other => {
+                self.seen = other;
+                None
+            }
+        }
+    }
+
+    /// Takes the line that was looked at, which is too long. The rest of it is not read.
+    pub(crate) fn take_too_long(&mut self)
+        requires { self.old.seen ≡ seens.TooLong }
+        ensures line { self.new ≡ with_one self.old }
+        ensures long { (self.old.done < self.old.most) × StartsLong self.old.line.bytes }
+    {
+        self.seen = Seen::Nothing;
+        self.done += 1;
+    }
+
+    /// Whether the line that was looked at joins those before it.
+    pub(crate) fn joins(&self) -> bool
+        ensures { IsJoining S.by self.now.line self.now.seen result }
+    {
+        match &self.seen {
+            Seen::Line(said) => said.joins(),
+            _ => false,
+        }
+    }
+
+    /// Whether a line was looked at that is too long.
+    pub(crate) fn is_too_long(&self) -> bool
+        ensures { IsTrue result ↔ (self.now.seen ≡ seens.TooLong) }
+    {
+        matches!(&self.seen, Seen::TooLong)
+    }
+
+    /// How a driver ends by what was found, which is no line: at the end of the input, or with a fault.
+    pub(crate) fn end<F>(&self) -> Result<bool, DriveFault<F>>
+        ensures end { EndsBy self.now.seen result }
+        ensures faults { (result ≡ Err DriveFault.Read → self.now.seen ≡ seens.Failed) × (result ≡ Err DriveFault.Write → self.now.seen ≡ seens.Unwritten) }
+    {
+        match &self.seen {
+            Seen::Failed => Err(DriveFault::Read),
+            Seen::TooMany => Err(DriveFault::Endless),
+            Seen::Unwritten => Err(DriveFault::Write),
+            Seen::Memory => Err(DriveFault::Memory),
+            Seen::End | Seen::Nothing | Seen::Line(_) | Seen::TooLong => Ok(false),
+        }
+    }
+
+    /// Passes over the rest of a line that is too long, and was taken.
+    pub(crate) fn pass_over<R: Source, W: Sink>(
+        &mut self,
+        source: &mut R,
+        output: &mut Output,
+        sink: &mut W,
+    )
+        requires taken { (self.old.seen ≡ seens.Nothing) × (self.old.done ≤ self.old.most) }
+        ensures passes { (moves : Moves
+            (moment self.old output.old (R.left source.old) (R.has_failed source.old) (W.taken sink.old) (W.has_failed sink.old))
+            (moment self.new output.new (R.left source.new) (R.has_failed source.new) (W.taken sink.new) (W.has_failed sink.new)) [])
+            × PassesLine S.by self.old self.new moves.given }
+        ensures count { (self.new.done ≡ self.old.done) × (self.new.most ≡ self.old.most) }
+    {
+        let found = self.reader.pass_over(source, output, sink);
+        self.seen = found_over(found);
+    }
+}

@@ -1,0 +1,37 @@
+//! How far a driver has come.
+ghost use Rattle.std.specs.Prelude.{◌≡◌, ◌<◌, [], List, ℕ};
+ghost use Rattle.wb_lines.specs.Moments.{moment, TakesJoined};
+
+use crate::lines::Lines;
+use crate::output::Output;
+use crate::saying::Saying;
+use std::alloc::Global;
+use wb_names::{Sink, Source};
+
+/// How far a driver has come: the lines of its source, and the text that waits to be written.
+#[derive(Drop)]
+pub struct Progress<S: Saying> {
+    pub lines: Lines<S>,
+    pub output: Output,
+}
+
+impl<S: Saying> Progress<S> {
+    /// Takes the next line, if it joins those before it. Answers what it says.
+    pub fn next_joined<R: Source, W: Sink>(
+        &mut self,
+        alloc: Global,
+        source: &mut R,
+        sink: &mut W,
+    ) -> Option<S>
+        ensures { TakesJoined S.says S.by
+            (moment self.old.lines self.old.output (R.left source.old) (R.has_failed source.old) (W.taken sink.old) (W.has_failed sink.old))
+            (moment self.new.lines self.new.output (R.left source.new) (R.has_failed source.new) (W.taken sink.new) (W.has_failed sink.new)) result }
+    {
+        self.lines.look(alloc, source, &mut self.output, sink);
+        if self.lines.joins() {
+            self.lines.take_line()
+        } else {
+            None
+        }
+    }
+}
