@@ -68,7 +68,7 @@ fn run_command<'a>(alloc: Global) -> Result<Command<'a>, AllocError> {
         .long("workers")
         .value_name("N")
         .help(
-            "Takes each batch of arrivals by N workers, 1 to 8, in place of those that the script's board names",
+            "Takes each batch of arrivals by N workers, 1 to 8, in place of those that the script's board names. One is the fastest",
         )
         .value_parser(value_parser!(u32).range(1..=8))
         .action(ArgAction::Set);
@@ -153,6 +153,13 @@ lines to it and reads what they give. Each line is answered by one block: what i
     known                      the pages that were heard of
     ask C N SOURCE NUMBER      asks the others for one drawop
     stop C N SOURCE NUMBER     gives up asking for it
+
+Or the host judges by itself what to ask for and to tell, and a driver needs these alone:
+
+    keep RATE LISTEN           once: all reports take RATE bytes a second
+    came NOW HEX               a datagram came in at the moment NOW
+    tick NOW                   time is NOW: to be written when it comes to DUE
+    add NOW TIME C/N DRAWING   the user draws, as `line 0 0 4 0 *`
 
 docs/HOST.md says what to write when.";
 

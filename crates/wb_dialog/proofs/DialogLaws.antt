@@ -9,61 +9,62 @@ use Rattle.wb_lines.specs.Input.{InputLine, onto_first, input_lines, BeginsWith,
 use Rattle.wb_lines.specs.Handling.{Met, whole, too_long}
 use Rattle.wb_lines.specs.Taking.{met, is_taken, is_short}
 use Rattle.wb_dialog.specs.declared.fault.Refusal.{Refusal}
-use Rattle.wb_dialog.specs.Dialog.{State, Answer, gives, refuses, answer_of, block, blocks_from, state_after, state_from, answered_lines, due, ok_line, refused_line, unopened, transcript}
+use Rattle.wb_dialog.specs.Dialog.{answered_lines, ok_line, refused_line}
+use Rattle.wb_dialog.specs.Hosting.{Hosting, Reply, prints, denies, reply_of, block_of, blocks_from, hosting_after, hosting_from, due_at, unopened, transcript}
 use Rattle.wb_dialog.specs.Laws.{RefusedStays, IsBlock, EachIsAnswered, FrontsAreFronts, is_given, accepted_lines, accepted_blocks, AcceptedAlone}
 use Rattle.wb_dialog.proofs.Fronts.{begins_all, begins_empty, begins_behind}
 
 -- ---- a refused line
 
-after_refused : (s : State) (line : InputLine) (e : Refusal) → answer_of s (met line) ≡ refuses e → state_after s (answer_of s (met line)) ≡ s
-after_refused s line e is = ap (state_after s) is
+after_refused : (s : Hosting) (line : InputLine) (e : Refusal) → reply_of s (met line) ≡ denies e → hosting_after s (reply_of s (met line)) ≡ s
+after_refused s line e is = ap (hosting_after s) is
 
 pub refused_stays : RefusedStays
 refused_stays s [] rest line e is = (
   after_refused s line e is,
-  ap (λ (a : Answer). block a ∷ blocks_from (state_after s a) rest) is,
+  ap (λ (a : Reply). block_of a ∷ blocks_from (hosting_after s a) rest) is,
 )
 refused_stays s (first ∷ front) rest line e is =
-    let at = refused_stays (state_after s (answer_of s (met first))) front rest line e is in (
+    let at = refused_stays (hosting_after s (reply_of s (met first))) front rest line e is in (
       at.0,
-      ap (λ (blocks : List (List ℕ)). block (answer_of s (met first)) ∷ blocks) at.1,
+      ap (λ (blocks : List (List ℕ)). block_of (reply_of s (met first)) ∷ blocks) at.1,
     )
 
 -- ---- blocks
 
-is_block : (a : Answer) → IsBlock (block a)
-is_block (gives s text) = record { text = text; line = ok_line (due s); closing = inl (due s, refl); is = refl }
-is_block (refuses e) = record { text = []; line = refused_line e; closing = inr (e, refl); is = refl }
+is_block : (a : Reply) → IsBlock (block_of a)
+is_block (prints s text) = record { text = text; line = ok_line (due_at s); closing = inl (due_at s, refl); is = refl }
+is_block (denies e) = record { text = []; line = refused_line e; closing = inr (e, refl); is = refl }
 
 pub each_is_answered : EachIsAnswered
 each_is_answered s [] = (refl, All-nil IsBlock)
 each_is_answered s (line ∷ lines) =
-    let rest = each_is_answered (state_after s (answer_of s (met line))) lines in (
+    let rest = each_is_answered (hosting_after s (reply_of s (met line))) lines in (
       ap (λ (n : ℕ). suc n) rest.0,
-      All-cons IsBlock (block (answer_of s (met line))) (blocks_from (state_after s (answer_of s (met line))) lines) (is_block (answer_of s (met line))) rest.1,
+      All-cons IsBlock (block_of (reply_of s (met line))) (blocks_from (hosting_after s (reply_of s (met line))) lines) (is_block (reply_of s (met line))) rest.1,
     )
 
 -- ---- the accepted lines alone
 
-stays : (s : State) (a : Answer) → is_given a ≡ false → state_after s a ≡ s
-stays s (gives t text) given = absurd cc
-stays s (refuses e) given = refl
+stays : (s : Hosting) (a : Reply) → is_given a ≡ false → hosting_after s a ≡ s
+stays s (prints t text) given = absurd cc
+stays s (denies e) given = refl
 
 -- one line, accepted or not
-abbrev Alone : State → List InputLine → List (List ℕ) → State → Type 0
-Alone s lines blocks end = (blocks_from s lines ≡ blocks) × (state_from s lines ≡ end)
+abbrev Alone : Hosting → List InputLine → List (List ℕ) → Hosting → Type 0
+Alone s lines blocks end = (blocks_from s lines ≡ blocks) × (hosting_from s lines ≡ end)
 
-alone : (given : Bool) (s : State) (line : InputLine) (lines : List InputLine) (blocks : List (List ℕ)) (end : State)
-    → (given ≡ false → state_after s (answer_of s (met line)) ≡ s) → Alone (state_after s (answer_of s (met line))) lines blocks end
-    → Alone s (if given then line ∷ lines else lines) (if given then block (answer_of s (met line)) ∷ blocks else blocks) end
-alone true s line lines blocks end same rest = (ap (λ (x : List (List ℕ)). block (answer_of s (met line)) ∷ x) rest.0, rest.1)
-alone false s line lines blocks end same rest = subst (λ (t : State). Alone t lines blocks end) (same refl) rest
+alone : (given : Bool) (s : Hosting) (line : InputLine) (lines : List InputLine) (blocks : List (List ℕ)) (end : Hosting)
+    → (given ≡ false → hosting_after s (reply_of s (met line)) ≡ s) → Alone (hosting_after s (reply_of s (met line))) lines blocks end
+    → Alone s (if given then line ∷ lines else lines) (if given then block_of (reply_of s (met line)) ∷ blocks else blocks) end
+alone true s line lines blocks end same rest = (ap (λ (x : List (List ℕ)). block_of (reply_of s (met line)) ∷ x) rest.0, rest.1)
+alone false s line lines blocks end same rest = subst (λ (t : Hosting). Alone t lines blocks end) (same refl) rest
 
 pub accepted_alone : AcceptedAlone
 accepted_alone s [] = (refl, refl)
 accepted_alone s (line ∷ lines) =
-    let a = answer_of s (met line) in
-    alone (is_given a) s line (accepted_lines (state_after s a) lines) (accepted_blocks (state_after s a) lines) (state_from (state_after s a) lines) (stays s a) (accepted_alone (state_after s a) lines)
+    let a = reply_of s (met line) in
+    alone (is_given a) s line (accepted_lines (hosting_after s a) lines) (accepted_blocks (hosting_after s a) lines) (hosting_from (hosting_after s a) lines) (stays s a) (accepted_alone (hosting_after s a) lines)
 
 -- ---- fronts
 
@@ -122,19 +123,19 @@ long_too cut l m unended on taken =
     longer : (l m : InputLine) (more : List ℕ) → m.bytes ≡ l.bytes ++ more → is_short l ≡ false → is_short m ≡ false
     longer l m more is long = let len : length m.bytes ≡ length l.bytes + length more = ap length is ∙ length-append l.bytes more in grind (arith, nat_tests)
 
-abbrev Begins : State → List InputLine → List InputLine → Type 0
+abbrev Begins : Hosting → List InputLine → List InputLine → Type 0
 Begins s ls ms = BeginsWith (concat (blocks_from s ms)) (concat (blocks_from s ls))
 
-begins_line : (t u : Bool) (s : State) (l m : InputLine) (ls ms : List InputLine) → (t ≡ true → (u ≡ true) × (met m ≡ met l)) → ((next : State) → Begins next ls ms)
+begins_line : (t u : Bool) (s : Hosting) (l m : InputLine) (ls ms : List InputLine) → (t ≡ true → (u ≡ true) × (met m ≡ met l)) → ((next : Hosting) → Begins next ls ms)
     → Begins s (if t then l ∷ ls else []) (if u then m ∷ ms else [])
 begins_line false u s l m ls ms same rest = begins_empty (concat (blocks_from s (if u then m ∷ ms else [])))
 begins_line true false s l m ls ms same rest = absurd (let e = (same refl).0 in cc)
 begins_line true true s l m ls ms same rest =
-    let a = answer_of s (met l) in
-    subst (λ (x : Met). BeginsWith (block (answer_of s x) ++ concat (blocks_from (state_after s (answer_of s x)) ms)) (block a ++ concat (blocks_from (state_after s a) ls))) (sym (same refl).1)
-    (begins_behind (block a) (concat (blocks_from (state_after s a) ms)) (concat (blocks_from (state_after s a) ls)) (rest (state_after s a)))
+    let a = reply_of s (met l) in
+    subst (λ (x : Met). BeginsWith (block_of (reply_of s x) ++ concat (blocks_from (hosting_after s (reply_of s x)) ms)) (block_of a ++ concat (blocks_from (hosting_after s a) ls))) (sym (same refl).1)
+    (begins_behind (block_of a) (concat (blocks_from (hosting_after s a) ms)) (concat (blocks_from (hosting_after s a) ls)) (rest (hosting_after s a)))
 
-begins_from : (cut : Bool) (s : State) (ls ms : List InputLine) → GoesOn ls ms → Begins s (answered_lines true ls) (answered_lines cut ms)
+begins_from : (cut : Bool) (s : Hosting) (ls ms : List InputLine) → GoesOn ls ms → Begins s (answered_lines true ls) (answered_lines cut ms)
 begins_from cut s [] ms on = begins_empty (concat (blocks_from s (answered_lines cut ms)))
 begins_from cut s (l ∷ ls) [] on = absurd on
 begins_from cut s (l ∷ ls) (m ∷ ms) (inl on) =

@@ -6,10 +6,10 @@ use Rattle.std.proofs.lemmas.Slice.Eq.{bytes_eq-Decides}
 use Rattle.wb_lines.specs.Words.{words, words_after}
 use Rattle.wb_words.specs.Words.{split_after}
 use Rattle.wb_words.proofs.Splitting.{chosen, some_is}
-use Rattle.wb_script.specs.declared.command.Command.{Command}
-use Rattle.wb_script.specs.declared.fault.LineFault.{LineFault}
-use Rattle.wb_script.specs.declared.fault.LineFault.TheVariants as faults
-use Rattle.wb_script.specs.Parsing.{line_of_words, line_of, command, page_line}
+use Rattle.wb_commands.specs.declared.command.Command.{Command}
+use Rattle.wb_commands.specs.declared.fault.LineFault.{LineFault}
+use Rattle.wb_commands.specs.declared.fault.LineFault.TheVariants as faults
+use Rattle.wb_commands.specs.Parsing.{line_of_words, line_of, command, page_line}
 
 -- ---- words that begin no line of a script
 
@@ -30,6 +30,9 @@ pub record AreUnknown : Type 0 where
   pub known : IsUnknown (codes "known")
   pub ask : IsUnknown (codes "ask")
   pub stop : IsUnknown (codes "stop")
+  pub keep : IsUnknown (codes "keep")
+  pub came : IsUnknown (codes "came")
+  pub add : IsUnknown (codes "add")
 
 pub unknown : AreUnknown
 unfolding command page_line
@@ -46,6 +49,9 @@ unknown = record {
   known = λ arguments. refl;
   ask = λ arguments. refl;
   stop = λ arguments. refl;
+  keep = λ arguments. refl;
+  came = λ arguments. refl;
+  add = λ arguments. refl;
 }
 
 -- a line that a script takes has no such word in front

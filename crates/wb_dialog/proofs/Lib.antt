@@ -6,5 +6,7 @@ pub mod OwnNumbers
 pub mod SaidLines
 pub mod FirstWords
 pub mod ScriptLines
-pub mod LoneArrivals
-pub mod RunTexts
+pub mod DrivenHosts
+pub mod KeptReplies
+pub mod KeptHosts
+pub mod NeverTooMany

@@ -5,7 +5,7 @@ use Rattle.wb_names.specs.History.{IsHeld, highest}
 use Rattle.wb_names.specs.Marks.{mark_of}
 use Rattle.wb_gaps.proofs.Reports.{greatest_held}
 use Rattle.wb_host.specs.Hearing.{marks_heard}
-use Rattle.wb_script.specs.Driving.{last_number}
+use Rattle.wb_member.specs.Opened.{last_number}
 use Rattle.wb_dialog.specs.Laws.{NextIsNew}
 
 next_above : (more : Bool) (last n : ℕ) → ◌≡◌ {A = Option ℕ} (cond more (Some (last + 1)) None) (Some n) → last < n
@@ -17,9 +17,9 @@ below_greater a b n lt = (omega arith, omega arith)
 
 pub next_is_new : NextIsNew
 next_is_new page host n e =
-    let held = highest page host.me host.board.drawops in
-    let heard = mark_of (marks_heard host.me host.calls page) host.me in
+    let held = highest page host.is.number host.is.held in
+    let heard = mark_of (marks_heard host.is.number host.is.calls page) host.is.number in
     let below = below_greater held heard n (next_above (nat_lt (last_number page host) 4294967295) (last_number page host) n e) in (
-      λ m is. let le : m ≤ held = (greatest_held host.board.drawops page host.me).bound m is in let lt : held < n = below.0 in omega arith,
+      λ m is. let le : m ≤ held = (greatest_held host.is.held page host.is.number).bound m is in let lt : held < n = below.0 in omega arith,
       below.1,
     )

@@ -7,8 +7,8 @@ use Rattle.wb_words.specs.declared.fault.WordFault.TheVariants as word_faults
 use Rattle.wb_words.specs.Reading.{reading, reading_of, datagram_at, wrong}
 use Rattle.wb_dialog.specs.Lines.{line_of_words, came_in, handed_in, command}
 use Rattle.wb_dialog.specs.Laws.{SaidIsRead}
-use Rattle.wb_script.specs.SentLines.{digits_of}
-use Rattle.wb_script.proofs.SentDigits.{one_word, datagram_read}
+use Rattle.wb_commands.specs.SentLines.{digits_of}
+use Rattle.wb_commands.proofs.SentDigits.{one_word, datagram_read}
 
 -- the first word is no kind of datagram
 no_kind : (rest : List ℕ) → reading (codes "datagram " ++ rest) ≡ wrong 1 word_faults.Unknown

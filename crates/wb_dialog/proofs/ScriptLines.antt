@@ -8,11 +8,11 @@ use Rattle.wb_words.specs.Words.{split_once, words as parts_of}
 use Rattle.wb_words.specs.Reading.{reading, wrong, datagram_at}
 use Rattle.wb_words.proofs.Splitting.{words_split_once, words_whole}
 use Rattle.wb_words.proofs.SpellingLaws.{first_read}
-use Rattle.wb_script.specs.declared.command.Command.{Command}
-use Rattle.wb_script.specs.Parsing.{line_of as script_line_of, line_of_words as script_line_of_words}
+use Rattle.wb_commands.specs.declared.command.Command.{Command}
+use Rattle.wb_commands.specs.Parsing.{line_of as script_line_of, line_of_words as script_line_of_words}
 use Rattle.wb_dialog.specs.declared.line.DriverLine.TheVariants.{Script}
-use Rattle.wb_dialog.specs.Lines.{by_words, said_part, command, line_of_words, came_in, line_behind}
-use Rattle.wb_dialog.specs.RunLaws.{ScriptLinesAreRead}
+use Rattle.wb_dialog.specs.Lines.{by_words, said_part, added_part, command, line_of_words, came_in, line_behind}
+use Rattle.wb_dialog.specs.Laws.{ScriptLinesAreRead}
 use Rattle.wb_dialog.proofs.FirstWords.{IsUnknown, unknown, begins_other, first_and, words_split, words_none, opens_other}
 
 -- a line that is no driver's own
@@ -28,6 +28,9 @@ as_script line word arguments l e is =
       other (codes "known") unknown.known,
       other (codes "ask") unknown.ask,
       other (codes "stop") unknown.stop,
+      other (codes "keep") unknown.keep,
+      other (codes "came") unknown.came,
+      other (codes "add") unknown.add,
     ) (ap (by_words Script) e)
 
 by_its_words : (line : List ℕ) (l : Command) → script_line_of line ≡ Ok l → line_of_words line (words line) ≡ Ok (Script l)
@@ -55,8 +58,8 @@ in_words line word more others l e first parts = ap (came_in line) (first_read l
 
 pub script_lines_are_read : ScriptLinesAreRead
 script_lines_are_read line l e = at (split_once 32 line) refl where
-  at : (parts : Option (List ℕ × List ℕ)) → split_once 32 line ≡ parts → line_behind line (said_part parts) ≡ Ok (Script l)
+  at : (parts : Option (List ℕ × List ℕ)) → split_once 32 line ≡ parts → line_behind line (said_part parts) (added_part parts) ≡ Ok (Script l)
   at None is = in_words line line [] [] l e (words_none [] line is) (words_whole line is)
   at (Some (word, rest)) is =
       let first : words line ≡ first_and word (words rest) = words_split [] line word rest is in
-      rw (opens_other (codes "say") line word (words rest) l unknown.say refl first e) (in_words line word (words rest) (parts_of rest) l e first (words_split_once line word rest is))
+      rw (opens_other (codes "say") line word (words rest) l unknown.say refl first e, opens_other (codes "add") line word (words rest) l unknown.add refl first e) (in_words line word (words rest) (parts_of rest) l e first (words_split_once line word rest is))

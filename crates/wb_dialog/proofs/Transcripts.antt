@@ -12,7 +12,8 @@ use Rattle.wb_recovery.specs.declared.tuning.Tuning.{Tuning}
 use Rattle.wb_dialog.specs.declared.fault.HostFault.{HostFault}
 use Rattle.wb_dialog.specs.declared.fault.HostFault.TheVariants as host_faults
 use Rattle.wb_dialog.proofs.Fronts.{begins_all, begins_empty, begins_within, begins_behind, begins_front}
-use Rattle.wb_dialog.specs.Dialog.{State, step, unopened, transcript, block, answer_of, state_after, blocks_from, answered_lines}
+use Rattle.wb_dialog.specs.Dialog.{answered_lines}
+use Rattle.wb_dialog.specs.Hosting.{Hosting, step, unopened, transcript, block_of, reply_of, hosting_after, blocks_from}
 use Rattle.wb_dialog.specs.Doing.{fault_of, Writes}
 
 -- ---- outcomes
@@ -43,20 +44,20 @@ turn true true true cut text rest o h = Tells-before text (concat rest) cut o h
 turn true true false cut text rest o h = begins_behind text (concat rest) [] (begins_empty (concat rest))
 
 -- the blocks of a line that is taken, and of those behind it
-blocks_of_taken : (taken : Bool) (s : State) (line : InputLine) (lines : List InputLine)
-    → (if taken then block (answer_of s (met line)) ∷ blocks_from (state_after s (answer_of s (met line))) lines else []) ≡ blocks_from s (if taken then line ∷ lines else [])
+blocks_of_taken : (taken : Bool) (s : Hosting) (line : InputLine) (lines : List InputLine)
+    → (if taken then block_of (reply_of s (met line)) ∷ blocks_from (hosting_after s (reply_of s (met line))) lines else []) ≡ blocks_from s (if taken then line ∷ lines else [])
 blocks_of_taken true s line lines = refl
 blocks_of_taken false s line lines = refl
 
 -- The outcome of lines, from a state on, is that of their blocks.
-pub outcome_tells : (most n : ℕ) (cut : Bool) (s : State) (lines : List InputLine) → Tells (concat (blocks_from s (answered_lines cut lines))) cut (outcome_from (rules_of step most) cut n s lines)
+pub outcome_tells : (most n : ℕ) (cut : Bool) (s : Hosting) (lines : List InputLine) → Tells (concat (blocks_from s (answered_lines cut lines))) cut (outcome_from (rules_of step most) cut n s lines)
 outcome_tells most n true s [] = refl
 outcome_tells most n false s [] = (refl, refl)
 outcome_tells most n cut s (line ∷ lines) =
-    let a = answer_of s (met line) in
+    let a = reply_of s (met line) in
     subst (λ (blocks : List (List ℕ)). Tells (concat blocks) cut (outcome_from (rules_of step most) cut n s (line ∷ lines)))
     (blocks_of_taken (is_taken cut line) s line (answered_lines cut lines))
-    (turn (nat_lt n most) (is_taken cut line) (is_passed line) cut (block a) (blocks_from (state_after s a) (answered_lines cut lines)) (outcome_from (rules_of step most) cut (n + 1) (state_after s a) lines) (outcome_tells most (n + 1) cut (state_after s a) lines))
+    (turn (nat_lt n most) (is_taken cut line) (is_passed line) cut (block_of a) (blocks_from (hosting_after s a) (answered_lines cut lines)) (outcome_from (rules_of step most) cut (n + 1) (hosting_after s a) lines) (outcome_tells most (n + 1) cut (hosting_after s a) lines))
 
 -- ---- what a host wrote
 

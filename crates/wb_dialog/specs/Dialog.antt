@@ -1,31 +1,28 @@
--- What a host answers to the lines of a driver.
+-- What a host answers to the lines of a driver that judges for it. What a host does that keeps itself is said in Hosting.antt, over this.
 use Rattle.std.specs.Prelude.{◌≡◌, ℕ, List, [], ◌∷◌, ◌++◌, length, Bool, true, false, nat_eq, Option, Some, None, Result, Ok, Err, if◌then◌else◌, codes, decimal}
 use Rattle.std.specs.List.{flat_map, concat}
 use Rattle.wb_names.specs.Values.{NameValue, DrawopValue}
+use Rattle.wb_names.specs.Arrivals.{Outcome, Fresh, Known as KnownDrawop, Clashed, Left, counts_of}
 use Rattle.wb_names.specs.declared.name.PageId.{PageId}
 use Rattle.wb_recovery.specs.declared.tuning.Tuning.{Tuning}
 use Rattle.wb_codec.specs.declared.datagram.Datagram.{Datagram as DatagramValue}
 use Rattle.wb_codec.specs.declared.datagram.Datagram.TheVariants as datagrams
-use Rattle.wb_codec.specs.Fault.{read_code}
 use Rattle.wb_words.specs.FaultText.{wrong_text}
 use Rattle.wb_words.specs.Spelling.{spelled}
 use Rattle.std.specs.declared.convert.Infallible.{Infallible}
 use Rattle.wb_lines.specs.Input.{InputLine, input_lines, content}
 use Rattle.wb_lines.specs.Handling.{Met, whole, too_long, Step, goes}
 use Rattle.wb_lines.specs.Taking.{met, is_taken}
-use Rattle.wb_script.specs.declared.command.Command.{Command}
-use Rattle.wb_script.specs.declared.command.Command.TheVariants as lines
-use Rattle.wb_script.specs.declared.fault.LineFault.{LineFault}
-use Rattle.wb_script.specs.declared.fault.LineFault.TheVariants as faults
-use Rattle.wb_script.specs.declared.acceptance.Acceptance.{Acceptance}
-use Rattle.wb_script.specs.declared.acceptance.Acceptance.TheVariants as became
-use Rattle.wb_script.specs.Answers.{batch_line, pair_line}
-use Rattle.wb_script.specs.SentLines.{send_line}
-use Rattle.wb_script.specs.Hosts.{Opened, opened_with, Act, does, fails, act}
-use Rattle.wb_script.specs.Driving.{acceptance, counts_with, accepted, shown, pages_known, next_number, next_due, may_ask, with_asked, asks_for, with_stopped}
-use Rattle.wb_script.specs.Script.{by_host}
+use Rattle.wb_commands.specs.declared.command.Command.{Command}
+use Rattle.wb_commands.specs.declared.command.Command.TheVariants as lines
+use Rattle.wb_commands.specs.declared.fault.LineFault.TheVariants as faults
+use Rattle.wb_commands.specs.Faults.{line_text}
+use Rattle.wb_commands.specs.Answers.{batch_line, list_text, page_line}
+use Rattle.wb_commands.specs.SentLines.{send_line}
+use Rattle.wb_commands.specs.Acts.{Act, does, fails, act}
+use Rattle.wb_member.specs.Opened.{Opened, opened_with, becomes, accepted, shown, pages_known, next_number, next_due, may_ask, with_asked, asks_for, with_stopped, by_host}
 use Rattle.wb_dialog.specs.declared.line.DriverLine.{DriverLine}
-use Rattle.wb_dialog.specs.declared.line.DriverLine.TheVariants.{Script, Say, Next, View, Known, Ask, Stop}
+use Rattle.wb_dialog.specs.declared.line.DriverLine.TheVariants.{Script, Say, Next, View, Known, Ask, Stop, Keep, Came, Add}
 use Rattle.wb_dialog.specs.declared.fault.Refusal.{Refusal}
 use Rattle.wb_dialog.specs.declared.fault.Refusal.TheVariants as refusals
 use Rattle.wb_dialog.specs.Lines.{line_of}
@@ -42,11 +39,11 @@ answered (fails e) = refuses (refusals.Line e)
 -- ---- what comes in
 
 -- A drawop that comes in is a batch of its own.
-abbrev pub batch_of : Acceptance → List ℕ
-batch_of outcome = batch_line (counts_with outcome)
+abbrev pub batch_of : Outcome → List ℕ
+batch_of outcome = batch_line (counts_of (outcome ∷ []))
 
 abbrev pub arrives : DrawopValue → Opened → Answer
-arrives d host = gives (Some (accepted d host)) (batch_of (acceptance d host))
+arrives d host = gives (Some (accepted d host)) (batch_of (becomes d host))
 
 -- ---- what goes out
 
@@ -59,22 +56,22 @@ speaker (datagrams.AskPages asker) = asker
 speaker (datagrams.PageState sender page marks) = sender
 
 -- A drawop of ours is sent where it is new or held already. Else it is not, and its batch says why.
-abbrev pub said_text : DrawopValue → Acceptance → List ℕ
-said_text d became.New = send_line (datagrams.Draw d)
-said_text d became.Again = send_line (datagrams.Draw d)
-said_text d became.Clash = batch_of became.Clash
-said_text d became.Left = batch_of became.Left
+abbrev pub said_text : DrawopValue → Outcome → List ℕ
+said_text d (Fresh place) = send_line (datagrams.Draw d)
+said_text d (KnownDrawop place) = send_line (datagrams.Draw d)
+said_text d (Clashed place) = batch_of (Clashed place)
+said_text d Left = batch_of Left
 
 -- A drawop is accepted before it is sent, and any other datagram is only sent.
 abbrev pub goes_out : DatagramValue → Opened → Answer
-goes_out (datagrams.Draw d) host = gives (Some (accepted d host)) (said_text d (acceptance d host))
+goes_out (datagrams.Draw d) host = gives (Some (accepted d host)) (said_text d (becomes d host))
 goes_out (datagrams.Session sender sent page marks echoes) host = gives (Some host) (send_line (datagrams.Session sender sent page marks echoes))
 goes_out (datagrams.Request asker name) host = gives (Some host) (send_line (datagrams.Request asker name))
 goes_out (datagrams.AskPages asker) host = gives (Some host) (send_line (datagrams.AskPages asker))
 goes_out (datagrams.PageState sender page marks) host = gives (Some host) (send_line (datagrams.PageState sender page marks))
 
 abbrev pub says : DatagramValue → Opened → Answer
-says v host = if nat_eq (speaker v) host.me then goes_out v host else refuses refusals.Member
+says v host = if nat_eq (speaker v) host.is.number then goes_out v host else refuses refusals.Member
 
 -- ---- what a driver asks of a host
 
@@ -97,11 +94,11 @@ abbrev pub words_line : DrawopValue → List ℕ
 words_line d = spelled (datagrams.Draw d) ++ codes "\n"
 
 abbrev pub view_text : List DrawopValue → List ℕ
-view_text drawops = codes "view " ++ (decimal (length drawops) ++ codes "\n") ++ flat_map words_line drawops
+view_text drawops = list_text (codes "view ") words_line drawops
 
 -- how many pages there are, and a line for each
 abbrev pub known_text : List PageId → List ℕ
-known_text pages = codes "known " ++ (decimal (length pages) ++ codes "\n") ++ flat_map (λ p. pair_line p.creator p.number) pages
+known_text pages = list_text (codes "known ") page_line pages
 
 -- whether it began to ask for a name, and whether it gave up
 abbrev pub ask_line : Bool → List ℕ
@@ -121,6 +118,9 @@ answer_at (View page) host = gives (Some host) (view_text (shown page host))
 answer_at Known host = gives (Some host) (known_text (pages_known host))
 answer_at (Ask name) host = gives (Some (with_asked name host)) (ask_line (may_ask name host))
 answer_at (Stop name) host = gives (Some (with_stopped name host)) (stop_line (asks_for name host))
+answer_at (Keep rate listen) host = refuses refusals.TooLate
+answer_at (Came now v) host = refuses refusals.NotKept
+answer_at (Add adding) host = refuses refusals.NotKept
 
 -- What a line does before a board is open: one is opened, or the line is skipped.
 abbrev pub opening : Tuning → Command → Answer
@@ -142,23 +142,16 @@ answer tuning s (Err e) = refuses e
 
 -- ---- blocks
 
-abbrev pub line_text : LineFault → List ℕ
-line_text faults.Unknown = codes "unknown"
-line_text faults.Words = codes "words"
-line_text faults.Number = codes "number"
-line_text faults.Hex = codes "hex"
-line_text (faults.Datagram e) = codes "datagram " ++ decimal (read_code e)
-line_text faults.Kind = codes "kind"
-line_text faults.NoBoard = codes "no board"
-line_text faults.SecondBoard = codes "second board"
-line_text faults.BackInTime = codes "back in time"
-line_text faults.TooMany = codes "too many"
-
 abbrev pub refusal_text : Refusal → List ℕ
 refusal_text (refusals.Line e) = line_text e
 refusal_text (refusals.Word wrong) = wrong_text wrong
 refusal_text refusals.Member = codes "member"
 refusal_text refusals.Endless = codes "endless"
+refusal_text refusals.NotKept = codes "not kept"
+refusal_text refusals.Kept = codes "kept"
+refusal_text refusals.TooLate = codes "too late"
+refusal_text refusals.Listening = codes "listening"
+refusal_text refusals.Ours = codes "ours"
 
 -- the next moment at which a timer is due, where one stands
 abbrev pub due : Option Opened → Option ℕ
@@ -184,7 +177,7 @@ abbrev pub after : Option Opened → Answer → Option Opened
 after s (gives t text) = t
 after s (refuses e) = s
 
--- ---- a transcript
+-- ---- a transcript of a host that never begins to keep itself
 
 -- what a line of the input says, unless it is too long
 abbrev pub says_line : Met → Result DriverLine Refusal

@@ -5,18 +5,27 @@ use Rattle.wb_recovery.specs.declared.tuning.Tuning.{Tuning}
 use Rattle.wb_lines.specs.Input.{BeginsWith}
 use Rattle.wb_lines.specs.declared.fault.DriveFault.{DriveFault}
 use Rattle.wb_lines.specs.declared.fault.DriveFault.TheVariants as drive_faults
-use Rattle.wb_script.specs.Hosts.{Opened}
-use Rattle.wb_script.specs.Members.{MemberValue, IsOpenAt, MayBeOpenAt}
+use Rattle.wb_member.specs.Opened.{Opened}
+use Rattle.wb_host.specs.declared.keep_fault.KeepFault.TheVariants as keep_faults
+use Rattle.wb_keeping.specs.Performing.{IsKeptAt, Keeping, KeptValue}
+use Rattle.wb_keeping.specs.declared.kept_fault.KeptFault.{KeptFault}
+use Rattle.wb_keeping.specs.declared.kept_fault.KeptFault.TheVariants as kept_faults
+use Rattle.wb_member.specs.Holding.{MemberValue, IsOpenAt, MayBeOpenAt}
 use Rattle.wb_dialog.specs.declared.fault.Unanswered.{Unanswered}
 use Rattle.wb_dialog.specs.declared.fault.Unanswered.TheVariants as unanswered
 use Rattle.wb_dialog.specs.declared.fault.HostFault.{HostFault}
 use Rattle.wb_dialog.specs.declared.fault.HostFault.TheVariants as host_faults
-use Rattle.wb_dialog.specs.Dialog.{Answer, gives, refuses, block, State}
+use Rattle.wb_dialog.specs.declared.opened.Host.{Host as HostValue}
+use Rattle.wb_dialog.specs.declared.opened.Host.TheVariants as values
+use Rattle.wb_dialog.specs.Dialog.{Answer, gives, refuses}
+use Rattle.wb_dialog.specs.Hosting.{Host, Driven, Kept, Reply, prints, denies, block_of, kept_refusal, Hosting}
 
--- The constants of the timers, and the member, once it is open.
+-- The constants of the timers, and the host, once its board is open.
 pub record DialogValue : Type 0 where
   pub tuning : Tuning
-  pub member : Option MemberValue
+  pub host : Option HostValue
+
+-- ---- a member whose driver judges
 
 -- a text is printed, and then nothing is left to print of what an answer prints before its block is closed
 abbrev pub text_of : Answer → List ℕ
@@ -41,15 +50,64 @@ abbrev pub Prints : {U E : Type 0} → List ℕ → Result U E → List ℕ → 
 Prints written (Ok u) text = written ≡ text
 Prints written (Err e) text = BeginsWith text written
 
+-- The same of code that refuses nothing.
+abbrev pub Tells : {U : Type 0} → List ℕ → Result U Unanswered → List ℕ → Type 0
+Tells written (Ok u) text = written ≡ text
+Tells written (Err (unanswered.Refused e)) text = ⊥
+Tells written (Err unanswered.Memory) text = BeginsWith text written
+
+-- what is left of a seed: where a line was not taken, all
+abbrev pub seed_by : {U : Type 0} → Result U Unanswered → Option ℕ → Option ℕ → Option ℕ
+seed_by (Ok u) seed later = later
+seed_by (Err e) seed later = seed
+
+-- ---- a host of either kind
+
+-- which host the code is at
+abbrev pub IsHostAt : HostValue → Host → Type 0
+IsHostAt (values.Driven member seed) (Driven host left) = IsOpenAt member host × (seed ≡ left)
+IsHostAt (values.Kept kept) (Kept k) = IsKeptAt kept k
+IsHostAt (values.Driven member seed) (Kept k) = ⊥
+IsHostAt (values.Kept kept) (Driven host left) = ⊥
+
+abbrev pub MayBeAt : Option HostValue → Option Host → Type 0
+MayBeAt None None = Unit {0}
+MayBeAt (Some v) (Some h) = IsHostAt v h
+MayBeAt None (Some h) = ⊥
+MayBeAt (Some v) None = ⊥
+
+-- the text of a reply before its block is closed
+abbrev pub text_in : Reply → List ℕ
+text_in (prints s text) = text
+text_in (denies e) = []
+
+-- From a host on, it does what a line is to do and prints its text; it refuses the line, and stays; or memory ran out
+-- within the text.
+abbrev pub DoesReply : {U : Type 0} → Option Host → Option HostValue → List ℕ → Result U Unanswered → Reply → Type 0
+DoesReply s new written (Ok u) (prints t text) = MayBeAt new t × (written ≡ text)
+DoesReply s new written (Ok u) (denies e) = ⊥
+DoesReply s new written (Err (unanswered.Refused f)) (prints t text) = ⊥
+DoesReply s new written (Err (unanswered.Refused f)) (denies e) = (f ≡ e) × MayBeAt new s × (written ≡ [])
+DoesReply s new written (Err unanswered.Memory) r = BeginsWith (text_in r) written
+
+-- why a line is not done, by why a member that keeps itself does not do it
+abbrev pub unanswered_of : KeptFault → Unanswered
+unanswered_of (kept_faults.Host keep_faults.Memory) = unanswered.Memory
+unanswered_of fault = unanswered.Refused (kept_refusal fault)
+
+-- The same at each host at which a member was that keeps itself.
+abbrev pub DoesKept : {U : Type 0} → KeptValue → KeptValue → List ℕ → Result U Unanswered → (Keeping → Reply) → Type 0
+DoesKept old new written result reply = (k : Keeping) → IsKeptAt old k → DoesReply (Some (Kept k)) (Some (values.Kept new)) written result (reply k)
+
 -- It wrote a block, or memory ran out within it.
-abbrev pub Blocks : {U E : Type 0} → Option MemberValue → List ℕ → Result U E → Option Opened → Answer → Type 0
-Blocks new written (Ok u) next a = MayBeOpenAt new next × (written ≡ block a)
-Blocks new written (Err e) next a = BeginsWith (block a) written
+abbrev pub Blocks : {U E : Type 0} → Option HostValue → List ℕ → Result U E → Option Host → Reply → Type 0
+Blocks new written (Ok u) next r = MayBeAt new next × (written ≡ block_of r)
+Blocks new written (Err e) next r = BeginsWith (block_of r) written
 
 -- A dialog has the constants of a state, and its host is at that of the state.
-pub record IsAt (d : DialogValue) (s : State) : Type 0 where
+pub record IsAt (d : DialogValue) (s : Hosting) : Type 0 where
   pub tuning : s.tuning ≡ d.tuning
-  pub member : MayBeOpenAt d.member s.host
+  pub host : MayBeAt d.host s.host
 
 -- why a host stopped, by why the driver of its lines did: no line stops one
 abbrev pub fault_of : DriveFault Infallible → HostFault

@@ -1,5 +1,5 @@
 -- Laws of the transcripts of a host.
-use Rattle.std.specs.Prelude.{◌≡◌, ◌<◌, ◌⊎◌, ℕ, List, [], ◌∷◌, ◌++◌, length, All, Bool, true, false, Option, Some, Ok, if◌then◌else◌, codes}
+use Rattle.std.specs.Prelude.{◌≡◌, ◌<◌, ◌⊎◌, ℕ, List, [], ◌∷◌, ◌++◌, length, All, Bool, true, false, Option, Some, Result, Ok, Err, if◌then◌else◌, codes}
 use Rattle.wb_names.specs.History.{IsHeld}
 use Rattle.wb_names.specs.Marks.{mark_of}
 use Rattle.wb_names.specs.declared.name.PageId.{PageId}
@@ -7,19 +7,24 @@ use Rattle.wb_recovery.specs.declared.tuning.Tuning.{Tuning}
 use Rattle.wb_codec.specs.declared.datagram.Datagram.{Datagram}
 use Rattle.wb_codec.specs.Ranges.{IsDatagram}
 use Rattle.wb_host.specs.Hearing.{marks_heard}
-use Rattle.wb_lines.specs.Input.{InputLine, BeginsWith}
+use Rattle.wb_lines.specs.Input.{InputLine, BeginsWith, input_lines}
 use Rattle.wb_lines.specs.Taking.{met}
-use Rattle.wb_script.specs.Driving.{next_number}
-use Rattle.wb_script.specs.Hosts.{Opened}
-use Rattle.wb_script.specs.SentLines.{digits_of}
+use Rattle.wb_member.specs.Opened.{Opened, next_number}
+use Rattle.wb_commands.specs.SentLines.{digits_of}
 use Rattle.wb_dialog.specs.declared.fault.Refusal.{Refusal}
+use Rattle.wb_commands.specs.declared.command.Command.{Command}
+use Rattle.wb_commands.specs.Parsing.{line_of as script_line_of}
+use Rattle.wb_dialog.specs.declared.line.DriverLine.TheVariants.{Script}
 use Rattle.wb_dialog.specs.Lines.{line_of, handed_in}
-use Rattle.wb_dialog.specs.Dialog.{State, Answer, gives, refuses, answer_of, block, blocks_from, state_after, state_from, ok_line, refused_line, transcript}
+use Rattle.wb_dialog.specs.declared.line.DriverLine.{DriverLine}
+use Rattle.wb_dialog.specs.declared.line.DriverLine.TheVariants.{Keep}
+use Rattle.wb_dialog.specs.Dialog.{ok_line, refused_line, says_line, transcript as driven_transcript}
+use Rattle.wb_dialog.specs.Hosting.{Hosting, Reply, prints, denies, reply_of, block_of, blocks_from, hosting_after, hosting_from, transcript}
 
 -- A refused line leaves the host as it was: its block says why, and what follows it is answered as if it had not been there.
 abbrev pub RefusedStays : Type 0
-RefusedStays = (s : State) (front rest : List InputLine) (line : InputLine) (e : Refusal) → answer_of (state_from s front) (met line) ≡ refuses e
-    → (state_from s (front ++ line ∷ []) ≡ state_from s front) × (blocks_from s (front ++ line ∷ rest) ≡ blocks_from s front ++ refused_line e ∷ blocks_from (state_from s front) rest)
+RefusedStays = (s : Hosting) (front rest : List InputLine) (line : InputLine) (e : Refusal) → reply_of (hosting_from s front) (met line) ≡ denies e
+    → (hosting_from s (front ++ line ∷ []) ≡ hosting_from s front) × (blocks_from s (front ++ line ∷ rest) ≡ blocks_from s front ++ refused_line e ∷ blocks_from (hosting_from s front) rest)
 
 -- ---- blocks
 
@@ -36,7 +41,7 @@ pub record IsBlock (bytes : List ℕ) : Type 0 where
 
 -- Every line is answered by exactly one block.
 abbrev pub EachIsAnswered : Type 0
-EachIsAnswered = (s : State) (lines : List InputLine) → (length (blocks_from s lines) ≡ length lines) × All IsBlock (blocks_from s lines)
+EachIsAnswered = (s : Hosting) (lines : List InputLine) → (length (blocks_from s lines) ≡ length lines) × All IsBlock (blocks_from s lines)
 
 -- ---- fronts
 
@@ -46,31 +51,48 @@ FrontsAreFronts = (tuning : Tuning) (cut : Bool) (front rest : List ℕ) → Beg
 
 -- ---- the accepted lines alone
 
-abbrev pub is_given : Answer → Bool
-is_given (gives s text) = true
-is_given (refuses e) = false
+abbrev pub is_given : Reply → Bool
+is_given (prints s text) = true
+is_given (denies e) = false
 
 -- the lines that are not refused, from a state on
-abbrev pub accepted_lines : State → List InputLine → List InputLine
+abbrev pub accepted_lines : Hosting → List InputLine → List InputLine
 accepted_lines s [] = []
-accepted_lines s (line ∷ lines) = if is_given (answer_of s (met line)) then line ∷ accepted_lines (state_after s (answer_of s (met line))) lines else accepted_lines (state_after s (answer_of s (met line))) lines
+accepted_lines s (line ∷ lines) = if is_given (reply_of s (met line)) then line ∷ accepted_lines (hosting_after s (reply_of s (met line))) lines else accepted_lines (hosting_after s (reply_of s (met line))) lines
 
 -- the blocks of the lines that are not refused
-abbrev pub accepted_blocks : State → List InputLine → List (List ℕ)
+abbrev pub accepted_blocks : Hosting → List InputLine → List (List ℕ)
 accepted_blocks s [] = []
-accepted_blocks s (line ∷ lines) = if is_given (answer_of s (met line)) then block (answer_of s (met line)) ∷ accepted_blocks (state_after s (answer_of s (met line))) lines else accepted_blocks (state_after s (answer_of s (met line))) lines
+accepted_blocks s (line ∷ lines) = if is_given (reply_of s (met line)) then block_of (reply_of s (met line)) ∷ accepted_blocks (hosting_after s (reply_of s (met line))) lines else accepted_blocks (hosting_after s (reply_of s (met line))) lines
 
 -- The accepted lines alone give the same blocks as they do among all lines, and lead to the same host.
 abbrev pub AcceptedAlone : Type 0
-AcceptedAlone = (s : State) (lines : List InputLine) → (blocks_from s (accepted_lines s lines) ≡ accepted_blocks s lines) × (state_from s (accepted_lines s lines) ≡ state_from s lines)
+AcceptedAlone = (s : Hosting) (lines : List InputLine) → (blocks_from s (accepted_lines s lines) ≡ accepted_blocks s lines) × (hosting_from s (accepted_lines s lines) ≡ hosting_from s lines)
+
+-- ---- a host that never begins to keep itself
+
+-- a line that does not say `keep`
+abbrev pub BeginsNoKeep : Result DriverLine Refusal → Type 0
+BeginsNoKeep (Ok (Keep rate listen)) = ⊥
+BeginsNoKeep said = Unit {0}
+
+-- Where no line of an input says `keep`, what is written is what a host writes that its driver drives, whose definition knows no policy.
+abbrev pub DrivenAsBefore : Type 0
+DrivenAsBefore = (tuning : Tuning) (cut : Bool) (input : List ℕ) → All (λ line. BeginsNoKeep (says_line (met line))) (input_lines input) → transcript tuning cut input ≡ driven_transcript tuning cut input
 
 -- ---- what is ours
 
 -- The number that `next` gives for a page is above that of each drawop of ours that is held there, and above each mark of us that was heard of it.
 abbrev pub NextIsNew : Type 0
 NextIsNew = (page : PageId) (host : Opened) (n : ℕ) → next_number page host ≡ Some n
-    → ((m : ℕ) → IsHeld host.board.drawops page host.me m → m < n) × (mark_of (marks_heard host.me host.calls page) host.me < n)
+    → ((m : ℕ) → IsHeld host.is.held page host.is.number m → m < n) × (mark_of (marks_heard host.is.number host.is.calls page) host.is.number < n)
 
 -- What `say` prints as sent is read back, behind the word `datagram`, as what was said.
 abbrev pub SaidIsRead : Type 0
 SaidIsRead = (v : Datagram) → IsDatagram v → line_of (codes "datagram " ++ digits_of v) ≡ Ok (handed_in v)
+
+-- ---- what a script says
+
+-- A line that a script takes is read the same by a host.
+abbrev pub ScriptLinesAreRead : Type 0
+ScriptLinesAreRead = (line : List ℕ) (read : Command) → script_line_of line ≡ Ok read → line_of line ≡ Ok (Script read)

@@ -1,5 +1,6 @@
 pub mod Lines
 pub mod Dialog
+pub mod Hosting
 pub mod Doing
 pub mod Laws
-pub mod RunLaws
+pub mod KeptLaws

@@ -1,31 +1,39 @@
 -- What a line of a driver says, or its first fault.
-use Rattle.std.specs.Prelude.{◌≡◌, ℕ, ◌-◌, ◌^◌, List, [], ◌∷◌, Bool, Option, Some, None, Result, Ok, Err, if◌then◌else◌, nat_eq, codes}
+use Rattle.std.specs.Prelude.{◌≡◌, ◌≤◌, ◌<◌, ℕ, ◌-◌, ◌^◌, List, [], ◌∷◌, Bool, Option, Some, None, Result, Ok, Err, if◌then◌else◌, nat_eq, codes}
 use Rattle.std.specs.Str.{bytes_eq}
 use Rattle.wb_names.specs.Values.{NameValue}
 use Rattle.wb_codec.specs.declared.datagram.Datagram.{Datagram as DatagramValue}
 use Rattle.wb_words.specs.declared.fault.WrongWord.{WrongWord}
 use Rattle.wb_words.specs.Words.{split_once}
+use Rattle.wb_words.specs.Adding.{adding_reading}
 use Rattle.wb_words.specs.Reading.{reading as reading_words}
+use Rattle.wb_words.specs.declared.adding.Adding.{Adding}
 use Rattle.wb_lines.specs.Words.{words}
 use Rattle.wb_codec.specs.declared.datagram.Datagram.TheVariants as datagrams
-use Rattle.wb_script.specs.declared.command.Command.{Command}
-use Rattle.wb_script.specs.declared.command.Command.TheVariants as lines
-use Rattle.wb_script.specs.declared.fault.LineFault.{LineFault}
-use Rattle.wb_script.specs.declared.fault.LineFault.TheVariants as faults
-use Rattle.wb_script.specs.declared.fault.ParseFault.{ParseFault}
-use Rattle.wb_script.specs.declared.fault.ParseFault.TheVariants as parse_faults
-use Rattle.wb_script.specs.Parsing.{or_fault, number, none_of, four_of, page, datagram, ◌>>=◌, line_of as script_line_of, IsWithin as IsScriptWithin}
+use Rattle.wb_commands.specs.declared.command.Command.{Command}
+use Rattle.wb_commands.specs.declared.command.Command.TheVariants as lines
+use Rattle.wb_commands.specs.declared.fault.LineFault.{LineFault}
+use Rattle.wb_commands.specs.declared.fault.LineFault.TheVariants as faults
+use Rattle.wb_commands.specs.declared.fault.Untaken.{Untaken}
+use Rattle.wb_commands.specs.declared.fault.Untaken.TheVariants as untaken
+use Rattle.wb_commands.specs.Parsing.{or_fault, number, none_of, two_of, four_of, page, datagram, ◌>>=◌, line_of as script_line_of, IsWithin as IsScriptWithin}
 use Rattle.wb_dialog.specs.declared.line.DriverLine.{DriverLine}
-use Rattle.wb_dialog.specs.declared.line.DriverLine.TheVariants.{Script, Say, Next, View, Known, Ask, Stop}
+use Rattle.wb_dialog.specs.declared.line.DriverLine.TheVariants.{Script, Say, Next, View, Known, Ask, Stop, Keep, Came, Add}
 use Rattle.wb_dialog.specs.declared.fault.Refusal.{Refusal}
 use Rattle.wb_dialog.specs.declared.fault.Refusal.TheVariants as refusals
 use Rattle.wb_dialog.specs.declared.fault.Unanswered.{Unanswered}
 use Rattle.wb_dialog.specs.declared.fault.Unanswered.TheVariants as unanswered
 
--- what stands behind the word `say`, with which a line begins
+-- what stands behind a word and a space, with which a line begins
+abbrev pub part_behind : List ℕ → Option (List ℕ × List ℕ) → Option (List ℕ)
+part_behind opener None = None
+part_behind opener (Some parts) = if bytes_eq parts.0 opener then Some parts.1 else None
+
 abbrev pub said_part : Option (List ℕ × List ℕ) → Option (List ℕ)
-said_part None = None
-said_part (Some parts) = if bytes_eq parts.0 (codes "say") then Some parts.1 else None
+said_part parts = part_behind (codes "say") parts
+
+abbrev pub added_part : Option (List ℕ × List ℕ) → Option (List ℕ)
+added_part parts = part_behind (codes "add") parts
 
 -- a line of these words, or the fault of a script's line
 abbrev pub by_words : {A : Type 0} → (A → DriverLine) → Result A LineFault → Result DriverLine Refusal
@@ -53,8 +61,32 @@ bytes_line arguments = by_words handed_in (datagram arguments)
 abbrev pub known_line : List (List ℕ) → Result DriverLine Refusal
 known_line arguments = by_words (λ nothing. Known) (or_fault faults.Words (none_of arguments))
 
+-- the rate of reports, and for how long nothing is added
+unfoldable pub keep_line : List (List ℕ) → Result DriverLine LineFault
+keep_line arguments = do
+  words' ← or_fault faults.Words (two_of arguments)
+  rate ← number 1 1000000 words'.0
+  listen ← number 0 (2 ^ 32 - 1) words'.1
+  Ok (Keep rate listen)
+
+-- the moment of the first of two words, and the datagram of those behind it, which came in then
+unfoldable pub moment_of : List (List ℕ) → Result ℕ LineFault
+moment_of arguments = do
+  words' ← or_fault faults.Words (two_of arguments)
+  number 0 (2 ^ 48 - 1) words'.0
+
+abbrev pub words_behind : List (List ℕ) → List (List ℕ)
+words_behind [] = []
+words_behind (word ∷ more) = more
+
+unfoldable pub came_line : List (List ℕ) → Result DriverLine LineFault
+came_line arguments = do
+  now ← moment_of arguments
+  v ← datagram (words_behind arguments)
+  Ok (Came now v)
+
 -- The line with this first word and these further ones. One that is not a driver's own is a script's. The words behind
--- `say` stand one space after it, so where they do not, they are wrong.
+-- `say` and `add` stand one space after it, so where they do not, they are wrong.
 unfoldable pub command : List ℕ → List ℕ → List (List ℕ) → Result DriverLine Refusal
 command line word arguments =
     if bytes_eq word (codes "datagram") then bytes_line arguments
@@ -64,7 +96,10 @@ command line word arguments =
     else (if bytes_eq word (codes "known") then known_line arguments
     else (if bytes_eq word (codes "ask") then by_words Ask (name arguments)
     else (if bytes_eq word (codes "stop") then by_words Stop (name arguments)
-    else by_words Script (script_line_of line)))))))
+    else (if bytes_eq word (codes "keep") then by_words (λ line. line) (keep_line arguments)
+    else (if bytes_eq word (codes "came") then by_words (λ line. line) (came_line arguments)
+    else (if bytes_eq word (codes "add") then Err (refusals.Line faults.Words)
+    else by_words Script (script_line_of line))))))))))
 
 abbrev pub line_of_words : List ℕ → List (List ℕ) → Result DriverLine Refusal
 line_of_words line [] = by_words Script (script_line_of line)
@@ -82,13 +117,19 @@ abbrev pub said_by : Result DatagramValue WrongWord → Result DriverLine Refusa
 said_by (Ok v) = Ok (Say v)
 said_by (Err wrong) = Err (refusals.Word wrong)
 
-abbrev pub line_behind : List ℕ → Option (List ℕ) → Result DriverLine Refusal
-line_behind line None = came_in line (reading_words line)
-line_behind line (Some rest) = said_by (reading_words rest)
+abbrev pub added_by : Result Adding WrongWord → Result DriverLine Refusal
+added_by (Ok adding) = Ok (Add adding)
+added_by (Err wrong) = Err (refusals.Word wrong)
+
+-- by what stands behind the word `say`, or behind the word `add`
+abbrev pub line_behind : List ℕ → Option (List ℕ) → Option (List ℕ) → Result DriverLine Refusal
+line_behind line None None = came_in line (reading_words line)
+line_behind line None (Some rest) = added_by (adding_reading rest)
+line_behind line (Some rest) added = said_by (reading_words rest)
 
 -- the line, which stands without its end
 abbrev pub line_of : List ℕ → Result DriverLine Refusal
-line_of line = line_behind line (said_part (split_once 32 line))
+line_of line = line_behind line (said_part (split_once 32 line)) (added_part (split_once 32 line))
 
 -- ---- what the code answers
 
@@ -101,11 +142,14 @@ IsWithin (View p) = Unit {0}
 IsWithin Known = Unit {0}
 IsWithin (Ask n) = Unit {0}
 IsWithin (Stop n) = Unit {0}
+IsWithin (Keep rate listen) = (1 ≤ rate) × (listen < 2 ^ 32)
+IsWithin (Came now v) = now < 2 ^ 48
+IsWithin (Add adding) = adding.moment < 2 ^ 48
 
 -- why a line of a script was not parsed
-abbrev pub unanswered_by : ParseFault → Unanswered
-unanswered_by (parse_faults.Line e) = unanswered.Refused (refusals.Line e)
-unanswered_by parse_faults.Memory = unanswered.Memory
+abbrev pub unanswered_by : Untaken → Unanswered
+unanswered_by (untaken.Line e) = unanswered.Refused (refusals.Line e)
+unanswered_by untaken.Memory = unanswered.Memory
 
 -- what a line says, its first fault, or want of memory
 abbrev pub Parses : {X : Type 0} → Result X Unanswered → Result X Refusal → Type 0

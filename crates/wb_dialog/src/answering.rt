@@ -1,11 +1,11 @@
 //! What the lines of a driver do at an open member.
 ghost use Rattle.std.specs.Prelude.{◌≡◌, ◌++◌, List, ℕ, OnOk, OnErr};
-ghost use Rattle.wb_script.specs.Driving.{next_number};
-ghost use Rattle.wb_script.specs.Hosts.{Opened, act};
-ghost use Rattle.wb_script.specs.Members.{IsOpenAt};
-ghost use Rattle.wb_script.specs.Parsing.{IsWithin as IsScriptWithin};
+ghost use Rattle.wb_member.specs.Holding.{outcome_in};
+ghost use Rattle.wb_member.specs.Opened.{next_number};
+ghost use Rattle.wb_commands.specs.Acts.{act};
+ghost use Rattle.wb_commands.specs.Parsing.{IsWithin as IsScriptWithin};
 ghost use Rattle.wb_dialog.specs.Lines.{IsWithin};
-ghost use Rattle.wb_script.specs.SentLines.{send_line};
+ghost use Rattle.wb_commands.specs.SentLines.{send_line};
 ghost use Rattle.wb_dialog.specs.Dialog.{answered, arrives, batch_of, goes_out, speaker, says, script_answer, numbered, answer_at};
 ghost use Rattle.wb_dialog.specs.Doing.{DoesAt};
 
@@ -14,9 +14,11 @@ use crate::fault::{Refusal, Unanswered};
 use crate::line::DriverLine;
 use std::alloc::{AllocError, Global};
 use wb_codec::Datagram;
+use wb_commands::{Command, LineFault, Untaken, arrival_line, send_line};
+use wb_host::Reply;
 use wb_lines::Output;
+use wb_member::Member;
 use wb_names::{Drawop, Name, PageId};
-use wb_script::{Acceptance, Command, LineFault, Member, RunFault, batch_line, send_line};
 
 /// What a line of a script does here, but for arrivals and boards.
 fn act(
@@ -28,10 +30,10 @@ fn act(
     requires { IsScriptWithin command.now }
     ensures text { (written : List ℕ) × (output.new ≡ output.old ++ written) × DoesAt member.old member.new written result (λ host. answered (act command.now host)) }
 {
-    match member.act(alloc, 0, command, output) {
+    match wb_commands::act(alloc, member, command, output) {
         Ok(()) => Ok(()),
-        Err(RunFault::Line(_, fault)) => Err(Unanswered::Refused(Refusal::Line(fault))),
-        Err(_) => Err(Unanswered::Memory),
+        Err(Untaken::Line(fault)) => Err(Unanswered::Refused(Refusal::Line(fault))),
+        Err(Untaken::Memory) => Err(Unanswered::Memory),
     }
 }
 
@@ -89,11 +91,11 @@ fn send(alloc: Global, datagram: &Datagram, output: &mut Output) -> Result<(), A
 }
 
 /// Prints the batch that one drawop is. Without memory it prints nothing.
-fn count(alloc: Global, became: Acceptance, output: &mut Output) -> Result<(), AllocError>
-    ensures ok { OnOk result (output.new ≡ output.old ++ batch_of became) }
+fn count(alloc: Global, became: Option<Reply>, output: &mut Output) -> Result<(), AllocError>
+    ensures ok { OnOk result (output.new ≡ output.old ++ batch_of (outcome_in became)) }
     ensures err { OnErr result (output.new ≡ output.old) }
 {
-    let text = batch_line(alloc, became.counted())?;
+    let text = arrival_line(alloc, became)?;
     output.add(text.as_bytes())
 }
 
@@ -108,10 +110,10 @@ fn publish(
 {
     let became = member.accept(drawop)?;
     match became {
-        Acceptance::New => send(alloc, &Datagram::Draw(*drawop), output)?,
-        Acceptance::Again => send(alloc, &Datagram::Draw(*drawop), output)?,
-        Acceptance::Clash => count(alloc, became, output)?,
-        Acceptance::Left => count(alloc, became, output)?,
+        Some(Reply::New(_)) => send(alloc, &Datagram::Draw(*drawop), output)?,
+        Some(Reply::Again(_)) => send(alloc, &Datagram::Draw(*drawop), output)?,
+        Some(Reply::Clash(_)) => count(alloc, became, output)?,
+        None => count(alloc, became, output)?,
     }
     Ok(())
 }
@@ -222,5 +224,8 @@ pub(crate) fn answer(
         DriverLine::Known => known(alloc, member, output),
         DriverLine::Ask(name) => ask(alloc, member, name, output),
         DriverLine::Stop(name) => stop(member, name, output),
+        DriverLine::Keep { .. } => Err(Unanswered::Refused(Refusal::TooLate)),
+        DriverLine::Came { .. } => Err(Unanswered::Refused(Refusal::NotKept)),
+        DriverLine::Add(_) => Err(Unanswered::Refused(Refusal::NotKept)),
     }
 }

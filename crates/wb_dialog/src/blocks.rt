@@ -1,13 +1,13 @@
 //! The texts of a block.
 ghost use Rattle.std.specs.Prelude.{◌≡◌, IfOk};
 ghost use Rattle.std.specs.String.{string_bytes};
-ghost use Rattle.wb_dialog.specs.Dialog.{view_text, known_text, words_line, next_line, ask_line, stop_line, line_text, refusal_text, due_word, ok_line, refused_line};
+ghost use Rattle.wb_dialog.specs.Dialog.{view_text, known_text, words_line, next_line, ask_line, stop_line, refusal_text, due_word, ok_line, refused_line};
 
 use crate::fault::Refusal;
 use std::alloc::{AllocError, Global};
 use wb_codec::Datagram;
+use wb_commands::list_text;
 use wb_names::{Drawop, PageId};
-use wb_script::{LineFault, pair_line};
 use wb_words::{write_words, wrong_text};
 
 /// The number of our next drawop on a page.
@@ -42,12 +42,7 @@ pub(crate) fn view_text(alloc: Global, drawops: &[Drawop]) -> Result<Vec<u8>, Al
 pub(crate) fn known_text(alloc: Global, pages: &[PageId]) -> Result<String, AllocError>
     ensures { IfOk result (λ text. string_bytes text ≡ known_text pages.now) }
 {
-    let count = pages.len();
-    let mut text = format!(in alloc; "known {count}\n")?;
-    for page in pages {
-        text.push_str(pair_line(alloc, page.creator, page.number)?.as_str())?;
-    }
-    Ok(text)
+    list_text(alloc, "known ", pages)
 }
 
 /// Whether it began to ask for a name.
@@ -64,34 +59,19 @@ pub(crate) fn stop_line(asked: bool) -> &'static [u8]
     if asked { b"stop 1\n" } else { b"stop 0\n" }
 }
 
-fn line_text(alloc: Global, fault: LineFault) -> Result<String, AllocError>
-    ensures { IfOk result (λ text. string_bytes text ≡ line_text fault) }
-{
-    match fault {
-        LineFault::Unknown => format!(in alloc; "unknown"),
-        LineFault::Words => format!(in alloc; "words"),
-        LineFault::Number => format!(in alloc; "number"),
-        LineFault::Hex => format!(in alloc; "hex"),
-        LineFault::Datagram(fault) => {
-            let code = fault.code();
-            format!(in alloc; "datagram {code}")
-        }
-        LineFault::Kind => format!(in alloc; "kind"),
-        LineFault::NoBoard => format!(in alloc; "no board"),
-        LineFault::SecondBoard => format!(in alloc; "second board"),
-        LineFault::BackInTime => format!(in alloc; "back in time"),
-        LineFault::TooMany => format!(in alloc; "too many"),
-    }
-}
-
 fn refusal_text(alloc: Global, refusal: Refusal) -> Result<String, AllocError>
     ensures { IfOk result (λ text. string_bytes text ≡ refusal_text refusal) }
 {
     match refusal {
-        Refusal::Line(fault) => line_text(alloc, fault),
+        Refusal::Line(fault) => format!(in alloc; "{fault}"),
         Refusal::Word(wrong) => wrong_text(alloc, wrong),
         Refusal::Member => format!(in alloc; "member"),
         Refusal::Endless => format!(in alloc; "endless"),
+        Refusal::NotKept => format!(in alloc; "not kept"),
+        Refusal::Kept => format!(in alloc; "kept"),
+        Refusal::TooLate => format!(in alloc; "too late"),
+        Refusal::Listening => format!(in alloc; "listening"),
+        Refusal::Ours => format!(in alloc; "ours"),
     }
 }
 

@@ -1,30 +1,29 @@
 //! A host as a handler of the lines of a driver: each line has its block.
-ghost use Rattle.std.specs.Prelude.{◌≡◌, ◌++◌, List, [], ℕ, None, Option, Err, true};
+ghost use Rattle.std.specs.Prelude.{◌≡◌, ◌≤◌, ◌++◌, List, [], ℕ, None, Option, Err, true};
 ghost use Rattle.wb_recovery.specs.Timing.{are_constants};
-ghost use Rattle.wb_script.specs.Hosts.{Opened};
-ghost use Rattle.wb_script.specs.Members.{MayBeOpenAt};
 ghost use Rattle.wb_dialog.specs.Lines.{IsWithin, line_of};
-ghost use Rattle.wb_dialog.specs.Dialog.{answer_first, answer_to, answer, after, due, ok_line};
-ghost use Rattle.wb_dialog.specs.Doing.{DoesAnswer, Prints, Blocks};
+ghost use Rattle.wb_dialog.specs.Dialog.{ok_line};
+ghost use Rattle.wb_dialog.specs.Hosting.{Host as HostState, due_at, host_after, keep_reply, reply, reply_to, taken_reply};
+ghost use Rattle.wb_dialog.specs.Doing.{DoesReply, MayBeAt, Prints, Blocks};
 
-use crate::answering::answer;
 use crate::blocks::{ok_line, refused_line};
 use crate::fault::{Refusal, Unanswered};
 use crate::line::DriverLine;
+use crate::opened::Host;
 use crate::parsing::read_line;
 use std::alloc::{AllocError, Global};
 use std::convert::Infallible;
 use std::marker::Model;
+use wb_commands::{Command, LineFault};
 use wb_lines::{Handler, Output, Stop, without_end};
 use wb_recovery::Tuning;
-use wb_script::{Command, LineFault, Member};
 
 /// A host that answers the lines of a driver, one at a time. What its keeper holds stands for the calls that it
 /// accepted, so the contracts speak of each host at which it may be.
 #[derive(Drop)]
 pub struct Dialog {
     tuning: Tuning,
-    member: Option<Member>,
+    host: Option<Host>,
 }
 
 impl Model for Dialog {
@@ -34,7 +33,7 @@ impl Model for Dialog {
 
     ghost Value = { DialogValue };
 
-    ghost view = { λ d. record { tuning = d.tuning; member = d.member } };
+    ghost view = { λ d. record { tuning = d.tuning; host = d.host } };
 
     ghost invariant = { λ d. are_constants d.tuning ≡ true };
 }
@@ -43,20 +42,17 @@ impl Dialog {
     /// No board is open. The timers of the one that will be have these constants, each from 1 to 16.
     pub fn new(tuning: Tuning) -> Self
         requires { are_constants tuning ≡ true }
-        ensures { result ≡ record { tuning = tuning; member = None } }
+        ensures { result ≡ record { tuning = tuning; host = None } }
     {
-        Dialog {
-            tuning,
-            member: None,
-        }
+        Dialog { tuning, host: None }
     }
 
-    /// The next moment at which a timer is due, in microseconds. None where no timer stands.
+    /// The next moment at which the host has something to do, in microseconds. None where there is none.
     fn next_due(&self) -> Option<u64>
-        ensures { (s : Option Opened) → MayBeOpenAt self.now.member s → result ≡ due s }
+        ensures { (s : Option HostState) → MayBeAt self.now.host s → result ≡ due_at s }
     {
-        match &self.member {
-            Some(member) => member.next_due(),
+        match &self.host {
+            Some(host) => host.next_due(),
             None => None,
         }
     }
@@ -64,8 +60,8 @@ impl Dialog {
     /// What a line does before a board is open.
     fn begin(&mut self, alloc: Global, line: &DriverLine) -> Result<(), Unanswered>
         requires line { IsWithin line.now }
-        requires closed { self.old.member ≡ None }
-        ensures does { DoesAnswer None self.new.member [] result (answer_first self.old.tuning line.now) }
+        requires closed { self.old.host ≡ None }
+        ensures does { DoesReply None self.new.host [] result (taken_reply self.old.tuning None line.now) }
         ensures tuning { self.new.tuning ≡ self.old.tuning }
     {
         match line {
@@ -78,11 +74,42 @@ impl Dialog {
                     ..
                 },
             ) => {
-                self.member = Some(Member::open(alloc, *member, *cells, *seed, self.tuning)?);
+                self.host = Some(Host::open(alloc, *member, *cells, *seed, self.tuning)?);
                 Ok(())
             }
             _ => Err(Unanswered::Refused(Refusal::Line(LineFault::NoBoard))),
         }
+    }
+
+    /// What a line does that does not begin to keep the host.
+    fn take(
+        &mut self,
+        alloc: Global,
+        line: &DriverLine,
+        output: &mut Output,
+    ) -> Result<(), Unanswered>
+        requires { IsWithin line.now }
+        ensures text { (written : List ℕ) × (output.new ≡ output.old ++ written) × ((s : Option HostState) → MayBeAt self.old.host s → DoesReply s self.new.host written result (taken_reply self.old.tuning s line.now)) }
+        ensures tuning { self.new.tuning ≡ self.old.tuning }
+    {
+        match &mut self.host {
+            Some(host) => host.take(alloc, line, output),
+            None => self.begin(alloc, line),
+        }
+    }
+
+    /// From now on the host keeps itself, where it may.
+    fn keep(&mut self, rate: u32, listen: u32) -> Result<(), Unanswered>
+        requires rate { 1 ≤ rate }
+        ensures does { (s : Option HostState) → MayBeAt self.old.host s → DoesReply s self.new.host [] result (keep_reply rate listen s) }
+        ensures tuning { self.new.tuning ≡ self.old.tuning }
+    {
+        let Some(host) = self.host.take() else {
+            return Err(Unanswered::Refused(Refusal::Line(LineFault::NoBoard)));
+        };
+        let (next, result) = host.keep(rate, listen);
+        self.host = Some(next);
+        result
     }
 
     /// What a line does.
@@ -93,18 +120,18 @@ impl Dialog {
         output: &mut Output,
     ) -> Result<(), Unanswered>
         requires { IsWithin line.now }
-        ensures text { (written : List ℕ) × (output.new ≡ output.old ++ written) × ((s : Option Opened) → MayBeOpenAt self.old.member s → DoesAnswer s self.new.member written result (answer_to self.old.tuning s line.now)) }
+        ensures text { (written : List ℕ) × (output.new ≡ output.old ++ written) × ((s : Option HostState) → MayBeAt self.old.host s → DoesReply s self.new.host written result (reply_to self.old.tuning s line.now)) }
         ensures tuning { self.new.tuning ≡ self.old.tuning }
     {
-        match &mut self.member {
-            Some(member) => answer(alloc, member, line, output),
-            None => self.begin(alloc, line),
+        match line {
+            DriverLine::Keep { rate, listen } => self.keep(*rate, *listen),
+            _ => self.take(alloc, line, output),
         }
     }
 
     /// Reads a line, which stands without its end, and does what it says.
-    fn take(&mut self, alloc: Global, content: &[u8], output: &mut Output) -> Result<(), Unanswered>
-        ensures text { (written : List ℕ) × (output.new ≡ output.old ++ written) × ((s : Option Opened) → MayBeOpenAt self.old.member s → DoesAnswer s self.new.member written result (answer self.old.tuning s (line_of content.now))) }
+    fn read(&mut self, alloc: Global, content: &[u8], output: &mut Output) -> Result<(), Unanswered>
+        ensures text { (written : List ℕ) × (output.new ≡ output.old ++ written) × ((s : Option HostState) → MayBeAt self.old.host s → DoesReply s self.new.host written result (reply self.old.tuning s (line_of content.now))) }
         ensures tuning { self.new.tuning ≡ self.old.tuning }
     {
         let line = read_line(alloc, content)?;
@@ -113,7 +140,7 @@ impl Dialog {
 
     /// Closes the block of a line that was taken.
     fn close(&self, alloc: Global, output: &mut Output) -> Result<(), AllocError>
-        ensures { (written : List ℕ) × (output.new ≡ output.old ++ written) × ((s : Option Opened) → MayBeOpenAt self.now.member s → Prints written result (ok_line (due s))) }
+        ensures { (written : List ℕ) × (output.new ≡ output.old ++ written) × ((s : Option HostState) → MayBeAt self.now.host s → Prints written result (ok_line (due_at s))) }
     {
         let text = ok_line(alloc, self.next_due())?;
         output.add(text.as_bytes())
@@ -128,10 +155,10 @@ impl Dialog {
         content: &[u8],
         output: &mut Output,
     ) -> Result<(), AllocError>
-        ensures text { (written : List ℕ) × (output.new ≡ output.old ++ written) × ((s : Option Opened) → MayBeOpenAt self.old.member s → (let a = answer self.old.tuning s (line_of content.now) in Blocks self.new.member written result (after s a) a)) }
+        ensures text { (written : List ℕ) × (output.new ≡ output.old ++ written) × ((s : Option HostState) → MayBeAt self.old.host s → (let r = reply self.old.tuning s (line_of content.now) in Blocks self.new.host written result (host_after s r) r)) }
         ensures tuning { self.new.tuning ≡ self.old.tuning }
     {
-        match self.take(alloc, content, output) {
+        match self.read(alloc, content, output) {
             Ok(()) => self.close(alloc, output),
             Err(Unanswered::Refused(refusal)) => self.refuse(alloc, refusal, output),
             Err(Unanswered::Memory) => Err(AllocError),
@@ -146,7 +173,7 @@ impl Dialog {
         output: &mut Output,
     ) -> Result<(), AllocError>
         ensures same { self.new ≡ self.old }
-        ensures text { (written : List ℕ) × (output.new ≡ output.old ++ written) × ((s : Option Opened) → MayBeOpenAt self.old.member s → (let a = answer self.old.tuning s (Err refusal) in Blocks self.new.member written result (after s a) a)) }
+        ensures text { (written : List ℕ) × (output.new ≡ output.old ++ written) × ((s : Option HostState) → MayBeAt self.old.host s → (let r = reply self.old.tuning s (Err refusal) in Blocks self.new.host written result (host_after s r) r)) }
     {
         let text = refused_line(alloc, refusal)?;
         output.add(text.as_bytes())
@@ -157,10 +184,10 @@ impl Dialog {
 impl Handler for Dialog {
     type Fault = Infallible;
 
-    ghost use Rattle.wb_dialog.specs.Dialog.{State, step};
+    ghost use Rattle.wb_dialog.specs.Hosting.{Hosting, step};
     ghost use Rattle.wb_dialog.specs.Doing.{IsAt};
 
-    ghost State = { State };
+    ghost State = { Hosting };
 
     ghost is_at = { IsAt };
 

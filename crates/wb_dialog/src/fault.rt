@@ -5,7 +5,7 @@ ghost use Rattle.wb_dialog.specs.declared.fault.Refusal.TheVariants as refusals;
 
 use std::alloc::{AllocError, AllocFailed};
 use thiserror::Error;
-use wb_script::LineFault;
+use wb_commands::LineFault;
 use wb_words::WrongWord;
 
 /// Why a line of a driver is refused.
@@ -24,6 +24,21 @@ pub enum Refusal {
     /// The line has over 65,536 bytes before its line feed.
     #[error("endless")]
     Endless,
+    /// The line is one of a host that keeps itself, and this one does not.
+    #[error("not kept")]
+    NotKept,
+    /// The line is for its driver to judge, and the host keeps itself.
+    #[error("kept")]
+    Kept,
+    /// A line that acts was taken, so the host can't begin to keep itself.
+    #[error("too late")]
+    TooLate,
+    /// Nothing is added yet.
+    #[error("listening")]
+    Listening,
+    /// A drawop of our own number of 2^31 or more that is not held.
+    #[error("ours")]
+    Ours,
 }
 
 /// Why a line was not answered with what it does.

@@ -3,7 +3,7 @@ ghost use Rattle.std.specs.Prelude.{◌≡◌, List, ℕ, true, false, Err, OnOk
 ghost use Rattle.std.specs.Io.KnownBytes.{Appends};
 ghost use Rattle.wb_recovery.specs.Timing.{are_constants};
 ghost use Rattle.wb_lines.specs.Driving.{Gave};
-ghost use Rattle.wb_dialog.specs.Dialog.{transcript};
+ghost use Rattle.wb_dialog.specs.Hosting.{transcript};
 ghost use Rattle.wb_dialog.specs.Doing.{fault_of, Writes};
 
 use crate::dialog::Dialog;

@@ -1,7 +1,7 @@
 //! Laws of the transcripts of a host, proved for all inputs. The functions do nothing: each stands here for
 //! its clause.
-ghost use Rattle.wb_dialog.specs.Laws.{RefusedStays, EachIsAnswered, FrontsAreFronts, AcceptedAlone, NextIsNew, SaidIsRead};
-ghost use Rattle.wb_dialog.specs.RunLaws.{ScriptLinesAreRead, AloneIsOneOrder, RunIsWithoutOks, RefusedIsWithoutOks};
+ghost use Rattle.wb_dialog.specs.KeptLaws.{AddIsNotTooMany, KeptIsDriven};
+ghost use Rattle.wb_dialog.specs.Laws.{RefusedStays, EachIsAnswered, FrontsAreFronts, AcceptedAlone, DrivenAsBefore, NextIsNew, SaidIsRead, ScriptLinesAreRead};
 
 /// A refused line leaves the host as it was.
 pub fn refused_lines_change_nothing()
@@ -23,6 +23,22 @@ pub fn accepted_lines_suffice()
     ensures { AcceptedAlone }
 {}
 
+/// What is written for lines of which none says `keep` is what a host writes that its driver drives.
+pub fn driven_hosts_stay()
+    ensures { DrivenAsBefore }
+{}
+
+/// A host that keeps itself is a host whose driver hands in the lines of its policy: it comes to the same hosts, and sends
+/// the same. So what is proved of hosts holds of it.
+pub fn kept_hosts_are_driven()
+    ensures { KeptIsDriven }
+{}
+
+/// A host that keeps itself refuses no drawing as too many, whatever was handed in before: a number is left for each.
+pub fn adds_are_not_too_many()
+    ensures { AddIsNotTooMany }
+{}
+
 /// The number for our next drawop on a page is above all that are held or were heard of from us.
 pub fn next_numbers_are_new()
     ensures { NextIsNew }
@@ -33,14 +49,7 @@ pub fn said_is_read()
     ensures { SaidIsRead }
 {}
 
-/// A script in which each arrival is a batch of its own prints, by `run` with any number of workers, what `host`
-/// prints for it, without the lines `ok DUE`. This is so where the run comes to the end of the script, or to
-/// where reading fails. Where a line is refused, which ends the run, it prints what `host` prints for the lines
-/// before it. A line that a script takes is read the same by a host. The timers of the host have the constants
-/// of a script.
-pub fn runs_are_transcripts()
-    ensures lines { ScriptLinesAreRead }
-    ensures order { AloneIsOneOrder }
-    ensures whole { RunIsWithoutOks }
-    ensures refused { RefusedIsWithoutOks }
+/// A line that a script takes is read the same by a host.
+pub fn script_lines_are_read()
+    ensures { ScriptLinesAreRead }
 {}

@@ -11,8 +11,10 @@ mod blocks;
 mod dialog;
 mod fault;
 mod hosting;
+mod keeping;
 pub mod laws;
 mod line;
+mod opened;
 mod parsing;
 
 pub use dialog::Dialog;

@@ -1,7 +1,8 @@
 //! The lines of a driver.
 use wb_codec::Datagram;
+use wb_commands::Command;
 use wb_names::{Name, PageId};
-use wb_script::Command;
+use wb_words::Adding;
 
 /// A line of a driver, with its words as fields.
 #[derive(Debug, Drop)]
@@ -20,4 +21,11 @@ pub enum DriverLine {
     Ask(Name),
     /// `stop C N SOURCE NUMBER` gives up asking for a drawop.
     Stop(Name),
+    /// `keep RATE LISTEN`: from now on the host keeps itself. The reports of all members together take so many bytes a
+    /// second, and for so many microseconds nothing is added.
+    Keep { rate: u32, listen: u32 },
+    /// `came NOW HEX`: a datagram came in at a moment, in microseconds.
+    Came { now: u64, datagram: Datagram },
+    /// `add NOW TIME C/N OPERATION`: the user draws.
+    Add(Adding),
 }

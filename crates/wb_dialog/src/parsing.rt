@@ -1,35 +1,37 @@
 //! What a line of a driver says.
-ghost use Rattle.std.specs.Prelude.{◌≡◌, IfOk};
+ghost use Rattle.std.specs.Prelude.{◌≡◌, ◌<◌, ◌^◌, IfOk};
 ghost use Rattle.std.specs.Option.{option_map};
 ghost use Rattle.wb_words.specs.Words.{split_once};
+ghost use Rattle.wb_words.specs.Adding.{adding_reading};
 ghost use Rattle.wb_words.specs.Reading.{reading as reading_words};
 ghost use Rattle.wb_lines.specs.Words.{words};
-ghost use Rattle.wb_script.specs.Parsing.{line_of as script_line_of};
-ghost use Rattle.wb_dialog.specs.Lines.{Parses, IsWithin, by_words, unanswered_by, handed_in, said_part, said_by, name, command, bytes_line, line_of_words, line_of};
+ghost use Rattle.wb_commands.specs.Parsing.{line_of as script_line_of};
+ghost use Rattle.wb_dialog.specs.Lines.{Parses, IsWithin, by_words, unanswered_by, handed_in, part_behind, said_by, added_by, name, command, bytes_line, keep_line, moment_of, came_line, line_of_words, line_of};
 
 use crate::fault::{Refusal, Unanswered};
 use crate::line::DriverLine;
 use std::alloc::Global;
 use wb_codec::Datagram;
+use wb_commands::{
+    Command, LineFault, Untaken, datagram, four_words, no_words, number_word, page, parse_line,
+    two_words, u32_word,
+};
 use wb_lines::next_word;
 use wb_names::{Name, PageId};
-use wb_script::{
-    Command, LineFault, ParseFault, datagram, four_words, no_words, page, parse_line, u32_word,
-};
-use wb_words::{WordsFault, read_words, split_once};
+use wb_words::{WordsFault, read_adding, read_words, split_once};
 
-/// What stands behind the word `say`, where a line begins with it.
-fn said_part(line: &[u8]) -> Option<&[u8]>
-    ensures { option_map (λ x. x.now) result ≡ said_part (split_once 32 line.now) }
+/// The most bytes a second that reports may take.
+const MAX_RATE: u32 = 1_000_000;
+
+/// The greatest moment, in microseconds.
+const MAX_MOMENT: u64 = (1 << 48) - 1;
+
+/// What stands behind a word and a space, with which a line begins.
+fn behind<'a>(line: &'a [u8], opener: &[u8]) -> Option<&'a [u8]>
+    ensures { option_map (λ x. x.now) result ≡ part_behind opener.now (split_once 32 line.now) }
 {
     match split_once(line, b' ') {
-        Some((word, rest)) => {
-            if word == b"say".as_slice() {
-                Some(rest)
-            } else {
-                None
-            }
-        }
+        Some((word, rest)) => { if word == opener { Some(rest) } else { None } }
         None => None,
     }
 }
@@ -52,12 +54,12 @@ fn name(rest: &[u8]) -> Result<Name, LineFault>
 }
 
 /// Why a line of a script was not parsed.
-fn refused(fault: ParseFault) -> Unanswered
+fn refused(fault: Untaken) -> Unanswered
     ensures { result ≡ unanswered_by fault }
 {
     match fault {
-        ParseFault::Line(fault) => Unanswered::Refused(Refusal::Line(fault)),
-        ParseFault::Memory => Unanswered::Memory,
+        Untaken::Line(fault) => Unanswered::Refused(Refusal::Line(fault)),
+        Untaken::Memory => Unanswered::Memory,
     }
 }
 
@@ -83,6 +85,42 @@ fn bytes_line(alloc: Global, rest: &[u8]) -> Result<DriverLine, Unanswered>
     }
 }
 
+/// The rate of reports and how long nothing is added, the only two words.
+#[tactic(auto, unfolding(crate::specs::Lines::keep_line))]
+fn keep_line(rest: &[u8]) -> Result<DriverLine, LineFault>
+    ensures line { result ≡ keep_line (words rest.now) }
+    ensures within { IfOk result IsWithin }
+{
+    let (rate, listen) = two_words(rest).ok_or(LineFault::Words)?;
+    let rate = u32_word(rate, 1, MAX_RATE)?;
+    let listen = u32_word(listen, 0, u32::MAX)?;
+    Ok(DriverLine::Keep { rate, listen })
+}
+
+/// The moment of the first of two words.
+#[tactic(auto, unfolding(crate::specs::Lines::moment_of))]
+fn moment(rest: &[u8]) -> Result<u64, LineFault>
+    ensures moment { result ≡ moment_of (words rest.now) }
+    ensures bound { IfOk result (λ now. now < 2 ^ 48) }
+{
+    let (now, _digits) = two_words(rest).ok_or(LineFault::Words)?;
+    number_word(now, 0, MAX_MOMENT)
+}
+
+/// The moment, and the datagram whose bytes the second of the only two words spells.
+#[tactic(auto, unfolding(crate::specs::Lines::came_line, crate::specs::Lines::moment_of))]
+fn came_line(alloc: Global, rest: &[u8]) -> Result<DriverLine, Unanswered>
+    ensures line { Parses result (by_words (λ line. line) (came_line (words rest.now))) }
+    ensures within { IfOk result IsWithin }
+{
+    let now = moment(rest)?;
+    let (_now, digits) = next_word(rest).ok_or(LineFault::Words)?;
+    match datagram(alloc, digits) {
+        Ok(datagram) => Ok(DriverLine::Came { now, datagram }),
+        Err(fault) => Err(refused(fault)),
+    }
+}
+
 /// The line with this first word and these further ones.
 #[tactic(auto, unfolding(crate::specs::Lines::command))]
 fn command(alloc: Global, line: &[u8], word: &[u8], rest: &[u8]) -> Result<DriverLine, Unanswered>
@@ -104,6 +142,12 @@ fn command(alloc: Global, line: &[u8], word: &[u8], rest: &[u8]) -> Result<Drive
         Ok(DriverLine::Ask(name(rest)?))
     } else if word == b"stop".as_slice() {
         Ok(DriverLine::Stop(name(rest)?))
+    } else if word == b"keep".as_slice() {
+        Ok(keep_line(rest)?)
+    } else if word == b"came".as_slice() {
+        came_line(alloc, rest)
+    } else if word == b"add".as_slice() {
+        Err(Unanswered::Refused(Refusal::Line(LineFault::Words)))
     } else {
         script_line(alloc, line)
     }
@@ -143,14 +187,29 @@ fn said(alloc: Global, words: &[u8]) -> Result<DriverLine, Unanswered>
     }
 }
 
+/// A drawing that is to be added.
+fn added(alloc: Global, words: &[u8]) -> Result<DriverLine, Unanswered>
+    ensures line { Parses result (added_by (adding_reading words.now)) }
+    ensures within { IfOk result IsWithin }
+{
+    match read_adding(alloc, words) {
+        Ok(adding) => Ok(DriverLine::Add(adding)),
+        Err(WordsFault::Word(wrong)) => Err(Unanswered::Refused(Refusal::Word(wrong))),
+        Err(WordsFault::Memory) => Err(Unanswered::Memory),
+    }
+}
+
 /// The line that the bytes say, which stand without their end, or its first fault: of a datagram in words and
 /// of what is to be said, the first word that is wrong; else that of a script's line.
 pub(crate) fn read_line(alloc: Global, line: &[u8]) -> Result<DriverLine, Unanswered>
     ensures line { Parses result (line_of line.now) }
     ensures within { IfOk result IsWithin }
 {
-    if let Some(words) = said_part(line) {
+    if let Some(words) = behind(line, b"say") {
         return said(alloc, words);
+    }
+    if let Some(words) = behind(line, b"add") {
+        return added(alloc, words);
     }
     match read_words(alloc, line) {
         Ok(datagram) => Ok(handed_in(datagram)),

@@ -4,8 +4,8 @@ use Rattle.std.specs.Str.Lines.{strip_carriage_return}
 use Rattle.std.proofs.lemmas.Bool.Decides.{nat_tests}
 use Rattle.std.proofs.lemmas.List.{length-append, take_at, get_or_at}
 use Rattle.wb_lines.specs.Ahead.{NoLineFeed}
-use Rattle.wb_lines.specs.Input.{InputLine, content}
-use Rattle.wb_lines.proofs.StandingLines.{feed, standing, stripped}
+use Rattle.wb_lines.specs.Input.{InputLine, content, feed, standing}
+use Rattle.wb_lines.proofs.StandingLines.{stripped}
 use Rattle.wb_lines.proofs.LineBytes.{NoLineFeed-push}
 use Rattle.wb_filters.specs.Filtering.{end_of, ending}
 use Rattle.wb_filters.proofs.Visible.{Visible, no_return, no_feed}

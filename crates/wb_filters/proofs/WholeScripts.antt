@@ -2,7 +2,7 @@
 use Rattle.std.proofs.Common.{◌≡◌, ◌≢◌, ℕ, ◌+◌, ◌<◌, ◌≤◌, Bool, true, false, List, [], ◌∷◌, ◌++◌, length, Result, Ok, inl, inr, ◌⊎◌, refl, sym, ap, subst, ◌∙◌, arith, All}
 use Rattle.std.proofs.lemmas.List.Elements.{All-nil, All-cons, All-head, All-tail}
 use Rattle.wb_lines.specs.Ahead.{NoLineFeed}
-use Rattle.wb_lines.specs.Input.{InputLine, input_lines, content, most_bytes}
+use Rattle.wb_lines.specs.Input.{InputLine, input_lines, standing, content, most_bytes}
 use Rattle.wb_codec.specs.declared.datagram.Datagram.{Datagram}
 use Rattle.wb_codec.specs.Ranges.{IsDatagram}
 use Rattle.wb_filters.specs.declared.carrier.Carrier.{Carrier}
@@ -17,7 +17,7 @@ use Rattle.wb_filters.specs.Filtering.{turned, told_on, ending, ended_by, said_o
 use Rattle.wb_filters.specs.Laws.{IsOther, IsWithinLimits, Turns, WordsComeBack, DigitsComeBack}
 use Rattle.wb_filters.proofs.TurningLaws.{words_are_turned, digits_are_turned}
 use Rattle.wb_filters.proofs.Visible.{Visible, digits_visible, digits_some, words_visible, words_some}
-use Rattle.wb_lines.proofs.StandingLines.{standing, all_bytes, Stands, AreLines, reads, lines_again}
+use Rattle.wb_lines.proofs.StandingLines.{all_bytes, Stands, AreLines, reads, lines_again}
 use Rattle.wb_filters.proofs.InputText.{content_ending, SameEnd, same_end}
 
 -- ---- a line and what it becomes

@@ -1,5 +1,5 @@
 -- Two hosts that differ in the order of what they hold, at most: each line prints the same there, and leads to two such hosts.
-use Rattle.std.proofs.Common.{◌≡◌, ℕ, Bool, true, false, cond, List, [], ◌∷◌, length, Option, refl, sym, ap, ◌∙◌, filter, map, nat_lt, ◌||◌, filter_map}
+use Rattle.std.proofs.Common.{◌≡◌, ℕ, Bool, true, false, cond, List, [], ◌∷◌, length, Option, refl, sym, ap, ap₂, ◌∙◌, filter, map, nat_lt, filter_map}
 use Rattle.wb_names.specs.Values.{NameValue, DrawopValue, MarkValue}
 use Rattle.wb_names.specs.declared.name.PageId.{PageId}
 use Rattle.wb_names.specs.declared.gap.Gap.{Gap}
@@ -9,107 +9,111 @@ use Rattle.wb_gaps.specs.declared.page_reports.PageReport.{PageReport}
 use Rattle.wb_recovery.specs.declared.plan.Action.{Action}
 use Rattle.wb_recovery.specs.Events.{asking, actions_of, timers_of, names_of as timer_names}
 use Rattle.wb_recovery.specs.Stopping.{receipts}
-use Rattle.wb_host.specs.Keeper.{Hear, Miss, GoOn, is_own, delay_to, received_of}
-use Rattle.wb_host.specs.Hearing.{marks_heard, has_room, asks_for_held, asks_for_pages, answers_to}
+use Rattle.wb_host.specs.Keeper.{KeeperCall, Hear, Miss, GoOn, delay_to, received_of, holds}
+use Rattle.wb_host.specs.Hearing.{marks_heard, asks_for_held, asks_for_pages, answers_to}
 use Rattle.wb_host.specs.Sessions.{echoes_of}
 use Rattle.wb_host.specs.Missing.{wanted, names_in_gaps}
-use Rattle.wb_host.specs.Ticks.{sends_for}
-use Rattle.wb_script.specs.declared.fault.LineFault.TheVariants as faults
-use Rattle.wb_script.specs.declared.command.Command.{Command}
-use Rattle.wb_script.specs.declared.command.Command.TheVariants.{Hear as HearLine, Tick, Look, Session, Show, Gaps, Report, Pages}
-use Rattle.wb_script.specs.declared.query.Query.{Query}
-use Rattle.wb_script.specs.declared.query.Query.TheVariants as queries
-use Rattle.wb_script.specs.Hosts.{Opened, present, calling, Act, does, fails, events, due_count, stopped, sent_by, ticked, wanted_of, looked, words_for, word_at, heard, asked, reported, act}
-use Rattle.wb_script.specs.Random.{words_of}
-use Rattle.wb_script.specs.SentLines.{sends_text, look_line}
-use Rattle.wb_script.proofs.AlikeHistories.{AreAlike, holds_alike, sent_alike, asks_alike, gaps_alike, report_alike, reports_alike, answer_alike}
+use Rattle.wb_commands.specs.declared.fault.LineFault.TheVariants as faults
+use Rattle.wb_commands.specs.declared.command.Command.{Command}
+use Rattle.wb_commands.specs.declared.command.Command.TheVariants.{Hear as HearLine, Tick, Look, Session, Show, Gaps, Report, Pages}
+use Rattle.wb_commands.specs.declared.query.Query.{Query}
+use Rattle.wb_commands.specs.declared.query.Query.TheVariants as queries
+use Rattle.wb_member.specs.Members.{calling as told}
+use Rattle.wb_member.specs.Opened.{Opened, present, board_of, events, due_count, sent_by, wanted_of, has_room_for, words_for, word_at}
+use Rattle.wb_commands.specs.Acts.{Act, does, fails, asked, act}
+use Rattle.wb_member.specs.Random.{words_of, after_words}
+use Rattle.wb_commands.specs.SentLines.{sends_text, look_line}
+use Rattle.wb_script.proofs.AlikeHistories.{same_holds, same_sent, same_asks, same_gaps, same_report, same_reports, same_answer}
+use Rattle.wb_script.proofs.FreeArrivals.{AreAlike}
 
 -- a host that holds these in place of what it held
 abbrev pub holding : Opened → List DrawopValue → Opened
-holding host drawops = record { me = host.me; constants = host.constants; board = record { cells = host.board.cells; drawops = drawops }; calls = host.calls; random = host.random }
+holding host drawops = record { is = record host.is { held = drawops }; random = host.random }
 
 -- They print the same and leave their boards; but for the order of what is held, they lead to the same host.
 abbrev pub DoAlike : Opened → List DrawopValue → Act → Act → Type 0
-DoAlike host drawops (does next text) (does next' text') = (next.board ≡ host.board) × (next' ≡ holding next drawops) × (text ≡ text')
+DoAlike host drawops (does next text) (does next' text') = (board_of next ≡ board_of host) × (next' ≡ holding next drawops) × (text ≡ text')
 DoAlike host drawops (fails e) (fails e') = e ≡ e'
 DoAlike host drawops one other = ⊥
 
--- ---- as time goes on
+-- once the keeper accepted a call, for which so many random words were taken
+abbrev calling : KeeperCall → ℕ → Opened → Opened
+calling call words host = record { is = told call host.is; random = after_words host.random words }
 
-stopped_alike : (host : Opened) (drawops : List DrawopValue) → AreAlike host.board.drawops drawops → stopped host ≡ stopped (holding host drawops)
-stopped_alike host drawops a = ap (λ (held : NameValue → Bool). filter held (asking (timer_names (events host)) (timers_of host.constants (events host)))) (holds_alike host.board.drawops drawops a)
+module _ (host : Opened) (drawops : List DrawopValue) (a : AreAlike host.is.held drawops) where
+  abbrev other : Opened
+  other = holding host drawops
 
--- what is done as time goes on, where these names are held
-abbrev actions_by : ℕ → Opened → List NameValue → List Action
-actions_by now host names = actions_of host.constants (receipts now (events host) (received_of (delay_to host.me host.calls) names)) now
+  by_test : (b : Bool) (x x' y y' : Act) → DoAlike host drawops x x' → DoAlike host drawops y y' → DoAlike host drawops (cond b x y) (cond b x' y')
+  by_test true x x' y y' p q = p
+  by_test false x x' y y' p q = q
 
-sent_by_alike : (now : ℕ) (host : Opened) (drawops : List DrawopValue) → AreAlike host.board.drawops drawops → sent_by now host ≡ sent_by now (holding host drawops)
-sent_by_alike now host drawops a =
-    ap (λ (sends : Action → Option Datagram). filter_map sends (actions_by now host (stopped host))) (sent_alike host.me host.board.drawops drawops a)
-    ∙ ap (λ (names : List NameValue). sends_for host.me drawops (actions_by now host names)) (stopped_alike host drawops a)
+  -- a call of the keeper, which each may have told something else of what it holds
+  calls_alike : (call call' : KeeperCall) (words : ℕ) (text text' : List ℕ) → call ≡ call' → text ≡ text' → DoAlike host drawops (does (calling call words host) text) (does (calling call' words other) text')
+  calls_alike call call' words text text' same printed = (refl, ap (λ (c : KeeperCall). calling c words other) (sym same), printed)
 
-ticks_alike : (now : ℕ) (host : Opened) (drawops : List DrawopValue) → AreAlike host.board.drawops drawops → DoAlike host drawops (ticked now host) (ticked now (holding host drawops))
-ticks_alike now host drawops a = at (nat_lt now (present host)) where
-  at : (early : Bool) → DoAlike host drawops
-      (cond early (fails faults.BackInTime) (does (calling (GoOn now (words_of host.random (due_count now host)) (stopped host)) (due_count now host) host) (sends_text (sent_by now host))))
-      (cond early (fails faults.BackInTime) (does (calling (GoOn now (words_of host.random (due_count now host)) (stopped (holding host drawops))) (due_count now host) (holding host drawops)) (sends_text (sent_by now (holding host drawops)))))
-  at true = refl
-  at false = (
+  asks : (query : Query) → DoAlike host drawops (asked query host) (asked query other)
+  asks query = (refl, refl, same_answer host.is.held drawops a (marks_heard host.is.number host.is.calls) query)
+
+  -- ---- as time goes on
+
+  abbrev stopping : (NameValue → Bool) → List NameValue
+  stopping held = filter held (asking (timer_names (events host)) (timers_of host.is.constants (events host)))
+
+  abbrev sent_with : (Action → Option Datagram) → (NameValue → Bool) → ℕ → List Datagram
+  sent_with sends held now = filter_map sends (actions_of host.is.constants (receipts now (events host) (received_of (delay_to host.is.number host.is.calls) (stopping held))) now)
+
+  abbrev ticking : ℕ → (NameValue → Bool) → KeeperCall
+  ticking now held = GoOn now (words_of host.random (due_count now host)) (stopping held)
+
+  ticks : (now : ℕ) → DoAlike host drawops (act (Tick now) host) (act (Tick now) other)
+  ticks now =
+      let held = same_holds host.is.held drawops a in
+      by_test (nat_lt now (present host)) (fails faults.BackInTime) (fails faults.BackInTime)
+      (does (calling (ticking now (holds host.is.held)) (due_count now host) host) (sends_text (sent_by now host))) (does (calling (ticking now (holds drawops)) (due_count now host) other) (sends_text (sent_by now other))) refl
+      (calls_alike (ticking now (holds host.is.held)) (ticking now (holds drawops)) (due_count now host) (sends_text (sent_by now host)) (sends_text (sent_by now other)) (ap (ticking now) held)
+      (ap₂ (λ (sends : Action → Option Datagram) (held : NameValue → Bool). sends_text (sent_with sends held now)) (same_sent host.is.held drawops a host.is.number) held))
+
+  -- ---- a look at a page
+
+  looks : (page : PageId) → DoAlike host drawops (act (Look page) host) (act (Look page) other)
+  looks page =
+      let wants : wanted_of page host ≡ wanted_of page other =
+      ap (λ (gaps : List Gap). wanted (timers_of host.is.constants (events host)) (length (asking (timer_names (events host)) (timers_of host.is.constants (events host)))) (names_in_gaps page gaps))
+      (same_gaps host.is.held drawops a page (marks_heard host.is.number host.is.calls page)) in (
+        refl,
+        ap (λ (names : List NameValue). calling (Miss (present host) names (words_of host.random (length names))) (length names) other) (sym wants),
+        ap (λ (names : List NameValue). look_line (length names)) wants,
+      )
+
+  -- ---- what is heard
+
+  hears : (v : Datagram) → DoAlike host drawops (act (HearLine v) host) (act (HearLine v) other)
+  hears v =
+      let hear : Bool → KeeperCall = λ held. Hear (present host) v (word_at v host.random) held in
+      let sent : List PageReport → List Datagram = λ reports. cond (asks_for_pages host.is.number v) (map (λ r. PageState host.is.number r.page r.marks) reports) [] in
+      by_test (has_room_for v host) (does (calling (hear (asks_for_held host.is.held v)) (words_for v) host) (sends_text (answers_to host.is.number host.is.held v))) (does (calling (hear (asks_for_held drawops v)) (words_for v) other) (sends_text (answers_to host.is.number drawops v)))
+      (fails faults.TooMany) (fails faults.TooMany)
+      (calls_alike (hear (asks_for_held host.is.held v)) (hear (asks_for_held drawops v)) (words_for v) (sends_text (answers_to host.is.number host.is.held v)) (sends_text (answers_to host.is.number drawops v))
+      (ap hear (same_asks host.is.held drawops a v)) (ap (λ (reports : List PageReport). sends_text (sent reports)) (same_reports host.is.held drawops a)))
+      refl
+
+  -- ---- each line
+
+  session : (page : PageId) → DoAlike host drawops (act (Session page) host) (act (Session page) other)
+  session page = (
     refl,
-    ap (λ (names : List NameValue). calling (GoOn now (words_of host.random (due_count now host)) names) (due_count now host) (holding host drawops)) (sym (stopped_alike host drawops a)),
-    ap (λ (sent : List Datagram). sends_text sent) (sent_by_alike now host drawops a),
+    refl,
+    ap (λ (marks : List MarkValue). sends_text (SessionMessage host.is.number (present host) page marks (echoes_of host.is.number host.is.calls (present host)) ∷ [])) (same_report host.is.held drawops a page),
   )
 
--- ---- a look at a page
-
-wanted_alike : (page : PageId) (host : Opened) (drawops : List DrawopValue) → AreAlike host.board.drawops drawops → wanted_of page host ≡ wanted_of page (holding host drawops)
-wanted_alike page host drawops a =
-    ap (λ (gaps : List Gap). wanted (timers_of host.constants (events host)) (length (asking (timer_names (events host)) (timers_of host.constants (events host)))) (names_in_gaps page gaps))
-    (gaps_alike host.board.drawops drawops page (marks_heard host.me host.calls page) a)
-
-looks_alike : (page : PageId) (host : Opened) (drawops : List DrawopValue) → AreAlike host.board.drawops drawops → DoAlike host drawops (looked page host) (looked page (holding host drawops))
-looks_alike page host drawops a = (
-  refl,
-  ap (λ (names : List NameValue). calling (Miss (present host) names (words_of host.random (length names))) (length names) (holding host drawops)) (sym (wanted_alike page host drawops a)),
-  ap (λ (names : List NameValue). look_line (length names)) (wanted_alike page host drawops a),
-)
-
--- ---- what is heard
-
-answers_alike : (v : Datagram) (host : Opened) (drawops : List DrawopValue) → AreAlike host.board.drawops drawops → answers_to host.me host.board.drawops v ≡ answers_to host.me drawops v
-answers_alike v host drawops a = ap (λ (reports : List PageReport). cond (asks_for_pages host.me v) (map (λ r. PageState host.me r.page r.marks) reports) []) (reports_alike host.board.drawops drawops a)
-
-hears_alike : (v : Datagram) (host : Opened) (drawops : List DrawopValue) → AreAlike host.board.drawops drawops → DoAlike host drawops (heard v host) (heard v (holding host drawops))
-hears_alike v host drawops a = at (is_own host.me v || has_room (marks_heard host.me host.calls) v) where
-  at : (room : Bool) → DoAlike host drawops
-      (cond room (does (calling (Hear (present host) v (word_at v host.random) (asks_for_held host.board.drawops v)) (words_for v) host) (sends_text (answers_to host.me host.board.drawops v))) (fails faults.TooMany))
-      (cond room (does (calling (Hear (present host) v (word_at v host.random) (asks_for_held drawops v)) (words_for v) (holding host drawops)) (sends_text (answers_to host.me drawops v))) (fails faults.TooMany))
-  at true = (
-    refl,
-    ap (λ (held : Bool). calling (Hear (present host) v (word_at v host.random) held) (words_for v) (holding host drawops)) (sym (asks_alike host.board.drawops drawops v a)),
-    ap (λ (sent : List Datagram). sends_text sent) (answers_alike v host drawops a),
-  )
-  at false = refl
-
--- ---- each line
-
-asked_alike : (query : Query) (host : Opened) (drawops : List DrawopValue) → AreAlike host.board.drawops drawops → DoAlike host drawops (asked query host) (asked query (holding host drawops))
-asked_alike query host drawops a = (refl, refl, answer_alike (marks_heard host.me host.calls) host.board.drawops drawops query a)
-
-session_alike : (page : PageId) (host : Opened) (drawops : List DrawopValue) → AreAlike host.board.drawops drawops → DoAlike host drawops (reported page host) (reported page (holding host drawops))
-session_alike page host drawops a = (
-  refl,
-  refl,
-  ap (λ (marks : List MarkValue). sends_text (SessionMessage host.me (present host) page marks (echoes_of host.me host.calls (present host)) ∷ [])) (report_alike host.board.drawops drawops page a),
-)
-
-pub act_alike : (line : Command) (host : Opened) (drawops : List DrawopValue) → AreAlike host.board.drawops drawops → DoAlike host drawops (act line host) (act line (holding host drawops))
-act_alike (Show page width height) host drawops a = asked_alike (queries.Canvas page width height) host drawops a
-act_alike (Gaps page) host drawops a = asked_alike (queries.Gaps page) host drawops a
-act_alike (Report page) host drawops a = asked_alike (queries.Report page) host drawops a
-act_alike Pages host drawops a = asked_alike queries.Pages host drawops a
-act_alike (HearLine v) host drawops a = hears_alike v host drawops a
-act_alike (Tick moment) host drawops a = ticks_alike moment host drawops a
-act_alike (Look page) host drawops a = looks_alike page host drawops a
-act_alike (Session page) host drawops a = session_alike page host drawops a
-act_alike line host drawops a = (refl, refl, refl)
+  pub act_alike : (line : Command) → DoAlike host drawops (act line host) (act line other)
+  act_alike (Show page width height) = asks (queries.Canvas page width height)
+  act_alike (Gaps page) = asks (queries.Gaps page)
+  act_alike (Report page) = asks (queries.Report page)
+  act_alike Pages = asks queries.Pages
+  act_alike (HearLine v) = hears v
+  act_alike (Tick moment) = ticks moment
+  act_alike (Look page) = looks page
+  act_alike (Session page) = session page
+  act_alike line = (refl, refl, refl)

@@ -3,31 +3,22 @@ use Rattle.std.proofs.Common.{◌≡◌, ℕ, List, [], ◌∷◌, ◌++◌, Res
 use Rattle.std.proofs.lemmas.List.Elements.{Contains-push_cases}
 use Rattle.std.proofs.lemmas.List.Sorted.{IsPermutation-refl, length_permutation}
 use Rattle.wb_names.specs.Values.{DrawopValue}
-use Rattle.wb_names.specs.Arrivals.{history_after}
-use Rattle.wb_names.proofs.Listings.{Contains-here, Contains-none}
+use Rattle.wb_names.proofs.Listings.{Contains-here}
 use Rattle.wb_script.specs.declared.fault.RunFault.{RunFault}
 use Rattle.wb_script.specs.declared.running.Summary.{Summary}
-use Rattle.wb_script.specs.declared.command.Command.{Command}
-use Rattle.wb_script.specs.Board.{Held}
-use Rattle.wb_script.specs.Hosts.{Opened, opened, host_after, batch_text, Act, does, fails, act}
+use Rattle.wb_commands.specs.declared.command.Command.{Command}
+use Rattle.wb_member.specs.Board.{Held}
+use Rattle.wb_member.specs.Opened.{Opened, board_of}
+use Rattle.wb_script.specs.Hosts.{opened, taken, batch_text}
+use Rattle.wb_commands.specs.Acts.{Act, does, fails, act}
 use Rattle.wb_script.specs.Laws.{NoneClash, HasCells}
 use Rattle.wb_script.specs.Script.{State, after_batch, Closing, Opens, Acts, Faulty, Part, Arrival, Nothing, End, Step, goes, refused, step_by, closing_step, part_step, prints, answer, finish}
 use Rattle.wb_script.specs.Shows.{arrived_by, cells_by}
-use Rattle.wb_script.proofs.AlikeActs.{holding, DoAlike, act_alike}
-use Rattle.wb_script.proofs.AlikeBatches.{after_alike, after_within, host_after_alike, batch_text_alike}
-use Rattle.wb_script.proofs.AlikeHistories.{AreAlike}
-use Rattle.wb_script.proofs.FreeArrivals.{Among, no_history}
+use Rattle.wb_script.proofs.AlikeActs.{DoAlike, act_alike}
+use Rattle.wb_script.proofs.AlikeBatches.{HostsAlike, hosts_alike, batch_taken, same_text}
+use Rattle.wb_script.proofs.FreeArrivals.{AreAlike, no_history, none_among}
+use Rattle.wb_script.proofs.Members.{Among}
 use Rattle.wb_script.proofs.ReorderedLines.{state}
-
-pub none_among : (all : List DrawopValue) → Among [] all
-none_among all x c = absurd (Contains-none x c)
-
--- They differ in the order of what is held, at most. The board has so many cells, and what it holds is among these arrivals.
-pub record HostsAlike (cells : ℕ) (all : List DrawopValue) (one other : Opened) : Type 0 where
-  pub same : other ≡ holding one other.board.drawops
-  pub held : AreAlike one.board.drawops other.board.drawops
-  pub cells_are : one.board.cells ≡ cells
-  pub within : Among one.board.drawops all
 
 abbrev pub MayBeAlike : ℕ → List DrawopValue → Option Opened → Option Opened → Type 0
 MayBeAlike cells all None None = Unit {0}
@@ -53,14 +44,10 @@ StepsAlike cells all later one other = ⊥
 -- ---- a line at a host
 
 module _ (cells : ℕ) (all : List DrawopValue) (clash : NoneClash all) (room : HasCells cells all) where
-  -- by what is held in the one
-  hosts_alike : (one other : Opened) (drawops : List DrawopValue) → other ≡ holding one drawops → AreAlike one.board.drawops drawops → one.board.cells ≡ cells → Among one.board.drawops all → HostsAlike cells all one other
-  hosts_alike one other drawops same held is within = subst (HostsAlike cells all one) (sym same) (record { same = refl; held = held; cells_are = is; within = within })
-
-  act_done : (later : ℕ) (k j : Option ℕ) (text text' : List ℕ) (one other : Opened) (a b : Act) → HostsAlike cells all one other → text ≡ text' → DoAlike one other.board.drawops a b → StepsAlike cells all later (step_by k text a one) (step_by j text' b other)
+  act_done : (later : ℕ) (k j : Option ℕ) (text text' : List ℕ) (one other : Opened) (a b : Act) → HostsAlike cells all one other → text ≡ text' → DoAlike one other.is.held a b → StepsAlike cells all later (step_by k text a one) (step_by j text' b other)
   act_done later k j text text' one other (does next printed) (does next' printed') h same d = (
     record {
-      hosts = hosts_alike next next' other.board.drawops d.1 (subst (λ (b : Held). AreAlike b.drawops other.board.drawops) (sym d.0) h.held) (ap (λ (b : Held). b.cells) d.0 ∙ h.cells_are) (subst (λ (b : Held). Among b.drawops all) (sym d.0) h.within);
+      hosts = hosts_alike cells all next next' other.is.held d.1 (subst (λ (b : Held). AreAlike b.drawops other.is.held) (sym d.0) h.held) (ap (λ (b : Held). b.cells) d.0 ∙ h.cells_are) (subst (λ (b : Held). Among b.drawops all) (sym d.0) h.within);
       waiting = refl;
       within = none_among all;
     },
@@ -73,27 +60,16 @@ module _ (cells : ℕ) (all : List DrawopValue) (clash : NoneClash all) (room : 
   line_done : (later : ℕ) (k j : Option ℕ) (text text' : List ℕ) (line : Command) (one other : Opened) → HostsAlike cells all one other → text ≡ text' → StepsAlike cells all later (step_by k text (act line one) one) (step_by j text' (act line other) other)
   line_done later k j text text' line one other h same =
       act_done later k j text text' one other (act line one) (act line other) h same
-      (subst (λ (o : Opened). DoAlike one other.board.drawops (act line one) (act line o)) (sym h.same) (act_alike line one other.board.drawops h.held))
+      (subst (λ (o : Opened). DoAlike one other.is.held (act line one) (act line o)) (sym h.same) (act_alike one other.is.held h.held line))
 
   -- ---- the end of a batch
 
-  -- the board that is open has cells for all
-  room_at : (host : Opened) → host.board.cells ≡ cells → HasCells host.board.cells all
-  room_at host is = subst (λ (n : ℕ). HasCells n all) (sym is) room
+  batch_ended : (one other : Opened) (order order' : List DrawopValue) → HostsAlike cells all one other → Among order all → IsPermutation order order' → HostsAlike cells all (taken order one) (taken order' other)
+  batch_ended one other order order' h here moved =
+      subst (λ (o : Opened). HostsAlike cells all (taken order one) (taken order' o)) (sym h.same) (batch_taken cells all clash room one other.is.held h.held h.cells_are h.within order order' here moved)
 
-  batch_ended : (one other : Opened) (waiting order order' : List DrawopValue) → HostsAlike cells all one other → Among order all → IsPermutation order order' → HostsAlike cells all (host_after one waiting order) (host_after other waiting order')
-  batch_ended one other waiting order order' h here moved =
-      let b : Held = one.board in
-      let drawops : List DrawopValue = other.board.drawops in
-      let space = room_at one h.cells_are in
-      hosts_alike (host_after one waiting order) (host_after other waiting order') (history_after b.cells drawops order')
-      (ap (λ (o : Opened). host_after o waiting order') h.same ∙ host_after_alike all clash one space drawops h.held h.within waiting order order' here moved)
-      (after_alike b.cells all clash space b.drawops drawops order order' h.held h.within here moved) h.cells_are
-      (after_within b.cells all clash space b.drawops drawops order order' h.held h.within here moved)
-
-  same_text : (one other : Opened) (order order' : List DrawopValue) → HostsAlike cells all one other → Among order all → IsPermutation order order' → batch_text one.board order ≡ batch_text other.board order'
-  same_text one other order order' h here moved =
-      batch_text_alike all clash one (room_at one h.cells_are) other.board.drawops h.held h.within order order' here moved ∙ ap (λ (o : Opened). batch_text o.board order') (sym h.same)
+  texts_alike : (one other : Opened) (order order' : List DrawopValue) → HostsAlike cells all one other → Among order all → IsPermutation order order' → batch_text (board_of one) order ≡ batch_text (board_of other) order'
+  texts_alike one other order order' h here moved = same_text cells all clash room one other.is.held h.held h.cells_are h.within order order' here moved ∙ ap (λ (o : Opened). batch_text (board_of o) order') (sym h.same)
 
   -- ---- a line at a state
 
@@ -103,7 +79,7 @@ module _ (cells : ℕ) (all : List DrawopValue) (clash : NoneClash all) (room : 
   closes_alike : (later : ℕ) (k j : Option ℕ) (one other : Option Opened) (text text' : List ℕ) (c : Closing) → MayBeAlike cells all one other → AreCells cells one (cells_by (End c) later) → text ≡ text'
       → StepsAlike cells all later (closing_step (state k one []) text c) (closing_step (state j other []) text' c)
   closes_alike later k j None None text text' (Opens member cells' workers seed) h opens same =
-      (record { hosts = hosts_alike (opened member cells' seed) (opened member cells' seed) [] refl nothing_held opens (none_among all); waiting = refl; within = none_among all }, tt, same)
+      (record { hosts = hosts_alike cells all (opened member cells' seed) (opened member cells' seed) [] refl nothing_held opens (none_among all); waiting = refl; within = none_among all }, tt, same)
   closes_alike later k j None None text text' (Acts line) h opens same = (record { hosts = tt; waiting = refl; within = none_among all }, same, refl)
   closes_alike later k j (Some one) (Some other) text text' (Acts line) h opens same = line_done later k j text text' line one other h same
   closes_alike later k j None None text text' (Faulty e) h opens same = (record { hosts = tt; waiting = refl; within = none_among all }, same, refl)
@@ -130,8 +106,8 @@ module _ (cells : ℕ) (all : List DrawopValue) (clash : NoneClash all) (room : 
       → StepsAlike cells all later (part_step (state k one waiting) order (End c)) (part_step (state j other waiting) order' (End c))
   ended_alike later k j None None waiting order order' c h opens here moved = closes_alike later k j None None [] [] c tt opens refl
   ended_alike later k j (Some one) (Some other) waiting order order' c h opens here moved =
-      closes_alike later k j (Some (host_after one waiting order)) (Some (host_after other waiting order')) (batch_text one.board order) (batch_text other.board order') c
-      (batch_ended one other waiting order order' h here moved) tt (same_text one other order order' h here moved)
+      closes_alike later k j (Some (taken order one)) (Some (taken order' other)) (batch_text (board_of one) order) (batch_text (board_of other) order') c
+      (batch_ended one other order order' h here moved) tt (texts_alike one other order order' h here moved)
   ended_alike later k j one other waiting order order' c h opens here moved = absurd h
 
   pub part_alike : (later : ℕ) (k j : Option ℕ) (one other : Option Opened) (waiting order order' : List DrawopValue) (part : Part) → MayBeAlike cells all one other → AreCells cells one (cells_by part later)
@@ -144,11 +120,11 @@ module _ (cells : ℕ) (all : List DrawopValue) (clash : NoneClash all) (room : 
 
   pub ends_alike : (k j : Option ℕ) (one other : Option Opened) (waiting order order' : List DrawopValue) (ending : Result ℕ RunFault) → MayBeAlike cells all one other → Among order all → IsPermutation order order'
       → finish (state k one waiting) order ending ≡ finish (state j other waiting) order' ending
-  ends_alike k j (Some one) (Some other) waiting order order' (Err e) h here moved = ap (λ (text : List ℕ). prints text (Err e)) (same_text one other order order' h here moved)
+  ends_alike k j (Some one) (Some other) waiting order order' (Err e) h here moved = ap (λ (text : List ℕ). prints text (Err e)) (texts_alike one other order order' h here moved)
   ends_alike k j (Some one) (Some other) waiting order order' (Ok n) h here moved =
-      let ended : HostsAlike cells all (host_after one waiting order) (host_after other waiting order') = batch_ended one other waiting order order' h here moved in
-      ap (λ (text : List ℕ). prints text (answer (after_batch (state k (Some one) waiting) order) (Ok n))) (same_text one other order order' h here moved)
-      ∙ ap (λ (held : ℕ). let sum : Summary = record { lines = n; held = held } in prints (batch_text other.board order') (Ok sum)) (sym (length_permutation (host_after one waiting order).board.drawops (host_after other waiting order').board.drawops ended.held.moved))
+      let ended : HostsAlike cells all (taken order one) (taken order' other) = batch_ended one other order order' h here moved in
+      ap (λ (text : List ℕ). prints text (answer (after_batch (state k (Some one) waiting) order) (Ok n))) (texts_alike one other order order' h here moved)
+      ∙ ap (λ (held : ℕ). let sum : Summary = record { lines = n; held = held } in prints (batch_text (board_of other) order') (Ok sum)) (sym (length_permutation (taken order one).is.held (taken order' other).is.held ended.held.moved))
   ends_alike k j None (Some other) waiting order order' ending h here moved = absurd h
   ends_alike k j (Some one) None waiting order order' ending h here moved = absurd h
   ends_alike k j None None waiting order order' ending h here moved = refl

@@ -1,15 +1,16 @@
 -- Where no arrivals clash and there are cells for all names, every order of the workers has the outcome of one thread.
 use Rattle.std.proofs.Common.{◌≡◌, ℕ, ◌+◌, Bool, List, refl, sym, subst, ◌∙◌, IsPermutation}
 use Rattle.std.proofs.lemmas.List.Elements.{Contains-append_left, Contains-append_right}
-use Rattle.std.proofs.lemmas.List.Sorted.{IsPermutation-sym, Contains-permutation}
+use Rattle.std.proofs.lemmas.List.Sorted.{IsPermutation-sym}
 use Rattle.wb_names.specs.Values.{DrawopValue}
 use Rattle.wb_script.specs.FreeWorkers.{OrdersAreFree, WorkersAreFree}
 use Rattle.wb_script.specs.Laws.{NoneClash, HasCells}
 use Rattle.wb_lines.specs.Input.{InputLine, input_lines}
 use Rattle.wb_script.specs.Script.{State, start, Part, part_in, Step, goes, refused, part_step, finish}
 use Rattle.wb_script.specs.Shows.{arrived_by, arrivals_of, cells_of}
-use Rattle.wb_script.proofs.AlikeLines.{none_among, AreCells, StatesAlike, StepsAlike as LinesAlike, part_alike, ends_alike}
-use Rattle.wb_script.proofs.FreeArrivals.{Among}
+use Rattle.wb_script.proofs.AlikeLines.{AreCells, StatesAlike, StepsAlike as LinesAlike, part_alike, ends_alike}
+use Rattle.wb_script.proofs.FreeArrivals.{none_among}
+use Rattle.wb_script.proofs.Members.{Among, rearranged}
 use Rattle.wb_script.proofs.OneWorker.{one_thread_is_free}
 use Rattle.wb_script.proofs.ReorderedLines.{state}
 use Rattle.wb_script.proofs.Simulations.{EndsAlike, StepsAlike, Simulates, simulated}
@@ -17,7 +18,7 @@ use Rattle.wb_script.proofs.Simulations.{EndsAlike, StepsAlike, Simulates, simul
 module _ (cells : ℕ) (all : List DrawopValue) (clash : NoneClash all) (room : HasCells cells all) where
   -- an order of what waits, and what waits as it came
   order_within : (s : State) (order : List DrawopValue) → Among s.waiting all → IsPermutation s.waiting order → Among order all
-  order_within s order within moved x c = within x (Contains-permutation order s.waiting x (IsPermutation-sym s.waiting order moved) c)
+  order_within s order within moved x c = within x (rearranged s.waiting order moved x c)
 
   ends_within : (s t : State) → StatesAlike cells all s t → EndsAlike s t
   ends_within s t a = λ order may ending.

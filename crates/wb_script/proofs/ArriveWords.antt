@@ -11,11 +11,11 @@ use Rattle.wb_lines.proofs.StandingLines.{stripped}
 use Rattle.wb_codec.specs.declared.datagram.Datagram.{Datagram}
 use Rattle.wb_codec.specs.declared.datagram.Datagram.TheVariants as datagrams
 use Rattle.wb_codec.specs.Reading.{reading}
-use Rattle.wb_script.specs.declared.fault.LineFault.{LineFault}
-use Rattle.wb_script.specs.declared.fault.LineFault.TheVariants as faults
-use Rattle.wb_script.specs.declared.command.Command.{Command}
-use Rattle.wb_script.specs.declared.command.Command.TheVariants.{Arrive, Skip, Board, Distance, Tick, Look, Session, Show, Gaps, Report, Pages}
-use Rattle.wb_script.specs.Parsing.{◌>>=◌, or_fault, number, none_of, one_of, two_of, four_of, page, spelled, datagram, board, arrived, heard, arrive, hear, show, distance, tick, pages, page_line, command, begins_comment, line_of_words, line_of}
+use Rattle.wb_commands.specs.declared.fault.LineFault.{LineFault}
+use Rattle.wb_commands.specs.declared.fault.LineFault.TheVariants as faults
+use Rattle.wb_commands.specs.declared.command.Command.{Command}
+use Rattle.wb_commands.specs.declared.command.Command.TheVariants.{Arrive, Skip, Board, Distance, Tick, Look, Session, Show, Gaps, Report, Pages}
+use Rattle.wb_commands.specs.Parsing.{◌>>=◌, or_fault, number, none_of, one_of, two_of, four_of, page, spelled, datagram, board, arrived, heard, arrive, hear, show, distance, tick, pages, page_line, command, begins_comment, line_of_words, line_of}
 use Rattle.wb_script.specs.Script.{Arrival, part_of}
 
 -- ---- the words of a line that ends so

@@ -7,7 +7,7 @@ use Rattle.wb_lines.specs.Input.{InputLine, input_lines}
 use Rattle.wb_lines.specs.Handling.{Step, goes, stops, ends}
 use Rattle.wb_lines.specs.Taking.{met, is_taken, is_passed}
 use Rattle.wb_lines.specs.Driving.{Outcome, writes, rules_of, before, stop, proceed, outcome_from, outcome, IsStopped, Meets}
-use Rattle.wb_script.specs.declared.fault.LineFault.{LineFault}
+use Rattle.wb_commands.specs.declared.fault.LineFault.{LineFault}
 use Rattle.wb_script.specs.declared.fault.RunFault.{RunFault}
 use Rattle.wb_script.specs.declared.fault.RunFault.TheVariants as run_faults
 use Rattle.wb_script.specs.Script.{most_lines}

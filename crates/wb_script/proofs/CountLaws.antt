@@ -8,10 +8,10 @@ use Rattle.wb_lines.specs.Handling.{Met, whole, too_long, Step, ends}
 use Rattle.wb_lines.specs.Taking.{most_passed}
 use Rattle.wb_lines.specs.Driving.{Outcome, writes, rules_of, before, stop, proceed, outcome_from}
 use Rattle.wb_lines.proofs.Outcomes.{few_lines, short_line, passed_line}
-use Rattle.wb_script.specs.declared.fault.LineFault.{LineFault}
+use Rattle.wb_commands.specs.declared.fault.LineFault.{LineFault}
 use Rattle.wb_script.specs.declared.fault.RunFault.{RunFault}
-use Rattle.wb_script.specs.declared.command.Command.{Command}
-use Rattle.wb_script.specs.Parsing.{line_of}
+use Rattle.wb_commands.specs.declared.command.Command.{Command}
+use Rattle.wb_commands.specs.Parsing.{line_of}
 use Rattle.wb_script.specs.Script.{most_lines}
 use Rattle.wb_script.specs.Checking.{parsed_step, check_step, answer_at_end, CountsLines}
 

@@ -3,19 +3,18 @@ use Rattle.std.proofs.Common.{◌≡◌, ℕ, ◌+◌, ◌≤◌, Bool, cond, Li
 use Rattle.std.proofs.lemmas.List.{map-append}
 use Rattle.std.proofs.lemmas.List.Sorted.{IsPermutation-refl, IsPermutation-map}
 use Rattle.wb_names.specs.Values.{DrawopValue}
-use Rattle.wb_host.specs.Keeper.{KeeperCall}
-use Rattle.wb_script.specs.declared.fault.LineFault.{LineFault}
-use Rattle.wb_script.specs.declared.fault.LineFault.TheVariants as faults
+use Rattle.wb_commands.specs.declared.fault.LineFault.{LineFault}
+use Rattle.wb_commands.specs.declared.fault.LineFault.TheVariants as faults
 use Rattle.wb_script.specs.declared.fault.RunFault.{RunFault}
 use Rattle.wb_script.specs.declared.fault.RunFault.TheVariants as run_faults
-use Rattle.wb_script.specs.Hosts.{Opened}
-use Rattle.wb_script.specs.Parsing.{line_of}
+use Rattle.wb_member.specs.Opened.{Opened}
+use Rattle.wb_commands.specs.Parsing.{line_of}
 use Rattle.wb_script.specs.Reordering.{part_unless, part_at, other_than, others_of, onto_batch, batches_with, batches_of, AreRearranged, EachReorderingIsOutcome}
 use Rattle.wb_lines.specs.Input.{InputLine, input_lines, content}
-use Rattle.wb_script.specs.Script.{State, MayBeTaken, Closing, Part, Arrival, Nothing, End, part_of, part_in, Step, refused, part_step, Outcome, before, finish, proceed, continue, outcome_from, Finishes, Proceeds, fault_at, Continues, IsOutcomeFrom}
+use Rattle.wb_script.specs.Script.{State, MayBeTaken, closing_text, after_batch, Closing, Part, Arrival, Nothing, End, part_of, part_in, Step, goes, refused, part_step, Outcome, before, finish, proceed, continue, outcome_from, Finishes, Proceeds, fault_at, Continues, IsOutcomeFrom}
 use Rattle.wb_script.proofs.Lifted.{lifted}
-use Rattle.wb_script.proofs.Simulations.{proceeds_back}
-use Rattle.wb_script.proofs.ReorderedLines.{onto_onto, Taken, drawops_in, no_fault, part_here, same_line, Arrives, arrived, first_same, others_same, line_course, alone, ToldAlike, state, finish_alike, AreBehind, closes_alike}
+use Rattle.wb_script.proofs.Outcomes.{finishes as finishes_now}
+use Rattle.wb_script.proofs.ReorderedLines.{onto_onto, Taken, drawops_in, no_fault, part_here, same_line, Arrives, arrived, first_same, others_same, line_course, alone, state, NoneWaits, none_waits}
 
 -- ---- arrivals, by their contents
 
@@ -45,10 +44,9 @@ Waits None ws vs = (ws ≡ []) × (vs ≡ [])
 Waits (Some host) ws vs = Unit {0}
 
 -- From one state on, the one has these arrivals behind it in the present batch, and the other those.
-record Beside (cut : Bool) (n : ℕ) (host : Option Opened) (waiting : List DrawopValue) (calls : List KeeperCall) (ws vs : List (Taken cut)) (lines reordered : List InputLine) : Type 0 where
+record Beside (cut : Bool) (n : ℕ) (host : Option Opened) (waiting : List DrawopValue) (ws vs : List (Taken cut)) (lines reordered : List InputLine) : Type 0 where
   waits : waiting ≡ drawops_in ws
   none : Waits host ws vs
-  alike : ToldAlike host calls
   others : others_of cut n reordered ≡ others_of cut n lines
   batches : AreRearranged (onto_batch (contents_in ws) (batches_of content cut n lines)) (onto_batch (contents_in vs) (batches_of content cut n reordered))
 
@@ -60,12 +58,12 @@ module _ (k : ℕ) (many : 2 ≤ k) (cut : Bool) where
   here host waiting = state (Some k) host waiting
 
   abbrev ComesOut : ℕ → List InputLine → Type 0
-  ComesOut n lines = (host : Option Opened) (waiting : List DrawopValue) (calls : List KeeperCall) (ws vs : List (Taken cut)) (reordered : List InputLine) → Beside cut n host waiting calls ws vs lines reordered
-      → IsOutcomeFrom cut n (here host waiting) lines (outcome_from cut n (alone (here host waiting) calls (drawops_in vs)) reordered)
+  ComesOut n lines = (host : Option Opened) (waiting : List DrawopValue) (ws vs : List (Taken cut)) (reordered : List InputLine) → Beside cut n host waiting ws vs lines reordered
+      → IsOutcomeFrom cut n (here host waiting) lines (outcome_from cut n (alone (here host waiting) (drawops_in vs)) reordered)
 
-  finishes : (host : Option Opened) (waiting order : List DrawopValue) (calls : List KeeperCall) (ending : Result ℕ RunFault) (o : Outcome) → IsPermutation waiting order
-      → o ≡ finish (alone (here host waiting) calls order) order ending → Finishes (here host waiting) ending o
-  finishes host waiting order calls ending o moved e = (order, may waiting order moved, e ∙ sym (finish_alike (Some k) host waiting order calls ending))
+  finishes : (host : Option Opened) (waiting order : List DrawopValue) (ending : Result ℕ RunFault) (o : Outcome) → IsPermutation waiting order
+      → o ≡ finish (alone (here host waiting) order) order ending → Finishes (here host waiting) ending o
+  finishes host waiting order ending o moved e = (order, may waiting order moved, e)
 
   -- the arrivals of a batch that ends here
   ended : (waiting : List DrawopValue) (ws vs : List (Taken cut)) (one other : List (List (List ℕ))) → waiting ≡ drawops_in ws → AreRearranged (onto_batch (contents_in ws) ([] ∷ one)) (onto_batch (contents_in vs) ([] ∷ other)) → IsPermutation waiting (drawops_in vs)
@@ -88,28 +86,37 @@ module _ (k : ℕ) (many : 2 ≤ k) (cut : Bool) where
     Rest t next = IsOutcomeFrom cut (n + 1) t lines next
 
     -- ---- a line that is refused before its batch has ended
-    refuses : (line' : InputLine) (part : Part) (e : LineFault) (host : Option Opened) (waiting order : List DrawopValue) (calls : List KeeperCall) (more : List InputLine) → fault_at cut n line' ≡ None → part_in line' ≡ part → IsPermutation waiting order
-        → part_step (alone (here host waiting) calls order) order part ≡ refused (alone (here host waiting) calls order) [] e
-        → Proceeds (n + 1) Rest (outcome_from cut n (alone (here host waiting) calls order) (line' ∷ more)) (refused (here host waiting) [] e)
-    refuses line' part e host waiting order calls more free is moved step =
-        let u : State = alone (here host waiting) calls order in
+    refuses : (line' : InputLine) (part : Part) (e : LineFault) (host : Option Opened) (waiting order : List DrawopValue) (more : List InputLine) → fault_at cut n line' ≡ None → part_in line' ≡ part → IsPermutation waiting order
+        → part_step (alone (here host waiting) order) order part ≡ refused (alone (here host waiting) order) [] e
+        → Proceeds (n + 1) Rest (outcome_from cut n (alone (here host waiting) order) (line' ∷ more)) (refused (here host waiting) [] e)
+    refuses line' part e host waiting order more free is moved step =
+        let u : State = alone (here host waiting) order in
         let end : Result ℕ RunFault = Err (run_faults.Line (n + 1) e) in (
           finish u order end,
-          finishes host waiting order calls end (finish u order end) moved refl,
+          finishes host waiting order end (finish u order end) moved refl,
           line_course cut n u line' more part free is ∙ ap (λ (step : Step). proceed (n + 1) step (λ t. outcome_from cut (n + 1) t more)) step,
         )
 
     -- ---- a line that ends its batch, which is taken in this order
-    closes : (c : Closing) (host : Option Opened) (waiting order : List DrawopValue) (calls : List KeeperCall) (more : List InputLine) → fault_at cut n line ≡ None → part_in line ≡ End c → IsPermutation waiting order → ToldAlike host calls
+    closes : (c : Closing) (host : Option Opened) (waiting order : List DrawopValue) (more : List InputLine) → fault_at cut n line ≡ None → part_in line ≡ End c → IsPermutation waiting order
         → others_of cut (n + 1) more ≡ others_of cut (n + 1) lines → AreRearranged (batches_of content cut (n + 1) lines) (batches_of content cut (n + 1) more)
-        → Proceeds (n + 1) Rest (outcome_from cut n (alone (here host waiting) calls order) (line ∷ more)) (part_step (here host waiting) order (End c))
-    closes c host waiting order calls more free is moved alike others batches =
+        → Proceeds (n + 1) Rest (outcome_from cut n (alone (here host waiting) order) (line ∷ more)) (part_step (here host waiting) order (End c))
+    closes c host waiting order more free is moved others batches =
         let step : Step = part_step (here host waiting) order (End c) in
-        let other : Step = part_step (alone (here host waiting) calls order) order (End c) in
-        subst (λ (o : Outcome). Proceeds (n + 1) Rest o step) (sym (line_course cut n (alone (here host waiting) calls order) line more (End c) free is))
-        (proceeds_back (n + 1) (AreBehind (λ w. w ≡ Some k)) Rest (λ t. outcome_from cut (n + 1) t more) step other (closes_alike (λ w. w ≡ Some k) c (Some k) host waiting order calls refl (λ w. refl) moved alike) follows) where
-          follows : (s t : State) → AreBehind (λ w. w ≡ Some k) s t → Rest s (outcome_from cut (n + 1) t more)
-          follows s t b = rw (b.is, b.workers, b.empty) (rest s.host [] b.calls [] [] more (record { waits = refl; none = nobody s.host; alike = b.alike; others = others; batches = none_onto (batches_of content cut (n + 1) lines) (batches_of content cut (n + 1) more) batches }))
+        subst (λ (o : Outcome). Proceeds (n + 1) Rest o step) (sym (line_course cut n (alone (here host waiting) order) line more (End c) free is))
+        (goes_on step (none_waits (λ w. w ≡ Some k) (Some k) (after_batch (here host waiting) order).host (closing_text (here host waiting) order) c refl (λ w. refl))) where
+          at_state : (t : State) → t.workers ≡ Some k → t.waiting ≡ [] → Rest (here t.host []) (outcome_from cut (n + 1) (here t.host []) more) → Rest t (outcome_from cut (n + 1) t more)
+          at_state t has none r =
+              subst (λ (w : Option ℕ). Rest (state w t.host t.waiting) (outcome_from cut (n + 1) (state w t.host t.waiting) more)) (sym has)
+              (subst (λ (l : List DrawopValue). Rest (here t.host l) (outcome_from cut (n + 1) (here t.host l) more)) (sym none) r)
+
+          goes_on : (step : Step) → NoneWaits (λ w. w ≡ Some k) step → Proceeds (n + 1) Rest (proceed (n + 1) step (λ t. outcome_from cut (n + 1) t more)) step
+          goes_on (goes t text) none = (
+            outcome_from cut (n + 1) t more,
+            at_state t none.0 none.1 (rest t.host [] [] [] more (record { waits = refl; none = nobody t.host; others = others; batches = none_onto (batches_of content cut (n + 1) lines) (batches_of content cut (n + 1) more) batches })),
+            refl,
+          )
+          goes_on (refused t text e) none = let end : Result ℕ RunFault = Err (run_faults.Line (n + 1) e) in (finish t t.waiting end, finishes_now t end, refl)
 
     -- ---- the line that stands there in the other script
     abbrev Here : Option RunFault → Option Opened → List DrawopValue → Outcome → Type 0
@@ -127,52 +134,51 @@ module _ (k : ℕ) (many : 2 ≤ k) (cut : Bool) where
     abbrev as_taken : (line : InputLine) → (a : Arrives cut n line) → Taken cut
     as_taken line a = let free = no_fault cut n line a.free in record { line = line; drawop = a.drawop; short = free.short; whole = free.whole; said = a.said }
 
-    arrives_in : (host : Opened) (waiting : List DrawopValue) (calls : List KeeperCall) (ws vs : List (Taken cut)) (line' : InputLine) (more : List InputLine) → Beside cut n (Some host) waiting calls ws vs (line ∷ lines) (line' ∷ more)
+    arrives_in : (host : Opened) (waiting : List DrawopValue) (ws vs : List (Taken cut)) (line' : InputLine) (more : List InputLine) → Beside cut n (Some host) waiting ws vs (line ∷ lines) (line' ∷ more)
         → others_of cut (n + 1) more ≡ others_of cut (n + 1) lines → Arrives cut n line → Arrives cut n line'
-        → Here None (Some host) waiting (outcome_from cut n (alone (here (Some host) waiting) calls (drawops_in vs)) (line' ∷ more))
-    arrives_in host waiting calls ws vs line' more b others a a' =
+        → Here None (Some host) waiting (outcome_from cut n (alone (here (Some host) waiting) (drawops_in vs)) (line' ∷ more))
+    arrives_in host waiting ws vs line' more b others a a' =
         let w : Taken cut = as_taken line a in
         let v : Taken cut = as_taken line' a' in
         let part : part_at cut n line ≡ Some (Arrival a.drawop) = part_here cut n line (Arrival a.drawop) a.free a.said in
         let part' : part_at cut n line' ≡ Some (Arrival a'.drawop) = part_here cut n line' (Arrival a'.drawop) a'.free a'.said in
-        let u : State = alone (here (Some host) waiting) calls (drawops_in vs) in
+        let u : State = alone (here (Some host) waiting) (drawops_in vs) in
         let one = batches_of content cut (n + 1) lines in
         let other = batches_of content cut (n + 1) more in
-        let next : Outcome = outcome_from cut (n + 1) (alone (here (Some host) (waiting ++ a.drawop ∷ [])) calls (drawops_in (vs ++ v ∷ []))) more in
+        let next : Outcome = outcome_from cut (n + 1) (alone (here (Some host) (waiting ++ a.drawop ∷ [])) (drawops_in (vs ++ v ∷ []))) more in
         taken_in (Arrival a.drawop) (Some host) waiting waiting (outcome_from cut n u (line' ∷ more)) a.said (IsPermutation-refl waiting) (
           next,
-          rest (Some host) (waiting ++ a.drawop ∷ []) calls (ws ++ w ∷ []) (vs ++ v ∷ []) more (record {
+          rest (Some host) (waiting ++ a.drawop ∷ []) (ws ++ w ∷ []) (vs ++ v ∷ []) more (record {
             waits = ap (λ (l : List DrawopValue). l ++ a.drawop ∷ []) b.waits ∙ sym (map-append (λ (w : Taken cut). w.drawop) ws (w ∷ []));
             none = tt;
-            alike = b.alike;
             others = others;
             batches = subst (λ (xs : List (List (List ℕ))). AreRearranged xs (onto_batch (contents_in (vs ++ v ∷ [])) other)) (onto_taken line ws w one refl part)
                 (subst (AreRearranged (onto_batch (contents_in ws) (batches_with (part_at cut n line) (content line) one))) (onto_taken line' vs v other refl part') b.batches);
           }),
           line_course cut n u line' more (Arrival a'.drawop) a'.free a'.said
-              ∙ ap (λ (taken : List DrawopValue). before [] (outcome_from cut (n + 1) (alone (here (Some host) waiting) calls taken) more)) (sym (map-append (λ (w : Taken cut). w.drawop) vs (v ∷ []))),
+              ∙ ap (λ (taken : List DrawopValue). before [] (outcome_from cut (n + 1) (alone (here (Some host) waiting) taken) more)) (sym (map-append (λ (w : Taken cut). w.drawop) vs (v ∷ []))),
         )
 
     -- where no board is open, none waits
-    stays_out : (waiting : List DrawopValue) (calls : List KeeperCall) (ws vs : List (Taken cut)) (line' : InputLine) (more : List InputLine) → Beside cut n None waiting calls ws vs (line ∷ lines) (line' ∷ more) → Arrives cut n line → Arrives cut n line'
-        → Here None None waiting (outcome_from cut n (alone (here None waiting) calls (drawops_in vs)) (line' ∷ more))
-    stays_out waiting calls ws vs line' more b a a' =
+    stays_out : (waiting : List DrawopValue) (ws vs : List (Taken cut)) (line' : InputLine) (more : List InputLine) → Beside cut n None waiting ws vs (line ∷ lines) (line' ∷ more) → Arrives cut n line → Arrives cut n line'
+        → Here None None waiting (outcome_from cut n (alone (here None waiting) (drawops_in vs)) (line' ∷ more))
+    stays_out waiting ws vs line' more b a a' =
         let moved : IsPermutation waiting (drawops_in vs) =
         subst (λ (l : List DrawopValue). IsPermutation l (drawops_in vs)) (sym b.waits) (subst (λ (l : List (Taken cut)). IsPermutation (drawops_in l) (drawops_in vs)) (sym b.none.0) (subst (λ (l : List (Taken cut)). IsPermutation [] (drawops_in l)) (sym b.none.1) (IsPermutation-refl []))) in
-        taken_in (Arrival a.drawop) None waiting (drawops_in vs) (outcome_from cut n (alone (here None waiting) calls (drawops_in vs)) (line' ∷ more)) a.said moved
-        (refuses line' (Arrival a'.drawop) faults.NoBoard None waiting (drawops_in vs) calls more a'.free a'.said moved refl)
+        taken_in (Arrival a.drawop) None waiting (drawops_in vs) (outcome_from cut n (alone (here None waiting) (drawops_in vs)) (line' ∷ more)) a.said moved
+        (refuses line' (Arrival a'.drawop) faults.NoBoard None waiting (drawops_in vs) more a'.free a'.said moved refl)
 
-    comes_in : (host : Option Opened) (waiting : List DrawopValue) (calls : List KeeperCall) (ws vs : List (Taken cut)) (line' : InputLine) (more : List InputLine) → Beside cut n host waiting calls ws vs (line ∷ lines) (line' ∷ more)
-        → others_of cut (n + 1) more ≡ others_of cut (n + 1) lines → Arrives cut n line → Arrives cut n line' → Here None host waiting (outcome_from cut n (alone (here host waiting) calls (drawops_in vs)) (line' ∷ more))
-    comes_in None waiting calls ws vs line' more b others a a' = stays_out waiting calls ws vs line' more b a a'
-    comes_in (Some host) waiting calls ws vs line' more b others a a' = arrives_in host waiting calls ws vs line' more b others a a'
+    comes_in : (host : Option Opened) (waiting : List DrawopValue) (ws vs : List (Taken cut)) (line' : InputLine) (more : List InputLine) → Beside cut n host waiting ws vs (line ∷ lines) (line' ∷ more)
+        → others_of cut (n + 1) more ≡ others_of cut (n + 1) lines → Arrives cut n line → Arrives cut n line' → Here None host waiting (outcome_from cut n (alone (here host waiting) (drawops_in vs)) (line' ∷ more))
+    comes_in None waiting ws vs line' more b others a a' = stays_out waiting ws vs line' more b a a'
+    comes_in (Some host) waiting ws vs line' more b others a a' = arrives_in host waiting ws vs line' more b others a a'
 
-    skips : (host : Option Opened) (waiting : List DrawopValue) (calls : List KeeperCall) (ws vs : List (Taken cut)) (more : List InputLine) → fault_at cut n line ≡ None → part_in line ≡ Nothing
-        → Beside cut (n + 1) host waiting calls ws vs lines more → Here None host waiting (outcome_from cut n (alone (here host waiting) calls (drawops_in vs)) (line ∷ more))
-    skips host waiting calls ws vs more free is b =
-        let u : State = alone (here host waiting) calls (drawops_in vs) in
+    skips : (host : Option Opened) (waiting : List DrawopValue) (ws vs : List (Taken cut)) (more : List InputLine) → fault_at cut n line ≡ None → part_in line ≡ Nothing
+        → Beside cut (n + 1) host waiting ws vs lines more → Here None host waiting (outcome_from cut n (alone (here host waiting) (drawops_in vs)) (line ∷ more))
+    skips host waiting ws vs more free is b =
+        let u : State = alone (here host waiting) (drawops_in vs) in
         taken_in Nothing host waiting waiting (outcome_from cut n u (line ∷ more)) is (IsPermutation-refl waiting)
-        (outcome_from cut (n + 1) u more, rest host waiting calls ws vs more b, line_course cut n u line more Nothing free is)
+        (outcome_from cut (n + 1) u more, rest host waiting ws vs more b, line_course cut n u line more Nothing free is)
 
     -- the batches at a line that stands in both
     both : (part : Option Part) (line' : InputLine) (ws vs : List (Taken cut)) (more : List InputLine) → part_at cut n line ≡ part → line' ≡ line
@@ -183,50 +189,50 @@ module _ (k : ℕ) (many : 2 ≤ k) (cut : Bool) where
         (subst (λ (l : InputLine). AreRearranged (onto_batch (contents_in ws) (batches_with (part_at cut n line) (content line) (batches_of content cut (n + 1) lines))) (onto_batch (contents_in vs) (batches_with (part_at cut n l) (content l) (batches_of content cut (n + 1) more)))) same batches)
 
     -- a line that is no arrival stands there in both
-    by_part : (part : Part) (host : Option Opened) (waiting : List DrawopValue) (calls : List KeeperCall) (ws vs : List (Taken cut)) (line' : InputLine) (more : List InputLine) → fault_at cut n line ≡ None → part_in line ≡ part
-        → Beside cut n host waiting calls ws vs (line ∷ lines) (line' ∷ more) → other_than (part_at cut n line') line' ≡ other_than (part_at cut n line) line → others_of cut (n + 1) more ≡ others_of cut (n + 1) lines
-        → Here None host waiting (outcome_from cut n (alone (here host waiting) calls (drawops_in vs)) (line' ∷ more))
-    by_part (Arrival d) host waiting calls ws vs line' more free is b place others =
+    by_part : (part : Part) (host : Option Opened) (waiting : List DrawopValue) (ws vs : List (Taken cut)) (line' : InputLine) (more : List InputLine) → fault_at cut n line ≡ None → part_in line ≡ part
+        → Beside cut n host waiting ws vs (line ∷ lines) (line' ∷ more) → other_than (part_at cut n line') line' ≡ other_than (part_at cut n line) line → others_of cut (n + 1) more ≡ others_of cut (n + 1) lines
+        → Here None host waiting (outcome_from cut n (alone (here host waiting) (drawops_in vs)) (line' ∷ more))
+    by_part (Arrival d) host waiting ws vs line' more free is b place others =
         let none : other_than (part_at cut n line) line ≡ None = ap (λ (p : Option Part). other_than p line) (part_here cut n line (Arrival d) free is) in
-        comes_in host waiting calls ws vs line' more b others (arrived cut n line none) (arrived cut n line' (place ∙ none))
-    by_part Nothing host waiting calls ws vs line' more free is b place others =
+        comes_in host waiting ws vs line' more b others (arrived cut n line none) (arrived cut n line' (place ∙ none))
+    by_part Nothing host waiting ws vs line' more free is b place others =
         let at : part_at cut n line ≡ Some Nothing = part_here cut n line Nothing free is in
         let same : line' ≡ line = same_line line line' (part_at cut n line') (place ∙ ap (λ (p : Option Part). other_than p line) at) in
-        let u : State = alone (here host waiting) calls (drawops_in vs) in
+        let u : State = alone (here host waiting) (drawops_in vs) in
         subst (λ (l : InputLine). Here None host waiting (outcome_from cut n u (l ∷ more))) (sym same)
-        (skips host waiting calls ws vs more free is (record { waits = b.waits; none = b.none; alike = b.alike; others = others; batches = both (Some Nothing) line' ws vs more at same b.batches }))
-    by_part (End c) host waiting calls ws vs line' more free is b place others =
+        (skips host waiting ws vs more free is (record { waits = b.waits; none = b.none; others = others; batches = both (Some Nothing) line' ws vs more at same b.batches }))
+    by_part (End c) host waiting ws vs line' more free is b place others =
         let at : part_at cut n line ≡ Some (End c) = part_here cut n line (End c) free is in
         let same : line' ≡ line = same_line line line' (part_at cut n line') (place ∙ ap (λ (p : Option Part). other_than p line) at) in
-        let u : State = alone (here host waiting) calls (drawops_in vs) in
+        let u : State = alone (here host waiting) (drawops_in vs) in
         let batches = both (Some (End c)) line' ws vs more at same b.batches in
         let moved = ended waiting ws vs (batches_of content cut (n + 1) lines) (batches_of content cut (n + 1) more) b.waits batches in
         subst (λ (l : InputLine). Here None host waiting (outcome_from cut n u (l ∷ more))) (sym same)
         (taken_in (End c) host waiting (drawops_in vs) (outcome_from cut n u (line ∷ more)) is moved
-        (closes c host waiting (drawops_in vs) calls more free is moved b.alike others batches.1))
+        (closes c host waiting (drawops_in vs) more free is moved others batches.1))
 
-    continues : (fault : Option RunFault) (host : Option Opened) (waiting : List DrawopValue) (calls : List KeeperCall) (ws vs : List (Taken cut)) (line' : InputLine) (more : List InputLine) → fault_at cut n line ≡ fault
-        → Beside cut n host waiting calls ws vs (line ∷ lines) (line' ∷ more) → other_than (part_at cut n line') line' ≡ other_than (part_at cut n line) line → others_of cut (n + 1) more ≡ others_of cut (n + 1) lines
-        → Here fault host waiting (outcome_from cut n (alone (here host waiting) calls (drawops_in vs)) (line' ∷ more))
-    continues None host waiting calls ws vs line' more free b place others = by_part (part_in line) host waiting calls ws vs line' more free refl b place others
-    continues (Some e) host waiting calls ws vs line' more fault b place others =
+    continues : (fault : Option RunFault) (host : Option Opened) (waiting : List DrawopValue) (ws vs : List (Taken cut)) (line' : InputLine) (more : List InputLine) → fault_at cut n line ≡ fault
+        → Beside cut n host waiting ws vs (line ∷ lines) (line' ∷ more) → other_than (part_at cut n line') line' ≡ other_than (part_at cut n line) line → others_of cut (n + 1) more ≡ others_of cut (n + 1) lines
+        → Here fault host waiting (outcome_from cut n (alone (here host waiting) (drawops_in vs)) (line' ∷ more))
+    continues None host waiting ws vs line' more free b place others = by_part (part_in line) host waiting ws vs line' more free refl b place others
+    continues (Some e) host waiting ws vs line' more fault b place others =
         let at : part_at cut n line ≡ None = ap (λ (f : Option RunFault). part_unless f line) fault in
         let same : line' ≡ line = same_line line line' (part_at cut n line') (place ∙ ap (λ (p : Option Part). other_than p line) at) in
-        let u : State = alone (here host waiting) calls (drawops_in vs) in
+        let u : State = alone (here host waiting) (drawops_in vs) in
         let moved = ended waiting ws vs (batches_of content cut (n + 1) lines) (batches_of content cut (n + 1) more) b.waits (both None line' ws vs more at same b.batches) in
         subst (λ (l : InputLine). Here (Some e) host waiting (outcome_from cut n u (l ∷ more))) (sym same)
-        (finishes host waiting (drawops_in vs) calls (Err e) (outcome_from cut n u (line ∷ more)) moved
+        (finishes host waiting (drawops_in vs) (Err e) (outcome_from cut n u (line ∷ more)) moved
         (ap (λ (f : Option RunFault). continue f (n + 1) u (content line) (λ t. outcome_from cut (n + 1) t more)) fault))
 
   comes_out : (n : ℕ) (lines : List InputLine) → ComesOut n lines
-  comes_out n [] host waiting calls ws vs [] b =
-      finishes host waiting (drawops_in vs) calls (cond cut (Err run_faults.Read) (Ok n)) (outcome_from cut n (alone (here host waiting) calls (drawops_in vs)) []) (ended waiting ws vs [] [] b.waits b.batches) refl
-  comes_out n [] host waiting calls ws vs (line' ∷ more) b = let e = b.others in absurd cc
-  comes_out n (line ∷ lines) host waiting calls ws vs [] b = let e = b.others in absurd cc
-  comes_out n (line ∷ lines) host waiting calls ws vs (line' ∷ more) b =
-      continues n line lines (comes_out (n + 1) lines) (fault_at cut n line) host waiting calls ws vs line' more refl b (first_same _ _ _ _ b.others) (others_same _ _ _ _ b.others)
+  comes_out n [] host waiting ws vs [] b =
+      finishes host waiting (drawops_in vs) (cond cut (Err run_faults.Read) (Ok n)) (outcome_from cut n (alone (here host waiting) (drawops_in vs)) []) (ended waiting ws vs [] [] b.waits b.batches) refl
+  comes_out n [] host waiting ws vs (line' ∷ more) b = let e = b.others in absurd cc
+  comes_out n (line ∷ lines) host waiting ws vs [] b = let e = b.others in absurd cc
+  comes_out n (line ∷ lines) host waiting ws vs (line' ∷ more) b =
+      continues n line lines (comes_out (n + 1) lines) (fault_at cut n line) host waiting ws vs line' more refl b (first_same _ _ _ _ b.others) (others_same _ _ _ _ b.others)
 
 pub each_reordering_is_outcome : EachReorderingIsOutcome
 each_reordering_is_outcome workers cut input other many r =
-    comes_out workers many cut 0 (input_lines input) None [] [] [] [] (input_lines other)
-    (record { waits = refl; none = (refl, refl); alike = tt; others = r.others; batches = none_onto workers many cut (batches_of content cut 0 (input_lines input)) (batches_of content cut 0 (input_lines other)) r.batches })
+    comes_out workers many cut 0 (input_lines input) None [] [] [] (input_lines other)
+    (record { waits = refl; none = (refl, refl); others = r.others; batches = none_onto workers many cut (batches_of content cut 0 (input_lines input)) (batches_of content cut 0 (input_lines other)) r.batches })

@@ -2,16 +2,18 @@
 use Rattle.std.proofs.Common.{◌≡◌, ℕ, ◌+◌, Bool, true, false, List, [], ◌∷◌, ◌++◌, Result, Ok, Err, refl, sym, ap, subst, ◌∙◌, append_assoc, Option, Some, None, if◌then◌else◌, append-nil}
 use Rattle.std.proofs.lemmas.List.Sorted.{length_permutation}
 use Rattle.wb_names.specs.Values.{DrawopValue}
-use Rattle.wb_script.specs.declared.fault.LineFault.{LineFault}
-use Rattle.wb_script.specs.declared.fault.LineFault.TheVariants as faults
+use Rattle.wb_commands.specs.declared.fault.LineFault.{LineFault}
+use Rattle.wb_commands.specs.declared.fault.LineFault.TheVariants as faults
 use Rattle.wb_script.specs.declared.fault.RunFault.{RunFault}
 use Rattle.wb_script.specs.declared.fault.RunFault.TheVariants as run_faults
-use Rattle.wb_script.specs.Parsing.{line_of}
+use Rattle.wb_commands.specs.Parsing.{line_of}
 use Rattle.wb_lines.specs.Ahead.{Ahead, IsLine}
 use Rattle.wb_script.specs.Inside.Lines.{LinesValue, EndsWith}
-use Rattle.wb_script.specs.Hosts.{Opened, host_after, batch_text, Act, does, fails, act}
+use Rattle.wb_member.specs.Opened.{Opened, board_of, by_host}
+use Rattle.wb_script.specs.Hosts.{taken, batch_text}
+use Rattle.wb_commands.specs.Acts.{Act, does, fails, act}
 use Rattle.wb_lines.specs.Input.{InputLine, input_lines, content, MayFollow}
-use Rattle.wb_script.specs.Script.{IsOutcomeFrom, State, MayBeTaken, Closing, Opens, Acts, Faulty, Part, End, part_of, part_in, refused, by_host, after_batch, closing_text, step_by, closing_step, part_step, Outcome, prints, before, answer, finish, Finishes, Proceeds, fault_at, Continues}
+use Rattle.wb_script.specs.Script.{IsOutcomeFrom, State, MayBeTaken, Closing, Opens, Acts, Faulty, Part, End, part_of, part_in, refused, after_batch, closing_text, step_by, closing_step, part_step, Outcome, prints, before, answer, finish, Finishes, Proceeds, fault_at, Continues}
 use Rattle.wb_script.specs.Inside.Passing.{Leads, Passes}
 use Rattle.wb_script.specs.Inside.Reading.{IsOpen, EndsBatchBefore, IsBatchEnd}
 use Rattle.wb_script.specs.Inside.Parts.{EndsBatchAt}
@@ -34,7 +36,7 @@ after_none t opened none = go t.host t.waiting opened none where
 
 text_none : (t : State) → IsOpen t.host → closing_text t [] ≡ []
 text_none t opened = go t.host opened where
-  go : (host : Option Opened) → IsOpen host → by_host {X = List ℕ} host [] (λ h. batch_text h.board []) ≡ []
+  go : (host : Option Opened) → IsOpen host → by_host {X = List ℕ} host [] (λ h. batch_text (board_of h) []) ≡ []
   go None opened = absurd opened
   go (Some host) opened = refl
 
@@ -47,7 +49,7 @@ finishes_none t ending o opened none f =
 
 opened_after : (s : State) (order : List DrawopValue) → IsOpen s.host → IsOpen (after_batch s order).host
 opened_after s order opened = go s.host opened where
-  go : (host : Option Opened) → IsOpen host → IsOpen (by_host {X = Option Opened} host None (λ h. Some (host_after h s.waiting order)))
+  go : (host : Option Opened) → IsOpen host → IsOpen (by_host {X = Option Opened} host None (λ h. Some (taken order h)))
   go None opened = absurd opened
   go (Some host) opened = tt
 

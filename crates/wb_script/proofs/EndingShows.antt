@@ -1,48 +1,47 @@
 -- What a script shows at its end is the canvas of all its arrivals.
 use Rattle.std.proofs.Common.{◌≡◌, ℕ, ◌+◌, Bool, true, false, cond, List, [], ◌∷◌, ◌++◌, length, Result, Ok, refl, sym, ap, ◌∙◌, subst, append_assoc, Option, Some, None, IsPermutation, nat_lt, ◌||◌, unwrap_or, append-nil}
 use Rattle.std.specs.Str.Lines.{strip_carriage_return}
-use Rattle.std.proofs.lemmas.List.Sorted.{IsPermutation-refl}
 use Rattle.wb_names.specs.Values.{DrawopValue}
 use Rattle.wb_names.specs.Arrivals.{history_after}
 use Rattle.wb_names.specs.declared.name.PageId.{PageId}
 use Rattle.wb_display.specs.Canvas.{canvas_text}
 use Rattle.wb_display.proofs.Convergence.{converges}
-use Rattle.wb_script.specs.declared.fault.LineFault.{LineFault}
-use Rattle.wb_script.specs.declared.fault.LineFault.TheVariants as faults
+use Rattle.wb_commands.specs.declared.fault.LineFault.{LineFault}
+use Rattle.wb_commands.specs.declared.fault.LineFault.TheVariants as faults
 use Rattle.wb_script.specs.declared.fault.RunFault.{RunFault}
 use Rattle.wb_script.specs.declared.fault.RunFault.TheVariants as run_faults
-use Rattle.wb_script.specs.declared.command.Command.{Command}
-use Rattle.wb_script.specs.declared.command.Command.TheVariants.{Hear, Distance, Tick, Look, Session, Show}
+use Rattle.wb_commands.specs.declared.command.Command.{Command}
+use Rattle.wb_commands.specs.declared.command.Command.TheVariants.{Hear, Distance, Tick, Look, Session, Show}
 use Rattle.wb_script.specs.declared.running.Summary.{Summary}
-use Rattle.wb_host.specs.Keeper.{SetDelay, Hear, Miss, GoOn, Report as Reported, is_own}
-use Rattle.wb_host.specs.Hearing.{marks_heard, has_room, answers_to, asks_for_held}
-use Rattle.wb_script.specs.Random.{words_of}
-use Rattle.wb_script.specs.SentLines.{sends_text}
-use Rattle.wb_script.specs.Board.{Held}
-use Rattle.wb_script.specs.Hosts.{Opened, opened, present, board_after, host_after, batch_text, calling, Act, does, fails, due_count, stopped, sent_by, wanted_of, words_for, word_at, act}
+use Rattle.wb_commands.specs.SentLines.{sends_text}
+use Rattle.wb_member.specs.Board.{Held}
+use Rattle.wb_member.specs.Opened.{Opened, present, board_of, has_room_for, heard, answered, with_delay, ticked, sent_by, looked, reported}
+use Rattle.wb_script.specs.Hosts.{opened, taken, batch_text}
+use Rattle.wb_commands.specs.Acts.{Act, does, fails, act}
+use Rattle.wb_member.specs.Holding.{board_after}
 use Rattle.wb_script.specs.Laws.{NoneClash, HasCells}
-use Rattle.wb_script.specs.Parsing.{line_of}
-use Rattle.wb_script.specs.Queries.{view_of}
+use Rattle.wb_commands.specs.Parsing.{line_of}
+use Rattle.wb_member.specs.Queries.{view_of}
 use Rattle.wb_lines.specs.Input.{InputLine, input_lines, content}
 use Rattle.wb_script.specs.Script.{State, start, after_batch, Closing, Opens, Acts, Part, Arrival, Nothing, End, part_of, part_in, Step, goes, refused, step_by, part_step, step_of, Outcome, prints, before, answer, proceed, outcome_from}
 use Rattle.wb_script.specs.ScriptLaws.{EachEnds}
 use Rattle.wb_script.specs.Shows.{arrived_by, arrivals_of, cells_by, cells_of, EndsWith, canvas_after, ShowsArrivals, ShowsAreFree}
-use Rattle.wb_script.proofs.FreeArrivals.{batches_are_one, free_on, once_held}
+use Rattle.wb_script.proofs.FreeArrivals.{batches_are_one, free_on}
 use Rattle.wb_lines.proofs.InputLines.{input_lines-whole, whole_line}
 use Rattle.wb_script.proofs.Outcomes.{before-nil, before-before, too_many, text_of, end_of}
-use Rattle.wb_script.proofs.Queries.{view_of_page}
+use Rattle.wb_member.proofs.Queries.{view_of_page}
 use Rattle.wb_script.proofs.ReorderedLines.{state}
 use Rattle.wb_script.proofs.ScriptLaws.{state_of, one_line, split, fit, err_end}
 
 -- what was held when the batch began, with what waits since, is what all arrivals lead to
 abbrev Leads : Option Opened → List DrawopValue → List DrawopValue → Type 0
 Leads None waiting ds = ds ≡ []
-Leads (Some host) waiting ds = history_after host.board.cells host.board.drawops waiting ≡ history_after host.board.cells [] ds
+Leads (Some host) waiting ds = history_after host.is.cells host.is.held waiting ≡ history_after host.is.cells [] ds
 
 -- the cells of the board, or of the one that the lines open
 abbrev cells_at : Option Opened → ℕ → ℕ
 cells_at None later = later
-cells_at (Some host) later = host.board.cells
+cells_at (Some host) later = host.is.cells
 
 -- what a step that is taken leaves
 record Kept (host : Option Opened) (ds : List DrawopValue) (part : Part) (t : State) : Type 0 where
@@ -59,27 +58,27 @@ leads_on host waiting ds h = subst (Leads host waiting) (sym (append-nil ds)) h
 same_host : (host next : Opened) (text printed : List ℕ) → does host text ≡ does next printed → host ≡ next
 same_host host next text printed e = cc
 
-pub act_board : (line : Command) (host next : Opened) (printed : List ℕ) → act line host ≡ does next printed → next.board ≡ host.board
-act_board (Hear v) host next printed e = at (is_own host.me v || has_room (marks_heard host.me host.calls) v) e where
-  at : (room : Bool) → cond room (does (calling (Hear (present host) v (word_at v host.random) (asks_for_held host.board.drawops v)) (words_for v) host) (sends_text (answers_to host.me host.board.drawops v))) (fails faults.TooMany) ≡ does next printed → next.board ≡ host.board
-  at true f = ap (λ (h : Opened). h.board) (sym (same_host (calling (Hear (present host) v (word_at v host.random) (asks_for_held host.board.drawops v)) (words_for v) host) next _ printed f))
+pub act_board : (line : Command) (host next : Opened) (printed : List ℕ) → act line host ≡ does next printed → board_of next ≡ board_of host
+act_board (Hear v) host next printed e = at (has_room_for v host) e where
+  at : (room : Bool) → cond room (does (heard v host) (sends_text (answered v host))) (fails faults.TooMany) ≡ does next printed → board_of next ≡ board_of host
+  at true f = ap board_of (sym (same_host (heard v host) next _ printed f))
   at false f = absurd cc
-act_board (Distance source micros) host next printed e = ap (λ (h : Opened). h.board) (sym (same_host (calling (SetDelay source micros) 0 host) next _ printed e))
+act_board (Distance source micros) host next printed e = ap board_of (sym (same_host (with_delay source micros host) next _ printed e))
 act_board (Tick moment) host next printed e = at (nat_lt moment (present host)) e where
-  at : (early : Bool) → cond early (fails faults.BackInTime) (does (calling (GoOn moment (words_of host.random (due_count moment host)) (stopped host)) (due_count moment host) host) (sends_text (sent_by moment host))) ≡ does next printed → next.board ≡ host.board
+  at : (early : Bool) → cond early (fails faults.BackInTime) (does (ticked moment host) (sends_text (sent_by moment host))) ≡ does next printed → board_of next ≡ board_of host
   at true f = absurd cc
-  at false f = ap (λ (h : Opened). h.board) (sym (same_host (calling (GoOn moment (words_of host.random (due_count moment host)) (stopped host)) (due_count moment host) host) next _ printed f))
-act_board (Look page) host next printed e = ap (λ (h : Opened). h.board) (sym (same_host (calling (Miss (present host) (wanted_of page host) (words_of host.random (length (wanted_of page host)))) (length (wanted_of page host)) host) next _ printed e))
-act_board (Session page) host next printed e = ap (λ (h : Opened). h.board) (sym (same_host (calling (Reported (present host)) 0 host) next _ printed e))
-act_board line host next printed e = ap (λ (h : Opened). h.board) (sym (same_host host next _ printed e))
+  at false f = ap board_of (sym (same_host (ticked moment host) next _ printed f))
+act_board (Look page) host next printed e = ap board_of (sym (same_host (looked page host) next _ printed e))
+act_board (Session page) host next printed e = ap board_of (sym (same_host (reported page host) next _ printed e))
+act_board line host next printed e = ap board_of (sym (same_host host next _ printed e))
 
 -- the same board, once a batch was taken
-act_kept : (k : Option ℕ) (first host : Opened) (waiting ds : List DrawopValue) (line : Command) (text : List ℕ) (t : State) (y : List ℕ) → Leads (Some first) waiting ds → host.board ≡ board_after first.board waiting
+act_kept : (k : Option ℕ) (first host : Opened) (waiting ds : List DrawopValue) (line : Command) (text : List ℕ) (t : State) (y : List ℕ) → Leads (Some first) waiting ds → board_of host ≡ board_after (board_of first) waiting
     → (a : Act) → act line host ≡ a → step_by k text a host ≡ goes t y → Kept (Some first) ds (End (Acts line)) t
 act_kept k first host waiting ds line text t y h is (fails f) acted e = absurd cc
 act_kept k first host waiting ds line text t y h is (does next printed) acted e =
-    let board : next.board ≡ board_after first.board waiting = act_board line host next printed acted ∙ is in
-    let after : history_after first.board.cells first.board.drawops waiting ≡ history_after first.board.cells [] (ds ++ []) = h ∙ ap (history_after first.board.cells []) (sym (append-nil ds)) in
+    let board : board_of next ≡ board_after (board_of first) waiting = act_board line host next printed acted ∙ is in
+    let after : history_after first.is.cells first.is.held waiting ≡ history_after first.is.cells [] (ds ++ []) = h ∙ ap (history_after first.is.cells []) (sym (append-nil ds)) in
     kept_by (Some first) ds (End (Acts line)) (state k (Some next) []) t (text ++ printed) y
     (record {
       leads = subst (λ (b : Held). b.drawops ≡ history_after b.cells [] (ds ++ [])) (sym board) after;
@@ -92,13 +91,13 @@ closes_kept k None waiting ds (Opens member cells workers seed) t y h e =
     kept_by None ds (End (Opens member cells workers seed)) (state (Some (unwrap_or k workers)) (Some (opened member cells seed)) []) t [] y
     (record { leads = ap (history_after cells []) (sym (ap (λ (l : List DrawopValue). l ++ []) h)); cells = λ later. refl }) e
 closes_kept k (Some host) waiting ds (Acts line) t y h e =
-    act_kept k host (host_after host waiting waiting) waiting ds line (batch_text host.board waiting) t y h refl (act line (host_after host waiting waiting)) refl e
+    act_kept k host (taken waiting host) waiting ds line (batch_text (board_of host) waiting) t y h refl (act line (taken waiting host)) refl e
 closes_kept k host waiting ds c t y h e = absurd cc
 
 arrives_kept : (k : Option ℕ) (host : Option Opened) (waiting ds : List DrawopValue) (d : DrawopValue) (t : State) (y : List ℕ) → Leads host waiting ds → part_step (state k host waiting) waiting (Arrival d) ≡ goes t y → Kept host ds (Arrival d) t
 arrives_kept k None waiting ds d t y h e = absurd cc
 arrives_kept k (Some host) waiting ds d t y h e =
-    let b : Held = host.board in
+    let b : Held = board_of host in
     kept_by (Some host) ds (Arrival d) (state k (Some host) (waiting ++ d ∷ [])) t [] y
     (record {
       leads = batches_are_one b.cells b.drawops waiting (d ∷ []) ∙ ap (λ (l : List DrawopValue). history_after b.cells l (d ∷ [])) h ∙ sym (batches_are_one b.cells [] ds (d ∷ []));
@@ -165,8 +164,8 @@ shown_on : (n : ℕ) (k : Option ℕ) (host : Option Opened) (waiting ds : List 
     → EndsWith text (canvas_text (view_of (history_after (cells_at host 0) [] ds) page) width height)
 shown_on n k None waiting ds page width height text sum h e = absurd (err_end [] text (after_batch (state k None waiting) waiting) sum (run_faults.Line (n + 1) faults.NoBoard) e)
 shown_on n k (Some host) waiting ds page width height text sum h e =
-    let closing : List ℕ = batch_text host.board waiting in
-    let canvas : List ℕ = canvas_text (view_of (history_after host.board.cells host.board.drawops waiting) page) width height in
+    let closing : List ℕ = batch_text (board_of host) waiting in
+    let canvas : List ℕ = canvas_text (view_of (history_after host.is.cells host.is.held waiting) page) width height in
     let after : State = after_batch (state k (Some host) waiting) waiting in (
       closing,
       sym (text_of ((closing ++ canvas) ++ []) text (answer (after_batch after []) (Ok (n + 1))) (Ok sum) e) ∙ append-nil (closing ++ canvas)
@@ -199,10 +198,9 @@ shows_arrivals k front question text page width height sum all is said e =
 same_canvas : (cells others : ℕ) (ds es : List DrawopValue) (page : PageId) (width height : ℕ) → IsPermutation ds es → NoneClash ds → HasCells cells ds → HasCells others ds
     → canvas_text (view_of (history_after cells [] ds) page) width height ≡ canvas_text (view_of (history_after others [] es) page) width height
 same_canvas cells others ds es page width height moved clash room space =
+    let a = free_on cells others ds es moved clash room space in
     ap (λ (shown : List DrawopValue). canvas_text shown width height)
-    (converges (history_after cells [] ds) (history_after others [] es) page (view_of (history_after cells [] ds) page) (view_of (history_after others [] es) page) (free_on cells others ds es moved clash room space)
-    (view_of_page (history_after cells [] ds) page (once_held cells ds ds (IsPermutation-refl ds) clash room))
-    (view_of_page (history_after others [] es) page (once_held others ds es moved clash space)))
+    (converges (history_after cells [] ds) (history_after others [] es) page (view_of (history_after cells [] ds) page) (view_of (history_after others [] es) page) a.moved (view_of_page (history_after cells [] ds) page a.once) (view_of_page (history_after others [] es) page a.again))
 
 pub shows_are_free : ShowsAreFree
 shows_are_free k front other question text again page width height sum sum' all all' is said e e' moved clash room space = (

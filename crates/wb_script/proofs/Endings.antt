@@ -5,11 +5,11 @@ use Rattle.wb_script.specs.declared.fault.RunFault.{RunFault}
 use Rattle.wb_script.specs.declared.fault.RunFault.TheVariants as run_faults
 use Rattle.wb_script.specs.declared.running.Summary.{Summary}
 use Rattle.wb_lines.specs.Ahead.{Ahead, Pulls}
-use Rattle.wb_lines.specs.Input.{input_lines}
+use Rattle.wb_lines.specs.Input.{input_lines, MayFollow, MayRemain}
 use Rattle.wb_script.specs.Script.{State, start, Outcome, prints, before, outcome, Finishes, IsOutcome, is_stop, IsStop, Begins, Meets}
 use Rattle.wb_script.specs.Inside.Passing.{Leads, StopsBehind, RunsLines, RunsAll, Settles, ClosesAfter, Closes}
 use Rattle.wb_script.specs.Runs.{Runs}
-use Rattle.wb_lines.proofs.Endings.{fresh, follows, input_from}
+use Rattle.wb_lines.proofs.Endings.{fresh, input_from}
 use Rattle.wb_script.proofs.Outcomes.{one_thread}
 use Rattle.wb_script.proofs.OneWorker.{one_worker_is_one_thread}
 use Rattle.wb_script.proofs.ReorderedScripts.{workers_are_one_thread}
@@ -34,6 +34,10 @@ meets_then A B x y left result p m = (before x m.0, p m.0 m.1, settles_behind m.
 meets_fault : (stops : Bool) (A : Outcome → Type 0) (s : State) (x y left : List ℕ) (e : RunFault) (result : Result Summary RunFault) → is_stop e ≡ stops → StopsBehind stops A x s e → ClosesAfter stops s e y left result → SettlesOne A (x ++ y) left result
 meets_fault true A s x y left e result stop b q = (b.0, b.1, settles_stop b.0 x y left e result b.2 stop q.0 q.1)
 meets_fault false A s x y left e result going p q = meets_then A (Finishes s (Err e)) x y left result p q
+
+-- what may remain after an end or a failure may follow
+follows : (ended failed : Bool) (more : List ℕ) → (ended ≡ true → failed ≡ false) → MayRemain ended failed more → MayFollow ended more failed
+follows ended failed more working may = λ e. (may.none_after_end e, working e)
 
 runs_all : (k : Option ℕ) (s : State) (r : Ahead) (failed : Bool) (given w w1 left : List ℕ) (ending : Result ℕ RunFault) (result : Result Summary RunFault) → (r.ended ≡ true → failed ≡ false) → RunsLines (start k) fresh given w s r failed ending → Closes s ending w1 left result → RunsAll k r.ended failed given (w ++ w1) left result
 runs_all k s r failed given w w1 left (Ok m) result working p q = λ more may.

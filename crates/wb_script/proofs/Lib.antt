@@ -1,6 +1,3 @@
-pub mod FirstWords
-pub mod Arrivals
-pub mod Boards
 pub mod Outcomes
 pub mod Looking
 pub mod ReadLines
@@ -9,14 +6,9 @@ pub mod EarlyEnds
 pub mod TakingArrivals
 pub mod RunOn
 pub mod Endings
-pub mod Queries
 pub mod FreeArrivals
 pub mod Steps
-pub mod Acts
-pub mod OneArrival
-pub mod NextNumbers
-pub mod HeardActs
-pub mod Echoed
+pub mod WholeBatches
 pub mod CheckEnds
 pub mod CountLaws
 pub mod BatchLaws
@@ -24,8 +16,8 @@ pub mod ScriptLaws
 pub mod EndingShows
 pub mod Simulations
 pub mod OneWorker
-pub mod AlikeCalls
-pub mod AlikeHosts
+pub mod Members
+pub mod Telling
 pub mod Lifted
 pub mod ReorderedLines
 pub mod Reordered
@@ -37,5 +29,5 @@ pub mod AlikeActs
 pub mod AlikeBatches
 pub mod AlikeLines
 pub mod AlikeOutcomes
-pub mod SeedWords
-pub mod SentDigits
+pub mod LoneArrivals
+pub mod RunTexts

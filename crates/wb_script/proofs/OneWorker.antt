@@ -3,8 +3,10 @@ use Rattle.std.proofs.Common.{◌≡◌, ℕ, ◌+◌, Bool, List, [], ◌∷◌
 use Rattle.wb_names.specs.Values.{DrawopValue}
 use Rattle.wb_script.specs.declared.fault.RunFault.{RunFault}
 use Rattle.wb_lines.specs.Input.{InputLine, input_lines}
-use Rattle.wb_script.specs.Hosts.{Opened, host_after, batch_text, Act, does, fails, act}
-use Rattle.wb_script.specs.Script.{State, start, IsAlone, by_host, Closing, Opens, Acts, Faulty, Part, Arrival, End, part_in, step_by, closing_step, part_step, finish, outcome}
+use Rattle.wb_member.specs.Opened.{Opened, board_of, by_host}
+use Rattle.wb_script.specs.Hosts.{taken, batch_text}
+use Rattle.wb_commands.specs.Acts.{Act, does, fails, act}
+use Rattle.wb_script.specs.Script.{State, start, IsAlone, Closing, Opens, Acts, Faulty, Part, Arrival, End, part_in, step_by, closing_step, part_step, finish, outcome}
 use Rattle.wb_script.specs.ScriptLaws.{workers_on, first_of, workers_at_end, OneThreadIsOutcome, OneWorkerIsOneThread, OneThreadIsFree}
 use Rattle.wb_script.proofs.Outcomes.{one_thread}
 use Rattle.wb_script.proofs.ReorderedLines.{state}
@@ -61,7 +63,7 @@ module _ (k j : Option ℕ) (n : ℕ) (lines : List InputLine) where
   steps : (part : Part) (host : Option Opened) (waiting : List DrawopValue) → IsAlone (workers_at_end (first_of k (workers_on part)) lines)
       → StepsAlike (Alone n lines) (part_step (state k host waiting) waiting part) (part_step (state j host waiting) waiting part)
   steps (Arrival d) None waiting alone = (ends k j None waiting (alone_first k None lines alone), refl, refl)
-  steps (End c) host waiting alone = closes c (by_host host None (λ host. Some (host_after host waiting waiting))) (by_host host [] (λ host. batch_text host.board waiting)) alone
+  steps (End c) host waiting alone = closes c (by_host host None (λ host. Some (taken waiting host))) (by_host host [] (λ host. batch_text (board_of host) waiting)) alone
   steps part host waiting alone = ((subst (λ (k : Option ℕ). IsAlone (workers_at_end k lines)) (sym (first_none k)) alone, refl, refl), refl)
 
 alone_simulates : (cut : Bool) → Simulates cut Alone

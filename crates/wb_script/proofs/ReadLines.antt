@@ -1,10 +1,10 @@
 -- A script that is read on, before anything is done with its host.
 use Rattle.std.proofs.Common.{◌≡◌, ℕ, ◌+◌, ◌<◌, Bool, true, false, List, [], ◌∷◌, ◌++◌, refl, sym, ap, subst, ◌∙◌, append_assoc, Option, Some, None, append-nil}
 use Rattle.wb_names.specs.Values.{DrawopValue}
-use Rattle.wb_script.specs.Hosts.{Opened}
+use Rattle.wb_member.specs.Opened.{Opened, by_host}
 use Rattle.wb_lines.specs.Ahead.{Ahead, IsLine}
 use Rattle.wb_lines.specs.Input.{InputLine, input_lines, content}
-use Rattle.wb_script.specs.Script.{State, Arrival, Nothing, part_in, Step, goes, by_host, part_step, step_of, most_lines, IsOutcomeFrom}
+use Rattle.wb_script.specs.Script.{State, Arrival, Nothing, part_in, Step, goes, part_step, step_of, most_lines, IsOutcomeFrom}
 use Rattle.wb_script.specs.Inside.Passing.{IsAhead, Passes}
 use Rattle.wb_script.specs.Inside.Lines.{LinesValue, EndsWith, Fronts, IsFirst, TakesNext, Takes}
 use Rattle.wb_script.specs.Inside.Reading.{IsOpen, with_waiting, EndsBatchBefore}

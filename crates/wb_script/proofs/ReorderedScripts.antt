@@ -9,7 +9,7 @@ use Rattle.wb_lines.specs.Ahead.{NoLineFeed}
 use Rattle.wb_lines.specs.Input.{InputLine, input_lines, content, most_bytes}
 use Rattle.wb_lines.proofs.StandingLines.{all_bytes, AreLines, reads, lines_again, stripped}
 use Rattle.wb_script.specs.declared.fault.RunFault.{RunFault}
-use Rattle.wb_script.specs.Parsing.{line_of}
+use Rattle.wb_commands.specs.Parsing.{line_of}
 use Rattle.wb_script.specs.Reordering.{part_at, other_than, others_of, batches_with, batches_of, AreRearranged, IsReorderedBy, WorkersAreOneThread}
 use Rattle.wb_script.specs.Script.{State, start, Outcome, Arrival, Part, part_of, part_in, Step, goes, refused, step_of, before, proceed, continue, outcome_from, fault_at}
 use Rattle.wb_script.specs.ScriptLaws.{EachEnds}

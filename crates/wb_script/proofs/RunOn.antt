@@ -1,21 +1,22 @@
 -- A line that was looked at is taken and done, and where it hands in an arrival, the batch that begins with it.
 use Rattle.std.proofs.Common.{◌≡◌, ℕ, ◌+◌, ◌<◌, ◌≤◌, Bool, true, false, List, [], ◌∷◌, ◌++◌, Result, Ok, Err, inr, refl, sym, ap, subst, ◌∙◌, Option, Some, None, append-nil}
 use Rattle.wb_names.specs.Values.{DrawopValue}
-use Rattle.wb_script.specs.declared.fault.LineFault.{LineFault}
-use Rattle.wb_script.specs.declared.fault.LineFault.TheVariants as faults
+use Rattle.wb_commands.specs.declared.fault.LineFault.{LineFault}
+use Rattle.wb_commands.specs.declared.fault.LineFault.TheVariants as faults
 use Rattle.wb_script.specs.declared.fault.RunFault.{RunFault}
 use Rattle.wb_script.specs.declared.fault.RunFault.TheVariants as run_faults
-use Rattle.wb_script.specs.declared.command.Command.{Command}
+use Rattle.wb_commands.specs.declared.command.Command.{Command}
 use Rattle.wb_script.specs.declared.taking.PrintedBatch.{PrintedBatch}
 use Rattle.wb_lines.specs.Ahead.{Ahead, IsLine, Pulls}
-use Rattle.wb_script.specs.Hosts.{Opened, host_after}
+use Rattle.wb_member.specs.Opened.{Opened, by_host}
+use Rattle.wb_script.specs.Hosts.{taken}
 use Rattle.wb_lines.specs.Input.{InputLine, content}
 use Rattle.wb_script.specs.declared.part.Part.TheVariants as parts
-use Rattle.wb_script.specs.Script.{State, IsAlone, Part, Arrival, Nothing, End, Faulty, part_of, part_in, goes, refused, by_host, after_batch, part_step, step_of, most_lines}
+use Rattle.wb_script.specs.Script.{State, IsAlone, Part, Arrival, Nothing, End, Faulty, part_of, part_in, goes, refused, after_batch, part_step, step_of, most_lines}
 use Rattle.wb_script.specs.Inside.Parts.{IsPartOf}
 use Rattle.wb_script.specs.Inside.Passing.{Passes, Stops, Ends, RunsOn}
 use Rattle.wb_script.specs.Inside.Lines.{LinesValue, EndsWith, Says, TakesNext}
-use Rattle.wb_script.specs.Members.{MemberValue, IsOpenAt, MayBeOpenAt}
+use Rattle.wb_member.specs.Holding.{MemberValue, IsOpenAt, MayBeOpenAt}
 use Rattle.wb_script.specs.Inside.Steps.{HostValue, IsAt, IsLeftAt, DoesStep, MayDoStep}
 use Rattle.wb_script.specs.Inside.Reading.{IsOpen, with_waiting}
 use Rattle.wb_script.specs.Inside.Taking.{GoesOn, TakesBatchOn}
@@ -114,9 +115,9 @@ open_host s v o = go s.host o refl where
   go None is e = absurd is
   go (Some host) is e = (host, e, is)
 
-at_after : (s : State) (host : Opened) (batch order : List DrawopValue) (v : MemberValue) (k : Option ℕ) → s.host ≡ Some host → k ≡ s.workers → IsOpenAt v (host_after host batch order) → IsAt (record { member = Some v; workers = k }) (after_batch (with_waiting s batch) order)
+at_after : (s : State) (host : Opened) (batch order : List DrawopValue) (v : MemberValue) (k : Option ℕ) → s.host ≡ Some host → k ≡ s.workers → IsOpenAt v (taken order host) → IsAt (record { member = Some v; workers = k }) (after_batch (with_waiting s batch) order)
 at_after s host batch order v k is same leads = record {
-  member = subst (λ (o : Option Opened). MayBeOpenAt (Some v) (by_host {X = Option Opened} o None (λ h. Some (host_after h batch order)))) (sym is) leads;
+  member = subst (λ (o : Option Opened). MayBeOpenAt (Some v) (by_host {X = Option Opened} o None (λ h. Some (taken order h)))) (sym is) leads;
   workers = same;
   waiting = refl;
 }

@@ -1,15 +1,17 @@
 -- What whole lines print, whatever follows them.
 use Rattle.std.proofs.Common.{◌≡◌, ℕ, ◌+◌, ◌<◌, Bool, true, false, cond, List, [], ◌∷◌, ◌++◌, length, Result, Ok, Err, inl, inr, ⊎_elim, ◌⊎◌, refl, sym, ap, subst, ◌∙◌, arith, Option, Some, None, nat_eq, nat_le, nat_lt, ◌&&◌, unwrap_or, true≢false, append-nil, length-append}
 use Rattle.std.specs.Str.Lines.{strip_carriage_return}
-use Rattle.wb_script.specs.declared.fault.LineFault.{LineFault}
+use Rattle.wb_commands.specs.declared.fault.LineFault.{LineFault}
 use Rattle.wb_script.specs.declared.fault.RunFault.{RunFault}
 use Rattle.wb_script.specs.declared.fault.RunFault.TheVariants as run_faults
-use Rattle.wb_script.specs.declared.command.Command.{Command}
-use Rattle.wb_script.specs.declared.command.Command.TheVariants.{Skip}
+use Rattle.wb_commands.specs.declared.command.Command.{Command}
+use Rattle.wb_commands.specs.declared.command.Command.TheVariants.{Skip}
 use Rattle.wb_script.specs.declared.running.Summary.{Summary}
 use Rattle.wb_lines.specs.Ahead.{IsLine}
-use Rattle.wb_script.specs.Hosts.{Opened, opened, Act, does, fails, act}
-use Rattle.wb_script.specs.Parsing.{line_of}
+use Rattle.wb_member.specs.Opened.{Opened}
+use Rattle.wb_script.specs.Hosts.{opened}
+use Rattle.wb_commands.specs.Acts.{Act, does, fails, act}
+use Rattle.wb_commands.specs.Parsing.{line_of}
 use Rattle.wb_script.specs.Script.{Begins, State, start, closing_text, after_batch, Closing, Opens, Acts, Part, Arrival, Nothing, End, part_of, part_in, Step, goes, refused, step_by, closing_step, part_step, step_of, Outcome, prints, before, answer, finish, proceed, continue, most_lines, outcome_from, outcome}
 use Rattle.wb_lines.specs.Input.{InputLine, onto_first, input_lines, content, most_bytes}
 use Rattle.wb_script.specs.ScriptLaws.{EachEnds, waits_after, waits_at_end, text_of, RefusedStays, PrintedStays, SkippedPrintsNothing}

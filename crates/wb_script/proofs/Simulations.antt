@@ -1,12 +1,11 @@
 -- Two states that are alike before each line: each outcome from the one is what one thread prints from the other.
-use Rattle.std.proofs.Common.{◌≡◌, ℕ, ◌+◌, Bool, cond, List, [], ◌∷◌, Result, Ok, Err, refl, sym, ap, ◌∙◌, Option, Some, None}
+use Rattle.std.proofs.Common.{◌≡◌, ℕ, ◌+◌, Bool, cond, List, [], ◌∷◌, Result, Ok, Err, refl, ap, ◌∙◌, Option, Some, None}
 use Rattle.wb_names.specs.Values.{DrawopValue}
-use Rattle.wb_script.specs.declared.fault.LineFault.{LineFault}
+use Rattle.wb_commands.specs.declared.fault.LineFault.{LineFault}
 use Rattle.wb_script.specs.declared.fault.RunFault.{RunFault}
 use Rattle.wb_script.specs.declared.fault.RunFault.TheVariants as run_faults
 use Rattle.wb_lines.specs.Input.{InputLine, content}
 use Rattle.wb_script.specs.Script.{State, MayBeTaken, part_in, Step, goes, refused, part_step, Outcome, before, finish, proceed, continue, outcome_from, Finishes, Proceeds, fault_at, Continues, IsOutcomeFrom}
-use Rattle.wb_script.proofs.Outcomes.{as_it_came, finishes as finishes_now}
 
 -- A script that ends here prints the same and answers the same, in whatever order the one takes its batch.
 abbrev pub EndsAlike : State → State → Type 0
@@ -35,19 +34,6 @@ proceeds number Alike Rest rest o (refused s text e) (refused t text' e') a on p
     p.2 ∙ ap (λ (x : List ℕ). before x p.0) a.1 ∙ ap (before text') (finishes s t (Err (run_faults.Line number e)) p.0 a.0 p.1 ∙ ap (λ (f : LineFault). finish t t.waiting (Err (run_faults.Line number f))) a.2)
 proceeds number Alike Rest rest o (goes s text) (refused t text' e) a on p = absurd a
 proceeds number Alike Rest rest o (refused s text e) (goes t text') a on p = absurd a
-
--- And the other way: what follows the other step is an outcome of what follows the one.
-pub proceeds_back : (number : ℕ) (Alike : State → State → Type 0) (Rest : State → Outcome → Type 0) (rest : State → Outcome) (step other : Step) → StepsAlike Alike step other
-    → ((s t : State) → Alike s t → Rest s (rest t)) → Proceeds number Rest (proceed number other rest) step
-proceeds_back number Alike Rest rest (goes s text) (goes t text') a on = (rest t, on s t a.0, ap (λ (x : List ℕ). before x (rest t)) (sym a.1))
-proceeds_back number Alike Rest rest (refused s text e) (refused t text' e') a on =
-    let end : Result ℕ RunFault = Err (run_faults.Line number e) in (
-      finish s s.waiting end,
-      finishes_now s end,
-      ap (before text') (ap (λ (f : LineFault). finish t t.waiting (Err (run_faults.Line number f))) (sym a.2) ∙ sym (a.0 s.waiting (as_it_came s.workers s.waiting) end)) ∙ ap (λ (x : List ℕ). before x (finish s s.waiting end)) (sym a.1),
-    )
-proceeds_back number Alike Rest rest (goes s text) (refused t text' e) a on = absurd a
-proceeds_back number Alike Rest rest (refused s text e) (goes t text') a on = absurd a
 
 module _ (cut : Bool) (Alike : ℕ → List InputLine → State → State → Type 0) (all : Simulates cut Alike) where
   continues : (fault : Option RunFault) (n : ℕ) (s t : State) (line : InputLine) (lines : List InputLine) (o : Outcome) → Alike n (line ∷ lines) s t → fault_at cut n line ≡ fault

@@ -1,21 +1,19 @@
 -- What a batch that was read from a script comes to.
-use Rattle.std.proofs.Common.{◌≡◌, ◌≢◌, ◌≤◌, ◌<◌, ℕ, List, [], ◌∷◌, ◌++◌, length, Bool, true, false, Result, Ok, Err, refl, sym, ap, subst, ◌∙◌, arith, Option, Some, None, filter, is_some, append-nil}
+use Rattle.std.proofs.Common.{◌≡◌, ◌≢◌, ◌≤◌, ◌<◌, ℕ, List, [], ◌∷◌, ◌++◌, length, Bool, true, false, Result, Ok, Err, refl, sym, ap, subst, ◌∙◌, arith, Option, Some, None, is_some, append-nil}
 use Rattle.std.proofs.lemmas.Bool.{false≢true, true≢false}
 use Rattle.wb_names.specs.Values.{DrawopValue}
 use Rattle.wb_feed.specs.Batches.{counts_in}
-use Rattle.wb_host.specs.Keeper.{Arrive, holds}
-use Rattle.wb_host.specs.Keeping.{KeeperValue, Keeps}
 use Rattle.wb_script.specs.declared.fault.RunFault.{RunFault}
 use Rattle.wb_script.specs.declared.fault.RunFault.TheVariants as run_faults
 use Rattle.wb_script.specs.declared.taking.TakenBatch.{TakenBatch}
-use Rattle.wb_script.specs.declared.taking.PrintedBatch.{PrintedBatch}
-use Rattle.wb_script.specs.Answers.{batch_line}
+use Rattle.wb_commands.specs.Answers.{batch_line}
 use Rattle.wb_lines.specs.Ahead.{Ahead}
-use Rattle.wb_script.specs.Hosts.{Opened, opened, batch_text, names_of}
+use Rattle.wb_member.specs.Opened.{Opened, board_of, by_host}
+use Rattle.wb_script.specs.Hosts.{opened, batch_text}
 use Rattle.wb_script.specs.Inside.Lines.{LinesValue}
-use Rattle.wb_script.specs.Script.{State, IsAlone, MayBeTaken, by_host, after_batch, closing_text, Outcome, Finishes, is_stop}
+use Rattle.wb_script.specs.Script.{State, IsAlone, MayBeTaken, after_batch, closing_text, Outcome, Finishes, is_stop}
 use Rattle.wb_script.specs.Inside.Passing.{Leads, IsAhead, Passes, StopsBehind, Stops}
-use Rattle.wb_script.specs.Members.{MemberValue, IsOpenAt}
+use Rattle.wb_member.specs.Holding.{MemberValue, IsOpenAt}
 use Rattle.wb_script.specs.Inside.Steps.{TakesBatch}
 use Rattle.wb_script.specs.Inside.Reading.{IsOpen, IsBatchEnd, with_waiting, BatchReading, listed, GetsTo, ReadsOn}
 use Rattle.wb_script.specs.Inside.Taking.{GetsOver, IsTaken, IsFault, TakesFrom, TakesArrivals, GoesOn, TakesOn}
@@ -105,44 +103,28 @@ goes_after : (fault : Option RunFault) (s : State) (order arrived : List DrawopV
 goes_after None s order arrived old new first given failed opened may p = passes_after old.done new.done (with_waiting s (first ∷ [])) (with_waiting s arrived) order old.ahead new given opened may p.0 p.1
 goes_after (Some f) s order arrived old new first given failed opened may p = (p.0, stops_after old.done (with_waiting s (first ∷ [])) (with_waiting s arrived) order old.ahead new.ahead given failed f p.0 opened may p.1)
 
--- what a member prints and tells its keeper of a batch that it has taken
-pub record TellsKeeper (d : TakenBatch) (member : MemberValue) (written : List ℕ) : Type 0 where
-  pub text : written ≡ batch_line (counts_in d.batch)
-  pub board : member.board ≡ d.member.board
-  pub words : member.words ≡ d.member.words
-  pub keeper : Keeps (Arrive d.member.keeper.moment (filter (holds d.member.board.drawops) (names_of d.drawops.items))) d.member.keeper member.keeper
+-- the member is at the host after the batch, whose counts were printed
+told_at : (old : MemberValue) (workers : ℕ) (d : TakenBatch) (written : List ℕ) (host : Opened) (is : IsTaken old workers d) → 0 < length d.drawops.items → written ≡ batch_line (counts_in d.batch) → IsOpenAt old host
+    → TakesBatch host d.drawops.items is.order d.member written
+told_at old workers d written host is some text at = taken old d.member d.drawops.items is.order written (counts_in d.batch) host some is.may.moved at (is.leads host at) is.counts text
 
--- the member is at the host after the batch
-told_at : (old : MemberValue) (workers : ℕ) (d : TakenBatch) (member : MemberValue) (written : List ℕ) (host : Opened) (is : IsTaken old workers d) → 0 < length d.drawops.items → TellsKeeper d member written → IsOpenAt old host
-    → TakesBatch host d.drawops.items is.taken.order member written
-told_at old workers d member written host is some told at =
-    let arrived = d.drawops.items in
-    let keeps : Keeps (Arrive old.keeper.moment (filter (holds d.member.board.drawops) (names_of arrived))) old.keeper member.keeper =
-    subst (λ (k : KeeperValue). Keeps (Arrive k.moment (filter (holds d.member.board.drawops) (names_of arrived))) k member.keeper) is.keeper told.keeper in
-    let t = taken old.board d.member.board old.keeper member.keeper old.words arrived is.taken.order (names_of arrived) written (counts_in d.batch) host some (record { board = at.board; keeper = at.keeper; words = at.words }) refl is.taken.may.moved is.taken.counts is.taken.held told.text keeps in
-    record {
-      leads = record { board = told.board ∙ t.leads.board; keeper = t.leads.keeper; words = told.words ∙ is.words ∙ at.words };
-      text = t.text;
-    }
-
-pub takes_on : (old : MemberValue) (workers : ℕ) (d : TakenBatch) (member : PrintedBatch) (written given : List ℕ) (lines lines' : LinesValue) (first : DrawopValue) (failed : Bool) (s : State) (host : Opened)
-    → s.host ≡ Some host → (IsAlone s.workers → workers ≤ 1) → IsOpenAt old host → IsTaken old workers d → TellsKeeper d member.member written → member.fault ≡ d.fault
-    → (IsOpen s.host → (0 < length d.drawops.items) × GetsOver d.fault s lines first given lines' failed d.drawops.items) → TakesOn s host lines first given written lines' failed member
-takes_on old workers d member written given lines lines' first failed s host here few at is told same read =
+pub takes_on : (old : MemberValue) (workers : ℕ) (d : TakenBatch) (written given : List ℕ) (lines lines' : LinesValue) (first : DrawopValue) (failed : Bool) (s : State) (host : Opened)
+    → s.host ≡ Some host → (IsAlone s.workers → workers ≤ 1) → IsOpenAt old host → IsTaken old workers d → written ≡ batch_line (counts_in d.batch)
+    → (IsOpen s.host → (0 < length d.drawops.items) × GetsOver d.fault s lines first given lines' failed d.drawops.items) → TakesOn s host lines first given written lines' failed (record { member = d.member; fault = d.fault })
+takes_on old workers d written given lines lines' first failed s host here few at is spelled read =
     let arrived = d.drawops.items in
     let opened : IsOpen s.host = subst IsOpen (sym here) tt in
-    let t = told_at old workers d member.member written host is (read opened).0 told at in
-    let may : MayBeTaken s.workers arrived is.taken.order = record { moved = is.taken.may.moved; alone = λ a. is.taken.may.alone (few a) } in
-    let text : closing_text (with_waiting s arrived) is.taken.order ≡ written = ap (λ (h : Option Opened). by_host {X = List ℕ} h [] (λ k. batch_text k.board is.taken.order)) here ∙ sym t.text in
-    let goes : GoesOn d.fault s lines first given (closing_text (with_waiting s arrived) is.taken.order) lines' failed (after_batch (with_waiting s arrived) is.taken.order) =
-    goes_after d.fault s is.taken.order arrived lines lines' first given failed opened may (read opened).1 in
+    let t = told_at old workers d written host is (read opened).0 spelled at in
+    let may : MayBeTaken s.workers arrived is.order = record { moved = is.may.moved; alone = λ a. is.may.alone (few a) } in
+    let text : closing_text (with_waiting s arrived) is.order ≡ written = ap (λ (h : Option Opened). by_host {X = List ℕ} h [] (λ k. batch_text (board_of k) is.order)) here ∙ sym t.text in
+    let goes : GoesOn d.fault s lines first given (closing_text (with_waiting s arrived) is.order) lines' failed (after_batch (with_waiting s arrived) is.order) =
+    goes_after d.fault s is.order arrived lines lines' first given failed opened may (read opened).1 in
     record {
       batch = arrived;
-      order = is.taken.order;
+      order = is.order;
       may = may;
       leads = t.leads;
-      goes = subst (λ (x : Option RunFault). GoesOn x s lines first given written lines' failed (after_batch (with_waiting s arrived) is.taken.order)) (sym same)
-          (subst (λ (w : List ℕ). GoesOn d.fault s lines first given w lines' failed (after_batch (with_waiting s arrived) is.taken.order)) text goes);
+      goes = subst (λ (w : List ℕ). GoesOn d.fault s lines first given w lines' failed (after_batch (with_waiting s arrived) is.order)) text goes;
     }
 
 -- of a fault that is kept no sink has failed

@@ -5,11 +5,11 @@ use Rattle.wb_lines.specs.declared.fault.DriveFault.TheVariants as drive_faults
 use Rattle.wb_lines.specs.Input.{input_lines, content, most_bytes}
 use Rattle.wb_lines.specs.Handling.{Met, whole, too_long, Step, goes, stops, ends}
 use Rattle.wb_lines.specs.Driving.{Outcome, writes, rules_of, outcome}
-use Rattle.wb_script.specs.declared.fault.LineFault.{LineFault}
+use Rattle.wb_commands.specs.declared.fault.LineFault.{LineFault}
 use Rattle.wb_script.specs.declared.fault.RunFault.{RunFault}
 use Rattle.wb_script.specs.declared.fault.RunFault.TheVariants as run_faults
-use Rattle.wb_script.specs.declared.command.Command.{Command}
-use Rattle.wb_script.specs.Parsing.{line_of}
+use Rattle.wb_commands.specs.declared.command.Command.{Command}
+use Rattle.wb_commands.specs.Parsing.{line_of}
 use Rattle.wb_script.specs.Script.{most_lines}
 
 -- A line that parses is passed over, and another stops the check. Nothing is remembered or printed.

@@ -1,21 +1,9 @@
--- The numbers of the faults.
-use Rattle.std.specs.Prelude.{ℕ}
-use Rattle.wb_script.specs.declared.fault.LineFault.{LineFault}
-use Rattle.wb_script.specs.declared.fault.LineFault.TheVariants.{Unknown, Words, Number, Hex, Datagram, Kind, NoBoard, SecondBoard, BackInTime, TooMany}
+-- The numbers of the faults of a run, and the fault of a line that it ends with.
+use Rattle.std.specs.Prelude.{ℕ, Result, Ok, Err}
+use Rattle.wb_commands.specs.declared.fault.Untaken.{Untaken}
+use Rattle.wb_commands.specs.declared.fault.Untaken.TheVariants as untaken
 use Rattle.wb_script.specs.declared.fault.RunFault.{RunFault}
 use Rattle.wb_script.specs.declared.fault.RunFault.TheVariants.{Line, Read, Write, Start, Memory, Endless}
-
-abbrev pub line_code : LineFault → ℕ
-line_code Unknown = 1
-line_code Words = 2
-line_code Number = 3
-line_code Hex = 4
-line_code (Datagram e) = 5
-line_code Kind = 6
-line_code NoBoard = 7
-line_code SecondBoard = 8
-line_code BackInTime = 9
-line_code TooMany = 10
 
 abbrev pub run_code : RunFault → ℕ
 run_code (Line n e) = 1
@@ -24,3 +12,13 @@ run_code Write = 3
 run_code Start = 4
 run_code Memory = 5
 run_code Endless = 6
+
+-- why a run ends with the line of this number, which was not taken
+abbrev pub at_line : ℕ → Untaken → RunFault
+at_line number (untaken.Line e) = Line number e
+at_line number untaken.Memory = Memory
+
+-- what became of the line of this number, in a run
+abbrev pub numbered : {U : Type 0} → ℕ → Result U Untaken → Result U RunFault
+numbered number (Ok u) = Ok u
+numbered number (Err e) = Err (at_line number e)

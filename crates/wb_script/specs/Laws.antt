@@ -1,21 +1,13 @@
 -- Laws of what a script's queries print: each is answered, and has no other answer.
-use Rattle.std.specs.Prelude.{◌≡◌, ℕ, ◌≤◌, List, [], ◌++◌, length, Contains, IsPermutation}
+use Rattle.std.specs.Prelude.{◌≡◌, ℕ, ◌≤◌, List, [], ◌∷◌, ◌++◌, length, Contains, IsPermutation}
 use Rattle.wb_names.specs.Values.{DrawopValue, MarkValue}
 use Rattle.wb_names.specs.History.{IsHistory}
 use Rattle.wb_names.specs.Arrivals.{history_after}
 use Rattle.wb_names.specs.declared.name.PageId.{PageId}
-use Rattle.wb_display.specs.Display.{IsView}
-use Rattle.wb_script.specs.declared.query.Query.{Query}
-use Rattle.wb_script.specs.Answers.{answer_text}
-use Rattle.wb_script.specs.Queries.{view_of}
-
--- the function gives the view of a page
-abbrev pub ViewOfPage : Type 0
-ViewOfPage = (history : List DrawopValue) (page : PageId) → IsHistory history → IsView history page (view_of history page)
-
--- and there is no other
-abbrev pub OnlyView : Type 0
-OnlyView = (history : List DrawopValue) (page : PageId) (shown : List DrawopValue) → IsHistory history → IsView history page shown → shown ≡ view_of history page
+use Rattle.wb_commands.specs.declared.query.Query.{Query}
+use Rattle.wb_commands.specs.Answers.{answer_text}
+use Rattle.wb_member.specs.Opened.{Opened, batched}
+use Rattle.wb_script.specs.Hosts.{host_after}
 
 -- what a board can hold
 pub record IsBoardHistory (history : List DrawopValue) : Type 0 where
@@ -47,3 +39,7 @@ ArrivalsAreFree = (cells : ℕ) (arrivals others : List DrawopValue) → IsPermu
 abbrev pub PrintsAreFree : Type 0
 PrintsAreFree = (marks : PageId → List MarkValue) (cells : ℕ) (arrivals others : List DrawopValue) (query : Query) → cells ≤ 65535 → IsPermutation arrivals others → NoneClash arrivals → HasCells cells arrivals
     → answer_text marks (history_after cells [] arrivals) query ≡ answer_text marks (history_after cells [] others) query
+
+-- A batch, whoever takes it in whatever order, is one act of the member that the host is.
+abbrev pub BatchesAreActs : Type 0
+BatchesAreActs = (host : Opened) (d : DrawopValue) (ds order : List DrawopValue) → host_after host (d ∷ ds) order ≡ batched (d ∷ ds) order host

@@ -1,16 +1,18 @@
 -- What a script prints, and how it ends.
 use Rattle.std.specs.Prelude.{◌≡◌, ℕ, ◌+◌, ◌≤◌, ◌^◌, List, [], ◌∷◌, ◌++◌, length, Bool, true, false, nat_le, nat_lt, ◌&&◌, ◌||◌, not, Option, Some, None, Result, Ok, Err, if◌then◌else◌, IsPermutation, ◌⊎◌, unwrap_or}
 use Rattle.wb_names.specs.Values.{DrawopValue}
-use Rattle.wb_script.specs.declared.fault.LineFault.{LineFault}
-use Rattle.wb_script.specs.declared.fault.LineFault.TheVariants as faults
+use Rattle.wb_commands.specs.declared.fault.LineFault.{LineFault}
+use Rattle.wb_commands.specs.declared.fault.LineFault.TheVariants as faults
 use Rattle.wb_script.specs.declared.fault.RunFault.{RunFault}
 use Rattle.wb_script.specs.declared.fault.RunFault.TheVariants as run_faults
 use Rattle.wb_script.specs.declared.running.Summary.{Summary}
-use Rattle.wb_script.specs.declared.command.Command.{Command}
-use Rattle.wb_script.specs.declared.command.Command.TheVariants.{Skip, Board, Arrive, Hear, Distance, Tick, Look, Session, Show, Gaps, Report, Pages}
+use Rattle.wb_commands.specs.declared.command.Command.{Command}
+use Rattle.wb_commands.specs.declared.command.Command.TheVariants.{Skip, Board, Arrive, Hear, Distance, Tick, Look, Session, Show, Gaps, Report, Pages}
 use Rattle.wb_lines.specs.Input.{InputLine, input_lines, content, most_bytes, BeginsWith}
-use Rattle.wb_script.specs.Hosts.{Opened, opened, host_after, batch_text, Act, does, fails, act}
-use Rattle.wb_script.specs.Parsing.{line_of}
+use Rattle.wb_member.specs.Opened.{Opened, board_of, by_host}
+use Rattle.wb_script.specs.Hosts.{opened, taken, batch_text}
+use Rattle.wb_commands.specs.Acts.{Act, does, fails, act}
+use Rattle.wb_commands.specs.Parsing.{line_of}
 
 -- the host, once it is open; how many workers take its batches, once that is known; and the arrivals of the present batch
 pub record State : Type 0 where
@@ -36,19 +38,14 @@ pub record MayBeTaken (workers : Option ℕ) (batch order : List DrawopValue) : 
 abbrev pub InSomeOrder : State → (List DrawopValue → Type 0) → Type 0
 InSomeOrder s Holds = (order : List DrawopValue) × MayBeTaken s.workers s.waiting order × Holds order
 
--- by whether a host is open
-abbrev pub by_host : {X : Type 0} → Option Opened → X → (Opened → X) → X
-by_host None none some = none
-by_host (Some host) none some = some host
-
 -- ---- the end of the present batch, which is taken in this order
 
 -- what it prints, and what it leads to
 abbrev pub closing_text : State → List DrawopValue → List ℕ
-closing_text s order = by_host s.host [] (λ host. batch_text host.board order)
+closing_text s order = by_host s.host [] (λ host. batch_text (board_of host) order)
 
 abbrev pub after_batch : State → List DrawopValue → State
-after_batch s order = record { host = by_host s.host None (λ host. Some (host_after host s.waiting order)); workers = s.workers; waiting = [] }
+after_batch s order = record { host = by_host s.host None (λ host. Some (taken order host)); workers = s.workers; waiting = [] }
 
 -- A batch ends so, and then this follows: a line does something, or the script ends.
 abbrev pub closed : {X : Type 0} → State → List DrawopValue → (State → List ℕ → X) → X
@@ -127,7 +124,7 @@ before text (prints rest end) = prints (text ++ rest) end
 
 -- how many drawops are held
 abbrev pub held_count : State → ℕ
-held_count s = by_host s.host 0 (λ host. length host.board.drawops)
+held_count s = by_host s.host 0 (λ host. length host.is.held)
 
 -- the answer of a script that had so many lines, or ended with a fault
 abbrev pub answer : State → Result ℕ RunFault → Result Summary RunFault

@@ -4,10 +4,10 @@ use Rattle.std.specs.Str.Lines.{strip_carriage_return}
 use Rattle.wb_names.specs.Values.{DrawopValue}
 use Rattle.wb_names.specs.Arrivals.{Counts, counts_of, outcomes_of, history_after}
 use Rattle.wb_script.specs.declared.fault.RunFault.{RunFault}
-use Rattle.wb_script.specs.declared.command.Command.TheVariants.{Skip}
+use Rattle.wb_commands.specs.declared.command.Command.TheVariants.{Skip}
 use Rattle.wb_script.specs.declared.running.Summary.{Summary}
 use Rattle.wb_lines.specs.Ahead.{IsLine}
-use Rattle.wb_script.specs.Parsing.{line_of}
+use Rattle.wb_commands.specs.Parsing.{line_of}
 use Rattle.wb_script.specs.Script.{Begins, IsAlone, Opens, Part, Arrival, Nothing, End, part_in, most_lines, Outcome, prints, outcome, IsOutcome}
 use Rattle.wb_lines.specs.Input.{InputLine, input_lines}
 

@@ -5,12 +5,12 @@ use Rattle.wb_names.specs.Values.{DrawopValue}
 use Rattle.wb_names.specs.Arrivals.{history_after}
 use Rattle.wb_names.specs.declared.name.PageId.{PageId}
 use Rattle.wb_display.specs.Canvas.{canvas_text}
-use Rattle.wb_script.specs.declared.command.Command.TheVariants.{Show}
+use Rattle.wb_commands.specs.declared.command.Command.TheVariants.{Show}
 use Rattle.wb_script.specs.declared.running.Summary.{Summary}
 use Rattle.wb_lines.specs.Ahead.{IsLine}
 use Rattle.wb_script.specs.Laws.{NoneClash, HasCells}
-use Rattle.wb_script.specs.Parsing.{line_of}
-use Rattle.wb_script.specs.Queries.{view_of}
+use Rattle.wb_commands.specs.Parsing.{line_of}
+use Rattle.wb_member.specs.Queries.{view_of}
 use Rattle.wb_lines.specs.Input.{InputLine, input_lines}
 use Rattle.wb_script.specs.Script.{Opens, Part, Arrival, End, part_in, prints, outcome}
 use Rattle.wb_script.specs.ScriptLaws.{EachEnds}

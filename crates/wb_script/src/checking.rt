@@ -3,10 +3,10 @@ ghost use Rattle.std.specs.Prelude.{◌≡◌, ◌≢◌, ◌≤◌, List, ℕ, 
 ghost use Rattle.wb_lines.specs.Driving.{Gave};
 ghost use Rattle.wb_script.specs.Checking.{Checks, CountsLines, IsCounted, fault_of};
 
-use crate::fault::{LineFault, ParseFault, RunFault};
-use crate::parsing::parse_line;
+use crate::fault::RunFault;
 use crate::script_lines::MAX_LINES;
 use std::alloc::Global;
+use wb_commands::{LineFault, Untaken, parse_line};
 use wb_lines::{DriveFault, Handler, Output, Stop, drive, without_end};
 use wb_names::{Sink, Source};
 
@@ -51,8 +51,8 @@ impl Handler for Checker {
     ) -> Result<(), Stop<LineFault>> {
         match parse_line(alloc, without_end(line, ended)) {
             Ok(_) => Ok(()),
-            Err(ParseFault::Line(fault)) => Err(Stop::Fault(fault)),
-            Err(ParseFault::Memory) => Err(Stop::Memory),
+            Err(Untaken::Line(fault)) => Err(Stop::Fault(fault)),
+            Err(Untaken::Memory) => Err(Stop::Memory),
         }
     }
 

@@ -1,96 +1,12 @@
-//! Why a line is refused, and why a script is not run to its end.
+//! Why a script is not run to its end.
 ghost use Rattle.std.specs.Prelude.{◌≡◌};
-ghost use Rattle.wb_script.specs.declared.fault.ParseFault.TheVariants as parse_faults;
 ghost use Rattle.wb_script.specs.declared.fault.RunFault.TheVariants as run_faults;
+ghost use Rattle.wb_script.specs.Faults.{at_line, numbered};
 
 use std::alloc::{AllocError, AllocFailed};
 use thiserror::Error;
-use wb_codec::ReadFault;
+use wb_commands::{LineFault, Untaken};
 use wb_lines::Unwritten;
-
-/// Why a line is refused: the first fault in the order of the variants.
-#[derive(Clone, Copy, Debug, PartialEq, Eq, Error)]
-pub enum LineFault {
-    /// The first word is no word of a script.
-    #[error("unknown")]
-    Unknown,
-    /// There are too few words, or too many.
-    #[error("words")]
-    Words,
-    /// A number has another byte than digits, or is out of its range.
-    #[error("number")]
-    Number,
-    /// A datagram is not an even number of hexadecimal digits.
-    #[error("hex")]
-    Hex,
-    /// The bytes are no datagram.
-    #[error("datagram {}", .0.code())]
-    Datagram(ReadFault),
-    /// The datagram is of a kind that the line does not take.
-    #[error("kind")]
-    Kind,
-    /// There is no board yet.
-    #[error("no board")]
-    NoBoard,
-    /// There is a board already.
-    #[error("second board")]
-    SecondBoard,
-    /// The moment is before the present one.
-    #[error("back in time")]
-    BackInTime,
-    /// A page would have marks of too many sources.
-    #[error("too many")]
-    TooMany,
-}
-
-impl LineFault {
-    ghost use Rattle.wb_script.specs.Faults.{line_code};
-
-    /// The number of the fault, from 1.
-    pub fn code(&self) -> u32
-        ensures { result ≡ line_code self.now }
-    {
-        match self {
-            LineFault::Unknown => 1,
-            LineFault::Words => 2,
-            LineFault::Number => 3,
-            LineFault::Hex => 4,
-            LineFault::Datagram(_) => 5,
-            LineFault::Kind => 6,
-            LineFault::NoBoard => 7,
-            LineFault::SecondBoard => 8,
-            LineFault::BackInTime => 9,
-            LineFault::TooMany => 10,
-        }
-    }
-}
-
-/// Why a line was not parsed.
-#[derive(Clone, Copy, Debug, PartialEq, Eq, Error)]
-pub enum ParseFault {
-    /// The line is refused.
-    #[error("{0}")]
-    Line(LineFault),
-    /// There was no memory for a datagram.
-    #[error("memory")]
-    Memory,
-}
-
-impl From<LineFault> for ParseFault {
-    ghost from_gives = { λ e f. f ≡ parse_faults.Line e };
-
-    fn from(fault: LineFault) -> ParseFault {
-        ParseFault::Line(fault)
-    }
-}
-
-impl From<AllocError> for ParseFault {
-    ghost from_gives = { λ _ f. f ≡ parse_faults.Memory };
-
-    fn from(_error: AllocError) -> ParseFault {
-        ParseFault::Memory
-    }
-}
 
 /// Why a script was not run to its end.
 #[derive(Clone, Copy, Debug, PartialEq, Eq, Error)]
@@ -154,5 +70,25 @@ impl From<Unwritten> for RunFault {
 
     fn from(_error: Unwritten) -> RunFault {
         RunFault::Write
+    }
+}
+
+/// Why a run ends with the line of this number, which was not taken.
+fn at_line(number: u32, fault: Untaken) -> RunFault
+    ensures { result ≡ at_line number fault }
+{
+    match fault {
+        Untaken::Line(fault) => RunFault::Line(number, fault),
+        Untaken::Memory => RunFault::Memory,
+    }
+}
+
+/// What became of the line of this number, in a run.
+pub(crate) fn numbered(number: u32, taken: Result<(), Untaken>) -> Result<(), RunFault>
+    ensures { result ≡ numbered number taken }
+{
+    match taken {
+        Ok(()) => Ok(()),
+        Err(fault) => Err(at_line(number, fault)),
     }
 }

@@ -3,15 +3,13 @@ ghost use Rattle.std.specs.Prelude.{◌≡◌, ◌≢◌, ◌<◌, List, [], ℕ
 ghost use Rattle.wb_lines.specs.Ahead.{Pulls};
 ghost use Rattle.wb_script.specs.Inside.Lines.{IsSeen};
 ghost use Rattle.wb_lines.specs.Output.{Sends};
-ghost use Rattle.wb_script.specs.Parsing.{IsWithin};
+ghost use Rattle.wb_commands.specs.Parsing.{IsWithin};
 ghost use Rattle.wb_script.specs.Inside.Parts.{EndsBatchAt, IsPartOf};
 ghost use Rattle.wb_script.specs.Inside.Passing.{RunsOn};
 ghost use Rattle.wb_script.specs.Script.{State, IsAlone, Acts, End, part_of, held_count, part_step, said_step, most_lines};
 ghost use Rattle.wb_script.specs.Inside.Steps.{IsAt, MayDoStep, Moves};
 
-use crate::command::Command;
-use crate::fault::{LineFault, RunFault};
-use crate::member::Member;
+use crate::fault::{RunFault, numbered};
 use crate::part::Part;
 use crate::progress::{Place, Progress};
 use crate::taking::{PrintedBatch, take_batch};
@@ -19,8 +17,10 @@ use std::alloc::Global;
 use std::marker::Model;
 use std::sync::Wait;
 use std::thread::Threads;
+use wb_commands::{Command, LineFault, MAX_WORKERS, act};
 use wb_feed::Gate;
 use wb_lines::Output;
+use wb_member::Member;
 use wb_names::{Drawop, Sink, Source};
 use wb_recovery::Tuning;
 
@@ -99,7 +99,7 @@ impl Host {
     {
         match &mut self.member {
             None => Err(RunFault::Line(number, LineFault::NoBoard)),
-            Some(member) => member.act(alloc, number, command, output),
+            Some(member) => numbered(number, act(alloc, member, command, output)),
         }
     }
 
@@ -162,9 +162,6 @@ impl Host {
     }
 }
 
-/// At most so many workers take a batch.
-const MOST_WORKERS: u32 = 8;
-
 /// By how many workers a batch is taken: one, until a number is known, and from 1 to 8 in any case.
 fn worker_count(workers: Option<u32>) -> u32
     ensures range { (0 < result) × (result ≤ 8) }
@@ -175,8 +172,8 @@ fn worker_count(workers: Option<u32>) -> u32
     };
     if count == 0 {
         1
-    } else if count > MOST_WORKERS {
-        MOST_WORKERS
+    } else if count > MAX_WORKERS {
+        MAX_WORKERS
     } else {
         count
     }

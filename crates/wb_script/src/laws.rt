@@ -2,13 +2,13 @@
 //! stands here for its clauses.
 
 ghost use Rattle.wb_gaps.specs.Laws.{GapsOfPage, OnlyGaps, ReportOfPage, OnlyReport, PagesOfHistory, OnlyPages};
-ghost use Rattle.wb_script.specs.Laws.{ViewOfPage, OnlyView, AnswersAreFree, BatchesAreOne, ArrivalsAreFree, PrintsAreFree};
+ghost use Rattle.wb_member.specs.Queries.{ViewOfPage, OnlyView};
+ghost use Rattle.wb_script.specs.Laws.{AnswersAreFree, BatchesAreActs, BatchesAreOne, ArrivalsAreFree, PrintsAreFree};
 ghost use Rattle.wb_script.specs.Reordering.{WorkersAreOneThread, EachReorderingIsOutcome};
 ghost use Rattle.wb_script.specs.Shows.{ShowsArrivals, ShowsAreFree};
 ghost use Rattle.wb_script.specs.ScriptLaws.{RefusedStays, PrintedStays, SkippedPrintsNothing, CountsAddUp, HeldStays, OneThreadIsOutcome, OneWorkerIsOneThread, OneThreadIsFree};
 ghost use Rattle.wb_script.specs.FreeWorkers.{OrdersAreFree, WorkersAreFree};
-ghost use Rattle.wb_script.specs.Random.{WordsFollowWords, StepsFollowSteps, WordsFit};
-ghost use Rattle.wb_script.specs.SentLines.{SentIsTaken};
+ghost use Rattle.wb_script.specs.RunLaws.{AloneIsOneOrder, RunIsWithoutOks, RefusedIsWithoutOks};
 
 /// What is printed is the view of a page, its missing ranges, its report, and the list of pages.
 pub fn queries_are_answered()
@@ -39,6 +39,11 @@ pub fn arrivals_are_free()
     ensures batches { BatchesAreOne }
     ensures held { ArrivalsAreFree }
     ensures prints { PrintsAreFree }
+{}
+
+/// A batch is one act of the member that a host is: it takes the batch in the order of its workers.
+pub fn batches_are_acts()
+    ensures { BatchesAreActs }
 {}
 
 /// A script that shows a page at its end prints the canvas of all its arrivals, of whatever batches. Two
@@ -91,16 +96,12 @@ pub fn workers_are_free()
     ensures workers { WorkersAreFree }
 {}
 
-/// Words that are taken in two parts are those that are taken at once, and each has 64 bits: what a
-/// script has taken is the first so many words of its seed, however it took them.
-pub fn words_follow_words()
-    ensures words { WordsFollowWords }
-    ensures rest { StepsFollowSteps }
-    ensures fit { WordsFit }
-{}
-
-/// What one script prints as sent, another takes: the digits of a drawop behind the word `arrive`, and
-/// those of every other datagram behind `hear`.
-pub fn sent_is_taken()
-    ensures { SentIsTaken }
+/// A script in which each arrival is a batch of its own prints, by `run` with any number of workers, what `host`
+/// prints for it, without the lines `ok DUE`. This is so where the run comes to the end of the script, or to
+/// where reading fails. Where a line is refused, which ends the run, it prints what `host` prints for the lines
+/// before it. The timers of the host have the constants of a script.
+pub fn runs_are_transcripts()
+    ensures order { AloneIsOneOrder }
+    ensures whole { RunIsWithoutOks }
+    ensures refused { RefusedIsWithoutOks }
 {}

@@ -2,8 +2,7 @@
 ghost use Rattle.wb_script.specs.Inside.Parts.{IsPart};
 ghost use Rattle.wb_script.specs.Script.{part_of};
 
-use crate::command::Command;
-use crate::fault::LineFault;
+use wb_commands::{Command, LineFault};
 use wb_names::Drawop;
 
 /// What a line is to the batch before it.

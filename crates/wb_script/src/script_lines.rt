@@ -4,16 +4,15 @@ ghost use Rattle.wb_lines.specs.Output.{Sends};
 ghost use Rattle.wb_lines.specs.Ahead.{Pulls};
 ghost use Rattle.wb_lines.specs.Input.{content};
 ghost use Rattle.wb_script.specs.Script.{most_lines};
-ghost use Rattle.wb_script.specs.Parsing.{line_of, IsWithin};
+ghost use Rattle.wb_commands.specs.Parsing.{line_of, IsWithin};
 ghost use Rattle.wb_script.specs.Inside.Lines.{IsSeen, Says, Looks, Takes};
 ghost use Rattle.wb_script.specs.Inside.Parts.{IsPartOf};
 
-use crate::command::Command;
-use crate::fault::{LineFault, ParseFault, RunFault};
-use crate::parsing::parse_line;
+use crate::fault::RunFault;
 use crate::part::{Part, part_of};
 use std::alloc::{AllocError, Global};
 use std::marker::Model;
+use wb_commands::{Command, LineFault, Untaken, parse_line};
 use wb_lines::{Found, LineReader, Output, Pulled, without_end};
 use wb_names::{Sink, Source};
 
@@ -34,8 +33,8 @@ fn said(alloc: Global, line: &[u8], ended: bool) -> Result<Result<Command, LineF
 {
     match parse_line(alloc, without_end(line, ended)) {
         Ok(line) => Ok(Ok(line)),
-        Err(ParseFault::Line(fault)) => Ok(Err(fault)),
-        Err(ParseFault::Memory) => Err(AllocError),
+        Err(Untaken::Line(fault)) => Ok(Err(fault)),
+        Err(Untaken::Memory) => Err(AllocError),
     }
 }
 

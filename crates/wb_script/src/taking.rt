@@ -1,21 +1,23 @@
 //! A batch that is read from its script as workers take it.
-ghost use Rattle.std.specs.Prelude.{◌≡◌, ◌≢◌, ◌≤◌, ◌<◌, ℕ, [], List, None, Some, Err, true, IfOk};
+ghost use Rattle.std.specs.Prelude.{◌≡◌, ◌≢◌, ◌≤◌, ◌<◌, ℕ, [], List, None, Some, Err, true, IfOk, IfErr, OnOk};
 ghost use Rattle.wb_names.specs.Values.{DrawopValue};
 ghost use Rattle.wb_lines.specs.Output.{Sends};
 ghost use Rattle.wb_lines.specs.Ahead.{Pulls};
-ghost use Rattle.wb_script.specs.Hosts.{Opened};
-ghost use Rattle.wb_script.specs.Script.{State, IsAlone, is_stop};
-ghost use Rattle.wb_script.specs.Members.{IsOpenAt};
+ghost use Rattle.wb_feed.specs.Batches.{counts_in};
+ghost use Rattle.wb_member.specs.Holding.{IsOpenAt};
+ghost use Rattle.wb_member.specs.Opened.{Opened};
+ghost use Rattle.wb_script.specs.Script.{State, IsAlone, is_stop, IsStop};
 ghost use Rattle.wb_script.specs.Inside.Reading.{ReadsOn};
-ghost use Rattle.wb_script.specs.Inside.Taking.{TakesFrom, TakesArrivals, TakesBatchOn};
+ghost use Rattle.wb_script.specs.Inside.Taking.{TakesAll, TakesFrom, TakesArrivals, TakesBatchOn};
 
 use crate::arriving::BatchSource;
 use crate::fault::RunFault;
-use crate::member::Member;
 use crate::progress::{Place, Progress};
 use std::sync::Wait;
 use std::thread::Threads;
-use wb_feed::{Batch, Gate};
+use wb_commands::batch_line;
+use wb_feed::{Arrivals, Batch, FeedFault, Gate, run_batch};
+use wb_member::Member;
 use wb_names::{Drawop, Sink, Source};
 
 /// A member that has taken a batch, its counts, its drawops as they came, and why the script can't be read on,
@@ -42,6 +44,47 @@ pub fn is_stop(fault: RunFault) -> bool
     matches!(&fault, RunFault::Memory | RunFault::Write | RunFault::Start)
 }
 
+/// Has so many workers take the arrivals of a source at the board of a member, and tells its keeper what arrived.
+/// Answers the member, the counts, and the drawops as they came. Where that is refused the member is gone: rows of
+/// its board may be lost.
+fn take_all<T: Threads + Wait + Sync, S: Arrivals, G: Gate + Sync>(
+    place: &Place<'_, T, G>,
+    member: Member,
+    workers: u32,
+    arrivals: &mut S,
+) -> Result<(Member, Batch, Vec<Drawop>), RunFault>
+    requires workers { (0 < workers) × (workers ≤ 8) }
+    ensures arrived { (given : List DrawopValue) × S.gives arrivals.old given arrivals.new }
+    ensures given { IfOk result (λ r. S.gives arrivals.old r.2.items arrivals.new) }
+    ensures taken { IfOk result (λ r. TakesAll member workers r.2.items (counts_in r.1) r.0) }
+    ensures ended { OnOk result (S.has_ended arrivals.new ≡ true) }
+    ensures stopped { IfErr result IsStop }
+    ensures unread { result ≢ Err RunFault.Read }
+    ensures unwritten { result ≢ Err RunFault.Write }
+{
+    let (board, mut desk, awaits) = member.await_batch();
+    let taken = run_batch(
+        place.rt,
+        place.alloc,
+        &board,
+        &mut desk,
+        workers,
+        arrivals,
+        place.gate,
+    );
+    // The number of its rows says, for the proof alone, that the desk is sound.
+    let _sound = desk.rows_left();
+    match taken {
+        Ok((batch, drawops)) => {
+            let member = awaits.take_back(place.alloc, board, desk, &drawops)?;
+            Ok((member, batch, drawops))
+        }
+        Err(FeedFault::Start) => Err(RunFault::Start),
+        Err(FeedFault::Memory) => Err(RunFault::Memory),
+        Err(FeedFault::Workers) => unreachable!(),
+    }
+}
+
 /// Takes the arrivals of a batch from its script, to its end.
 fn take_from<T: Threads + Wait + Sync, R: Source, W: Sink, G: Gate + Sync>(
     place: &Place<'_, T, G>,
@@ -58,7 +101,7 @@ fn take_from<T: Threads + Wait + Sync, R: Source, W: Sink, G: Gate + Sync>(
         × TakesFrom member workers arrived arriving.new.over result }
     ensures failed { result ≡ Err RunFault.Write → W.has_failed arriving.new.sink.now ≡ true }
 {
-    let taken = member.take_arrivals(place.rt, place.alloc, workers, arriving, place.gate);
+    let taken = take_all(place, member, workers, arriving);
     let over = arriving.over;
     let (member, batch, drawops) = taken?;
     let fault = match over {
@@ -123,9 +166,16 @@ pub fn take_batch<T: Threads + Wait + Sync, R: Source, W: Sink, G: Gate + Sync>(
     let TakenBatch {
         member,
         batch,
-        drawops,
+        drawops: _drawops,
         fault,
     } = take_arrivals(place, member, workers, first, progress, source, sink)?;
-    let member = member.print_batch(place.alloc, batch, &drawops, &mut progress.output)?;
+    let text = batch_line(
+        place.alloc,
+        batch.fresh,
+        batch.again,
+        batch.clash,
+        batch.left,
+    )?;
+    progress.output.add(text.as_bytes())?;
     Ok(PrintedBatch { member, fault })
 }

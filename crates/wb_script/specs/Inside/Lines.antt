@@ -1,10 +1,10 @@
 -- The lines of a script, of which the next can be looked at before it is taken.
 use Rattle.std.specs.Prelude.{◌≡◌, ◌≢◌, ◌<◌, ◌+◌, ℕ, List, [], ◌∷◌, ◌++◌, Bool, true, false, Option, Some, None, Result, Ok, Err}
-use Rattle.wb_script.specs.declared.fault.LineFault.{LineFault}
+use Rattle.wb_commands.specs.declared.fault.LineFault.{LineFault}
 use Rattle.wb_script.specs.declared.fault.RunFault.{RunFault}
-use Rattle.wb_script.specs.declared.command.Command.{Command}
+use Rattle.wb_commands.specs.declared.command.Command.{Command}
 use Rattle.wb_lines.specs.Ahead.{Ahead, IsLine}
-use Rattle.wb_script.specs.Parsing.{line_of}
+use Rattle.wb_commands.specs.Parsing.{line_of}
 use Rattle.wb_lines.specs.Input.{InputLine, content}
 use Rattle.wb_script.specs.Script.{State, most_lines}
 use Rattle.wb_script.specs.Inside.Passing.{Stops}

@@ -5,7 +5,7 @@ use Rattle.wb_script.specs.declared.fault.RunFault.{RunFault}
 use Rattle.wb_script.specs.declared.fault.RunFault.TheVariants as run_faults
 use Rattle.wb_lines.specs.Ahead.{Ahead, Pulls}
 use Rattle.wb_lines.specs.Output.{Sends}
-use Rattle.wb_script.specs.Hosts.{Opened}
+use Rattle.wb_member.specs.Opened.{Opened}
 use Rattle.wb_lines.specs.Input.{InputLine}
 use Rattle.wb_script.specs.Script.{State, part_in, most_lines}
 use Rattle.wb_script.specs.Inside.Parts.{EndsBatchAt}

@@ -3,7 +3,7 @@ use Rattle.std.specs.Prelude.{◌≡◌, ◌≤◌, ◌<◌, ℕ, List, ◌∷�
 use Rattle.wb_script.specs.declared.script_lines.Seen.{Seen}
 use Rattle.wb_lines.specs.Ahead.{Ahead}
 use Rattle.wb_lines.specs.Input.{content}
-use Rattle.wb_script.specs.Parsing.{line_of, IsWithin}
+use Rattle.wb_commands.specs.Parsing.{line_of, IsWithin}
 use Rattle.wb_script.specs.Script.{most_lines}
 use Rattle.wb_script.specs.Inside.Lines.{LinesValue, Fronts}
 

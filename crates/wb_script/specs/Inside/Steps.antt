@@ -3,9 +3,10 @@ use Rattle.std.specs.Prelude.{◌≡◌, ℕ, List, [], Option, Result, Ok, Err,
 use Rattle.wb_names.specs.Values.{DrawopValue}
 use Rattle.wb_script.specs.declared.fault.RunFault.{RunFault}
 use Rattle.wb_script.specs.declared.fault.RunFault.TheVariants as run_faults
-use Rattle.wb_script.specs.Hosts.{Opened, host_after, batch_text}
+use Rattle.wb_member.specs.Opened.{Opened, board_of}
+use Rattle.wb_script.specs.Hosts.{taken, batch_text}
 use Rattle.wb_script.specs.Script.{State, InSomeOrder, Step, goes, refused, is_stop, StopsWithin}
-use Rattle.wb_script.specs.Members.{MemberValue, IsOpenAt, MayBeOpenAt}
+use Rattle.wb_member.specs.Holding.{MemberValue, IsOpenAt, MayBeOpenAt}
 
 pub record HostValue : Type 0 where
   pub member : Option MemberValue
@@ -19,8 +20,8 @@ pub record IsAt (h : HostValue) (s : State) : Type 0 where
 
 -- A member that was at this host has taken a batch, in this order, and printed a text.
 pub record TakesBatch (host : Opened) (batch order : List DrawopValue) (new : MemberValue) (written : List ℕ) : Type 0 where
-  pub leads : IsOpenAt new (host_after host batch order)
-  pub text : written ≡ batch_text host.board order
+  pub leads : IsOpenAt new (taken order host)
+  pub text : written ≡ batch_text (board_of host) order
 
 abbrev pub DoesStep : {U : Type 0} → ℕ → HostValue → List ℕ → Result U RunFault → Step → Type 0
 DoesStep number new written (Ok u) (goes t text) = IsAt new t × (written ≡ text)

@@ -1,6 +1,6 @@
 use Rattle.std.proofs.Common.{◌≡◌, Result, Ok, Err, refl, sym, ap, subst, ◌∙◌, rules}
 use Rattle.std.specs.Prelude.{Option}
-use Rattle.wb_dialog.specs.Dialog.{unopened}
+use Rattle.wb_dialog.specs.Hosting.{unopened}
 use Rattle.wb_dialog.specs.Doing.{DialogValue, IsAt, fault_of}
 use Rattle.wb_dialog.specs.declared.fault.HostFault.TheVariants as host_faults
 use Rattle.wb_dialog.proofs.Transcripts.{Hosts, hosts_transcript, same_fault, fault_reads, fault_writes}
@@ -9,7 +9,7 @@ use Rattle.wb_dialog.proofs.hosting.host.Goals as goal
 pub returns-in-Ok-clause-text : goal.returns-in-Ok-clause-text
 returns-in-Ok-clause-text g c =
     let l = c.in-Ok.ensures.lines in
-    let at = subst (λ (d : DialogValue). IsAt d (unopened c.args.tuning)) (sym c.new-dialog.ensures) (record { tuning = refl; member = tt }) in (
+    let at = subst (λ (d : DialogValue). IsAt d (unopened c.args.tuning)) (sym c.new-dialog.ensures) (record { tuning = refl; host = tt }) in (
       l.0,
       l.1,
       l.2,
@@ -20,13 +20,13 @@ returns-in-Ok-clause-text g c =
 pub returns-in-Ok-clause-whole : goal.returns-in-Ok-clause-whole
 returns-in-Ok-clause-whole g c =
     let l = c.in-Ok.ensures.lines in
-    let at = subst (λ (d : DialogValue). IsAt d (unopened c.args.tuning)) (sym c.new-dialog.ensures) (record { tuning = refl; member = tt }) in
+    let at = subst (λ (d : DialogValue). IsAt d (unopened c.args.tuning)) (sym c.new-dialog.ensures) (record { tuning = refl; host = tt }) in
     (hosts_transcript c.args.tuning 18446744073709551615 (g.R.Source.has_failed c.drive.new.source) l.0 l.1 (Ok c.in-Ok.field-0) (l.4 (unopened c.args.tuning) at)).1
 
 pub returns-clause-text : goal.returns-clause-text
 returns-clause-text g c =
     let l = c.in-Err.ensures.lines in
-    let at = subst (λ (d : DialogValue). IsAt d (unopened c.args.tuning)) (sym c.new-dialog.ensures) (record { tuning = refl; member = tt }) in (
+    let at = subst (λ (d : DialogValue). IsAt d (unopened c.args.tuning)) (sym c.new-dialog.ensures) (record { tuning = refl; host = tt }) in (
       l.0,
       l.1,
       l.2,

@@ -16,6 +16,6 @@ returns-clause-text c = elim c.match-self.branch [
       rw (w.output-is, w.result-is, w.self-inside-is) (
         b.0,
         b.1,
-        λ s at. let e = ends_empty c.args.self.now s at in (e.0, e.1, ends_then c.args.number s e.0 c.args.self.now c.self.inside.member w.in-Some.member w.act.new.self c.self.inside.workers b.0 c.args.command.now w.act.result c.self.view_is w.in-Some.is e.2 b.2),
+        λ s at. let e = ends_empty c.args.self.now s at in (e.0, e.1, rw w.numbered.ensures (ends_then c.args.number s e.0 c.args.self.now c.self.inside.member w.in-Some.member w.act.new.member c.self.inside.workers b.0 c.args.command.now w.act.result c.self.view_is w.in-Some.is e.2 b.2)),
       )
 ]

@@ -1,7 +1,7 @@
 use Rattle.std.proofs.Common.{rules, ◌≡◌, None, Some, refl, sym, ap, ◌∙◌, unwrap_or}
 use Rattle.wb_script.specs.Hosts.{opened}
 use Rattle.wb_script.specs.Inside.Steps.{HostValue}
-use Rattle.wb_script.specs.Members.{IsOpenAt}
+use Rattle.wb_member.specs.Holding.{IsOpenAt}
 use Rattle.wb_script.proofs.Steps.{ends_empty, opens}
 use Rattle.wb_script.proofs.host.Host.open_board.Goals as goal
 

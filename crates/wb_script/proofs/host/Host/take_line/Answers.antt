@@ -1,6 +1,6 @@
 use Rattle.std.proofs.Common.{◌≡◌, ℕ, [], Ok, refl, sym, subst, append-nil}
-use Rattle.wb_script.specs.declared.command.Command.{Command}
-use Rattle.wb_script.specs.declared.command.Command.TheVariants.{Skip, Board, Arrive}
+use Rattle.wb_commands.specs.declared.command.Command.{Command}
+use Rattle.wb_commands.specs.declared.command.Command.TheVariants.{Skip, Board, Arrive}
 use Rattle.wb_script.specs.Inside.Parts.{EndsBatchAt}
 use Rattle.wb_script.specs.Script.{Acts, Part, End, part_of, part_step}
 use Rattle.wb_script.specs.Inside.Steps.{DoesStep}

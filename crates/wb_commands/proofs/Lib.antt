@@ -1,0 +1,4 @@
+pub mod FirstWords
+pub mod Arrivals
+pub mod Acts
+pub mod SentDigits

@@ -1,0 +1,180 @@
+-- What a line of a script says, or its first fault.
+use Rattle.std.specs.Prelude.{◌≡◌, ◌<◌, ◌≤◌, IfErr, MatchResult, ℕ, ◌-◌, ◌^◌, List, [], ◌∷◌, Bool, true, false, nat_eq, Option, Some, None, Result, Ok, Err, if◌then◌else◌, codes, bytes_eq}
+use Rattle.wb_names.specs.declared.name.PageId.{PageId}
+use Rattle.wb_codec.specs.Reading.{reading}
+use Rattle.wb_codec.specs.declared.datagram.Datagram.{Datagram}
+use Rattle.wb_codec.specs.declared.datagram.Datagram.TheVariants as datagrams
+use Rattle.wb_codec.specs.declared.fault.ReadFault.{ReadFault}
+use Rattle.wb_commands.specs.declared.fault.LineFault.{LineFault}
+use Rattle.wb_commands.specs.declared.fault.LineFault.TheVariants as faults
+use Rattle.wb_commands.specs.declared.fault.Untaken.{Untaken}
+use Rattle.wb_commands.specs.declared.fault.Untaken.TheVariants as untaken
+use Rattle.wb_display.specs.Canvas.{is_canvas_size}
+use Rattle.wb_commands.specs.Faults.{line_code}
+use Rattle.wb_commands.specs.declared.command.Command.{Command}
+use Rattle.wb_commands.specs.declared.command.Command.TheVariants.{Skip, Board, Arrive, Hear, Distance, Tick, Look, Session, Show, Gaps, Report, Pages}
+use Rattle.wb_lines.specs.Words.{words, number_of, unhex}
+
+infixl 10 ◌>>=◌
+abbrev pub ◌>>=◌ : {A B : Type 0} → Result A LineFault → (A → Result B LineFault) → Result B LineFault
+(Ok x) >>= f = f x
+(Err e) >>= f = Err e
+
+abbrev pub or_fault : {A : Type 0} → LineFault → Option A → Result A LineFault
+or_fault e (Some x) = Ok x
+or_fault e None = Err e
+
+-- a number of a range
+abbrev pub number : ℕ → ℕ → List ℕ → Result ℕ LineFault
+number low high word = or_fault faults.Number (number_of low high word)
+
+-- no words, the only word, the only two, and the only four
+abbrev pub none_of : List (List ℕ) → Option (Unit {0})
+none_of [] = Some tt
+none_of (a ∷ more) = None
+
+abbrev pub one_of : List (List ℕ) → Option (List ℕ)
+one_of (a ∷ []) = Some a
+one_of ws = None
+
+abbrev pub two_of : List (List ℕ) → Option (List ℕ × List ℕ)
+two_of (a ∷ b ∷ []) = Some (a, b)
+two_of ws = None
+
+abbrev pub four_of : List (List ℕ) → Option (List ℕ × List ℕ × List ℕ × List ℕ)
+four_of (a ∷ b ∷ c ∷ d ∷ []) = Some (a, b, c, d)
+four_of ws = None
+
+-- the member, the cells, the workers and the seed of a board
+unfoldable pub board : List (List ℕ) → Result Command LineFault
+board arguments = do
+  words' ← or_fault faults.Words (four_of arguments)
+  member ← number 0 (2 ^ 32 - 1) words'.0
+  cells ← number 1 65535 words'.1
+  workers ← number 1 8 words'.2
+  seed ← number 0 (2 ^ 64 - 1) words'.3
+  Ok (Board member cells workers seed)
+
+-- the page, the width and the height of a canvas
+unfoldable pub show : List (List ℕ) → Result Command LineFault
+show arguments = do
+  words' ← or_fault faults.Words (four_of arguments)
+  creator ← number 0 (2 ^ 32 - 1) words'.0
+  number' ← number 0 (2 ^ 32 - 1) words'.1
+  width ← number 1 200 words'.2
+  height ← number 1 100 words'.3
+  Ok (Show (record { creator = creator; number = number' }) width height)
+
+-- a source, and a delay below 2^24 microseconds
+unfoldable pub distance : List (List ℕ) → Result Command LineFault
+distance arguments = do
+  words' ← or_fault faults.Words (two_of arguments)
+  source ← number 0 (2 ^ 32 - 1) words'.0
+  micros ← number 0 (2 ^ 24 - 1) words'.1
+  Ok (Distance source micros)
+
+-- a moment below 2^48 microseconds
+unfoldable pub tick : List (List ℕ) → Result Command LineFault
+tick arguments = do
+  word ← or_fault faults.Words (one_of arguments)
+  moment ← number 0 (2 ^ 48 - 1) word
+  Ok (Tick moment)
+
+-- a page, by its creator and its number
+unfoldable pub page : List (List ℕ) → Result PageId LineFault
+page arguments = do
+  words' ← or_fault faults.Words (two_of arguments)
+  creator ← number 0 (2 ^ 32 - 1) words'.0
+  number' ← number 0 (2 ^ 32 - 1) words'.1
+  Ok (record { creator = creator; number = number' })
+
+abbrev pub pages : List (List ℕ) → Result Command LineFault
+pages arguments = or_fault faults.Words (none_of arguments) >>= λ nothing. Ok Pages
+
+-- the datagram that bytes spell
+abbrev pub spelled : Result Datagram ReadFault → Result Datagram LineFault
+spelled (Ok v) = Ok v
+spelled (Err e) = Err (faults.Datagram e)
+
+-- the datagram that digits spell
+unfoldable pub datagram : List (List ℕ) → Result Datagram LineFault
+datagram arguments = do
+  digits ← or_fault faults.Words (one_of arguments)
+  bytes ← or_fault faults.Hex (unhex digits)
+  spelled (reading bytes)
+
+-- drawops arrive, and every other datagram is heard
+abbrev pub arrived : Datagram → Result Command LineFault
+arrived (datagrams.Draw d) = Ok (Arrive d)
+arrived v = Err faults.Kind
+
+abbrev pub heard : Datagram → Result Command LineFault
+heard (datagrams.Draw d) = Err faults.Kind
+heard v = Ok (Hear v)
+
+abbrev pub arrive : List (List ℕ) → Result Command LineFault
+arrive arguments = datagram arguments >>= arrived
+
+abbrev pub hear : List (List ℕ) → Result Command LineFault
+hear arguments = datagram arguments >>= heard
+
+-- the line of a page with this first word
+unfoldable pub page_line : List ℕ → List (List ℕ) → Result Command LineFault
+page_line word arguments =
+    if bytes_eq word (codes "look") then page arguments >>= (λ p. Ok (Look p))
+    else (if bytes_eq word (codes "session") then page arguments >>= (λ p. Ok (Session p))
+    else (if bytes_eq word (codes "gaps") then page arguments >>= (λ p. Ok (Gaps p))
+    else (if bytes_eq word (codes "report") then page arguments >>= (λ p. Ok (Report p))
+    else Err faults.Unknown)))
+
+-- the line with this first word and these further ones
+unfoldable pub command : List ℕ → List (List ℕ) → Result Command LineFault
+command word arguments =
+    if bytes_eq word (codes "board") then board arguments
+    else (if bytes_eq word (codes "arrive") then arrive arguments
+    else (if bytes_eq word (codes "hear") then hear arguments
+    else (if bytes_eq word (codes "show") then show arguments
+    else (if bytes_eq word (codes "distance") then distance arguments
+    else (if bytes_eq word (codes "tick") then tick arguments
+    else (if bytes_eq word (codes "pages") then pages arguments
+    else page_line word arguments))))))
+
+-- a comment begins with `#`
+abbrev pub begins_comment : List ℕ → Bool
+begins_comment [] = false
+begins_comment (b ∷ bs) = nat_eq b 35
+
+abbrev pub line_of_words : List (List ℕ) → Result Command LineFault
+line_of_words [] = Ok Skip
+line_of_words (word ∷ arguments) = if begins_comment word then Ok Skip else command word arguments
+
+-- the line, which stands without its end
+abbrev pub line_of : List ℕ → Result Command LineFault
+line_of bytes = line_of_words (words bytes)
+
+-- What a line carries is in its range: a board has 1 to 65,535 cells, a canvas is not too large, moments are microseconds below
+-- 2^48, and delays below 2^24.
+abbrev pub IsWithin : Command → Type 0
+IsWithin (Board member cells workers seed) = (0 < cells) × (cells ≤ 65535)
+IsWithin (Show page width height) = is_canvas_size width height ≡ true
+IsWithin (Distance source micros) = micros < 2 ^ 24
+IsWithin (Tick moment) = moment < 2 ^ 48
+IsWithin line = Unit {0}
+
+-- A line that carries a datagram, for which memory is taken.
+abbrev pub CarriesDatagram : Command → Type 0
+CarriesDatagram (Arrive d) = Unit {0}
+CarriesDatagram (Hear v) = Unit {0}
+CarriesDatagram line = ⊥
+
+-- What parsing answers to the words of a line: what they say, the first fault, or want of memory, once the digits have been looked at.
+abbrev pub Parses : {X : Type 0} → Result X Untaken → Result X LineFault → Type 0
+Parses (Ok line) said = said ≡ Ok line
+Parses (Err (untaken.Line e)) said = said ≡ Err e
+Parses (Err untaken.Memory) said = IfErr said (λ e. 5 ≤ line_code e)
+
+-- What parsing answers to a line. Memory runs out only for one that carries a datagram, or whose fault comes after its digits.
+abbrev pub ParsesLine : Result Command Untaken → Result Command LineFault → Type 0
+ParsesLine (Ok line) said = said ≡ Ok line
+ParsesLine (Err (untaken.Line e)) said = said ≡ Err e
+ParsesLine (Err untaken.Memory) said = MatchResult said CarriesDatagram (λ e. 5 ≤ line_code e)

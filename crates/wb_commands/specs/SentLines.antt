@@ -1,0 +1,30 @@
+-- The lines that tell what a host sends, and how many drawops it begins to miss.
+use Rattle.std.specs.Prelude.{◌≡◌, ℕ, List, ◌++◌, codes, flat_map}
+use Rattle.std.specs.Fmt.{decimal}
+use Rattle.hex.specs.Hex.{encode_lower}
+use Rattle.wb_codec.specs.declared.datagram.Datagram.{Datagram}
+use Rattle.wb_codec.specs.Ranges.{IsDatagram}
+use Rattle.wb_codec.specs.Spelling.{spelling}
+use Rattle.wb_commands.specs.Parsing.{line_of, arrived, heard}
+
+-- the bytes of a datagram in hexadecimal, with lower-case letters
+abbrev pub digits_of : Datagram → List ℕ
+digits_of v = encode_lower (spelling v)
+
+-- the line of a datagram that is sent
+abbrev pub send_line : Datagram → List ℕ
+send_line v = codes "send " ++ (digits_of v ++ codes "\n")
+
+-- a line for each of them, in their order
+abbrev pub sends_text : List Datagram → List ℕ
+sends_text sent = flat_map send_line sent
+
+-- the line of a look at a page, at which so many missing drawops got a timer
+abbrev pub look_line : ℕ → List ℕ
+look_line count = codes "look " ++ (decimal count ++ codes "\n")
+
+-- ---- laws
+
+-- What one script prints as sent, another takes: behind the word `arrive` the digits of a drawop, and behind `hear` those of every other datagram, are read as that datagram.
+abbrev pub SentIsTaken : Type 0
+SentIsTaken = (v : Datagram) → IsDatagram v → (line_of (codes "arrive " ++ digits_of v) ≡ arrived v) × (line_of (codes "hear " ++ digits_of v) ≡ heard v)

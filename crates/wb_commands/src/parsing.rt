@@ -1,0 +1,268 @@
+//! What the words of a line mean.
+ghost use Rattle.std.specs.Prelude.{◌≡◌, ◌≤◌, IfOk, Result, Ok, Err, option_map};
+ghost use Rattle.wb_lines.specs.Words.{words};
+ghost use Rattle.wb_commands.specs.Parsing.{Parses, ParsesLine, IsWithin, number, none_of, one_of, two_of, four_of, board, show, distance, tick, page, pages, page_line, datagram, arrive, hear, command, begins_comment, line_of};
+
+use crate::command::Command;
+use crate::fault::{LineFault, Untaken};
+use std::alloc::Global;
+use wb_codec::{Datagram, ReadFault, read};
+use wb_lines::{next_word, number, unhex};
+use wb_names::PageId;
+use wb_recovery::{DELAY_LIMIT, MOMENT_LIMIT};
+
+const MAX_CELLS: u32 = 65_535;
+
+/// At most so many workers take a batch.
+pub const MAX_WORKERS: u32 = 8;
+
+const MAX_WIDTH: u32 = 200;
+
+const MAX_HEIGHT: u32 = 100;
+
+/// The greatest delay, in microseconds.
+const MAX_DELAY: u64 = DELAY_LIMIT - 1;
+
+/// The greatest moment, in microseconds.
+const MAX_MOMENT: u64 = MOMENT_LIMIT - 1;
+
+/// That there are no words.
+pub fn no_words(rest: &[u8]) -> Option<()>
+    ensures { result ≡ none_of (words rest.now) }
+{
+    match next_word(rest) {
+        Some(_) => None,
+        None => Some(()),
+    }
+}
+
+/// The only word.
+pub fn one_word(rest: &[u8]) -> Option<&[u8]>
+    ensures { option_map (λ x. x.now) result ≡ one_of (words rest.now) }
+{
+    let (word, rest) = next_word(rest)?;
+    match next_word(rest) {
+        Some(_) => None,
+        None => Some(word),
+    }
+}
+
+/// The only two words.
+pub fn two_words(rest: &[u8]) -> Option<(&[u8], &[u8])>
+    ensures { option_map (λ x. (x.0.now, x.1.now)) result ≡ two_of (words rest.now) }
+{
+    let (first, rest) = next_word(rest)?;
+    let (second, rest) = next_word(rest)?;
+    match next_word(rest) {
+        Some(_) => None,
+        None => Some((first, second)),
+    }
+}
+
+/// The only four words.
+pub fn four_words(rest: &[u8]) -> Option<(&[u8], &[u8], &[u8], &[u8])>
+    ensures { option_map (λ x. (x.0.now, x.1.now, x.2.now, x.3.now)) result ≡ four_of (words rest.now) }
+{
+    let (first, rest) = next_word(rest)?;
+    let (second, rest) = next_word(rest)?;
+    let (third, fourth) = two_words(rest)?;
+    Some((first, second, third, fourth))
+}
+
+/// The number that a word of decimal digits stands for, where it is from `low` to `high`; else `Number`.
+pub fn number_word(word: &[u8], low: u64, high: u64) -> Result<u64, LineFault>
+    ensures value { result ≡ number low high word.now }
+    ensures bound { IfOk result (λ n. (low ≤ n) × (n ≤ high)) }
+{
+    number(word, low, high).ok_or(LineFault::Number)
+}
+
+/// The same of a number of 32 bits.
+pub fn u32_word(word: &[u8], low: u32, high: u32) -> Result<u32, LineFault>
+    ensures value { result ≡ number low high word.now }
+    ensures bound { IfOk result (λ n. (low ≤ n) × (n ≤ high)) }
+{
+    let value = number_word(word, u64::from(low), u64::from(high))?;
+    Ok(value as u32)
+}
+
+#[tactic(auto, unfolding(crate::specs::Parsing::board))]
+fn board(rest: &[u8]) -> Result<Command, LineFault>
+    ensures line { result ≡ board (words rest.now) }
+    ensures within { IfOk result IsWithin }
+{
+    let (member, cells, workers, seed) = four_words(rest).ok_or(LineFault::Words)?;
+    let member = u32_word(member, 0, u32::MAX)?;
+    let cells = u32_word(cells, 1, MAX_CELLS)?;
+    let workers = u32_word(workers, 1, MAX_WORKERS)?;
+    let seed = number_word(seed, 0, u64::MAX)?;
+    Ok(Command::Board {
+        member,
+        cells,
+        workers,
+        seed,
+    })
+}
+
+#[tactic(auto, unfolding(crate::specs::Parsing::show))]
+fn show(rest: &[u8]) -> Result<Command, LineFault>
+    ensures line { result ≡ show (words rest.now) }
+    ensures within { IfOk result IsWithin }
+{
+    let (creator, number, width, height) = four_words(rest).ok_or(LineFault::Words)?;
+    let creator = u32_word(creator, 0, u32::MAX)?;
+    let number = u32_word(number, 0, u32::MAX)?;
+    let width = u32_word(width, 1, MAX_WIDTH)?;
+    let height = u32_word(height, 1, MAX_HEIGHT)?;
+    let page = PageId { creator, number };
+    Ok(Command::Show {
+        page,
+        width,
+        height,
+    })
+}
+
+#[tactic(auto, unfolding(crate::specs::Parsing::distance))]
+fn distance(rest: &[u8]) -> Result<Command, LineFault>
+    ensures line { result ≡ distance (words rest.now) }
+    ensures within { IfOk result IsWithin }
+{
+    let (source, micros) = two_words(rest).ok_or(LineFault::Words)?;
+    let source = u32_word(source, 0, u32::MAX)?;
+    let micros = number_word(micros, 0, MAX_DELAY)?;
+    Ok(Command::Distance { source, micros })
+}
+
+#[tactic(auto, unfolding(crate::specs::Parsing::tick))]
+fn tick(rest: &[u8]) -> Result<Command, LineFault>
+    ensures line { result ≡ tick (words rest.now) }
+    ensures within { IfOk result IsWithin }
+{
+    let word = one_word(rest).ok_or(LineFault::Words)?;
+    let moment = number_word(word, 0, MAX_MOMENT)?;
+    Ok(Command::Tick { moment })
+}
+
+/// The page of the only two words, its creator and its number. The first fault is `Words` or `Number`.
+#[tactic(auto, unfolding(crate::specs::Parsing::page))]
+pub fn page(rest: &[u8]) -> Result<PageId, LineFault>
+    ensures { result ≡ page (words rest.now) }
+{
+    let (creator, number) = two_words(rest).ok_or(LineFault::Words)?;
+    let creator = u32_word(creator, 0, u32::MAX)?;
+    let number = u32_word(number, 0, u32::MAX)?;
+    Ok(PageId { creator, number })
+}
+
+fn pages(rest: &[u8]) -> Result<Command, LineFault>
+    ensures line { result ≡ pages (words rest.now) }
+    ensures within { IfOk result IsWithin }
+{
+    no_words(rest).ok_or(LineFault::Words)?;
+    Ok(Command::Pages)
+}
+
+/// The datagram whose bytes the only word spells in hexadecimal. The first fault is `Words`, `Hex` or `Datagram`.
+#[tactic(auto, unfolding(crate::specs::Parsing::datagram))]
+pub fn datagram(alloc: Global, rest: &[u8]) -> Result<Datagram, Untaken>
+    ensures { Parses result (datagram (words rest.now)) }
+{
+    let digits = one_word(rest).ok_or(LineFault::Words)?;
+    let Some(bytes) = unhex(alloc, digits)? else {
+        return Err(Untaken::Line(LineFault::Hex));
+    };
+    match read(alloc, &bytes) {
+        Ok(datagram) => Ok(datagram),
+        Err(ReadFault::Memory) => Err(Untaken::Memory),
+        Err(fault) => Err(Untaken::Line(LineFault::Datagram(fault))),
+    }
+}
+
+fn arrive(alloc: Global, rest: &[u8]) -> Result<Command, Untaken>
+    ensures line { ParsesLine result (arrive (words rest.now)) }
+    ensures within { IfOk result IsWithin }
+{
+    match datagram(alloc, rest)? {
+        Datagram::Draw(drawop) => Ok(Command::Arrive(drawop)),
+        _ => Err(Untaken::Line(LineFault::Kind)),
+    }
+}
+
+fn hear(alloc: Global, rest: &[u8]) -> Result<Command, Untaken>
+    ensures line { ParsesLine result (hear (words rest.now)) }
+    ensures within { IfOk result IsWithin }
+{
+    match datagram(alloc, rest)? {
+        Datagram::Draw(_) => Err(Untaken::Line(LineFault::Kind)),
+        heard => Ok(Command::Hear(heard)),
+    }
+}
+
+#[tactic(auto, unfolding(crate::specs::Parsing::page_line))]
+fn page_line(word: &[u8], rest: &[u8]) -> Result<Command, LineFault>
+    ensures line { result ≡ page_line word.now (words rest.now) }
+    ensures within { IfOk result IsWithin }
+{
+    if word == b"look".as_slice() {
+        Ok(Command::Look(page(rest)?))
+    } else if word == b"session".as_slice() {
+        Ok(Command::Session(page(rest)?))
+    } else if word == b"gaps".as_slice() {
+        Ok(Command::Gaps(page(rest)?))
+    } else if word == b"report".as_slice() {
+        Ok(Command::Report(page(rest)?))
+    } else {
+        Err(LineFault::Unknown)
+    }
+}
+
+#[tactic(auto, unfolding(crate::specs::Parsing::command))]
+fn command(alloc: Global, word: &[u8], rest: &[u8]) -> Result<Command, Untaken>
+    ensures line { ParsesLine result (command word.now (words rest.now)) }
+    ensures within { IfOk result IsWithin }
+{
+    if word == b"board".as_slice() {
+        Ok(board(rest)?)
+    } else if word == b"arrive".as_slice() {
+        arrive(alloc, rest)
+    } else if word == b"hear".as_slice() {
+        hear(alloc, rest)
+    } else if word == b"show".as_slice() {
+        Ok(show(rest)?)
+    } else if word == b"distance".as_slice() {
+        Ok(distance(rest)?)
+    } else if word == b"tick".as_slice() {
+        Ok(tick(rest)?)
+    } else if word == b"pages".as_slice() {
+        Ok(pages(rest)?)
+    } else {
+        Ok(page_line(word, rest)?)
+    }
+}
+
+fn begins_comment(word: &[u8]) -> bool
+    ensures { result ≡ begins_comment word.now }
+{
+    match word {
+        [] => false,
+        [first, ..] => *first == b'#',
+    }
+}
+
+/// The line that the bytes say, which stand without their end; or its first fault: `Unknown`,
+/// `Words`, `Number`, `Hex`, `Datagram` or `Kind`, in this order. Memory can run out only in a line
+/// that carries a datagram, and only once its hexadecimal digits are checked.
+pub fn parse_line(alloc: Global, bytes: &[u8]) -> Result<Command, Untaken>
+    ensures line { ParsesLine result (line_of bytes.now) }
+    ensures within { IfOk result IsWithin }
+{
+    match next_word(bytes) {
+        None => Ok(Command::Skip),
+        Some((word, rest)) => {
+            if begins_comment(word) {
+                return Ok(Command::Skip);
+            }
+            command(alloc, word, rest)
+        }
+    }
+}

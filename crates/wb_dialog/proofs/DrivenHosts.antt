@@ -1,0 +1,139 @@
+-- A host that its driver drives, beside one that may keep itself: for lines of which none says `keep`, and for lines that are not
+-- refused, they print the same.
+use Rattle.std.proofs.Common.{◌≡◌, ℕ, List, [], ◌∷◌, ◌++◌, Result, Ok, Err, refl, sym, ap, subst, ◌∙◌}
+use Rattle.std.specs.Prelude.{Bool, true, false, Option, Some, None, All, if◌then◌else◌}
+use Rattle.std.specs.List.{concat}
+use Rattle.std.proofs.lemmas.List.Elements.{All-head, All-tail}
+use Rattle.wb_recovery.specs.declared.tuning.Tuning.{Tuning}
+use Rattle.wb_member.specs.Opened.{Opened}
+use Rattle.wb_lines.specs.Input.{InputLine, input_lines}
+use Rattle.wb_lines.specs.Taking.{met, is_taken}
+use Rattle.wb_commands.specs.declared.command.Command.TheVariants as commands
+use Rattle.wb_dialog.specs.declared.fault.Refusal.{Refusal}
+use Rattle.wb_dialog.specs.declared.line.DriverLine.{DriverLine}
+use Rattle.wb_dialog.specs.declared.line.DriverLine.TheVariants.{Script, Say, Next, View, Known, Ask, Stop, Keep, Came, Add}
+use Rattle.wb_dialog.specs.Dialog as plain
+use Rattle.wb_dialog.specs.Dialog.{Answer, gives, refuses, answer, answer_at, answer_first, answer_of, block, says_line, answered_lines}
+use Rattle.wb_dialog.specs.Hosting as hosting
+use Rattle.wb_dialog.specs.Hosting.{Host, Driven, Reply, prints, denies, as_driven, driven_host, reply, reply_of, block_of, seed_after, seed_in}
+use Rattle.wb_dialog.specs.Laws.{BeginsNoKeep, DrivenAsBefore}
+
+-- ---- one line
+
+-- the host that its driver drives, with some seed
+abbrev pub with_seed : Option ℕ → plain.State → hosting.Hosting
+with_seed seed s = record { tuning = s.tuning; host = driven_host seed s.host }
+
+-- It answers as before, and keeps some seed.
+abbrev AnswersAs : plain.State → Option ℕ → Result DriverLine Refusal → Type 0
+AnswersAs s seed said = (later : Option ℕ) × (reply s.tuning (driven_host seed s.host) said ≡ as_driven later (answer s.tuning s.host said))
+
+by_line : (tuning : Tuning) (host : Option Opened) (seed : Option ℕ) (line : DriverLine) → BeginsNoKeep (Ok line) → AnswersAs (record { tuning = tuning; host = host }) seed (Ok line)
+by_line tuning None seed (Script line) plainly = (seed_in (Script line), refl)
+by_line tuning None seed (Say v) plainly = (None, refl)
+by_line tuning None seed (Next page) plainly = (None, refl)
+by_line tuning None seed (View page) plainly = (None, refl)
+by_line tuning None seed Known plainly = (None, refl)
+by_line tuning None seed (Ask name) plainly = (None, refl)
+by_line tuning None seed (Stop name) plainly = (None, refl)
+by_line tuning None seed (Keep rate listen) plainly = absurd plainly
+by_line tuning None seed (Came now v) plainly = (None, refl)
+by_line tuning None seed (Add adding) plainly = (None, refl)
+by_line tuning (Some host) seed (Script line) plainly = (seed_after (Script line) seed, refl)
+by_line tuning (Some host) seed (Say v) plainly = (None, refl)
+by_line tuning (Some host) seed (Next page) plainly = (seed, refl)
+by_line tuning (Some host) seed (View page) plainly = (seed, refl)
+by_line tuning (Some host) seed Known plainly = (seed, refl)
+by_line tuning (Some host) seed (Ask name) plainly = (None, refl)
+by_line tuning (Some host) seed (Stop name) plainly = (None, refl)
+by_line tuning (Some host) seed (Keep rate listen) plainly = absurd plainly
+by_line tuning (Some host) seed (Came now v) plainly = (seed, refl)
+by_line tuning (Some host) seed (Add adding) plainly = (seed, refl)
+
+answers_as : (s : plain.State) (seed : Option ℕ) (said : Result DriverLine Refusal) → BeginsNoKeep said → AnswersAs s seed said
+answers_as s seed (Ok line) plainly = by_line s.tuning s.host seed line plainly
+answers_as s seed (Err e) plainly = (seed, refl)
+
+-- ---- blocks
+
+due_same : (seed : Option ℕ) (host : Option Opened) → hosting.due_at (driven_host seed host) ≡ plain.due host
+due_same seed None = refl
+due_same seed (Some host) = refl
+
+block_same : (seed : Option ℕ) (a : Answer) → block_of (as_driven seed a) ≡ block a
+block_same seed (gives host text) = ap (λ (moment : Option ℕ). text ++ plain.ok_line moment) (due_same seed host)
+block_same seed (refuses e) = refl
+
+-- a host after a line is such a one
+abbrev IsWithSeed : plain.State → hosting.Hosting → Type 0
+IsWithSeed s h = (seed : Option ℕ) × (h ≡ with_seed seed s)
+
+after_same : (s : plain.State) (seed later : Option ℕ) (a : Answer) → IsWithSeed (plain.state_after s a) (hosting.hosting_after (with_seed seed s) (as_driven later a))
+after_same s seed later (gives host text) = (later, refl)
+after_same s seed later (refuses e) = (seed, refl)
+
+abbrev NoneBegins : List InputLine → Type 0
+NoneBegins [] = Unit {0}
+NoneBegins (line ∷ lines) = BeginsNoKeep (says_line (met line)) × NoneBegins lines
+
+blocks_same : (s : plain.State) (h : hosting.Hosting) (lines : List InputLine) → IsWithSeed s h → NoneBegins lines → hosting.blocks_from h lines ≡ plain.blocks_from s lines
+blocks_same s h [] at plainly = refl
+blocks_same s h (line ∷ lines) at plainly =
+    let h' : hosting.Hosting = with_seed at.0 s in
+    let said = says_line (met line) in
+    let it = answers_as s at.0 said plainly.0 in
+    let a : Answer = answer_of s (met line) in
+    let one : block_of (reply_of h' (met line)) ≡ block a = ap block_of it.1 ∙ block_same it.0 a in
+    let next : IsWithSeed (plain.state_after s a) (hosting.hosting_after h' (reply_of h' (met line))) =
+    subst (λ (r : Reply). IsWithSeed (plain.state_after s a) (hosting.hosting_after h' r)) (sym it.1) (after_same s at.0 it.0 a) in
+    let rest = blocks_same (plain.state_after s a) (hosting.hosting_after h' (reply_of h' (met line))) lines next plainly.1 in
+    ap (λ (t : hosting.Hosting). hosting.blocks_from t (line ∷ lines)) at.1
+    ∙ ap (λ (b : List ℕ). b ∷ hosting.blocks_from (hosting.hosting_after h' (reply_of h' (met line))) lines) one
+    ∙ ap (λ (blocks : List (List ℕ)). block a ∷ blocks) rest
+
+-- ---- lines that are not refused
+
+abbrev pub AreGiven : plain.State → List InputLine → Type 0
+AreGiven s [] = Unit {0}
+AreGiven s (line ∷ lines) = ((host : Option Opened) × (text : List ℕ) × (answer_of s (met line) ≡ gives host text)) × AreGiven (plain.state_after s (answer_of s (met line))) lines
+
+-- `keep` is refused at a host that its driver drives.
+no_keep : (s : plain.State) (said : Result DriverLine Refusal) (host : Option Opened) (text : List ℕ) → answer s.tuning s.host said ≡ gives host text → BeginsNoKeep said
+no_keep s (Err e) host text given = tt
+no_keep s (Ok (Script line)) host text given = tt
+no_keep s (Ok (Say v)) host text given = tt
+no_keep s (Ok (Next page)) host text given = tt
+no_keep s (Ok (View page)) host text given = tt
+no_keep s (Ok Known) host text given = tt
+no_keep s (Ok (Ask name)) host text given = tt
+no_keep s (Ok (Stop name)) host text given = tt
+no_keep s (Ok (Keep rate listen)) host text given = at s.host given where
+  at : (h : Option Opened) → answer s.tuning h (Ok (Keep rate listen)) ≡ gives host text → ⊥
+  at None given = absurd cc
+  at (Some h) given = absurd cc
+no_keep s (Ok (Came now v)) host text given = tt
+no_keep s (Ok (Add adding)) host text given = tt
+
+none_begins : (s : plain.State) (lines : List InputLine) → AreGiven s lines → NoneBegins lines
+none_begins s [] given = tt
+none_begins s (line ∷ lines) given = (no_keep s (says_line (met line)) given.0.0 given.0.1 given.0.2, none_begins (plain.state_after s (answer_of s (met line))) lines given.1)
+
+pub blocks_given : (tuning : Tuning) (lines : List InputLine) → AreGiven (plain.unopened tuning) lines → plain.blocks_from (plain.unopened tuning) lines ≡ hosting.blocks_from (hosting.unopened tuning) lines
+blocks_given tuning lines given = sym (blocks_same (plain.unopened tuning) (hosting.unopened tuning) lines (None, refl) (none_begins (plain.unopened tuning) lines given))
+
+-- ---- whole inputs
+
+each_none : (lines : List InputLine) → All (λ line. BeginsNoKeep (says_line (met line))) lines → NoneBegins lines
+each_none [] plainly = tt
+each_none (line ∷ lines) plainly = (All-head (λ line. BeginsNoKeep (says_line (met line))) line lines plainly, each_none lines (All-tail (λ line. BeginsNoKeep (says_line (met line))) line lines plainly))
+
+answered_none : (cut : Bool) (lines : List InputLine) → NoneBegins lines → NoneBegins (answered_lines cut lines)
+answered_none cut [] plainly = tt
+answered_none cut (line ∷ lines) plainly = at (answered_none cut lines plainly.1) (is_taken cut line) where
+  at : NoneBegins (answered_lines cut lines) → (b : Bool) → NoneBegins (if b then line ∷ answered_lines cut lines else [])
+  at rest true = (plainly.0, rest)
+  at rest false = tt
+
+pub driven_as_before : DrivenAsBefore
+driven_as_before tuning cut input plainly =
+    ap concat (blocks_same (plain.unopened tuning) (hosting.unopened tuning) (answered_lines cut (input_lines input)) (None, refl) (answered_none cut (input_lines input) (each_none (input_lines input) plainly)))

@@ -1,0 +1,131 @@
+-- What a host that keeps itself does for a line, by what its member did.
+use Rattle.std.proofs.Common.{◌≡◌, ℕ, List, [], ◌∷◌, ◌++◌, Option, Some, None, Result, Ok, Err, refl, sym, ap, subst, ◌∙◌}
+use Rattle.std.specs.Prelude.{IsTrue, is_some}
+use Rattle.wb_codec.specs.declared.datagram.Datagram.{Datagram}
+use Rattle.wb_host.specs.declared.keep_fault.KeepFault.{KeepFault}
+use Rattle.wb_host.specs.declared.keep_fault.KeepFault.TheVariants as keep_faults
+use Rattle.wb_member.specs.Holding.{IsOpenAt, MemberValue}
+use Rattle.wb_member.specs.Opened.{Opened, next_due, present}
+use Rattle.wb_keeping.specs.Kept.{Transition}
+use Rattle.wb_keeping.specs.Performing.{IsKeptAt, Keeping, KeptValue, after_doing, due as kept_due, sent_by_doing}
+use Rattle.wb_keeping.specs.Policy.{begun}
+use Rattle.wb_keeping.specs.Refusing.{IsRefusedBy}
+use Rattle.wb_keeping.specs.declared.kept_fault.KeptFault.{KeptFault}
+use Rattle.wb_keeping.specs.declared.kept_fault.KeptFault.TheVariants as kept_faults
+use Rattle.wb_lines.specs.Input.{BeginsWith}
+use Rattle.wb_commands.specs.SentLines.{sends_text}
+use Rattle.wb_dialog.proofs.Fronts.{begins_empty}
+use Rattle.wb_dialog.specs.declared.fault.Refusal.TheVariants as refusals
+use Rattle.wb_dialog.specs.declared.line.DriverLine.{DriverLine}
+use Rattle.wb_dialog.specs.declared.fault.Unanswered.{Unanswered}
+use Rattle.wb_dialog.specs.declared.fault.Unanswered.TheVariants as unanswered
+use Rattle.wb_dialog.specs.declared.opened.Host.TheVariants as values
+use Rattle.wb_dialog.specs.Dialog.{Answer, gives, refuses, answer_at}
+use Rattle.wb_dialog.specs.Hosting.{Host, Driven, Kept, Reply, prints, denies, as_driven, due_at, in_time, keep_reply, kept_does, kept_refusal, kept_reply, seed_after, taken_by}
+use Rattle.wb_dialog.specs.Doing.{DoesAnswer, DoesAt, DoesKept, DoesReply, IsHostAt, Tells, seed_by, text_in, unanswered_of}
+
+-- ---- a call of its member
+
+abbrev fault_in : {X : Type 0} → KeptFault → Result X KeptFault → KeptFault
+fault_in f (Ok x) = f
+fault_in f (Err e) = e
+
+module _ (X U : Type 0) (old new : KeptValue) (k : Keeping) (does : Transition) (text : List ℕ) where
+  -- It was refused, and the line is.
+  pub refuses_line : (fault : Option KeptFault) (e : KeptFault) → IsRefusedBy {X = X} fault (Err e) → (IsTrue (is_some fault) → new ≡ old) → IsKeptAt old k
+      → DoesReply {U = U} (Some (Kept k)) (Some (values.Kept new)) [] (Err (unanswered_of e)) (kept_does fault does text k)
+  refuses_line (Some f) e is same at = by e f (ap (fault_in {X = X} f) is) where
+    stays : IsKeptAt new k
+    stays = subst (λ (v : KeptValue). IsKeptAt v k) (sym (same refl)) at
+
+    itself : (e : KeptFault) → DoesReply {U = U} (Some (Kept k)) (Some (values.Kept new)) [] (Err (unanswered_of e)) (denies (kept_refusal e))
+    itself (kept_faults.Host keep_faults.Memory) = begins_empty []
+    itself (kept_faults.Host keep_faults.BackInTime) = (refl, stays, refl)
+    itself (kept_faults.Host keep_faults.Range) = (refl, stays, refl)
+    itself (kept_faults.Host keep_faults.TooMany) = (refl, stays, refl)
+    itself kept_faults.Listening = (refl, stays, refl)
+    itself kept_faults.Ours = (refl, stays, refl)
+    itself kept_faults.Numbers = (refl, stays, refl)
+    itself (kept_faults.Operation fault) = (refl, stays, refl)
+
+    by : (e f : KeptFault) → e ≡ f → DoesReply {U = U} (Some (Kept k)) (Some (values.Kept new)) [] (Err (unanswered_of e)) (denies (kept_refusal f))
+    by e f e-is = subst (λ (g : KeptFault). DoesReply {U = U} (Some (Kept k)) (Some (values.Kept new)) [] (Err (unanswered_of e)) (denies (kept_refusal g))) e-is (itself e)
+  refuses_line None e is same at =
+      subst (λ (f : KeptFault). DoesReply {U = U} (Some (Kept k)) (Some (values.Kept new)) [] (Err (unanswered_of f)) (kept_does None does text k)) (sym is)
+      (begins_empty (text_in (kept_does None does text k)))
+
+module _ {X U : Type 0} (old new : KeptValue) (k : Keeping) (does : Transition) (text : List ℕ) where
+  -- It was done: what it sent was printed, and then the text, or memory ran out within these.
+  pub does_line : (fault : Option KeptFault) (x : X) (sent : List Datagram) (more written : List ℕ) (result : Result U Unanswered) → IsRefusedBy fault (Ok x) → sent ≡ sent_by_doing does k → more ≡ text → IsKeptAt new (after_doing does k)
+      → Tells written result (sends_text sent ++ more) → DoesReply (Some (Kept k)) (Some (values.Kept new)) written result (kept_does fault does text k)
+  does_line (Some f) x sent more written result is same and at tells = absurd cc
+  does_line None x sent more written result is same and at tells = by result (subst (Tells written result) whole tells) where
+    all : List ℕ
+    all = sends_text (sent_by_doing does k) ++ text
+
+    whole : sends_text sent ++ more ≡ all
+    whole = ap (λ (ds : List Datagram). sends_text ds ++ more) same ∙ ap (λ (t : List ℕ). sends_text (sent_by_doing does k) ++ t) and
+
+    by : (result : Result U Unanswered) → Tells written result all → DoesReply (Some (Kept k)) (Some (values.Kept new)) written result (prints (Some (Kept (after_doing does k))) all)
+    by (Ok u) tells = (at, tells)
+    by (Err (unanswered.Refused e)) tells = absurd tells
+    by (Err unanswered.Memory) tells = tells
+
+-- without memory for the text of a batch nothing is printed
+pub nothing_begins : (U : Type 0) (new : KeptValue) (k : Keeping) (r : Reply) → DoesReply {U = U} (Some (Kept k)) (Some (values.Kept new)) [] (Err unanswered.Memory) r
+nothing_begins U new k r = begins_empty (text_in r)
+
+-- ---- a host that its driver drives
+
+-- What a member does for a line, a host does that it is, and keeps what is left of its seed.
+pub drives : {U : Type 0} (host : Opened) (new : MemberValue) (seed left later : Option ℕ) (written : List ℕ) (result : Result U Unanswered) (a : Answer) → DoesAnswer (Some host) (Some new) written result a → left ≡ seed_by result seed later
+    → DoesReply (Some (Driven host seed)) (Some (values.Driven new left)) written result (as_driven later a)
+drives host new seed left later written (Ok u) (gives None text) does is = absurd does.0
+drives host new seed left later written (Ok u) (gives (Some next) text) does is = ((does.0, is), does.1)
+drives host new seed left later written (Ok u) (refuses e) does is = absurd does
+drives host new seed left later written (Err (unanswered.Refused f)) (gives next text) does is = absurd does
+drives host new seed left later written (Err (unanswered.Refused f)) (refuses e) does is = (does.0, (does.1, is), does.2)
+drives host new seed left later written (Err unanswered.Memory) (gives next text) does is = does
+drives host new seed left later written (Err unanswered.Memory) (refuses e) does is = does
+
+-- ---- a host of either kind
+
+-- What a driven host takes, it does as its member.
+pub taken_driven : {U : Type 0} (line : DriverLine) (old new : MemberValue) (seed left : Option ℕ) (written : List ℕ) (result : Result U Unanswered) → DoesAt old new written result (answer_at line) → left ≡ seed_by result seed (seed_after line seed)
+    → (h : Host) → IsHostAt (values.Driven old seed) h → DoesReply (Some h) (Some (values.Driven new left)) written result (taken_by line h)
+taken_driven line old new seed left written result does is (Driven host own) at =
+    subst (λ (s : Option ℕ). DoesReply (Some (Driven host s)) (Some (values.Driven new left)) written result (as_driven (seed_after line s) (answer_at line host))) at.1
+    (drives host new seed left (seed_after line seed) written result (answer_at line host) (does host at.0) is)
+taken_driven line old new seed left written result does is (Kept k) at = absurd at
+
+pub taken_kept : {U : Type 0} (line : DriverLine) (old new : KeptValue) (written : List ℕ) (result : Result U Unanswered) → DoesKept old new written result (kept_reply line) → (h : Host) → IsHostAt (values.Kept old) h
+    → DoesReply (Some h) (Some (values.Kept new)) written result (taken_by line h)
+taken_kept line old new written result does (Kept k) at = does k at
+taken_kept line old new written result does (Driven host own) at = absurd at
+
+-- It begins to keep itself; or it is too late, or it does already.
+pub begins_kept : (member : MemberValue) (kept : KeptValue) (rate listen seed : ℕ) → ((host : Opened) → IsOpenAt member host → IsKeptAt kept (record { host = host; policy = begun (present host) rate listen seed }))
+    → (h : Host) → IsHostAt (values.Driven member (Some seed)) h → DoesReply {U = Unit {0}} (Some h) (Some (values.Kept kept)) [] (Ok tt) (keep_reply rate listen (Some h))
+begins_kept member kept rate listen seed keeps (Driven host own) at =
+    subst (λ (s : Option ℕ). DoesReply {U = Unit {0}} (Some (Driven host s)) (Some (values.Kept kept)) [] (Ok tt) (keep_reply rate listen (Some (Driven host s)))) at.1 (keeps host at.0, refl)
+begins_kept member kept rate listen seed keeps (Kept k) at = absurd at
+
+pub begins_late : (member : MemberValue) (rate listen : ℕ) (h : Host) → IsHostAt (values.Driven member None) h
+    → DoesReply {U = Unit {0}} (Some h) (Some (values.Driven member None)) [] (Err (unanswered.Refused refusals.TooLate)) (keep_reply rate listen (Some h))
+begins_late member rate listen (Driven host own) at =
+    subst (λ (s : Option ℕ). DoesReply {U = Unit {0}} (Some (Driven host s)) (Some (values.Driven member None)) [] (Err (unanswered.Refused refusals.TooLate)) (keep_reply rate listen (Some (Driven host s)))) at.1 (refl, (at.0, refl), refl)
+begins_late member rate listen (Kept k) at = absurd at
+
+pub begins_again : (kept : KeptValue) (rate listen : ℕ) (h : Host) → IsHostAt (values.Kept kept) h
+    → DoesReply {U = Unit {0}} (Some h) (Some (values.Kept kept)) [] (Err (unanswered.Refused refusals.Kept)) (keep_reply rate listen (Some h))
+begins_again kept rate listen (Kept k) at = (refl, at, refl)
+begins_again kept rate listen (Driven host own) at = absurd at
+
+-- when it is due
+pub due_driven : (member : MemberValue) (seed moment : Option ℕ) → ((host : Opened) → IsOpenAt member host → moment ≡ next_due host) → (h : Host) → IsHostAt (values.Driven member seed) h → moment ≡ due_at (Some h)
+due_driven member seed moment due (Driven host own) at = due host at.0
+due_driven member seed moment due (Kept k) at = absurd at
+
+pub due_itself : (kept : KeptValue) (moment : ℕ) → ((k : Keeping) → IsKeptAt kept k → moment ≡ kept_due k) → (h : Host) → IsHostAt (values.Kept kept) h → in_time moment ≡ due_at (Some h)
+due_itself kept moment due (Kept k) at = ap in_time (due k at)
+due_itself kept moment due (Driven host own) at = absurd at

@@ -1,0 +1,237 @@
+-- No drawing is refused since no number is left for it.
+use Rattle.std.proofs.Common.{◌≡◌, ◌≤◌, ◌<◌, ◌∙◌, ℕ, Bool, true, false, cond, List, [], ◌∷◌, Option, Some, None, Result, Ok, Err, arith, refl, subst, sym}
+use Rattle.std.specs.Prelude.{nat_le, nat_lt, not}
+use Rattle.std.specs.Option.{option_map}
+use Rattle.std.proofs.lemmas.Bool.Decides.{nat_tests}
+use Rattle.wb_names.specs.Drawing.{op_fault}
+use Rattle.wb_names.specs.Faults.{fault_unless, first_of}
+use Rattle.wb_names.specs.declared.fault.FieldFault.{FieldFault}
+use Rattle.wb_names.specs.declared.name.PageId.{PageId}
+use Rattle.wb_codec.specs.declared.datagram.Datagram.TheVariants as datagrams
+use Rattle.wb_recovery.specs.declared.tuning.Tuning.{Tuning}
+use Rattle.wb_host.specs.declared.keep_fault.KeepFault.TheVariants.{BackInTime}
+use Rattle.wb_member.specs.Members.{Misses}
+use Rattle.wb_member.specs.Opened.{Opened, doing, has_room_for, heard, last_number, may_ask, next_number, present, sent_by, ticked}
+use Rattle.wb_member.specs.Random.{word_of}
+use Rattle.wb_keeping.specs.Kept.{Arrives, Asks, Hears, Line, Says, SetsDistance, Stops, Ticks, Transition, drawing}
+use Rattle.wb_keeping.specs.Laws.{Added, Came as CameIn, KeptLine, Ticked, doing_of, fault_of}
+use Rattle.wb_keeping.specs.Performing.{Keeping, after_line, after_lines, sees, view_of}
+use Rattle.wb_keeping.specs.declared.kept_fault.KeptFault.{KeptFault}
+use Rattle.wb_keeping.specs.declared.kept_fault.KeptFault.TheVariants as kept_faults
+use Rattle.wb_keeping.proofs.Unlocked.{IsBounded, bounded_kept, bounded_line, bounded_open, number_left}
+use Rattle.wb_lines.specs.Input.{InputLine}
+use Rattle.wb_lines.specs.Taking.{met}
+use Rattle.wb_commands.specs.Acts.{does, fails}
+use Rattle.wb_commands.specs.SentLines.{sends_text}
+use Rattle.wb_commands.specs.declared.command.Command.TheVariants as lines
+use Rattle.wb_commands.specs.declared.fault.LineFault.TheVariants as faults
+use Rattle.wb_dialog.specs.declared.fault.Refusal.{Refusal}
+use Rattle.wb_dialog.specs.declared.fault.Refusal.TheVariants as refusals
+use Rattle.wb_dialog.specs.declared.line.DriverLine.{DriverLine}
+use Rattle.wb_dialog.specs.declared.line.DriverLine.TheVariants.{Script, Say, Next, View, Known, Ask, Stop, Keep, Came, Add}
+use Rattle.wb_dialog.specs.Dialog.{Answer, answer_at, answered, gives, numbered, refuses, says_line}
+use Rattle.wb_dialog.specs.Hosting.{Driven, Host, Hosting, Kept, Reply, as_driven, denies, host_after, hosting_after, hosting_from, is_acting, keep_reply, kept_does, kept_reply, kept_shows, reply, reply_of, reply_to, seed_after, taken_reply, unopened}
+use Rattle.wb_dialog.specs.KeptLaws.{AddIsNotTooMany}
+
+-- a host that may keep itself, or does, on a board of at most 65,535 cells
+abbrev MayCount : Opened → Type 0
+MayCount host = host.is.cells ≤ 65535 → IsBounded host
+
+abbrev Counts : Option Host → Type 0
+Counts None = Unit {0}
+Counts (Some (Driven host None)) = Unit {0}
+Counts (Some (Driven host (Some seed))) = MayCount host
+Counts (Some (Kept k)) = MayCount k.host
+
+-- ---- cells stay
+
+cells_line : (line : Line) (host : Opened) → (after_line line host).is.cells ≡ host.is.cells
+cells_line (Ticks now) host = refl
+cells_line (Arrives d) host = refl
+cells_line (Hears v) host = by (has_room_for v host) where
+  by : (b : Bool) → (cond b (heard v host) host).is.cells ≡ host.is.cells
+  by true = refl
+  by false = refl
+cells_line (Asks name) host = by (may_ask name host) where
+  by : (b : Bool) → (cond b (doing (Misses (present host) (name ∷ []) (word_of host.random ∷ [])) 1 host) host).is.cells ≡ host.is.cells
+  by true = refl
+  by false = refl
+cells_line (Stops name) host = refl
+cells_line (SetsDistance source micros) host = refl
+cells_line (Says (datagrams.Draw d)) host = refl
+cells_line (Says (datagrams.Session sender sent page marks echoes)) host = refl
+cells_line (Says (datagrams.Request asker name)) host = refl
+cells_line (Says (datagrams.AskPages asker)) host = refl
+cells_line (Says (datagrams.PageState sender page marks)) host = refl
+
+cells_lines : (ls : List Line) (host : Opened) → (after_lines ls host).is.cells ≡ host.is.cells
+cells_lines [] host = refl
+cells_lines (line ∷ ls) host = cells_lines ls (after_line line host) ∙ cells_line line host
+
+-- ---- a host that keeps itself
+
+does_count : (line : KeptLine) (text : List ℕ) (k : Keeping) (fault : Option KeptFault) → fault ≡ fault_of line k → MayCount k.host → Counts (host_after (Some (Kept k)) (kept_does fault (doing_of line) text k))
+does_count line text k (Some f) e counts = counts
+does_count line text k None e counts = λ few.
+    bounded_kept line k (sym e) (counts (subst (λ (n : ℕ). n ≤ 65535) (cells_lines (doing_of line (sees k.host) k.policy).lines k.host) few))
+
+shows_count : (k : Keeping) (a : Answer) → MayCount k.host → Counts (host_after (Some (Kept k)) (kept_shows k a))
+shows_count k (gives next text) counts = counts
+shows_count k (refuses e) counts = counts
+
+kept_counts : (line : DriverLine) (k : Keeping) → MayCount k.host → Counts (host_after (Some (Kept k)) (kept_reply line k))
+kept_counts (Script (lines.Tick now)) k counts = does_count (Ticked now) [] k _ refl counts
+kept_counts (Came now v) k counts = does_count (CameIn now v) _ k _ refl counts
+kept_counts (Add a) k counts = does_count (Added a.moment a.page a.time a.op) _ k _ refl counts
+kept_counts (Script lines.Skip) k counts = counts
+kept_counts (Script (lines.Board member cells workers seed)) k counts = counts
+kept_counts (Script (lines.Arrive d)) k counts = counts
+kept_counts (Script (lines.Hear v)) k counts = counts
+kept_counts (Script (lines.Distance source micros)) k counts = counts
+kept_counts (Script (lines.Look page)) k counts = counts
+kept_counts (Script (lines.Session page)) k counts = counts
+kept_counts (Script (lines.Show page width height)) k counts = counts
+kept_counts (Script (lines.Gaps page)) k counts = counts
+kept_counts (Script (lines.Report page)) k counts = counts
+kept_counts (Script lines.Pages) k counts = counts
+kept_counts (Say v) k counts = counts
+kept_counts (Next page) k counts = shows_count k (answer_at (Next page) k.host) counts
+kept_counts (View page) k counts = counts
+kept_counts Known k counts = counts
+kept_counts (Ask name) k counts = counts
+kept_counts (Stop name) k counts = counts
+kept_counts (Keep rate listen) k counts = counts
+
+-- ---- a host that its driver drives
+
+unseeded : (host : Opened) (a : Answer) → Counts (host_after (Some (Driven host None)) (as_driven None a))
+unseeded host (gives None text) = tt
+unseeded host (gives (Some next) text) = tt
+unseeded host (refuses e) = tt
+
+-- it may not begin to keep itself any more
+acted : (host : Opened) (seed : Option ℕ) (a : Answer) → Counts (Some (Driven host seed)) → Counts (host_after (Some (Driven host seed)) (as_driven None a))
+acted host seed (gives None text) counts = tt
+acted host seed (gives (Some next) text) counts = tt
+acted host seed (refuses e) counts = counts
+
+ticks_count : (now seed : ℕ) (host : Opened) → MayCount host → Counts (host_after (Some (Driven host (Some seed))) (as_driven (Some seed) (answer_at (Script (lines.Tick now)) host)))
+ticks_count now seed host counts = by (nat_lt now (present host)) where
+  by : (b : Bool) → Counts (host_after (Some (Driven host (Some seed))) (as_driven (Some seed) (answered (cond b (fails faults.BackInTime) (does (ticked now host) (sends_text (sent_by now host)))))))
+  by true = counts
+  by false = λ few. bounded_line (Ticks now) host (counts few) tt
+
+next_counts : (page : PageId) (seed : ℕ) (host : Opened) (n : Option ℕ) → MayCount host → Counts (host_after (Some (Driven host (Some seed))) (as_driven (Some seed) (numbered host n)))
+next_counts page seed host None counts = counts
+next_counts page seed host (Some n) counts = counts
+
+either_seed : (b : Bool) (seed : Option ℕ) → cond b seed seed ≡ seed
+either_seed true seed = refl
+either_seed false seed = refl
+
+driven_counts : (line : DriverLine) (host : Opened) (seed : Option ℕ) → Counts (Some (Driven host seed)) → Counts (host_after (Some (Driven host seed)) (as_driven (seed_after line seed) (answer_at line host)))
+driven_counts line host None counts = subst (λ (s : Option ℕ). Counts (host_after (Some (Driven host None)) (as_driven s (answer_at line host)))) (sym (either_seed (is_acting line) None)) (unseeded host (answer_at line host))
+driven_counts (Script (lines.Tick now)) host (Some seed) counts = ticks_count now seed host counts
+driven_counts (Script lines.Skip) host (Some seed) counts = counts
+driven_counts (Script (lines.Board member cells workers s)) host (Some seed) counts = counts
+driven_counts (Script (lines.Arrive d)) host (Some seed) counts = acted host (Some seed) (answer_at (Script (lines.Arrive d)) host) counts
+driven_counts (Script (lines.Hear v)) host (Some seed) counts = acted host (Some seed) (answer_at (Script (lines.Hear v)) host) counts
+driven_counts (Script (lines.Distance source micros)) host (Some seed) counts = acted host (Some seed) (answer_at (Script (lines.Distance source micros)) host) counts
+driven_counts (Script (lines.Look page)) host (Some seed) counts = acted host (Some seed) (answer_at (Script (lines.Look page)) host) counts
+driven_counts (Script (lines.Session page)) host (Some seed) counts = acted host (Some seed) (answer_at (Script (lines.Session page)) host) counts
+driven_counts (Script (lines.Show page width height)) host (Some seed) counts = counts
+driven_counts (Script (lines.Gaps page)) host (Some seed) counts = counts
+driven_counts (Script (lines.Report page)) host (Some seed) counts = counts
+driven_counts (Script lines.Pages) host (Some seed) counts = counts
+driven_counts (Say v) host (Some seed) counts = acted host (Some seed) (answer_at (Say v) host) counts
+driven_counts (Next page) host (Some seed) counts = next_counts page seed host (next_number page host) counts
+driven_counts (View page) host (Some seed) counts = counts
+driven_counts Known host (Some seed) counts = counts
+driven_counts (Ask name) host (Some seed) counts = acted host (Some seed) (answer_at (Ask name) host) counts
+driven_counts (Stop name) host (Some seed) counts = acted host (Some seed) (answer_at (Stop name) host) counts
+driven_counts (Keep rate listen) host (Some seed) counts = acted host (Some seed) (answer_at (Keep rate listen) host) counts
+driven_counts (Came now v) host (Some seed) counts = counts
+driven_counts (Add adding) host (Some seed) counts = counts
+
+-- ---- the first line
+
+opened_counts : (tuning : Tuning) (line : DriverLine) → Counts (host_after None (taken_reply tuning None line))
+opened_counts tuning (Script (lines.Board member cells workers seed)) = λ few. bounded_open tuning member cells seed few
+opened_counts tuning (Script lines.Skip) = tt
+opened_counts tuning (Script (lines.Arrive d)) = tt
+opened_counts tuning (Script (lines.Hear v)) = tt
+opened_counts tuning (Script (lines.Distance source micros)) = tt
+opened_counts tuning (Script (lines.Tick now)) = tt
+opened_counts tuning (Script (lines.Look page)) = tt
+opened_counts tuning (Script (lines.Session page)) = tt
+opened_counts tuning (Script (lines.Show page width height)) = tt
+opened_counts tuning (Script (lines.Gaps page)) = tt
+opened_counts tuning (Script (lines.Report page)) = tt
+opened_counts tuning (Script lines.Pages) = tt
+opened_counts tuning (Say v) = tt
+opened_counts tuning (Next page) = tt
+opened_counts tuning (View page) = tt
+opened_counts tuning Known = tt
+opened_counts tuning (Ask name) = tt
+opened_counts tuning (Stop name) = tt
+opened_counts tuning (Keep rate listen) = tt
+opened_counts tuning (Came now v) = tt
+opened_counts tuning (Add adding) = tt
+
+-- ---- lines
+
+keeps_counting : (rate listen : ℕ) (h : Option Host) → Counts h → Counts (host_after h (keep_reply rate listen h))
+keeps_counting rate listen None counts = tt
+keeps_counting rate listen (Some (Driven host None)) counts = tt
+keeps_counting rate listen (Some (Driven host (Some seed))) counts = counts
+keeps_counting rate listen (Some (Kept k)) counts = counts
+
+taken_counts : (tuning : Tuning) (h : Option Host) (line : DriverLine) → Counts h → Counts (host_after h (taken_reply tuning h line))
+taken_counts tuning None line counts = opened_counts tuning line
+taken_counts tuning (Some (Driven host seed)) line counts = driven_counts line host seed counts
+taken_counts tuning (Some (Kept k)) line counts = kept_counts line k counts
+
+line_counts : (tuning : Tuning) (h : Option Host) (line : DriverLine) → Counts h → Counts (host_after h (reply_to tuning h line))
+line_counts tuning h (Keep rate listen) counts = keeps_counting rate listen h counts
+line_counts tuning h (Script line) counts = taken_counts tuning h (Script line) counts
+line_counts tuning h (Say v) counts = taken_counts tuning h (Say v) counts
+line_counts tuning h (Next page) counts = taken_counts tuning h (Next page) counts
+line_counts tuning h (View page) counts = taken_counts tuning h (View page) counts
+line_counts tuning h Known counts = taken_counts tuning h Known counts
+line_counts tuning h (Ask name) counts = taken_counts tuning h (Ask name) counts
+line_counts tuning h (Stop name) counts = taken_counts tuning h (Stop name) counts
+line_counts tuning h (Came now v) counts = taken_counts tuning h (Came now v) counts
+line_counts tuning h (Add adding) counts = taken_counts tuning h (Add adding) counts
+
+said_counts : (tuning : Tuning) (h : Option Host) (said : Result DriverLine Refusal) → Counts h → Counts (host_after h (reply tuning h said))
+said_counts tuning h (Ok line) counts = line_counts tuning h line counts
+said_counts tuning h (Err e) counts = counts
+
+all_count : (s : Hosting) (before : List InputLine) → Counts s.host → Counts (hosting_from s before).host
+all_count s [] counts = counts
+all_count s (line ∷ before) counts = all_count (hosting_after s (reply_of s (met line))) before (said_counts s.tuning s.host (says_line (met line)) counts)
+
+-- ---- a drawing
+
+abbrev IsTooMany : Reply → Type 0
+IsTooMany (denies (refusals.Line faults.TooMany)) = Unit {0}
+IsTooMany r = ⊥
+
+-- of the faults of a drawing, only the want of numbers is that
+by_fault : (past waits : Bool) (left : Bool) (fault : Option FieldFault) (act : Transition) (text : List ℕ) (k : Keeping) → left ≡ true
+    → IsTooMany (kept_does (first_of (first_of (fault_unless past (kept_faults.Host BackInTime) ∷ fault_unless (not waits) kept_faults.Listening ∷ []) ∷ first_of (fault_unless left kept_faults.Numbers ∷ option_map kept_faults.Operation fault ∷ []) ∷ [])) act text k) → ⊥
+by_fault true false true None act text k e many = many
+by_fault true false true (Some f) act text k e many = many
+by_fault true true true fault act text k e many = many
+by_fault false waits true fault act text k e many = many
+by_fault past waits false fault act text k e many = absurd cc
+
+pub add_is_not_too_many : AddIsNotTooMany
+add_is_not_too_many tuning before adding k is few many =
+    let counts = subst Counts is (all_count (unopened tuning) before tt) in
+    let bounded = counts few in
+    let left = number_left adding.page k.host bounded in
+    let room = bounded.room in
+    by_fault (nat_le (present k.host) adding.moment) (nat_lt adding.moment k.policy.ready) (nat_lt (last_number adding.page k.host) 4294967295) (op_fault (drawing (view_of k.host) adding.page adding.time adding.op).name adding.op) _ _ k (less (last_number adding.page k.host) (omega (arith, left, room, few))) (subst IsTooMany (sym many) tt) where
+      less : (n : ℕ) → n < 4294967295 → nat_lt n 4294967295 ≡ true
+      less n lt = grind (arith, nat_tests)

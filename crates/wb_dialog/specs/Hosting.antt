@@ -1,0 +1,224 @@
+-- What a host does for the lines of a driver, whether its driver judges or it keeps itself, and what is written for them.
+use Rattle.std.specs.Prelude.{ℕ, List, [], ◌∷◌, ◌++◌, Bool, true, false, nat_lt, Option, Some, None, Result, Ok, Err, if◌then◌else◌}
+use Rattle.std.specs.List.{concat}
+use Rattle.std.specs.declared.convert.Infallible.{Infallible}
+use Rattle.wb_names.specs.Arrivals.{Outcome, Fresh, Known as KnownDrawop, Clashed, Left}
+use Rattle.wb_names.specs.declared.fault.FieldFault.{FieldFault}
+use Rattle.wb_names.specs.declared.name.PageId.{PageId}
+use Rattle.wb_names.specs.declared.parts.Op.{Op}
+use Rattle.wb_codec.specs.declared.datagram.Datagram.{Datagram as DatagramValue}
+use Rattle.wb_codec.specs.declared.datagram.Datagram.TheVariants as datagrams
+use Rattle.wb_recovery.specs.declared.tuning.Tuning.{Tuning}
+use Rattle.wb_member.specs.Opened.{Opened, next_due, present}
+use Rattle.wb_keeping.specs.Kept.{Transition, adds, came, ticks}
+use Rattle.wb_keeping.specs.Performing.{Keeping, after_doing, due as kept_due, sent_by_doing}
+use Rattle.wb_keeping.specs.Policy.{begun}
+use Rattle.wb_keeping.specs.Refusing.{add_fault, came_as, came_fault, drawn_as, tick_fault}
+use Rattle.wb_keeping.specs.declared.kept_fault.KeptFault.{KeptFault}
+use Rattle.wb_keeping.specs.declared.kept_fault.KeptFault.TheVariants as kept_faults
+use Rattle.wb_lines.specs.Input.{InputLine, input_lines}
+use Rattle.wb_lines.specs.Handling.{Met, Step, goes}
+use Rattle.wb_lines.specs.Taking.{met}
+use Rattle.wb_words.specs.declared.adding.Adding.{Adding}
+use Rattle.wb_words.specs.declared.fault.WordFault.TheVariants as word_faults
+use Rattle.wb_commands.specs.SentLines.{sends_text}
+use Rattle.wb_commands.specs.declared.command.Command.{Command}
+use Rattle.wb_commands.specs.declared.command.Command.TheVariants as lines
+use Rattle.wb_commands.specs.declared.fault.LineFault.TheVariants as faults
+use Rattle.wb_dialog.specs.declared.fault.Refusal.{Refusal}
+use Rattle.wb_dialog.specs.declared.fault.Refusal.TheVariants as refusals
+use Rattle.wb_dialog.specs.declared.line.DriverLine.{DriverLine}
+use Rattle.wb_dialog.specs.declared.line.DriverLine.TheVariants.{Script, Say, Next, View, Known, Ask, Stop, Keep, Came, Add}
+use Rattle.wb_dialog.specs.Dialog.{Answer, gives, refuses, answer_at, answer_first, batch_of, ok_line, refused_line, says_line, answered_lines}
+
+-- A host, once its board is open. Where its driver judges, it may begin to keep itself, with the seed of its board, until a line
+-- that acts was taken. Where it keeps itself, it has a policy.
+pub data Host : Type 0 where
+  Driven : Opened → (seed : Option ℕ) → Host
+  Kept : Keeping → Host
+
+-- What a line does: it leads to a host, once a board was opened, and a text is printed; or it is refused.
+pub data Reply : Type 0 where
+  prints : Option Host → List ℕ → Reply
+  denies : Refusal → Reply
+
+-- ---- a host that its driver drives
+
+-- A line that acts: behind such a one a host can't begin to keep itself, and one that keeps itself takes none.
+abbrev pub acts_in_script : Command → Bool
+acts_in_script (lines.Arrive d) = true
+acts_in_script (lines.Hear v) = true
+acts_in_script (lines.Distance source micros) = true
+acts_in_script (lines.Look page) = true
+acts_in_script (lines.Session page) = true
+acts_in_script line = false
+
+abbrev pub is_acting : DriverLine → Bool
+is_acting (Script line) = acts_in_script line
+is_acting (Say v) = true
+is_acting (Ask name) = true
+is_acting (Stop name) = true
+is_acting (Keep rate listen) = true
+is_acting line = false
+
+-- the seed with which it may begin to keep itself after a line
+abbrev pub seed_after : DriverLine → Option ℕ → Option ℕ
+seed_after line seed = if is_acting line then None else seed
+
+abbrev pub driven_host : Option ℕ → Option Opened → Option Host
+driven_host seed None = None
+driven_host seed (Some host) = Some (Driven host seed)
+
+abbrev pub as_driven : Option ℕ → Answer → Reply
+as_driven seed (gives next text) = prints (driven_host seed next) text
+as_driven seed (refuses e) = denies e
+
+-- From now on it keeps itself.
+abbrev pub begins : ℕ → ℕ → Opened → Option ℕ → Reply
+begins rate listen host None = denies refusals.TooLate
+begins rate listen host (Some seed) = prints (Some (Kept (record { host = host; policy = begun (present host) rate listen seed }))) []
+
+-- ---- a host that keeps itself
+
+-- The number of a target is the sixth word of a drawing.
+abbrev pub wrong_target : FieldFault → Refusal
+wrong_target fault = refusals.Word (record { place = 6; fault = word_faults.Field fault })
+
+-- Why a line is refused, by why its host refuses it. Of a moment it knows one fault.
+abbrev pub kept_refusal : KeptFault → Refusal
+kept_refusal (kept_faults.Host fault) = refusals.Line faults.BackInTime
+kept_refusal kept_faults.Listening = refusals.Listening
+kept_refusal kept_faults.Ours = refusals.Ours
+kept_refusal kept_faults.Numbers = refusals.Line faults.TooMany
+kept_refusal (kept_faults.Operation fault) = wrong_target fault
+
+-- It does what a transition says, and prints what that sends, and then a text; or it refuses the line.
+abbrev pub kept_does : Option KeptFault → Transition → List ℕ → Keeping → Reply
+kept_does (Some fault) does text k = denies (kept_refusal fault)
+kept_does None does text k = prints (Some (Kept (after_doing does k))) (sends_text (sent_by_doing does k) ++ text)
+
+-- a drawop that came in is a batch of its own
+abbrev pub came_text : DatagramValue → Outcome → List ℕ
+came_text (datagrams.Draw d) outcome = batch_of outcome
+came_text (datagrams.Session sender sent page marks echoes) outcome = []
+came_text (datagrams.Request asker name) outcome = []
+came_text (datagrams.AskPages asker) outcome = []
+came_text (datagrams.PageState sender page marks) outcome = []
+
+-- why a drawing was not sent
+abbrev pub unsent_text : Outcome → List ℕ
+unsent_text (Fresh place) = []
+unsent_text (KnownDrawop place) = []
+unsent_text (Clashed place) = batch_of (Clashed place)
+unsent_text Left = batch_of Left
+
+abbrev pub kept_ticks : ℕ → Keeping → Reply
+kept_ticks now k = kept_does (tick_fault now k) (ticks now) [] k
+
+abbrev pub kept_takes : ℕ → DatagramValue → Keeping → Reply
+kept_takes now v k = kept_does (came_fault now v k) (came now v) (came_text v (came_as v k.host)) k
+
+abbrev pub kept_draws : ℕ → PageId → ℕ → Op → Keeping → Reply
+kept_draws now page time op k = kept_does (add_fault now page time op k) (adds now page time op) (unsent_text (drawn_as page time op k.host)) k
+
+abbrev pub kept_adds : Adding → Keeping → Reply
+kept_adds a k = kept_draws a.moment a.page a.time a.op k
+
+-- What it is asked, it answers as any host, and is not changed by that.
+abbrev pub kept_shows : Keeping → Answer → Reply
+kept_shows k (gives next text) = prints (Some (Kept k)) text
+kept_shows k (refuses e) = denies e
+
+-- A line that acts is for its driver to judge no more.
+abbrev pub kept_reply : DriverLine → Keeping → Reply
+kept_reply (Script (lines.Tick now)) k = kept_ticks now k
+kept_reply (Came now v) k = kept_takes now v k
+kept_reply (Add adding) k = kept_adds adding k
+kept_reply line k = if is_acting line then denies refusals.Kept else kept_shows k (answer_at line k.host)
+
+-- ---- one line
+
+-- the seed of the board that a line opens
+abbrev pub seed_in : DriverLine → Option ℕ
+seed_in (Script (lines.Board member cells workers seed)) = Some seed
+seed_in line = None
+
+-- what a line does that does not begin to keep the host
+abbrev pub taken_by : DriverLine → Host → Reply
+taken_by line (Driven host seed) = as_driven (seed_after line seed) (answer_at line host)
+taken_by line (Kept k) = kept_reply line k
+
+abbrev pub taken_reply : Tuning → Option Host → DriverLine → Reply
+taken_reply tuning None line = as_driven (seed_in line) (answer_first tuning line)
+taken_reply tuning (Some h) line = taken_by line h
+
+-- It begins to keep itself, where it may.
+abbrev pub keep_reply : ℕ → ℕ → Option Host → Reply
+keep_reply rate listen None = denies (refusals.Line faults.NoBoard)
+keep_reply rate listen (Some (Driven host seed)) = begins rate listen host seed
+keep_reply rate listen (Some (Kept k)) = denies refusals.Kept
+
+abbrev pub reply_to : Tuning → Option Host → DriverLine → Reply
+reply_to tuning s (Keep rate listen) = keep_reply rate listen s
+reply_to tuning s line = taken_reply tuning s line
+
+abbrev pub reply : Tuning → Option Host → Result DriverLine Refusal → Reply
+reply tuning s (Ok line) = reply_to tuning s line
+reply tuning s (Err e) = denies e
+
+-- ---- blocks
+
+-- a moment that a line can tell
+abbrev pub in_time : ℕ → Option ℕ
+in_time moment = if nat_lt moment 281474976710656 then Some moment else None
+
+-- the next moment at which it has something to do
+abbrev pub due_at : Option Host → Option ℕ
+due_at None = None
+due_at (Some (Driven host seed)) = next_due host
+due_at (Some (Kept k)) = in_time (kept_due k)
+
+-- what is printed for a line, and one line more, which closes it
+abbrev pub block_of : Reply → List ℕ
+block_of (prints s text) = text ++ ok_line (due_at s)
+block_of (denies e) = refused_line e
+
+-- the host after a line: where it is refused, the one before
+abbrev pub host_after : Option Host → Reply → Option Host
+host_after s (prints t text) = t
+host_after s (denies e) = s
+
+-- ---- a transcript
+
+-- the constants of the timers, and the host, once a board was opened
+pub record Hosting : Type 0 where
+  pub tuning : Tuning
+  pub host : Option Host
+
+abbrev pub reply_of : Hosting → Met → Reply
+reply_of s m = reply s.tuning s.host (says_line m)
+
+abbrev pub hosting_after : Hosting → Reply → Hosting
+hosting_after s r = record { tuning = s.tuning; host = host_after s.host r }
+
+-- What is written for a line of the input is a block, whatever its number. No line stops a dialog.
+abbrev pub step : Hosting → ℕ → Met → Step Hosting Infallible
+step s number m = goes (block_of (reply_of s m)) (hosting_after s (reply_of s m))
+
+-- the blocks of lines, in their order, from a host on
+abbrev pub blocks_from : Hosting → List InputLine → List (List ℕ)
+blocks_from s [] = []
+blocks_from s (line ∷ lines) = block_of (reply_of s (met line)) ∷ blocks_from (hosting_after s (reply_of s (met line))) lines
+
+-- the host after lines
+abbrev pub hosting_from : Hosting → List InputLine → Hosting
+hosting_from s [] = s
+hosting_from s (line ∷ lines) = hosting_from (hosting_after s (reply_of s (met line))) lines
+
+-- no board is open
+abbrev pub unopened : Tuning → Hosting
+unopened tuning = record { tuning = tuning; host = None }
+
+-- what is written for an input, which is cut off where reading fails after it
+abbrev pub transcript : Tuning → Bool → List ℕ → List ℕ
+transcript tuning cut input = concat (blocks_from (unopened tuning) (answered_lines cut (input_lines input)))

@@ -1,0 +1,315 @@
+//! What the lines of a driver do at a host that keeps itself.
+ghost use Rattle.std.specs.Prelude.{◌≡◌, ◌<◌, ◌^◌, ◌++◌, List, [], ℕ, IfOk, true};
+ghost use Rattle.std.specs.String.{string_bytes};
+ghost use Rattle.wb_names.specs.Shapes.{op_of};
+ghost use Rattle.wb_member.specs.Holding.{outcome_in};
+ghost use Rattle.wb_display.specs.Canvas.{is_canvas_size};
+ghost use Rattle.wb_commands.specs.Parsing.{IsWithin as IsScriptWithin};
+ghost use Rattle.wb_commands.specs.SentLines.{sends_text};
+ghost use Rattle.wb_dialog.specs.Doing.{DoesKept, Tells, unanswered_of};
+ghost use Rattle.wb_dialog.specs.Hosting.{came_text, kept_adds, kept_draws, kept_reply, kept_takes, kept_ticks, unsent_text};
+ghost use Rattle.wb_dialog.specs.Lines.{IsWithin};
+
+use crate::blocks::{known_text, next_line, view_text};
+use crate::fault::{Refusal, Unanswered};
+use crate::line::DriverLine;
+use std::alloc::{AllocError, Global};
+use wb_codec::Datagram;
+use wb_commands::{
+    Command, LineFault, arrival_line, gaps_text, pages_text, print_sends, report_text,
+};
+use wb_host::{KeepFault, Reply};
+use wb_keeping::{Done, KeptFault, KeptMember};
+use wb_lines::Output;
+use wb_names::{FieldFault, Op, PageId, Shape};
+use wb_words::{Adding, WordFault, WrongWord};
+
+/// Where the number of its target stands among the words of a drawing.
+const TARGET: u32 = 6;
+
+/// A fault of a drawing that has its number now: its target is itself.
+fn wrong_target(fault: FieldFault) -> WrongWord
+    ensures { result ≡ record { place = 6; fault = WordFault.Field fault } }
+{
+    WrongWord {
+        place: TARGET,
+        fault: WordFault::Field(fault),
+    }
+}
+
+/// Why a host that keeps itself does not do a line.
+fn refused(fault: KeptFault) -> Unanswered
+    ensures { result ≡ unanswered_of fault }
+{
+    match fault {
+        KeptFault::Host(KeepFault::Memory) => Unanswered::Memory,
+        KeptFault::Host(_) => Unanswered::Refused(Refusal::Line(LineFault::BackInTime)),
+        KeptFault::Listening => Unanswered::Refused(Refusal::Listening),
+        KeptFault::Ours => Unanswered::Refused(Refusal::Ours),
+        KeptFault::Numbers => Unanswered::Refused(Refusal::Line(LineFault::TooMany)),
+        KeptFault::Operation(fault) => Unanswered::Refused(Refusal::Word(wrong_target(fault))),
+    }
+}
+
+/// Prints what is sent, and then a text. Without memory it prints a front of that.
+fn tell(
+    alloc: Global,
+    sent: &[Datagram],
+    text: &[u8],
+    output: &mut Output,
+) -> Result<(), Unanswered>
+    ensures { (written : List ℕ) × (output.new ≡ output.old ++ written) × Tells written result (sends_text sent.now ++ text.now) }
+{
+    print_sends(alloc, sent, output)?;
+    output.add(text)?;
+    Ok(())
+}
+
+/// Time goes on to a moment.
+#[tactic(auto, using(crate::proofs::KeptReplies::does_line, crate::proofs::KeptReplies::nothing_begins))]
+fn tick(
+    alloc: Global,
+    kept: &mut KeptMember,
+    now: u64,
+    output: &mut Output,
+) -> Result<(), Unanswered>
+    requires { now < 2 ^ 48 }
+    ensures text { (written : List ℕ) × (output.new ≡ output.old ++ written) × DoesKept kept.old kept.new written result (kept_ticks now) }
+{
+    match kept.tick(alloc, now) {
+        Ok(sent) => tell(alloc, &sent, b"", output),
+        Err(fault) => Err(refused(fault)),
+    }
+}
+
+/// The batch that a datagram is, where it is a drawop, by what became of that.
+fn batch(alloc: Global, datagram: &Datagram, became: Option<Reply>) -> Result<String, AllocError>
+    ensures { IfOk result (λ text. string_bytes text ≡ came_text datagram.now (outcome_in became)) }
+{
+    match datagram {
+        Datagram::Draw(_) => arrival_line(alloc, became),
+        _ => Ok(String::new(alloc)),
+    }
+}
+
+/// A datagram came in at a moment. Of a drawop the batch is printed last.
+#[tactic(auto, using(crate::proofs::KeptReplies::does_line, crate::proofs::KeptReplies::nothing_begins))]
+fn came(
+    alloc: Global,
+    kept: &mut KeptMember,
+    now: u64,
+    datagram: &Datagram,
+    output: &mut Output,
+) -> Result<(), Unanswered>
+    requires { now < 2 ^ 48 }
+    ensures text { (written : List ℕ) × (output.new ≡ output.old ++ written) × DoesKept kept.old kept.new written result (kept_takes now datagram.now) }
+{
+    match kept.came(alloc, now, datagram) {
+        Ok(Done { sent, became }) => {
+            let text = batch(alloc, datagram, became)?;
+            tell(alloc, &sent, text.as_bytes(), output)
+        }
+        Err(fault) => Err(refused(fault)),
+    }
+}
+
+/// An operation as it is handed in.
+fn shape_of(op: &Op) -> Shape<'_>
+    ensures { op_of result ≡ op.now }
+{
+    match op {
+        Op::Drawn(figure, stroke) => Shape::Drawn(*figure, *stroke),
+        Op::Text { x, y, text } => Shape::Text {
+            x: *x,
+            y: *y,
+            bytes: text.as_slice(),
+        },
+        Op::Aimed(change, target) => Shape::Aimed(*change, *target),
+    }
+}
+
+/// The batch of a drawing that is not sent: its board is full.
+fn unsent(alloc: Global, became: Option<Reply>) -> Result<String, AllocError>
+    ensures { IfOk result (λ text. string_bytes text ≡ unsent_text (outcome_in became)) }
+{
+    match became {
+        Some(Reply::New(_)) => Ok(String::new(alloc)),
+        Some(Reply::Again(_)) => Ok(String::new(alloc)),
+        Some(Reply::Clash(_)) => arrival_line(alloc, became),
+        None => arrival_line(alloc, became),
+    }
+}
+
+/// The user draws an operation. Where the board is full, the batch is printed last.
+#[tactic(auto, using(crate::proofs::KeptReplies::does_line, crate::proofs::KeptReplies::nothing_begins))]
+fn draw(
+    alloc: Global,
+    kept: &mut KeptMember,
+    adding: &Adding,
+    shape: Shape<'_>,
+    output: &mut Output,
+) -> Result<(), Unanswered>
+    requires { adding.now.moment < 2 ^ 48 }
+    ensures text { (written : List ℕ) × (output.new ≡ output.old ++ written) × DoesKept kept.old kept.new written result (kept_draws adding.now.moment adding.now.page adding.now.time (op_of shape.entry)) }
+{
+    match kept.add(alloc, adding.moment, adding.page, adding.time, shape) {
+        Ok(Done { sent, became }) => {
+            let text = unsent(alloc, became)?;
+            tell(alloc, &sent, text.as_bytes(), output)
+        }
+        Err(fault) => Err(refused(fault)),
+    }
+}
+
+/// The user draws.
+fn add(
+    alloc: Global,
+    kept: &mut KeptMember,
+    adding: &Adding,
+    output: &mut Output,
+) -> Result<(), Unanswered>
+    requires { adding.now.moment < 2 ^ 48 }
+    ensures text { (written : List ℕ) × (output.new ≡ output.old ++ written) × DoesKept kept.old kept.new written result (kept_adds adding.now) }
+{
+    draw(alloc, kept, adding, shape_of(&adding.op), output)
+}
+
+/// The canvas of a page is asked for.
+fn show(
+    alloc: Global,
+    kept: &mut KeptMember,
+    page: PageId,
+    width: u32,
+    height: u32,
+    output: &mut Output,
+) -> Result<(), Unanswered>
+    requires { is_canvas_size width height ≡ true }
+    ensures text { (written : List ℕ) × (output.new ≡ output.old ++ written) × DoesKept kept.old kept.new written result (kept_reply (DriverLine.Script (Command.Show page width height))) }
+{
+    let canvas = kept.show(alloc, page, width, height)?;
+    output.add(canvas.bytes())?;
+    Ok(())
+}
+
+/// The missing ranges of a page are asked for.
+fn gaps(
+    alloc: Global,
+    kept: &mut KeptMember,
+    page: PageId,
+    output: &mut Output,
+) -> Result<(), Unanswered>
+    ensures text { (written : List ℕ) × (output.new ≡ output.old ++ written) × DoesKept kept.old kept.new written result (kept_reply (DriverLine.Script (Command.Gaps page))) }
+{
+    let gaps = kept.gaps(alloc, page)?;
+    output.add(gaps_text(alloc, &gaps)?.as_bytes())?;
+    Ok(())
+}
+
+/// The greatest number of each source of a page is asked for.
+fn report(
+    alloc: Global,
+    kept: &mut KeptMember,
+    page: PageId,
+    output: &mut Output,
+) -> Result<(), Unanswered>
+    ensures text { (written : List ℕ) × (output.new ≡ output.old ++ written) × DoesKept kept.old kept.new written result (kept_reply (DriverLine.Script (Command.Report page))) }
+{
+    let marks = kept.report(alloc, page)?;
+    output.add(report_text(alloc, marks.as_slice())?.as_bytes())?;
+    Ok(())
+}
+
+/// The pages that have drawops are asked for.
+fn pages(alloc: Global, kept: &mut KeptMember, output: &mut Output) -> Result<(), Unanswered>
+    ensures text { (written : List ℕ) × (output.new ≡ output.old ++ written) × DoesKept kept.old kept.new written result (kept_reply (DriverLine.Script Command.Pages)) }
+{
+    let pages = kept.pages(alloc)?;
+    output.add(pages_text(alloc, &pages)?.as_bytes())?;
+    Ok(())
+}
+
+/// What a line of a script does, of which some are its driver's to judge no more.
+fn script(
+    alloc: Global,
+    kept: &mut KeptMember,
+    command: &Command,
+    output: &mut Output,
+) -> Result<(), Unanswered>
+    requires { IsScriptWithin command.now }
+    ensures text { (written : List ℕ) × (output.new ≡ output.old ++ written) × DoesKept kept.old kept.new written result (kept_reply (DriverLine.Script command.now)) }
+{
+    match command {
+        Command::Skip => Ok(()),
+        Command::Board { .. } => Err(Unanswered::Refused(Refusal::Line(LineFault::SecondBoard))),
+        Command::Tick { moment } => tick(alloc, kept, *moment, output),
+        Command::Show {
+            page,
+            width,
+            height,
+        } => show(alloc, kept, *page, *width, *height, output),
+        Command::Gaps(page) => gaps(alloc, kept, *page, output),
+        Command::Report(page) => report(alloc, kept, *page, output),
+        Command::Pages => pages(alloc, kept, output),
+        _ => Err(Unanswered::Refused(Refusal::Kept)),
+    }
+}
+
+/// The number of our next drawing on a page is asked for.
+fn next(
+    alloc: Global,
+    kept: &KeptMember,
+    page: PageId,
+    output: &mut Output,
+) -> Result<(), Unanswered>
+    ensures text { (written : List ℕ) × (output.new ≡ output.old ++ written) × DoesKept kept.now kept.now written result (kept_reply (DriverLine.Next page)) }
+{
+    let Some(number) = kept.next_number(page) else {
+        return Err(Unanswered::Refused(Refusal::Line(LineFault::TooMany)));
+    };
+    output.add(next_line(alloc, number)?.as_bytes())?;
+    Ok(())
+}
+
+/// The drawops that a page shows are asked for.
+fn view(
+    alloc: Global,
+    kept: &mut KeptMember,
+    page: PageId,
+    output: &mut Output,
+) -> Result<(), Unanswered>
+    ensures text { (written : List ℕ) × (output.new ≡ output.old ++ written) × DoesKept kept.old kept.new written result (kept_reply (DriverLine.View page)) }
+{
+    let drawops = kept.view(alloc, page)?;
+    output.add(view_text(alloc, &drawops)?.as_slice())?;
+    Ok(())
+}
+
+/// The pages that are known are asked for.
+fn known(alloc: Global, kept: &mut KeptMember, output: &mut Output) -> Result<(), Unanswered>
+    ensures text { (written : List ℕ) × (output.new ≡ output.old ++ written) × DoesKept kept.old kept.new written result (kept_reply DriverLine.Known) }
+{
+    let pages = kept.known(alloc)?;
+    output.add(known_text(alloc, &pages)?.as_bytes())?;
+    Ok(())
+}
+
+/// What a line does at a host that keeps itself: it prints, or it is refused, and then the host stays as it is.
+pub(crate) fn answer_kept(
+    alloc: Global,
+    kept: &mut KeptMember,
+    line: &DriverLine,
+    output: &mut Output,
+) -> Result<(), Unanswered>
+    requires { IsWithin line.now }
+    ensures text { (written : List ℕ) × (output.new ≡ output.old ++ written) × DoesKept kept.old kept.new written result (kept_reply line.now) }
+{
+    match line {
+        DriverLine::Script(line) => script(alloc, kept, line, output),
+        DriverLine::Next(page) => next(alloc, kept, *page, output),
+        DriverLine::View(page) => view(alloc, kept, *page, output),
+        DriverLine::Known => known(alloc, kept, output),
+        DriverLine::Came { now, datagram } => came(alloc, kept, *now, datagram, output),
+        DriverLine::Add(adding) => add(alloc, kept, adding, output),
+        _ => Err(Unanswered::Refused(Refusal::Kept)),
+    }
+}
