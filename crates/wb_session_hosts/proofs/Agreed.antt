@@ -15,8 +15,8 @@ use Rattle.wb_gaps.proofs.Reports.{greatest_held}
 use Rattle.wb_recovery.specs.declared.tuning.Tuning.{Tuning}
 use Rattle.wb_host.specs.Hearing.{marks_heard}
 use Rattle.wb_lines.specs.Input.{InputLine}
-use Rattle.wb_script.specs.Answers.{gaps_text, report_text}
-use Rattle.wb_script.specs.Hosts.{Opened, present}
+use Rattle.wb_commands.specs.Answers.{gaps_text, report_text}
+use Rattle.wb_member.specs.Opened.{Opened, present}
 use Rattle.wb_session.proofs.Agreeing.{covers_none}
 use Rattle.wb_session.proofs.Drawn.{of_name, holds_name}
 use Rattle.wb_dialog.specs.Dialog.{answer}
@@ -33,13 +33,13 @@ use Rattle.wb_session_hosts.proofs.Outset.{held_by_name}
 use Rattle.wb_session_hosts.proofs.Renewing.{serving}
 use Rattle.wb_session_hosts.proofs.Spreading.{Ready, bring_all}
 
-module _ (constants : ℕ → Tuning) (older : List LineAt) (places : List ℕ) (page : PageId) (drawops : List DrawopValue) (can : CanAgree constants older places page drawops) (new : List LineAt) (on : GoesOn constants (Became drawops) older new) (have : (d : DrawopValue) (k : ℕ) (g : Opened) → Contains drawops d → Contains places k → host_at constants new k ≡ Some g → Contains g.board.drawops d) where
+module _ (constants : ℕ → Tuning) (older : List LineAt) (places : List ℕ) (page : PageId) (drawops : List DrawopValue) (can : CanAgree constants older places page drawops) (new : List LineAt) (on : GoesOn constants (Became drawops) older new) (have : (d : DrawopValue) (k : ℕ) (g : Opened) → Contains drawops d → Contains places k → host_at constants new k ≡ Some g → Contains g.is.held d) where
   -- a number that is known of at one place is held at each
-  held_at : (i : ℕ) (host : Opened) (source n : ℕ) → Contains places i → host_at constants older i ≡ Some host → 1 ≤ n → n ≤ known host.board.drawops page (marks_heard host.me host.calls page) source
-      → (k : ℕ) (g : Opened) → Contains places k → host_at constants new k ≡ Some g → IsHeld g.board.drawops page source n
+  held_at : (i : ℕ) (host : Opened) (source n : ℕ) → Contains places i → host_at constants older i ≡ Some host → 1 ≤ n → n ≤ known host.is.held page (marks_heard host.is.number host.is.calls page) source
+      → (k : ℕ) (g : Opened) → Contains places k → host_at constants new k ≡ Some g → IsHeld g.is.held page source n
   held_at i host source n c at pos le k g in_places there =
       let a = Any-from_map (λ (d : DrawopValue). d.name) drawops (name_of page source n) (can.all i host source n c at pos le) in
-      holds_name g.board.drawops a.1 (name_of page source n) (have a.1 k g (a.0, a.2, a.3) in_places there) a.4
+      holds_name g.is.held a.1 (name_of page source n) (have a.1 k g (a.0, a.2, a.3) in_places there) a.4
 
   module _ (k : ℕ) (in_places : Contains places k) where
     abbrev before : Opened
@@ -58,31 +58,31 @@ module _ (constants : ℕ → Tuning) (older : List LineAt) (places : List ℕ) 
     became = (on.hosts k before was).2
 
     -- what it holds of the page was known of at some place
-    known_somewhere : (source n m : ℕ) → 1 ≤ n → n ≤ m → IsHeld host.board.drawops page source m → (j : ℕ) (g : Opened) → Contains places j → host_at constants new j ≡ Some g → IsHeld g.board.drawops page source n
+    known_somewhere : (source n m : ℕ) → 1 ≤ n → n ≤ m → IsHeld host.is.held page source m → (j : ℕ) (g : Opened) → Contains places j → host_at constants new j ≡ Some g → IsHeld g.is.held page source n
     known_somewhere source n m pos le h j g c at =
-        let x = of_name host.board.drawops (name_of page source m) h in
-        let at_place : (i : ℕ) (o : Opened) → Contains places i → host_at constants older i ≡ Some o → Contains o.board.drawops x.0 → IsHeld g.board.drawops page source n = λ i o in_these there held.
-        let top : m ≤ highest page source o.board.drawops = (greatest_held o.board.drawops page source).bound m (holds_name o.board.drawops x.0 (name_of page source m) held x.2) in
+        let x = of_name host.is.held (name_of page source m) h in
+        let at_place : (i : ℕ) (o : Opened) → Contains places i → host_at constants older i ≡ Some o → Contains o.is.held x.0 → IsHeld g.is.held page source n = λ i o in_these there held.
+        let top : m ≤ highest page source o.is.held = (greatest_held o.is.held page source).bound m (holds_name o.is.held x.0 (name_of page source m) held x.2) in
         held_at i o source n in_these there pos (omega (arith, le, top)) j g c at in
         ⊎_elim
-        (λ (held : Contains before.board.drawops x.0). at_place k before in_places was held)
+        (λ (held : Contains before.is.held x.0). at_place k before in_places was held)
         (λ (among : Contains drawops x.0). let w = can.held x.0 among in at_place w.0 w.1 w.2 w.3 w.4)
         (became.from x.0 x.1)
 
-    none_missing : (source n : ℕ) → IsMissing host.board.drawops page (marks_heard host.me host.calls page) source n → ⊥
+    none_missing : (source n : ℕ) → IsMissing host.is.held page (marks_heard host.is.number host.is.calls page) source n → ⊥
     none_missing source n miss = miss.not_held (⊎_elim
-        (λ (lt : highest page source host.board.drawops < n).
-        let marks : mark_of (marks_heard host.me host.calls page) source ≡ mark_of (marks_heard before.me before.calls page) source = ap (λ (ms : List MarkValue). mark_of ms source) (became.marks page) in
-        let below : n ≤ known host.board.drawops page (marks_heard host.me host.calls page) source = miss.below in
+        (λ (lt : highest page source host.is.held < n).
+        let marks : mark_of (marks_heard host.is.number host.is.calls page) source ≡ mark_of (marks_heard before.is.number before.is.calls page) source = ap (λ (ms : List MarkValue). mark_of ms source) (became.marks page) in
+        let below : n ≤ known host.is.held page (marks_heard host.is.number host.is.calls page) source = miss.below in
         held_at k before source n in_places was miss.counted (omega arith) k host in_places is)
-        (λ (le : n ≤ highest page source host.board.drawops). ⊎_elim
-        (λ (zero_is : highest page source host.board.drawops ≡ 0). let pos = miss.counted in absurd (omega (arith, le, zero_is, pos)))
-        (λ (h : IsHeld host.board.drawops page source (highest page source host.board.drawops)). known_somewhere source n (highest page source host.board.drawops) miss.counted le h k host in_places is)
-        (greatest_held host.board.drawops page source).reached)
-        (cases_lt (highest page source host.board.drawops) n))
+        (λ (le : n ≤ highest page source host.is.held). ⊎_elim
+        (λ (zero_is : highest page source host.is.held ≡ 0). let pos = miss.counted in absurd (omega (arith, le, zero_is, pos)))
+        (λ (h : IsHeld host.is.held page source (highest page source host.is.held)). known_somewhere source n (highest page source host.is.held) miss.counted le h k host in_places is)
+        (greatest_held host.is.held page source).reached)
+        (cases_lt (highest page source host.is.held) n))
 
-    no_gaps : gaps_of host.board.drawops page (marks_heard host.me host.calls page) ≡ []
-    no_gaps = sym (only_gaps host.board.drawops page (marks_heard host.me host.calls page) [] (record {
+    no_gaps : gaps_of host.is.held page (marks_heard host.is.number host.is.calls page) ≡ []
+    no_gaps = sym (only_gaps host.is.held page (marks_heard host.is.number host.is.calls page) [] (record {
       filled = λ m d h. absurd (omega arith);
       apart = λ m j d h l. absurd (omega arith);
       missing = λ source n. (
@@ -91,34 +91,34 @@ module _ (constants : ℕ → Tuning) (older : List LineAt) (places : List ℕ) 
       );
     }))
 
-    few : length host.board.drawops ≤ 65535
+    few : length host.is.held ≤ 65535
     few = few_held host (subst (λ (o : Option Opened). IfSome o Fits) is (host_fits constants new k))
 
     says : (said : DriverLine) (ask : Result DriverLine Refusal) → ask ≡ Ok said → text_of (answer (constants k) (host_at constants new k) ask) ≡ text_of (answer (constants k) (Some host) (Ok said))
     says said ask e = ap (λ (r : Result DriverLine Refusal). text_of (answer (constants k) (host_at constants new k) r)) e ∙ ap (λ (o : Option Opened). text_of (answer (constants k) o (Ok said))) is
 
-  not_less : (i j : ℕ) (ci : Contains places i) (cj : Contains places j) (source : ℕ) → highest page source (host i ci).board.drawops ≤ highest page source (host j cj).board.drawops
+  not_less : (i j : ℕ) (ci : Contains places i) (cj : Contains places j) (source : ℕ) → highest page source (host i ci).is.held ≤ highest page source (host j cj).is.held
   not_less i j ci cj source = ⊎_elim
-      (λ (z : highest page source (host i ci).board.drawops ≡ 0). omega (arith, z))
-      (λ (h : IsHeld (host i ci).board.drawops page source (highest page source (host i ci).board.drawops)). from (highest page source (host i ci).board.drawops) h)
-      (greatest_held (host i ci).board.drawops page source).reached
+      (λ (z : highest page source (host i ci).is.held ≡ 0). omega (arith, z))
+      (λ (h : IsHeld (host i ci).is.held page source (highest page source (host i ci).is.held)). from (highest page source (host i ci).is.held) h)
+      (greatest_held (host i ci).is.held page source).reached
     where
-      positive : (m : ℕ) → (1 ≤ m → m ≤ highest page source (host j cj).board.drawops) → m ≤ highest page source (host j cj).board.drawops
+      positive : (m : ℕ) → (1 ≤ m → m ≤ highest page source (host j cj).is.held) → m ≤ highest page source (host j cj).is.held
       positive m f = ⊎_elim (λ (lt : 0 < m). f (omega (arith, lt))) (λ (le : m ≤ 0). omega (arith, le)) (cases_lt 0 m)
 
-      from : (m : ℕ) → IsHeld (host i ci).board.drawops page source m → m ≤ highest page source (host j cj).board.drawops
-      from m h = positive m (λ pos. (greatest_held (host j cj).board.drawops page source).bound m (known_somewhere i ci source m m pos (itself m) h j (host j cj) cj (is j cj)))
+      from : (m : ℕ) → IsHeld (host i ci).is.held page source m → m ≤ highest page source (host j cj).is.held
+      from m h = positive m (λ pos. (greatest_held (host j cj).is.held page source).bound m (known_somewhere i ci source m m pos (itself m) h j (host j cj) cj (is j cj)))
         where
           itself : (k : ℕ) → k ≤ k
           itself k = omega arith
 
-  same_report : (i j : ℕ) (ci : Contains places i) (cj : Contains places j) → report_of (host i ci).board.drawops page ≡ report_of (host j cj).board.drawops page
+  same_report : (i j : ℕ) (ci : Contains places i) (cj : Contains places j) → report_of (host i ci).is.held page ≡ report_of (host j cj).is.held page
   same_report i j ci cj =
       let one = host i ci in
       let other = host j cj in
-      let report = report_of_page one.board.drawops page (few i ci) in
-      let tops : (source : ℕ) → highest page source one.board.drawops ≡ highest page source other.board.drawops = λ source. let a = not_less i j ci cj source in let b = not_less j i cj ci source in omega (arith, a, b) in
-      only_report other.board.drawops page (report_of one.board.drawops page) (few j cj) (report.0, λ source. report.1 source ∙ tops source)
+      let report = report_of_page one.is.held page (few i ci) in
+      let tops : (source : ℕ) → highest page source one.is.held ≡ highest page source other.is.held = λ source. let a = not_less i j ci cj source in let b = not_less j i cj ci source in omega (arith, a, b) in
+      only_report other.is.held page (report_of one.is.held page) (few j cj) (report.0, λ source. report.1 source ∙ tops source)
 
   alike : HaveDistinctMembers new → IsHonest constants new → (i j width height : ℕ) (report gaps show : InputLine) → Contains places i → Contains places j → AskOf page width height report gaps show → PrintAlike constants new i j report gaps show
   alike distinct fair i j width height report gaps show ci cj ask =
@@ -149,7 +149,7 @@ agreement_is_possible constants older places page drawops distinct fair can =
       among = λ d c. c;
     } in
     let b = bring_all constants places drawops (λ i c. (can.opened i c).1.in_range) drawops older ready in
-    let have : (d : DrawopValue) (k : ℕ) (g : Opened) → Contains drawops d → Contains places k → host_at constants b.0 k ≡ Some g → Contains g.board.drawops d = λ d k g c in_places at.
+    let have : (d : DrawopValue) (k : ℕ) (g : Opened) → Contains drawops d → Contains places k → host_at constants b.0 k ≡ Some g → Contains g.is.held d = λ d k g c in_places at.
     let h = can.held d c in
     let p = b.1.hosts h.0 h.1 h.3 in
     held_by_name constants b.0 b.1.distinct b.1.honest k h.0 g p.0 d at p.1 (p.2.kept d h.4) (b.2 d k g c in_places at) in

@@ -12,16 +12,16 @@ use Rattle.wb_recovery.specs.declared.tuning.Tuning.{Tuning}
 use Rattle.wb_host.specs.Hearing.{marks_heard}
 use Rattle.wb_lines.specs.Input.{InputLine}
 use Rattle.wb_lines.specs.Taking.{met}
-use Rattle.wb_script.specs.Answers.{gaps_text}
-use Rattle.wb_script.specs.Hosts.{Opened}
-use Rattle.wb_script.specs.Queries.{view_of}
-use Rattle.wb_script.specs.declared.command.Command.TheVariants as lines
-use Rattle.wb_script.proofs.Queries.{view_of_page}
+use Rattle.wb_commands.specs.Answers.{gaps_text}
+use Rattle.wb_member.specs.Opened.{Opened}
+use Rattle.wb_member.specs.Queries.{view_of}
+use Rattle.wb_commands.specs.declared.command.Command.TheVariants as lines
+use Rattle.wb_member.proofs.Queries.{view_of_page}
 use Rattle.wb_member.specs.Members.{Member, Act}
 use Rattle.wb_session.specs.Session.{Event, Group, IsDistinct, member, IsSession, LacksNothing}
 use Rattle.wb_session.proofs.Names.{held_once}
 use Rattle.wb_session.proofs.TwoMoments.{reports_tell_agreement_later}
-use Rattle.wb_session_scripts.specs.Hosts.{IsMember, HasNoGaps}
+use Rattle.wb_session_hosts.specs.Scripts.{IsMember, HasNoGaps}
 use Rattle.wb_dialog.specs.declared.fault.Refusal.{Refusal}
 use Rattle.wb_dialog.specs.declared.line.DriverLine.{DriverLine}
 use Rattle.wb_dialog.specs.declared.line.DriverLine.TheVariants.{Script, View}
@@ -61,13 +61,13 @@ module _ (group : Group) (is : IsDistinct group) (more old : List Event) (sessio
   new = more ++ old
 
   module _ (host other : Opened) (one : IsMember group new i host) (two : IsMember group old j other) where
-    held_now : host.board.drawops ≡ (member group new i).held
+    held_now : host.is.held ≡ (member group new i).held
     held_now = ap (λ (m : Member). m.held) one
 
-    held_then : other.board.drawops ≡ (member group old j).held
+    held_then : other.is.held ≡ (member group old j).held
     held_then = ap (λ (m : Member). m.held) two
 
-    same_view : report_of host.board.drawops page ≡ report_of other.board.drawops page → HasNoGaps host page → HasNoGaps other page → view_of host.board.drawops page ≡ view_of other.board.drawops page
+    same_view : report_of host.is.held page ≡ report_of other.is.held page → HasNoGaps host page → HasNoGaps other page → view_of host.is.held page ≡ view_of other.is.held page
     same_view same none nothing =
         let reports : report_of (member group new i).held page ≡ report_of (member group old j).held page = sym (ap (λ (h : List DrawopValue). report_of h page) held_now) ∙ same ∙ ap (λ (h : List DrawopValue). report_of h page) held_then in
         let agree = reports_tell_agreement_later group more old i j page is session reports (subst (λ (m : Member). LacksNothing m page) one none) (subst (λ (m : Member). LacksNothing m page) two nothing) in
@@ -79,12 +79,12 @@ module _ (group : Group) (is : IsDistinct group) (more old : List Event) (sessio
   alike a b None t one two f g same none nothing = absurd (some_printed none)
   alike a b (Some host) None one two f g same none nothing = absurd (some_printed nothing)
   alike a b (Some host) (Some other) one two f g same none nothing =
-      let reports = report_once (report_of host.board.drawops page) (report_of other.board.drawops page)
-      (small host.board.drawops f.board page) (small other.board.drawops g.board page)
-      (few host.board.drawops (few_held host f) page) (few other.board.drawops (few_held other g) page) same in
+      let reports = report_once (report_of host.is.held page) (report_of other.is.held page)
+      (small host.is.held f.board page) (small other.is.held g.board page)
+      (few host.is.held (few_held host f) page) (few other.is.held (few_held other g) page) same in
       let view = same_view host other one two reports
-      (none_are_told (gaps_of host.board.drawops page (marks_heard host.me host.calls page)) none)
-      (none_are_told (gaps_of other.board.drawops page (marks_heard other.me other.calls page)) nothing) in
+      (none_are_told (gaps_of host.is.held page (marks_heard host.is.number host.is.calls page)) none)
+      (none_are_told (gaps_of other.is.held page (marks_heard other.is.number other.is.calls page)) nothing) in
       record { canvas = λ width height. ap (λ (ds : List DrawopValue). canvas_text ds width height) view; view = ap view_text view }
 
 -- ---- an older front of the lines

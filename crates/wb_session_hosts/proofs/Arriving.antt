@@ -9,9 +9,8 @@ use Rattle.wb_host.proofs.KeptCalls.{holds_from}
 use Rattle.wb_progress.specs.Turns.{Terms, Desk}
 use Rattle.wb_progress.specs.Turns as turning
 use Rattle.wb_progress.proofs.Giving.{held_as}
-use Rattle.wb_script.specs.Driving.{accepted, acceptance}
-use Rattle.wb_script.specs.Hosts.{Opened}
-use Rattle.wb_script.specs.declared.command.Command.TheVariants as lines
+use Rattle.wb_member.specs.Opened.{accepted, becomes, Opened}
+use Rattle.wb_commands.specs.declared.command.Command.TheVariants as lines
 use Rattle.wb_dialog.specs.Dialog.{answer_at, gives, batch_of}
 use Rattle.wb_dialog.specs.declared.line.DriverLine.TheVariants.{Script}
 use Rattle.wb_session_hosts.specs.Hosts.{host_at, sends_by, saying}
@@ -24,19 +23,19 @@ use Rattle.wb_session_hosts.proofs.TimelySession.{quiet}
 use Rattle.wb_session_hosts.proofs.TraceTurns.{desk_of, turns_of, desk_is}
 
 -- a drawop that arrives, where there is room or its name is held, is held
-accepts : (host next : Opened) (d : DrawopValue) (text : List ℕ) → answer_at (Script (lines.Arrive d)) host ≡ gives (Some next) text → (holds host.board.drawops d.name ≡ true) ⊎ (length host.board.drawops < host.board.cells) → holds next.board.drawops d.name ≡ true
+accepts : (host next : Opened) (d : DrawopValue) (text : List ℕ) → answer_at (Script (lines.Arrive d)) host ≡ gives (Some next) text → (holds host.is.held d.name ≡ true) ⊎ (length host.is.held < host.is.cells) → holds next.is.held d.name ≡ true
 accepts host next d text same room =
-    let one : accepted d host ≡ next = host_is (accepted d host) next (answer_is (Some (accepted d host)) (Some next) (batch_of (acceptance d host)) text same) in
-    ap (λ (h : Opened). holds h.board.drawops d.name) (sym one) ∙ by (holds host.board.drawops d.name) refl room where
-      kept : holds host.board.drawops d.name ≡ true → holds (accepted d host).board.drawops d.name ≡ true
+    let one : accepted d host ≡ next = host_is (accepted d host) next (answer_is (Some (accepted d host)) (Some next) (batch_of (becomes d host)) text same) in
+    ap (λ (h : Opened). holds h.is.held d.name) (sym one) ∙ by (holds host.is.held d.name) refl room where
+      kept : holds host.is.held d.name ≡ true → holds (accepted d host).is.held d.name ≡ true
       kept h =
           let m = line_moves host (Script (lines.Arrive d)) in
-          let x = held_as host.board.drawops d.name h in
-          ap (λ (k : Opened). holds k.board.drawops d.name) (host_is (accepted d host) m.0 m.1) ∙ holds_from m.0.board.drawops d.name x.0 (m.2.kept x.0 x.1) x.2
+          let x = held_as host.is.held d.name h in
+          ap (λ (k : Opened). holds k.is.held d.name) (host_is (accepted d host) m.0 m.1) ∙ holds_from m.0.is.held d.name x.0 (m.2.kept x.0 x.1) x.2
 
-      by : (b : Bool) → holds host.board.drawops d.name ≡ b → (holds host.board.drawops d.name ≡ true) ⊎ (length host.board.drawops < host.board.cells) → holds (accepted d host).board.drawops d.name ≡ true
+      by : (b : Bool) → holds host.is.held d.name ≡ b → (holds host.is.held d.name ≡ true) ⊎ (length host.is.held < host.is.cells) → holds (accepted d host).is.held d.name ≡ true
       by true h r = kept h
-      by false h r = ⊎_elim (λ (k : holds host.board.drawops d.name ≡ true). kept k) (λ (lt : length host.board.drawops < host.board.cells). holds_from (accepted d host).board.drawops d.name d (taken host d h lt) refl) r
+      by false h r = ⊎_elim (λ (k : holds host.is.held d.name ≡ true). kept k) (λ (lt : length host.is.held < host.is.cells). holds_from (accepted d host).is.held d.name d (taken host d h lt) refl) r
 
 module _ (constants : ℕ → Tuning) where
   -- what is held at a part is held at a longer one
@@ -45,9 +44,9 @@ module _ (constants : ℕ → Tuning) where
     from : (o : Option Opened) → host_at constants (lines_of part) i ≡ o → turning.has (turns_of constants (middle ++ part)) i n ≡ true
     from None there = absurd (true≢false (sym h ∙ ap (λ (k : Desk). holds k.held n) (desk_is constants part i ∙ ap desk_of there)))
     from (Some host) there =
-        let x = held_as host.board.drawops n (sym (ap (λ (k : Desk). holds k.held n) (desk_is constants part i ∙ ap desk_of there)) ∙ h) in
+        let x = held_as host.is.held n (sym (ap (λ (k : Desk). holds k.held n) (desk_is constants part i ∙ ap desk_of there)) ∙ h) in
         let r = held_up_to constants middle part x.0 i host there x.1 in
-        ap (λ (k : Desk). holds k.held n) (desk_is constants (middle ++ part) i ∙ ap desk_of r.1) ∙ holds_from r.0.board.drawops n x.0 r.2 x.2
+        ap (λ (k : Desk). holds k.held n) (desk_is constants (middle ++ part) i ∙ ap desk_of r.1) ∙ holds_from r.0.is.held n x.0 r.2 x.2
 
 module _ (constants : ℕ → Tuning) (terms : Terms) (trace : List TimedLine) (timely : IsTimely constants terms trace) (front back : List TimedLine) (e : TimedLine) (split : trace ≡ front ++ e ∷ back) (after_quiet : terms.quiet < e.time) where
   live : Contains terms.live e.at.place

@@ -8,21 +8,22 @@ use Rattle.wb_codec.specs.declared.datagram.Datagram.{Datagram}
 use Rattle.wb_codec.specs.declared.datagram.Datagram.TheVariants as datagrams
 use Rattle.wb_host.specs.Hearing.{has_room, marks_heard}
 use Rattle.wb_host.specs.Keeper.{KeeperCall, Miss, is_own}
-use Rattle.wb_script.specs.Board.{Held}
-use Rattle.wb_script.specs.Driving.{accepted, may_ask, next_number, acceptance}
-use Rattle.wb_script.specs.Hosts.{Opened, Act, does, fails, act, calling, due_count, present, wanted_of, word_at, words_for}
-use Rattle.wb_script.specs.Random.{word_of, words_of}
-use Rattle.wb_script.specs.declared.acceptance.Acceptance.{Acceptance}
-use Rattle.wb_script.specs.declared.acceptance.Acceptance.TheVariants as became
-use Rattle.wb_script.specs.declared.command.Command.{Command}
-use Rattle.wb_script.specs.declared.command.Command.TheVariants as lines
+use Rattle.wb_member.specs.Board.{Held}
+use Rattle.wb_member.specs.Opened.{accepted, may_ask, next_number, becomes, Opened, due_count, present, wanted_of, word_at, words_for, board_of}
+use Rattle.wb_member.specs.Random.{word_of, words_of}
+use Rattle.wb_session_hosts.proofs.Calling.{calling}
+use Rattle.wb_commands.specs.Acts.{Act, does, fails, act}
+use Rattle.wb_names.specs.Arrivals.{Outcome}
+use Rattle.wb_names.specs.Arrivals as became
+use Rattle.wb_commands.specs.declared.command.Command.{Command}
+use Rattle.wb_commands.specs.declared.command.Command.TheVariants as lines
 use Rattle.wb_member.specs.Members.{Takes, Hears, Ticks, Reports}
 use Rattle.wb_session.proofs.Members.{held_after, held_grows, draws_sent}
-use Rattle.wb_session_scripts.specs.Hosts.{act_of, member_of, sends_any}
+use Rattle.wb_session_hosts.specs.Scripts.{act_of, member_of, sends_any}
 use Rattle.wb_dialog.specs.Dialog.{Answer, gives, refuses, answer_at, answered, goes_out, numbered, says, speaker}
 use Rattle.wb_dialog.specs.declared.fault.Refusal.TheVariants as refusals
 use Rattle.wb_dialog.specs.declared.line.DriverLine.{DriverLine}
-use Rattle.wb_dialog.specs.declared.line.DriverLine.TheVariants.{Script, Say, Next, View, Known, Ask, Stop}
+use Rattle.wb_dialog.specs.declared.line.DriverLine.TheVariants.{Script, Say, Next, View, Known, Ask, Stop, Keep, Came, Add}
 use Rattle.wb_session_hosts.specs.Hosts.{sends_at, sends_by_act, sends_drawing, sends_said}
 
 -- the line hands the drawop in, or says it
@@ -31,17 +32,17 @@ IsBringing line x = (line ≡ Script (lines.Arrive x)) ⊎ (line ≡ Say (datagr
 
 -- Its number stays, what it holds stays, and what its keeper accepted. What is new on its board the line brought.
 pub record Moves (line : DriverLine) (host next : Opened) : Type 0 where
-  pub me : next.me ≡ host.me
-  pub called : (call : KeeperCall) → Contains host.calls call → Contains next.calls call
-  pub kept : (x : DrawopValue) → Contains host.board.drawops x → Contains next.board.drawops x
-  pub new : (x : DrawopValue) → Contains next.board.drawops x → Contains host.board.drawops x ⊎ IsBringing line x
+  pub me : next.is.number ≡ host.is.number
+  pub called : (call : KeeperCall) → Contains host.is.calls call → Contains next.is.calls call
+  pub kept : (x : DrawopValue) → Contains host.is.held x → Contains next.is.held x
+  pub new : (x : DrawopValue) → Contains next.is.held x → Contains host.is.held x ⊎ IsBringing line x
 
 abbrev pub AnswerMoves : DriverLine → Opened → Answer → Type 0
 AnswerMoves line host (gives next text) = (g : Opened) × (next ≡ Some g) × Moves line host g
 AnswerMoves line host (refuses e) = Unit {0}
 
 module _ (host : Opened) where
-  stays : (line : DriverLine) (next : Opened) → next.me ≡ host.me → next.board ≡ host.board → ((call : KeeperCall) → Contains host.calls call → Contains next.calls call) → (g : Opened) × ◌≡◌ {A = Option Opened} (Some next) (Some g) × Moves line host g
+  stays : (line : DriverLine) (next : Opened) → next.is.number ≡ host.is.number → board_of next ≡ board_of host → ((call : KeeperCall) → Contains host.is.calls call → Contains next.is.calls call) → (g : Opened) × ◌≡◌ {A = Option Opened} (Some next) (Some g) × Moves line host g
   stays line next me same called = (
     next,
     refl,
@@ -59,17 +60,17 @@ module _ (host : Opened) where
     refl,
     record {
       me = refl;
-      called = λ call c. Contains-there _ call host.calls c;
+      called = λ call c. Contains-there _ call host.is.calls c;
       kept = λ x c. held_grows (Takes (present host) (d ∷ []) (d ∷ [])) (member_of [] host) x c;
       new = λ x c. ⊎_elim
-          (λ (h : Contains host.board.drawops x). inl h)
+          (λ (h : Contains host.is.held x). inl h)
           (λ (h : Contains (d ∷ []) x). ⊎_elim (λ (e : d ≡ x). inr (subst (IsBringing line) e brings)) (λ (n : Contains [] x). absurd (Contains-none x n)) (Contains-cases d x [] h))
           (held_after (Takes (present host) (d ∷ []) (d ∷ [])) (member_of [] host) x c);
     },
   )
 
   calls : (line : DriverLine) (call : KeeperCall) (words : ℕ) → (g : Opened) × ◌≡◌ {A = Option Opened} (Some (calling call words host)) (Some g) × Moves line host g
-  calls line call words = stays line (calling call words host) refl refl (λ other c. Contains-there call other host.calls c)
+  calls line call words = stays line (calling call words host) refl refl (λ other c. Contains-there call other host.is.calls c)
 
   same : (line : DriverLine) → (g : Opened) × ◌≡◌ {A = Option Opened} (Some host) (Some g) × Moves line host g
   same line = stays line host refl refl (λ call c. c)
@@ -81,7 +82,7 @@ module _ (host : Opened) where
   script_moves : (line : Command) → AnswerMoves (Script line) host (answer_at (Script line) host)
   script_moves (lines.Arrive d) = accepts (Script (lines.Arrive d)) d (inl refl)
   script_moves (lines.Board member cells workers seed) = tt
-  script_moves (lines.Hear v) = either (Script (lines.Hear v)) (is_own host.me v || has_room (marks_heard host.me host.calls) v) _ _ (calls _ _ (words_for v)) tt
+  script_moves (lines.Hear v) = either (Script (lines.Hear v)) (is_own host.is.number v || has_room (marks_heard host.is.number host.is.calls) v) _ _ (calls _ _ (words_for v)) tt
   script_moves (lines.Distance source micros) = calls _ _ 0
   script_moves (lines.Tick now) = either (Script (lines.Tick now)) (nat_lt now (present host)) _ _ tt (calls _ _ (due_count now host))
   script_moves (lines.Look page) = calls _ _ (length (wanted_of page host))
@@ -100,7 +101,7 @@ module _ (host : Opened) where
   out_moves (datagrams.PageState sender page marks) = same _
 
   says_moves : (v : Datagram) → AnswerMoves (Say v) host (says v host)
-  says_moves v = from (nat_eq (speaker v) host.me) where
+  says_moves v = from (nat_eq (speaker v) host.is.number) where
     from : (mine : Bool) → AnswerMoves (Say v) host (if mine then goes_out v host else refuses refusals.Member)
     from true = out_moves v
     from false = tt
@@ -121,22 +122,25 @@ module _ (host : Opened) where
   line_moves Known = same _
   line_moves (Ask name) = asked_moves name (may_ask name host)
   line_moves (Stop name) = calls _ _ 0
+  line_moves (Keep rate listen) = tt
+  line_moves (Came now v) = tt
+  line_moves (Add adding) = tt
 
   -- ---- what it sends
 
   abbrev Tells : DriverLine → DrawopValue → Type 0
-  Tells line d = Contains host.board.drawops d ⊎ (line ≡ Say (datagrams.Draw d))
+  Tells line d = Contains host.is.held d ⊎ (line ≡ Say (datagrams.Draw d))
 
-  undrawn : (d : DrawopValue) → Contains host.board.drawops d ⊎ ⊥ → Contains host.board.drawops d
-  undrawn d s = ⊎_elim (λ (h : Contains host.board.drawops d). h) (λ (n : ⊥). absurd n) s
+  undrawn : (d : DrawopValue) → Contains host.is.held d ⊎ ⊥ → Contains host.is.held d
+  undrawn d s = ⊎_elim (λ (h : Contains host.is.held d). h) (λ (n : ⊥). absurd n) s
 
-  act_tells : (line : Command) (d : DrawopValue) → Contains (sends_any (act_of line host) (member_of [] host)) (datagrams.Draw d) → Contains host.board.drawops d
+  act_tells : (line : Command) (d : DrawopValue) → Contains (sends_any (act_of line host) (member_of [] host)) (datagrams.Draw d) → Contains host.is.held d
   act_tells (lines.Hear v) d c = undrawn d (draws_sent (Hears (present host) v (word_at v host.random)) (member_of [] host) d c)
   act_tells (lines.Tick now) d c = undrawn d (draws_sent (Ticks now (words_of host.random (due_count now host))) (member_of [] host) d c)
   act_tells (lines.Session page) d c = undrawn d (draws_sent (Reports (present host) page) (member_of [] host) d c)
   act_tells line d c = absurd (Contains-none (datagrams.Draw d) c)
 
-  script_tells : (line : Command) (did : Act) (d : DrawopValue) → Contains (sends_by_act line host did) (datagrams.Draw d) → Contains host.board.drawops d
+  script_tells : (line : Command) (did : Act) (d : DrawopValue) → Contains (sends_by_act line host did) (datagrams.Draw d) → Contains host.is.held d
   script_tells line (does next text) d c = act_tells line d c
   script_tells line (fails e) d c = absurd (Contains-none (datagrams.Draw d) c)
 
@@ -144,20 +148,20 @@ module _ (host : Opened) where
   drawop_is d e same = cc
 
   said_tells : (v : Datagram) (d : DrawopValue) → Contains (sends_said v host) (datagrams.Draw d) → v ≡ datagrams.Draw d
-  said_tells (datagrams.Draw x) d c = from (acceptance x host) c where
+  said_tells (datagrams.Draw x) d c = from (becomes x host) c where
     one : Contains (datagrams.Draw x ∷ []) (datagrams.Draw d) → datagrams.Draw x ≡ datagrams.Draw d
     one c = ⊎_elim (λ (e : datagrams.Draw x ≡ datagrams.Draw d). e) (λ (n : Contains [] (datagrams.Draw d)). absurd (Contains-none (datagrams.Draw d) n)) (Contains-cases (datagrams.Draw x) (datagrams.Draw d) [] c)
 
-    from : (a : Acceptance) → Contains (sends_drawing x a) (datagrams.Draw d) → datagrams.Draw x ≡ datagrams.Draw d
-    from became.New c = one c
-    from became.Again c = one c
-    from became.Clash c = absurd (Contains-none (datagrams.Draw d) c)
+    from : (a : Outcome) → Contains (sends_drawing x a) (datagrams.Draw d) → datagrams.Draw x ≡ datagrams.Draw d
+    from (became.Fresh place) c = one c
+    from (became.Known place) c = one c
+    from (became.Clashed place) c = absurd (Contains-none (datagrams.Draw d) c)
     from became.Left c = absurd (Contains-none (datagrams.Draw d) c)
   said_tells v d c = ⊎_elim (λ (e : v ≡ datagrams.Draw d). e) (λ (n : Contains [] (datagrams.Draw d)). absurd (Contains-none (datagrams.Draw d) n)) (Contains-cases v (datagrams.Draw d) [] c)
 
   pub line_tells : (line : DriverLine) (d : DrawopValue) → Contains (sends_at line host) (datagrams.Draw d) → Tells line d
   line_tells (Script line) d c = inl (script_tells line (act line host) d c)
-  line_tells (Say v) d c = from (nat_eq (speaker v) host.me) c where
+  line_tells (Say v) d c = from (nat_eq (speaker v) host.is.number) c where
     from : (mine : Bool) → Contains (if mine then sends_said v host else []) (datagrams.Draw d) → Tells (Say v) d
     from true c = inr (ap Say (said_tells v d c))
     from false c = absurd (Contains-none (datagrams.Draw d) c)

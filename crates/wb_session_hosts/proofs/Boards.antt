@@ -4,9 +4,9 @@ use Rattle.std.specs.Prelude.{Contains, IfSome, IfOk, nat_eq, if◌then◌else�
 use Rattle.std.specs.Option.{option_or}
 use Rattle.wb_recovery.specs.declared.tuning.Tuning.{Tuning}
 use Rattle.wb_lines.specs.Taking.{met}
-use Rattle.wb_script.specs.Hosts.{Opened}
-use Rattle.wb_script.specs.declared.command.Command.{Command}
-use Rattle.wb_script.specs.declared.command.Command.TheVariants as lines
+use Rattle.wb_member.specs.Opened.{Opened}
+use Rattle.wb_commands.specs.declared.command.Command.{Command}
+use Rattle.wb_commands.specs.declared.command.Command.TheVariants as lines
 use Rattle.wb_session.specs.Session.{Group, IsDistinct}
 use Rattle.wb_dialog.specs.Dialog.{after, answer, answer_first}
 use Rattle.wb_dialog.specs.declared.fault.Refusal.{Refusal}

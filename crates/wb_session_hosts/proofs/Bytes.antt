@@ -9,13 +9,13 @@ use Rattle.wb_codec.specs.declared.datagram.Datagram.{Datagram}
 use Rattle.wb_codec.specs.declared.datagram.Datagram.TheVariants as datagrams
 use Rattle.wb_recovery.specs.declared.tuning.Tuning.{Tuning}
 use Rattle.wb_lines.specs.Taking.{met}
-use Rattle.wb_script.specs.Hosts.{Opened}
-use Rattle.wb_script.specs.Parsing.{datagram}
-use Rattle.wb_script.specs.SentLines.{digits_of, send_line}
-use Rattle.wb_script.specs.declared.fault.LineFault.{LineFault}
-use Rattle.wb_script.specs.declared.command.Command.{Command}
-use Rattle.wb_script.specs.declared.command.Command.TheVariants as lines
-use Rattle.wb_script.proofs.SentDigits.{datagram_read}
+use Rattle.wb_member.specs.Opened.{Opened}
+use Rattle.wb_commands.specs.Parsing.{datagram}
+use Rattle.wb_commands.specs.SentLines.{digits_of, send_line}
+use Rattle.wb_commands.specs.declared.fault.LineFault.{LineFault}
+use Rattle.wb_commands.specs.declared.command.Command.{Command}
+use Rattle.wb_commands.specs.declared.command.Command.TheVariants as lines
+use Rattle.wb_commands.proofs.SentDigits.{datagram_read}
 use Rattle.wb_dialog.specs.Lines.{handed_in}
 use Rattle.wb_dialog.specs.declared.fault.Refusal.{Refusal}
 use Rattle.wb_dialog.specs.declared.line.DriverLine.{DriverLine}

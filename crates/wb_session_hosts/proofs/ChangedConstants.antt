@@ -15,10 +15,10 @@ use Rattle.wb_host.specs.Ticks.{drawop_of, sent_for, sends_for}
 use Rattle.wb_host.proofs.TickSends.{sent_from}
 use Rattle.wb_lines.specs.Input.{InputLine}
 use Rattle.wb_lines.specs.Taking.{met}
-use Rattle.wb_script.specs.Board.{Held}
-use Rattle.wb_script.specs.Driving.{next_number}
-use Rattle.wb_script.specs.Hosts.{Opened, Act, does, fails, act}
-use Rattle.wb_script.specs.declared.command.Command.TheVariants as lines
+use Rattle.wb_member.specs.Board.{Held}
+use Rattle.wb_member.specs.Opened.{next_number, Opened, board_of}
+use Rattle.wb_commands.specs.Acts.{Act, does, fails, act}
+use Rattle.wb_commands.specs.declared.command.Command.TheVariants as lines
 use Rattle.wb_session.specs.Session.{IsTelling}
 use Rattle.wb_session.proofs.Constants.{TellAlike}
 use Rattle.wb_session.proofs.Members.{answers_held}
@@ -60,10 +60,10 @@ module _ (me : ℕ) (history : List DrawopValue) (all : List Action) (v : Datagr
   repairs : IsRepair
   repairs = let r = sent_from (sent_for me history) all v c in by_action r.0 r.2
 
-tick_repairs : (host : Opened) (now : ℕ) (v : Datagram) → IsTelling v → Contains (sends_at (Script (lines.Tick now)) host) v → (d : DrawopValue) × (v ≡ datagrams.Draw d) × Contains host.board.drawops d
+tick_repairs : (host : Opened) (now : ℕ) (v : Datagram) → IsTelling v → Contains (sends_at (Script (lines.Tick now)) host) v → (d : DrawopValue) × (v ≡ datagrams.Draw d) × Contains host.is.held d
 tick_repairs host now v tells = from (act (lines.Tick now) host) where
-  from : (did : Act) → Contains (sends_by_act (lines.Tick now) host did) v → (d : DrawopValue) × (v ≡ datagrams.Draw d) × Contains host.board.drawops d
-  from (does next text) c = repairs host.me host.board.drawops _ v tells c
+  from : (did : Act) → Contains (sends_by_act (lines.Tick now) host did) v → (d : DrawopValue) × (v ≡ datagrams.Draw d) × Contains host.is.held d
+  from (does next text) c = repairs host.is.number host.is.held _ v tells c
   from (fails e) c = absurd (Contains-none v c)
 
 is_tick : (line : DriverLine) → IsNoTick line ⊎ ((now : ℕ) × (line ≡ Script (lines.Tick now)))
@@ -74,14 +74,14 @@ is_tick line = inl tt
 
 -- By one sense in which a datagram came out, and another, at hosts that differ in their timers.
 module _ (P Q : Datagram → Type 0) (more : (v : Datagram) → IsDatagram v → IsTelling v → P v → Q v) where
-  module _ (host o : Opened) (t : TellAlike host.me host.calls o.calls) where
+  module _ (host o : Opened) (t : TellAlike host.is.number host.is.calls o.is.calls) where
     abbrev changed : Opened
     changed = timed o host
 
     may_say : (v : Datagram) → MaySay v changed → MaySay v host
     may_say (datagrams.Draw d) fair = ⊎_elim
         (λ (next : next_number d.name.page changed ≡ Some d.name.seq). inl (same_next host o t d.name.page ∙ next))
-        (λ (held : Contains host.board.drawops d). inr held)
+        (λ (held : Contains host.is.held d). inr held)
         fair
     may_say v fair = fair
 
@@ -127,8 +127,8 @@ module _ (tunings : Tunings) (constants : ℕ → Tuning) where
         same : IsNoTick line → sends_at line one ≡ sends_at line other
         same u = by_same (λ (h : Opened). sends_at line one ≡ sends_at line h) one other g (line_sends one other g.calls line u)
 
-        repaired : (d : DrawopValue) × (v ≡ datagrams.Draw d) × Contains other.board.drawops d → Contains (sent constants older) v
-        repaired (d, is, held) = subst (Contains (sent constants older)) (sym is) (held_was_sent constants older distinct rest.honest e.place one there d (subst (λ (b : Held). Contains b.drawops d) (ap (λ (h : Opened). h.board) g.same) held))
+        repaired : (d : DrawopValue) × (v ≡ datagrams.Draw d) × Contains other.is.held d → Contains (sent constants older) v
+        repaired (d, is, held) = subst (Contains (sent constants older)) (sym is) (held_was_sent constants older distinct rest.honest e.place one there d (subst (λ (b : Held). Contains b.drawops d) (ap board_of g.same) held))
 
     sent_alike : (o p : Option Opened) (said : Result DriverLine Refusal) (v : Datagram) → s ≡ o → AreAlike o p → IsTelling v → Contains (sends_by p said) v → IsSent o said v
     sent_alike None None said v there g tells c = absurd (Contains-none v c)

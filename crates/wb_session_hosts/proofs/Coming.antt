@@ -14,8 +14,8 @@ use Rattle.wb_codec.specs.declared.datagram.Datagram.{Datagram}
 use Rattle.wb_codec.specs.declared.datagram.Datagram.TheVariants.{Draw, Request}
 use Rattle.wb_codec.proofs.Lawful.{lawful_text}
 use Rattle.wb_progress.specs.Repairs.{asking_wait, answering_wait, quiet_wait}
-use Rattle.wb_script.specs.Hosts.{Opened, present}
-use Rattle.wb_script.specs.SentLines.{digits_of}
+use Rattle.wb_member.specs.Opened.{Opened, present}
+use Rattle.wb_commands.specs.SentLines.{digits_of}
 use Rattle.wb_session_hosts.specs.Hosts.{LineAt}
 use Rattle.wb_session_hosts.proofs.HostRanges.{Fits, host_fits}
 use Rattle.wb_session_hosts.specs.Repairs.{ended_by, RepairCanBeSaid, LostCanCome}
@@ -42,12 +42,12 @@ pub repair_can_be_said : RepairCanBeSaid
 repair_can_be_said constants older i j host other d lost one two =
     let f : Fits host = subst (λ (o : Option Opened). IfSome o Fits) lost.lacking (host_fits constants older i) in
     let g : Fits other = subst (λ (o : Option Opened). IfSome o Fits) lost.holding (host_fits constants older j) in
-    let drawop : IsDrawop d = All-contains IsDrawop other.board.drawops d g.board lost.held in
+    let drawop : IsDrawop d = All-contains IsDrawop other.is.held d g.board lost.held in
     let first : ℕ = present other + answering_wait in
     let second : ℕ = first + quiet_wait in (
       line i (datagram_text (Draw d))
           ∷ line j (tick_text (second + answering_wait))
-          ∷ line j (datagram_text (Request host.me d.name))
+          ∷ line j (datagram_text (Request host.is.number d.name))
           ∷ line j (tick_text second)
           ∷ line j (tick_text first)
           ∷ line i (tick_text (present host + asking_wait))
@@ -62,7 +62,7 @@ repair_can_be_said constants older i j host other d lost one two =
           tick_says (second + answering_wait) (omega (arith, two)),
           (
             refl,
-            datagram_says (Request host.me d.name) (f.me, drawop.name) (request_short host.me d.name),
+            datagram_says (Request host.is.number d.name) (f.me, drawop.name) (request_short host.is.number d.name),
             (
               refl,
               tick_says second (omega (arith, two)),

@@ -14,22 +14,23 @@ use Rattle.wb_recovery.specs.declared.tuning.Tuning.{Tuning}
 use Rattle.wb_host.specs.Hearing.{has_room, marks_heard, answers_to}
 use Rattle.wb_host.specs.Keeper.{KeeperCall, SetDelay, Hear, Miss, is_own, session_heard}
 use Rattle.wb_host.specs.Sessions.{message_of}
-use Rattle.wb_script.specs.Answers.{gaps_text}
-use Rattle.wb_script.specs.Driving.{accepted, may_ask, next_number, with_asked}
-use Rattle.wb_script.specs.Hosts.{Opened, Act, does, fails, calling, due_count, present, words_for}
-use Rattle.wb_script.specs.Random.{word_of}
-use Rattle.wb_script.specs.SentLines.{sends_text}
-use Rattle.wb_script.specs.declared.fault.LineFault.{LineFault}
-use Rattle.wb_script.specs.declared.fault.LineFault.TheVariants as faults
-use Rattle.wb_script.specs.declared.command.Command.{Command}
-use Rattle.wb_script.specs.declared.command.Command.TheVariants as lines
+use Rattle.wb_commands.specs.Answers.{gaps_text}
+use Rattle.wb_member.specs.Opened.{accepted, may_ask, next_number, with_asked, Opened, due_count, present, words_for}
+use Rattle.wb_member.specs.Random.{word_of}
+use Rattle.wb_session_hosts.proofs.Calling.{calling}
+use Rattle.wb_commands.specs.Acts.{Act, does, fails}
+use Rattle.wb_commands.specs.SentLines.{sends_text}
+use Rattle.wb_commands.specs.declared.fault.LineFault.{LineFault}
+use Rattle.wb_commands.specs.declared.fault.LineFault.TheVariants as faults
+use Rattle.wb_commands.specs.declared.command.Command.{Command}
+use Rattle.wb_commands.specs.declared.command.Command.TheVariants as lines
 use Rattle.wb_session.proofs.Constants.{TellAlike, IsLike, as_itself, none_alike, call_alike, same_message, miss_left, miss_right, miss_both}
 use Rattle.wb_dialog.specs.Dialog.{Answer, gives, refuses, after, answer, answer_at, answer_first, answered, goes_out, known_text, numbered, says, speaker}
 use Rattle.wb_dialog.specs.Doing.{text_of}
 use Rattle.wb_dialog.specs.declared.fault.Refusal.{Refusal}
 use Rattle.wb_dialog.specs.declared.fault.Refusal.TheVariants as refusals
 use Rattle.wb_dialog.specs.declared.line.DriverLine.{DriverLine}
-use Rattle.wb_dialog.specs.declared.line.DriverLine.TheVariants.{Script, Say, Next, View, Known, Ask, Stop}
+use Rattle.wb_dialog.specs.declared.line.DriverLine.TheVariants.{Script, Say, Next, View, Known, Ask, Stop, Keep, Came, Add}
 use Rattle.wb_session_hosts.specs.Constants.{HoldAlike, DifferInTimers, IsUntimed, ConstantsMoveTimers}
 use Rattle.wb_session_hosts.specs.Hosts.{LineAt, saying, host_at, sends_at, sends_by_act, sends_said}
 
@@ -37,12 +38,12 @@ use Rattle.wb_session_hosts.specs.Hosts.{LineAt, saying, host_at, sends_at, send
 
 -- a host with the constants, the calls and the random words of another
 abbrev pub timed : Opened → Opened → Opened
-timed other host = record { me = host.me; constants = other.constants; board = host.board; calls = other.calls; random = other.random }
+timed other host = record { is = record host.is { constants = other.is.constants; calls = other.is.calls }; random = other.random }
 
 -- one differs from the other in its timers alone
 pub record GoAlike (one other : Opened) : Type 0 where
   pub same : other ≡ timed other one
-  pub calls : TellAlike one.me one.calls other.calls
+  pub calls : TellAlike one.is.number one.is.calls other.is.calls
 
 abbrev pub AreAlike : Option Opened → Option Opened → Type 0
 AreAlike None None = Unit {0}
@@ -61,13 +62,13 @@ IsNoTick line = Unit {0}
 
 -- ---- one line
 
-module _ (host o : Opened) (t : TellAlike host.me host.calls o.calls) where
+module _ (host o : Opened) (t : TellAlike host.is.number host.is.calls o.is.calls) where
   abbrev changed : Opened
   changed = timed o host
 
   -- a call of each, which tell the same
-  both : (x y : KeeperCall) (m n : ℕ) → IsLike host.me x y → GoAlike (calling x m host) (calling y n changed)
-  both x y m n like = record { same = refl; calls = call_alike host.me host.calls o.calls t x y like }
+  both : (x y : KeeperCall) (m n : ℕ) → IsLike host.is.number x y → GoAlike (calling x m host) (calling y n changed)
+  both x y m n like = record { same = refl; calls = call_alike host.is.number host.is.calls o.is.calls t x y like }
 
   itself : GoAlike host changed
   itself = record { same = refl; calls = t }
@@ -75,14 +76,14 @@ module _ (host o : Opened) (t : TellAlike host.me host.calls o.calls) where
   accepts : (d : DrawopValue) → GoAlike (accepted d host) (accepted d changed)
   accepts d = record {
     same = refl;
-    calls = call_alike host.me host.calls o.calls t _ _ (record { moment = ap (λ (n : ℕ). let o : Option ℕ = Some n in o) t.moment; marks = λ page. refl; session = refl; page = refl });
+    calls = call_alike host.is.number host.is.calls o.is.calls t _ _ (record { moment = ap (λ (n : ℕ). let o : Option ℕ = Some n in o) t.moment; marks = λ page. refl; session = refl; page = refl });
   }
 
-  same_room : (v : Datagram) → (is_own host.me v || has_room (marks_heard host.me host.calls) v) ≡ (is_own host.me v || has_room (marks_heard host.me o.calls) v)
-  same_room v = ap (λ (heard : PageId → List MarkValue). is_own host.me v || has_room heard v) (fun_ext t.marks)
+  same_room : (v : Datagram) → (is_own host.is.number v || has_room (marks_heard host.is.number host.is.calls) v) ≡ (is_own host.is.number v || has_room (marks_heard host.is.number o.is.calls) v)
+  same_room v = ap (λ (heard : PageId → List MarkValue). is_own host.is.number v || has_room heard v) (fun_ext t.marks)
 
   pub same_next : (page : PageId) → next_number page host ≡ next_number page changed
-  same_next page = ap (λ (marks : List MarkValue). let last = known host.board.drawops page marks host.me in if nat_lt last 4294967295 then Some (last + 1) else None) (t.marks page)
+  same_next page = ap (λ (marks : List MarkValue). let last = known host.is.held page marks host.is.number in if nat_lt last 4294967295 then Some (last + 1) else None) (t.marks page)
 
   -- by one test, and by another with its outcome
   either : (a b : Bool) (x y : Act) (p q : Act) → a ≡ b → AnswerAlike (answered x) (answered p) → AnswerAlike (answered y) (answered q) → AnswerAlike (answered (if a then x else y)) (answered (if b then p else q))
@@ -98,14 +99,14 @@ module _ (host o : Opened) (t : TellAlike host.me host.calls o.calls) where
       (both _ _ (words_for v) (words_for v) (record {
         moment = ap (λ (n : ℕ). let o : Option ℕ = Some n in o) t.moment;
         marks = λ page. refl;
-        session = ap (λ (n : ℕ). session_heard host.me (Hear n v 0 false)) t.moment;
+        session = ap (λ (n : ℕ). session_heard host.is.number (Hear n v 0 false)) t.moment;
         page = refl;
       }))
       tt
-  script_alike (lines.Distance source micros) = both _ _ 0 0 (as_itself host.me (SetDelay source micros))
+  script_alike (lines.Distance source micros) = both _ _ 0 0 (as_itself host.is.number (SetDelay source micros))
   script_alike (lines.Tick now) = either _ _ _ _ _ _ (ap (nat_lt now) t.moment) tt
       (both _ _ (due_count now host) (due_count now changed) (record { moment = refl; marks = λ page. refl; session = refl; page = refl }))
-  script_alike (lines.Look page) = record { same = refl; calls = miss_both host.me host.calls o.calls t _ _ _ _ }
+  script_alike (lines.Look page) = record { same = refl; calls = miss_both host.is.number host.is.calls o.is.calls t _ _ _ _ }
   script_alike (lines.Session page) = both _ _ 0 0 (record { moment = ap (λ (n : ℕ). let o : Option ℕ = Some n in o) t.moment; marks = λ page. refl; session = refl; page = refl })
   script_alike (lines.Show page width height) = itself
   script_alike (lines.Gaps page) = itself
@@ -121,7 +122,7 @@ module _ (host o : Opened) (t : TellAlike host.me host.calls o.calls) where
   out_alike (datagrams.PageState sender page marks) = itself
 
   says_alike : (v : Datagram) → AnswerAlike (says v host) (says v changed)
-  says_alike v = from (nat_eq (speaker v) host.me) where
+  says_alike v = from (nat_eq (speaker v) host.is.number) where
     from : (mine : Bool) → AnswerAlike (if mine then goes_out v host else refuses refusals.Member) (if mine then goes_out v changed else refuses refusals.Member)
     from true = out_alike v
     from false = tt
@@ -135,9 +136,9 @@ module _ (host o : Opened) (t : TellAlike host.me host.calls o.calls) where
   asked_alike : (name : NameValue) → GoAlike (with_asked name host) (with_asked name changed)
   asked_alike name = from (may_ask name host) (may_ask name changed) where
     from : (a b : Bool) → GoAlike (if a then calling (Miss (present host) (name ∷ []) (word_of host.random ∷ [])) 1 host else host) (if b then calling (Miss (present changed) (name ∷ []) (word_of o.random ∷ [])) 1 changed else changed)
-    from true true = record { same = refl; calls = miss_both host.me host.calls o.calls t _ _ _ _ }
-    from true false = record { same = refl; calls = miss_left host.me host.calls o.calls t _ _ }
-    from false true = record { same = refl; calls = miss_right host.me host.calls o.calls t _ _ }
+    from true true = record { same = refl; calls = miss_both host.is.number host.is.calls o.is.calls t _ _ _ _ }
+    from true false = record { same = refl; calls = miss_left host.is.number host.is.calls o.is.calls t _ _ }
+    from false true = record { same = refl; calls = miss_right host.is.number host.is.calls o.is.calls t _ _ }
     from false false = itself
 
   pub line_alike : (line : DriverLine) → AnswerAlike (answer_at line host) (answer_at line changed)
@@ -148,11 +149,14 @@ module _ (host o : Opened) (t : TellAlike host.me host.calls o.calls) where
   line_alike Known = itself
   line_alike (Ask name) = asked_alike name
   line_alike (Stop name) = both _ _ 0 0 (record { moment = ap (λ (n : ℕ). let o : Option ℕ = Some n in o) t.moment; marks = λ page. refl; session = refl; page = refl })
+  line_alike (Keep rate listen) = tt
+  line_alike (Came now v) = tt
+  line_alike (Add adding) = tt
 
   -- ---- what it prints
 
-  same_session : (page : PageId) → message_of host.me host.calls (present host) host.board.drawops page ≡ message_of host.me o.calls (present changed) host.board.drawops page
-  same_session page = same_message host.me host.calls o.calls t (present host) host.board.drawops page ∙ ap (λ (n : ℕ). message_of host.me o.calls n host.board.drawops page) t.moment
+  same_session : (page : PageId) → message_of host.is.number host.is.calls (present host) host.is.held page ≡ message_of host.is.number o.is.calls (present changed) host.is.held page
+  same_session page = same_message host.is.number host.is.calls o.is.calls t (present host) host.is.held page ∙ ap (λ (n : ℕ). message_of host.is.number o.is.calls n host.is.held page) t.moment
 
   -- two hosts, with one text, or the same refusal
   one_text : (a b : Bool) (x y : Opened) (text : List ℕ) (e : LineFault) → a ≡ b → text_of (answered (if a then does x text else fails e)) ≡ text_of (answered (if b then does y text else fails e))
@@ -164,19 +168,19 @@ module _ (host o : Opened) (t : TellAlike host.me host.calls o.calls) where
   script_text : (line : Command) → IsUntimed (Script line) → text_of (answer_at (Script line) host) ≡ text_of (answer_at (Script line) changed)
   script_text (lines.Arrive d) u = refl
   script_text (lines.Board member cells workers seed) u = refl
-  script_text (lines.Hear v) u = one_text _ _ _ _ (sends_text (answers_to host.me host.board.drawops v)) faults.TooMany (same_room v)
+  script_text (lines.Hear v) u = one_text _ _ _ _ (sends_text (answers_to host.is.number host.is.held v)) faults.TooMany (same_room v)
   script_text (lines.Distance source micros) u = refl
   script_text (lines.Tick now) u = absurd u
   script_text (lines.Look page) u = absurd u
   script_text (lines.Session page) u = ap (λ (v : Datagram). sends_text (v ∷ [])) (same_session page)
   script_text (lines.Show page width height) u = refl
-  script_text (lines.Gaps page) u = ap (λ (marks : List MarkValue). gaps_text (gaps_of host.board.drawops page marks)) (t.marks page)
+  script_text (lines.Gaps page) u = ap (λ (marks : List MarkValue). gaps_text (gaps_of host.is.held page marks)) (t.marks page)
   script_text (lines.Report page) u = refl
   script_text lines.Pages u = refl
   script_text lines.Skip u = refl
 
   says_text : (v : Datagram) → text_of (says v host) ≡ text_of (says v changed)
-  says_text v = from (nat_eq (speaker v) host.me) where
+  says_text v = from (nat_eq (speaker v) host.is.number) where
     out : (v : Datagram) → text_of (goes_out v host) ≡ text_of (goes_out v changed)
     out (datagrams.Draw d) = refl
     out (datagrams.Session sender sent page marks echoes) = refl
@@ -197,9 +201,12 @@ module _ (host o : Opened) (t : TellAlike host.me host.calls o.calls) where
   line_text (Say v) u = says_text v
   line_text (Next page) u = number_text (next_number page host) ∙ ap (λ (o : Option ℕ). text_of (numbered changed o)) (same_next page)
   line_text (View page) u = refl
-  line_text Known u = ap (λ (pages : List PageId). known_text (sorted page_cmp (map (λ (d : DrawopValue). d.name.page) host.board.drawops ++ pages))) t.pages
+  line_text Known u = ap (λ (pages : List PageId). known_text (sorted page_cmp (map (λ (d : DrawopValue). d.name.page) host.is.held ++ pages))) t.pages
   line_text (Ask name) u = absurd u
   line_text (Stop name) u = absurd u
+  line_text (Keep rate listen) u = refl
+  line_text (Came now v) u = refl
+  line_text (Add adding) u = refl
 
   -- ---- what it sends
 
@@ -217,7 +224,7 @@ module _ (host o : Opened) (t : TellAlike host.me host.calls o.calls) where
 
   pub line_sends : (line : DriverLine) → IsNoTick line → sends_at line host ≡ sends_at line changed
   line_sends (Script line) u = script_sends line u
-  line_sends (Say v) u = from (nat_eq (speaker v) host.me) where
+  line_sends (Say v) u = from (nat_eq (speaker v) host.is.number) where
     out : (v : Datagram) → sends_said v host ≡ sends_said v changed
     out (datagrams.Draw d) = refl
     out v = refl

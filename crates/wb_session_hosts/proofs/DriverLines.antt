@@ -10,17 +10,19 @@ use Rattle.wb_lines.specs.Input.{content}
 use Rattle.wb_lines.specs.Words.{words}
 use Rattle.wb_words.specs.Words.{words as words_of_text, split_once}
 use Rattle.wb_words.specs.Reading.{reading}
+use Rattle.wb_words.specs.Adding.{adding_reading}
+use Rattle.wb_words.specs.declared.adding.Adding.{Adding}
 use Rattle.wb_words.specs.declared.fault.WrongWord.{WrongWord}
 use Rattle.wb_words.proofs.LineLaws.{reading_takes}
 use Rattle.wb_words.proofs.Splitting.{NoSpaces-words}
-use Rattle.wb_script.specs.Parsing.{number, four_of, none_of, or_fault, page as page_of, datagram, line_of as script_line_of}
-use Rattle.wb_script.specs.declared.fault.LineFault.{LineFault}
-use Rattle.wb_script.specs.declared.fault.LineFault.TheVariants as faults
+use Rattle.wb_commands.specs.Parsing.{number, two_of, four_of, none_of, or_fault, page as page_of, datagram, line_of as script_line_of}
+use Rattle.wb_commands.specs.declared.fault.LineFault.{LineFault}
+use Rattle.wb_commands.specs.declared.fault.LineFault.TheVariants as faults
 use Rattle.wb_dialog.specs.Dialog.{says_line}
-use Rattle.wb_dialog.specs.Lines.{name, by_words, handed_in, command, line_of_words, came_in, said_by, said_part, line_behind, line_of}
+use Rattle.wb_dialog.specs.Lines.{name, by_words, handed_in, command, line_of_words, keep_line, came_line, moment_of, words_behind, came_in, said_by, said_part, added_by, added_part, line_behind, line_of}
 use Rattle.wb_dialog.specs.declared.fault.Refusal.{Refusal}
 use Rattle.wb_dialog.specs.declared.line.DriverLine.{DriverLine}
-use Rattle.wb_dialog.specs.declared.line.DriverLine.TheVariants.{Script, Say, Next, View, Known, Ask, Stop}
+use Rattle.wb_dialog.specs.declared.line.DriverLine.TheVariants.{Script, Say, Next, View, Known, Ask, Stop, Keep, Came, Add}
 use Rattle.wb_session_hosts.proofs.ScriptLines as scripts
 use Rattle.wb_session_hosts.proofs.ScriptLines.{IsWithin, IsDigitsOf, bound, behind, number_fits, datagram_fits, datagram_digits, line_fits}
 use Rattle.wb_session_hosts.specs.Laws.{SaysDatagram, LinesCarryBytes}
@@ -30,6 +32,7 @@ abbrev pub Carries : (Datagram → Type 0) → DriverLine → Type 0
 Carries P (Script line) = scripts.Carries P line
 Carries P (Say v) = IsDatagram v
 Carries P (Ask name) = IsName name
+Carries P (Came now v) = IsDatagram v
 Carries P line = Unit {0}
 
 -- what it carries is in range
@@ -69,6 +72,34 @@ said_fits : (P : Datagram → Type 0) (r : Result Datagram WrongWord) → IfOk r
 said_fits P (Ok v) fit = fit
 said_fits P (Err wrong) fit = tt
 
+-- ---- lines of a host that keeps itself
+
+abbrev IsKept : DriverLine → Type 0
+IsKept (Keep rate listen) = Unit {0}
+IsKept (Came now v) = IsDatagram v
+IsKept line = ⊥
+
+kept_carries : (P : Datagram → Type 0) (line : DriverLine) → IsKept line → Carries P line
+kept_carries P (Keep rate listen) is = tt
+kept_carries P (Came now v) is = is
+kept_carries P (Script line) is = absurd is
+kept_carries P (Say v) is = absurd is
+kept_carries P (Next page) is = absurd is
+kept_carries P (View page) is = absurd is
+kept_carries P Known is = absurd is
+kept_carries P (Ask name) is = absurd is
+kept_carries P (Stop name) is = absurd is
+kept_carries P (Add adding) is = absurd is
+
+keep_fits : (arguments : List (List ℕ)) → IfOk (keep_line arguments) IsKept
+unfolding keep_line
+keep_fits arguments = behind IsKept (or_fault faults.Words (two_of arguments)) _ (λ ws.
+    behind IsKept (number 1 1000000 ws.0) _ (λ rate. behind IsKept (number 0 (2 ^ 32 - 1) ws.1) _ (λ listen. tt)))
+
+came_line_fits : (arguments : List (List ℕ)) → IfOk (came_line arguments) IsKept
+unfolding came_line
+came_line_fits arguments = behind IsKept (moment_of arguments) _ (λ now. bound IsDatagram IsKept (datagram (words_behind arguments)) _ (datagram_fits (words_behind arguments)) (λ v fit. fit))
+
 -- What is asked of the datagram that a line says in words, or behind its first word.
 pub record Asks (P : Datagram → Type 0) (line : List ℕ) : Type 0 where
   pub in_words : IfOk (reading line) P
@@ -103,7 +134,10 @@ module _ (P : Datagram → Type 0) where
         (either (bytes_eq word (codes "known")) _ _ (free Has (λ nothing. Known) (or_fault faults.Words (none_of arguments)) (λ x. tt))
         (either (bytes_eq word (codes "ask")) _ _ (by_words_fits IsName Has Ask (name arguments) (name_fits arguments) (λ n fit. fit))
         (either (bytes_eq word (codes "stop")) _ _ (free Has Stop (name arguments) (λ n. tt))
-        script_fits))))))
+        (either (bytes_eq word (codes "keep")) _ _ (by_words_fits IsKept Has (λ l. l) (keep_line arguments) (keep_fits arguments) (kept_carries P))
+        (either (bytes_eq word (codes "came")) _ _ (by_words_fits IsKept Has (λ l. l) (came_line arguments) (came_line_fits arguments) (kept_carries P))
+        (either (bytes_eq word (codes "add")) _ _ tt
+        script_fits)))))))))
 
     words_fit : (ws : List (List ℕ)) → words line ≡ ws → IfOk (line_of_words line ws) Has
     words_fit [] e = script_fits
@@ -113,12 +147,17 @@ module _ (P : Datagram → Type 0) where
     came_fits (Ok v) has = handed_fits v has
     came_fits (Err wrong) has = either (nat_eq wrong.place 1) _ _ (words_fit (words line) refl) tt
 
-    part_fits : (o : Option (List ℕ)) → IfOk (line_behind line o) Has
-    part_fits None = came_fits (reading line) asks.in_words
-    part_fits (Some rest) = said_fits P (reading rest) (reading_fits rest)
+    added_fits : (r : Result Adding WrongWord) → IfOk (added_by r) Has
+    added_fits (Ok adding) = tt
+    added_fits (Err wrong) = tt
+
+    part_fits : (said added : Option (List ℕ)) → IfOk (line_behind line said added) Has
+    part_fits None None = came_fits (reading line) asks.in_words
+    part_fits None (Some rest) = added_fits (adding_reading rest)
+    part_fits (Some rest) added = said_fits P (reading rest) (reading_fits rest)
 
     pub text_fits : IfOk (line_of line) Has
-    text_fits = part_fits (said_part (split_once 32 line))
+    text_fits = part_fits (said_part (split_once 32 line)) (added_part (split_once 32 line))
 
 -- ---- what it carries is in range
 

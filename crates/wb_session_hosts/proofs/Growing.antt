@@ -7,8 +7,8 @@ use Rattle.wb_names.specs.declared.name.PageId.{PageId}
 use Rattle.wb_recovery.specs.declared.tuning.Tuning.{Tuning}
 use Rattle.wb_host.specs.Hearing.{marks_heard}
 use Rattle.wb_host.specs.Keeper.{holds}
-use Rattle.wb_script.specs.Board.{Held}
-use Rattle.wb_script.specs.Hosts.{Opened, present}
+use Rattle.wb_member.specs.Board.{Held}
+use Rattle.wb_member.specs.Opened.{Opened, present, board_of}
 use Rattle.wb_dialog.specs.Dialog.{answer_at, after}
 use Rattle.wb_dialog.specs.declared.line.DriverLine.{DriverLine}
 use Rattle.wb_session_hosts.specs.Agreement.{lacking}
@@ -19,14 +19,14 @@ use Rattle.wb_session_hosts.proofs.OneLine.{CameBefore, did, idle, is_fair, is_u
 
 -- it takes only some of these drawops
 pub record Became (drawops : List DrawopValue) (h g : Opened) : Type 0 where
-  pub me : g.me ≡ h.me
-  pub marks : (page : PageId) → marks_heard g.me g.calls page ≡ marks_heard h.me h.calls page
-  pub kept : (x : DrawopValue) → Contains h.board.drawops x → Contains g.board.drawops x
-  pub from : (x : DrawopValue) → Contains g.board.drawops x → Contains h.board.drawops x ⊎ Contains drawops x
+  pub me : g.is.number ≡ h.is.number
+  pub marks : (page : PageId) → marks_heard g.is.number g.is.calls page ≡ marks_heard h.is.number h.is.calls page
+  pub kept : (x : DrawopValue) → Contains h.is.held x → Contains g.is.held x
+  pub from : (x : DrawopValue) → Contains g.is.held x → Contains h.is.held x ⊎ Contains drawops x
 
 -- a host has free cells for what it lacks of some drawops
 abbrev pub HasRoom : List DrawopValue → Opened → Type 0
-HasRoom drawops host = length host.board.drawops + length (lacking drawops host) ≤ host.board.cells
+HasRoom drawops host = length host.is.held + length (lacking drawops host) ≤ host.is.cells
 
 -- it keeps its room for those that are ahead, and its moment goes on by at most so much
 pub record Grows (t : ℕ) (drawops ahead : List DrawopValue) (h g : Opened) : Type 0 where
@@ -39,7 +39,7 @@ became_more drawops a b c one two = record {
   me = two.me ∙ one.me;
   marks = λ page. two.marks page ∙ one.marks page;
   kept = λ x h. two.kept x (one.kept x h);
-  from = λ x h. ⊎_elim (λ (g : Contains b.board.drawops x). one.from x g) (λ (g : Contains drawops x). inr g) (two.from x h);
+  from = λ x h. ⊎_elim (λ (g : Contains b.is.held x). one.from x g) (λ (g : Contains drawops x). inr g) (two.from x h);
 }
 
 pub became_same : (drawops : List DrawopValue) (h : Opened) → Became drawops h h
@@ -60,7 +60,7 @@ module _ (drawops ahead : List DrawopValue) where
   stays_so t h = record { became = became_same drawops h; room = λ r. r; moment = omega arith }
 
   -- a host whose board stays as it is
-  pub rests : (t : ℕ) (h g : Opened) → g.me ≡ h.me → g.board ≡ h.board → ((page : PageId) → marks_heard g.me g.calls page ≡ marks_heard h.me h.calls page) → present g ≤ present h + t → Grows t drawops ahead h g
+  pub rests : (t : ℕ) (h g : Opened) → g.is.number ≡ h.is.number → board_of g ≡ board_of h → ((page : PageId) → marks_heard g.is.number g.is.calls page ≡ marks_heard h.is.number h.is.calls page) → present g ≤ present h + t → Grows t drawops ahead h g
   rests t h g me board marks moment = record {
     became = record {
       me = me;

@@ -17,20 +17,20 @@ use Rattle.wb_host.specs.Keeper.{holds}
 use Rattle.wb_host.specs.Missing.{IsWanted}
 use Rattle.wb_host.proofs.FirstWanted.{first_are_wanted}
 use Rattle.wb_host.proofs.KeptCalls.{holds_not}
-use Rattle.wb_script.specs.Driving.{accepted, may_ask, next_number, with_asked}
-use Rattle.wb_script.specs.Hosts.{Opened, Act, does, fails, act, events, present, wanted_of}
-use Rattle.wb_script.specs.Random.{word_of}
-use Rattle.wb_script.specs.declared.command.Command.{Command}
-use Rattle.wb_script.specs.declared.command.Command.TheVariants as lines
+use Rattle.wb_member.specs.Opened.{accepted, may_ask, next_number, with_asked, Opened, events, present, wanted_of}
+use Rattle.wb_member.specs.Random.{word_of}
+use Rattle.wb_commands.specs.Acts.{Act, does, fails, act}
+use Rattle.wb_commands.specs.declared.command.Command.{Command}
+use Rattle.wb_commands.specs.declared.command.Command.TheVariants as lines
 use Rattle.wb_member.specs.Members as members
 use Rattle.wb_member.specs.Members.{Member, Takes, Hears, SetsDelay, Misses, GivesUp, Ticks, Reports, after}
-use Rattle.wb_session_scripts.specs.Hosts.{member_of, act_of, after_any}
-use Rattle.wb_session_scripts.proofs.Acts.{batches_are_acts, giving_up_is_an_act, asking_is_an_act, lines_are_acts}
+use Rattle.wb_session_hosts.specs.Scripts.{member_of, act_of, after_any}
+use Rattle.wb_session_hosts.proofs.ScriptActs.{batches_are_acts, giving_up_is_an_act, asking_is_an_act, lines_are_acts}
 use Rattle.wb_dialog.specs.Dialog.{Answer, gives, refuses, after as host_after, answer, answer_at, answer_first, answered, goes_out, numbered, says, speaker}
 use Rattle.wb_dialog.specs.declared.fault.Refusal.{Refusal}
 use Rattle.wb_dialog.specs.declared.fault.Refusal.TheVariants as refusals
 use Rattle.wb_dialog.specs.declared.line.DriverLine.{DriverLine}
-use Rattle.wb_dialog.specs.declared.line.DriverLine.TheVariants.{Script, Say, Next, View, Known, Ask, Stop}
+use Rattle.wb_dialog.specs.declared.line.DriverLine.TheVariants.{Script, Say, Next, View, Known, Ask, Stop, Keep, Came, Add}
 use Rattle.wb_session_hosts.specs.Hosts.{LineAt, saying, host_at}
 use Rattle.wb_session_hosts.proofs.BoardRanges.{all_from}
 use Rattle.wb_session.specs.Holding.{IsCareful}
@@ -57,19 +57,19 @@ given next f = (next, refl, f)
 
 module _ (host : Opened) where
   -- what it wants of a page it does not hold
-  pub wanted_lacking : (page : PageId) → All (λ n. holds host.board.drawops n ≡ false) (wanted_of page host)
+  pub wanted_lacking : (page : PageId) → All (λ n. holds host.is.held n ≡ false) (wanted_of page host)
   wanted_lacking page =
-      let marks = marks_heard host.me host.calls page in
-      let w = first_are_wanted host.constants (events host) host.board.drawops page marks in
-      let all : All (λ n. holds host.board.drawops n ≡ false) w.0 = all_from (λ n. holds host.board.drawops n ≡ false) w.0 (λ n c. lacks marks n ((w.1.members n).0 c)) in
-      subst (All (λ n. holds host.board.drawops n ≡ false)) (sym w.2) (All-take (λ n. holds host.board.drawops n ≡ false) _ w.0 all)
+      let marks = marks_heard host.is.number host.is.calls page in
+      let w = first_are_wanted host.is.constants (events host) host.is.held page marks in
+      let all : All (λ n. holds host.is.held n ≡ false) w.0 = all_from (λ n. holds host.is.held n ≡ false) w.0 (λ n c. lacks marks n ((w.1.members n).0 c)) in
+      subst (All (λ n. holds host.is.held n ≡ false)) (sym w.2) (All-take (λ n. holds host.is.held n ≡ false) _ w.0 all)
     where
-      lacks : (marks : List MarkValue) (n : NameValue) → IsWanted (timers_of host.constants (events host)) host.board.drawops page marks n → holds host.board.drawops n ≡ false
-      lacks marks n want = holds_not host.board.drawops n (λ h. want.missing.not_held (subst (HoldsName host.board.drawops) (name_parts _ _ _ _ _ _ refl want.on_page refl) h))
+      lacks : (marks : List MarkValue) (n : NameValue) → IsWanted (timers_of host.is.constants (events host)) host.is.held page marks n → holds host.is.held n ≡ false
+      lacks marks n want = holds_not host.is.held n (λ h. want.missing.not_held (subst (HoldsName host.is.held) (name_parts _ _ _ _ _ _ refl want.on_page refl) h))
 
   -- nor does it hold what it may ask for
-  pub asked_lacking : (name : NameValue) → may_ask name host ≡ true → All (λ n. holds host.board.drawops n ≡ false) (name ∷ [])
-  asked_lacking name e = All-cons (λ n. holds host.board.drawops n ≡ false) name [] (lacks (holds host.board.drawops name) (is_timed (timers_of host.constants (events host)) name) e) (All-nil (λ n. holds host.board.drawops n ≡ false)) where
+  pub asked_lacking : (name : NameValue) → may_ask name host ≡ true → All (λ n. holds host.is.held n ≡ false) (name ∷ [])
+  asked_lacking name e = All-cons (λ n. holds host.is.held n ≡ false) name [] (lacks (holds host.is.held name) (is_timed (timers_of host.is.constants (events host)) name) e) (All-nil (λ n. holds host.is.held n ≡ false)) where
     lacks : (a b : Bool) → not (a || b) ≡ true → a ≡ false
     lacks true b e = absurd (true≢false (sym e))
     lacks false b e = refl
@@ -87,7 +87,7 @@ module _ (host : Opened) (is : Is host) where
   careful_line line = is
 
   accepts : (d : DrawopValue) → Is (accepted d host)
-  accepts d = subst Tells (sym (batches_are_acts [] host d [] (d ∷ [])))
+  accepts d = subst Tells (sym (batches_are_acts [] host (d ∷ []) (d ∷ [])))
       (tells_after (Takes (present host) (d ∷ []) (d ∷ [])) m (All-cons (λ x. Contains (d ∷ []) x) d [] (Contains-here d []) (All-nil (λ x. Contains (d ∷ []) x))) is)
 
   by_act : (line : Command) (a : Act) → act line host ≡ a → AnswerIs (answered a)
@@ -116,7 +116,7 @@ module _ (host : Opened) (is : Is host) where
   out_is (datagrams.PageState sender page marks) = given host is
 
   says_is : (v : Datagram) → AnswerIs (says v host)
-  says_is v = from (nat_eq (speaker v) host.me) where
+  says_is v = from (nat_eq (speaker v) host.is.number) where
     from : (mine : Bool) → AnswerIs (if mine then goes_out v host else refuses refusals.Member)
     from true = out_is v
     from false = tt
@@ -139,6 +139,9 @@ module _ (host : Opened) (is : Is host) where
   line_is Known = given host is
   line_is (Ask name) = given _ (asked_is name)
   line_is (Stop name) = given _ (subst Tells (sym (giving_up_is_an_act [] host name)) (tells_after (GivesUp (present host) name) m tt is))
+  line_is (Keep rate listen) = tt
+  line_is (Came now v) = tt
+  line_is (Add adding) = tt
 
 first_is : (tuning : Tuning) (line : DriverLine) → IfSome (host_after None (answer_first tuning line)) Is
 first_is tuning (Script line) = script line where

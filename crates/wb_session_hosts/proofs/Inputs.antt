@@ -6,6 +6,7 @@ use Rattle.wb_recovery.specs.declared.tuning.Tuning.{Tuning}
 use Rattle.wb_lines.specs.Input.{InputLine}
 use Rattle.wb_lines.specs.Taking.{met}
 use Rattle.wb_dialog.specs.Dialog.{State, after, answer, answer_of, block, blocks_from, state_after, state_from, unopened}
+use Rattle.wb_dialog.proofs.DrivenHosts.{driven_as_before}
 use Rattle.wb_session_hosts.specs.Hosts.{LineAt, saying, host_at, state_at, reply_at, lines_at, blocks_at}
 use Rattle.wb_session_hosts.specs.Laws.{BlocksAreTranscripts}
 
@@ -48,5 +49,5 @@ module _ (constants : ℕ → Tuning) (i : ℕ) where
       record { state = state_then e older rest (nat_eq e.place i); blocks = blocks_then e older rest (nat_eq e.place i) }
 
 pub blocks_are_transcripts : BlocksAreTranscripts
-blocks_are_transcripts constants lines i cut input same =
-    ap concat (sym (meets constants i lines).blocks ∙ ap (blocks_from (unopened (constants i))) same)
+blocks_are_transcripts constants lines i cut input same driven =
+    ap concat (sym (meets constants i lines).blocks ∙ ap (blocks_from (unopened (constants i))) same) ∙ sym (driven_as_before (constants i) cut input driven)

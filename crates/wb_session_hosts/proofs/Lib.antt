@@ -1,3 +1,6 @@
+pub mod Calling
+pub mod ScriptActs
+pub mod Shows
 pub mod ScriptLines
 pub mod DriverLines
 pub mod BoardRanges
@@ -38,3 +41,17 @@ pub mod TimelyTurns
 pub mod Requesting
 pub mod TimelySession
 pub mod Arriving
+pub mod Within
+pub mod RequestsHeard
+pub mod Freshness
+pub mod KeepingTime
+pub mod Looking
+pub mod InTime
+pub mod Sharing
+pub mod AllAgree
+pub mod PlainLines
+pub mod PlainTexts
+pub mod OneLines
+pub mod KeptLines
+pub mod KeptBoards
+pub mod BlockEnds

@@ -8,17 +8,18 @@ use Rattle.wb_codec.specs.declared.datagram.Datagram.{Datagram}
 use Rattle.wb_codec.specs.declared.datagram.Datagram.TheVariants as datagrams
 use Rattle.wb_host.specs.Hearing.{asks_for_held, has_room, marks_heard}
 use Rattle.wb_host.specs.Keeper.{KeeperCall, SetDelay, Hear, Arrive, Miss, GoOn, Report, GiveUp, holds, is_own}
-use Rattle.wb_script.specs.Driving.{accepted, asks_for, may_ask, next_number}
-use Rattle.wb_script.specs.Hosts.{Opened, Act, does, fails, calling, due_count, present, stopped, sent_by, wanted_of, word_at, words_for}
-use Rattle.wb_script.specs.Random.{word_of, words_of}
-use Rattle.wb_script.specs.SentLines.{sends_text}
-use Rattle.wb_script.specs.declared.command.Command.{Command}
-use Rattle.wb_script.specs.declared.command.Command.TheVariants as lines
-use Rattle.wb_script.specs.declared.fault.LineFault.TheVariants as faults
+use Rattle.wb_member.specs.Opened.{accepted, asks_for, may_ask, next_number, Opened, due_count, present, sent_by, wanted_of, word_at, words_for, ticked}
+use Rattle.wb_member.specs.Random.{word_of, words_of}
+use Rattle.wb_session_hosts.proofs.Calling.{calling, stopped}
+use Rattle.wb_commands.specs.Acts.{Act, does, fails}
+use Rattle.wb_commands.specs.SentLines.{sends_text}
+use Rattle.wb_commands.specs.declared.command.Command.{Command}
+use Rattle.wb_commands.specs.declared.command.Command.TheVariants as lines
+use Rattle.wb_commands.specs.declared.fault.LineFault.TheVariants as faults
 use Rattle.wb_dialog.specs.Dialog.{Answer, gives, refuses, answer_at, answered, goes_out, numbered, says, speaker}
 use Rattle.wb_dialog.specs.declared.fault.Refusal.TheVariants as refusals
 use Rattle.wb_dialog.specs.declared.line.DriverLine.{DriverLine}
-use Rattle.wb_dialog.specs.declared.line.DriverLine.TheVariants.{Script, Say, Next, View, Known, Ask, Stop}
+use Rattle.wb_dialog.specs.declared.line.DriverLine.TheVariants.{Script, Say, Next, View, Known, Ask, Stop, Keep, Came, Add}
 use Rattle.wb_session_hosts.proofs.BoardMoves.{IsBringing}
 
 -- ---- the call of a line
@@ -30,17 +31,17 @@ IsMissing host line names = ((page : PageId) × (line ≡ Script (lines.Look pag
 -- what the line of a call says
 abbrev pub IsMade : Opened → DriverLine → KeeperCall → Type 0
 IsMade host line (SetDelay source micros) = Unit {0}
-IsMade host line (Hear now v word held) = (line ≡ Script (lines.Hear v)) × (now ≡ present host) × (held ≡ asks_for_held host.board.drawops v)
-IsMade host line (Arrive now names) = (d : DrawopValue) × IsBringing line d × (now ≡ present host) × (names ≡ filter (holds (accepted d host).board.drawops) (d.name ∷ []))
+IsMade host line (Hear now v word held) = (line ≡ Script (lines.Hear v)) × (now ≡ present host) × (held ≡ asks_for_held host.is.held v)
+IsMade host line (Arrive now names) = (d : DrawopValue) × IsBringing line d × (now ≡ present host) × (names ≡ filter (holds (accepted d host).is.held) (d.name ∷ []))
 IsMade host line (Miss now names words) = (now ≡ present host) × IsMissing host line names
 IsMade host line (GoOn now words names) = (line ≡ Script (lines.Tick now)) × (names ≡ stopped host) × (present host ≤ now)
 IsMade host line (Report now) = now ≡ present host
 IsMade host line (GiveUp now name asked) = (line ≡ Stop name) × (now ≡ present host)
 
 pub record Did (line : DriverLine) (host next : Opened) : Type 0 where
-  pub me : next.me ≡ host.me
-  pub constants : next.constants ≡ host.constants
-  pub calls : (next.calls ≡ host.calls) ⊎ ((call : KeeperCall) × (next.calls ≡ call ∷ host.calls) × IsMade host line call)
+  pub me : next.is.number ≡ host.is.number
+  pub constants : next.is.constants ≡ host.is.constants
+  pub calls : (next.is.calls ≡ host.is.calls) ⊎ ((call : KeeperCall) × (next.is.calls ≡ call ∷ host.is.calls) × IsMade host line call)
 
 abbrev pub AnswerDid : DriverLine → Opened → Answer → Type 0
 AnswerDid line host (gives next text) = (g : Opened) × (next ≡ Some g) × Did line host g
@@ -57,14 +58,14 @@ module _ (host : Opened) where
   calls line call words made = (calling call words host, refl, record { me = refl; constants = refl; calls = inr (call, refl, made) })
 
   accepts : (line : DriverLine) (d : DrawopValue) → IsBringing line d → (g : Opened) × ◌≡◌ {A = Option Opened} (Some (accepted d host)) (Some g) × Did line host g
-  accepts line d brings = (accepted d host, refl, record { me = refl; constants = refl; calls = inr (Arrive (present host) (filter (holds (accepted d host).board.drawops) (d.name ∷ [])), refl, (d, brings, refl, refl)) })
+  accepts line d brings = (accepted d host, refl, record { me = refl; constants = refl; calls = inr (Arrive (present host) (filter (holds (accepted d host).is.held) (d.name ∷ [])), refl, (d, brings, refl, refl)) })
 
   either : (line : DriverLine) (b : Bool) (x y : Act) → AnswerDid line host (answered x) → AnswerDid line host (answered y) → AnswerDid line host (answered (if b then x else y))
   either line true x y p q = p
   either line false x y p q = q
 
   abbrev tick_if : ℕ → Bool → Act
-  tick_if now b = if b then fails faults.BackInTime else does (calling (GoOn now (words_of host.random (due_count now host)) (stopped host)) (due_count now host) host) (sends_text (sent_by now host))
+  tick_if now b = if b then fails faults.BackInTime else does (ticked now host) (sends_text (sent_by now host))
 
   ticks : (now : ℕ) → AnswerDid (Script (lines.Tick now)) host (answer_at (Script (lines.Tick now)) host)
   ticks now = from (nat_lt now (present host)) refl where
@@ -75,7 +76,7 @@ module _ (host : Opened) where
   script_did : (line : Command) → AnswerDid (Script line) host (answer_at (Script line) host)
   script_did (lines.Arrive d) = accepts (Script (lines.Arrive d)) d (inl refl)
   script_did (lines.Board member cells workers seed) = tt
-  script_did (lines.Hear v) = either (Script (lines.Hear v)) (is_own host.me v || has_room (marks_heard host.me host.calls) v) _ _ (calls (Script (lines.Hear v)) (Hear (present host) v (word_at v host.random) (asks_for_held host.board.drawops v)) (words_for v) (refl, refl, refl)) tt
+  script_did (lines.Hear v) = either (Script (lines.Hear v)) (is_own host.is.number v || has_room (marks_heard host.is.number host.is.calls) v) _ _ (calls (Script (lines.Hear v)) (Hear (present host) v (word_at v host.random) (asks_for_held host.is.held v)) (words_for v) (refl, refl, refl)) tt
   script_did (lines.Distance source micros) = calls (Script (lines.Distance source micros)) (SetDelay source micros) 0 tt
   script_did (lines.Tick now) = ticks now
   script_did (lines.Look page) = calls (Script (lines.Look page)) (Miss (present host) (wanted_of page host) (words_of host.random (length (wanted_of page host)))) (length (wanted_of page host)) (refl, inl (page, refl, refl))
@@ -94,7 +95,7 @@ module _ (host : Opened) where
   out_did (datagrams.PageState sender page marks) = same (Say (datagrams.PageState sender page marks))
 
   says_did : (v : Datagram) → AnswerDid (Say v) host (says v host)
-  says_did v = from (nat_eq (speaker v) host.me) where
+  says_did v = from (nat_eq (speaker v) host.is.number) where
     from : (mine : Bool) → AnswerDid (Say v) host (if mine then goes_out v host else refuses refusals.Member)
     from true = out_did v
     from false = tt
@@ -115,3 +116,6 @@ module _ (host : Opened) where
   line_did Known = same Known
   line_did (Ask name) = asked_did name (may_ask name host)
   line_did (Stop name) = calls (Stop name) (GiveUp (present host) name (asks_for name host)) 0 (refl, refl)
+  line_did (Keep rate listen) = tt
+  line_did (Came now v) = tt
+  line_did (Add adding) = tt

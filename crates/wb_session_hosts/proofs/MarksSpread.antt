@@ -24,10 +24,11 @@ use Rattle.wb_host.specs.Sessions.{message_of}
 use Rattle.wb_host.proofs.HeardNumbers.{marks_are_greatest}
 use Rattle.wb_host.proofs.KeptCalls.{holds_from}
 use Rattle.wb_progress.specs.Turns.{Terms}
-use Rattle.wb_script.specs.Hosts.{Opened, does, fails, calling, present, word_at, words_for}
-use Rattle.wb_script.specs.declared.fault.LineFault.TheVariants as faults
-use Rattle.wb_script.specs.SentLines.{sends_text}
-use Rattle.wb_script.specs.declared.command.Command.TheVariants as lines
+use Rattle.wb_commands.specs.Acts.{does, fails}
+use Rattle.wb_member.specs.Opened.{Opened, present, word_at, heard}
+use Rattle.wb_commands.specs.declared.fault.LineFault.TheVariants as faults
+use Rattle.wb_commands.specs.SentLines.{sends_text}
+use Rattle.wb_commands.specs.declared.command.Command.TheVariants as lines
 use Rattle.wb_session.proofs.Drawn.{at_most_highest, of_name}
 use Rattle.wb_dialog.specs.Dialog.{Answer, gives, refuses, after, answer, answer_at, answered}
 use Rattle.wb_dialog.specs.declared.fault.Refusal.{Refusal}
@@ -100,8 +101,8 @@ in_past (e ∷ newer) later (y ∷ front) back x same order lt = in_past newer l
 -- ---- what a keeper accepted stays, and so does its number
 
 pub record Keeps (host next : Opened) : Type 0 where
-  pub me : next.me ≡ host.me
-  pub called : (call : KeeperCall) → Contains host.calls call → Contains next.calls call
+  pub me : next.is.number ≡ host.is.number
+  pub called : (call : KeeperCall) → Contains host.is.calls call → Contains next.is.calls call
 
 pub keeps_one : (constants : ℕ → Tuning) (older : List TimedLine) (e : TimedLine) (i : ℕ) (host : Opened) → StandsAt constants older i host → (next : Opened) × StandsAt constants (e ∷ older) i next × Keeps host next
 keeps_one constants older e i host there = from (nat_eq e.at.place i) where
@@ -138,17 +139,14 @@ refused_not e a t same = cc
 
 -- a datagram that is heard, and not refused, stands among the calls
 abbrev pub HasHeard : Opened → Datagram → Type 0
-HasHeard host v = (now word : ℕ) × (held : Bool) × Contains host.calls (Hear now v word held)
-
-abbrev pub then_heard : Datagram → Opened → Opened
-then_heard v host = calling (Hear (present host) v (word_at v host.random) (asks_for_held host.board.drawops v)) (words_for v) host
+HasHeard host v = (now word : ℕ) × (held : Bool) × Contains host.is.calls (Hear now v word held)
 
 pub hearing : (v : Datagram) (host next : Opened) (text : List ℕ) → answer_at (Script (lines.Hear v)) host ≡ gives (Some next) text → HasHeard next v
-hearing v host next text same = from (is_own host.me v || has_room (marks_heard host.me host.calls) v) same where
-  from : (b : Bool) → answered (if b then does (then_heard v host) (sends_text (answers_to host.me host.board.drawops v)) else fails faults.TooMany) ≡ gives (Some next) text → HasHeard next v
+hearing v host next text same = from (is_own host.is.number v || has_room (marks_heard host.is.number host.is.calls) v) same where
+  from : (b : Bool) → answered (if b then does (heard v host) (sends_text (answers_to host.is.number host.is.held v)) else fails faults.TooMany) ≡ gives (Some next) text → HasHeard next v
   from true is =
-      let one : then_heard v host ≡ next = host_is (then_heard v host) next (answer_is (Some (then_heard v host)) (Some next) (sends_text (answers_to host.me host.board.drawops v)) text is) in
-      subst (λ (h : Opened). HasHeard h v) one (present host, word_at v host.random, asks_for_held host.board.drawops v, Contains-here (Hear (present host) v (word_at v host.random) (asks_for_held host.board.drawops v)) host.calls)
+      let one : heard v host ≡ next = host_is (heard v host) next (answer_is (Some (heard v host)) (Some next) (sends_text (answers_to host.is.number host.is.held v)) text is) in
+      subst (λ (h : Opened). HasHeard h v) one (present host, word_at v host.random, asks_for_held host.is.held v, Contains-here (Hear (present host) v (word_at v host.random) (asks_for_held host.is.held v)) host.is.calls)
   from false is = absurd (refused_not (refusals.Line faults.TooMany) (Some next) text is)
 
 -- the host that took a line is what it became
@@ -161,7 +159,7 @@ taken_next constants older e said i here t =
 
 -- ---- from a report to a mark
 
-module _ (constants : ℕ → Tuning) (terms : Terms) (trace : List TimedLine) (timely : IsTimely constants terms trace) (newer later : List TimedLine) (split : trace ≡ newer ++ later) (late : terms.quiet + terms.delivery + terms.reporting + terms.delivery < time_of later) (i : ℕ) (host : Opened) (live_i : Contains terms.live i) (there : StandsAt constants later i host) (d : DrawopValue) (here : d.name.page ≡ terms.page) (j : ℕ) (other : Opened) (live_j : Contains terms.live j) (there_j : StandsAt constants (settled terms trace) j other) (held : Contains other.board.drawops d) where
+module _ (constants : ℕ → Tuning) (terms : Terms) (trace : List TimedLine) (timely : IsTimely constants terms trace) (newer later : List TimedLine) (split : trace ≡ newer ++ later) (late : terms.quiet + terms.delivery + terms.reporting + terms.delivery < time_of later) (i : ℕ) (host : Opened) (live_i : Contains terms.live i) (there : StandsAt constants later i host) (d : DrawopValue) (here : d.name.page ≡ terms.page) (j : ℕ) (other : Opened) (live_j : Contains terms.live j) (there_j : StandsAt constants (settled terms trace) j other) (held : Contains other.is.held d) where
   abbrev source : ℕ
   source = d.name.source
 
@@ -181,17 +179,17 @@ module _ (constants : ℕ → Tuning) (terms : Terms) (trace : List TimedLine) (
       let same : settled terms trace ≡ until (terms.quiet + terms.delivery) back = ap (until (terms.quiet + terms.delivery)) is ∙ behind (terms.quiet + terms.delivery) front back e (subst AreInOrder is timely.order) lt in
       (u.0, u.1 ∙ ap (λ (t : List TimedLine). u.0 ++ t) (sym same))
 
-  few : (part : List TimedLine) (k : ℕ) (h : Opened) → StandsAt constants part k h → length h.board.drawops ≤ 65535
+  few : (part : List TimedLine) (k : ℕ) (h : Opened) → StandsAt constants part k h → length h.is.held ≤ 65535
   few part k h at_place = few_held h (subst (λ (o : Option Opened). IfSome o Fits) at_place (host_fits constants (lines_of part) k))
 
-  top : (h : Opened) → Contains h.board.drawops d → d.name.seq ≤ highest page source h.board.drawops
-  top h c = subst (λ (p : PageId). d.name.seq ≤ highest p source h.board.drawops) here (at_most_highest h.board.drawops d c)
+  top : (h : Opened) → Contains h.is.held d → d.name.seq ≤ highest page source h.is.held
+  top h c = subst (λ (p : PageId). d.name.seq ≤ highest p source h.is.held) here (at_most_highest h.is.held d c)
 
   itself : (n : ℕ) → n ≤ n
   itself n = omega arith
 
   -- what it holds itself it knows of
-  own : i ≡ j → (part : List TimedLine) → later ≡ part → d.name.seq ≤ known host.board.drawops page (marks_heard host.me host.calls page) source
+  own : i ≡ j → (part : List TimedLine) → later ≡ part → d.name.seq ≤ known host.is.held page (marks_heard host.is.number host.is.calls page) source
   own same [] is = absurd (never (subst (λ (t : List TimedLine). terms.quiet + terms.delivery + terms.reporting + terms.delivery < time_of t) is late)) where
     never : {n : ℕ} → n < 0 → ⊥
     never lt = omega (arith, lt)
@@ -201,7 +199,7 @@ module _ (constants : ℕ → Tuning) (terms : Terms) (trace : List TimedLine) (
       let kept_there = held_up_to constants (e ∷ g.0) (settled terms trace) d j other there_j held in
       let part : later ≡ (e ∷ g.0) ++ settled terms trace = is ∙ ap (λ (t : List TimedLine). e ∷ t) g.1 in
       let one : host ≡ kept_there.0 = host_is host kept_there.0 (sym there ∙ ap (λ (t : List TimedLine). host_at constants (lines_of t) i) part ∙ ap (host_at constants (lines_of ((e ∷ g.0) ++ settled terms trace))) same ∙ kept_there.1) in
-      let t = top host (subst (λ (h : Opened). Contains h.board.drawops d) (sym one) kept_there.2) in
+      let t = top host (subst (λ (h : Opened). Contains h.is.held d) (sym one) kept_there.2) in
       omega (arith, t)
 
   -- ---- the session message of the one that holds it
@@ -213,15 +211,15 @@ module _ (constants : ℕ → Tuning) (terms : Terms) (trace : List TimedLine) (
     at_j : StandsAt constants r.older j sender
     at_j = subst (λ (k : ℕ). StandsAt constants r.older k sender) r.place r.taken.there
 
-    sender_holds : Contains sender.board.drawops d
+    sender_holds : Contains sender.is.held d
     sender_holds =
         let g = goes_on r.newer r.older r.e r.split r.begun in
         let h = held_up_to constants g.0 (settled terms trace) d j other there_j held in
         let one : sender ≡ h.0 = host_is sender h.0 (sym at_j ∙ ap (λ (t : List TimedLine). host_at constants (lines_of t) j) g.1 ∙ h.1) in
-        subst (λ (o : Opened). Contains o.board.drawops d) (sym one) h.2
+        subst (λ (o : Opened). Contains o.is.held d) (sym one) h.2
 
     abbrev v : Datagram
-    v = message_of sender.me sender.calls (present sender) sender.board.drawops page
+    v = message_of sender.is.number sender.is.calls (present sender) sender.is.held page
 
     prints : Prints constants r.older r.e v
     prints = subst (λ (ds : List Datagram). Contains ds v) (sym (ap (λ (o : Option Opened). sends_by o (saying r.e.at)) r.taken.there ∙ ap (sends_by (Some sender)) r.taken.says)) (Contains-here v [])
@@ -230,13 +228,13 @@ module _ (constants : ℕ → Tuning) (terms : Terms) (trace : List TimedLine) (
     tells : d.name.seq ≤ high_in page source v
     tells =
         let t = top sender sender_holds in
-        let mark : mark_of (report_of sender.board.drawops page) source ≡ highest page source sender.board.drawops = (report_of_page sender.board.drawops page (few r.older j sender at_j)).1 source in
-        let high : high_in page source v ≡ mark_of (report_of sender.board.drawops page) source = ap (λ (b : Bool). cond b (mark_of (report_of sender.board.drawops page) source) 0) (same_page-here page page refl) in
+        let mark : mark_of (report_of sender.is.held page) source ≡ highest page source sender.is.held = (report_of_page sender.is.held page (few r.older j sender at_j)).1 source in
+        let high : high_in page source v ≡ mark_of (report_of sender.is.held page) source = ap (λ (b : Bool). cond b (mark_of (report_of sender.is.held page) source) 0) (same_page-here page page refl) in
         omega (arith, t, mark, high)
 
-    numbers : (i ≡ j → ⊥) → is_own host.me v ≡ false
-    numbers differ = from (nat_eq sender.me host.me) refl where
-      from : (b : Bool) → nat_eq sender.me host.me ≡ b → b ≡ false
+    numbers : (i ≡ j → ⊥) → is_own host.is.number v ≡ false
+    numbers differ = from (nat_eq sender.is.number host.is.number) refl where
+      from : (b : Bool) → nat_eq sender.is.number host.is.number ≡ b → b ≡ false
       from false e = refl
       from true e =
           let a = keeps_up_to constants newer later i host there in
@@ -244,7 +242,7 @@ module _ (constants : ℕ → Tuning) (terms : Terms) (trace : List TimedLine) (
           let c = keeps_up_to constants r.newer (r.e ∷ r.older) j b.0 b.1 in
           let at_a : StandsAt constants trace i a.0 = subst (λ (t : List TimedLine). StandsAt constants t i a.0) (sym split) a.1 in
           let at_c : StandsAt constants trace j c.0 = subst (λ (t : List TimedLine). StandsAt constants t j c.0) (sym r.split) c.1 in
-          absurd (differ (one_place constants (lines_of trace) timely.distinct timely.honest i j a.0 c.0 at_a at_c (a.2.me ∙ sym (eqb-true sender.me host.me e) ∙ sym (c.2.me ∙ b.2.me))))
+          absurd (differ (one_place constants (lines_of trace) timely.distinct timely.honest i j a.0 c.0 at_a at_c (a.2.me ∙ sym (eqb-true sender.is.number host.is.number e) ∙ sym (c.2.me ∙ b.2.me))))
 
     module _ (differ : i ≡ j → ⊥) (dl : IsDelivered constants r.newer r.e r.older i terms.delivery v) where
       abbrev before : List TimedLine
@@ -272,11 +270,11 @@ module _ (constants : ℕ → Tuning) (terms : Terms) (trace : List TimedLine) (
           let h = has_heard in
           subst (λ (o : Opened). HasHeard o v) (sym one) (h.0, h.1, h.2, k.2.called (Hear h.0 v h.1 h.2) h.3)
 
-      pub knows : d.name.seq ≤ known host.board.drawops page (marks_heard host.me host.calls page) source
+      pub knows : d.name.seq ≤ known host.is.held page (marks_heard host.is.number host.is.calls page) source
       knows =
           let h = heard_there in
-          let reported : IsReported host.me host.calls page source (high_in page source v) = (h.0, h.1, v, h.2, h.3, numbers differ, refl) in
-          let most = (marks_are_greatest host.me host.calls page source).greatest (high_in page source v) reported in
+          let reported : IsReported host.is.number host.is.calls page source (high_in page source v) = (h.0, h.1, v, h.2, h.3, numbers differ, refl) in
+          let most = (marks_are_greatest host.is.number host.is.calls page source).greatest (high_in page source v) reported in
           let marks = greatest_heard constants (lines_of later) (distinct_part constants newer later (subst (λ (t : List TimedLine). HaveDistinctMembers (lines_of t)) split timely.distinct)) (honest_part constants newer later (subst (λ (t : List TimedLine). IsHonest constants (lines_of t)) split timely.honest)) i host there page source in
           let t = tells in
           omega (arith, t, most, marks)
@@ -288,9 +286,9 @@ module _ (constants : ℕ → Tuning) (terms : Terms) (trace : List TimedLine) (
         let e = end_is in
         timely.delivered r.newer r.older r.e i v r.split (subst (Contains terms.live) (sym r.place) live_j) live_i (λ same. differ (sym same ∙ r.place)) (omega (arith, b)) prints (omega (arith, n, e, late))
 
-    pub spread : d.name.seq ≤ known host.board.drawops page (marks_heard host.me host.calls page) source
+    pub spread : d.name.seq ≤ known host.is.held page (marks_heard host.is.number host.is.calls page) source
     spread = from (nat_eq i j) refl where
-      from : (b : Bool) → nat_eq i j ≡ b → d.name.seq ≤ known host.board.drawops page (marks_heard host.me host.calls page) source
+      from : (b : Bool) → nat_eq i j ≡ b → d.name.seq ≤ known host.is.held page (marks_heard host.is.number host.is.calls page) source
       from true e = own (eqb-true i j e) later refl
       from false e =
           let differ : i ≡ j → ⊥ = λ same. true≢false (sym (eq-eqb i j same) ∙ e) in
@@ -299,7 +297,7 @@ module _ (constants : ℕ → Tuning) (terms : Terms) (trace : List TimedLine) (
   reports : terms.quiet + terms.delivery + terms.reporting < time_of trace
   reports = let e = end_is in omega (arith, late, e)
 
-  pub marks_known : d.name.seq ≤ known host.board.drawops page (marks_heard host.me host.calls page) source
+  pub marks_known : d.name.seq ≤ known host.is.held page (marks_heard host.is.number host.is.calls page) source
   marks_known = spread (timely.told.reports j (terms.quiet + terms.delivery) live_j (itself (terms.quiet + terms.delivery)) reports)
 
 pub marks_spread : MarksSpread
@@ -309,11 +307,11 @@ pub lacks_are_gaps : LacksAreGaps
 lacks_are_gaps constants terms trace timely newer later split late i host live_i there d here h lost =
     let below = marks_spread constants terms trace timely newer later split late i host live_i there d here h in
     let fits : Fits h.1 = subst (λ (o : Option Opened). IfSome o Fits) h.3 (host_fits constants (lines_of (settled terms trace)) h.0) in
-    let drawop : IsDrawop d = All-contains IsDrawop h.1.board.drawops d fits.board h.4 in
-    let gaps = gaps_of_page host.board.drawops terms.page (marks_heard host.me host.calls terms.page) in
+    let drawop : IsDrawop d = All-contains IsDrawop h.1.is.held d fits.board h.4 in
+    let gaps = gaps_of_page host.is.held terms.page (marks_heard host.is.number host.is.calls terms.page) in
     let named : name_of terms.page d.name.source d.name.seq ≡ d.name = name_parts _ _ _ _ _ _ refl (sym here) refl in
     (gaps.missing d.name.source d.name.seq).1 (record {
       counted = drawop.name.positive;
       below = below;
-      not_held = λ c. let x = of_name host.board.drawops (name_of terms.page d.name.source d.name.seq) c in true≢false (sym (holds_from host.board.drawops d.name x.0 x.1 (x.2 ∙ named)) ∙ lost);
+      not_held = λ c. let x = of_name host.is.held (name_of terms.page d.name.source d.name.seq) c in true≢false (sym (holds_from host.is.held d.name x.0 x.1 (x.2 ∙ named)) ∙ lost);
     })

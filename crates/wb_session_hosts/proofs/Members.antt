@@ -7,14 +7,14 @@ use Rattle.wb_names.proofs.Listings.{Contains-none}
 use Rattle.wb_codec.specs.declared.datagram.Datagram.{Datagram}
 use Rattle.wb_codec.specs.declared.datagram.Datagram.TheVariants as datagrams
 use Rattle.wb_lines.specs.Taking.{met}
-use Rattle.wb_script.specs.Hosts.{Opened}
-use Rattle.wb_script.specs.SentLines.{send_line}
+use Rattle.wb_member.specs.Opened.{Opened}
+use Rattle.wb_commands.specs.SentLines.{send_line}
 use Rattle.wb_member.specs.Members.{Member}
 use Rattle.wb_session.specs.Session.{Event, Group, IsDistinct, member, IsSession, IsDrawn}
 use Rattle.wb_session.specs.Session as members
 use Rattle.wb_session.specs.Holding.{AreCareful}
 use Rattle.wb_session.proofs.Drawn.{number_of}
-use Rattle.wb_session_scripts.specs.Hosts.{member_of}
+use Rattle.wb_session_hosts.specs.Scripts.{member_of}
 use Rattle.wb_dialog.specs.declared.fault.Refusal.{Refusal}
 use Rattle.wb_dialog.specs.declared.line.DriverLine.{DriverLine}
 use Rattle.wb_dialog.specs.declared.line.DriverLine.TheVariants.{Say}
@@ -123,7 +123,7 @@ module _ (group : Group) (is : IsDistinct group) where
 
     said_now : (x : DrawopValue) → SaidBy s (saying e) x → Said (e ∷ older) x
     said_now x (host, line, there, says, h) =
-        let number : host.me ≡ group.number i = number_at host (subst (λ (o : Option Opened). IsAt group i o (member group events i)) there (rest.at i)) in
+        let number : host.is.number ≡ group.number i = number_at host (subst (λ (o : Option Opened). IsAt group i o (member group events i)) there (rest.at i)) in
         record {
           newer = [];
           e = e;
@@ -135,7 +135,7 @@ module _ (group : Group) (is : IsDistinct group) where
           was_sent = Contains-append_left (sends_by s (saying e)) (sent group.constants older) (datagrams.Draw x)
               (subst (λ (o : Option Opened). Contains (sends_by o (saying e)) (datagrams.Draw x)) (sym there) (subst (λ (r : Result DriverLine Refusal). Contains (sends_by (Some host) r) (datagrams.Draw x)) (sym says) h.sent));
         } where
-          number_at : (host : Opened) → IsAt group i (Some host) (member group events i) → host.me ≡ group.number i
+          number_at : (host : Opened) → IsAt group i (Some host) (member group events i) → host.is.number ≡ group.number i
           number_at host (drawn, here, own) = sym (ap (λ (n : Member). n.number) here) ∙ number_of group events i
 
     all_said : (x : DrawopValue) → IsDrawn group now x → Said (e ∷ older) x

@@ -8,9 +8,9 @@ use Rattle.wb_names.proofs.Listings.{Contains-none}
 use Rattle.wb_codec.specs.declared.datagram.Datagram.TheVariants.{Draw}
 use Rattle.wb_recovery.specs.declared.tuning.Tuning.{Tuning}
 use Rattle.wb_progress.specs.Turns.{Terms}
-use Rattle.wb_script.specs.Hosts.{Opened}
-use Rattle.wb_script.specs.declared.command.Command.{Command}
-use Rattle.wb_script.specs.declared.command.Command.TheVariants as lines
+use Rattle.wb_member.specs.Opened.{Opened}
+use Rattle.wb_commands.specs.declared.command.Command.{Command}
+use Rattle.wb_commands.specs.declared.command.Command.TheVariants as lines
 use Rattle.wb_dialog.specs.Dialog.{Answer, gives, refuses, after, answer, answer_at}
 use Rattle.wb_dialog.specs.declared.fault.Refusal.{Refusal}
 use Rattle.wb_dialog.specs.declared.line.DriverLine.{DriverLine}
@@ -26,30 +26,30 @@ host_is a b same = cc
 
 -- a host was there before, or the line opened an empty board
 abbrev Came : (ℕ → Tuning) → List TimedLine → TimedLine → ℕ → DrawopValue → Type 0
-Came constants older e i d = (host : Opened) × StandsAt constants older i host × (Contains host.board.drawops d ⊎ ((e.at.place ≡ i) × (line : DriverLine) × (saying e.at ≡ Ok line) × IsBringing line d))
+Came constants older e i d = (host : Opened) × StandsAt constants older i host × (Contains host.is.held d ⊎ ((e.at.place ≡ i) × (line : DriverLine) × (saying e.at ≡ Ok line) × IsBringing line d))
 
 module _ (constants : ℕ → Tuning) (older : List TimedLine) (e : TimedLine) (d : DrawopValue) where
   abbrev lines' : List LineAt
   lines' = lines_of older
 
-  open_came : (i : ℕ) (host next : Opened) → StandsAt constants older i host → e.at.place ≡ i → after (Some host) (answer (constants i) (Some host) (saying e.at)) ≡ Some next → Contains next.board.drawops d → Came constants older e i d
+  open_came : (i : ℕ) (host next : Opened) → StandsAt constants older i host → e.at.place ≡ i → after (Some host) (answer (constants i) (Some host) (saying e.at)) ≡ Some next → Contains next.is.held d → Came constants older e i d
   open_came i host next there here becomes held = by (saying e.at) refl becomes where
     by : (said : Result DriverLine Refusal) → saying e.at ≡ said → after (Some host) (answer (constants i) (Some host) said) ≡ Some next → Came constants older e i d
-    by (Err f) says same = (host, there, inl (subst (λ (h : Opened). Contains h.board.drawops d) (sym (host_is host next same)) held))
+    by (Err f) says same = (host, there, inl (subst (λ (h : Opened). Contains h.is.held d) (sym (host_is host next same)) held))
     by (Ok line) says same = from (answer_at line host) (line_moves host line) same where
       from : (a : Answer) → AnswerMoves line host a → after (Some host) a ≡ Some next → Came constants older e i d
-      from (refuses f) moves same = (host, there, inl (subst (λ (h : Opened). Contains h.board.drawops d) (sym (host_is host next same)) held))
+      from (refuses f) moves same = (host, there, inl (subst (λ (h : Opened). Contains h.is.held d) (sym (host_is host next same)) held))
       from (gives s text) (g, is, moves) same =
           let one : g ≡ next = host_is g next (sym is ∙ same) in (
             host,
             there,
             ⊎_elim
-                (λ (c : Contains host.board.drawops d). inl c)
+                (λ (c : Contains host.is.held d). inl c)
                 (λ (b : IsBringing line d). inr (here, line, says, b))
-                (moves.new d (subst (λ (h : Opened). Contains h.board.drawops d) (sym one) held)),
+                (moves.new d (subst (λ (h : Opened). Contains h.is.held d) (sym one) held)),
           )
 
-  first_none : (i : ℕ) (next : Opened) → after None (answer (constants i) None (saying e.at)) ≡ Some next → Contains next.board.drawops d → ⊥
+  first_none : (i : ℕ) (next : Opened) → after None (answer (constants i) None (saying e.at)) ≡ Some next → Contains next.is.held d → ⊥
   first_none i next same held = by (saying e.at) same where
     by : (said : Result DriverLine Refusal) → after None (answer (constants i) None said) ≡ Some next → ⊥
     by (Err f) same = absurd (none_some same) where
@@ -60,13 +60,13 @@ module _ (constants : ℕ → Tuning) (older : List TimedLine) (e : TimedLine) (
       none_some same = cc
 
       script : (line : Command) → after None (answer (constants i) None (Ok (Script line))) ≡ Some next → ⊥
-      script (lines.Board member cells workers seed) same = Contains-none d (subst (λ (h : Opened). Contains h.board.drawops d) (sym (host_is _ next same)) held)
+      script (lines.Board member cells workers seed) same = Contains-none d (subst (λ (h : Opened). Contains h.is.held d) (sym (host_is _ next same)) held)
       script line same = none_some same
     by (Ok line) same = none_some same where
       none_some : ◌≡◌ {A = Option Opened} None (Some next) → ⊥
       none_some same = cc
 
-  pub came : (i : ℕ) (next : Opened) → StandsAt constants (e ∷ older) i next → Contains next.board.drawops d → Came constants older e i d
+  pub came : (i : ℕ) (next : Opened) → StandsAt constants (e ∷ older) i next → Contains next.is.held d → Came constants older e i d
   came i next there held = from (nat_eq e.at.place i) refl there where
     from : (b : Bool) → nat_eq e.at.place i ≡ b → cond b (after (host_at constants lines' i) (answer (constants i) (host_at constants lines' i) (saying e.at))) (host_at constants lines' i) ≡ Some next → Came constants older e i d
     from false f same = (next, same, inl held)
@@ -76,31 +76,31 @@ module _ (constants : ℕ → Tuning) (older : List TimedLine) (e : TimedLine) (
       by (Some host) is same = open_came i host next is (eqb-true e.at.place i f) same held
 
   -- what is held stays
-  pub kept : (i : ℕ) (host : Opened) → StandsAt constants older i host → Contains host.board.drawops d → (next : Opened) × StandsAt constants (e ∷ older) i next × Contains next.board.drawops d
+  pub kept : (i : ℕ) (host : Opened) → StandsAt constants older i host → Contains host.is.held d → (next : Opened) × StandsAt constants (e ∷ older) i next × Contains next.is.held d
   kept i host there held = from (nat_eq e.at.place i) where
-    at : (o : Option Opened) → host_at constants lines' i ≡ o → o ≡ Some host → (next : Opened) × (after o (answer (constants i) o (saying e.at)) ≡ Some next) × Contains next.board.drawops d
+    at : (o : Option Opened) → host_at constants lines' i ≡ o → o ≡ Some host → (next : Opened) × (after o (answer (constants i) o (saying e.at)) ≡ Some next) × Contains next.is.held d
     at None is same = absurd (none_some same) where
       none_some : ◌≡◌ {A = Option Opened} None (Some host) → ⊥
       none_some same = cc
     at (Some h) is same = by (saying e.at) where
-      here : Contains h.board.drawops d
-      here = subst (λ (x : Opened). Contains x.board.drawops d) (sym (host_is h host same)) held
+      here : Contains h.is.held d
+      here = subst (λ (x : Opened). Contains x.is.held d) (sym (host_is h host same)) held
 
-      by : (said : Result DriverLine Refusal) → (next : Opened) × (after (Some h) (answer (constants i) (Some h) said) ≡ Some next) × Contains next.board.drawops d
+      by : (said : Result DriverLine Refusal) → (next : Opened) × (after (Some h) (answer (constants i) (Some h) said) ≡ Some next) × Contains next.is.held d
       by (Err f) = (h, refl, here)
       by (Ok line) = answered (answer_at line h) (line_moves h line) where
-        answered : (a : Answer) → AnswerMoves line h a → (next : Opened) × (after (Some h) a ≡ Some next) × Contains next.board.drawops d
+        answered : (a : Answer) → AnswerMoves line h a → (next : Opened) × (after (Some h) a ≡ Some next) × Contains next.is.held d
         answered (refuses f) moves = (h, refl, here)
         answered (gives s text) (g, is, moves) = (g, is, moves.kept d here)
 
-    from : (b : Bool) → (next : Opened) × (cond b (after (host_at constants lines' i) (answer (constants i) (host_at constants lines' i) (saying e.at))) (host_at constants lines' i) ≡ Some next) × Contains next.board.drawops d
+    from : (b : Bool) → (next : Opened) × (cond b (after (host_at constants lines' i) (answer (constants i) (host_at constants lines' i) (saying e.at))) (host_at constants lines' i) ≡ Some next) × Contains next.is.held d
     from true = at (host_at constants lines' i) refl there
     from false = (host, there, held)
 
 -- ---- up to a time
 
 -- what is held at a point is held at the end of a longer part
-pub held_up_to : (constants : ℕ → Tuning) (newer older : List TimedLine) (d : DrawopValue) (i : ℕ) (host : Opened) → StandsAt constants older i host → Contains host.board.drawops d → (next : Opened) × StandsAt constants (newer ++ older) i next × Contains next.board.drawops d
+pub held_up_to : (constants : ℕ → Tuning) (newer older : List TimedLine) (d : DrawopValue) (i : ℕ) (host : Opened) → StandsAt constants older i host → Contains host.is.held d → (next : Opened) × StandsAt constants (newer ++ older) i next × Contains next.is.held d
 held_up_to constants [] older d i host there held = (host, there, held)
 held_up_to constants (e ∷ newer) older d i host there held =
     let rest = held_up_to constants newer older d i host there held in
@@ -147,7 +147,7 @@ module _ (constants : ℕ → Tuning) (terms : Terms) (trace : List TimedLine) (
     live : Contains terms.live p.e.at.place
     live = timely.alone (newer ++ e ∷ p.newer) p.before p.e at_trace after_quiet
 
-    from_held : (host : Opened) → StandsAt constants p.before p.e.at.place host → Contains host.board.drawops d → Goal
+    from_held : (host : Opened) → StandsAt constants p.before p.e.at.place host → Contains host.is.held d → Goal
     from_held host there held =
         up (p.newer ++ p.e ∷ []) p.before ((newer ++ e ∷ p.newer) ++ p.e ∷ [])
         (p.split ∙ sym (append_assoc p.newer (p.e ∷ []) p.before))
@@ -158,16 +158,16 @@ module _ (constants : ℕ → Tuning) (terms : Terms) (trace : List TimedLine) (
     sender None is said says c = absurd (Contains-none (Draw d) (subst (λ (x : Option Opened). Contains (sends_by x (saying p.e.at)) (Draw d)) is c))
     sender (Some host) is (Err f) says c = absurd (Contains-none (Draw d) (subst (λ (r : Result DriverLine Refusal). Contains (sends_by (Some host) r) (Draw d)) says (subst (λ (x : Option Opened). Contains (sends_by x (saying p.e.at)) (Draw d)) is c)))
     sender (Some host) is (Ok line) says c = ⊎_elim
-        (λ (h : Contains host.board.drawops d). from_held host is h)
+        (λ (h : Contains host.is.held d). from_held host is h)
         (λ (s : line ≡ Say (Draw d)). from_held host is ((timely.drawn (newer ++ e ∷ p.newer) p.before p.e at_trace after_quiet).said d host (says ∙ ap (λ (l : DriverLine). Ok l) s) is))
         (line_tells host line d (subst (λ (r : Result DriverLine Refusal). Contains (sends_by (Some host) r) (Draw d)) says (subst (λ (x : Option Opened). Contains (sends_by x (saying p.e.at)) (Draw d)) is c)))
 
-  late_line : (newer older : List TimedLine) (e : TimedLine) → trace ≡ newer ++ e ∷ older → terms.quiet + terms.delivery < e.time → Up older → (i : ℕ) (host : Opened) → Contains terms.live i → StandsAt constants (e ∷ older) i host → Contains host.board.drawops d → Goal
+  late_line : (newer older : List TimedLine) (e : TimedLine) → trace ≡ newer ++ e ∷ older → terms.quiet + terms.delivery < e.time → Up older → (i : ℕ) (host : Opened) → Contains terms.live i → StandsAt constants (e ∷ older) i host → Contains host.is.held d → Goal
   late_line newer older e split late up i host live there held = by (came constants older e d i host there held) where
     step_split : trace ≡ (newer ++ e ∷ []) ++ older
     step_split = split ∙ sym (append_assoc newer (e ∷ []) older)
 
-    before : (h : Opened) → StandsAt constants older i h → Contains h.board.drawops d → Goal
+    before : (h : Opened) → StandsAt constants older i h → Contains h.is.held d → Goal
     before h at_place has = up [] older (newer ++ e ∷ []) refl step_split (i, h, live, at_place, has)
 
     quiet_before : (q w t : ℕ) → q + w < t → q < t
@@ -186,7 +186,7 @@ module _ (constants : ℕ → Tuning) (terms : Terms) (trace : List TimedLine) (
 
     by : Came constants older e i d → Goal
     by c = ⊎_elim
-        (λ (has : Contains c.0.board.drawops d). before c.0 c.1 has)
+        (λ (has : Contains c.0.is.held d). before c.0 c.1 has)
         (λ (b : (e.at.place ≡ i) × (line : DriverLine) × (saying e.at ≡ Ok line) × IsBringing line d). brought c.0 c.1 b.0 b.1 b.2 b.3)
         c.2
 

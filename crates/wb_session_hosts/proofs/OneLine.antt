@@ -15,16 +15,17 @@ use Rattle.wb_recovery.specs.declared.timers.AnswerTimer.{AnswerTimer}
 use Rattle.wb_recovery.specs.declared.timers.Timers.{Timers}
 use Rattle.wb_host.specs.GivingUp.{is_timed}
 use Rattle.wb_host.specs.Hearing.{answers_to}
-use Rattle.wb_host.specs.Keeper.{Hear, Miss, GoOn, events_of, holds}
+use Rattle.wb_host.specs.Keeper.{Miss, events_of, holds}
 use Rattle.wb_host.specs.Ticks.{sent_by_tick}
 use Rattle.wb_progress.specs.Repairs.{timers_at}
 use Rattle.wb_progress.proofs.OneCall.{misses_stand}
-use Rattle.wb_script.specs.Driving.{accepted, may_ask, with_asked}
-use Rattle.wb_script.specs.Hosts.{Opened, Act, does, fails, calling, due_count, present, sent_by, stopped}
-use Rattle.wb_script.specs.declared.fault.LineFault.TheVariants as faults
-use Rattle.wb_script.specs.Random.{word_of, words_of}
-use Rattle.wb_script.specs.SentLines.{send_line, sends_text}
-use Rattle.wb_script.specs.declared.command.Command.TheVariants as lines
+use Rattle.wb_member.specs.Opened.{accepted, may_ask, with_asked, Opened, present, sent_by, board_of, ticked, heard}
+use Rattle.wb_member.specs.Random.{word_of}
+use Rattle.wb_session_hosts.proofs.Calling.{calling}
+use Rattle.wb_commands.specs.Acts.{Act, does, fails}
+use Rattle.wb_commands.specs.declared.fault.LineFault.TheVariants as faults
+use Rattle.wb_commands.specs.SentLines.{send_line, sends_text}
+use Rattle.wb_commands.specs.declared.command.Command.TheVariants as lines
 use Rattle.wb_dialog.specs.Dialog.{answer, answer_at, answered, after}
 use Rattle.wb_dialog.specs.declared.fault.Refusal.{Refusal}
 use Rattle.wb_dialog.specs.declared.line.DriverLine.{DriverLine}
@@ -77,9 +78,6 @@ came constants older v c = Contains-map send_line (sent constants older) (send_l
 
 -- ---- what a host becomes
 
-abbrev pub ticked : ℕ → Opened → Opened
-ticked now host = calling (GoOn now (words_of host.random (due_count now host)) (stopped host)) (due_count now host) host
-
 not_less : (a b : ℕ) → b ≤ a → nat_lt a b ≡ false
 not_less a b le = grind (arith, nat_tests)
 
@@ -90,22 +88,22 @@ module _ (host : Opened) (now : ℕ) (le : present host ≤ now) where
   pub tick_after : after (Some host) (answer_at (Script (lines.Tick now)) host) ≡ Some (ticked now host)
   tick_after = ap (λ (b : Bool). after (Some host) (answered (act_if b))) (not_less now (present host) le)
 
-  pub tick_sends : (v : Datagram) → Contains (sent_by_tick host.me host.constants host.calls host.board.drawops now) v → Contains (sends_at (Script (lines.Tick now)) host) v
+  pub tick_sends : (v : Datagram) → Contains (sent_by_tick host.is.number host.is.constants host.is.calls host.is.held now) v → Contains (sends_at (Script (lines.Tick now)) host) v
   tick_sends v c = subst (λ (b : Bool). Contains (sends_by_act (lines.Tick now) host (act_if b)) v) (sym (not_less now (present host) le)) c
 
 -- a host that asked for a name
 pub record Asked (name : NameValue) (before after : Opened) : Type 0 where
-  pub me : after.me ≡ before.me
-  pub board : after.board ≡ before.board
-  pub constants : after.constants ≡ before.constants
+  pub me : after.is.number ≡ before.is.number
+  pub board : board_of after ≡ board_of before
+  pub constants : after.is.constants ≡ before.is.constants
   pub moment : present after ≡ present before
-  pub stands : is_some (timers_at after.me after.constants after.calls name).ask ≡ true
+  pub stands : is_some (timers_at after.is.number after.is.constants after.is.calls name).ask ≡ true
 
-module _ (name : NameValue) (host : Opened) (lost : holds host.board.drawops name ≡ false) (none : (timers_at host.me host.constants host.calls name).answer ≡ None) where
+module _ (name : NameValue) (host : Opened) (lost : holds host.is.held name ≡ false) (none : (timers_at host.is.number host.is.constants host.is.calls name).answer ≡ None) where
   abbrev s : Timers
-  s = timers_at host.me host.constants host.calls name
+  s = timers_at host.is.number host.is.constants host.is.calls name
 
-  standing : not (holds host.board.drawops name || is_timed (timers_of host.constants (events_of host.me host.calls)) name) ≡ false → is_some s.ask ≡ true
+  standing : not (holds host.is.held name || is_timed (timers_of host.is.constants (events_of host.is.number host.is.calls)) name) ≡ false → is_some s.ask ≡ true
   standing e = from (is_some s.ask) (sym (ap (λ (b : Bool). not (b || is_standing s)) lost ∙ ap (λ (o : Option AnswerTimer). not (is_some s.ask || is_some o)) none) ∙ e) where
     from : (b : Bool) → not (b || false) ≡ false → b ≡ true
     from true h = refl
@@ -114,19 +112,16 @@ module _ (name : NameValue) (host : Opened) (lost : holds host.board.drawops nam
   pub asked : Asked name host (with_asked name host)
   asked = from (may_ask name host) refl where
     from : (b : Bool) → may_ask name host ≡ b → Asked name host (if b then calling (Miss (present host) (name ∷ []) (word_of host.random ∷ [])) 1 host else host)
-    from true e = record { me = refl; board = refl; constants = refl; moment = refl; stands = misses_stand host.me host.constants host.calls (present host) (word_of host.random) name }
+    from true e = record { me = refl; board = refl; constants = refl; moment = refl; stands = misses_stand host.is.number host.is.constants host.is.calls (present host) (word_of host.random) name }
     from false e = record { me = refl; board = refl; constants = refl; moment = refl; stands = standing e }
 
-pub taken : (host : Opened) (d : DrawopValue) → holds host.board.drawops d.name ≡ false → length host.board.drawops < host.board.cells → Contains (accepted d host).board.drawops d
+pub taken : (host : Opened) (d : DrawopValue) → holds host.is.held d.name ≡ false → length host.is.held < host.is.cells → Contains (accepted d host).is.held d
 taken host d lost room =
-    let t = takes host.board.cells 0 host.board.drawops d lost (omega (arith, room)) in
-    subst (λ (o : Outcome). Contains (history_with host.board.drawops d o) d) (sym t.1) (Contains-append_right host.board.drawops (d ∷ []) d (Contains-here d []))
+    let t = takes host.is.cells 0 host.is.held d lost (omega (arith, room)) in
+    subst (λ (o : Outcome). Contains (history_with host.is.held d o) d) (sym t.1) (Contains-append_right host.is.held (d ∷ []) d (Contains-here d []))
 
-abbrev pub heard : ℕ → NameValue → Opened → Opened
-heard asker name host = calling (Hear (present host) (Request asker name) (word_of host.random) (holds host.board.drawops name)) 1 host
-
-pub hear_after : (host : Opened) (asker : ℕ) (name : NameValue) → after (Some host) (answer_at (Script (lines.Hear (Request asker name))) host) ≡ Some (heard asker name host)
-hear_after host asker name = from (nat_eq asker host.me) where
-  from : (b : Bool) → after (Some host) (answered (if b || true then does (heard asker name host) (sends_text (answers_to host.me host.board.drawops (Request asker name))) else fails faults.TooMany)) ≡ Some (heard asker name host)
+pub hear_after : (host : Opened) (asker : ℕ) (name : NameValue) → after (Some host) (answer_at (Script (lines.Hear (Request asker name))) host) ≡ Some (heard (Request asker name) host)
+hear_after host asker name = from (nat_eq asker host.is.number) where
+  from : (b : Bool) → after (Some host) (answered (if b || true then does (heard (Request asker name) host) (sends_text (answers_to host.is.number host.is.held (Request asker name))) else fails faults.TooMany)) ≡ Some (heard (Request asker name) host)
   from true = refl
   from false = refl

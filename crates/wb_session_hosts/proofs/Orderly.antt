@@ -9,18 +9,19 @@ use Rattle.wb_recovery.specs.declared.tuning.Tuning.{Tuning}
 use Rattle.wb_host.specs.Hearing.{asks_for_held, has_room, marks_heard}
 use Rattle.wb_host.specs.Keeper.{KeeperCall, SetDelay, Hear, Miss, GoOn, Report, GiveUp, moment_at, is_own}
 use Rattle.wb_progress.specs.Keepers.{IsInRange, AreOrderly}
-use Rattle.wb_script.specs.Driving.{accepted, asks_for, may_ask, next_number, with_asked}
-use Rattle.wb_script.specs.Hosts.{Opened, Act, does, fails, calling, due_count, present, sent_by, stopped, wanted_of, word_at, words_for}
-use Rattle.wb_script.specs.SentLines.{sends_text}
-use Rattle.wb_script.specs.declared.fault.LineFault.TheVariants as faults
-use Rattle.wb_script.specs.Random.{word_of, words_of}
-use Rattle.wb_script.specs.declared.command.Command.{Command}
-use Rattle.wb_script.specs.declared.command.Command.TheVariants as lines
+use Rattle.wb_member.specs.Opened.{accepted, asks_for, may_ask, next_number, with_asked, Opened, due_count, present, sent_by, wanted_of, word_at, words_for, ticked}
+use Rattle.wb_member.specs.Random.{word_of, words_of}
+use Rattle.wb_session_hosts.proofs.Calling.{calling, stopped}
+use Rattle.wb_commands.specs.Acts.{Act, does, fails}
+use Rattle.wb_commands.specs.SentLines.{sends_text}
+use Rattle.wb_commands.specs.declared.fault.LineFault.TheVariants as faults
+use Rattle.wb_commands.specs.declared.command.Command.{Command}
+use Rattle.wb_commands.specs.declared.command.Command.TheVariants as lines
 use Rattle.wb_dialog.specs.Dialog.{Answer, gives, refuses, after, answer, answer_at, answer_first, answered, goes_out, numbered, says, speaker}
 use Rattle.wb_dialog.specs.declared.fault.Refusal.{Refusal}
 use Rattle.wb_dialog.specs.declared.fault.Refusal.TheVariants as refusals
 use Rattle.wb_dialog.specs.declared.line.DriverLine.{DriverLine}
-use Rattle.wb_dialog.specs.declared.line.DriverLine.TheVariants.{Script, Say, Next, View, Known, Ask, Stop}
+use Rattle.wb_dialog.specs.declared.line.DriverLine.TheVariants.{Script, Say, Next, View, Known, Ask, Stop, Keep, Came, Add}
 use Rattle.wb_lines.specs.Taking.{met}
 use Rattle.wb_session_hosts.specs.Hosts.{LineAt, saying, host_at}
 use Rattle.wb_session_hosts.proofs.DriverLines as drivers
@@ -30,7 +31,7 @@ use Rattle.wb_session_hosts.specs.Repairs.{HostsAreOrderly}
 
 -- a host with these constants, at which time went on
 abbrev pub IsSteady : Tuning → Opened → Type 0
-IsSteady t host = AreOrderly host.calls × (host.constants ≡ t)
+IsSteady t host = AreOrderly host.is.calls × (host.is.constants ≡ t)
 
 abbrev AnswerIsSteady : Tuning → Answer → Type 0
 AnswerIsSteady t (gives next text) = (host : Opened) × (next ≡ Some host) × IsSteady t host
@@ -47,7 +48,7 @@ module _ (t : Tuning) where
   given next f = (next, refl, f)
 
   module _ (host : Opened) (f : IsSteady t host) where
-    called : (call : KeeperCall) (words : ℕ) → moment_at host.calls ≤ moment_at (call ∷ host.calls) → IsInRange call → IsSteady t (calling call words host)
+    called : (call : KeeperCall) (words : ℕ) → moment_at host.is.calls ≤ moment_at (call ∷ host.is.calls) → IsInRange call → IsSteady t (calling call words host)
     called call words le range = ((le, range, f.0), f.1)
 
     accepts : (d : DrawopValue) → IsSteady t (accepted d host)
@@ -58,7 +59,7 @@ module _ (t : Tuning) where
     either false x y p q = q
 
     abbrev tick_if : ℕ → Bool → Act
-    tick_if now b = if b then fails faults.BackInTime else does (calling (GoOn now (words_of host.random (due_count now host)) (stopped host)) (due_count now host) host) (sends_text (sent_by now host))
+    tick_if now b = if b then fails faults.BackInTime else does (ticked now host) (sends_text (sent_by now host))
 
     ticks : (now : ℕ) → AnswerIsSteady t (answer_at (Script (lines.Tick now)) host)
     ticks now = from (nat_lt now (present host)) refl where
@@ -69,7 +70,7 @@ module _ (t : Tuning) where
     script_steady : (line : Command) → scripts.Fits line → AnswerIsSteady t (answer_at (Script line) host)
     script_steady (lines.Arrive d) fit = given (accepted d host) (accepts d)
     script_steady (lines.Board member cells workers seed) fit = tt
-    script_steady (lines.Hear v) fit = either (is_own host.me v || has_room (marks_heard host.me host.calls) v) _ _ (given _ (called (Hear (present host) v (word_at v host.random) (asks_for_held host.board.drawops v)) (words_for v) (itself (present host)) tt)) tt
+    script_steady (lines.Hear v) fit = either (is_own host.is.number v || has_room (marks_heard host.is.number host.is.calls) v) _ _ (given _ (called (Hear (present host) v (word_at v host.random) (asks_for_held host.is.held v)) (words_for v) (itself (present host)) tt)) tt
     script_steady (lines.Distance source micros) fit = given _ (called (SetDelay source micros) 0 (itself (present host)) (omega (arith, fit)))
     script_steady (lines.Tick now) fit = ticks now
     script_steady (lines.Look page) fit = given _ (called (Miss (present host) (wanted_of page host) (words_of host.random (length (wanted_of page host)))) (length (wanted_of page host)) (itself (present host)) tt)
@@ -88,7 +89,7 @@ module _ (t : Tuning) where
     out_steady (datagrams.PageState sender page marks) = given host f
 
     says_steady : (v : Datagram) → AnswerIsSteady t (says v host)
-    says_steady v = from (nat_eq (speaker v) host.me) where
+    says_steady v = from (nat_eq (speaker v) host.is.number) where
       from : (mine : Bool) → AnswerIsSteady t (if mine then goes_out v host else refuses refusals.Member)
       from true = out_steady v
       from false = tt
@@ -111,6 +112,9 @@ module _ (t : Tuning) where
     line_steady Known fit = given host f
     line_steady (Ask name) fit = given _ (asked_steady name)
     line_steady (Stop name) fit = given _ (called (GiveUp (present host) name (asks_for name host)) 0 (itself (present host)) tt)
+    line_steady (Keep rate listen) fit = tt
+    line_steady (Came now v) fit = tt
+    line_steady (Add adding) fit = tt
 
   first_steady : (line : DriverLine) → IfSome (after None (answer_first t line)) (IsSteady t)
   first_steady (Script line) = script line where

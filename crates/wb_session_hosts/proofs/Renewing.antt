@@ -18,10 +18,10 @@ use Rattle.wb_progress.specs.Keepers.{AreOrderly}
 use Rattle.wb_progress.specs.Repairs.{timers_at, gave_up, IsIdle, first_wait, answering_wait, quiet_wait}
 use Rattle.wb_progress.proofs.OneCall.{given_up_is_idle}
 use Rattle.wb_progress.proofs.Repairs.{asked_anew_is_soon, holder_answers}
-use Rattle.wb_script.specs.Driving.{may_ask, with_stopped}
-use Rattle.wb_script.specs.Hosts.{Opened, calling, due_count, present}
-use Rattle.wb_script.specs.Random.{word_of, words_of}
-use Rattle.wb_script.specs.declared.command.Command.TheVariants as lines
+use Rattle.wb_member.specs.Opened.{may_ask, with_stopped, Opened, due_count, present, ticked, heard}
+use Rattle.wb_member.specs.Random.{word_of, words_of}
+use Rattle.wb_session_hosts.proofs.Calling.{calling}
+use Rattle.wb_commands.specs.declared.command.Command.TheVariants as lines
 use Rattle.wb_dialog.specs.Dialog.{answer_at, after}
 use Rattle.wb_dialog.specs.declared.line.DriverLine.{DriverLine}
 use Rattle.wb_dialog.specs.declared.line.DriverLine.TheVariants.{Script, Ask, Stop}
@@ -30,7 +30,7 @@ use Rattle.wb_session_hosts.proofs.Coming.{line, request_short}
 use Rattle.wb_session_hosts.proofs.Growing.{Grows, grows_more, grows_less, stays_so, rests, GoesOn, none_yet, go_on, go_as, then_there, one_line}
 use Rattle.wb_session_hosts.proofs.Holding.{hosts_answer_held}
 use Rattle.wb_session_hosts.proofs.HostRanges.{Fits, host_fits}
-use Rattle.wb_session_hosts.proofs.OneLine.{CameBefore, idle, did_send, still_sent, came, ticked, tick_after, tick_sends, heard, hear_after}
+use Rattle.wb_session_hosts.proofs.OneLine.{CameBefore, idle, did_send, still_sent, came, tick_after, tick_sends, hear_after}
 use Rattle.wb_session_hosts.proofs.Orderly.{hosts_are_orderly}
 use Rattle.wb_session_hosts.proofs.Outset.{once, apart, differ}
 use Rattle.wb_session_hosts.proofs.Sayable.{tick_text, ask_text, stop_text, datagram_text, tick_says, ask_says, stop_says, datagram_says}
@@ -74,7 +74,7 @@ request_marks false ms = refl
 
 -- ---- the seven lines
 
-module _ (constants : ℕ → Tuning) (drawops ahead : List DrawopValue) (old : List LineAt) (distinct : HaveDistinctMembers old) (fair : IsHonest constants old) (i j : ℕ) (host other : Opened) (d : DrawopValue) (at_i : host_at constants old i ≡ Some host) (at_j : host_at constants old j ≡ Some other) (lost : holds host.board.drawops d.name ≡ false) (held : Contains other.board.drawops d) (range_i : are_constants (constants i) ≡ true) (range_j : are_constants (constants j) ≡ true) (time_i : present host + serving ≤ 2 ^ 48) (time_j : present other + serving ≤ 2 ^ 48) where
+module _ (constants : ℕ → Tuning) (drawops ahead : List DrawopValue) (old : List LineAt) (distinct : HaveDistinctMembers old) (fair : IsHonest constants old) (i j : ℕ) (host other : Opened) (d : DrawopValue) (at_i : host_at constants old i ≡ Some host) (at_j : host_at constants old j ≡ Some other) (lost : holds host.is.held d.name ≡ false) (held : Contains other.is.held d) (range_i : are_constants (constants i) ≡ true) (range_j : are_constants (constants j) ≡ true) (time_i : present host + serving ≤ 2 ^ 48) (time_j : present other + serving ≤ 2 ^ 48) where
   abbrev n : NameValue
   n = d.name
 
@@ -88,7 +88,7 @@ module _ (constants : ℕ → Tuning) (drawops ahead : List DrawopValue) (old : 
   fits_j = subst (λ (o : Option Opened). IfSome o Fits) at_j (host_fits constants old j)
 
   drawop : IsDrawop d
-  drawop = All-contains IsDrawop other.board.drawops d fits_j.board held
+  drawop = All-contains IsDrawop other.is.held d fits_j.board held
 
   -- what the host that lacks it becomes
 
@@ -104,29 +104,29 @@ module _ (constants : ℕ → Tuning) (drawops ahead : List DrawopValue) (old : 
   abbrev host_3 : Opened
   host_3 = ticked asking host_2
 
-  steady : AreOrderly host.calls × (host.constants ≡ constants i)
+  steady : AreOrderly host.is.calls × (host.is.constants ≡ constants i)
   steady = hosts_are_orderly constants old i host at_i
 
   no_answer : (o : Option AnswerTimer) → (is_some o ≡ true → ⊥) → o ≡ None
   no_answer None f = refl
   no_answer (Some a) f = absurd (f refl)
 
-  none : (timers_at host.me host.constants host.calls n).answer ≡ None
+  none : (timers_at host.is.number host.is.constants host.is.calls n).answer ≡ None
   none = no_answer _ (λ stands. true≢false (sym (hosts_answer_held constants old i host n at_i stands) ∙ lost))
 
-  idle_1 : IsIdle (timers_at host.me host.constants (gave_up host.me host.constants host.calls (present host) n) n)
-  idle_1 = given_up_is_idle host.me host.constants host.calls (present host) n none
+  idle_1 : IsIdle (timers_at host.is.number host.is.constants (gave_up host.is.number host.is.constants host.is.calls (present host) n) n)
+  idle_1 = given_up_is_idle host.is.number host.is.constants host.is.calls (present host) n none
 
   may : may_ask n host_1 ≡ true
-  may = ap (λ (b : Bool). not (b || is_standing (timers_at host.me host.constants (gave_up host.me host.constants host.calls (present host) n) n))) lost
-      ∙ ap (λ (o : Option AskTimer). not (is_some o || is_some (timers_at host.me host.constants (gave_up host.me host.constants host.calls (present host) n) n).answer)) idle_1.ask
+  may = ap (λ (b : Bool). not (b || is_standing (timers_at host.is.number host.is.constants (gave_up host.is.number host.is.constants host.is.calls (present host) n) n))) lost
+      ∙ ap (λ (o : Option AskTimer). not (is_some o || is_some (timers_at host.is.number host.is.constants (gave_up host.is.number host.is.constants host.is.calls (present host) n) n).answer)) idle_1.ask
       ∙ ap (λ (o : Option AnswerTimer). not (is_some o)) idle_1.answer
 
   asked_after : after (Some host_1) (answer_at (Ask n) host_1) ≡ Some host_2
   asked_after = ap (λ (b : Bool). let o : Option Opened = Some (cond b host_2 host_1) in o) may
 
-  requests : Contains (sent_by_tick host_2.me host_2.constants host_2.calls host_2.board.drawops asking) (Request host.me n)
-  requests = asked_anew_is_soon host.me host.constants host.calls host.board.drawops n (word_of host_1.random) (ap are_constants steady.1 ∙ range_i) steady.0 lost none
+  requests : Contains (sent_by_tick host_2.is.number host_2.is.constants host_2.is.calls host_2.is.held asking) (Request host.is.number n)
+  requests = asked_anew_is_soon host.is.number host.is.constants host.is.calls host.is.held n (word_of host_1.random) (ap are_constants steady.1 ∙ range_i) steady.0 lost none
 
   -- what the host that holds it becomes
 
@@ -143,7 +143,7 @@ module _ (constants : ℕ → Tuning) (drawops ahead : List DrawopValue) (old : 
   other_2 = ticked second other_1
 
   abbrev other_3 : Opened
-  other_3 = heard host.me n other_2
+  other_3 = heard (Request host.is.number n) other_2
 
   abbrev third : ℕ
   third = second + answering_wait
@@ -151,12 +151,12 @@ module _ (constants : ℕ → Tuning) (drawops ahead : List DrawopValue) (old : 
   abbrev other_4 : Opened
   other_4 = ticked third other_3
 
-  steady_there : AreOrderly other.calls × (other.constants ≡ constants j)
+  steady_there : AreOrderly other.is.calls × (other.is.constants ≡ constants j)
   steady_there = hosts_are_orderly constants old j other at_j
 
-  answers : Contains (sent_by_tick other_3.me other_3.constants other_3.calls other_3.board.drawops third) (Draw d)
-  answers = subst (λ (b : Bool). Contains (sent_by_tick other.me other.constants (Hear second (Request host.me n) (word_of other_2.random) b ∷ other_2.calls) other.board.drawops third) (Draw d)) (sym (holds_from other.board.drawops n d held refl))
-      (holder_answers other.me other.constants other.calls other.board.drawops d host.me (words_of other.random (due_count first other)) (words_of other_1.random (due_count second other_1)) (word_of other_2.random)
+  answers : Contains (sent_by_tick other_3.is.number other_3.is.constants other_3.is.calls other_3.is.held third) (Draw d)
+  answers = subst (λ (b : Bool). Contains (sent_by_tick other.is.number other.is.constants (Hear second (Request host.is.number n) (word_of other_2.random) b ∷ other_2.is.calls) other.is.held third) (Draw d)) (sym (holds_from other.is.held n d held refl))
+      (holder_answers other.is.number other.is.constants other.is.calls other.is.held d host.is.number (words_of other.random (due_count first other)) (words_of other_1.random (due_count second other_1)) (word_of other_2.random)
       (ap are_constants steady_there.1 ∙ range_j) steady_there.0 (once constants old distinct fair j other at_j) held
       (differ constants old distinct fair i j host other d at_i at_j held lost))
 
@@ -178,7 +178,7 @@ module _ (constants : ℕ → Tuning) (drawops ahead : List DrawopValue) (old : 
   l5 = line j (tick_text second) ∷ l4
 
   abbrev l6 : List LineAt
-  l6 = line j (datagram_text (Request host.me n)) ∷ l5
+  l6 = line j (datagram_text (Request host.is.number n)) ∷ l5
 
   abbrev l7 : List LineAt
   l7 = line j (tick_text third) ∷ l6
@@ -201,8 +201,8 @@ module _ (constants : ℕ → Tuning) (drawops ahead : List DrawopValue) (old : 
         same : (m : ℕ) → m ≤ m
         same m = omega arith
 
-  sent3 : Contains (sent constants l3) (Request host.me n)
-  sent3 = did_send constants l2 (line i (tick_text asking)) i (Script (lines.Tick asking)) host_2 refl (tick_says asking (omega (arith, time_i))) stage2.one (Request host.me n) (tick_sends host_2 asking (up (present host) first_wait) (Request host.me n) requests)
+  sent3 : Contains (sent constants l3) (Request host.is.number n)
+  sent3 = did_send constants l2 (line i (tick_text asking)) i (Script (lines.Tick asking)) host_2 refl (tick_says asking (omega (arith, time_i))) stage2.one (Request host.is.number n) (tick_sends host_2 asking (up (present host) first_wait) (Request host.is.number n) requests)
 
   itself : (m : ℕ) → m ≤ m
   itself m = omega arith
@@ -216,10 +216,10 @@ module _ (constants : ℕ → Tuning) (drawops ahead : List DrawopValue) (old : 
       (rests drawops ahead quiet_wait other_1 other_2 refl refl (λ page. refl) (itself second))
 
   stage6 : Stage (first_wait + answering_wait + quiet_wait) l6 host_3 other_3
-  stage6 = second_line constants drawops ahead old i j different (first_wait + answering_wait + quiet_wait) 0 l5 host_3 other_2 stage5 (line j (datagram_text (Request host.me n))) (Script (lines.Hear (Request host.me n))) (datagram_says (Request host.me n) (fits_i.me, drawop.name) (request_short host.me n)) refl other_3 refl
-      (came constants l5 (Request host.me n) (still_sent constants (line j (tick_text second)) l4 (Request host.me n) (still_sent constants (line j (tick_text first)) l3 (Request host.me n) sent3)))
-      (hear_after other_2 host.me n)
-      (rests drawops ahead 0 other_2 other_3 refl refl (λ page. request_marks (nat_eq host.me other_2.me) (marks_heard other_2.me other_2.calls page)) (up second 0))
+  stage6 = second_line constants drawops ahead old i j different (first_wait + answering_wait + quiet_wait) 0 l5 host_3 other_2 stage5 (line j (datagram_text (Request host.is.number n))) (Script (lines.Hear (Request host.is.number n))) (datagram_says (Request host.is.number n) (fits_i.me, drawop.name) (request_short host.is.number n)) refl other_3 refl
+      (came constants l5 (Request host.is.number n) (still_sent constants (line j (tick_text second)) l4 (Request host.is.number n) (still_sent constants (line j (tick_text first)) l3 (Request host.is.number n) sent3)))
+      (hear_after other_2 host.is.number n)
+      (rests drawops ahead 0 other_2 other_3 refl refl (λ page. request_marks (nat_eq host.is.number other_2.is.number) (marks_heard other_2.is.number other_2.is.calls page)) (up second 0))
 
   stage7 : Stage (first_wait + answering_wait + quiet_wait + answering_wait) l7 host_3 other_4
   stage7 = second_line constants drawops ahead old i j different (first_wait + answering_wait + quiet_wait) answering_wait l6 host_3 other_3 stage6 (line j (tick_text third)) (Script (lines.Tick third)) (tick_says third (omega (arith, time_j))) refl other_4 refl tt (tick_after other_3 third (up second answering_wait))

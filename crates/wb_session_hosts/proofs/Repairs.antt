@@ -12,18 +12,17 @@ use Rattle.wb_host.proofs.KeptCalls.{holds_from}
 use Rattle.wb_progress.specs.Keepers.{AreOrderly}
 use Rattle.wb_progress.specs.Repairs.{timers_at, asking_wait, answering_wait, quiet_wait}
 use Rattle.wb_progress.proofs.Repairs.{asker_asks, holder_answers}
-use Rattle.wb_script.specs.Board.{Held}
-use Rattle.wb_script.specs.Driving.{accepted, with_asked}
-use Rattle.wb_script.specs.Hosts.{Opened, due_count, present}
-use Rattle.wb_script.specs.Random.{word_of, words_of}
-use Rattle.wb_script.specs.declared.command.Command.TheVariants as lines
+use Rattle.wb_member.specs.Board.{Held}
+use Rattle.wb_member.specs.Opened.{accepted, with_asked, Opened, due_count, present, ticked, heard}
+use Rattle.wb_member.specs.Random.{word_of, words_of}
+use Rattle.wb_commands.specs.declared.command.Command.TheVariants as lines
 use Rattle.wb_dialog.specs.Dialog.{answer_at, after}
 use Rattle.wb_dialog.specs.declared.line.DriverLine.{DriverLine}
 use Rattle.wb_dialog.specs.declared.line.DriverLine.TheVariants.{Script, Ask}
 use Rattle.wb_session_hosts.specs.Hosts.{LineAt, saying, host_at, sent, HaveDistinctMembers, CameOut, IsHonest, NothingIsForged}
 use Rattle.wb_session_hosts.specs.Repairs.{Say, repair, IsLost, IsBrought, RepairIsPossible}
 use Rattle.wb_session_hosts.proofs.Holding.{hosts_answer_held}
-use Rattle.wb_session_hosts.proofs.OneLine.{CameBefore, did, idle, did_send, is_fair, is_unforged, still_sent, came, ticked, tick_after, tick_sends, Asked, asked, taken, heard, hear_after}
+use Rattle.wb_session_hosts.proofs.OneLine.{CameBefore, did, idle, did_send, is_fair, is_unforged, still_sent, came, tick_after, tick_sends, Asked, asked, taken, hear_after}
 use Rattle.wb_session_hosts.proofs.Orderly.{hosts_are_orderly}
 use Rattle.wb_session_hosts.proofs.Outset.{once, apart, differ}
 
@@ -86,7 +85,7 @@ module _ (constants : ℕ → Tuning) (older : List LineAt) (i j : ℕ) (host ot
   other_2 = ticked second other_1
 
   abbrev other_3 : Opened
-  other_3 = heard host.me n other_2
+  other_3 = heard (Request host.is.number n) other_2
 
   abbrev third : ℕ
   third = second + answering_wait
@@ -99,7 +98,7 @@ module _ (constants : ℕ → Tuning) (older : List LineAt) (i j : ℕ) (host ot
 
   -- what the host that lacks it becomes
 
-  steady : AreOrderly host.calls × (host.constants ≡ constants i)
+  steady : AreOrderly host.is.calls × (host.is.constants ≡ constants i)
   steady = hosts_are_orderly constants older i host lost.lacking
 
   -- an answer timer stands only for what is held
@@ -107,37 +106,37 @@ module _ (constants : ℕ → Tuning) (older : List LineAt) (i j : ℕ) (host ot
   no_answer None f = refl
   no_answer (Some a) f = absurd (f refl)
 
-  none : (timers_at host.me host.constants host.calls n).answer ≡ None
+  none : (timers_at host.is.number host.is.constants host.is.calls n).answer ≡ None
   none = no_answer _ (λ stands. true≢false (sym (hosts_answer_held constants older i host n lost.lacking stands) ∙ lost.lost))
 
   asks : Asked n host host_1
   asks = asked n host lost.lost none
 
-  constants_1 : are_constants host_1.constants ≡ true
+  constants_1 : are_constants host_1.is.constants ≡ true
   constants_1 = ap are_constants (asks.constants ∙ steady.1) ∙ lost.constants_i
 
-  lost_1 : holds host_1.board.drawops n ≡ false
+  lost_1 : holds host_1.is.held n ≡ false
   lost_1 = ap (λ (b : Held). holds b.drawops n) asks.board ∙ lost.lost
 
   moment_1 : present host_1 + asking_wait ≡ asking
   moment_1 = ap (λ (m : ℕ). m + asking_wait) asks.moment
 
-  requests : AreOrderly host_1.calls → Contains (sent_by_tick host_1.me host_1.constants host_1.calls host_1.board.drawops asking) (Request host.me n)
-  requests orderly = subst (λ (m : ℕ). Contains (sent_by_tick host_1.me host_1.constants host_1.calls host_1.board.drawops m) (Request host.me n)) moment_1
-      (subst (λ (m : ℕ). Contains (sent_by_tick host_1.me host_1.constants host_1.calls host_1.board.drawops (present host_1 + asking_wait)) (Request m n)) asks.me
-      (asker_asks host_1.me host_1.constants host_1.calls host_1.board.drawops n constants_1 orderly lost_1 asks.stands))
+  requests : AreOrderly host_1.is.calls → Contains (sent_by_tick host_1.is.number host_1.is.constants host_1.is.calls host_1.is.held asking) (Request host.is.number n)
+  requests orderly = subst (λ (m : ℕ). Contains (sent_by_tick host_1.is.number host_1.is.constants host_1.is.calls host_1.is.held m) (Request host.is.number n)) moment_1
+      (subst (λ (m : ℕ). Contains (sent_by_tick host_1.is.number host_1.is.constants host_1.is.calls host_1.is.held (present host_1 + asking_wait)) (Request m n)) asks.me
+      (asker_asks host_1.is.number host_1.is.constants host_1.is.calls host_1.is.held n constants_1 orderly lost_1 asks.stands))
 
   later : present host_1 ≤ asking
   later = let m = moment_1 in omega (arith, m)
 
   -- what the host that holds it becomes
 
-  steady_there : AreOrderly other.calls × (other.constants ≡ constants j)
+  steady_there : AreOrderly other.is.calls × (other.is.constants ≡ constants j)
   steady_there = hosts_are_orderly constants older j other lost.holding
 
-  answers : Contains (sent_by_tick other_3.me other_3.constants other_3.calls other_3.board.drawops third) (Draw d)
-  answers = subst (λ (b : Bool). Contains (sent_by_tick other.me other.constants (Hear second (Request host.me n) (word_of other_2.random) b ∷ other_2.calls) other.board.drawops third) (Draw d)) (sym (holds_from other.board.drawops n d lost.held refl))
-      (holder_answers other.me other.constants other.calls other.board.drawops d host.me (words_of other.random (due_count first other)) (words_of other_1.random (due_count second other_1)) (word_of other_2.random)
+  answers : Contains (sent_by_tick other_3.is.number other_3.is.constants other_3.is.calls other_3.is.held third) (Draw d)
+  answers = subst (λ (b : Bool). Contains (sent_by_tick other.is.number other.is.constants (Hear second (Request host.is.number n) (word_of other_2.random) b ∷ other_2.is.calls) other.is.held third) (Draw d)) (sym (holds_from other.is.held n d lost.held refl))
+      (holder_answers other.is.number other.is.constants other.is.calls other.is.held d host.is.number (words_of other.random (due_count first other)) (words_of other_1.random (due_count second other_1)) (word_of other_2.random)
       (ap are_constants steady_there.1 ∙ lost.constants_j) steady_there.0 (once constants older distinct fair j other lost.holding) lost.held
       (differ constants older distinct fair i j host other d lost.lacking lost.holding lost.held lost.lost))
 
@@ -169,7 +168,7 @@ module _ (constants : ℕ → Tuning) (older : List LineAt) (i j : ℕ) (host ot
     says6 : (e6.place ≡ j) × (saying e6 ≡ Ok (Script (lines.Tick third)))
     says6 = (said.2.0, said.2.1)
 
-    says5 : (e5.place ≡ j) × (saying e5 ≡ Ok (Script (lines.Hear (Request host.me n))))
+    says5 : (e5.place ≡ j) × (saying e5 ≡ Ok (Script (lines.Hear (Request host.is.number n))))
     says5 = (said.2.2.0, said.2.2.1)
 
     says4 : (e4.place ≡ j) × (saying e4 ≡ Ok (Script (lines.Tick second)))
@@ -190,9 +189,9 @@ module _ (constants : ℕ → Tuning) (older : List LineAt) (i j : ℕ) (host ot
     stage2 : Stage constants older l2 i j host_2 other
     stage2 = first_next constants older i j different l1 host_1 other stage1 e2 (Script (lines.Tick asking)) says2.1 says2.0 tt host_2 (tick_after host_1 asking later)
 
-    sent2 : Contains (sent constants l2) (Request host.me n)
-    sent2 = did_send constants l1 e2 i (Script (lines.Tick asking)) host_1 says2.0 says2.1 stage1.one (Request host.me n)
-        (tick_sends host_1 asking later (Request host.me n) (requests (hosts_are_orderly constants l1 i host_1 stage1.one).0))
+    sent2 : Contains (sent constants l2) (Request host.is.number n)
+    sent2 = did_send constants l1 e2 i (Script (lines.Tick asking)) host_1 says2.0 says2.1 stage1.one (Request host.is.number n)
+        (tick_sends host_1 asking later (Request host.is.number n) (requests (hosts_are_orderly constants l1 i host_1 stage1.one).0))
 
     stage3 : Stage constants older l3 i j host_2 other_1
     stage3 = second_next constants older i j different l2 host_2 other stage2 e3 (Script (lines.Tick first)) says3.1 says3.0 tt other_1 (tick_after other first (up (present other) answering_wait))
@@ -201,9 +200,9 @@ module _ (constants : ℕ → Tuning) (older : List LineAt) (i j : ℕ) (host ot
     stage4 = second_next constants older i j different l3 host_2 other_1 stage3 e4 (Script (lines.Tick second)) says4.1 says4.0 tt other_2 (tick_after other_1 second (up first quiet_wait))
 
     stage5 : Stage constants older l5 i j host_2 other_3
-    stage5 = second_next constants older i j different l4 host_2 other_2 stage4 e5 (Script (lines.Hear (Request host.me n))) says5.1 says5.0
-        (came constants l4 (Request host.me n) (still_sent constants e4 l3 (Request host.me n) (still_sent constants e3 l2 (Request host.me n) sent2)))
-        other_3 (hear_after other_2 host.me n)
+    stage5 = second_next constants older i j different l4 host_2 other_2 stage4 e5 (Script (lines.Hear (Request host.is.number n))) says5.1 says5.0
+        (came constants l4 (Request host.is.number n) (still_sent constants e4 l3 (Request host.is.number n) (still_sent constants e3 l2 (Request host.is.number n) sent2)))
+        other_3 (hear_after other_2 host.is.number n)
 
     stage6 : Stage constants older l6 i j host_2 other_4
     stage6 = second_next constants older i j different l5 host_2 other_3 stage5 e6 (Script (lines.Tick third)) says6.1 says6.0 tt other_4 (tick_after other_3 third (up second answering_wait))

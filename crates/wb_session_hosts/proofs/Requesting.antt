@@ -26,13 +26,13 @@ use Rattle.wb_host.specs.Ticks.{drawop_of, sent_for, sent_by_tick, stopped_after
 use Rattle.wb_host.proofs.TickSends.{sent_from}
 use Rattle.wb_progress.specs.Repairs.{timers_at}
 use Rattle.wb_progress.proofs.OneCall.{not_standing}
-use Rattle.wb_script.specs.Driving.{acceptance}
-use Rattle.wb_script.specs.Hosts.{Opened, Act, does, fails, act}
-use Rattle.wb_script.specs.declared.acceptance.Acceptance.{Acceptance}
-use Rattle.wb_script.specs.declared.acceptance.Acceptance.TheVariants as became
-use Rattle.wb_script.specs.declared.command.Command.{Command}
-use Rattle.wb_script.specs.declared.command.Command.TheVariants as lines
-use Rattle.wb_session_scripts.specs.Hosts.{act_of, member_of, sends_any}
+use Rattle.wb_member.specs.Opened.{becomes, Opened}
+use Rattle.wb_commands.specs.Acts.{Act, does, fails, act}
+use Rattle.wb_names.specs.Arrivals.{Outcome}
+use Rattle.wb_names.specs.Arrivals as became
+use Rattle.wb_commands.specs.declared.command.Command.{Command}
+use Rattle.wb_commands.specs.declared.command.Command.TheVariants as lines
+use Rattle.wb_session_hosts.specs.Scripts.{act_of, member_of, sends_any}
 use Rattle.wb_dialog.specs.Dialog.{speaker}
 use Rattle.wb_dialog.specs.declared.line.DriverLine.{DriverLine}
 use Rattle.wb_dialog.specs.declared.line.DriverLine.TheVariants.{Script, Say}
@@ -41,9 +41,9 @@ use Rattle.wb_session_hosts.specs.Hosts.{sends_at, sends_by_act, sends_drawing, 
 one_of : (a b : Datagram) → Contains (a ∷ []) b → a ≡ b
 one_of a b c = ⊎_elim (λ (e : a ≡ b). e) (λ (d : Contains [] b). absurd (Contains-none b d)) (Contains-cases a b [] c)
 
-module _ (Before : Datagram → Type 0) (host : Opened) (lacking : (n : NameValue) → holds host.board.drawops n ≡ true → (timers_at host.me host.constants host.calls n).ask ≡ None) (asker : ℕ) (n : NameValue) where
+module _ (Before : Datagram → Type 0) (host : Opened) (lacking : (n : NameValue) → holds host.is.held n ≡ true → (timers_at host.is.number host.is.constants host.is.calls n).ask ≡ None) (asker : ℕ) (n : NameValue) where
   abbrev Goal : Type 0
-  Goal = (asker ≡ host.me) × (holds host.board.drawops n ≡ false)
+  Goal = (asker ≡ host.is.number) × (holds host.is.held n ≡ false)
 
   same_name : (m : NameValue) → Ask m ≡ Ask n → m ≡ n
   same_name m e = cc
@@ -60,52 +60,52 @@ module _ (Before : Datagram → Type 0) (host : Opened) (lacking : (n : NameValu
   not_due : (now : ℕ) (o : Option AskTimer) → o ≡ None → is_ask_due now o ≡ true → ⊥
   not_due now o e f = true≢false (sym f ∙ ap (is_ask_due now) e)
 
-  tick_asks : (now : ℕ) → Contains (sent_by_tick host.me host.constants host.calls host.board.drawops now) (Request asker n) → Goal
+  tick_asks : (now : ℕ) → Contains (sent_by_tick host.is.number host.is.constants host.is.calls host.is.held now) (Request asker n) → Goal
   tick_asks now c =
-      let r = sent_from (sent_for host.me host.board.drawops) _ (Request asker n) c in from r.0 r.1 r.2 where
+      let r = sent_from (sent_for host.is.number host.is.held) _ (Request asker n) c in from r.0 r.1 r.2 where
         received : List Received
-        received = received_of (delay_to host.me host.calls) (stopped_after host.me host.constants host.calls host.board.drawops)
+        received = received_of (delay_to host.is.number host.is.calls) (stopped_after host.is.number host.is.constants host.is.calls host.is.held)
 
         then_events : List Event
-        then_events = receipts now (events_of host.me host.calls) received
+        then_events = receipts now (events_of host.is.number host.is.calls) received
 
         s : Timers
-        s = timers_at host.me host.constants host.calls n
+        s = timers_at host.is.number host.is.constants host.is.calls n
 
-        still_none : s.ask ≡ None → (timers_of host.constants then_events n).ask ≡ None
-        still_none e = ap (λ (k : Timers). k.ask) (timers_receipts host.constants now (events_of host.me host.calls) received n) ∙ by (is_received received n) refl where
+        still_none : s.ask ≡ None → (timers_of host.is.constants then_events n).ask ≡ None
+        still_none e = ap (λ (k : Timers). k.ask) (timers_receipts host.is.constants now (events_of host.is.number host.is.calls) received n) ∙ by (is_received received n) refl where
           by : (b : Bool) → is_received received n ≡ b → (got_each now n s received).ask ≡ None
           by true h = (not_standing (got_each now n s received) (received_stops now n s received h)).ask
           by false h = ap (λ (k : Timers). k.ask) (not_received now n s received h) ∙ e
 
-        asked : (m : NameValue) → Request host.me m ≡ Request asker n → (host.me ≡ asker) × (m ≡ n)
+        asked : (m : NameValue) → Request host.is.number m ≡ Request asker n → (host.is.number ≡ asker) × (m ≡ n)
         asked m e = (cc, cc)
 
-        lost : Contains (map Ask (due_asks (names_of then_events) (timers_of host.constants then_events) now) ++ map Answer (due_answers (names_of then_events) (timers_of host.constants then_events) now)) (Ask n) → (b : Bool) → holds host.board.drawops n ≡ b → b ≡ false
+        lost : Contains (map Ask (due_asks (names_of then_events) (timers_of host.is.constants then_events) now) ++ map Answer (due_answers (names_of then_events) (timers_of host.is.constants then_events) now)) (Ask n) → (b : Bool) → holds host.is.held n ≡ b → b ≡ false
         lost d false h = refl
         lost d true h =
-            let due = Contains-from_filter (λ m. is_ask_due now (timers_of host.constants then_events m).ask) (names_of then_events) n (asks_in _ _ d) in
-            absurd (not_due now (timers_of host.constants then_events n).ask (still_none (lacking n h)) due.1)
+            let due = Contains-from_filter (λ m. is_ask_due now (timers_of host.is.constants then_events m).ask) (names_of then_events) n (asks_in _ _ d) in
+            absurd (not_due now (timers_of host.is.constants then_events n).ask (still_none (lacking n h)) due.1)
 
         some_is : (a b : Datagram) → Some a ≡ Some b → a ≡ b
         some_is a b e = cc
 
-        from : (action : Action) → Contains (map Ask (due_asks (names_of then_events) (timers_of host.constants then_events) now) ++ map Answer (due_answers (names_of then_events) (timers_of host.constants then_events) now)) action → sent_for host.me host.board.drawops action ≡ Some (Request asker n) → Goal
+        from : (action : Action) → Contains (map Ask (due_asks (names_of then_events) (timers_of host.is.constants then_events) now) ++ map Answer (due_answers (names_of then_events) (timers_of host.is.constants then_events) now)) action → sent_for host.is.number host.is.held action ≡ Some (Request asker n) → Goal
         from (Ask m) d e =
             let is = asked m (some_is _ _ e) in
-            (sym is.0, lost (subst (λ (k : NameValue). Contains (map Ask (due_asks (names_of then_events) (timers_of host.constants then_events) now) ++ map Answer (due_answers (names_of then_events) (timers_of host.constants then_events) now)) (Ask k)) is.1 d) (holds host.board.drawops n) refl)
-        from (Answer m) d e = absurd (none (drawop_of host.board.drawops m) e) where
+            (sym is.0, lost (subst (λ (k : NameValue). Contains (map Ask (due_asks (names_of then_events) (timers_of host.is.constants then_events) now) ++ map Answer (due_answers (names_of then_events) (timers_of host.is.constants then_events) now)) (Ask k)) is.1 d) (holds host.is.held n) refl)
+        from (Answer m) d e = absurd (none (drawop_of host.is.held m) e) where
           none : (o : Option DrawopValue) → option_map {T = DrawopValue} {U = Datagram} Draw o ≡ Some (Request asker n) → ⊥
           none None e = cc
           none (Some x) e = cc
 
-  no_answer : (v : Datagram) → Contains (answers_to host.me host.board.drawops v) (Request asker n) → ⊥
-  no_answer v c = from (asks_for_pages host.me v) c where
-    other : (r : PageReport) → PageState host.me r.page r.marks ≡ Request asker n → ⊥
+  no_answer : (v : Datagram) → Contains (answers_to host.is.number host.is.held v) (Request asker n) → ⊥
+  no_answer v c = from (asks_for_pages host.is.number v) c where
+    other : (r : PageReport) → PageState host.is.number r.page r.marks ≡ Request asker n → ⊥
     other r e = cc
 
-    from : (b : Bool) → Contains (if b then page_states host.me host.board.drawops else []) (Request asker n) → ⊥
-    from true c = let r = Any-from_map (λ (r : PageReport). PageState host.me r.page r.marks) (reports_of host.board.drawops) (Request asker n) c in other r.1 r.4
+    from : (b : Bool) → Contains (if b then page_states host.is.number host.is.held else []) (Request asker n) → ⊥
+    from true c = let r = Any-from_map (λ (r : PageReport). PageState host.is.number r.page r.marks) (reports_of host.is.held) (Request asker n) c in other r.1 r.4
     from false c = Contains-none (Request asker n) c
 
   act_asks : (line : Command) → Contains (sends_any (act_of line host) (member_of [] host)) (Request asker n) → Goal
@@ -120,18 +120,18 @@ module _ (Before : Datagram → Type 0) (host : Opened) (lacking : (n : NameValu
   script_asks line (does next text) c = act_asks line c
   script_asks line (fails e) c = absurd (Contains-none (Request asker n) c)
 
-  drawing_none : (d : DrawopValue) (a : Acceptance) → Contains (sends_drawing d a) (Request asker n) → ⊥
-  drawing_none d became.New c = other (one_of _ _ c) where
+  drawing_none : (d : DrawopValue) (a : Outcome) → Contains (sends_drawing d a) (Request asker n) → ⊥
+  drawing_none d (became.Fresh place) c = other (one_of _ _ c) where
     other : Draw d ≡ Request asker n → ⊥
     other e = cc
-  drawing_none d became.Again c = other (one_of _ _ c) where
+  drawing_none d (became.Known place) c = other (one_of _ _ c) where
     other : Draw d ≡ Request asker n → ⊥
     other e = cc
-  drawing_none d became.Clash c = Contains-none (Request asker n) c
+  drawing_none d (became.Clashed place) c = Contains-none (Request asker n) c
   drawing_none d became.Left c = Contains-none (Request asker n) c
 
   said_none : (v : Datagram) → MaySay v host → Contains (sends_said v host) (Request asker n) → ⊥
-  said_none (Draw d) may c = drawing_none d (acceptance d host) c
+  said_none (Draw d) may c = drawing_none d (becomes d host) c
   said_none (AskPages k) may c = other (one_of _ _ c) where
     other : AskPages k ≡ Request asker n → ⊥
     other e = cc
@@ -141,8 +141,8 @@ module _ (Before : Datagram → Type 0) (host : Opened) (lacking : (n : NameValu
 
   pub line_asks : (line : DriverLine) → IsHonestAt Before host line → Contains (sends_at line host) (Request asker n) → Goal
   line_asks (Script line) fair c = script_asks line (act line host) c
-  line_asks (Say v) fair c = from (nat_eq (speaker v) host.me) refl c where
-    from : (mine : Bool) → nat_eq (speaker v) host.me ≡ mine → Contains (if mine then sends_said v host else []) (Request asker n) → Goal
-    from true e c = absurd (said_none v (fair (eqb-true (speaker v) host.me e)) c)
+  line_asks (Say v) fair c = from (nat_eq (speaker v) host.is.number) refl c where
+    from : (mine : Bool) → nat_eq (speaker v) host.is.number ≡ mine → Contains (if mine then sends_said v host else []) (Request asker n) → Goal
+    from true e c = absurd (said_none v (fair (eqb-true (speaker v) host.is.number e)) c)
     from false e c = absurd (Contains-none (Request asker n) c)
   line_asks line fair c = absurd (Contains-none (Request asker n) c)

@@ -16,9 +16,9 @@ use Rattle.wb_codec.specs.declared.datagram.Datagram.{Datagram}
 use Rattle.wb_lines.specs.Handling.{whole, too_long}
 use Rattle.wb_lines.specs.Taking.{met}
 use Rattle.wb_lines.specs.Words.{words, words_after, is_digit, number_after}
-use Rattle.wb_script.specs.Parsing.{number, tick, command, line_of_words, line_of as script_line_of}
-use Rattle.wb_script.specs.SentLines.{digits_of}
-use Rattle.wb_script.specs.declared.command.Command.TheVariants as lines
+use Rattle.wb_commands.specs.Parsing.{number, tick, command, line_of_words, line_of as script_line_of}
+use Rattle.wb_commands.specs.SentLines.{digits_of}
+use Rattle.wb_commands.specs.declared.command.Command.TheVariants as lines
 use Rattle.wb_words.specs.declared.fault.WordFault.TheVariants as word_faults
 use Rattle.wb_words.specs.Reading.{reading, reading_of, datagram_at, wrong}
 use Rattle.wb_dialog.specs.Dialog.{says_line}

@@ -15,11 +15,11 @@ use Rattle.wb_codec.specs.declared.datagram.Datagram.TheVariants as datagrams
 use Rattle.wb_codec.specs.declared.fault.ReadFault.{ReadFault}
 use Rattle.wb_codec.proofs.GrammarLaws.{reading_takes}
 use Rattle.wb_lines.specs.Words.{is_digit, number_after, number_of, unhex}
-use Rattle.wb_script.specs.Parsing.{◌>>=◌, or_fault, number, one_of, two_of, four_of, none_of, board, show, distance, tick, page, pages, spelled, datagram, arrived, heard, arrive, hear, page_line, command, begins_comment, line_of_words}
-use Rattle.wb_script.specs.declared.fault.LineFault.{LineFault}
-use Rattle.wb_script.specs.declared.fault.LineFault.TheVariants as faults
-use Rattle.wb_script.specs.declared.command.Command.{Command}
-use Rattle.wb_script.specs.declared.command.Command.TheVariants as lines
+use Rattle.wb_commands.specs.Parsing.{◌>>=◌, or_fault, number, one_of, two_of, four_of, none_of, board, show, distance, tick, page, pages, spelled, datagram, arrived, heard, arrive, hear, page_line, command, begins_comment, line_of_words}
+use Rattle.wb_commands.specs.declared.fault.LineFault.{LineFault}
+use Rattle.wb_commands.specs.declared.fault.LineFault.TheVariants as faults
+use Rattle.wb_commands.specs.declared.command.Command.{Command}
+use Rattle.wb_commands.specs.declared.command.Command.TheVariants as lines
 
 -- ---- steps
 

@@ -6,11 +6,11 @@ use Rattle.wb_codec.specs.Ranges.{IsDatagram}
 use Rattle.wb_codec.specs.declared.datagram.Datagram.TheVariants as datagrams
 use Rattle.wb_recovery.specs.declared.tuning.Tuning.{Tuning}
 use Rattle.wb_lines.specs.Taking.{met}
-use Rattle.wb_script.specs.Hosts.{Opened}
+use Rattle.wb_member.specs.Opened.{Opened}
 use Rattle.wb_member.specs.Members.{Member}
 use Rattle.wb_session.specs.Session.{Group, IsDrawn}
 use Rattle.wb_session.proofs.Drawn.{drawn_is_once, held_is_drawn, sent_is_drawn}
-use Rattle.wb_session_scripts.specs.Hosts.{IsMember}
+use Rattle.wb_session_hosts.specs.Scripts.{IsMember}
 use Rattle.wb_dialog.specs.declared.line.DriverLine.TheVariants.{Say}
 use Rattle.wb_session_hosts.specs.Acts.{events_of}
 use Rattle.wb_session_hosts.specs.Hosts.{LineAt, host_at, sent, Board, board_at, HaveDistinctMembers, number_by, group_of, IsHonest}
@@ -42,13 +42,13 @@ module _ (constants : ℕ → Tuning) (lines : List LineAt) (distinct : HaveDist
   sent_drawn : (d : DrawopValue) → Contains (sent constants lines) (datagrams.Draw d) → IsDrawn group (events_of group lines) d
   sent_drawn d c = sent_is_drawn group (events_of group lines) f.session d (f.sent (datagrams.Draw d) c)
 
-  held_drawn : (i : ℕ) (host : Opened) → host_at constants lines i ≡ Some host → (d : DrawopValue) → Contains host.board.drawops d → IsDrawn group (events_of group lines) d
+  held_drawn : (i : ℕ) (host : Opened) → host_at constants lines i ≡ Some host → (d : DrawopValue) → Contains host.is.held d → IsDrawn group (events_of group lines) d
   held_drawn i host there d c =
       let at : IsMember group (events_of group lines) i host = subst (λ (o : Option Opened). IsMemberAt group (events_of group lines) i o) there (member_at group (events_of group lines) i (host_at constants lines i) (f.at i)) in
       held_is_drawn group (events_of group lines) f.session i d (subst (λ (m : Member). Contains m.held d) at c)
 
   -- and it was sent
-  pub held_was_sent : (i : ℕ) (host : Opened) → host_at constants lines i ≡ Some host → (d : DrawopValue) → Contains host.board.drawops d → Contains (sent constants lines) (datagrams.Draw d)
+  pub held_was_sent : (i : ℕ) (host : Opened) → host_at constants lines i ≡ Some host → (d : DrawopValue) → Contains host.is.held d → Contains (sent constants lines) (datagrams.Draw d)
   held_was_sent i host there d c = (f.said d (held_drawn i host there d c)).was_sent
 
 pub sent_was_said : SentWasSaid

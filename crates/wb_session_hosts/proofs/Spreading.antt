@@ -11,9 +11,8 @@ use Rattle.wb_recovery.specs.Timing.{are_constants}
 use Rattle.wb_recovery.specs.declared.tuning.Tuning.{Tuning}
 use Rattle.wb_host.specs.Keeper.{holds}
 use Rattle.wb_host.proofs.KeptCalls.{holds_from}
-use Rattle.wb_script.specs.Driving.{accepted}
-use Rattle.wb_script.specs.Hosts.{Opened, present}
-use Rattle.wb_script.specs.declared.command.Command.TheVariants as lines
+use Rattle.wb_member.specs.Opened.{accepted, Opened, present}
+use Rattle.wb_commands.specs.declared.command.Command.TheVariants as lines
 use Rattle.wb_dialog.specs.declared.line.DriverLine.TheVariants.{Script}
 use Rattle.wb_session.proofs.Holding.{member_of}
 use Rattle.wb_session.proofs.Repairs.{takes}
@@ -45,33 +44,33 @@ not_true false c f e = refl
 
 -- ---- a host takes a drawop that it lacks
 
-module _ (host : Opened) (d : DrawopValue) (rest : List DrawopValue) (lost : holds host.board.drawops d.name ≡ false) (room : HasRoom (d ∷ rest) host) where
+module _ (host : Opened) (d : DrawopValue) (rest : List DrawopValue) (lost : holds host.is.held d.name ≡ false) (room : HasRoom (d ∷ rest) host) where
   abbrev held : List DrawopValue
-  held = host.board.drawops
+  held = host.is.held
 
   lacks : length (filter (λ (x : DrawopValue). not (holds held x.name)) (d ∷ rest)) ≡ length (filter (λ (x : DrawopValue). not (holds held x.name)) rest) + 1
   lacks = ap (λ (b : Bool). length (cond (not b) (d ∷ filter (λ (x : DrawopValue). not (holds held x.name)) rest) (filter (λ (x : DrawopValue). not (holds held x.name)) rest))) lost ∙ suc_is _ where
     suc_is : (xs : List DrawopValue) → length (d ∷ xs) ≡ length xs + 1
     suc_is xs = omega arith
 
-  free : length held < host.board.cells
+  free : length held < host.is.cells
   free = let l = lacks in omega (arith, room)
 
-  held_then : (accepted d host).board.drawops ≡ held ++ d ∷ []
-  held_then = let t = takes host.board.cells 0 held d lost (let f = free in omega arith) in ap (history_with held d) t.1
+  held_then : (accepted d host).is.held ≡ held ++ d ∷ []
+  held_then = let t = takes host.is.cells 0 held d lost (let f = free in omega arith) in ap (history_with held d) t.1
 
-  has : Contains (accepted d host).board.drawops d
+  has : Contains (accepted d host).is.held d
   has = subst (λ (h : List DrawopValue). Contains h d) (sym held_then) (Contains-append_right held (d ∷ []) d (Contains-here d []))
 
-  keeps : (x : DrawopValue) → Contains held x → Contains (accepted d host).board.drawops x
+  keeps : (x : DrawopValue) → Contains held x → Contains (accepted d host).is.held x
   keeps x c = subst (λ (h : List DrawopValue). Contains h x) (sym held_then) (Contains-append_left held (d ∷ []) x c)
 
-  pub holds_then : holds (accepted d host).board.drawops d.name ≡ true
-  holds_then = holds_from (accepted d host).board.drawops d.name d has refl
+  pub holds_then : holds (accepted d host).is.held d.name ≡ true
+  holds_then = holds_from (accepted d host).is.held d.name d has refl
 
-  fewer_then : length (filter (λ (x : DrawopValue). not (holds (accepted d host).board.drawops x.name)) (d ∷ rest)) ≤ length (filter (λ (x : DrawopValue). not (holds held x.name)) rest)
+  fewer_then : length (filter (λ (x : DrawopValue). not (holds (accepted d host).is.held x.name)) (d ∷ rest)) ≤ length (filter (λ (x : DrawopValue). not (holds held x.name)) rest)
   fewer_then =
-      let after = (accepted d host).board.drawops in
+      let after = (accepted d host).is.held in
       let le = fewer (λ (x : DrawopValue). not (holds held x.name)) (λ (x : DrawopValue). not (holds after x.name)) rest (λ x. not_true (holds held x.name) (holds after x.name) (holds_still held after keeps x.name)) in
       subst (λ (b : Bool). length (cond (not b) (d ∷ filter (λ (x : DrawopValue). not (holds after x.name)) rest) (filter (λ (x : DrawopValue). not (holds after x.name)) rest)) ≤ length (filter (λ (x : DrawopValue). not (holds held x.name)) rest)) (sym holds_then) le
 
@@ -79,7 +78,7 @@ module _ (host : Opened) (d : DrawopValue) (rest : List DrawopValue) (lost : hol
   room_then =
       let l = lacks in
       let f = fewer_then in
-      let e : length (accepted d host).board.drawops ≡ length held + 1 = ap length held_then ∙ length-append held (d ∷ []) in
+      let e : length (accepted d host).is.held ≡ length held + 1 = ap length held_then ∙ length-append held (d ∷ []) in
       omega (arith, room)
 
   pub takes_one : (drawops : List DrawopValue) → Contains drawops d → Grows 0 drawops (d ∷ rest) host (accepted d host)
@@ -104,31 +103,31 @@ module _ (constants : ℕ → Tuning) (drawops rest : List DrawopValue) (d : Dra
   then a b c one two = go_on constants R R R a b c (λ x y z. grows_more drawops (d ∷ rest) 0 0 x y z) one two
 
   abbrev AllHave : List ℕ → List LineAt → Type 0
-  AllHave places new = (k : ℕ) (g : Opened) → Contains places k → host_at constants new k ≡ Some g → holds g.board.drawops d.name ≡ true
+  AllHave places new = (k : ℕ) (g : Opened) → Contains places k → host_at constants new k ≡ Some g → holds g.is.held d.name ≡ true
 
   abbrev IsGiven : List ℕ → List LineAt → Type 0
   IsGiven places old = (new : List LineAt) × GoesOn constants R old new × Contains (sent constants new) (Draw d) × AllHave places new
 
   -- what one has it keeps
-  still : (old new : List LineAt) → GoesOn constants R old new → (k : ℕ) (h g : Opened) → host_at constants old k ≡ Some h → host_at constants new k ≡ Some g → holds h.board.drawops d.name ≡ true → holds g.board.drawops d.name ≡ true
+  still : (old new : List LineAt) → GoesOn constants R old new → (k : ℕ) (h g : Opened) → host_at constants old k ≡ Some h → host_at constants new k ≡ Some g → holds h.is.held d.name ≡ true → holds g.is.held d.name ≡ true
   still old new on k h g at_old at_new has =
       let p = on.hosts k h at_old in
       let same : p.0 ≡ g = host_is p.0 g (sym p.1 ∙ at_new) in
-      subst (λ (o : Opened). holds o.board.drawops d.name ≡ true) same (holds_still h.board.drawops p.0.board.drawops p.2.became.kept d.name has)
+      subst (λ (o : Opened). holds o.is.held d.name ≡ true) same (holds_still h.is.held p.0.is.held p.2.became.kept d.name has)
     where
       host_is : (a b : Opened) → ◌≡◌ {A = Option Opened} (Some a) (Some b) → a ≡ b
       host_is a b same = cc
 
   abbrev Has : List LineAt → ℕ → Type 0
-  Has new k = (g : Opened) → host_at constants new k ≡ Some g → holds g.board.drawops d.name ≡ true
+  Has new k = (g : Opened) → host_at constants new k ≡ Some g → holds g.is.held d.name ≡ true
 
   give_one : (old : List LineAt) → HaveDistinctMembers old → IsHonest constants old → Contains (sent constants old) (Draw d) → (k : ℕ) (host : Opened) → host_at constants old k ≡ Some host → HasRoom (d ∷ rest) host → (new : List LineAt) × GoesOn constants R old new × Contains (sent constants new) (Draw d) × Has new k
-  give_one old distinct fair came_before k host there room = from (holds host.board.drawops d.name) refl where
+  give_one old distinct fair came_before k host there room = from (holds host.is.held d.name) refl where
     host_is : (a b : Opened) → ◌≡◌ {A = Option Opened} (Some a) (Some b) → a ≡ b
     host_is a b same = cc
 
-    from : (b : Bool) → holds host.board.drawops d.name ≡ b → (new : List LineAt) × GoesOn constants R old new × Contains (sent constants new) (Draw d) × Has new k
-    from true e = (old, none_yet constants R old distinct fair (stays_so drawops (d ∷ rest) 0), came_before, λ g at. subst (λ (o : Opened). holds o.board.drawops d.name ≡ true) (host_is host g (sym there ∙ at)) e)
+    from : (b : Bool) → holds host.is.held d.name ≡ b → (new : List LineAt) × GoesOn constants R old new × Contains (sent constants new) (Draw d) × Has new k
+    from true e = (old, none_yet constants R old distinct fair (stays_so drawops (d ∷ rest) 0), came_before, λ g at. subst (λ (o : Opened). holds o.is.held d.name ≡ true) (host_is host g (sym there ∙ at)) e)
     from false e =
         let l = line k (datagram_text (Draw d)) in
         let says = datagram_says (Draw d) drawop (draw_short d drawop) in
@@ -137,7 +136,7 @@ module _ (constants : ℕ → Tuning) (drawops rest : List DrawopValue) (d : Dra
           l ∷ old,
           one_line constants old distinct fair l k (Script (lines.Arrive d)) host next refl says there comes refl refl R (stays_so drawops (d ∷ rest) 0) (takes_one host d rest e room drawops among),
           still_sent constants l old (Draw d) came_before,
-          λ g at. subst (λ (o : Opened). holds o.board.drawops d.name ≡ true)
+          λ g at. subst (λ (o : Opened). holds o.is.held d.name ≡ true)
               (host_is next g (sym (then_there constants old distinct fair l k (Script (lines.Arrive d)) host next refl says there comes refl refl) ∙ at))
               (holds_then host d rest e room),
         )
@@ -171,23 +170,23 @@ module _ (constants : ℕ → Tuning) (old : List LineAt) (d : DrawopValue) wher
   host_is a b same = cc
 
   abbrev Lacker : List ℕ → Type 0
-  Lacker places = (i : ℕ) × (host : Opened) × Contains places i × (host_at constants old i ≡ Some host) × (holds host.board.drawops d.name ≡ false)
+  Lacker places = (i : ℕ) × (host : Opened) × Contains places i × (host_at constants old i ≡ Some host) × (holds host.is.held d.name ≡ false)
 
   abbrev NoneLacks : List ℕ → Type 0
-  NoneLacks places = (k : ℕ) (h : Opened) → Contains places k → host_at constants old k ≡ Some h → holds h.board.drawops d.name ≡ true
+  NoneLacks places = (k : ℕ) (h : Opened) → Contains places k → host_at constants old k ≡ Some h → holds h.is.held d.name ≡ true
 
   pub who_lacks : (places : List ℕ) → ((k : ℕ) → Contains places k → (h : Opened) × (host_at constants old k ≡ Some h)) → NoneLacks places ⊎ Lacker places
   who_lacks [] opened = inl (λ k h c at. absurd (Contains-none k c))
   who_lacks (k ∷ places) opened = from (opened k (Contains-here k places)) (who_lacks places (λ m c. opened m (Contains-there k m places c))) where
     from : (h : Opened) × (host_at constants old k ≡ Some h) → NoneLacks places ⊎ Lacker places → NoneLacks (k ∷ places) ⊎ Lacker (k ∷ places)
     from here rest = ⊎_elim
-        (λ (all : NoneLacks places). by (holds here.0.board.drawops d.name) refl all)
+        (λ (all : NoneLacks places). by (holds here.0.is.held d.name) refl all)
         (λ (one : Lacker places). inr (one.0, one.1, Contains-there k one.0 places one.2, one.3, one.4))
         rest where
-          by : (b : Bool) → holds here.0.board.drawops d.name ≡ b → NoneLacks places → NoneLacks (k ∷ places) ⊎ Lacker (k ∷ places)
+          by : (b : Bool) → holds here.0.is.held d.name ≡ b → NoneLacks places → NoneLacks (k ∷ places) ⊎ Lacker (k ∷ places)
           by false e all = inr (k, here.0, Contains-here k places, here.1, e)
           by true e all = inl (λ m h c at. ⊎_elim
-              (λ (same : k ≡ m). subst (λ (o : Opened). holds o.board.drawops d.name ≡ true) (host_is here.0 h (sym here.1 ∙ ap (host_at constants old) same ∙ at)) e)
+              (λ (same : k ≡ m). subst (λ (o : Opened). holds o.is.held d.name ≡ true) (host_is here.0 h (sym here.1 ∙ ap (host_at constants old) same ∙ at)) e)
               (λ (later : Contains places m). all m h later at)
               (Contains-cases k m places c))
 
@@ -199,11 +198,11 @@ module _ (constants : ℕ → Tuning) (places : List ℕ) (drawops : List Drawop
     pub honest : IsHonest constants old
     pub distinct : HaveDistinctMembers old
     pub opened : (k : ℕ) → Contains places k → (h : Opened) × (host_at constants old k ≡ Some h) × HasRoom rest h × (present h + length rest * serving ≤ 2 ^ 48)
-    pub held : (d : DrawopValue) → Contains rest d → (j : ℕ) × (h : Opened) × Contains places j × (host_at constants old j ≡ Some h) × Contains h.board.drawops d
+    pub held : (d : DrawopValue) → Contains rest d → (j : ℕ) × (h : Opened) × Contains places j × (host_at constants old j ≡ Some h) × Contains h.is.held d
     pub among : (d : DrawopValue) → Contains rest d → Contains drawops d
 
   abbrev Have : List DrawopValue → List LineAt → Type 0
-  Have rest new = (d : DrawopValue) (k : ℕ) (g : Opened) → Contains rest d → Contains places k → host_at constants new k ≡ Some g → holds g.board.drawops d.name ≡ true
+  Have rest new = (d : DrawopValue) (k : ℕ) (g : Opened) → Contains rest d → Contains places k → host_at constants new k ≡ Some g → holds g.is.held d.name ≡ true
 
   host_as : (a b : Opened) → ◌≡◌ {A = Option Opened} (Some a) (Some b) → a ≡ b
   host_as a b same = cc
@@ -213,7 +212,7 @@ module _ (constants : ℕ → Tuning) (places : List ℕ) (drawops : List Drawop
     S = Grows serving drawops (d ∷ rest)
 
     abbrev IsBrought : Type 0
-    IsBrought = (new : List LineAt) × GoesOn constants S old new × ((k : ℕ) (g : Opened) → Contains places k → host_at constants new k ≡ Some g → holds g.board.drawops d.name ≡ true)
+    IsBrought = (new : List LineAt) × GoesOn constants S old new × ((k : ℕ) (g : Opened) → Contains places k → host_at constants new k ≡ Some g → holds g.is.held d.name ≡ true)
 
     -- one serving is left
     time : (m l : ℕ) → m + suc l * serving ≤ 2 ^ 48 → m + serving ≤ 2 ^ 48
@@ -228,16 +227,16 @@ module _ (constants : ℕ → Tuning) (places : List ℕ) (drawops : List Drawop
 
     bring_one : IsBrought
     bring_one = ⊎_elim
-        (λ (all : (k : ℕ) (h : Opened) → Contains places k → host_at constants old k ≡ Some h → holds h.board.drawops d.name ≡ true).
+        (λ (all : (k : ℕ) (h : Opened) → Contains places k → host_at constants old k ≡ Some h → holds h.is.held d.name ≡ true).
         let same : IsBrought = (old, none_yet constants S old r.distinct r.honest (stays_so drawops (d ∷ rest) serving), all) in same)
-        (λ (one : (i : ℕ) × (host : Opened) × Contains places i × (host_at constants old i ≡ Some host) × (holds host.board.drawops d.name ≡ false)). served one.0 one.1 one.2 one.3 one.4)
+        (λ (one : (i : ℕ) × (host : Opened) × Contains places i × (host_at constants old i ≡ Some host) × (holds host.is.held d.name ≡ false)). served one.0 one.1 one.2 one.3 one.4)
         (who_lacks constants old d places (λ k c. let o = r.opened k c in (o.0, o.1)))
       where
-        served : (i : ℕ) (host : Opened) → Contains places i → host_at constants old i ≡ Some host → holds host.board.drawops d.name ≡ false → IsBrought
+        served : (i : ℕ) (host : Opened) → Contains places i → host_at constants old i ≡ Some host → holds host.is.held d.name ≡ false → IsBrought
         served i host in_places there lost =
             let h = r.held d (Contains-here d rest) in
             let fits : Fits h.1 = subst (λ (o : Option Opened). IfSome o Fits) h.3 (host_fits constants old h.0) in
-            let drawop : IsDrawop d = All-contains IsDrawop h.1.board.drawops d fits.board h.4 in
+            let drawop : IsDrawop d = All-contains IsDrawop h.1.is.held d fits.board h.4 in
             let out = asked_anew constants drawops (d ∷ rest) old r.distinct r.honest i h.0 host h.1 d there h.3 lost h.4 (in_range i in_places) (in_range h.0 h.2) (time_at i host in_places there) (time_at h.0 h.1 h.2 h.3) in
             let opened : (k : ℕ) → Contains places k → (g : Opened) × (host_at constants out.0 k ≡ Some g) × HasRoom (d ∷ rest) g = λ k c. (
             let o = r.opened k c in
@@ -250,8 +249,8 @@ module _ (constants : ℕ → Tuning) (places : List ℕ) (drawops : List Drawop
             )
 
     -- who holds it has room for the rest
-    room_less : (h : Opened) → holds h.board.drawops d.name ≡ true → HasRoom (d ∷ rest) h → HasRoom rest h
-    room_less h e room = subst (λ (b : Bool). length h.board.drawops + length (cond (not b) (d ∷ filter (λ (x : DrawopValue). not (holds h.board.drawops x.name)) rest) (filter (λ (x : DrawopValue). not (holds h.board.drawops x.name)) rest)) ≤ h.board.cells) e room
+    room_less : (h : Opened) → holds h.is.held d.name ≡ true → HasRoom (d ∷ rest) h → HasRoom rest h
+    room_less h e room = subst (λ (b : Bool). length h.is.held + length (cond (not b) (d ∷ filter (λ (x : DrawopValue). not (holds h.is.held x.name)) rest) (filter (λ (x : DrawopValue). not (holds h.is.held x.name)) rest)) ≤ h.is.cells) e room
 
     pub ready_next : (b : IsBrought) → Ready rest b.0
     ready_next b = record {
@@ -285,7 +284,7 @@ module _ (constants : ℕ → Tuning) (places : List ℕ) (drawops : List Drawop
             let p = b.1.hosts k o.0 o.1 in
             let q = more.1.hosts k p.0 p.1 in
             let is = host_as q.0 g (sym q.1 ∙ at) in
-            subst (λ (y : DrawopValue). holds g.board.drawops y.name ≡ true) same (subst (λ (y : Opened). holds y.board.drawops d.name ≡ true) is (holds_still p.0.board.drawops q.0.board.drawops q.2.kept d.name (b.2 k p.0 in_places p.1))))
+            subst (λ (y : DrawopValue). holds g.is.held y.name ≡ true) same (subst (λ (y : Opened). holds y.is.held d.name ≡ true) is (holds_still p.0.is.held q.0.is.held q.2.kept d.name (b.2 k p.0 in_places p.1))))
             (λ (later : Contains rest x). more.2 x k g later in_places at)
             (Contains-cases d x rest c),
       )

@@ -5,19 +5,19 @@ use Rattle.std.proofs.lemmas.List.{append-nil}
 use Rattle.wb_names.specs.Values.{DrawopValue}
 use Rattle.wb_codec.specs.declared.datagram.Datagram.{Datagram}
 use Rattle.wb_codec.specs.declared.datagram.Datagram.TheVariants as datagrams
-use Rattle.wb_script.specs.Driving.{acceptance, next_number}
-use Rattle.wb_script.specs.Hosts.{Opened, does, fails, act}
-use Rattle.wb_script.specs.Hosts as scripts
-use Rattle.wb_script.specs.SentLines.{send_line, sends_text}
-use Rattle.wb_script.specs.declared.acceptance.Acceptance.{Acceptance}
-use Rattle.wb_script.specs.declared.acceptance.Acceptance.TheVariants as became
-use Rattle.wb_script.specs.declared.command.Command.{Command}
-use Rattle.wb_script.specs.declared.command.Command.TheVariants as lines
-use Rattle.wb_session_scripts.specs.Hosts.{said}
-use Rattle.wb_session_scripts.proofs.Acts.{lines_are_acts}
+use Rattle.wb_member.specs.Opened.{becomes, next_number, Opened}
+use Rattle.wb_commands.specs.Acts.{does, fails, act}
+use Rattle.wb_commands.specs.Acts as scripts
+use Rattle.wb_commands.specs.SentLines.{send_line, sends_text}
+use Rattle.wb_names.specs.Arrivals.{Outcome}
+use Rattle.wb_names.specs.Arrivals as became
+use Rattle.wb_commands.specs.declared.command.Command.{Command}
+use Rattle.wb_commands.specs.declared.command.Command.TheVariants as lines
+use Rattle.wb_session_hosts.specs.Scripts.{said}
+use Rattle.wb_session_hosts.proofs.ScriptActs.{lines_are_acts}
 use Rattle.wb_dialog.specs.declared.fault.Refusal.TheVariants as refusals
 use Rattle.wb_dialog.specs.declared.line.DriverLine.{DriverLine}
-use Rattle.wb_dialog.specs.declared.line.DriverLine.TheVariants.{Script, Say, Next, View, Known, Ask, Stop}
+use Rattle.wb_dialog.specs.declared.line.DriverLine.TheVariants.{Script, Say, Next, View, Known, Ask, Stop, Keep, Came, Add}
 use Rattle.wb_dialog.specs.Dialog.{gives, refuses, answered, answer_at, batch_of, goes_out, numbered, said_text, speaker}
 use Rattle.wb_session_hosts.specs.Hosts.{sends_by_act, sends_drawing, sends_said, sends_at, told_unsent, told_said, told_number, told_at}
 use Rattle.wb_session_hosts.specs.Laws.{TextsTellSends}
@@ -31,7 +31,7 @@ module _ (host : Opened) (next : Option Opened) (text : List ℕ) where
   by_act line (does h printed) f given = sym (same_text (Some h) next printed text given) ∙ (lines_are_acts [] line host h printed f).text
 
   script : (line : Command) → answer_at (Script line) host ≡ gives next text → text ≡ sends_text (sends_at (Script line) host) ++ told_at (Script line) host
-  script (lines.Arrive d) given = sym (same_text _ next (batch_of (acceptance d host)) text given)
+  script (lines.Arrive d) given = sym (same_text _ next (batch_of (becomes d host)) text given)
   script (lines.Board member cells workers seed) given = absurd cc
   script lines.Skip given = by_act lines.Skip (act lines.Skip host) refl given
   script (lines.Hear v) given = by_act (lines.Hear v) (act (lines.Hear v) host) refl given
@@ -48,14 +48,14 @@ module _ (host : Opened) (next : Option Opened) (text : List ℕ) where
   alone : (v : Datagram) → send_line v ≡ sends_text (v ∷ []) ++ []
   alone v = sym (append-nil (send_line v)) ∙ sym (append-nil (send_line v ++ []))
 
-  drawing : (d : DrawopValue) (a : Acceptance) → said_text d a ≡ sends_text (sends_drawing d a) ++ told_unsent a
-  drawing d became.New = alone (datagrams.Draw d)
-  drawing d became.Again = alone (datagrams.Draw d)
-  drawing d became.Clash = refl
+  drawing : (d : DrawopValue) (a : Outcome) → said_text d a ≡ sends_text (sends_drawing d a) ++ told_unsent a
+  drawing d (became.Fresh place) = alone (datagrams.Draw d)
+  drawing d (became.Known place) = alone (datagrams.Draw d)
+  drawing d (became.Clashed place) = refl
   drawing d became.Left = refl
 
   out : (v : Datagram) → goes_out v host ≡ gives next text → text ≡ sends_text (sends_said v host) ++ told_said v host
-  out (datagrams.Draw d) given = sym (same_text _ next (said_text d (acceptance d host)) text given) ∙ drawing d (acceptance d host)
+  out (datagrams.Draw d) given = sym (same_text _ next (said_text d (becomes d host)) text given) ∙ drawing d (becomes d host)
   out (datagrams.Session sender sent page marks echoes) given = let v = datagrams.Session sender sent page marks echoes in sym (same_text _ next (send_line v) text given) ∙ alone v
   out (datagrams.Request asker name) given = let v = datagrams.Request asker name in sym (same_text _ next (send_line v) text given) ∙ alone v
   out (datagrams.AskPages asker) given = let v = datagrams.AskPages asker in sym (same_text _ next (send_line v) text given) ∙ alone v
@@ -71,12 +71,15 @@ module _ (host : Opened) (next : Option Opened) (text : List ℕ) where
 
   tells : (line : DriverLine) → answer_at line host ≡ gives next text → text ≡ sends_text (sends_at line host) ++ told_at line host
   tells (Script line) given = script line given
-  tells (Say v) given = says v (nat_eq (speaker v) host.me) given
+  tells (Say v) given = says v (nat_eq (speaker v) host.is.number) given
   tells (Next page) given = numbers (next_number page host) given
   tells (View page) given = sym (same_text _ next (told_at (View page) host) text given)
   tells Known given = sym (same_text _ next (told_at Known host) text given)
   tells (Ask name) given = sym (same_text _ next (told_at (Ask name) host) text given)
   tells (Stop name) given = sym (same_text _ next (told_at (Stop name) host) text given)
+  tells (Keep rate listen) given = absurd cc
+  tells (Came now v) given = absurd cc
+  tells (Add adding) given = absurd cc
 
 pub texts_tell_sends : TextsTellSends
 texts_tell_sends line host next text given = tells host next text line given

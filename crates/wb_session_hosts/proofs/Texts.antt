@@ -7,7 +7,7 @@ use Rattle.std.proofs.lemmas.Fmt.{decimal_digit, decimal_injective}
 use Rattle.wb_names.specs.Values.{MarkValue}
 use Rattle.wb_names.specs.declared.gap.Gap.{Gap}
 use Rattle.wb_words.proofs.Splitting.{decimal_lacks}
-use Rattle.wb_script.specs.Answers.{gap_line, gaps_text, pair_line, report_text}
+use Rattle.wb_commands.specs.Answers.{gap_line, gaps_text, pair_line, report_text}
 
 -- ---- a text up to a byte
 

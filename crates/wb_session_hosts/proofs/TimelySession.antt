@@ -6,15 +6,15 @@ use Rattle.wb_names.proofs.Listings.{Contains-none}
 use Rattle.wb_codec.specs.declared.datagram.Datagram.{Datagram}
 use Rattle.wb_codec.specs.declared.datagram.Datagram.TheVariants.{Draw, Request}
 use Rattle.wb_recovery.specs.declared.tuning.Tuning.{Tuning}
-use Rattle.wb_host.specs.Keeper.{Hear, GoOn, GiveUp, holds}
+use Rattle.wb_host.specs.Keeper.{Hear, GiveUp, holds}
 use Rattle.wb_host.proofs.KeptCalls.{holds_from}
-use Rattle.wb_progress.specs.Turns.{Terms, Turn, Desk, Accepts, IsTurn, IsQuietTurn}
+use Rattle.wb_progress.specs.Turns.{Terms, Desk, Accepts, IsTurn, IsQuietTurn}
 use Rattle.wb_progress.specs.Turns as turning
-use Rattle.wb_script.specs.Hosts.{Opened, present, calling, stopped, due_count, sent_by, does, fails}
-use Rattle.wb_script.specs.Random.{words_of}
-use Rattle.wb_script.specs.SentLines.{sends_text}
-use Rattle.wb_script.specs.declared.command.Command.TheVariants as lines
-use Rattle.wb_script.specs.declared.fault.LineFault.TheVariants as faults
+use Rattle.wb_commands.specs.Acts.{does, fails}
+use Rattle.wb_member.specs.Opened.{Opened, present, sent_by, ticked}
+use Rattle.wb_commands.specs.SentLines.{sends_text}
+use Rattle.wb_commands.specs.declared.command.Command.TheVariants as lines
+use Rattle.wb_commands.specs.declared.fault.LineFault.TheVariants as faults
 use Rattle.wb_dialog.specs.Dialog.{answer_at, answered, gives}
 use Rattle.wb_dialog.specs.Lines.{handed_in}
 use Rattle.wb_dialog.specs.declared.fault.Refusal.{Refusal}
@@ -33,12 +33,9 @@ use Rattle.wb_session_hosts.proofs.TraceTurns.{turn_of, turns_of}
 
 ticking : (now : ℕ) (host next : Opened) (text : List ℕ) → answer_at (Script (lines.Tick now)) host ≡ gives (Some next) text → present next ≡ now
 ticking now host next text same = from (nat_lt now (present host)) same where
-  after_it : Opened
-  after_it = calling (GoOn now (words_of host.random (due_count now host)) (stopped host)) (due_count now host) host
-
-  from : (b : Bool) → answered (if b then fails faults.BackInTime else does after_it (sends_text (sent_by now host))) ≡ gives (Some next) text → present next ≡ now
+  from : (b : Bool) → answered (if b then fails faults.BackInTime else does (ticked now host) (sends_text (sent_by now host))) ≡ gives (Some next) text → present next ≡ now
   from true is = absurd (refused_not (refusals.Line faults.BackInTime) (Some next) text is)
-  from false is = sym (ap present (host_is after_it next (answer_is (Some after_it) (Some next) (sends_text (sent_by now host)) text is)))
+  from false is = sym (ap present (host_is (ticked now host) next (answer_is (Some (ticked now host)) (Some next) (sends_text (sent_by now host)) text is)))
 
 module _ (constants : ℕ → Tuning) (terms : Terms) (trace : List TimedLine) (timely : IsTimely constants terms trace) (front back : List TimedLine) (e : TimedLine) (split : trace ≡ front ++ e ∷ back) where
   abbrev q : ℕ
@@ -73,8 +70,8 @@ module _ (constants : ℕ → Tuning) (terms : Terms) (trace : List TimedLine) (
 
   -- ---- what it sends
 
-  held_here : (host : Opened) (d : DrawopValue) → StandsAt constants back q host → Contains host.board.drawops d → turning.has (turns_of constants back) q d.name ≡ true
-  held_here host d there c = ap (λ (k : Desk). holds k.held d.name) (desk_at_part constants terms trace timely back q host there) ∙ holds_from host.board.drawops d.name d c refl
+  held_here : (host : Opened) (d : DrawopValue) → StandsAt constants back q host → Contains host.is.held d → turning.has (turns_of constants back) q d.name ≡ true
+  held_here host d there c = ap (λ (k : Desk). holds k.held d.name) (desk_at_part constants terms trace timely back q host there) ∙ holds_from host.is.held d.name d c refl
 
   module _ (after_quiet : terms.quiet < e.time) where
     abbrev before : Option Opened
@@ -89,7 +86,7 @@ module _ (constants : ℕ → Tuning) (terms : Terms) (trace : List TimedLine) (
 
     draws : (d : DrawopValue) → Contains (sends_by before (saying e.at)) (Draw d) → turning.has (turns_of constants back) q d.name ≡ true
     draws d c = by_sender (Draw d) (λ host line there says s. ⊎_elim
-        (λ (h : Contains host.board.drawops d). held_here host d there h)
+        (λ (h : Contains host.is.held d). held_here host d there h)
         (λ (told : line ≡ Say (Draw d)). held_here host d there ((timely.drawn front back e split after_quiet).said d host (says ∙ ap (λ (l : DriverLine). Ok l) told) there))
         (line_tells host line d s)) c
 

@@ -11,12 +11,12 @@ use Rattle.wb_host.specs.Keeper.{KeeperCall, SetDelay, Hear, Arrive, Miss, GoOn,
 use Rattle.wb_host.specs.Ticks.{sent_by_tick, stopped_after}
 use Rattle.wb_host.proofs.KeptCalls.{holds_from}
 use Rattle.wb_progress.specs.Repairs.{timers_at}
-use Rattle.wb_progress.specs.Turns.{Terms, Turn, Desk, Places, Accepts, IsTurn}
+use Rattle.wb_progress.specs.Turns.{Terms, Turn, Desk, Places, Accepts}
 use Rattle.wb_progress.specs.Turns as turning
 use Rattle.wb_progress.proofs.Giving.{held_as}
-use Rattle.wb_script.specs.Hosts.{Opened, present, events}
-use Rattle.wb_script.specs.declared.command.Command.{Command}
-use Rattle.wb_script.specs.declared.command.Command.TheVariants as lines
+use Rattle.wb_member.specs.Opened.{Opened, present, events}
+use Rattle.wb_commands.specs.declared.command.Command.{Command}
+use Rattle.wb_commands.specs.declared.command.Command.TheVariants as lines
 use Rattle.wb_dialog.specs.Dialog.{Answer, gives, refuses, after, answer, answer_at}
 use Rattle.wb_dialog.specs.declared.fault.Refusal.{Refusal}
 use Rattle.wb_dialog.specs.declared.line.DriverLine.{DriverLine}
@@ -119,10 +119,10 @@ module _ (constants : ℕ → Tuning) (older : List TimedLine) (e : TimedLine) w
       ⊎_elim
       (λ (same : desk_of (host_at constants (lines_of (e ∷ older)) p) ≡ desk_of before). absurd (no_loop (desk_of before).calls call (sym (ap (λ (d : Desk). d.calls) same) ∙ at)))
       (λ (w : Went constants older e).
-      let two : w.next.calls ≡ call ∷ w.host.calls = sym (ap (λ (o : Option Opened). (desk_of o).calls) w.now) ∙ at ∙ ap (λ (o : Option Opened). call ∷ (desk_of o).calls) w.there in
+      let two : w.next.is.calls ≡ call ∷ w.host.is.calls = sym (ap (λ (o : Option Opened). (desk_of o).calls) w.now) ∙ at ∙ ap (λ (o : Option Opened). call ∷ (desk_of o).calls) w.there in
       ⊎_elim
-      (λ (same : w.next.calls ≡ w.host.calls). absurd (no_loop w.host.calls call (sym same ∙ two)))
-      (λ (c : (other : KeeperCall) × (w.next.calls ≡ other ∷ w.host.calls) × IsMade w.host w.line other). (w, subst (IsMade w.host w.line) (same_call c.0 call w.host.calls (sym c.1 ∙ two)) c.2))
+      (λ (same : w.next.is.calls ≡ w.host.is.calls). absurd (no_loop w.host.is.calls call (sym same ∙ two)))
+      (λ (c : (other : KeeperCall) × (w.next.is.calls ≡ other ∷ w.host.is.calls) × IsMade w.host w.line other). (w, subst (IsMade w.host w.line) (same_call c.0 call w.host.is.calls (sym c.1 ∙ two)) c.2))
       w.did.calls)
       step
 
@@ -130,28 +130,28 @@ module _ (constants : ℕ → Tuning) (older : List TimedLine) (e : TimedLine) w
 
 abbrev pub me_of : Option Opened → ℕ
 me_of None = 0
-me_of (Some host) = host.me
+me_of (Some host) = host.is.number
 
 module _ (constants : ℕ → Tuning) (terms : Terms) (trace : List TimedLine) (timely : IsTimely constants terms trace) where
   abbrev pub places : Places
   places = record { me = λ i. me_of (host_at constants (lines_of trace) i); constants = constants }
 
-  pub me_at : (front part : List TimedLine) (i : ℕ) (host : Opened) → trace ≡ front ++ part → StandsAt constants part i host → places.me i ≡ host.me
+  pub me_at : (front part : List TimedLine) (i : ℕ) (host : Opened) → trace ≡ front ++ part → StandsAt constants part i host → places.me i ≡ host.is.number
   me_at front part i host split there =
       let k = keeps_up_to constants front part i host there in
       ap me_of (ap (λ (t : List TimedLine). host_at constants (lines_of t) i) split ∙ k.1) ∙ k.2.me
 
-  pub constants_at : (part : List TimedLine) (i : ℕ) (host : Opened) → StandsAt constants part i host → host.constants ≡ constants i
+  pub constants_at : (part : List TimedLine) (i : ℕ) (host : Opened) → StandsAt constants part i host → host.is.constants ≡ constants i
   constants_at part i host there = (hosts_are_orderly constants (lines_of part) i host there).1
 
   pub desk_at_part : (part : List TimedLine) (i : ℕ) (host : Opened) → StandsAt constants part i host → turning.desk_at (turns_of constants part) i ≡ desk_of (Some host)
   desk_at_part part i host there = desk_is constants part i ∙ ap desk_of there
 
-  pub timers_here : (front part : List TimedLine) (i : ℕ) (host : Opened) (n : NameValue) → trace ≡ front ++ part → StandsAt constants part i host → turning.timers_there places (turns_of constants part) i n ≡ timers_of host.constants (events host) n
+  pub timers_here : (front part : List TimedLine) (i : ℕ) (host : Opened) (n : NameValue) → trace ≡ front ++ part → StandsAt constants part i host → turning.timers_there places (turns_of constants part) i n ≡ timers_of host.is.constants (events host) n
   timers_here front part i host n split there =
       ap (λ (d : Desk). timers_at (places.me i) (constants i) d.calls n) (desk_at_part part i host there)
-      ∙ ap (λ (k : ℕ). timers_at k (constants i) host.calls n) (me_at front part i host split there)
-      ∙ ap (λ (c : Tuning). timers_at host.me c host.calls n) (sym (constants_at part i host there))
+      ∙ ap (λ (k : ℕ). timers_at k (constants i) host.is.calls n) (me_at front part i host split there)
+      ∙ ap (λ (c : Tuning). timers_at host.is.number c host.is.calls n) (sym (constants_at part i host there))
 
   -- what holds of an open host, and of an empty desk, holds of the desk
   pub by_host : (P : Desk → Type 0) (part : List TimedLine) (i : ℕ) → P (desk_of None) → ((host : Opened) → StandsAt constants part i host → P (desk_of (Some host))) → P (turning.desk_at (turns_of constants part) i)
@@ -169,7 +169,7 @@ module _ (constants : ℕ → Tuning) (terms : Terms) (trace : List TimedLine) (
   bound a b c x y = omega (arith, x, y)
 
   -- a call is made at the present moment, or a tick makes its own
-  call_moment : (host : Opened) (line : DriverLine) (call : KeeperCall) → IsMade host line call → (moment_at (call ∷ host.calls) ≡ present host) ⊎ ((now : ℕ) × (line ≡ Script (lines.Tick now)) × (moment_at (call ∷ host.calls) ≡ now))
+  call_moment : (host : Opened) (line : DriverLine) (call : KeeperCall) → IsMade host line call → (moment_at (call ∷ host.is.calls) ≡ present host) ⊎ ((now : ℕ) × (line ≡ Script (lines.Tick now)) × (moment_at (call ∷ host.is.calls) ≡ now))
   call_moment host line (SetDelay source micros) m = inl refl
   call_moment host line (Hear now v word held) m = inl m.1
   call_moment host line (Arrive now names) m = inl m.2
@@ -205,10 +205,10 @@ module _ (constants : ℕ → Tuning) (terms : Terms) (trace : List TimedLine) (
         let is : moment_at (desk_of (host_at constants (lines_of (e ∷ older)) e.at.place)).calls ≡ present w.next = ap (λ (o : Option Opened). moment_at (desk_of o).calls) w.now in
         let before = here (present w.host) was rest in
         subst (λ (m : ℕ). m ≤ e.time + terms.offset e.at.place) (sym is) (⊎_elim
-        (λ (same : w.next.calls ≡ w.host.calls). subst (λ (m : ℕ). m ≤ e.time + terms.offset e.at.place) (sym (ap moment_at same)) before)
-        (λ (c : (call : KeeperCall) × (w.next.calls ≡ call ∷ w.host.calls) × IsMade w.host w.line call). subst (λ (m : ℕ). m ≤ e.time + terms.offset e.at.place) (sym (ap moment_at c.1)) (⊎_elim
-        (λ (h : moment_at (c.0 ∷ w.host.calls) ≡ present w.host). subst (λ (m : ℕ). m ≤ e.time + terms.offset e.at.place) (sym h) before)
-        (λ (t : (now : ℕ) × (w.line ≡ Script (lines.Tick now)) × (moment_at (c.0 ∷ w.host.calls) ≡ now)).
+        (λ (same : w.next.is.calls ≡ w.host.is.calls). subst (λ (m : ℕ). m ≤ e.time + terms.offset e.at.place) (sym (ap moment_at same)) before)
+        (λ (c : (call : KeeperCall) × (w.next.is.calls ≡ call ∷ w.host.is.calls) × IsMade w.host w.line call). subst (λ (m : ℕ). m ≤ e.time + terms.offset e.at.place) (sym (ap moment_at c.1)) (⊎_elim
+        (λ (h : moment_at (c.0 ∷ w.host.is.calls) ≡ present w.host). subst (λ (m : ℕ). m ≤ e.time + terms.offset e.at.place) (sym h) before)
+        (λ (t : (now : ℕ) × (w.line ≡ Script (lines.Tick now)) × (moment_at (c.0 ∷ w.host.is.calls) ≡ now)).
         let told = timely.times front older e t.0 split (taken_of older e w (Script (lines.Tick t.0)) t.1) in
         subst (λ (m : ℕ). m ≤ e.time + terms.offset e.at.place) (sym (t.2 ∙ told)) (itself (e.time + terms.offset e.at.place)))
         (call_moment w.host w.line c.0 c.2)))
@@ -272,11 +272,11 @@ module _ (constants : ℕ → Tuning) (terms : Terms) (trace : List TimedLine) (
     called = ⊎_elim
         (λ (same : desk_of (host_at constants (lines_of (e ∷ back)) q) ≡ desk_of (host_at constants (lines_of back) q)). inl (ap (λ (d : Desk). d.calls) (same ∙ sym (desk_is constants back q))))
         (λ (w : Went constants back e).
-        let now : did_turn.desk.calls ≡ w.next.calls = ap (λ (o : Option Opened). (desk_of o).calls) w.now in
-        let earlier : w.host.calls ≡ was.calls = sym (ap (λ (d : Desk). d.calls) (desk_at_part back q w.host w.there)) in
+        let now : did_turn.desk.calls ≡ w.next.is.calls = ap (λ (o : Option Opened). (desk_of o).calls) w.now in
+        let earlier : w.host.is.calls ≡ was.calls = sym (ap (λ (d : Desk). d.calls) (desk_at_part back q w.host w.there)) in
         ⊎_elim
-        (λ (same : w.next.calls ≡ w.host.calls). inl (now ∙ same ∙ earlier))
-        (λ (c : (call : KeeperCall) × (w.next.calls ≡ call ∷ w.host.calls) × IsMade w.host w.line call). inr (c.0, now ∙ c.1 ∙ ap (λ (calls : List KeeperCall). c.0 ∷ calls) earlier))
+        (λ (same : w.next.is.calls ≡ w.host.is.calls). inl (now ∙ same ∙ earlier))
+        (λ (c : (call : KeeperCall) × (w.next.is.calls ≡ call ∷ w.host.is.calls) × IsMade w.host w.line call). inr (c.0, now ∙ c.1 ∙ ap (λ (calls : List KeeperCall). c.0 ∷ calls) earlier))
         w.did.calls)
         (step constants back e)
 
@@ -284,9 +284,9 @@ module _ (constants : ℕ → Tuning) (terms : Terms) (trace : List TimedLine) (
     kept n h = ⊎_elim
         (λ (same : desk_of (host_at constants (lines_of (e ∷ back)) q) ≡ desk_of (host_at constants (lines_of back) q)). ap (λ (d : Desk). holds d.held n) (same ∙ sym (desk_is constants back q)) ∙ h)
         (λ (w : Went constants back e).
-        let held : holds w.host.board.drawops n ≡ true = sym (ap (λ (d : Desk). holds d.held n) (desk_at_part back q w.host w.there)) ∙ h in
-        let d = held_as w.host.board.drawops n held in
-        ap (λ (o : Option Opened). holds (desk_of o).held n) w.now ∙ holds_from w.next.board.drawops n d.0 (w.moves.kept d.0 d.1) d.2)
+        let held : holds w.host.is.held n ≡ true = sym (ap (λ (d : Desk). holds d.held n) (desk_at_part back q w.host w.there)) ∙ h in
+        let d = held_as w.host.is.held n held in
+        ap (λ (o : Option Opened). holds (desk_of o).held n) w.now ∙ holds_from w.next.is.held n d.0 (w.moves.kept d.0 d.1) d.2)
         (step constants back e)
 
     pub stops : (now : ℕ) (words : List ℕ) (names : List NameValue) → Accepts (turns_of constants back) did_turn (GoOn now words names) → names ≡ stopped_after (places.me q) (constants q) was.calls was.held
@@ -294,17 +294,17 @@ module _ (constants : ℕ → Tuning) (terms : Terms) (trace : List TimedLine) (
         let m = made constants back e (GoOn now words names) accepts in
         let w = m.0 in
         m.1.1
-        ∙ ap (λ (k : ℕ). stopped_after k w.host.constants w.host.calls w.host.board.drawops) (sym (me_at (front ++ e ∷ []) back q w.host part w.there))
-        ∙ ap (λ (c : Tuning). stopped_after (places.me q) c w.host.calls w.host.board.drawops) (constants_at back q w.host w.there)
+        ∙ ap (λ (k : ℕ). stopped_after k w.host.is.constants w.host.is.calls w.host.is.held) (sym (me_at (front ++ e ∷ []) back q w.host part w.there))
+        ∙ ap (λ (c : Tuning). stopped_after (places.me q) c w.host.is.calls w.host.is.held) (constants_at back q w.host w.there)
         ∙ ap (λ (d : Desk). stopped_after (places.me q) (constants q) d.calls d.held) (sym (desk_at_part back q w.host w.there))
 
     pub sends : (now : ℕ) (words : List ℕ) (names : List NameValue) → Accepts (turns_of constants back) did_turn (GoOn now words names) → (v : Datagram) → Contains (sent_by_tick (places.me q) (constants q) was.calls was.held now) v → Contains did_turn.sent v
     sends now words names accepts v c =
         let m = made constants back e (GoOn now words names) accepts in
         let w = m.0 in
-        let same : sent_by_tick (places.me q) (constants q) was.calls was.held now ≡ sent_by_tick w.host.me w.host.constants w.host.calls w.host.board.drawops now =
+        let same : sent_by_tick (places.me q) (constants q) was.calls was.held now ≡ sent_by_tick w.host.is.number w.host.is.constants w.host.is.calls w.host.is.held now =
         ap (λ (d : Desk). sent_by_tick (places.me q) (constants q) d.calls d.held now) (desk_at_part back q w.host w.there)
-        ∙ ap (λ (k : ℕ). sent_by_tick k (constants q) w.host.calls w.host.board.drawops now) (me_at (front ++ e ∷ []) back q w.host part w.there)
-        ∙ ap (λ (t : Tuning). sent_by_tick w.host.me t w.host.calls w.host.board.drawops now) (sym (constants_at back q w.host w.there)) in
+        ∙ ap (λ (k : ℕ). sent_by_tick k (constants q) w.host.is.calls w.host.is.held now) (me_at (front ++ e ∷ []) back q w.host part w.there)
+        ∙ ap (λ (t : Tuning). sent_by_tick w.host.is.number t w.host.is.calls w.host.is.held now) (sym (constants_at back q w.host w.there)) in
         let out = tick_sends w.host now m.1.2 v (subst (λ (ds : List Datagram). Contains ds v) same c) in
         subst (λ (ds : List Datagram). Contains ds v) (sym (ap (λ (o : Option Opened). sends_by o (saying e.at)) w.there ∙ ap (sends_by (Some w.host)) (w.says ∙ ap (λ (l : DriverLine). Ok l) m.1.0))) out

@@ -4,14 +4,14 @@ use Rattle.std.specs.Prelude.{nat_eq, nat_le}
 use Rattle.wb_recovery.specs.declared.tuning.Tuning.{Tuning}
 use Rattle.wb_progress.specs.Turns.{Desk, Turn}
 use Rattle.wb_progress.specs.Turns as turning
-use Rattle.wb_script.specs.Hosts.{Opened}
+use Rattle.wb_member.specs.Opened.{Opened}
 use Rattle.wb_dialog.specs.Dialog.{answer, after}
 use Rattle.wb_session_hosts.specs.Hosts.{saying, host_at, sends_by}
 use Rattle.wb_session_hosts.specs.Timed.{TimedLine, lines_of, time_of, AreInOrder, until}
 
 abbrev pub desk_of : Option Opened → Desk
 desk_of None = record { calls = []; held = [] }
-desk_of (Some host) = record { calls = host.calls; held = host.board.drawops }
+desk_of (Some host) = record { calls = host.is.calls; held = host.is.held }
 
 abbrev pub turn_of : (ℕ → Tuning) → List TimedLine → TimedLine → Turn
 turn_of constants older e = record { time = e.time; place = e.at.place; desk = desk_of (host_at constants (lines_of (e ∷ older)) e.at.place); sent = sends_by (host_at constants (lines_of older) e.at.place) (saying e.at) }

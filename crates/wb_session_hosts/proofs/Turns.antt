@@ -12,16 +12,14 @@ use Rattle.wb_names.proofs.Orders.{name_parts}
 use Rattle.wb_codec.specs.declared.datagram.Datagram.{Datagram}
 use Rattle.wb_codec.specs.declared.datagram.Datagram.TheVariants as datagrams
 use Rattle.wb_host.specs.Hearing.{marks_heard}
-use Rattle.wb_host.specs.Keeper.{Miss, high_heard}
-use Rattle.wb_script.specs.Driving.{acceptance, acceptance_of, accepted, last_number, next_number, may_ask, with_asked, with_stopped}
-use Rattle.wb_script.specs.Hosts.{Opened, present, opened_with, does, fails, act}
-use Rattle.wb_script.specs.Hosts as scripts
-use Rattle.wb_script.specs.Random.{word_of}
-use Rattle.wb_script.specs.SentLines.{send_line}
-use Rattle.wb_script.specs.declared.acceptance.Acceptance.{Acceptance}
-use Rattle.wb_script.specs.declared.acceptance.Acceptance.TheVariants as became
-use Rattle.wb_script.specs.declared.command.Command.{Command}
-use Rattle.wb_script.specs.declared.command.Command.TheVariants as lines
+use Rattle.wb_host.specs.Keeper.{high_heard}
+use Rattle.wb_member.specs.Opened.{doing, becomes, accepted, last_number, next_number, may_ask, with_asked, with_stopped, Opened, present, opened_with}
+use Rattle.wb_member.specs.Random.{word_of}
+use Rattle.wb_commands.specs.Acts.{does, fails, act}
+use Rattle.wb_commands.specs.Acts as scripts
+use Rattle.wb_commands.specs.SentLines.{send_line}
+use Rattle.wb_commands.specs.declared.command.Command.{Command}
+use Rattle.wb_commands.specs.declared.command.Command.TheVariants as lines
 use Rattle.wb_member.specs.Members.{Member, Act, Draws, Takes, Misses, GivesUp, AsksForPages, next_drawop, holding, after, sends}
 use Rattle.wb_session.specs.Session.{ComesFrom, Event, Group, IsDistinct, member, newcomer, IsSession}
 use Rattle.wb_session.specs.Session as members
@@ -30,13 +28,13 @@ use Rattle.wb_session.proofs.Drawn.{held_is_drawn}
 use Rattle.wb_session.proofs.Members.{IsDrawing, held_grows}
 use Rattle.wb_session.proofs.Quiet.{next_is_known}
 use Rattle.wb_session.proofs.Truth.{heard_marks}
-use Rattle.wb_session_scripts.specs.Hosts.{act_of, asks_any, after_any, member_of, sends_any}
-use Rattle.wb_session_scripts.proofs.Acts.{lines_are_acts}
+use Rattle.wb_session_hosts.specs.Scripts.{act_of, asks_any, after_any, member_of, sends_any}
+use Rattle.wb_session_hosts.proofs.ScriptActs.{lines_are_acts}
 use Rattle.wb_dialog.specs.declared.fault.Refusal.TheVariants as refusals
 use Rattle.wb_dialog.specs.declared.line.DriverLine.{DriverLine}
-use Rattle.wb_dialog.specs.declared.line.DriverLine.TheVariants.{Script, Say, Next, View, Known as KnownPages, Ask, Stop}
+use Rattle.wb_dialog.specs.declared.line.DriverLine.TheVariants.{Script, Say, Next, View, Known as KnownPages, Ask, Stop, Keep, Came, Add}
 use Rattle.wb_dialog.specs.Dialog as dialog
-use Rattle.wb_dialog.specs.Dialog.{Answer, answered, answer_at, speaker}
+use Rattle.wb_dialog.specs.Dialog.{answered, answer_at, speaker}
 use Rattle.wb_dialog.specs.Doing.{text_of}
 use Rattle.wb_session_hosts.specs.Acts.{listed, acts_by_act, acts_drawing, acts_said, acts_at, ats}
 use Rattle.wb_session_hosts.specs.Hosts.{sends_by_act, sends_drawing, sends_said, sends_at, MaySay, IsHonestAt}
@@ -49,7 +47,7 @@ use Rattle.wb_session_hosts.proofs.Several.{after_all, drawn_sent}
 
 -- the host holds what its member drew
 abbrev pub Owns : List DrawopValue → Opened → Type 0
-Owns drawn host = (x : DrawopValue) → Contains drawn x → Contains host.board.drawops x
+Owns drawn host = (x : DrawopValue) → Contains drawn x → Contains host.is.held x
 
 -- the host is the member, which drew some drawops and holds them; before its board is open the member did nothing
 abbrev pub IsAt : Group → ℕ → Option Opened → Member → Type 0
@@ -59,7 +57,7 @@ IsAt group i (Some host) m = (drawn : List DrawopValue) × (m ≡ member_of draw
 -- the line said the drawop as the host's own, and it was sent
 pub record IsSaid (line : DriverLine) (host : Opened) (x : DrawopValue) : Type 0 where
   pub line_is : line ≡ Say (datagrams.Draw x)
-  pub source : x.name.source ≡ host.me
+  pub source : x.name.source ≡ host.is.number
   pub text : text_of (answer_at line host) ≡ send_line (datagrams.Draw x)
   pub sent : Contains (sends_at line host) (datagrams.Draw x)
 
@@ -152,31 +150,28 @@ module _ (group : Group) (is : IsDistinct group) (i : ℕ) (events : List Event)
   -- ---- a drawing of its own
 
   -- the greatest number that it knows of itself is the greatest that it drew
-  last_is_drawn : (page : PageId) → last_number page host ≡ highest page host.me drawn
+  last_is_drawn : (page : PageId) → last_number page host ≡ highest page host.is.number drawn
   last_is_drawn page =
       let known = subst (λ (n : Member). (((d : DrawopValue) → d.name.page ≡ page → Contains n.drawn d → Contains n.held d) → max (highest page n.number n.held) (high_heard n.number n.calls page n.number) ≡ highest page n.number n.drawn)) here (next_is_known group events is s i page) (λ d at c. own d c) in
       let marks = subst (λ (n : Member). mark_of (marks_heard n.number n.calls page) n.number ≡ high_heard n.number n.calls page n.number) here (heard_marks group is events s i page (member group events i).number) in
-      ap (max (highest page host.me host.board.drawops)) marks ∙ known
+      ap (max (highest page host.is.number host.is.held)) marks ∙ known
 
   number_is : (more : Bool) (last n : ℕ) → ◌≡◌ {A = Option ℕ} (cond more (Some (last + 1)) None) (Some n) → last + 1 ≡ n
   number_is true last n e = ap (λ (o : Option ℕ). unwrap_or o 0) e
   number_is false last n e = absurd cc
 
-  next_is_said : (d : DrawopValue) → d.name.source ≡ host.me → next_number d.name.page host ≡ Some d.name.seq → next_drawop m d.name.page d.time d.op ≡ d
+  next_is_said : (d : DrawopValue) → d.name.source ≡ host.is.number → next_number d.name.page host ≡ Some d.name.seq → next_drawop m d.name.page d.time d.op ≡ d
   next_is_said d mine next =
       let last = last_is_drawn d.name.page in
       let seq : last_number d.name.page host + 1 ≡ d.name.seq = number_is (nat_lt (last_number d.name.page host) 4294967295) (last_number d.name.page host) d.name.seq next in
-      let up : highest d.name.page host.me drawn + 1 ≡ d.name.seq = omega arith in
+      let up : highest d.name.page host.is.number drawn + 1 ≡ d.name.seq = omega arith in
       ap (λ (n : NameValue). let x : DrawopValue = record { name = n; time = d.time; op = d.op } in x) (name_parts _ _ _ _ _ _ (sym mine) refl up)
 
-  joined : (d : DrawopValue) (o : Outcome) → acceptance_of o ≡ became.New → history_with host.board.drawops d o ≡ host.board.drawops ++ d ∷ []
-  joined d (Fresh k) e = refl
-  joined d (Known k) e = absurd cc
-  joined d (Clashed k) e = absurd cc
-  joined d Left e = absurd cc
+  joined : (d : DrawopValue) (place : ℕ) → becomes d host ≡ Fresh place → history_with host.is.held d (becomes d host) ≡ host.is.held ++ d ∷ []
+  joined d place e = ap (history_with host.is.held d) e
 
   -- A batch that adds nothing.
-  kept : (said : DrawopValue → Type 0) (d : DrawopValue) (out : List Datagram) → history_with host.board.drawops d (outcome_of host.board.cells host.board.drawops d) ≡ host.board.drawops → ((v : Datagram) → Contains out v → Contains (members.sent group events) v)
+  kept : (said : DrawopValue → Type 0) (d : DrawopValue) (out : List Datagram) → history_with host.is.held d (outcome_of host.is.cells host.is.held d) ≡ host.is.held → ((v : Datagram) → Contains out v → Contains (members.sent group events) v)
       → Does (Takes (present host) (d ∷ []) [] ∷ []) (Some (accepted d host)) out said
   kept said d out same goes = record {
     at = (drawn, sym (ap (λ (h : List DrawopValue). holding (present host) (d ∷ []) h m) same), λ x c. subst (λ (h : List DrawopValue). Contains h x) (sym same) (own x c));
@@ -186,25 +181,7 @@ module _ (group : Group) (is : IsDistinct group) (i : ℕ) (events : List Event)
     new = λ x c. inl c;
   }
 
-  known_stays : (d : DrawopValue) (o : Outcome) → acceptance_of o ≡ became.Again → history_with host.board.drawops d o ≡ host.board.drawops
-  known_stays d (Fresh k) e = absurd cc
-  known_stays d (Known k) e = refl
-  known_stays d (Clashed k) e = refl
-  known_stays d Left e = refl
-
-  clash_stays : (d : DrawopValue) (o : Outcome) → acceptance_of o ≡ became.Clash → history_with host.board.drawops d o ≡ host.board.drawops
-  clash_stays d (Fresh k) e = absurd cc
-  clash_stays d (Known k) e = refl
-  clash_stays d (Clashed k) e = refl
-  clash_stays d Left e = refl
-
-  left_stays : (d : DrawopValue) (o : Outcome) → acceptance_of o ≡ became.Left → history_with host.board.drawops d o ≡ host.board.drawops
-  left_stays d (Fresh k) e = absurd cc
-  left_stays d (Known k) e = refl
-  left_stays d (Clashed k) e = refl
-  left_stays d Left e = refl
-
-  module _ (said : DrawopValue → Type 0) (d : DrawopValue) (mine : d.name.source ≡ host.me) (fair : MaySay (datagrams.Draw d) host) where
+  module _ (said : DrawopValue → Type 0) (d : DrawopValue) (mine : d.name.source ≡ host.is.number) (fair : MaySay (datagrams.Draw d) host) where
     abbrev drew : DrawopValue
     drew = next_drawop m d.name.page d.time d.op
 
@@ -212,27 +189,27 @@ module _ (group : Group) (is : IsDistinct group) (i : ℕ) (events : List Event)
     draws = record { place = i; act = Draws d.name.page d.time d.op }
 
     -- it is the member's next
-    is_next : acceptance d host ≡ became.New → drew ≡ d
-    is_next e = ⊎_elim
+    is_next : (place : ℕ) → becomes d host ≡ Fresh place → drew ≡ d
+    is_next place e = ⊎_elim
         (λ (next : next_number d.name.page host ≡ Some d.name.seq). next_is_said d mine next)
-        (λ (held : Contains host.board.drawops d). absurd ((subst (Found host.board.drawops d) e (found host.board.cells 0 host.board.drawops d)) d held refl))
+        (λ (held : Contains host.is.held d). absurd ((subst (Found host.is.held d) e (found host.is.cells 0 host.is.held d)) d held refl))
         fair
 
-    holds_new : drew ≡ d → acceptance d host ≡ became.New → (x : DrawopValue) → Contains (drew ∷ drawn) x → Contains (accepted d host).board.drawops x
-    holds_new same e x c = subst (λ (h : List DrawopValue). Contains h x) (sym (joined d (outcome_of host.board.cells host.board.drawops d) e)) (⊎_elim
-        (λ (f : drew ≡ x). subst (Contains (host.board.drawops ++ d ∷ [])) (sym same ∙ f) (Contains-append_right host.board.drawops (d ∷ []) d (Contains-here d [])))
-        (λ (g : Contains drawn x). Contains-append_left host.board.drawops (d ∷ []) x (own x g))
+    holds_new : (place : ℕ) → drew ≡ d → becomes d host ≡ Fresh place → (x : DrawopValue) → Contains (drew ∷ drawn) x → Contains (accepted d host).is.held x
+    holds_new place same e x c = subst (λ (h : List DrawopValue). Contains h x) (sym (joined d place e)) (⊎_elim
+        (λ (f : drew ≡ x). subst (Contains (host.is.held ++ d ∷ [])) (sym same ∙ f) (Contains-append_right host.is.held (d ∷ []) d (Contains-here d [])))
+        (λ (g : Contains drawn x). Contains-append_left host.is.held (d ∷ []) x (own x g))
         (Contains-cases drew x drawn c))
 
     goes_out : drew ≡ d → Contains (members.sent group (draws ∷ events)) (datagrams.Draw d)
     goes_out same = Contains-append_left (sends draws.act (member group events i)) (members.sent group events) (datagrams.Draw d)
         (subst (λ (n : Member). Contains (sends draws.act n) (datagrams.Draw d)) (sym here) (subst (λ (x : DrawopValue). Contains (datagrams.Draw drew ∷ []) (datagrams.Draw x)) same (Contains-here (datagrams.Draw drew) [])))
 
-    drawing : (a : Acceptance) → acceptance d host ≡ a → (a ≡ became.New → said d) → Does (acts_drawing d host a) (Some (accepted d host)) (sends_drawing d a) said
-    drawing became.New e tells =
-        let same = is_next e in
+    drawing : (a : Outcome) → becomes d host ≡ a → ((place : ℕ) → a ≡ Fresh place → said d) → Does (acts_drawing d host a) (Some (accepted d host)) (sends_drawing d a) said
+    drawing (Fresh place) e tells =
+        let same = is_next place e in
         record {
-          at = (drew ∷ drawn, refl, holds_new same e);
+          at = (drew ∷ drawn, refl, holds_new place same e);
           session = (All-cons (λ x. Contains (members.sent group (draws ∷ events)) (datagrams.Draw x)) d [] (goes_out same) (All-nil (λ x. Contains (members.sent group (draws ∷ events)) (datagrams.Draw x))), (tt, s));
           careful = λ c. (itself d, (tt, c));
           sent = λ v c. ⊎_elim
@@ -240,42 +217,42 @@ module _ (group : Group) (is : IsDistinct group) (i : ℕ) (events : List Event)
               (λ (g : Contains [] v). none_out v g)
               (Contains-cases (datagrams.Draw d) v [] c);
           new = λ x c. ⊎_elim
-              (λ (f : drew ≡ x). inr (subst said (sym same ∙ f) (tells refl)))
+              (λ (f : drew ≡ x). inr (subst said (sym same ∙ f) (tells place refl)))
               (λ (g : Contains drawn x). inl g)
               (Contains-cases drew x drawn c);
         }
-    drawing became.Again e tells = kept said d (datagrams.Draw d ∷ []) (known_stays d (outcome_of host.board.cells host.board.drawops d) e) (λ v c. ⊎_elim
+    drawing (Known place) e tells = kept said d (datagrams.Draw d ∷ []) (ap (history_with host.is.held d) e) (λ v c. ⊎_elim
         (λ (f : datagrams.Draw d ≡ v).
-        let held : Contains host.board.drawops d = subst (Found host.board.drawops d) e (found host.board.cells 0 host.board.drawops d) in
+        let held : Contains host.is.held d = subst (Found host.is.held d) e (found host.is.cells 0 host.is.held d) in
         subst (Contains (members.sent group events)) f (drawn_sent group events d (held_is_drawn group events s i d (subst (λ (n : Member). Contains n.held d) (sym here) held))))
         (λ (g : Contains [] v). none_out v g)
         (Contains-cases (datagrams.Draw d) v [] c))
-    drawing became.Clash e tells = kept said d [] (clash_stays d (outcome_of host.board.cells host.board.drawops d) e) (λ v c. none_out v c)
-    drawing became.Left e tells = kept said d [] (left_stays d (outcome_of host.board.cells host.board.drawops d) e) (λ v c. none_out v c)
+    drawing (Clashed place) e tells = kept said d [] (ap (history_with host.is.held d) e) (λ v c. none_out v c)
+    drawing Left e tells = kept said d [] (ap (history_with host.is.held d) e) (λ v c. none_out v c)
 
   -- ---- what is said
 
-  text_said : (d : DrawopValue) → nat_eq d.name.source host.me ≡ true → acceptance d host ≡ became.New → text_of (answer_at (Say (datagrams.Draw d)) host) ≡ send_line (datagrams.Draw d)
-  text_said d e new =
+  text_said : (d : DrawopValue) → nat_eq d.name.source host.is.number ≡ true → (place : ℕ) → becomes d host ≡ Fresh place → text_of (answer_at (Say (datagrams.Draw d)) host) ≡ send_line (datagrams.Draw d)
+  text_said d e place new =
       ap (λ (b : Bool). text_of (if b then dialog.goes_out (datagrams.Draw d) host else dialog.refuses refusals.Member)) e ∙ ap (dialog.said_text d) new
 
-  sent_said : (d : DrawopValue) → nat_eq d.name.source host.me ≡ true → acceptance d host ≡ became.New → Contains (sends_at (Say (datagrams.Draw d)) host) (datagrams.Draw d)
-  sent_said d e new = subst (λ (b : Bool). Contains (if b then sends_said (datagrams.Draw d) host else []) (datagrams.Draw d)) (sym e)
-      (subst (λ (a : Acceptance). Contains (sends_drawing d a) (datagrams.Draw d)) (sym new) (Contains-here (datagrams.Draw d) []))
+  sent_said : (d : DrawopValue) → nat_eq d.name.source host.is.number ≡ true → (place : ℕ) → becomes d host ≡ Fresh place → Contains (sends_at (Say (datagrams.Draw d)) host) (datagrams.Draw d)
+  sent_said d e place new = subst (λ (b : Bool). Contains (if b then sends_said (datagrams.Draw d) host else []) (datagrams.Draw d)) (sym e)
+      (subst (λ (a : Outcome). Contains (sends_drawing d a) (datagrams.Draw d)) (sym new) (Contains-here (datagrams.Draw d) []))
 
-  own_said : (v : Datagram) → nat_eq (speaker v) host.me ≡ true → MaySay v host → Does (acts_said v host) (dialog.after (Some host) (dialog.goes_out v host)) (sends_said v host) (IsSaid (Say v) host)
+  own_said : (v : Datagram) → nat_eq (speaker v) host.is.number ≡ true → MaySay v host → Does (acts_said v host) (dialog.after (Some host) (dialog.goes_out v host)) (sends_said v host) (IsSaid (Say v) host)
   own_said (datagrams.Draw d) e fair =
-      let mine = eqb-true d.name.source host.me e in
-      drawing (IsSaid (Say (datagrams.Draw d)) host) d mine fair (acceptance d host) refl (λ new. record { line_is = refl; source = mine; text = text_said d e new; sent = sent_said d e new })
-  own_said (datagrams.AskPages asker) e fair = one (IsSaid (Say (datagrams.AskPages asker)) host) AsksForPages host (datagrams.AskPages asker ∷ []) refl (λ n x h. h) tt tt (λ v c. subst (λ (k : ℕ). Contains (datagrams.AskPages k ∷ []) v) (eqb-true asker host.me e) c)
+      let mine = eqb-true d.name.source host.is.number e in
+      drawing (IsSaid (Say (datagrams.Draw d)) host) d mine fair (becomes d host) refl (λ place new. record { line_is = refl; source = mine; text = text_said d e place new; sent = sent_said d e place new })
+  own_said (datagrams.AskPages asker) e fair = one (IsSaid (Say (datagrams.AskPages asker)) host) AsksForPages host (datagrams.AskPages asker ∷ []) refl (λ n x h. h) tt tt (λ v c. subst (λ (k : ℕ). Contains (datagrams.AskPages k ∷ []) v) (eqb-true asker host.is.number e) c)
   own_said (datagrams.Session sender sent page marks echoes) e fair = absurd fair
   own_said (datagrams.Request asker name) e fair = absurd fair
   own_said (datagrams.PageState sender page marks) e fair = absurd fair
 
   say : (v : Datagram) → IsHonestAt (Contains (members.sent group events)) host (Say v) → Does (acts_at (Say v) host) (dialog.after (Some host) (answer_at (Say v) host)) (sends_at (Say v) host) (IsSaid (Say v) host)
-  say v fair = from (nat_eq (speaker v) host.me) refl where
-    from : (b : Bool) → nat_eq (speaker v) host.me ≡ b → Does (if b then acts_said v host else []) (dialog.after (Some host) (if b then dialog.goes_out v host else dialog.refuses refusals.Member)) (if b then sends_said v host else []) (IsSaid (Say v) host)
-    from true e = own_said v e (fair (eqb-true (speaker v) host.me e))
+  say v fair = from (nat_eq (speaker v) host.is.number) refl where
+    from : (b : Bool) → nat_eq (speaker v) host.is.number ≡ b → Does (if b then acts_said v host else []) (dialog.after (Some host) (if b then dialog.goes_out v host else dialog.refuses refusals.Member)) (if b then sends_said v host else []) (IsSaid (Say v) host)
+    from true e = own_said v e (fair (eqb-true (speaker v) host.is.number e))
     from false e = idle (IsSaid (Say v) host)
 
   -- ---- any line
@@ -287,7 +264,7 @@ module _ (group : Group) (is : IsDistinct group) (i : ℕ) (events : List Event)
   asks : (said : DrawopValue → Type 0) (name : NameValue) → Does (listed (asks_any name host)) (Some (with_asked name host)) [] said
   asks said name = from (may_ask name host) refl where
     begun : Opened
-    begun = scripts.calling (Miss (present host) (name ∷ []) (word_of host.random ∷ [])) 1 host
+    begun = doing (Misses (present host) (name ∷ []) (word_of host.random ∷ [])) 1 host
 
     from : (may : Bool) → may_ask name host ≡ may → Does (listed (cond may (Some (Misses (present host) (name ∷ []) (word_of host.random ∷ []))) None)) (Some (cond may begun host)) [] said
     from true e = one said (Misses (present host) (name ∷ []) (word_of host.random ∷ [])) begun [] refl (λ n x h. h) tt (asked_lacking host name e) (λ v c. none_out v c)
@@ -301,6 +278,9 @@ module _ (group : Group) (is : IsDistinct group) (i : ℕ) (events : List Event)
   turns KnownPages fair = idle (IsSaid KnownPages host)
   turns (Ask name) fair = asks (IsSaid (Ask name) host) name
   turns (Stop name) fair = one (IsSaid (Stop name) host) (GivesUp (present host) name) (with_stopped name host) [] refl (λ n x h. h) tt tt (λ v c. none_out v c)
+  turns (Keep rate listen) fair = idle (IsSaid (Keep rate listen) host)
+  turns (Came now v) fair = idle (IsSaid (Came now v) host)
+  turns (Add adding) fair = idle (IsSaid (Add adding) host)
 
 -- ---- before a board is open
 

@@ -3,16 +3,16 @@ use Rattle.std.specs.Prelude.{ℕ, List, [], ◌∷◌, Option, Some, None, Resu
 use Rattle.wb_names.specs.Values.{DrawopValue}
 use Rattle.wb_codec.specs.declared.datagram.Datagram.{Datagram}
 use Rattle.wb_codec.specs.declared.datagram.Datagram.TheVariants as datagrams
-use Rattle.wb_script.specs.Driving.{acceptance}
-use Rattle.wb_script.specs.Hosts.{Opened, present, does, fails, act}
-use Rattle.wb_script.specs.Hosts as scripts
-use Rattle.wb_script.specs.declared.acceptance.Acceptance.{Acceptance}
-use Rattle.wb_script.specs.declared.acceptance.Acceptance.TheVariants as became
-use Rattle.wb_script.specs.declared.command.Command.{Command}
-use Rattle.wb_script.specs.declared.command.Command.TheVariants as lines
+use Rattle.wb_member.specs.Opened.{becomes, Opened, present}
+use Rattle.wb_commands.specs.Acts.{does, fails, act}
+use Rattle.wb_commands.specs.Acts as scripts
+use Rattle.wb_names.specs.Arrivals.{Outcome}
+use Rattle.wb_names.specs.Arrivals as became
+use Rattle.wb_commands.specs.declared.command.Command.{Command}
+use Rattle.wb_commands.specs.declared.command.Command.TheVariants as lines
 use Rattle.wb_member.specs.Members.{Act, Draws, Takes, GivesUp, AsksForPages}
 use Rattle.wb_session.specs.Session.{Event, Group}
-use Rattle.wb_session_scripts.specs.Hosts.{act_of, asks_any}
+use Rattle.wb_session_hosts.specs.Scripts.{act_of, asks_any}
 use Rattle.wb_dialog.specs.declared.fault.Refusal.{Refusal}
 use Rattle.wb_dialog.specs.declared.line.DriverLine.{DriverLine}
 use Rattle.wb_dialog.specs.declared.line.DriverLine.TheVariants.{Script, Say, Ask, Stop}
@@ -35,20 +35,20 @@ acts_script (lines.Arrive d) host = Takes (present host) (d ∷ []) (d ∷ []) �
 acts_script line host = acts_by_act line host (act line host)
 
 -- A drawing that is new is drawn and taken. Else nothing of its batch is taken.
-abbrev pub acts_drawing : DrawopValue → Opened → Acceptance → List Act
-acts_drawing d host became.New = Takes (present host) (d ∷ []) (d ∷ []) ∷ Draws d.name.page d.time d.op ∷ []
-acts_drawing d host became.Again = Takes (present host) (d ∷ []) [] ∷ []
-acts_drawing d host became.Clash = Takes (present host) (d ∷ []) [] ∷ []
+abbrev pub acts_drawing : DrawopValue → Opened → Outcome → List Act
+acts_drawing d host (became.Fresh place) = Takes (present host) (d ∷ []) (d ∷ []) ∷ Draws d.name.page d.time d.op ∷ []
+acts_drawing d host (became.Known place) = Takes (present host) (d ∷ []) [] ∷ []
+acts_drawing d host (became.Clashed place) = Takes (present host) (d ∷ []) [] ∷ []
 acts_drawing d host became.Left = Takes (present host) (d ∷ []) [] ∷ []
 
 abbrev pub acts_said : Datagram → Opened → List Act
-acts_said (datagrams.Draw d) host = acts_drawing d host (acceptance d host)
+acts_said (datagrams.Draw d) host = acts_drawing d host (becomes d host)
 acts_said (datagrams.AskPages asker) host = AsksForPages ∷ []
 acts_said v host = []
 
 abbrev pub acts_at : DriverLine → Opened → List Act
 acts_at (Script line) host = acts_script line host
-acts_at (Say v) host = if nat_eq (speaker v) host.me then acts_said v host else []
+acts_at (Say v) host = if nat_eq (speaker v) host.is.number then acts_said v host else []
 acts_at (Ask name) host = listed (asks_any name host)
 acts_at (Stop name) host = GivesUp (present host) name ∷ []
 acts_at line host = []

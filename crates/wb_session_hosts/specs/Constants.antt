@@ -6,10 +6,10 @@ use Rattle.wb_recovery.specs.declared.tuning.Tuning.{Tuning}
 use Rattle.wb_host.specs.Hearing.{marks_heard}
 use Rattle.wb_lines.specs.Input.{InputLine}
 use Rattle.wb_lines.specs.Taking.{met}
-use Rattle.wb_script.specs.Answers.{gaps_text}
-use Rattle.wb_script.specs.Hosts.{Opened, present}
-use Rattle.wb_script.specs.SentLines.{send_line}
-use Rattle.wb_script.specs.declared.command.Command.TheVariants as lines
+use Rattle.wb_commands.specs.Answers.{gaps_text}
+use Rattle.wb_member.specs.Opened.{Opened, present, board_of}
+use Rattle.wb_commands.specs.SentLines.{send_line}
+use Rattle.wb_commands.specs.declared.command.Command.TheVariants as lines
 use Rattle.wb_session.specs.Session.{IsTelling}
 use Rattle.wb_dialog.specs.declared.line.DriverLine.{DriverLine}
 use Rattle.wb_dialog.specs.declared.line.DriverLine.TheVariants.{Script, View, Ask, Stop}
@@ -22,9 +22,9 @@ use Rattle.wb_session_hosts.specs.Laws.{AskOf, prints_at}
 -- They are of one member, hold the same drawops in the same order, heard the same marks, and are at one moment. Their timers, and
 -- the random words that they took, may differ.
 pub record HoldAlike (one other : Opened) : Type 0 where
-  pub me : one.me ≡ other.me
-  pub board : one.board ≡ other.board
-  pub marks : (page : PageId) → marks_heard one.me one.calls page ≡ marks_heard other.me other.calls page
+  pub me : one.is.number ≡ other.is.number
+  pub board : board_of one ≡ board_of other
+  pub marks : (page : PageId) → marks_heard one.is.number one.is.calls page ≡ marks_heard other.is.number other.is.calls page
   pub moment : present one ≡ present other
 
 -- none is open, or both are

@@ -8,15 +8,15 @@ use Rattle.wb_codec.specs.declared.datagram.Datagram.TheVariants.{Draw, AskPages
 use Rattle.wb_recovery.specs.declared.tuning.Tuning.{Tuning}
 use Rattle.wb_lines.specs.Input.{InputLine}
 use Rattle.wb_lines.specs.Taking.{met}
-use Rattle.wb_script.specs.Driving.{acceptance, shown, pages_known, next_number, may_ask, asks_for}
-use Rattle.wb_script.specs.Hosts.{Opened, Act, does, fails, act}
-use Rattle.wb_script.specs.SentLines.{send_line}
-use Rattle.wb_script.specs.declared.acceptance.Acceptance.{Acceptance}
-use Rattle.wb_script.specs.declared.acceptance.Acceptance.TheVariants as became
-use Rattle.wb_script.specs.declared.command.Command.{Command}
-use Rattle.wb_script.specs.declared.command.Command.TheVariants as lines
+use Rattle.wb_member.specs.Opened.{becomes, shown, pages_known, next_number, may_ask, asks_for, Opened}
+use Rattle.wb_commands.specs.Acts.{Act, does, fails, act}
+use Rattle.wb_commands.specs.SentLines.{send_line}
+use Rattle.wb_names.specs.Arrivals.{Outcome}
+use Rattle.wb_names.specs.Arrivals as became
+use Rattle.wb_commands.specs.declared.command.Command.{Command}
+use Rattle.wb_commands.specs.declared.command.Command.TheVariants as lines
 use Rattle.wb_session.specs.Session.{Group, IsTelling}
-use Rattle.wb_session_scripts.specs.Hosts.{act_of, member_of, said, sends_any}
+use Rattle.wb_session_hosts.specs.Scripts.{act_of, member_of, said, sends_any}
 use Rattle.wb_dialog.specs.declared.fault.Refusal.{Refusal}
 use Rattle.wb_dialog.specs.declared.line.DriverLine.{DriverLine}
 use Rattle.wb_dialog.specs.declared.line.DriverLine.TheVariants.{Script, Say, Next, View, Known, Ask, Stop}
@@ -63,20 +63,20 @@ sends_by_act line host (does next text) = sends_any (act_of line host) (member_o
 sends_by_act line host (fails e) = []
 
 -- a drawing that is said is sent where it is new or held already
-abbrev pub sends_drawing : DrawopValue → Acceptance → List Datagram
-sends_drawing d became.New = Draw d ∷ []
-sends_drawing d became.Again = Draw d ∷ []
-sends_drawing d became.Clash = []
+abbrev pub sends_drawing : DrawopValue → Outcome → List Datagram
+sends_drawing d (became.Fresh place) = Draw d ∷ []
+sends_drawing d (became.Known place) = Draw d ∷ []
+sends_drawing d (became.Clashed place) = []
 sends_drawing d became.Left = []
 
 abbrev pub sends_said : Datagram → Opened → List Datagram
-sends_said (Draw d) host = sends_drawing d (acceptance d host)
+sends_said (Draw d) host = sends_drawing d (becomes d host)
 sends_said v host = v ∷ []
 
 -- a line of a driver, at an open host
 abbrev pub sends_at : DriverLine → Opened → List Datagram
 sends_at (Script line) host = sends_by_act line host (act line host)
-sends_at (Say v) host = if nat_eq (speaker v) host.me then sends_said v host else []
+sends_at (Say v) host = if nat_eq (speaker v) host.is.number then sends_said v host else []
 sends_at line host = []
 
 abbrev pub sends_by : Option Opened → Result DriverLine Refusal → List Datagram
@@ -87,18 +87,18 @@ sends_by (Some host) (Err e) = []
 -- ---- what it prints behind the lines of what it sends
 
 -- why a drawing that was said is not sent
-abbrev pub told_unsent : Acceptance → List ℕ
-told_unsent became.New = []
-told_unsent became.Again = []
-told_unsent became.Clash = batch_of became.Clash
+abbrev pub told_unsent : Outcome → List ℕ
+told_unsent (became.Fresh place) = []
+told_unsent (became.Known place) = []
+told_unsent (became.Clashed place) = batch_of (became.Clashed place)
 told_unsent became.Left = batch_of became.Left
 
 abbrev pub told_said : Datagram → Opened → List ℕ
-told_said (Draw d) host = told_unsent (acceptance d host)
+told_said (Draw d) host = told_unsent (becomes d host)
 told_said v host = []
 
 abbrev pub told_script : Command → Opened → List ℕ
-told_script (lines.Arrive d) host = batch_of (acceptance d host)
+told_script (lines.Arrive d) host = batch_of (becomes d host)
 told_script line host = said line host
 
 abbrev pub told_number : Option ℕ → List ℕ
@@ -113,6 +113,7 @@ told_at (View page) host = view_text (shown page host)
 told_at Known host = known_text (pages_known host)
 told_at (Ask name) host = ask_line (may_ask name host)
 told_at (Stop name) host = stop_line (asks_for name host)
+told_at line host = []
 
 -- ---- a session
 
@@ -166,7 +167,7 @@ group_of constants lines = record { number = λ i. number_by i (board_at lines i
 -- A driver says drawings of its own, each under the number that `next` gives, or one that is held already once more; and it asks
 -- for the pages. It leaves session messages, requests and page states to the host.
 abbrev pub MaySay : Datagram → Opened → Type 0
-MaySay (Draw d) host = (next_number d.name.page host ≡ Some d.name.seq) ⊎ Contains host.board.drawops d
+MaySay (Draw d) host = (next_number d.name.page host ≡ Some d.name.seq) ⊎ Contains host.is.held d
 MaySay (AskPages asker) host = Unit {0}
 MaySay v host = ⊥
 
@@ -179,7 +180,7 @@ CameOut constants lines v = Contains (send_lines constants lines) (send_line v)
 abbrev pub IsHonestAt : (Datagram → Type 0) → Opened → DriverLine → Type 0
 IsHonestAt Before host (Script (lines.Arrive d)) = Before (Draw d)
 IsHonestAt Before host (Script (lines.Hear v)) = IsTelling v → Before v
-IsHonestAt Before host (Say v) = speaker v ≡ host.me → MaySay v host
+IsHonestAt Before host (Say v) = speaker v ≡ host.is.number → MaySay v host
 IsHonestAt Before host line = Unit {0}
 
 -- Nothing is asked of a line that is refused as it is read, or that comes before a board is open.

@@ -12,18 +12,20 @@ use Rattle.wb_lines.specs.Input.{InputLine, input_lines}
 use Rattle.wb_lines.specs.Taking.{met}
 use Rattle.wb_lines.specs.Words.{words, unhex}
 use Rattle.wb_words.specs.Reading.{reading}
-use Rattle.wb_script.specs.Answers.{gaps_text}
-use Rattle.wb_script.specs.Hosts.{Opened}
-use Rattle.wb_script.specs.SentLines.{send_line, sends_text}
-use Rattle.wb_script.specs.declared.acceptance.Acceptance.TheVariants as became
-use Rattle.wb_script.specs.declared.command.Command.TheVariants as lines
+use Rattle.wb_commands.specs.Answers.{gaps_text}
+use Rattle.wb_member.specs.Opened.{Opened}
+use Rattle.wb_commands.specs.SentLines.{send_line, sends_text}
+use Rattle.wb_names.specs.Arrivals as became
+use Rattle.wb_commands.specs.declared.command.Command.TheVariants as lines
 use Rattle.wb_session.specs.Session.{Event, Group, IsDistinct, member, newcomer, IsSession}
 use Rattle.wb_session.specs.Session as members
 use Rattle.wb_session.specs.Holding.{AreCareful}
-use Rattle.wb_session_scripts.specs.Hosts.{IsMember}
+use Rattle.wb_session_hosts.specs.Scripts.{IsMember}
 use Rattle.wb_dialog.specs.declared.line.DriverLine.{DriverLine}
 use Rattle.wb_dialog.specs.declared.line.DriverLine.TheVariants.{Script, Say, View}
-use Rattle.wb_dialog.specs.Dialog.{gives, answer_at, answered_lines, batch_of, says_line, transcript}
+use Rattle.wb_dialog.specs.Dialog.{gives, answer_at, answered_lines, batch_of, says_line}
+use Rattle.wb_dialog.specs.Hosting.{transcript}
+use Rattle.wb_dialog.specs.Laws.{BeginsNoKeep}
 use Rattle.wb_dialog.specs.Doing.{text_of}
 use Rattle.wb_dialog.specs.Lines.{handed_in, line_of}
 use Rattle.wb_session_hosts.specs.Acts.{events_of}
@@ -53,9 +55,10 @@ BoardsMakeGroup = (constants : ℕ → Tuning) (lines : List LineAt) → HaveDis
 
 -- ---- inputs and texts
 
--- Where the lines of a place are those of an input, which may be cut off, the blocks there are its transcript.
+-- Where the lines of a place are those of an input, which may be cut off, and none of them says `keep`, the blocks there are its transcript.
 abbrev pub BlocksAreTranscripts : Type 0
-BlocksAreTranscripts = (constants : ℕ → Tuning) (lines : List LineAt) (i : ℕ) (cut : Bool) (input : List ℕ) → lines_at lines i ≡ answered_lines cut (input_lines input) → concat (blocks_at constants lines i) ≡ transcript (constants i) cut input
+BlocksAreTranscripts = (constants : ℕ → Tuning) (lines : List LineAt) (i : ℕ) (cut : Bool) (input : List ℕ) → lines_at lines i ≡ answered_lines cut (input_lines input) → All (λ line. BeginsNoKeep (says_line (met line))) (input_lines input)
+    → concat (blocks_at constants lines i) ≡ transcript (constants i) cut input
 
 -- What an open host prints for a line that is not refused is a `send` line of each datagram that it sends, and then what else
 -- it tells. So all that is sent can be read off the blocks.
@@ -86,7 +89,7 @@ BringsDrawop line d = (says_line (met line) ≡ Ok (Script (lines.Arrive d))) �
 
 -- No line of a session that hands in a drawop, or says one, prints a batch that counts a clash.
 abbrev pub BatchesCountNoClash : Type 0
-BatchesCountNoClash = (constants : ℕ → Tuning) (older : List LineAt) (e : LineAt) (d : DrawopValue) → HaveDistinctMembers older → IsHonest constants (e ∷ older) → BringsDrawop e.line d → text_of (reply_at constants older e.place e.line) ≢ batch_of became.Clash
+BatchesCountNoClash = (constants : ℕ → Tuning) (older : List LineAt) (e : LineAt) (d : DrawopValue) (place : ℕ) → HaveDistinctMembers older → IsHonest constants (e ∷ older) → BringsDrawop e.line d → text_of (reply_at constants older e.place e.line) ≢ batch_of (became.Clashed place)
 
 -- ---- what is sent, at once or as a repair
 
@@ -108,7 +111,7 @@ SentWasSaid = (constants : ℕ → Tuning) (lines : List LineAt) → HaveDistinc
 
 -- So is each that a host holds.
 abbrev pub HeldWasSaid : Type 0
-HeldWasSaid = (constants : ℕ → Tuning) (lines : List LineAt) → HaveDistinctMembers lines → IsHonest constants lines → (i : ℕ) (host : Opened) → host_at constants lines i ≡ Some host → (d : DrawopValue) → Contains host.board.drawops d → WasSaid constants lines d
+HeldWasSaid = (constants : ℕ → Tuning) (lines : List LineAt) → HaveDistinctMembers lines → IsHonest constants lines → (i : ℕ) (host : Opened) → host_at constants lines i ≡ Some host → (d : DrawopValue) → Contains host.is.held d → WasSaid constants lines d
 
 -- Of each name one drawop is ever sent.
 abbrev pub SentOnce : Type 0

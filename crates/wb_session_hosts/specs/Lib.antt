@@ -1,3 +1,4 @@
+pub mod Scripts
 pub mod Hosts
 pub mod Acts
 pub mod Laws
@@ -7,3 +8,4 @@ pub mod Repairs
 pub mod Agreement
 pub mod Timed
 pub mod InTime
+pub mod Closings

@@ -8,8 +8,8 @@ use Rattle.wb_host.specs.Keeper.{holds}
 use Rattle.wb_progress.specs.Keepers.{AreOrderly}
 use Rattle.wb_progress.specs.Repairs.{asking_wait, answering_wait, quiet_wait}
 use Rattle.wb_lines.specs.Input.{InputLine}
-use Rattle.wb_script.specs.Hosts.{Opened, present}
-use Rattle.wb_script.specs.declared.command.Command.TheVariants as lines
+use Rattle.wb_member.specs.Opened.{Opened, present}
+use Rattle.wb_commands.specs.declared.command.Command.TheVariants as lines
 use Rattle.wb_dialog.specs.declared.line.DriverLine.{DriverLine}
 use Rattle.wb_dialog.specs.declared.line.DriverLine.TheVariants.{Script, Ask}
 use Rattle.wb_session_hosts.specs.Hosts.{LineAt, saying, host_at, HaveDistinctMembers, IsHonest, NothingIsForged}
@@ -41,7 +41,7 @@ repair i j host other d =
     let second = first + quiet_wait in
     at i (Script (lines.Arrive d))
     ∷ at j (Script (lines.Tick (second + answering_wait)))
-    ∷ at j (Script (lines.Hear (Request host.me d.name)))
+    ∷ at j (Script (lines.Hear (Request host.is.number d.name)))
     ∷ at j (Script (lines.Tick second))
     ∷ at j (Script (lines.Tick first))
     ∷ at i (Script (lines.Tick (present host + asking_wait)))
@@ -52,9 +52,9 @@ repair i j host other d =
 pub record IsLost (constants : ℕ → Tuning) (older : List LineAt) (i j : ℕ) (host other : Opened) (d : DrawopValue) : Type 0 where
   pub lacking : host_at constants older i ≡ Some host
   pub holding : host_at constants older j ≡ Some other
-  pub held : Contains other.board.drawops d
-  pub lost : holds host.board.drawops d.name ≡ false
-  pub room : length host.board.drawops < host.board.cells
+  pub held : Contains other.is.held d
+  pub lost : holds host.is.held d.name ≡ false
+  pub room : length host.is.held < host.is.cells
   pub constants_i : are_constants (constants i) ≡ true
   pub constants_j : are_constants (constants j) ≡ true
 
@@ -64,7 +64,7 @@ pub record IsBrought (constants : ℕ → Tuning) (newer older : List LineAt) (i
   pub unforged : NothingIsForged constants older → NothingIsForged constants (newer ++ older)
   pub after : Opened
   pub there : host_at constants (newer ++ older) i ≡ Some after
-  pub held : Contains after.board.drawops d
+  pub held : Contains after.is.held d
 
 abbrev pub RepairIsPossible : Type 0
 RepairIsPossible = (constants : ℕ → Tuning) (older : List LineAt) (i j : ℕ) (host other : Opened) (d : DrawopValue) → HaveDistinctMembers older → IsHonest constants older → IsLost constants older i j host other d
@@ -82,4 +82,4 @@ LostCanCome = (constants : ℕ → Tuning) (older : List LineAt) (i j : ℕ) (ho
 
 -- At each host time goes on, and each delay that was set is in range.
 abbrev pub HostsAreOrderly : Type 0
-HostsAreOrderly = (constants : ℕ → Tuning) (lines' : List LineAt) (i : ℕ) (host : Opened) → host_at constants lines' i ≡ Some host → AreOrderly host.calls × (host.constants ≡ constants i)
+HostsAreOrderly = (constants : ℕ → Tuning) (lines' : List LineAt) (i : ℕ) (host : Opened) → host_at constants lines' i ≡ Some host → AreOrderly host.is.calls × (host.is.constants ≡ constants i)

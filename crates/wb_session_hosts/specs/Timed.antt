@@ -16,8 +16,8 @@ use Rattle.wb_host.specs.GivingUp.{is_asked}
 use Rattle.wb_host.specs.Hearing.{marks_heard}
 use Rattle.wb_host.specs.Keeper.{delay_to, holds}
 use Rattle.wb_progress.specs.Turns.{Terms}
-use Rattle.wb_script.specs.Hosts.{Opened, events}
-use Rattle.wb_script.specs.declared.command.Command.TheVariants as lines
+use Rattle.wb_member.specs.Opened.{Opened, events}
+use Rattle.wb_commands.specs.declared.command.Command.TheVariants as lines
 use Rattle.wb_dialog.specs.Dialog.{gives, answer_at}
 use Rattle.wb_dialog.specs.Lines.{handed_in}
 use Rattle.wb_dialog.specs.declared.line.DriverLine.{DriverLine}
@@ -99,8 +99,8 @@ AreBehindTicks constants trace = (newer older : List TimedLine) (e : TimedLine) 
 
 -- the moments at which a timer of a name is due
 pub record AreNotOverdue (host : Opened) (n : NameValue) (now late : ℕ) : Type 0 where
-  pub ask : IfSome (timers_of host.constants (events host) n).ask (λ (ask : AskTimer). now ≤ ask.due + late)
-  pub answer : IfSome (timers_of host.constants (events host) n).answer (λ (answer : AnswerTimer). now ≤ answer.due + late)
+  pub ask : IfSome (timers_of host.is.constants (events host) n).ask (λ (ask : AskTimer). now ≤ ask.due + late)
+  pub answer : IfSome (timers_of host.is.constants (events host) n).answer (λ (answer : AnswerTimer). now ≤ answer.due + late)
 
 -- A tick comes once a timer is due: until a line comes, no timer that stands at a live place is overdue by more than `late`.
 abbrev pub TicksAreSoon : (ℕ → Tuning) → Terms → List TimedLine → Type 0
@@ -108,7 +108,7 @@ TicksAreSoon constants terms trace = (newer older : List TimedLine) (e : TimedLi
 
 -- From `quiet` on no drawing is said that is new, and no name is given up.
 pub record DrawsNothingNew (constants : ℕ → Tuning) (older : List TimedLine) (e : TimedLine) : Type 0 where
-  pub said : (d : DrawopValue) (host : Opened) → saying e.at ≡ Ok (Say (Draw d)) → StandsAt constants older e.at.place host → Contains host.board.drawops d
+  pub said : (d : DrawopValue) (host : Opened) → saying e.at ≡ Ok (Say (Draw d)) → StandsAt constants older e.at.place host → Contains host.is.held d
   pub stopped : (n : NameValue) → saying e.at ≢ Ok (Stop n)
 
 -- From `settled` on no name is asked for, and no other page is looked at.
@@ -166,7 +166,7 @@ NothingIsOld constants terms trace = (newer older : List TimedLine) (e : TimedLi
 
 -- a live place holds the name
 abbrev pub IsAnswerable : (ℕ → Tuning) → Terms → List TimedLine → NameValue → Type 0
-IsAnswerable constants terms trace n = (j : ℕ) × (other : Opened) × Contains terms.live j × StandsAt constants trace j other × (holds other.board.drawops n ≡ true)
+IsAnswerable constants terms trace n = (j : ℕ) × (other : Opened) × Contains terms.live j × StandsAt constants trace j other × (holds other.is.held n ≡ true)
 
 pub record IsTimely (constants : ℕ → Tuning) (terms : Terms) (trace : List TimedLine) : Type 0 where
   pub distinct : HaveDistinctMembers (lines_of trace)
@@ -177,11 +177,11 @@ pub record IsTimely (constants : ℕ → Tuning) (terms : Terms) (trace : List T
   pub times : TicksTellTime constants terms trace
   pub behind : AreBehindTicks constants trace
   pub soon : TicksAreSoon constants terms trace
-  pub delays : (newer older : List TimedLine) (i : ℕ) (host : Opened) (source : ℕ) → trace ≡ newer ++ older → Contains terms.live i → StandsAt constants older i host → delay_to host.me host.calls source ≤ terms.far
+  pub delays : (newer older : List TimedLine) (i : ℕ) (host : Opened) (source : ℕ) → trace ≡ newer ++ older → Contains terms.live i → StandsAt constants older i host → delay_to host.is.number host.is.calls source ≤ terms.far
   pub opened : (i : ℕ) → Contains terms.live i → (host : Opened) × StandsAt constants (until terms.quiet trace) i host
   pub alone : (newer older : List TimedLine) (e : TimedLine) → trace ≡ newer ++ e ∷ older → terms.quiet < e.time → Contains terms.live e.at.place
   pub drawn : (newer older : List TimedLine) (e : TimedLine) → trace ≡ newer ++ e ∷ older → terms.quiet < e.time → DrawsNothingNew constants older e
-  pub room : (newer older : List TimedLine) (e : TimedLine) (d : DrawopValue) (host : Opened) → trace ≡ newer ++ e ∷ older → terms.quiet < e.time → saying e.at ≡ Ok (Script (lines.Arrive d)) → StandsAt constants older e.at.place host → (holds host.board.drawops d.name ≡ true) ⊎ (length host.board.drawops < host.board.cells)
+  pub room : (newer older : List TimedLine) (e : TimedLine) (d : DrawopValue) (host : Opened) → trace ≡ newer ++ e ∷ older → terms.quiet < e.time → saying e.at ≡ Ok (Script (lines.Arrive d)) → StandsAt constants older e.at.place host → (holds host.is.held d.name ≡ true) ⊎ (length host.is.held < host.is.cells)
   pub looked : (newer older : List TimedLine) (e : TimedLine) → trace ≡ newer ++ e ∷ older → terms.quiet + terms.delivery < e.time → LooksAlone terms.page e
   pub told : AreTold constants terms trace
   pub delivered : AllIsDelivered constants terms trace
@@ -190,13 +190,13 @@ pub record IsTimely (constants : ℕ → Tuning) (terms : Terms) (trace : List T
   pub reported : 1 ≤ terms.reporting
   -- of the names that a place asks for at once, only so few are held by nobody
   pub unanswered : (newer older : List TimedLine) (i : ℕ) (host : Opened) → trace ≡ newer ++ older → Contains terms.live i → terms.quiet + terms.delivery < time_of older → StandsAt constants older i host
-      → (wanting : List NameValue) × (length wanting ≤ terms.unanswerable) × ((n : NameValue) → is_asked (timers_of host.constants (events host)) n ≡ true → Contains wanting n ⊎ IsAnswerable constants terms (settled terms trace) n)
+      → (wanting : List NameValue) × (length wanting ≤ terms.unanswerable) × ((n : NameValue) → is_asked (timers_of host.is.constants (events host)) n ≡ true → Contains wanting n ⊎ IsAnswerable constants terms (settled terms trace) n)
 
 -- ---- what follows
 
 -- a live place holds a drawop
 abbrev pub IsHeldLive : (ℕ → Tuning) → Terms → List TimedLine → DrawopValue → Type 0
-IsHeldLive constants terms trace d = (j : ℕ) × (other : Opened) × Contains terms.live j × StandsAt constants trace j other × Contains other.board.drawops d
+IsHeldLive constants terms trace d = (j : ℕ) × (other : Opened) × Contains terms.live j × StandsAt constants trace j other × Contains other.is.held d
 
 -- What the live places hold together does not change from `settled` on.
 abbrev pub NothingNew : Type 0
@@ -205,10 +205,10 @@ NothingNew = (constants : ℕ → Tuning) (terms : Terms) (trace : List TimedLin
 -- A report and a delivery behind `settled` each live place knows of the numbers of all that the live places hold of the page together.
 abbrev pub MarksSpread : Type 0
 MarksSpread = (constants : ℕ → Tuning) (terms : Terms) (trace : List TimedLine) → IsTimely constants terms trace → (newer later : List TimedLine) → trace ≡ newer ++ later → terms.quiet + terms.delivery + terms.reporting + terms.delivery < time_of later
-    → (i : ℕ) (host : Opened) → Contains terms.live i → StandsAt constants later i host → (d : DrawopValue) → d.name.page ≡ terms.page → IsHeldLive constants terms (settled terms trace) d → d.name.seq ≤ known host.board.drawops terms.page (marks_heard host.me host.calls terms.page) d.name.source
+    → (i : ℕ) (host : Opened) → Contains terms.live i → StandsAt constants later i host → (d : DrawopValue) → d.name.page ≡ terms.page → IsHeldLive constants terms (settled terms trace) d → d.name.seq ≤ known host.is.held terms.page (marks_heard host.is.number host.is.calls terms.page) d.name.source
 
 -- So what it lacks of them is in its gaps, and a look asks for it.
 abbrev pub LacksAreGaps : Type 0
 LacksAreGaps = (constants : ℕ → Tuning) (terms : Terms) (trace : List TimedLine) → IsTimely constants terms trace → (newer later : List TimedLine) → trace ≡ newer ++ later → terms.quiet + terms.delivery + terms.reporting + terms.delivery < time_of later
-    → (i : ℕ) (host : Opened) → Contains terms.live i → StandsAt constants later i host → (d : DrawopValue) → d.name.page ≡ terms.page → IsHeldLive constants terms (settled terms trace) d → holds host.board.drawops d.name ≡ false
-    → Covers (gaps_of host.board.drawops terms.page (marks_heard host.me host.calls terms.page)) d.name.source d.name.seq
+    → (i : ℕ) (host : Opened) → Contains terms.live i → StandsAt constants later i host → (d : DrawopValue) → d.name.page ≡ terms.page → IsHeldLive constants terms (settled terms trace) d → holds host.is.held d.name ≡ false
+    → Covers (gaps_of host.is.held terms.page (marks_heard host.is.number host.is.calls terms.page)) d.name.source d.name.seq

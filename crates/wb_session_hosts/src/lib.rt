@@ -5,5 +5,7 @@
 //! and `specs/Laws.antt` what then holds. `laws` carries the laws, for other crates to cite.
 #![tactic(auto)]
 
+pub mod closings;
 pub mod laws;
 pub mod progress;
+pub mod scripts;

@@ -2,6 +2,7 @@
 
 ghost use Rattle.wb_session_hosts.specs.Agreement.{AgreementIsPossible};
 ghost use Rattle.wb_session_hosts.specs.Holding.{HostsAnswerHeld, HostsAskForNoneHeld};
+ghost use Rattle.wb_session_hosts.specs.InTime.{AllAgree, AllComes, RequestIsAnswered, RoundsEnd, TimerLeads};
 ghost use Rattle.wb_session_hosts.specs.Repairs.{HostsAreOrderly, LostCanCome, RepairCanBeSaid, RepairIsPossible};
 ghost use Rattle.wb_session_hosts.specs.Timed.{LacksAreGaps, MarksSpread, NothingNew};
 
@@ -32,6 +33,17 @@ pub fn what_is_held_is_told()
     ensures new { NothingNew }
     ensures told { MarksSpread }
     ensures gaps { LacksAreGaps }
+{}
+
+/// In such a session a request for what a live host held is answered to all of them, a request timer leads to
+/// one, what a look asks for comes in one round, and all that they held together has come to each by a
+/// stated time. Behind it they print one report, one canvas and one view.
+pub fn all_comes_in_time()
+    ensures answered { RequestIsAnswered }
+    ensures leads { TimerLeads }
+    ensures round { RoundsEnd }
+    ensures all { AllComes }
+    ensures agree { AllAgree }
 {}
 
 /// At a host no request timer stands for what it holds, and an answer timer only for what it holds.

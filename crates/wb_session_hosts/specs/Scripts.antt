@@ -6,21 +6,21 @@ use Rattle.wb_codec.specs.declared.datagram.Datagram.{Datagram}
 use Rattle.wb_recovery.specs.declared.tuning.Tuning.{Tuning}
 use Rattle.wb_gaps.specs.Answers.{report_of}
 use Rattle.wb_host.specs.Hearing.{marks_heard}
-use Rattle.wb_script.specs.Answers.{answer_text}
-use Rattle.wb_script.specs.Hosts.{Opened, opened_with, present, host_after, does, act, due_count, wanted_of, word_at}
-use Rattle.wb_script.specs.Driving.{may_ask, with_asked, with_stopped}
-use Rattle.wb_script.specs.Random.{word_of, words_of}
-use Rattle.wb_script.specs.SentLines.{sends_text, look_line}
-use Rattle.wb_script.specs.declared.command.Command.{Command}
-use Rattle.wb_script.specs.declared.command.Command.TheVariants as lines
-use Rattle.wb_script.specs.declared.query.Query.{Query}
-use Rattle.wb_script.specs.declared.query.Query.TheVariants as queries
+use Rattle.wb_commands.specs.Answers.{answer_text}
+use Rattle.wb_commands.specs.Acts.{does, act}
+use Rattle.wb_member.specs.Opened.{Opened, opened_with, present, batched, due_count, wanted_of, word_at, may_ask, with_asked, with_stopped}
+use Rattle.wb_member.specs.Random.{word_of, words_of}
+use Rattle.wb_commands.specs.SentLines.{sends_text, look_line}
+use Rattle.wb_commands.specs.declared.command.Command.{Command}
+use Rattle.wb_commands.specs.declared.command.Command.TheVariants as lines
+use Rattle.wb_commands.specs.declared.query.Query.{Query}
+use Rattle.wb_commands.specs.declared.query.Query.TheVariants as queries
 use Rattle.wb_member.specs.Members.{Member, Act, Takes, Hears, SetsDelay, Misses, GivesUp, Ticks, Reports, after, sends}
 use Rattle.wb_session.specs.Session.{Event, Group, IsDistinct, member, newcomer, IsSession, LacksNothing}
 
 -- the member that a host is, which drew these drawops: a script draws none itself, and they come to it as any do
 abbrev pub member_of : List DrawopValue → Opened → Member
-member_of drawn host = record { number = host.me; cells = host.board.cells; constants = host.constants; drawn = drawn; held = host.board.drawops; calls = host.calls }
+member_of drawn host = record host.is { drawn = drawn }
 
 -- The act of a line, once its batch has ended. A question and a skipped line are none, nor are the line of the board and an arrival, which only joins a batch.
 abbrev pub act_of : Command → Opened → Option Act
@@ -40,7 +40,7 @@ sends_any None m = []
 sends_any (Some a) m = sends a m
 
 abbrev pub answered : Query → Opened → List ℕ
-answered query host = answer_text (marks_heard host.me host.calls) host.board.drawops query
+answered query host = answer_text (marks_heard host.is.number host.is.calls) host.is.held query
 
 -- what a line prints beside what is sent
 abbrev pub said : Command → Opened → List ℕ
@@ -59,7 +59,7 @@ OpenedIsNewcomer = (group : Group) (i seed : ℕ) (constants : Tuning) → group
 
 -- A batch, whoever takes it in whatever order, is one act.
 abbrev pub BatchesAreActs : Type 0
-BatchesAreActs = (drawn : List DrawopValue) (host : Opened) (d : DrawopValue) (ds order : List DrawopValue) → member_of drawn (host_after host (d ∷ ds) order) ≡ after (Takes (present host) (d ∷ ds) order) (member_of drawn host)
+BatchesAreActs = (drawn : List DrawopValue) (host : Opened) (batch order : List DrawopValue) → member_of drawn (batched batch order host) ≡ after (Takes (present host) batch order) (member_of drawn host)
 
 -- A driver that gives up a name does one act; one that asks for a name that may be asked for does one, and else none.
 abbrev pub GivingUpIsAnAct : Type 0
@@ -91,5 +91,5 @@ HasNoGaps host page = LacksNothing (member_of [] host) page
 -- Two hosts of a session with one report of a page and no gaps there print the same for each `show` of it.
 abbrev pub ShowsAgree : Type 0
 ShowsAgree = (group : Group) (events : List Event) (i j : ℕ) (host other : Opened) (page : PageId) (width height : ℕ) → IsDistinct group → IsSession group events → IsMember group events i host → IsMember group events j other
-    → report_of host.board.drawops page ≡ report_of other.board.drawops page → HasNoGaps host page → HasNoGaps other page
+    → report_of host.is.held page ≡ report_of other.is.held page → HasNoGaps host page → HasNoGaps other page
     → answered (queries.Canvas page width height) host ≡ answered (queries.Canvas page width height) other

@@ -1,12 +1,12 @@
-//! Laws of hosts as members of a session. Each function does nothing: its contract is a law, for proofs
+//! Laws of hosts of scripts as members of a session. Each function does nothing: its contract is a law, for proofs
 //! to cite.
 
-ghost use Rattle.wb_session_scripts.specs.Hosts.{AskingIsAnAct, BatchesAreActs, GivingUpIsAnAct, LinesAreActs, OpenedIsNewcomer, ShowsAgree};
+ghost use Rattle.wb_session_hosts.specs.Scripts.{AskingIsAnAct, BatchesAreActs, GivingUpIsAnAct, LinesAreActs, OpenedIsNewcomer, ShowsAgree};
 
 /// A host is a member of a session: just opened, one that did nothing; after a batch, one that took it
-/// in the order of its workers; after a line, one that did the act of the line. What the line prints are
+/// in some order; after a line, one that did the act of the line. What the line prints are
 /// the datagrams that the member sends by it, and behind them the answer to a question or a look.
-pub fn hosts_are_members()
+pub fn hosts_of_scripts_are_members()
     ensures opened { OpenedIsNewcomer }
     ensures batches { BatchesAreActs }
     ensures lines { LinesAreActs }

@@ -4,17 +4,17 @@ use Rattle.wb_names.specs.Values.{DrawopValue}
 use Rattle.wb_names.specs.declared.name.PageId.{PageId}
 use Rattle.wb_gaps.specs.Answers.{report_of}
 use Rattle.wb_display.specs.Canvas.{canvas_text}
-use Rattle.wb_script.specs.Hosts.{Opened}
-use Rattle.wb_script.specs.Queries.{view_of}
-use Rattle.wb_script.proofs.Queries.{view_of_page}
+use Rattle.wb_member.specs.Opened.{Opened}
+use Rattle.wb_member.specs.Queries.{view_of}
+use Rattle.wb_member.proofs.Queries.{view_of_page}
 use Rattle.wb_member.specs.Members.{Member}
 use Rattle.wb_session.specs.Session.{Event, Group, member, LacksNothing}
 use Rattle.wb_session.proofs.TwoMoments.{reports_tell_agreement}
 use Rattle.wb_session.proofs.Names.{held_once}
-use Rattle.wb_session_scripts.specs.Hosts.{IsMember, HasNoGaps, ShowsAgree}
+use Rattle.wb_session_hosts.specs.Scripts.{IsMember, HasNoGaps, ShowsAgree}
 
 module _ (group : Group) (events : List Event) (i : ℕ) (host : Opened) (is : IsMember group events i host) where
-  holds : host.board.drawops ≡ (member group events i).held
+  holds : host.is.held ≡ (member group events i).held
   holds = ap (λ (m : Member). m.held) is
 
   lacks_nothing : (page : PageId) → HasNoGaps host page → LacksNothing (member group events i) page
