@@ -1,4 +1,4 @@
-/* Loaded before a built test by tests/refuse-memory: refuses one of its growths, or one of its starts of a thread, that
+/* Loaded before a program of tests by tests/refuse-memory: refuses one of its growths, or one of its starts of a thread, that
    whose number the environment names. It includes nothing, since the toolchain's compiler of C has no headers. */
 typedef unsigned long size_t;
 enum { AGAIN = 11 };

@@ -1,5 +1,5 @@
 # Proves the crates that the program stands on, some side by side, and builds it. To be sourced after program.bash;
-# $logs is the folder of this start's logs.
+# $logs is the folder of this start's logs, and $owner the process of the session beside which it is proved, if any.
 
 # how many megabytes of memory are free, for the machine and for this container
 free_memory() {
@@ -61,19 +61,37 @@ share_of() {
     sed -n 's/^checked .*, \([0-9]* of [0-9]*\)$/\1/p' "$logs/$1.log" 2>/dev/null | tail -n 1
 }
 
-clear_line() {
-    [ ! -t 2 ] || printf '\r\033[K' >&2
+# whether standard error is a terminal that no session writes to
+has_terminal() {
+    [ -z "$owner" ] && [ -t 2 ]
 }
 
-# on a terminal, one line that renews itself: what is proved, and which crates are at work
+clear_line() {
+    ! has_terminal || printf '\r\033[K' >&2
+}
+
+# a bar of so many parts of so many
+bar_of() {
+    local width=20 filled
+    filled=$(($1 * width / $2))
+    printf '%*s' "$filled" '' | tr ' ' '#'
+    printf '%*s' "$((width - filled))" '' | tr ' ' .
+}
+
+# Tells what is proved, and which crates are at work: in the file $kept/progress, and on a terminal in one line that
+# renews itself.
 show() {
-    [ -t 2 ] || return 0
-    local crate share line="wb: $proved of $many crates proved"
+    local crate share minutes=$((SECONDS / 60)) work=''
     for crate in $running; do
         share=$(share_of "$crate")
-        line="$line; $crate${share:+ $share}"
+        # its few functions are checked soon, and the rest of its minutes builds the program
+        [ "$crate" != wb ] || share='and the build of the program'
+        work="$work; $crate${share:+ $share}"
     done
-    printf '\r\033[K%.100s' "$line" >&2
+    [ "$proved $minutes$work" != "$shown" ] || return 0
+    shown="$proved $minutes$work"
+    echo "$proved $many $minutes${work#;}" >"$kept/progress.new" && mv -f "$kept/progress.new" "$kept/progress"
+    ! has_terminal || printf '\r\033[K%.110s' "wb: [$(bar_of "$proved" "$many")] $proved of $many crates proved, $minutes min$work" >&2
 }
 
 # takes in the crates that have ended; fails at the first that is not proved
@@ -89,14 +107,19 @@ collect() {
             return 1
         fi
         proved=$((proved + 1))
-        [ -t 2 ] || say "$crate is proved, $proved of $many crates"
+        has_terminal || say "$crate is proved, $proved of $many crates"
     done
+}
+
+# whether the launcher is still there, and the session that it proves beside
+is_wanted() {
+    kill -0 $$ 2>/dev/null && { [ -z "$owner" ] || kill -0 "$owner" 2>/dev/null; }
 }
 
 # Proves all crates, those first that others stand on, and builds the program. It runs in a process group of its
 # own, which ends with the launcher, $$, however that ends.
 prove_all() {
-    local crate side proved=0 many running='' waiting=$crates
+    local crate side proved=0 many running='' waiting=$crates shown=''
     declare -A process
     many=$(wc -w <<<"$crates")
     side=$(side_by_side)
@@ -109,7 +132,7 @@ prove_all() {
         show
         sleep 0.2
         collect || return 1
-        kill -0 $$ 2>/dev/null || kill -TERM 0
+        is_wanted || kill -TERM 0
     done
     clear_line
 }

@@ -82,10 +82,11 @@ def page_state(sender: int, page: Page, marks: list[Mark]) -> str:
 
 
 class Words:
-    """The random words of a seed: PCG with 64 bits of state and words of 32 bits, on stream 54; two of its words are one."""
+    """The random words of a seed: PCG with 64 bits of state and words of 32 bits, two of which are one. Timers have those of
+    stream 54, and the policy of a host that keeps itself those of stream 55."""
 
-    def __init__(self, seed: int) -> None:
-        self.increment = 54 << 1 | 1
+    def __init__(self, seed: int, stream: int = 54) -> None:
+        self.increment = stream << 1 | 1
         self.state = (seed + self.increment) % 2**64
         self.step()
 

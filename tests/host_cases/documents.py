@@ -1,4 +1,4 @@
-"""What people read: the conversations of docs/HOST.md, and the example of a driver."""
+"""What people read: the conversations of the pages on hosts, and the example of a driver."""
 
 from __future__ import annotations
 
@@ -45,12 +45,13 @@ def judge_example(judge: Judge) -> None:
 
 
 def judge_page(judge: Judge) -> None:
-    """Each conversation of docs/HOST.md is what the program answers, and the help of `wb host` names the page."""
-    conversations = documented((TOP / "docs" / "HOST.md").read_text())
-    judge.equal("docs/HOST.md has conversations", len(conversations) > 2, True)
-    for place, conversation in enumerate(conversations, 1):
-        given, printed = parted(conversation)
-        judge.equal(f"conversation {place} of docs/HOST.md", host(given), printed)
+    """Each conversation of docs/HOST.md and docs/HOST-LINES.md is what the program answers, and the help of `wb host` names the page."""
+    for page, least in ("docs/HOST.md", 1), ("docs/HOST-LINES.md", 2):
+        conversations = documented((TOP / page).read_text())
+        judge.equal(f"{page} has conversations", len(conversations) >= least, True)
+        for place, conversation in enumerate(conversations, 1):
+            given, printed = parted(conversation)
+            judge.equal(f"conversation {place} of {page}", host(given), printed)
     for words in ["host", "--help"], ["--help"]:
         told = subprocess.run([program(), *words], capture_output=True, text=True, check=False)
         judge.equal(f"the help of {words} names docs/HOST.md", "docs/HOST.md" in told.stdout + told.stderr, True)

@@ -6,7 +6,8 @@ from . import datagrams
 from .conversations import parted
 from .datagrams import drawn, drawop, session
 from .judge import Judge
-from .program import host
+from .program import close, host
+from .scripts import PAGES, Writer
 
 PAGE = (7, 1)
 UNKNOWN_DELAY = 100_000
@@ -463,6 +464,19 @@ def judge_asked_names(judge: Judge) -> None:
     judge.equal("the names that a look asks for", lines, want)
 
 
+def judge_closings(judge: Judge) -> None:
+    """As many lines look as if they closed a block as there are blocks, whatever is asked but `show`, and whatever texts say."""
+    said = [f'say draw 1 7/1 {seq} 5 text 0 {seq} "{text}"' for seq, text in enumerate(["ok never", "ok 5", "refused unknown"], 901)]
+    views = [f"{word} {creator} {number}" for creator, number in PAGES for word in ("view", "next", "gaps", "report", "session", "look")]
+    for seed in range(1, 9):
+        lines = [line for line in Writer(seed).script(120) if not line.startswith("show ")]
+        lines += [*said, *views, "known", "pages", "fly", "show 7 1", "ask 7 1 8 3", "stop 7 1 8 3", "tick 900000000"]
+        closing = sum(close(line.encode()) for line in host("".join(f"{line}\n" for line in lines)).splitlines())
+        judge.equal(f"the lines that close a block, of conversation {seed}", closing, len(lines))
+    shown = host('board 1 16 1 42\nsay draw 1 7/1 1 5 text 0 0 "ok never"\nshow 7 1 8 1\n').splitlines()
+    judge.equal("a row of a canvas may look so", shown[-2:], ["ok never", "ok never"])
+
+
 def judge_all(judge: Judge) -> None:
     for table in ARRIVALS, TIMERS, OWN:
         for name, conversation in table.items():
@@ -470,3 +484,4 @@ def judge_all(judge: Judge) -> None:
             judge.equal(name, host(given), printed)
     judge_spellings(judge)
     judge_asked_names(judge)
+    judge_closings(judge)

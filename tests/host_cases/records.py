@@ -1,14 +1,12 @@
-"""Records: what a host was given replays, line by line and at once, and a script says the same to `wb run`."""
+"""Records: what a host was given replays, line by line and at once; and the constants of the timers."""
 
 from __future__ import annotations
 
 from .datagrams import drawn
 from .judge import Judge
 from .lines import WORDS
-from .program import Dialog, Ended, close, host, run
+from .program import Dialog, Ended, host, run
 from .scripts import Writer
-
-SEEDS = range(1, 9)
 
 
 def judge_replay(judge: Judge) -> None:
@@ -27,17 +25,6 @@ def judge_replay(judge: Judge) -> None:
     accepted = [line for line in lines if line != "fly"]
     without = answered.replace("refused unknown\n", "")
     judge.equal("the accepted lines alone", host("".join(f"{line}\n" for line in accepted)), without)
-
-
-def judge_scripts(judge: Judge) -> None:
-    """`wb run` prints what `wb host` prints, without the lines that close its blocks."""
-    for seed in SEEDS:
-        script = "".join(f"{line}\n" for line in Writer(seed).script(120)).encode()
-        ended = run(["host"], script)
-        judge.equal(f"script {seed} is accepted", b"refused" in ended.printed or ended.status, False)
-        printed = b"".join(line for line in ended.printed.splitlines(keepends=True) if not close(line))
-        for workers in "1", "2", "8":
-            judge.equal(f"script {seed}, {workers} workers", run(["run", "--workers", workers], script), Ended(0, printed, b""))
 
 
 def judge_tuning(judge: Judge) -> None:
@@ -70,5 +57,4 @@ def mistaken(*words: str) -> tuple[int, bytes, int]:
 
 def judge_all(judge: Judge) -> None:
     judge_replay(judge)
-    judge_scripts(judge)
     judge_tuning(judge)

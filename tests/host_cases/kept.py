@@ -1,0 +1,527 @@
+"""A host that keeps itself: its lines, with values worked out here, each refusal, and lines at random beside `policy`."""
+
+from __future__ import annotations
+
+import random
+
+from . import datagrams
+from .conversations import parted
+from .datagrams import Echo, Mark, Page, Words, drawn, drawop, session
+from .judge import Judge
+from .model import Drawop, Model, Name
+from .policy import AskPages, Datagram, Kept, Message, Refused, Request, State, digits_of
+from .program import host
+from .sessions import ME, MEMBERS, PAGES, Session
+
+PAGE = (7, 1)
+FORGED = 2**31
+SEED = 41
+SEEDS = range(1, 17)
+LINES = 400
+timers = Words(SEED)
+TIMERS = [timers.next() for _ in range(80)]
+policy = Words(SEED, 55)
+DRAWN = [policy.next() for _ in range(12)]
+STARS = drawop(7, PAGE, 1, 10, datagrams.line(0, 1, 4, 1, "*"))
+OURS = drawop(1, PAGE, 1, 11, datagrams.text(0, 0, "hi"))
+
+
+def asked_at(now: int, word: int, delay: int = 100_000, level: int = 0) -> int:
+    """When a request timer is due that is set, or backed off to a level, with a word of the timers' stream."""
+    return drawn(now, delay, TIMERS[word], 2, 2, level)
+
+
+# a host of this seed that keeps itself from 0 on: when it first reports, when it asks for pages, and when it asks again
+REPORT = DRAWN[0] % 1_000_001
+QUESTION = DRAWN[1] % 200_001
+AGAIN = QUESTION + 500_000 + DRAWN[2] % 1_000_001
+THIRD = AGAIN + 1_000_000 + DRAWN[3] % 2_000_001
+ANSWER = DRAWN[2] % 500_001
+assert ANSWER < QUESTION < AGAIN < REPORT < THIRD
+
+
+def kept(listen: int = 0, cells: int = 100, rate: int = 4000) -> str:
+    return f"""> board 1 {cells} 1 {SEED}
+ok never
+> keep {rate} {listen}
+ok {QUESTION}
+"""
+
+
+def questions() -> str:
+    return f"""> tick {QUESTION}
+send {datagrams.ask_pages(1)}
+ok {AGAIN}
+> tick {AGAIN}
+send {datagrams.ask_pages(1)}
+ok {REPORT}
+"""
+
+
+def report(now: int, page: Page, marks: list[Mark], echoes: list[Echo]) -> str:
+    return session(1, now, page, marks, echoes)
+
+
+def dot(source: int, page: Page, seq: int, time: int = 1) -> str:
+    return drawop(source, page, seq, time, datagrams.line(0, 0, 0, 0, "x"))
+
+
+STROKE = datagrams.line(0, 0, 4, 0, "*")
+
+DRAWING = {
+    "it draws": f"""
+{kept()}> add 500 11 7/1 text 0 0 "hi"
+send {OURS}
+ok {QUESTION}
+> add 500 5 7/1 delete 1 1
+send {drawop(1, PAGE, 2, 12, datagrams.delete(1, 1))}
+ok {QUESTION}
+> add 501 13 6/9 line 0 0 4 0 *
+send {drawop(1, (6, 9), 1, 13, STROKE)}
+ok {QUESTION}
+> next 7 1
+next 3
+ok {QUESTION}
+> view 7 1
+view 0
+ok {QUESTION}
+> report 7 1
+report 1
+1 2
+ok {QUESTION}
+> pages
+pages 2
+6 9
+7 1
+ok {QUESTION}
+> known
+known 2
+6 9
+7 1
+ok {QUESTION}
+> gaps 7 1
+gaps 0
+ok {QUESTION}
+> show 6 9 5 1
+*****
+ok {QUESTION}
+>
+ok {QUESTION}
+> # nothing
+ok {QUESTION}
+""",
+    "a drawing comes after all that is near, and not after what is an hour ahead": f"""
+{kept()}> came 0 {dot(7, PAGE, 1, 3_600_000_010)}
+batch 1 0 0 0
+ok {QUESTION}
+> add 0 10 7/1 line 0 0 4 0 *
+send {drawop(1, PAGE, 1, 10, STROKE)}
+ok {QUESTION}
+> add 0 11 7/1 line 0 0 4 0 *
+send {drawop(1, PAGE, 2, 3_600_000_011, STROKE)}
+ok {QUESTION}
+> add 0 18446744073709551615 7/1 line 0 0 4 0 *
+send {drawop(1, PAGE, 3, 2**64 - 1, STROKE)}
+ok {QUESTION}
+> add 0 18446744073709551615 7/1 line 0 0 4 0 *
+send {drawop(1, PAGE, 4, 2**64 - 1, STROKE)}
+ok {QUESTION}
+""",
+    "while it listens, numbers of ours are believed below 2^31": f"""
+{kept(listen=300)}> came 10 {session(9, 50, PAGE, [(1, FORGED)], [])}
+ok {QUESTION}
+> came 10 {datagrams.page_state(9, PAGE, [(1, FORGED - 2)])}
+ok {asked_at(10, 0)}
+> add 299 0 7/1 line 0 0 4 0 *
+refused listening
+> add 300 0 7/1 line 0 0 4 0 *
+send {drawop(1, PAGE, FORGED - 1, 0, STROKE)}
+ok {asked_at(10, 0)}
+> add 300 0 7/1 line 0 0 4 0 *
+send {drawop(1, PAGE, FORGED, 1, STROKE)}
+ok {asked_at(10, 0)}
+> came 300 {drawop(1, PAGE, FORGED, 1, STROKE)}
+batch 0 1 0 0
+ok {asked_at(10, 0)}
+> came 300 {drawop(1, PAGE, FORGED + 1, 1, STROKE)}
+refused ours
+> came 300 {session(9, 50, PAGE, [(1, FORGED + 1)], [])}
+ok {asked_at(10, 0)}
+> next 7 1
+next {FORGED + 1}
+ok {asked_at(10, 0)}
+""",
+    "a full board asks for nothing": f"""
+{kept(cells=2)}> came 0 {dot(7, PAGE, 3)}
+batch 1 0 0 0
+ok {QUESTION}
+> add 0 5 7/1 line 0 0 4 0 *
+send {drawop(1, PAGE, 1, 5, STROKE)}
+ok {QUESTION}
+> add 0 5 7/1 line 0 0 4 0 *
+batch 0 0 0 1
+ok {QUESTION}
+> came 0 {STARS}
+batch 0 0 0 1
+ok {QUESTION}
+> came 0 {dot(7, PAGE, 3)}
+batch 0 1 0 0
+ok {QUESTION}
+> came 0 {session(9, 50, PAGE, [(7, 9)], [])}
+ok {QUESTION}
+{questions()}""",
+}
+
+TELLING = {
+    "it asks for pages ever more rarely, and reports": f"""
+{kept()}> tick {QUESTION - 1}
+ok {QUESTION}
+{questions()}> tick {REPORT}
+send {report(REPORT, (0, 0), [], [])}
+ok {min(THIRD, REPORT + 1_000_000 + DRAWN[4] % 2_000_001)}
+""",
+    "a report has its marks and echoes, and the more members the rarer": f"""
+{kept(rate=40)}> came 9 {session(9, 50, PAGE, [], [])}
+ok {QUESTION}
+> came 11 {session(8, 7, PAGE, [], [])}
+ok {QUESTION}
+> came 11 {STARS}
+batch 1 0 0 0
+ok {QUESTION}
+{questions()}> tick {REPORT}
+send {report(REPORT, PAGE, [(7, 1)], [(8, 7, REPORT - 11), (9, 50, REPORT - 9)])}
+ok {min(THIRD, REPORT + 3_000_000 + DRAWN[4] % 6_000_001)}
+""",
+    "a question for pages is answered once": f"""
+{kept()}> came 0 {datagrams.ask_pages(9)}
+ok {QUESTION}
+> came 0 {STARS}
+batch 1 0 0 0
+ok {QUESTION}
+> came 0 {datagrams.ask_pages(1)}
+ok {QUESTION}
+> came 0 {datagrams.ask_pages(9)}
+ok {min(QUESTION, ANSWER)}
+> came 1 {datagrams.ask_pages(8)}
+ok {min(QUESTION, ANSWER)}
+> tick {ANSWER}
+send {datagrams.page_state(1, PAGE, [(7, 1)])}
+ok {QUESTION}
+> came {ANSWER + 1} {datagrams.ask_pages(9)}
+ok {QUESTION}
+""",
+    "and by nobody who heard an answer": f"""
+{kept()}> came 0 {STARS}
+batch 1 0 0 0
+ok {QUESTION}
+> came 0 {datagrams.ask_pages(9)}
+ok {min(QUESTION, ANSWER)}
+> came 5 {datagrams.page_state(9, PAGE, [(7, 1)])}
+ok {REPORT}
+> came 1000004 {datagrams.ask_pages(9)}
+send {report(1_000_004, PAGE, [(7, 1)], [])}
+ok {1_000_004 + 1_000_000 + DRAWN[3] % 2_000_001}
+> came 1000005 {datagrams.ask_pages(9)}
+ok {1_000_005 + DRAWN[4] % 500_001}
+""",
+    "it keeps itself from the present moment on": f"""
+> board 1 100 1 {SEED}
+ok never
+> tick 5000
+ok never
+> keep 1000000 4294967295
+ok {5000 + QUESTION}
+> add 4294972294 0 7/1 line 0 0 4 0 *
+refused listening
+""",
+    "no line tells the last moments": f"""
+{kept()}> tick {2**48 - 1}
+send {datagrams.ask_pages(1)}
+send {report(2**48 - 1, (0, 0), [], [])}
+ok never
+""",
+}
+
+ASKING = {
+    "the neighbours of what came are asked for": f"""
+{kept()}> came 100 {dot(7, PAGE, 3)}
+batch 1 0 0 0
+ok {QUESTION}
+> came 100 {dot(7, PAGE, 3)}
+batch 0 1 0 0
+ok {QUESTION}
+> came 100 {dot(7, PAGE, 3, 2)}
+batch 0 0 1 0
+ok {QUESTION}
+> tick {QUESTION}
+send {datagrams.ask_pages(1)}
+ok {min(asked_at(100, 0), asked_at(100, 1))}
+> tick {max(asked_at(100, 0), asked_at(100, 1))}
+send {datagrams.request(1, 7, PAGE, 1)}
+send {datagrams.request(1, 7, PAGE, 2)}
+ok {min(AGAIN, *(asked_at(max(asked_at(100, 0), asked_at(100, 1)), word, level=1) for word in (2, 3)))}
+""",
+    "what a report tells is asked for, and no number of ours is heard of": f"""
+{kept()}> came 9 {session(9, 50, PAGE, [(1, 5), (7, 2)], [])}
+ok {QUESTION}
+> known
+known 0
+ok {QUESTION}
+> next 7 1
+next 1
+ok {QUESTION}
+> tick {QUESTION}
+send {datagrams.ask_pages(1)}
+ok {min(asked_at(9, 0), asked_at(9, 1))}
+> came {QUESTION} {dot(1, PAGE, 5)}
+batch 1 0 0 0
+ok {min(asked_at(9, 1), *(asked_at(QUESTION, word) for word in (2, 3, 4, 5)))}
+> next 7 1
+next 6
+ok {min(asked_at(9, 1), *(asked_at(QUESTION, word) for word in (2, 3, 4, 5)))}
+""",
+    "64 names may be asked for at once, and one more in a quarter of a second": f"""
+{kept()}> came 0 {dot(7, PAGE, 70)}
+batch 1 0 0 0
+ok {QUESTION}
+> came 0 {session(9, 50, (7, 2), [(8, 5)], [])}
+ok {QUESTION}
+> tick {QUESTION}
+send {datagrams.ask_pages(1)}
+ok {min(asked_at(0, word) for word in range(64))}
+""",
+    "what names us as its sender is no news": f"""
+{kept()}> came 0 {session(1, 50, PAGE, [(7, 2)], [])}
+ok {QUESTION}
+> came 0 {datagrams.page_state(1, PAGE, [(7, 2)])}
+ok {QUESTION}
+> came 0 {datagrams.request(1, 7, PAGE, 1)}
+ok {QUESTION}
+> came 0 {datagrams.ask_pages(1)}
+ok {QUESTION}
+{questions()}""",
+    "a session message tells a distance, which is bounded, and the usual one": f"""
+{kept()}> came 50 {session(7, 9, PAGE, [(7, 1)], [(1, 10, 20)])}
+ok {asked_at(50, 0, 10_000)}
+> came 60 {session(9, 9, PAGE, [(8, 1)], [])}
+ok {min(asked_at(50, 0, 10_000), asked_at(60, 1, 10_000))}
+""",
+    "a request is answered as by any host": f"""
+{kept()}> came 0 {STARS}
+batch 1 0 0 0
+ok {QUESTION}
+> came 0 {datagrams.request(9, 7, PAGE, 1)}
+ok {min(QUESTION, drawn(0, 100_000, TIMERS[0], 1, 1))}
+> tick {QUESTION}
+send {datagrams.ask_pages(1)}
+ok {drawn(0, 100_000, TIMERS[0], 1, 1)}
+> tick {drawn(0, 100_000, TIMERS[0], 1, 1)}
+send {STARS}
+ok {AGAIN}
+""",
+}
+
+# what a host that keeps itself takes no more
+ACTING = [
+    f"arrive {STARS}",
+    f"datagram {STARS}",
+    "draw 7 7/1 1 10 line 0 1 4 1 *",
+    f"hear {datagrams.ask_pages(9)}",
+    f"datagram {datagrams.ask_pages(9)}",
+    "request 9 7 7/1 1",
+    "session-message 9 50 7/1 7=9",
+    "page-state 9 7/1 7=9",
+    "ask-pages 9",
+    "say ask-pages 1",
+    "say ask-pages 2",
+    "say draw 1 7/1 1 11 line 0 0 4 0 *",
+    "look 7 1",
+    "ask 7 1 7 1",
+    "stop 7 1 7 1",
+    "session 7 1",
+    "distance 7 5",
+    "keep 4000 0",
+]
+
+# lines and their faults, as they are read
+MISTYPED = {
+    "keep": "words",
+    "keep 4000": "words",
+    "keep 4000 0 0": "words",
+    "keep 0 0": "number",
+    "keep 1000001 0": "number",
+    "keep 4000 4294967296": "number",
+    "keep x 0": "number",
+    "came": "words",
+    "came 5": "words",
+    "came 5 00 00": "words",
+    "came 281474976710656 00": "number",
+    "came -1 zz": "number",
+    "came 5 zz": "hex",
+    "came 5 574": "hex",
+    "came 5 5742": "datagram 1",
+    "add": "words",
+    " add 1 2 7/1 line 0 0 4 0 *": "words",
+    "add  1 2 7/1 line 0 0 4 0 *": "word 1: number",
+    "add x 2 7/1 line 0 0 4 0 *": "word 1: number",
+    "add 281474976710656 2 7/1 line 0 0 4 0 *": "word 1: number",
+    "add 1": "word 2: missing",
+    "add 1 18446744073709551616 7/1 line 0 0 4 0 *": "word 2: number",
+    "add 1 2": "word 3: missing",
+    "add 1 2 7 line 0 0 4 0 *": "word 3: page",
+    "add 1 2 7/1": "word 4: missing",
+    "add 1 2 7/1 circle 0 0 4 0 *": "word 4: operation",
+    "add 1 2 7/1 line 4096 0 4 0 *": "word 5: number",
+    "add 1 2 7/1 line 0 0 4": "word 8: missing",
+    "add 1 2 7/1 line 0 0 4 0 **": "word 9: glyph",
+    "add 1 2 7/1 line 0 0 4 0 \x7f": "word 9: glyph outside ! to ~",
+    "add 1 2 7/1 line 0 0 4 0 * ": "word 10: one too many",
+    'add 1 2 7/1 text 0 0 "a': "word 7: text",
+    'add 1 2 7/1 text 0 0 ""': "word 7: text of 0 or over 64 bytes",
+    "add 1 2 7/1 delete 7 0": "word 6: target sequence number 0",
+    "add 1 2 7/1 restore 7 1 1": "word 7: one too many",
+}
+
+
+def judge_refused(judge: Judge) -> None:
+    """Each refusal, and that what is refused changes nothing, the time too."""
+    before = f'board 1 16 1 {SEED}\nkeep 4000 0\nadd 900 11 7/1 text 0 0 "hi"\ncame 1000 {STARS}\n'
+    after = f"show 7 1 5 2\nadd 1000 0 7/1 line 0 0 4 0 *\ntick {REPORT}\nknown\nnext 7 1\n"
+    want = host(before + after).splitlines(keepends=True)
+    kept_refusals = {line: "kept" for line in ACTING}
+    kept_refusals |= {
+        "board 1 16 1 42": "second board",
+        "tick 999": "back in time",
+        f"came 999 {STARS}": "back in time",
+        f"came 999 {drawop(1, PAGE, FORGED, 1, datagrams.line(0, 0, 0, 0, 'x'))}": "back in time",
+        "add 999 0 7/1 line 0 0 4 0 *": "back in time",
+        "add 999 0 7/1 delete 1 2": "back in time",
+        f"came 1000 {drawop(1, PAGE, FORGED, 1, datagrams.line(0, 0, 0, 0, 'x'))}": "ours",
+        f"came 1000 {drawop(1, PAGE, 2**32 - 1, 1, datagrams.line(0, 0, 0, 0, 'x'))}": "ours",
+        "add 2000 0 7/1 delete 1 2": "word 6: target is the drawop itself",
+        "add 2000 0 7/1 restore 1 2": "word 6: target is the drawop itself",
+    }
+    for line, fault in (kept_refusals | MISTYPED).items():
+        printed = host(f"{before}{line}\n{after}").splitlines(keepends=True)
+        judge.equal(f"a kept host refuses {line[:40]!r}", printed, [*want[:6], f"refused {fault}\n", *want[6:]])
+
+
+def judge_kept_or_not(judge: Judge) -> None:
+    """When a host may begin to keep itself, and what is refused where it does not."""
+    opened = f"board 1 16 1 {SEED}\n"
+    drawing = "add 5 0 7/1 line 0 0 4 0 *"
+    for line in ["keep 4000 0", f"came 5 {STARS}", drawing]:
+        judge.equal(f"no board: {line[:10]}", host(f"{line}\n{opened}"), "refused no board\nok never\n")
+    for line in [f"came 5 {STARS}", drawing, f"came 0 {datagrams.ask_pages(1)}"]:
+        judge.equal(f"not kept: {line[:10]}", host(f"{opened}{line}\ntick 5\n"), "ok never\nrefused not kept\nok never\n")
+    for line, fault in MISTYPED.items():
+        judge.equal(f"as it is read: {line[:30]!r}", host(f"{line}\n"), f"refused {fault}\n")
+    for line in ACTING[:-1]:
+        printed = host(f"{opened}{line}\nkeep 4000 0\n").splitlines()
+        refused = [said for said in printed if said.startswith("refused")]
+        wanted = ["refused member"] if line == "say ask-pages 2" else ["refused too late"]
+        judge.equal(f"too late behind {line[:20]!r}", refused, wanted)
+    asked = "tick 0\nshow 7 1 5 1\nview 7 1\ngaps 7 1\nreport 7 1\npages\nknown\nnext 7 1\n# and so on\n\nfly\ntick 0\n"
+    printed = host(f"{opened}{asked}keep 4000 0\nkeep 4000 0\n").splitlines()
+    judge.equal("not too late behind questions", printed[-2:], [f"ok {QUESTION}", "refused kept"])
+
+
+class KeptSession(Session):
+    """Lines at random at a host that keeps itself, and what it is to print for each."""
+
+    def __init__(self, seed: int) -> None:
+        super().__init__(seed)
+        self.listen = self.random.choice([0, 300_000, 4_000_000])
+        self.kept = Kept(self.model, self.random.choice([40, 4000, 1_000_000]), self.listen, Words(self.seed, 55))
+        self.lines = [self.come, self.come, self.come, self.come, self.draw, self.on, self.on, self.asking]
+
+    def any_drawop(self) -> Drawop:
+        made = self.drawop()
+        if self.below(40) == 0:
+            return Drawop(Name(ME, self.page(), FORGED + self.below(3)), 5, datagrams.text(0, 0, "x"), 'text 0 0 "x"')
+        return made
+
+    def datagram(self) -> Datagram:
+        sender, page, marks = self.random.choice(MEMBERS), self.page(), self.marks()
+        if self.below(9) == 0:
+            marks = [(ME if source == ME else source, self.random.choice([high, FORGED - 5, FORGED, 2**32 - 1])) for source, high in marks]
+        kind = self.below(9)
+        if kind < 4:
+            return self.any_drawop()
+        if kind < 6:
+            ago = self.below(400_000)
+            echoes: list[Echo] = [(ME, max(0, self.model.now - ago), self.below(ago + 5))] if self.below(2) else []
+            return Message(sender, self.below(10**9), page, marks, echoes)
+        if kind == 6:
+            return State(sender, page, marks)
+        if kind == 7:
+            held = list(self.model.held)
+            return Request(sender, self.random.choice(held) if held and self.below(2) else self.name())
+        return AskPages(sender)
+
+    def moment(self) -> int:
+        if self.below(3) == 0:
+            return max(self.model.now, self.kept.due() - self.below(2))
+        return self.model.now + self.below(self.random.choice([2_000, 150_000, 2_000_000]))
+
+    def come(self) -> tuple[str, str]:
+        now, datagram = self.moment(), self.datagram()
+        return f"came {now} {digits_of(datagram)}", self.answered(lambda: self.kept.came(now, datagram))
+
+    def draw(self) -> tuple[str, str]:
+        now, time, page = self.moment(), self.below(40), self.page()
+        operation, told = self.operation()
+        line = f"add {now} {time} {page[0]}/{page[1]} {told}"
+        return line, self.answered(lambda: self.kept.add(now, time, page, operation, told))
+
+    def on(self) -> tuple[str, str]:
+        now = self.moment() - (self.below(30) == 0)
+        return f"tick {max(0, now)}", self.answered(lambda: self.kept.tick(max(0, now)))
+
+    def asking(self) -> tuple[str, str]:
+        page = self.page()
+        word = self.random.choice(["gaps", "report", "next", "view"])
+        return f"{word} {page[0]} {page[1]}", getattr(self.model, word)(page) + f"ok {self.kept.due()}\n"
+
+    def answered(self, does) -> str:
+        try:
+            return does() + f"ok {self.kept.due()}\n"
+        except Refused as fault:
+            return f"refused {fault}\n"
+
+    def conversation(self) -> tuple[str, str]:
+        given = f"board {ME} {self.cells} 1 {self.seed}\nkeep {self.kept.rate} {self.listen}\n"
+        printed = f"ok never\nok {self.kept.due()}\n"
+        for _ in range(LINES):
+            line, block = self.random.choice(self.lines)()
+            given += f"{line}\n"
+            printed += block
+        return given, printed
+
+
+def judge_random(judge: Judge) -> None:
+    for seed in SEEDS:
+        given, printed = KeptSession(seed).conversation()
+        said = host(given)
+        judge.equal(f"a kept host, lines at random, {seed}", first_difference(given, said, printed), "")
+
+
+def first_difference(given: str, said: str, wanted: str) -> str:
+    """The first line that is printed otherwise than wanted, or nothing."""
+    if said == wanted:
+        return ""
+    for number, (one, other) in enumerate(zip(said.splitlines() + [""], wanted.splitlines() + [""])):
+        if one != other:
+            block = sum(line.startswith(("ok ", "refused ")) for line in wanted.splitlines()[:number])
+            return f"block {block} of {given.splitlines()[block][:60]}: {one[:90]} for {other[:90]}"
+    return "longer"
+
+
+def judge_all(judge: Judge) -> None:
+    for table in DRAWING, TELLING, ASKING:
+        for name, conversation in table.items():
+            given, printed = parted(conversation)
+            judge.equal(f"kept: {name}", host(given), printed)
+    judge_refused(judge)
+    judge_kept_or_not(judge)
+    judge_random(judge)
