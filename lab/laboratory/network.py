@@ -1,82 +1,23 @@
 """Who gets a datagram, and when: the way from each sender over the links, and the links that lose it."""
 from __future__ import annotations
 
-import math
-import random
+from collections import defaultdict
+from collections.abc import Iterable
 from dataclasses import dataclass, field
-from typing import Protocol
 
+from laboratory.losses import Loss, Sending, Step
 from laboratory.shapes import Tree
 
-
-@dataclass(frozen=True)
-class Step:
-    """A link on the way from a sender, in an order in which all that lies behind a link follows it, up to place `end`."""
-
-    link: int
-    delay: int
-    end: int
-    member: int | None
+# members who get a datagram at one moment, behind the delay
+Group = tuple[int, tuple[int, ...]]
 
 
-@dataclass(frozen=True)
-class Sending:
-    """A datagram that a member sends. `first` is the number of a drawop that is sent for the first time, else 0."""
-
-    sender: int
-    moment: int
-    first: int
-
-
-class Loss(Protocol):
-    """Says at which places of a way a datagram is lost."""
-
-    def places(self, way: list[Step], sending: Sending) -> list[int]: ...
-
-
-class NoLoss:
-    """Nothing is lost."""
-
-    def places(self, way: list[Step], sending: Sending) -> list[int]:
-        return []
-
-
-@dataclass
-class OnceEach:
-    """Every other drawop is lost once, on its first way: on the link given, else on one by chance. Nothing else is lost."""
-
-    chance: random.Random
-    link: int | None = None
-
-    def places(self, way: list[Step], sending: Sending) -> list[int]:
-        if sending.first % 2 == 0 or not way:
-            return []
-        if self.link is None:
-            return [self.chance.randrange(len(way))]
-        return [at for at, step in enumerate(way) if step.link == self.link]
-
-
-@dataclass
-class Share:
-    """Each link loses a share of what crosses it, of drawops that are sent for the first time alone or of everything."""
-
-    chance: random.Random
-    share: float
-    drawops_alone: bool
-    between: tuple[float, float] = (0, math.inf)
-
-    def places(self, way: list[Step], sending: Sending) -> list[int]:
-        spared = self.drawops_alone and not sending.first
-        if spared or self.share <= 0 or not self.between[0] <= sending.moment < self.between[1]:
-            return []
-        if self.share >= 1:
-            return list(range(len(way)))
-        places, at = [], -1
-        while True:  # the number of links that are passed over before the next loss
-            at += 1 + int(math.log(1 - self.chance.random()) / math.log(1 - self.share))
-            if at >= len(way):
-                return places
-            places.append(at)
+def by_delay(given: Iterable[tuple[int, int]]) -> list[Group]:
+    """Members with their delays, as groups of one delay each, the least delay first."""
+    groups: dict[int, list[int]] = defaultdict(list)
+    for member, delay in given:
+        groups[delay].append(member)
+    return [(delay, tuple(members)) for delay, members in sorted(groups.items())]
 
 
 @dataclass
@@ -95,14 +36,15 @@ class Network:
             self.neighbours[link.other].append((link.one, number))
         self.member_at = {node: member for member, node in enumerate(self.tree.places, 1)}
         self.distances: dict[int, dict[int, int]] = {}
-        self.all_others: dict[int, list[tuple[int, int]]] = {}
+        self.all_others: dict[int, list[Group]] = {}
 
     def way(self, sender: int) -> list[Step]:
         """The way from a sender to all others. Links behind which there is no member are left out."""
         if sender not in self.ways:
             self.ways[sender] = self.walk(self.tree.places[sender - 1])
-            self.all_others[sender] = [(step.member, step.delay) for step in self.ways[sender] if step.member]
-            self.distances[sender] = dict(self.all_others[sender])
+            others = [(step.member, step.delay) for step in self.ways[sender] if step.member]
+            self.all_others[sender] = by_delay(others)
+            self.distances[sender] = dict(others)
         return self.ways[sender]
 
     def distance(self, one: int, other: int) -> int:
@@ -140,8 +82,8 @@ class Network:
         """A time that every datagram is on its way at least: what happens within it at two members can't depend on one another."""
         return max(1, min((link.delay for link in self.tree.links), default=1))
 
-    def receivers(self, sending: Sending) -> tuple[list[tuple[int, int]], list[int]]:
-        """The members that get it, each with the delay, and those that do not."""
+    def receivers(self, sending: Sending) -> tuple[list[Group], list[int]]:
+        """The members that get it, in groups of one delay, and those that do not."""
         way = self.way(sending.sender)
         places = self.loss.places(way, sending)
         if not places and self.deaf is None:
@@ -158,4 +100,4 @@ class Network:
         if self.deaf is not None:
             lost += [member for member, _ in given if member == self.deaf]
             given = [(member, delay) for member, delay in given if member != self.deaf]
-        return given, lost
+        return by_delay(given), lost

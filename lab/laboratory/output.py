@@ -8,7 +8,7 @@ from pathlib import Path
 from typing import Any
 
 from laboratory.measures import Row, summary
-from laboratory.plots import Plot, Series
+from laboratory.plots import Panel, Plot, Point, Series
 from laboratory.runs import Result
 
 
@@ -37,8 +37,10 @@ def words_of(result: Result) -> str:
         lines += [
             f"requests a loss: {numbers['requests_mean']:.3f}, repairs a loss: {numbers['repairs_mean']:.3f} (means)",
             f"first request after {in_units(numbers['first_request_mean'])}, last repair after {in_units(numbers['last_repair_mean'])} "
-            "distances to the source (means)",
+            f"round trips to the source, which is {in_units(numbers['seconds_mean'])} s (means)",
         ]
+    if totals["seconds_from_coming"]:
+        lines.append("members that came were whole after " + ", ".join(f"{seconds:.3f} s" for seconds in totals["seconds_from_coming"]))
     lines += [
         f"datagrams sent: {sent}; bytes of session messages: {totals['bytes'].get('session', 0)}",
         f"all show the same page {totals['seconds_until_all_show_the_same']:.3f} s after the last drawop was sent",
@@ -50,19 +52,17 @@ def in_units(value: float | int | None) -> str:
     return "-" if value is None else f"{value:.3f}"
 
 
-def shares(values: list[float]) -> list[tuple[float, float]]:
+def shares(values: list[float]) -> list[Point]:
     """For each value the share of values that are not above it."""
     ordered = sorted(values)
-    return [(0.0, 0.0)] + [(value, (at + 1) / len(ordered)) for at, value in enumerate(ordered)]
+    return [Point(0.0, 0.0)] + [Point(value, (at + 1) / len(ordered)) for at, value in enumerate(ordered)]
 
 
 def plot_of(result: Result) -> str:
-    """How soon losses were asked for and made good."""
+    """How soon losses were asked for and repaired."""
     first = [row.first_request for row in result.rows if row.first_request is not None]
     last = [row.last_repair for row in result.rows if row.last_repair is not None]
-    plot = Plot(f"{result.settings.shape} of {result.settings.members}", "distances to the source", "share of the losses")
-    plot.series = [
-        Series(name, shares(values), marks=False)
-        for name, values in (("asked for by then", first), ("made good everywhere by then", last)) if values
-    ]
-    return plot.svg() if plot.series else "<svg xmlns=\"http://www.w3.org/2000/svg\"/>\n"
+    series = [Series(name, shares(values), marks=False) for name, values in (("asked for by then", first), ("repaired everywhere by then", last)) if values]
+    title = f"{result.settings.shape} of {result.settings.members}"
+    panel = Panel("", "round trips to the source", "share of the losses", series)
+    return Plot(title, [panel]).svg() if series else '<svg xmlns="http://www.w3.org/2000/svg"/>\n'

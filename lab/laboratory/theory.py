@@ -12,10 +12,11 @@ def published_first_request(group: int, c1: int, c2: int) -> float:
     return c1 + c2 / group
 
 
-def exact_senders(timers: int, width: int) -> float:
+def exact_senders(timers: int, width: int, reach: float = 1) -> float:
     """How many of so many timers fire, where each is uniform over `width` distances and the first stops those more than one distance later.
 
-    With n timers and p = 1/width: 1 + n p - p^n.
+    With n timers and p = 1/width: 1 + n p - p^n. Where timers take a distance for longer than it is, `reach` is the true one in it, and
+    p = reach/width.
     """
-    share = 1 / width
+    share = reach / width
     return 1 + timers * share - share ** timers
