@@ -1,14 +1,23 @@
-/** A host with its record: a drawing of ours is in the record before the host has it, and a host that broke off starts from it. */
+/** A host that keeps itself, with its record: a drawing of ours is in the record before it is sent, and a host that broke off starts from
+ * it. `live/board.py` once more. */
+import { heldOf } from './held.js';
 import { HostEnded } from './host.js';
-import { actsOf, constantsOf } from './record.js';
-import { tuningFor } from './tunings.js';
-import { drawopOf, pageWords } from './views.js';
+import { FIRST_LINE, actsOf } from './record.js';
+import { drawopOf, pageNumbers, pageWords } from './views.js';
 
 /** @typedef {import('./views.js').Drawop} Drawop */
 /** @typedef {import('./host.js').Block} Block */
 
+/** What a board is begun with: the room of a new one, in drawops; bytes a second that the reports of all members take; the constants of the
+ * timers; and whether the number may have drawn what its record lacks.
+ * @typedef {{ cells: number, rate: number, tuning: string, mayHaveDrawn: boolean }} Start */
+
 /** The part of a page that is painted: the greatest canvas that a host gives. */
 export const COLUMNS = 200, ROWS = 100;
+
+/** A number that may have drawn before listens for so many microseconds: a crash of the machine may have taken the end of its record. Any
+ * other listens to its record alone, which may have a mark of its own. */
+const LISTENING = 3_000_000, LEAST_LISTENING = 1;
 
 /** A host that is started so often within a minute, in milliseconds, is not started again. */
 const MOST_STARTS = 4, MINUTE = 60_000;
@@ -16,8 +25,14 @@ const MOST_STARTS = 4, MINUTE = 60_000;
 /** Lines of a record that are given to a new host at once. */
 const AT_ONCE = 500;
 
-/** What `batch` tells of a drawop that was not held. */
-const NEW = 'batch 1 0 0 0';
+/** What `batch` tells of one drawop. */
+export const NEW = 'batch 1 0 0 0', CLASH = 'batch 0 0 1 0', FULL = 'batch 0 0 0 1';
+
+/** How a drawop begins, in either version. */
+const DRAWOPS = ['57420101', '57420201'];
+
+/** A line by which it is tried whether the record can be written again. */
+const TRIED = '# there is room again';
 
 /** The host broke off too often: nothing more is tried. */
 export class BoardFault extends Error {}
@@ -26,65 +41,72 @@ export class BoardFault extends Error {}
 export class NoRoom extends Error {}
 
 export class Board {
-  /** @param {import('./host.js').Program} program @param {import('./record.js').Record} record
+  /** @param {import('./host.js').Program} program @param {import('./record.js').Record} record @param {Start} options
    * @param {(digits: string[]) => Promise<(string | null)[]>} words says datagrams in words
    * @param {(drawop: Drawop) => void} hold is told each drawop that the host took in */
-  constructor(program, record, words, hold) {
+  constructor(program, record, options, words, hold) {
     this.program = program;
     this.record = record;
+    this.options = options;
     this.words = words;
     this.hold = hold;
     /** @type {import('./host.js').Host | null} */
     this.host = null;
-    this.moment = 0;
-    this.keptMoment = 0;
+    this.me = 0;
     this.cells = 0;
-    this.tuning = '';
+    this.moment = 0; // of the last line
+    this.keptMoment = 0; // of the record's last line
+    this.readyAt = 0; // from then on it may draw
     this.base = 0;
-    /** The moment at which a timer is due.
+    /** The moment at which the host has something to do.
      * @type {number | null} */
     this.due = null;
     /** When the host broke off, in milliseconds.
      * @type {number[]} */
     this.ends = [];
-    /** Is called where another host stands in its place. */
-    this.startedAgain = () => {};
   }
 
-  /** Starts the host: from the lines of the record, or with a new board of so many cells. Its constants are those for the members that are
-   * expected, where it is said how many are, and else those of the record. Members that are heard change none.
-   * @param {number} me @param {number} cells @param {number} members 0 where it is not said */
-  async open(me, cells, members) {
-    const lines = await this.record.lines(), was = constantsOf(lines), expected = members || was.members || 1, isNew = !actsOf(lines).length;
-    this.tuning = was.tuning;
-    if (isNew || expected !== was.members) {
-      this.tuning = tuningFor(expected);
-      this.record.note(`constants ${this.tuning} for ${expected} members`);
-    }
-    if (isNew) this.record.add(boardLine(me, cells));
+  /** Starts the host: with what the record has, or with a new board.
+   * @param {number} me */
+  async open(me) {
+    if (!actsOf(await this.record.lines()).length) this.record.add(FIRST_LINE, boardLine(me, this.options.cells));
     this.record.note('started');
-    await this.start();
+    await this.start(this.options.mayHaveDrawn ? LISTENING : 0);
     // above every moment of the record
     this.base = this.moment + 1 - performance.now() * 1_000;
   }
 
-  /** The present moment, in microseconds of the session. */
+  /** The present moment, in microseconds of the session, above that of each line that was told. */
   now() {
+    return Math.max(this.clock(), this.moment + 1);
+  }
+
+  clock() {
     return Math.floor(performance.now() * 1_000 + this.base);
   }
 
-  /** Gives a new host the lines that make the board, and tells the drawops of them. */
-  async start() {
-    const lines = actsOf(await this.record.lines()), host = await this.program.start('host', '--tuning', this.tuning), { moment } = this;
-    for (let at = 0; at < lines.length; at += AT_ONCE) {
-      const part = lines.slice(at, at + AT_ONCE), blocks = await host.askAll(part);
-      part.forEach((line, i) => this.heed(line, blocks[i]));
-      await this.tellHeld(part, blocks);
+  /** Starts a host that keeps itself, and gives it the datagrams of the record. What it sends meanwhile nobody waits for.
+   * @param {number} listening for how many microseconds nothing is drawn */
+  async start(listening) {
+    const { board, moment, datagrams } = await heldOf(this.program, actsOf(await this.record.lines()));
+    const host = await this.program.start('host', '--tuning', this.options.tuning), now = Math.max(this.moment, moment);
+    this.readyAt = now + Math.max(LEAST_LISTENING, listening);
+    const begun = [board, `tick ${now}`, `keep ${this.options.rate} ${this.readyAt - now}`];
+    (await host.askAll(begun)).forEach((block, i) => this.heed(begun[i], block));
+    for (let at = 0; at < datagrams.length; at += AT_ONCE) {
+      const part = datagrams.slice(at, at + AT_ONCE), lines = part.map((digits) => `came ${now} ${digits}`), blocks = await host.askAll(lines);
+      lines.forEach((line, i) => this.heed(line, blocks[i]));
+      await this.tellHeld(part.filter((_, i) => blocks[i].lines.at(-1) === NEW));
     }
     this.host = host;
-    this.cells = Number(lines[0].split(' ')[2]);
-    this.keptMoment = Number(lines.findLast((line) => line.startsWith('tick '))?.slice(5) ?? 0);
-    this.moment = Math.max(moment, this.keptMoment);
+    [this.me, this.cells] = board.split(' ').slice(1, 3).map(Number);
+    this.keptMoment = moment;
+  }
+
+  /** Tells the drawops that a host was given at its start.
+   * @param {string[]} digits */
+  async tellHeld(digits) {
+    (await this.words(digits)).forEach((words, i) => { if (words !== null) this.hold(drawopOf(words, digits[i])); });
   }
 
   /** Remembers what a block says of time.
@@ -92,17 +114,7 @@ export class Board {
   heed(line, block) {
     if (block.fault !== null) return;
     this.due = block.due;
-    if (line.startsWith('tick ')) this.moment = Number(line.slice(5));
-  }
-
-  /** Tells the drawops of lines that were given.
-   * @param {string[]} lines @param {Block[]} blocks */
-  async tellHeld(lines, blocks) {
-    const digits = lines.flatMap((line, i) => {
-      if (line.startsWith('datagram ')) return blocks[i].lines[0] === NEW ? [line.slice(9)] : [];
-      return line.startsWith('say draw ') ? blocks[i].sent() : [];
-    });
-    (await this.words(digits)).forEach((words, i) => { if (words !== null) this.hold(drawopOf(words, digits[i])); });
+    if (/^(tick|came|add) /.test(line)) this.moment = Number(line.split(' ', 2)[1]);
   }
 
   /** Starts a host in the place of one that broke off, which is thrown away with its memory. */
@@ -111,9 +123,18 @@ export class Board {
       const now = performance.now();
       this.ends = [...this.ends, now];
       if (this.ends.filter((end) => now - end < MINUTE).length >= MOST_STARTS) throw new BoardFault(`the host broke off ${MOST_STARTS} times within a minute`);
-      await this.start().catch((fault) => { if (!(fault instanceof HostEnded)) throw fault; });
+      await this.start(this.readyAt - this.moment).catch((fault) => { if (!(fault instanceof HostEnded)) throw fault; });
     }
-    this.startedAgain();
+  }
+
+  /** Goes on by a new host, which has what the record has, and asks at once, without the waits that have grown. */
+  async beginAgain() {
+    try {
+      await this.start(this.readyAt - this.moment);
+    } catch (fault) {
+      if (!(fault instanceof HostEnded)) throw fault;
+      await this.startAgain();
+    }
   }
 
   // ---- lines
@@ -121,64 +142,54 @@ export class Board {
   /** The block of a line. HostEnded where the host broke off and was started again: then the line did nothing.
    * @param {string} line */
   async tell(line) {
+    if (!this.host) throw new BoardFault('there is no host');
     try {
-      return await this.ask(line);
+      const block = await this.host.ask(line);
+      this.heed(line, block);
+      return block;
     } catch (fault) {
-      await this.mend(line, fault);
+      if (!(fault instanceof HostEnded)) throw fault;
+      this.record.note(`the host broke off (${String(fault).slice(0, 80)}) at: ${line.slice(0, 60)} ..`);
+      await this.startAgain();
       throw fault;
     }
   }
 
-  /** @param {string} line */
-  async ask(line) {
-    if (!this.host) throw new BoardFault('there is no host');
-    const block = await this.host.ask(line);
-    this.heed(line, block);
-    return block;
-  }
-
-  /** Starts the host again that broke off at a line.
-   * @param {string} line @param {unknown} fault */
-  async mend(line, fault) {
-    if (!(fault instanceof HostEnded)) return;
-    this.record.note(`the host broke off (${String(fault).slice(0, 80)}) at: ${line.slice(0, 60)} ..`);
-    await this.startAgain();
+  /** Gives the host a datagram that came in.
+   * @param {string} digits */
+  came(digits) {
+    return this.tell(`came ${this.now()} ${digits}`);
   }
 
   /** Gives the host a drawop of another. One that is new is kept and told.
    * @param {Drawop} drawop */
   async take(drawop) {
-    const line = `datagram ${drawop.digits}`, block = await this.tell(line);
-    if (block.lines[0] === NEW) {
-      this.keep(line);
+    const block = await this.came(drawop.digits);
+    if (block.lines.at(-1) === NEW) {
+      this.keep(`datagram ${drawop.digits}`);
       this.hold(drawop);
     }
     return block;
   }
 
-  /** Gives the host a mark of its own number that was heard, and keeps it.
-   * @param {string} line */
-  async mark(line) {
-    if ((await this.tell(line)).fault === null) this.keep(line);
-  }
-
-  /** Gives the host a drawing of ours, which the record has before the host does. NoRoom where it can't have it.
-   * @param {string} words */
-  async draw(words) {
-    const line = `say ${words}`, lines = this.withTick(line);
-    if (!await this.record.keep(lines)) throw new NoRoom(this.record.fault);
-    try {
-      const block = await this.ask(line);
-      if (block.sent().length) {
-        this.keptMoment = this.moment;
-        this.hold(drawopOf(words, block.sent()[0]));
-      } else await this.record.takeBack(lines.length);
-      return block;
-    } catch (fault) {
-      await this.record.takeBack(lines.length);
-      await this.mend(line, fault);
-      throw fault;
+  /** Has the host draw, which gives a drawing its number and its time. The record has it before anything of it is sent; where it can't have it, nor
+   * does the host any more, and NoRoom says why.
+   * @param {string} page @param {number} seq the number that it will have @param {number} time @param {string} operation
+   * @returns {Promise<{ block: Block, drawop: Drawop | null }>} */
+  async draw(page, seq, time, operation) {
+    if (this.record.fault && !await this.record.keep([TRIED])) throw new NoRoom(this.record.fault);
+    const block = await this.tell(`add ${this.now()} ${time} ${page} ${operation}`), name = digitsOfName(this.me, page, seq);
+    const digits = block.sent().find((each) => DRAWOPS.includes(each.slice(0, 8)) && each.slice(16, 48) === name);
+    if (digits === undefined) return { block, drawop: null };
+    const [words] = await this.words([digits]);
+    if (words === null || !await this.record.keep(this.withTick(`say ${words}`))) {
+      await this.beginAgain();
+      throw words === null ? new HostEnded('wb words ended') : new NoRoom(this.record.fault);
     }
+    this.keptMoment = this.moment;
+    const drawop = drawopOf(words, digits);
+    this.hold(drawop);
+    return { block, drawop };
   }
 
   /** A line behind the tick that the record lacks.
@@ -198,12 +209,12 @@ export class Board {
    * @param {number} me @param {import('./record.js').Record} record @param {Drawop[]} held */
   async renumber(me, record, held) {
     const old = this.record;
-    record.note(`constants ${this.tuning} for ${constantsOf(await old.lines()).members} members`);
-    record.add(boardLine(me, this.cells), `tick ${this.moment}`, ...held.map(({ digits }) => `datagram ${digits}`));
-    await record.flush();
-    if (record.fault) throw new NoRoom(record.fault);
+    if (!await record.keep([FIRST_LINE, boardLine(me, this.cells), `tick ${this.moment}`, ...held.map(({ digits }) => `datagram ${digits}`)])) {
+      throw new NoRoom(record.fault);
+    }
     this.record = record;
-    await this.start().catch(() => this.startAgain());
+    this.readyAt = this.moment;
+    await this.beginAgain();
     await old.remove();
   }
 
@@ -223,36 +234,17 @@ export class Board {
     return rows;
   }
 
-  /** The missing numbers of a page.
-   * @param {string} page */
-  async gaps(page) {
-    return (await this.numbers(`gaps ${pageWords(page)}`)).map(([source, first, last]) => ({ source, first, last }));
-  }
-
-  /** The greatest number of each source that is held of a page.
-   * @param {string} page @returns {Promise<[number, number][]>} */
-  async marks(page) {
-    return (await this.numbers(`report ${pageWords(page)}`)).map(([source, high]) => [source, high]);
-  }
-
-  /** The pages that were heard of. */
-  async known() {
-    return (await this.numbers('known')).map(([creator, number]) => `${creator}/${number}`);
-  }
-
-  /** The rows of numbers that a line prints below their count.
-   * @param {string} line */
-  async numbers(line) {
-    return (await this.tell(line)).lines.slice(1).map((row) => row.split(' ').map(Number));
-  }
-
-  /** The number for the next drawop of ours on a page, where one is left.
-   * @param {string} page */
+  /** The number for the next drawop of ours on a page, or why there is none.
+   * @param {string} page @returns {Promise<{ seq: number, lacks: string | null }>} */
   async nextNumber(page) {
-    const block = await this.tell(`next ${pageWords(page)}`);
-    return block.fault === null ? Number(block.lines[0].split(' ')[1]) : null;
+    const { fault, lines } = await this.tell(`next ${pageWords(page)}`);
+    return { seq: fault === null ? Number(lines[0].split(' ')[1]) : 0, lacks: fault };
   }
 }
 
 /** @param {number} me @param {number} cells */
 const boardLine = (me, cells) => `board ${me} ${cells} 1 ${crypto.getRandomValues(new BigUint64Array(1))[0]}`;
+
+/** The digits by which a drawop of ours says its name: its source, the page and its number.
+ * @param {number} me @param {string} page @param {number} seq */
+const digitsOfName = (me, page, seq) => [me, ...pageNumbers(page), seq].map((number) => number.toString(16).padStart(8, '0')).join('');

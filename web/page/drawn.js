@@ -16,7 +16,6 @@ export class Sheet {
     /** The greatest number of each source.
      * @type {Map<number, number>} */
     this.tops = new Map();
-    this.latest = 0;
     /** @type {Drawop[]} */
     this.shown = [];
     /** @type {Map<string, Drawop>} */
@@ -32,11 +31,10 @@ export class Sheet {
   /** Whether it is new.
    * @param {Drawop} drawop */
   add(drawop) {
-    const { name, source, page, seq, time, operation } = drawop;
+    const { name, source, page, seq, operation } = drawop;
     if (this.drawops.has(name)) return false;
     this.drawops.set(name, drawop);
     this.tops.set(source, Math.max(seq, this.tops.get(source) ?? 0));
-    this.latest = Math.max(this.latest, time);
     if (isDrawing(drawop)) {
       this.place(drawop);
       return true;
@@ -136,14 +134,11 @@ export class Drawn {
     return [...this.pages].filter(([, { drawops }]) => drawops.size).map(([page]) => page);
   }
 
-  /** The latest time on a page that is not above a bound.
-   * @param {string} page @param {number} bound */
-  latest(page, bound) {
+  /** How many numbers of a page are missing below the greatest that is held of each source.
+   * @param {string} page */
+  missing(page) {
     const sheet = this.pages.get(page);
-    if (!sheet || sheet.latest <= bound) return sheet?.latest ?? 0;
-    let latest = 0;
-    for (const { time } of sheet.drawops.values()) if (time <= bound && time > latest) latest = time;
-    return latest;
+    return sheet ? [...sheet.tops.values()].reduce((sum, top) => sum + top, 0) - sheet.drawops.size : 0;
   }
 
   /** @returns {Drawop[]} */

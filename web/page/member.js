@@ -1,10 +1,10 @@
 /** A member of a session: hands to the host what comes in and what is drawn, ticks when it says, sends what it answers. What it concludes
- * stands in judgement.js, what people do in people.js, and what it tells the board in telling.js. */
+ * beside its host stands in judging.js, what people do in people.js, and what it tells the board in telling.js. */
 import { Alarms } from './alarms.js';
 import { Board } from './board.js';
 import { Drawn } from './drawn.js';
 import { HostEnded } from './host.js';
-import { Judgement } from './judgement.js';
+import { Judging } from './judging.js';
 import { People } from './people.js';
 import { Presence, isAside, readGone } from './presence.js';
 import { Telling } from './telling.js';
@@ -14,8 +14,8 @@ import { Words } from './words.js';
 /** The page of names, titles and the chat, which is not turned to by itself (docs/WORDS.md). */
 const NOTES = '0/0';
 
-/** Two ticks lie so far apart at least, in microseconds, and a turn waits so long at most, in milliseconds. */
-const LEAST_TICK = 1_000, LONGEST_WAIT = 1_000;
+/** A turn waits so many milliseconds at most. */
+const LONGEST_WAIT = 1_000;
 
 /** The longest datagram that every transport carries. */
 const MOST_BYTES = 65_507;
@@ -23,9 +23,8 @@ const MOST_BYTES = 65_507;
 /** What carries the datagrams of a member, and how many came that were not sealed by our key.
  * @typedef {import('./transports.js').Transport & { foreign?: number }} Carrier */
 
-/** What a member is begun with: `members` are those that are expected, 0 where that is not said; `mayHaveDrawn` tells whether its number may
- * have drawn before what the record has.
- * @typedef {{ notice: string, teach: boolean, cells: number, members: number, mayHaveDrawn: boolean }} Options */
+/** What a member is begun with: what its page says of it, and how its board starts.
+ * @typedef {{ notice: string, teach: boolean, start: import('./board.js').Start }} Options */
 
 const hex = (/** @type {Uint8Array} */ bytes) => Array.from(bytes, (byte) => byte.toString(16).padStart(2, '0')).join('');
 const unhex = (/** @type {string} */ digits) => Uint8Array.from(digits.match(/../g) ?? [], (two) => parseInt(two, 16));
@@ -52,20 +51,16 @@ export class Member {
     this.people = new People(this);
     this.presence = new Presence((news) => post('presence', news));
     this.telling = new Telling(this, post);
-    this.board = new Board(program, record, async (digits) => (await this.words.of(digits)).map(({ words }) => words), (drawop) => this.hold(drawop));
-    this.judgement = /** @type {Judgement} */ (/** @type {unknown} */ (null));
+    this.board = new Board(program, record, options.start, async (digits) => (await this.words.of(digits)).map(({ words }) => words), (drawop) => this.hold(drawop));
+    this.judging = /** @type {Judging} */ (/** @type {unknown} */ (null));
     this.wake = () => { this.isAwake = true; };
     inbox.wake = () => this.wake();
   }
 
   /** Starts the host. */
   async open() {
-    await this.board.open(this.me, this.options.cells, this.options.members);
-    this.judgement = new Judgement(this, this.options.mayHaveDrawn);
-    this.board.startedAgain = () => {
-      this.judgement.startAgain();
-      this.telling.isChanged = true;
-    };
+    await this.board.open(this.me);
+    this.judging = new Judging(this);
   }
 
   // ---- the loop
@@ -77,6 +72,7 @@ export class Member {
         await this.turn();
       } catch (fault) {
         if (!(fault instanceof HostEnded)) throw fault;
+        this.telling.isChanged = true;
       }
       await this.rest(this.pause());
     }
@@ -95,14 +91,14 @@ export class Member {
 
   /** What is due is done. */
   async passTime() {
-    const now = this.board.now();
-    for (const [moment, act] of this.judgement.plan()) if (moment <= now) await act();
+    const now = this.board.clock();
+    for (const [moment, act] of this.judging.plan()) if (moment <= now) await act();
   }
 
   /** Milliseconds until the next thing that is due. */
   pause() {
     if (this.people.calls.length) return 0;
-    const until = (Math.min(...this.judgement.plan().map(([moment]) => moment)) - this.board.now()) / 1_000;
+    const until = (Math.min(...this.judging.plan().map(([moment]) => moment)) - this.board.clock()) / 1_000;
     return Math.min(LONGEST_WAIT, Math.max(1, until), this.inbox.pause(), this.telling.pause());
   }
 
@@ -131,28 +127,28 @@ export class Member {
     const gone = readGone(bytes);
     if (!isAside(bytes)) this.inbox.take(bytes, place);
     else if (gone === null) this.presence.hear(bytes, this.me);
-    else if (place && place.endsWith(`/${gone}`)) this.judgement?.heard.leave(place);
+    else if (place && place.endsWith(`/${gone}`)) this.judging?.heard.leave(place);
   }
 
   // ---- the host
 
-  /** The block of a line that changes nothing that is held, after its datagrams were sent.
-   * @param {string} line */
-  async tell(line) {
-    const block = await this.board.tell(line);
+  /** The host does what is due. */
+  async tick() {
+    const block = await this.board.tell(`tick ${this.board.now()}`);
     for (const digits of block.sent()) await this.send(digits);
-    return block;
   }
 
-  /** Makes this the present moment, where the last is older than a millisecond. */
-  async advance() {
-    const now = this.board.now();
-    if (now - this.board.moment >= LEAST_TICK) await this.tell(`tick ${now}`);
+  /** The network was gone and is back: a host that starts from the record asks at once, without the waits that have grown. */
+  beginAgain() {
+    return this.people.call(async () => {
+      await this.board.beginAgain();
+      this.telling.isChanged = true;
+    });
   }
 
   /** @param {string} digits */
   async send(digits) {
-    this.judgement.went(digits);
+    this.judging.went(digits);
     this.wire.went((await this.words.of([digits]))[0].words);
     if (digits.length <= 2 * MOST_BYTES) this.transport.send(unhex(digits));
     else this.alarms.warn(`a datagram of over ${MOST_BYTES} bytes can't be sent`);
@@ -167,17 +163,14 @@ export class Member {
     this.telling.arePagesChanged = true;
   }
 
-  /** Hands on a datagram that came in, tells what became of it, and sends what the host answers at once.
+  /** Hands on a datagram that came in, tells what became of it, and sends what the host sends then.
    * @param {import('./inbox.js').Arrival} arrival */
   async arrive(arrival) {
     const digits = hex(arrival.bytes), { words, fault } = (await this.words.of([digits]))[0];
     /** @type {string[]} */
     const sent = [];
     let refused = fault;
-    if (!arrival.isLost && words !== null) {
-      await this.advance();
-      refused = await this.judgement.heed(words, digits, arrival.place, sent);
-    }
+    if (!arrival.isLost && words !== null) refused = await this.judging.heed(words, digits, arrival.place, sent);
     this.wire.came(words, arrival, arrival.isLost ? null : refused);
     for (const answer of sent) await this.send(answer);
   }
@@ -195,7 +188,6 @@ export class Member {
   turnTo(page) {
     this.page = page;
     this.hasTurned = true;
-    this.judgement.doubt(page);
     this.telling.isChanged = true;
   }
 
@@ -204,7 +196,7 @@ export class Member {
   async renumber(me, record) {
     await this.board.renumber(me, record, this.drawn.all());
     this.me = me;
-    this.judgement = new Judgement(this, false);
+    this.judging = new Judging(this);
     this.telling.isChanged = true;
     return { me };
   }

@@ -1,13 +1,11 @@
 /** What people do: they draw, delete, turn pages, and take a new number. All of it is done in a turn of the member. `live/people.py` once more. */
 import { NoRoom } from './board.js';
-import { CLASH } from './judgement.js';
 import { pointOf, writePoint } from './presence.js';
-import { MINUTE, MOST_LEAD, wall } from './times.js';
 
 const OPERATIONS = ['line', 'frame', 'text', 'delete', 'restore'];
 
-/** `draw SOURCE PAGE SEQ TIME` stands before an operation: in the fault of a word its place is told without them. */
-const WORDS_BEFORE = 5;
+/** `NOW TIME PAGE` stands before an operation: in the fault of a word its place is told without them. */
+const WORDS_BEFORE = 3;
 
 /** Drawings that wait until the member may draw. */
 const MOST_WAITING = 1_024;
@@ -61,50 +59,42 @@ export class People {
   /** Accepts a drawop of ours and sends it. Whether it is one, the host says.
    * @param {string} page @param {string} operation */
   async drawNow(page, operation) {
-    const { member } = this, { judgement, board } = member, [kind] = operation.split(' ', 1);
+    const { member } = this, { judging, board } = member, [kind] = operation.split(' ', 1);
     if (!OPERATIONS.includes(kind) || !/^[ -~]*$/.test(operation)) throw new Refused('unknown');
-    const fault = judgement.faultOfDrawing();
+    const fault = judging.faultOfDrawing();
     if (fault !== null) throw new Refused(fault);
-    if (judgement.room.isFull() && !['delete', 'restore'].includes(kind)) throw new Refused('full');
-    await member.advance();
-    const seq = await board.nextNumber(page);
-    if (seq === null) throw new Refused('too many');
-    const block = await this.tellDrawing(`draw ${member.me} ${page} ${seq} ${this.timeOn(page)} ${operation}`);
-    if (block.fault !== null) throw new Refused(block.fault.replace(/^(word )(\d+)/, (_all, word, place) => word + (Number(place) - WORDS_BEFORE)));
-    if (!block.sent().length) throw new Refused(block.lines[0] === CLASH ? 'clash' : 'full');
+    if (judging.room.isFull() && !['delete', 'restore'].includes(kind)) throw new Refused('full');
+    const { seq, lacks } = await board.nextNumber(page);
+    if (lacks !== null) throw new Refused(lacks);
+    const { block, drawop } = await this.hostDraws(page, seq, operation);
     for (const digits of block.sent()) await member.send(digits);
+    if (block.fault !== null) throw new Refused(block.fault.replace(/^(word )(\d+)/, (_all, word, place) => word + (Number(place) - WORDS_BEFORE)));
+    if (drawop === null) throw new Refused('full');
     return { source: member.me, seq };
   }
 
-  /** @param {string} words */
-  async tellDrawing(words) {
+  /** @param {string} page @param {number} seq @param {string} operation */
+  async hostDraws(page, seq, operation) {
+    const { board, judging } = this.member;
     try {
-      return await this.member.board.draw(words);
+      return await board.draw(page, seq, judging.now(), operation);
     } catch (fault) {
       throw fault instanceof NoRoom ? new Refused(`${fault.message}: nothing is drawn until there is room`) : fault;
     }
   }
 
-  /** The time of a drawing: that of the session's day, or one more than the latest on the page, within a day of this machine's clock. So
-   * what is drawn last lies on top, also where this clock is late.
-   * @param {string} page */
-  timeOn(page) {
-    return Math.max(this.member.judgement.now(), this.member.drawn.latest(page, wall() + MOST_LEAD + MINUTE) + 1);
-  }
-
   /** Makes this the page in view; null is a new one of ours, or the one in view where that is ours and empty yet.
    * @param {string | null} page */
   async choose(page) {
-    this.member.turnTo(page ?? await this.newPage());
+    this.member.turnTo(page ?? this.newPage());
     return { page: this.member.page };
   }
 
   /** The number of a new page is the first that nobody told of. */
-  async newPage() {
-    const { me, page, board, drawn, judgement } = this.member, ours = (/** @type {string} */ one) => one.startsWith(`${me}/`);
+  newPage() {
+    const { me, page, drawn, judging } = this.member, ours = (/** @type {string} */ one) => one.startsWith(`${me}/`);
     if (ours(page) && !drawn.count(page)) return page;
-    const told = [...judgement.asking.far.values()].map((name) => name.page);
-    const used = new Set([...await board.known(), ...told, page].filter(ours).map((one) => Number(one.split('/')[1])));
+    const used = new Set([...drawn.drawnPages(), ...judging.told.pages(), page].filter(ours).map((one) => Number(one.split('/')[1])));
     let number = 1;
     while (used.has(number)) number += 1;
     return `${me}/${Math.min(number, MOST_PAGE)}`;

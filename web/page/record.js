@@ -2,27 +2,24 @@
  *
  * It has the line of the board, each drawop that was new, with the moment at which it came, and marks of the member's own number that were
  * heard at its start. Questions, what was refused, and what others asked for change nothing that is held: they are not there. */
-import { FIRST_TUNING } from './tunings.js';
 
 /** A member of a session, kept: its number is not taken again while its record is there.
  * @typedef {{ session: string, me: number, at: number }} Kept */
 
+/** The first line of a record, with the version of its lines. Records before version 1 have none, and are read the same. */
+const VERSION = 1, WRITTEN_BY = /^# wb record ([0-9]{1,9})$/;
+export const FIRST_LINE = `# wb record ${VERSION}`;
+
 /** Milliseconds until lines are written, and after which what could not be written is tried again. */
 const PAUSE = 100, AGAIN = 1_000;
-
-/** A comment that says by which constants the host answers from here on, and for how many members they were chosen. */
-const CONSTANTS = /^# constants ([0-9,]{1,20}) for ([0-9]{1,9}) members /;
 
 /** The lines that change a host: all but comments.
  * @param {string[]} lines */
 export const actsOf = (lines) => lines.filter((line) => line && !line.startsWith('#'));
 
-/** The constants by which the host answered last, and for how many members they were chosen.
- * @param {string[]} lines */
-export function constantsOf(lines) {
-  const [, tuning, members] = lines.map((line) => CONSTANTS.exec(line)).findLast((found) => found) ?? ['', FIRST_TUNING, '0'];
-  return { tuning, members: Number(members) };
-}
+/** Whether a record was written by a later wb, as its first line says: then it stays as it is.
+ * @param {string} first */
+export const isLater = (first) => Number(WRITTEN_BY.exec(first)?.[1] ?? 0) > VERSION;
 
 /** @param {IDBRequest | IDBTransaction} request @returns {Promise<any>} */
 const done = (request) => new Promise((take, fail) => {
@@ -41,13 +38,15 @@ export function openDatabase() {
   return done(request);
 }
 
-/** The members of a session that this browser has records of, the latest first.
+/** The members of a session that this browser has records of, the latest first, and how many records of a later wb there are beside them.
  * @param {IDBDatabase} database @param {string} session */
 export async function keptMembers(database, session) {
-  const range = IDBKeyRange.bound([session], [session, []]);
+  const range = IDBKeyRange.bound([session], [session, []]), stores = database.transaction(['members', 'lines']);
   /** @type {Kept[]} */
-  const kept = await done(database.transaction('members').objectStore('members').getAll(range));
-  return kept.sort((one, other) => other.at - one.at);
+  const all = await done(stores.objectStore('members').getAll(range));
+  const firsts = await Promise.all(all.map(({ me }) => done(stores.objectStore('lines').get([session, me, 0]))));
+  const kept = all.filter((_, i) => !isLater(String(firsts[i] ?? '').split('\n', 1)[0]));
+  return { kept: kept.sort((one, other) => other.at - one.at), later: all.length - kept.length };
 }
 
 export class Record {
@@ -63,9 +62,6 @@ export class Record {
     /** All lines that are, where there is no database.
      * @type {string[]} */
     this.held = [];
-    /** Those that were written last.
-     * @type {string[]} */
-    this.last = [];
     this.parts = 0;
     this.timer = 0;
     /** Why it can't be written, where it is so. */
@@ -111,16 +107,6 @@ export class Record {
     return !this.fault;
   }
 
-  /** Takes off so many of the lines that were written last: nobody was told of them.
-   * @param {number} count */
-  async takeBack(count) {
-    if (!this.database) this.held.splice(-count);
-    else {
-      this.last.splice(-count);
-      await this.put(this.parts - 1, this.last).catch((fault) => this.fail(fault));
-    }
-  }
-
   /** @param {number} pause */
   soon(pause) {
     this.timer ||= setTimeout(() => {
@@ -143,7 +129,6 @@ export class Record {
       else this.held.push(...lines);
       this.waiting.splice(0, lines.length);
       this.parts += 1;
-      this.last = lines;
       this.fault = '';
     } catch (fault) {
       this.fail(fault);

@@ -7,7 +7,7 @@ import { Panel } from './panel.js';
 import { WorkerMember } from './worker_member.js';
 
 const NOTICE = 'The board is kept by wb host, the proved program, compiled another way than it was proved for: for browsers. '
-  + 'This page, its network and its clock are not proved. Nobody is asked who he is: who has the invitation can draw, under any number.';
+  + 'This page, its network and its clock are not proved. Members are not authenticated: whoever has the invitation can draw, under any number.';
 
 /** The number that this tab had in a session, which lasts over a reload.
  * @param {import('./invitation.js').Invitation} invitation */

@@ -2,7 +2,7 @@
  * once more. */
 import { COLUMNS } from './board.js';
 import { Sheet } from './drawn.js';
-import { GONE_AFTER, SECOND } from './pacing.js';
+import { GONE_AFTER, SECOND } from './heard.js';
 import { fieldsOf, orderOfPages } from './views.js';
 
 /** @typedef {import('./views.js').Drawop} Drawop */
@@ -73,9 +73,9 @@ export class Telling {
   }
 
   tellHello() {
-    const { me, isReady, inbox, transport, options, board, judgement } = this.member;
+    const { me, isReady, inbox, transport, options, board, judging } = this.member;
     const hello = { me, mode: transport.where, notice: options.notice, ready: isReady, teach: options.teach, worsen: inbox.worse, cells: board.cells,
-      twin: judgement.hasTwin, broken: Boolean(board.record.fault) };
+      twin: judging.hasTwin, broken: Boolean(board.record.fault) };
     const text = JSON.stringify(hello);
     if (text !== this.hello) this.post('hello', hello);
     this.hello = text;
@@ -136,41 +136,40 @@ export class Telling {
   // ---- what stands beside it
 
   tellPages() {
-    const { page, drawn, judgement } = this.member, told = [...judgement.asking.far.values()].map((name) => name.page);
-    const pages = [...new Set([...drawn.drawnPages(), ...told, page])].sort(orderOfPages).slice(0, MOST_PAGES);
+    const { page, drawn, judging } = this.member, pages = [...new Set([...drawn.drawnPages(), ...judging.told.pages(), page])].sort(orderOfPages).slice(0, MOST_PAGES);
     this.post('pages', { page, pages: pages.map((one) => ({ page: one, drawn: drawn.count(one) })) });
   }
 
   tellMembers() {
-    const { me, judgement, board } = this.member, now = board.now();
-    const told = [...judgement.heard.present(now)].sort(([one], [other]) => one - other).map(([member, { at, distance, page }]) => (
-      { member, distance: distance === null ? null : distance / 1_000, heard: Math.round((now - at) / 100_000) / 10, page }));
+    const { me, judging, board } = this.member, now = board.now();
+    const told = [...judging.heard.present(now)].sort(([one], [other]) => one - other).map(([member, { at, distance }]) => (
+      { member, distance: distance === null ? null : distance / 1_000, heard: Math.round((now - at) / 100_000) / 10 }));
     this.post('members', { me, members: told.slice(0, MOST_MEMBERS) });
   }
 
   tellHealth() {
-    const { page, judgement, wire, inbox, board, transport } = this.member, { missing, asking, givenUp } = judgement.asking.counts(page);
+    const { page, judging, drawn, wire, inbox, board, transport } = this.member, missing = judging.told.missing(page, drawn);
     if (missing) this.missing.add(page);
     else if (this.missing.delete(page)) this.caughtUp.set(page, board.now());
     const counts = { ...wire.counts, dropped: inbox.dropped, foreign: transport.foreign ?? 0, starts: 1 + board.ends.length, differences: this.differences };
-    const phrase = transport.state || this.phrase(missing, asking, givenUp);
-    this.post('health', { page, phrase, missing, asking, given_up: givenUp, warnings: this.warnings(), counts, carried: !transport.state });
+    const phrase = transport.state || this.phrase(missing);
+    this.post('health', { page, phrase, missing, warnings: this.warnings(), counts, carried: !transport.state });
   }
 
   /** What lasts stands behind what goes. */
   warnings() {
-    const { alarms, judgement, me, board } = this.member;
-    const twin = judgement.hasTwin ? `another member has our number ${me}: nothing is drawn until this member has a new one` : '';
+    const { alarms, judging, me, board } = this.member;
+    const twin = judging.hasTwin ? `another member has our number ${me}: nothing is drawn until this member has a new one` : '';
     const broken = board.record.fault && `${board.record.fault}: nothing is drawn until there is room`;
     return [...alarms.told(), twin, broken].filter(Boolean);
   }
 
   /** The health of the page in one phrase.
-   * @param {number} missing @param {number} asking @param {number} givenUp */
-  phrase(missing, asking, givenUp) {
-    if (missing) return `${missing} missing${givenUp ? `, ${givenUp} given up` : asking ? ', asking' : ''}`;
+   * @param {number} missing */
+  phrase(missing) {
+    if (missing) return `${missing} missing`;
     const now = this.member.board.now(), passed = now - (this.caughtUp.get(this.member.page) ?? -GONE_AFTER);
     if (passed < GONE_AFTER) return `caught up ${Math.floor(passed / SECOND)} s ago`;
-    return this.member.judgement.heard.present(now).size ? 'whole' : 'whole; nobody else is heard';
+    return this.member.judging.heard.present(now).size ? 'whole' : 'whole; nobody else is heard';
   }
 }

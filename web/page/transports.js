@@ -120,8 +120,8 @@ export class Broker {
   /** @param {string} address with a name and a password where the broker asks for them
    * @param {string} session @param {string} name under which this member speaks
    * @param {Uint8Array} will what the broker tells the others when this member is gone
-   * @param {Take} take */
-  constructor(address, session, name, will, take) {
+   * @param {Take} take @param {() => void} back is called where it was gone and carries again */
+  constructor(address, session, name, will, take, back) {
     const url = new URL(address);
     this.login = [url.username, url.password].map(decodeURIComponent);
     [url.username, url.password, url.hash] = ['', '', ''];
@@ -131,9 +131,11 @@ export class Broker {
     this.own = `wb/${session}/${name}`;
     this.will = will;
     this.take = take;
+    this.back = back;
     this.where = `the broker ${url.host}, session ${session}`;
     this.pause = FIRST_PAUSE;
     this.isEnded = false;
+    this.hasCarried = false;
     this.state = '';
     /** Datagrams of ours that were sent last.
      * @type {Set<string>} */
@@ -197,8 +199,15 @@ export class Broker {
       this.lose();
     } else if (kind === CONNACK) this.put(packet(SUBSCRIBE, [0, 1], text(this.topics), [0]));
     else if (kind === SUBACK && body[2] > 2) this.state = 'refused by the broker: it does not let us hear this session';
-    else if (kind === SUBACK) [this.state, this.pause] = ['', FIRST_PAUSE];
+    else if (kind === SUBACK) this.carry();
     else if ((kind & 0xf0) === PUBLISH) this.publish(kind, body);
+  }
+
+  /** From now on it carries, for the first time or again. */
+  carry() {
+    [this.state, this.pause] = ['', FIRST_PAUSE];
+    if (this.hasCarried) this.back();
+    this.hasCarried = true;
   }
 
   /** Somebody has published something under the session's topics.

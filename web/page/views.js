@@ -5,12 +5,12 @@
 /** A drawop, as its words say. `page` is spelled C/N, as everywhere; `name` is its source, page and number; `digits` are its datagram.
  * @typedef {{ name: string, source: number, page: string, seq: number, time: number, operation: string[], words: string, digits: string }} Drawop */
 
-/** A name that is asked for.
+/** The name of a drawop.
  * @typedef {{ source: number, page: string, seq: number }} Name */
 
 /** What a session message or a page state tells: the page, the greatest number of each source, and of whom the sender heard: the moment that
- * was told, and how long ago. `sent` is as it was spelled.
- * @typedef {{ isSession: boolean, sender: number, sent: string, page: string, marks: Map<number, number>, echoes: Map<number, [number, number]> }} Report */
+ * was told, and how long ago.
+ * @typedef {{ isSession: boolean, sender: number, page: string, marks: Map<number, number>, echoes: Map<number, [number, number]> }} Report */
 
 /** The drawop of the words `draw SOURCE PAGE SEQ TIME ..`, as the program spells them.
  * @param {string} words @param {string} [digits] @returns {Drawop} */
@@ -65,9 +65,9 @@ export function nameIn(words) {
 export function reportOf(words) {
   const [kind, sender, ...rest] = words.split(' '), isSession = kind === 'session-message';
   if (!isSession && kind !== 'page-state') return null;
-  const sent = isSession ? String(rest.shift()) : '', page = String(rest.shift());
+  if (isSession) rest.shift(); // the sender's moment
   /** @type {Report} */
-  const report = { isSession, sender: Number(sender), sent, page, marks: new Map(), echoes: new Map() };
+  const report = { isSession, sender: Number(sender), page: String(rest.shift()), marks: new Map(), echoes: new Map() };
   for (const word of rest) {
     const [member, told, held] = word.split(/[@+=]/).map(Number);
     if (word.includes('@')) report.echoes.set(member, [told, held]);

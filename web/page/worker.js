@@ -14,8 +14,11 @@ import { Broker, Tabs, nameAt } from './transports.js';
 /** Milliseconds that another worker of ours, whose page is being left, may take to let go of its number. */
 const PATIENCE = 2_000;
 
-/** Room of a board, in drawops, and members that may be expected. */
-const CELLS = 65_535, MOST_MEMBERS = 100_000;
+/** Room of a board, in drawops, and bytes a second that the reports of all members take, with the most of either. */
+const CELLS = 65_535, RATE = 4_000, MOST_RATE = 1_000_000;
+
+/** The constants of the timers, and those of members that are about equally far apart, as at a broker (docs/LIVE.md). */
+const TUNING = '2,2,1,1', LEVEL_TUNING = '3,16,1,11';
 
 const post = (/** @type {string} */ name, /** @type {any} */ news) => postMessage({ name, news });
 
@@ -32,13 +35,15 @@ function takeNumber(session, me, wait) {
 }
 
 /** The number of this member, and whether its record was there: that of its page, or one of this browser's that nobody has now, or a new one.
+ * Records of a later build stay as they are, and it is told how many there are.
  * @param {IDBDatabase | null} database @param {string} session @param {number | null} wished
- * @returns {Promise<{ me: number, isKept: boolean }>} */
+ * @returns {Promise<{ me: number, isKept: boolean, later: number }>} */
 async function findNumber(database, session, wished) {
-  const kept = database && navigator.locks ? (await keptMembers(database, session)).map(({ me }) => me) : [];
-  if (wished !== null && kept.includes(wished) && await takeNumber(session, wished, PATIENCE)) return { me: wished, isKept: true };
-  for (const me of kept) if (await takeNumber(session, me, 50)) return { me, isKept: true };
-  return { me: await newNumber(session), isKept: false };
+  const found = database && navigator.locks ? await keptMembers(database, session) : { kept: [], later: 0 };
+  const { later } = found, kept = found.kept.map(({ me }) => me);
+  if (wished !== null && kept.includes(wished) && await takeNumber(session, wished, PATIENCE)) return { me: wished, isKept: true, later };
+  for (const me of kept) if (await takeNumber(session, me, 50)) return { me, isKept: true, later };
+  return { me: await newNumber(session), isKept: false, later };
 }
 
 /** A number that hardly anyone else has.
@@ -58,12 +63,13 @@ async function identityOf({ session, broker, key }) {
 }
 
 /** @param {import('./invitation.js').Invitation} invitation @param {number} me @param {import('./transports.js').Take} take
+ * @param {() => void} back is called where it was gone and carries again
  * @returns {Promise<import('./member.js').Carrier>} */
-async function openTransport({ session, broker, key }, me, take) {
+async function openTransport({ session, broker, key }, me, take, back) {
   const seal = key ? await Seal.of(key, session) : null, sealed = seal && new Sealed(seal, take);
   const hand = sealed ? (/** @type {Uint8Array} */ bytes, /** @type {string} */ place) => sealed.take(bytes, place) : take;
   const name = broker ? nameAt(broker, me) : '', gone = writeGone(name);
-  const under = broker ? new Broker(broker, session, name, seal ? await seal.close(gone) : gone, hand) : new Tabs(session, hand);
+  const under = broker ? new Broker(broker, session, name, seal ? await seal.close(gone) : gone, hand, back) : new Tabs(session, hand);
   if (!sealed) return under;
   sealed.under = under;
   return sealed;
@@ -80,6 +86,12 @@ function worseOf(more) {
  * @param {string | undefined} word @param {number} most */
 const numberOf = (word, most) => Math.min(most, Math.max(0, Math.floor(Number(word)) || 0));
 
+/** How a board starts; `mayHaveDrawn` where its number may have drawn what its record lacks.
+ * @param {import('./invitation.js').Invitation} invitation @param {boolean} mayHaveDrawn @returns {import('./board.js').Start} */
+const startOf = ({ broker, more }, mayHaveDrawn) => ({
+  cells: numberOf(more.cells, CELLS) || CELLS, rate: numberOf(more.rate, MOST_RATE) || RATE, tuning: broker ? LEVEL_TUNING : TUNING, mayHaveDrawn,
+});
+
 /** @type {Member} */
 let member;
 /** Has the member take a new number, with a record of its own.
@@ -91,11 +103,12 @@ async function begin({ folder, invitation, me: wished, notice }) {
   const { more } = invitation, identity = await identityOf(invitation);
   const [program, database] = await Promise.all([
     Program.load(new URL(folder), more.wide === undefined ? undefined : more.wide === '1'), openDatabase().catch(() => null)]);
-  const { me, isKept } = await findNumber(database, identity, wished), inbox = new Inbox();
-  const transport = await openTransport(invitation, me, (bytes, place) => member?.take(bytes, place));
+  const { me, isKept, later } = await findNumber(database, identity, wished), inbox = new Inbox();
+  const transport = await openTransport(invitation, me, (bytes, place) => member?.take(bytes, place), () => member?.beginAgain());
   inbox.worse = worseOf(more);
-  const options = { notice, teach: more.teach === '1', cells: numberOf(more.cells, CELLS) || CELLS, members: numberOf(more.members, MOST_MEMBERS), mayHaveDrawn: isKept };
+  const options = { notice, teach: more.teach === '1', start: startOf(invitation, isKept) };
   member = new Member(program, new Lines(database, identity, me), me, inbox, transport, options, post);
+  if (later) member.alarms.warn('this browser has a record of a later build of this page, which stays as it is');
   if (!database) member.alarms.warn('this browser keeps no record: what is drawn here vanishes with this page, if nobody else has it');
   await member.open();
   const begun = () => post('begun', { me: member.me, session: invitation.session, module: program.wide ? 'wb.wasm' : 'wb-any.wasm' });

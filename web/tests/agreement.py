@@ -12,6 +12,7 @@ from typing import Callable
 TOP = Path(__file__).resolve().parent.parent.parent
 sys.path.insert(0, str(TOP / "tests"))
 
+from host_cases import faults  # noqa: E402
 from host_cases.scripts import Writer  # noqa: E402
 from host_cases.sessions import Session, spoiled  # noqa: E402
 
@@ -21,12 +22,13 @@ LINES = 10_000
 SPOILED = 1_000
 PATIENCE = 300
 
-# the parts of tests/host that a module can pass: the others need threads, or ends of a process
-PARTS = ["lines", "faults", "sessions", "documents"]
+# the parts of tests/host that a module can pass: others need threads, or ends of a process. Lines that are refused stand in a conversation,
+# since a start of Node for each takes minutes
+PARTS = ["lines", "sessions", "records", "documents"]
 
 
 def conversations() -> list[str]:
-    """Conversations of over 10,000 lines in all: sessions and records at random, and lines that are spoiled."""
+    """Conversations of over 10,000 lines in all: sessions and records at random, lines that are spoiled, and each line that is refused."""
     made = [Session(seed).conversation()[0] for seed in range(100, 121)]
     made += ["".join(line + "\n" for line in Writer(seed).script(120)) for seed in range(1, 9)]
     first, *lines = Session(99).conversation()[0].encode().splitlines()
@@ -34,6 +36,8 @@ def conversations() -> list[str]:
     spoilt = [spoiled(numbers, numbers.choice(lines)).replace(b"\n", b"").decode("latin-1") for _ in range(SPOILED)]
     # the page's lines are of ASCII
     made.append("".join(line + "\n" for line in [first.decode(), *spoilt] if line.isascii()))
+    refused = [line for line in {**faults.mistyped(), **faults.no_datagrams(), **faults.wrong_words()} if line.isascii()]
+    made.append(faults.BEFORE + "".join(f"{line}\n" for line in refused) + faults.AFTER)
     return made
 
 

@@ -54,9 +54,10 @@ const topic = (words) => [0, words.length, ...Buffer.from(words)];
 const CONNACK = [0x20, [0, 0]], SUBACK = [0x90, [0, 1, 0]];
 
 /** A broker whose connections are sockets of this test, as far as it is subscribed. */
-function begun(taken) {
+function begun(taken, back = () => {}) {
   Socket.all = [];
-  const broker = new Broker('ws://ann:word@host/mqtt', 'maths', 'ann', new Uint8Array([87, 71]), (bytes, place) => taken.push([[...bytes], place])), [socket] = Socket.all;
+  const take = (bytes, place) => taken.push([[...bytes], place]);
+  const broker = new Broker('ws://ann:word@host/mqtt', 'maths', 'ann', new Uint8Array([87, 71]), take, back), [socket] = Socket.all;
   socket.open();
   socket.say(...CONNACK);
   socket.say(...SUBACK);
@@ -81,7 +82,8 @@ function testCarrying() {
 }
 
 function testSilence() {
-  const { broker, socket } = begun([]);
+  let times = 0;
+  const { broker, socket } = begun([], () => { times += 1; });
   broker.sign();
   judge('a sign of life', socket.sent.at(-1), [0xc0, 0]);
   broker.heardAt -= 26_000;
@@ -95,13 +97,13 @@ function testSilence() {
   again.open();
   again.say(...CONNACK);
   again.say(...SUBACK);
-  judge('and then no more', broker.state, '');
+  judge('and then no more, and that it is back is told once', [broker.state, times], ['', 1]);
   broker.end();
 }
 
 function testRefusals() {
   Socket.all = [];
-  const broker = new Broker('ws://host/mqtt', 'maths', nameAt('ws://host/mqtt', 7), new Uint8Array(0), () => {}), [socket] = Socket.all;
+  const broker = new Broker('ws://host/mqtt', 'maths', nameAt('ws://host/mqtt', 7), new Uint8Array(0), () => {}, () => {}), [socket] = Socket.all;
   judge('nothing is carried yet', broker.state, 'connecting to the broker');
   broker.heardAt -= 26_000;
   broker.sign();

@@ -1,5 +1,6 @@
-// Measures the modules in the browser that opens this: the milliseconds to a first answer, the microseconds of a line, the milliseconds of
-// a canvas, and the bytes of the memory. The datagrams are made by the modules themselves, by `wb hex`.
+// Measures the modules in the browser that opens this, by a host that keeps itself: the milliseconds to a first answer, the microseconds of a
+// datagram that came, the milliseconds of a canvas and of a start from a record, and the bytes of the memory. The datagrams are made by the
+// modules themselves, by `wb hex`.
 const folder = new URL(document.body.dataset.folder, location.href);
 const { Program, isWide } = await import(new URL('web/page/host.js', folder).href);
 
@@ -21,7 +22,7 @@ async function datagrams(program) {
       const [x, y] = [(i * 7) % 180, (i * 13) % 90];
       return `draw ${10 + (i % 40)} 7/1 ${1 + Math.floor(i / 40)} ${1000 + i} line ${x} ${y} ${x + 6} ${y + 3} *`;
     });
-    made.push(...(await filter.text(words)).split('\n').slice(0, -1));
+    made.push(...(await filter.text(words)).split('\n').slice(0, -1).map((line) => line.split(' ')[1]));
   }
   return made;
 }
@@ -34,18 +35,26 @@ async function measure(wide) {
     load.push(await timed(async () => { program = await Program.load(folder, wide); }));
     start.push(await timed(async () => {
       host = await program.start('host', '--tuning', '2,2,1,1');
-      await host.ask('board 1 65535 1 42');
+      await begin(host);
     }));
   }
   const lines = await datagrams(program), parts = {};
   for (let at = 0; at < DRAWOPS; at += AT_ONCE) {
     const part = lines.slice(at, at + AT_ONCE);
-    drop.push((await timed(async () => { for (const line of part) await host.ask(line); }) * 1000) / AT_ONCE);
+    drop.push((await timed(async () => { for (let i = 0; i < AT_ONCE; i += 1) await host.ask(`came ${at + i} ${part[i]}`); }) * 1000) / AT_ONCE);
     if (at + AT_ONCE === 4_000) parts.canvasOf4000 = median(await rounds(() => host.ask('show 7 1 80 25')));
   }
-  const held = (await host.ask('pages')).lines;
+  const held = (await host.ask('pages')).lines, fresh = await program.start('host', '--tuning', '2,2,1,1');
+  await begin(fresh);
+  const again = await timed(async () => { for (let at = 0; at < DRAWOPS; at += AT_ONCE) await fresh.askAll(lines.slice(at, at + AT_ONCE).map((digits) => `came 1 ${digits}`)); });
   return { wide, load: median(load), start: median(start), first: median(drop.slice(0, 10)), line: median(drop), last: median(drop.slice(-10)), ...parts,
-    canvas: median(await rounds(() => host.ask('show 7 1 80 25'))), tick: await ticks(host), memory: host.start.exports.memory.buffer.byteLength, held };
+    canvas: median(await rounds(() => host.ask('show 7 1 80 25'))), tick: await ticks(host), again, memory: host.start.exports.memory.buffer.byteLength, held };
+}
+
+/** A board whose host keeps itself. */
+async function begin(host) {
+  await host.ask('board 1 65535 1 42');
+  await host.ask('keep 4000 0');
 }
 
 async function rounds(act) {
@@ -56,7 +65,7 @@ async function rounds(act) {
 
 /** Microseconds of a line that does little. */
 async function ticks(host) {
-  const taken = await timed(async () => { for (let i = 1; i <= 2_000; i += 1) await host.ask(`tick ${i}`); });
+  const taken = await timed(async () => { for (let i = 1; i <= 2_000; i += 1) await host.ask(`tick ${DRAWOPS + i}`); });
   return (taken * 1000) / 2_000;
 }
 

@@ -1,6 +1,7 @@
-"""Tabs of one browser: two and a phone's width, a third lost; a reload, a trap, a full board, a start without a network."""
+"""Tabs of one browser: two and a phone's width, a third lost; a reload, a trap, old records, a full board, a start without a network."""
 from __future__ import annotations
 
+import json
 import os
 import random
 import statistics
@@ -22,6 +23,29 @@ DRAWINGS = 12
 
 # what becomes of the memory of a program that broke
 SPOIL = "new Uint8Array(member.board.host.start.exports.memory.buffer).fill(255), 0"
+
+
+# a record of an earlier build of the page, and one of a later build, by their numbers; how they come into a browser's database, and what it has
+OLD = "# constants 2,4,1,8 for 60 members at 2025-01-01 10:00:00\nboard 7 100 1 42\ntick 5\nsay draw 7 1/1 1 1000 line 0 0 4 0 o\n"
+LATER = "# wb record 2\nboard 8 100 1 42\n"
+PUT = """new Promise((done) => {
+    const open = indexedDB.open('wb', 1);
+    open.onsuccess = () => {
+        const stores = open.result.transaction(['lines', 'members'], 'readwrite');
+        for (const [me, text] of %s) {
+            stores.objectStore('lines').put(text, [' old', me, 0]);
+            stores.objectStore('members').put({ session: ' old', me, at: Date.now() + me });
+        }
+        stores.oncomplete = () => { open.result.close(); done(true); };
+    };
+})""" % json.dumps([(7, OLD), (8, LATER)])
+GET = """new Promise((done) => {
+    const open = indexedDB.open('wb', 1);
+    open.onsuccess = () => {
+        const got = open.result.transaction('lines').objectStore('lines').getAll(IDBKeyRange.bound([' old', %d], [' old', %d, []]));
+        got.onsuccess = () => { open.result.close(); done(got.result.join('')); };
+    };
+})"""
 
 
 def some_drawing(chance: random.Random) -> str:
@@ -79,6 +103,22 @@ def test_trap(judge: Judge, windows: list[Window]) -> None:
         judge("the record tells it", window.in_worker("member.board.record.lines().then((lines) => lines.filter((line) => line.includes('broke off')).length)"), 1)
 
 
+def test_records(judge: Judge, browser: Browser, folder: Folder) -> None:
+    """A record of an earlier build goes on, and one of a later build stays as it is."""
+    one = Window(browser, folder.address("#session=old"))
+    judge("a browser has records", one.is_ready() and one.page.value(PUT), True)
+    two = Window(browser, folder.address("#session=old"))
+    judge("a start goes on with the one that was used last and that it can read", (two.is_ready(), two.me), (True, 7))
+    judge("all that it has is shown", two.shows(0, 0, "ooooo"), two.rows())
+    judge("a number is used once", two.draw("line 0 1 4 1 o").get("seq"), 2)
+    judge("it is told that another is of a later build", "later build" in str(two.page.value("document.getElementById('warnings').textContent")), True)
+    kept = str(two.page.value(GET % (7, 7)))
+    judge("the record has its lines and the new ones", (kept.startswith(OLD), "\nsay draw 7 1/1 2 " in kept), (True, True))
+    judge("the other is as it was", two.page.value(GET % (8, 8)), LATER)
+    for window in (one, two):
+        window.page.close()
+
+
 def test_full(judge: Judge, browser: Browser, folder: Folder) -> None:
     window = Window(browser, folder.address("#session=full&cells=5"))
     judge("a small board is ready", window.is_ready())
@@ -87,15 +127,16 @@ def test_full(judge: Judge, browser: Browser, folder: Folder) -> None:
     answers = [window.draw(f"line 0 {y} 5 {y} *") for y in range(7)]
     judge("a full board takes no more", [answer["ok"] for answer in answers], [True] * 5 + [False] * 2)
     judge("and says why", answers[-1].get("fault"), "full")
-    judge("what it has is shown", len(window.rows()), 5)
+    # a page is shown anew a moment after the answer
+    judge("what it has is shown", window.page.wait("wb.session.board.rows.length === 5", 60.0), window.rows())
     window.page.close()
 
 
 def test_alone(judge: Judge, browser: Browser, folder: Folder) -> None:
     """Without its server, and with nothing from elsewhere."""
     window = Window(browser, folder.address("#session=alone"))
+    judge("what is drawn before a page is shown is taken", window.page.wait("globalThis.wb?.session") and window.draw("line 0 0 4 0 *").get("ok"), True)
     judge("a window is ready", window.is_ready())
-    window.draw("line 0 0 4 0 *")
     sources = window.page.value("performance.getEntriesByType('resource').map((it) => it.name)")
     judge("nothing comes from elsewhere", [name for name in sources if not name.startswith(folder.address()) and not name.startswith("blob:")], [])
     judge("the browser keeps the folder", window.page.wait("navigator.serviceWorker.ready.then(() => true)", 60.0))
@@ -151,6 +192,7 @@ def test(judge: Judge, browser: Browser, folder: Folder) -> None:
         part(judge, windows)
     for window in windows:
         window.page.close()
+    test_records(judge, browser, folder)
     test_full(judge, browser, folder)
     judge("no fault in a page, and none of its policy", browser.faults, [])
     test_alone(judge, browser, folder)

@@ -6,15 +6,14 @@ import { Block } from '../page/host.js';
 import { Inbox } from '../page/inbox.js';
 import { newName, readInvitation, writeInvitation } from '../page/invitation.js';
 import { Presence, isAside, pointOf, readGone, readPoint, writeGone, writePoint } from '../page/presence.js';
-import { Record, actsOf, constantsOf } from '../page/record.js';
+import { FIRST_LINE, Record, actsOf, isLater } from '../page/record.js';
 import { Seal, keyBytes, newKey } from '../page/seal.js';
-import { tuningFor } from '../page/tunings.js';
 import { distanceOf, drawopOf, fieldsOf, nameIn, orderOfPages, reportOf, speakerOf } from '../page/views.js';
 import { Wire } from '../page/wire.js';
 import { toldBy } from '../page/words.js';
 import { testBrokers, testPackets } from './brokers.mjs';
 import { counts, fault, judge } from './judge.mjs';
-import { testAsking, testJudgement, testPacing, testTimes } from './judging.mjs';
+import { testHeard, testJudging, testPace, testTimes, testTold } from './judging.mjs';
 
 function testBlocks() {
   const taken = new Block(['send 01ff', 'batch 1 0 0 0'], 'ok 34890'), refused = new Block([], 'refused word 3');
@@ -35,7 +34,7 @@ function testWords() {
 
 function testReports() {
   const report = reportOf('session-message 9 18446744073709551615 7/1 7=2 8=3 1@100+20 2@7+0');
-  judge('a report', [report.isSession, report.sender, report.sent, report.page, [...report.marks]], [true, 9, '18446744073709551615', '7/1', [[7, 2], [8, 3]]]);
+  judge('a report', [report.isSession, report.sender, report.page, [...report.marks]], [true, 9, '7/1', [[7, 2], [8, 3]]]);
   judge('a distance', distanceOf(report, 1, 200), 40);
   judge('no distance to others', distanceOf(report, 11, 200), null);
   judge('no distance of what lies ahead', [[300, 0], [100, 101]].map(([sent, held]) => distanceOf(reportOf(`session-message 9 5 7/1 1@${sent}+${held}`), 1, 200)), [null, null]);
@@ -57,7 +56,9 @@ function testDrawn() {
   LINES.forEach((words) => { drawn.add(drawopOf(words)); drawn.add(drawopOf(words)); });
   judge('each once', [drawn.total, drawn.count('7/1'), drawn.count('7/2'), drawn.bySource.get(7)], [6, 6, 0, 3]);
   judge('the greatest numbers', [drawn.top('7/1', 7), drawn.top('7/1', 1), drawn.holds('7/1', '8 7/1 2'), drawn.holds('7/2', '8 7/2 2')], [3, 0, true, false]);
-  judge('the latest time, and below a bound', [drawn.latest('7/1', 100), drawn.latest('7/1', 59), drawn.latest('7/2', 9)], [90, 50, 0]);
+  judge('nothing is missing', [drawn.missing('7/1'), drawn.missing('7/2')], [0, 0]);
+  drawn.add(drawopOf('draw 7 7/3 6 10 line 0 1 4 1 *'));
+  judge('all below the greatest number are', drawn.missing('7/3'), 5);
   const sheet = drawn.sheet('7/1'), view = [LINES[5], LINES[0], LINES[1]].map((words) => drawopOf(words));
   judge('what differs from the host is seen', [sheet.agrees(view), (sheet.replace(view), sheet.agrees(view)), sheet.hidden.size], [false, true, 0]);
 }
@@ -150,23 +151,18 @@ function testAlarms() {
 
 async function testRecords() {
   const record = new Record(null, 'here', 7);
-  record.note('constants 2,2,1,1 for 1 members');
-  record.add('board 7 100 1 1', 'tick 5', 'datagram 00');
-  judge('the lines of a record', [actsOf(await record.lines()), constantsOf(await record.lines())], [['board 7 100 1 1', 'tick 5', 'datagram 00'], { tuning: '2,2,1,1', members: 1 }]);
+  record.add(FIRST_LINE, 'board 7 100 1 1', 'tick 5', 'datagram 00');
+  record.note('started');
+  judge('the lines of a record', actsOf(await record.lines()), ['board 7 100 1 1', 'tick 5', 'datagram 00']);
   judge('a line that is kept at once', [await record.keep(['tick 9', 'say draw']), (await record.lines()).at(-1)], [true, 'say draw']);
-  await record.takeBack(2);
-  judge('and taken back', (await record.lines()).at(-1), 'datagram 00');
-  record.note('constants 2,4,1,8 for 70 members');
-  judge('the last constants', constantsOf(await record.lines()), { tuning: '2,4,1,8', members: 70 });
-  judge('those of a record that names none', constantsOf(['board 7 100 1 1']), { tuning: '2,2,1,1', members: 0 });
-  judge('constants by members', [1, 50, 51, 100, 101, 5_000].map(tuningFor), ['2,2,1,1', '2,2,1,1', '2,4,1,8', '2,4,1,8', '2,8,1,8', '2,8,1,8']);
+  judge('the version of a record', [FIRST_LINE, '# wb record 2', '# constants 2,2,1,1 for 1 members', 'board 7 100 1 1'].map(isLater), [false, true, false, false]);
   const broken = new Record(/** @type {any} */ ({ transaction: () => { throw new Error('no room'); } }), 'here', 7);
   broken.add('board 7 100 1 1');
   judge('a record that can\u2019t be written', [await broken.keep(['say draw']), broken.waiting, broken.fault], [false, ['board 7 100 1 1'], "the record can't be written (no room)"]);
 }
 
 const TESTS = [testBlocks, testWords, testReports, testDrawn, testInvitations, testSeal, testPackets, testBrokers, testInbox, testWire, testPresence, testPresences, testAlarms,
-  testRecords, testAsking, testPacing, testTimes, testJudgement];
+  testRecords, testHeard, testPace, testTold, testTimes, testJudging];
 for (const test of TESTS) await test();
 console.log(`${counts.passed} passed, ${counts.failed} failed`);
 process.exit(counts.failed ? 1 : 0);
