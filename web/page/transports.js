@@ -164,7 +164,8 @@ export class Broker {
     socket.binaryType = 'arraybuffer';
     socket.onopen = () => this.put(this.greeting());
     socket.onmessage = ({ data }) => this.hear(packets, data);
-    socket.onclose = () => this.lose(GONE);
+    // not every engine tells the end of what never began
+    socket.onclose = socket.onerror = () => this.lose(GONE);
   }
 
   /** The packet that begins: who connects, and what is to be told when it is gone. */
@@ -187,7 +188,7 @@ export class Broker {
   lose(why) {
     const { socket } = this;
     if (!socket) return;
-    [socket.onopen, socket.onmessage, socket.onclose] = [null, null, null];
+    [socket.onopen, socket.onmessage, socket.onclose, socket.onerror] = [null, null, null, null];
     this.socket = null;
     socket.close();
     if (this.isEnded) return;

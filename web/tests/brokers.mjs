@@ -161,7 +161,9 @@ function testPauses() {
   withTimers((pass, pauses) => {
     const { broker } = begun([]);
     for (let i = 0; i < 9; i += 1) {
-      Socket.all.at(-1).onclose();
+      const { onclose, onerror } = Socket.all.at(-1);
+      onerror();
+      onclose();
       pass();
       Socket.all.at(-1).carry();
     }
