@@ -4,7 +4,7 @@ from __future__ import annotations
 
 import secrets
 import time
-from typing import Callable, List, Optional, Sequence, Tuple
+from typing import Callable, Dict, List, Optional, Sequence, Tuple
 
 from wbhost import Block, Host, HostEnded
 
@@ -12,7 +12,7 @@ from .clock import SECOND, Clock
 from .held import held_of
 from .options import Options
 from .record import FIRST_LINE, NoRoom, Record, comment, write_record
-from .views import Drawop, Page
+from .views import Drawop, Page, Report, page_text
 from .words import Words
 
 # is told each drawop that the host took in
@@ -59,6 +59,7 @@ class Board:
         self.ends: List[float] = []
         self.unkept: List[str] = []  # lines that the record has no room for yet
         self.is_broken = False  # the record could not be written
+        self.own_marks: Dict[Page, int] = {}  # marks of our number, that were heard while the host listened
 
     def open(self, me: int) -> None:
         """Starts the host: with what the record has, or with a new board. It listens where the number may have drawn what the record lacks."""
@@ -187,6 +188,14 @@ class Board:
                 self.unkept = []
             except NoRoom:
                 pass
+
+    def keep_mark(self, report: Report, top: int) -> None:
+        """Puts a mark of our own number into the record, which a host that listens has heard: the next start counts on from there too.
+        `top` is the greatest number of ours that is held there."""
+        page, own = report.page, report.marks.get(self.me, 0)
+        if self.moment < self.ready_at and own > max(top, self.own_marks.get(page, 0)):
+            self.own_marks[page] = own
+            self.keep(["page-state %d %s %d=%d" % (report.sender, page_text(page), self.me, own)])
 
     def write(self, lines: List[str]) -> None:
         self.is_broken = True

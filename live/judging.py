@@ -1,25 +1,25 @@
-"""What a member concludes from what comes in, beside what its host does: who fills the board, whose clock counts, who has its number."""
+"""What a member judges beside its host, which has no clock of the day, knows no places and remembers no reports of its own: some kinds of
+datagrams are not handed in, and nothing is drawn under a number that somebody else has. docs/DECISIONS.md says why these are not the
+host's; all else is, and what people are told stands in telling.py."""
 from __future__ import annotations
 
-from typing import TYPE_CHECKING, Any, Callable, Dict, List, Optional, Sequence, Set, Tuple
+from typing import TYPE_CHECKING, Any, Callable, Dict, List, Optional, Sequence, Tuple
 
-from .board import CLASH, FULL, NEW
+from .board import CLASH, NEW
 from .clock import SECOND
-from .heard import Heard, Told
+from .heard import Heard
 from .inbox import Arrival
 from .joining import Joining
+from .room import Room
 from .speakers import Speakers
 from .times import MINUTE, Future, Times
-from .views import Drawop, Name, Page, Report, kind_of, page_text, report_of, speaker_of
+from .views import Drawop, Report, kind_of, report_of, speaker_of
 from .words import Told as Said
 
 if TYPE_CHECKING:
     from wbhost import Block
 
     from .member import Member
-
-# marks of a report that are heeded here, as many as a host tells
-MARKS = 64
 
 # how a session message begins, and reports of ours that are known again
 SESSION = "57420102"
@@ -29,56 +29,19 @@ MOST_OWN = 256
 # Any above is forged.
 MOST_LOST = 65_536
 
-# One part in so many of the cells is kept for deletes and restores. A source of which no member that answers us has reported has one
-# part in so many, and all such sources together have one in so many.
-RESERVE, SHARE, STRANGERS = 32, 16, 4
-
-# the percentage of taken cells from which on the board is said to become full
-NEARLY_FULL = 80
-
-
-class Room:
-    """Who may fill the cells of the board."""
-
-    def __init__(self, member: Member) -> None:
-        self.member = member
-        self.vouched: Set[int] = {member.me}
-
-    def vouch(self, report: Report) -> None:
-        """A member that answers us has reported these sources. Of what is held on the page alone is taken note."""
-        self.vouched.update(source for source in report.marks if source != report.sender and source in self.member.drawn.by_source)
-
-    def is_full(self) -> bool:
-        """No drawing has room, and deletes and restores alone have."""
-        cells = self.member.board.cells
-        return self.member.drawn.total >= cells - cells // RESERVE
-
-    def fault(self, drawop: Drawop) -> Optional[str]:
-        """Why a drawop has no room."""
-        drawn, cells, source = self.member.drawn, self.member.board.cells, drawop.name[0]
-        if self.is_full() and (drawop.is_drawing() or source not in self.vouched):
-            return "the board is full"
-        if source in self.vouched:
-            return None
-        strangers = sum(count for each, count in drawn.by_source.items() if each not in self.vouched)
-        is_over = drawn.by_source.get(source, 0) >= max(16, cells // SHARE) or strangers >= max(16, cells // STRANGERS)
-        return "over its share" if is_over else None
-
 
 class Judging:
-    """What a host leaves to its driver, on the member's thread."""
+    """On the member's thread."""
 
     def __init__(self, member: Member) -> None:
         self.member = member
         self.heard = Heard()
-        self.told = Told()
         self.times = Times()
         self.future = Future()
         self.room = Room(member)
         self.joining = Joining(member)
         self.speakers = Speakers(member.me, member.options.login)
         self.own_reports: Dict[str, None] = {}
-        self.own_marks: Dict[Page, int] = {}  # that were heard while the host listened
         self.has_twin = False  # somebody else has our number: nothing is drawn until this member has another
 
     # ---- when to do what
@@ -119,29 +82,50 @@ class Judging:
         member.send_all(sent)
 
     def heed(self, words: str, digits: str, arrival: Arrival, sent: List[str]) -> Optional[str]:
-        """Why a datagram changes nothing, where it is so. What the host sends is put behind what is sent."""
-        member, speaker = self.member, speaker_of(words)
+        """Hands a datagram to the host, unless it is refused. Why it changes nothing, where it is so. What the host sends is put behind
+        what is sent."""
         if kind_of(words) == "draw":
             return self.heed_drawop(Drawop(words, digits), sent)
+        member, report, is_ours = self.member, report_of(words), speaker_of(words) == self.member.me
+        fault = self.refusal_of(speaker_of(words), report, arrival)
+        if fault is not None:
+            return fault
+        if is_ours and report is not None and report.is_session and digits not in self.own_reports:
+            self.has_twin = True
+        block = member.board.came([digits])[0]
+        sent += block.sent()
+        if report is not None and not is_ours and block.fault is None:
+            self.heed_report(report, arrival)
+        return block.fault
+
+    def refusal_of(self, speaker: int, report: Optional[Report], arrival: Arrival) -> Optional[str]:
+        """Why a datagram that is no drawop is not handed to the host."""
+        member = self.member
         if self.speakers.is_forged(speaker, arrival.origin):
             member.alarms.warn("%s speaks for member %d, which is another's number: that is not heeded" % (arrival.origin.text, speaker))
             return "speaks for another"
-        report = report_of(words)
-        if speaker == member.me:
-            if report is not None and report.is_session and digits not in self.own_reports:
-                self.has_twin = True
+        if report is None or speaker == member.me:
             return None
-        if report is not None:
-            self.heard.hear(speaker, arrival.origin, member.board.clock.now())
-            if speaker not in self.heard.others:
-                return "too many members"
-            if self.is_own_forged(report) and not member.is_ready:
-                return "a mark of ours"
-        block = member.board.came([digits])[0]
-        sent += block.sent()
-        if report is not None and block.fault is None:
-            self.heed_report(report, arrival)
-        return block.fault
+        self.heard.hear(speaker, arrival.origin, member.board.clock.now())
+        if speaker not in self.heard.others:
+            return "too many members"
+        own, top = report.marks.get(member.me, 0), member.drawn.top(report.page, member.me)
+        if own > top + (0 if member.is_ready else MOST_LOST):
+            member.alarms.warn("a report tells of a drawing of ours that we did not make")
+        return "a mark of ours" if not member.is_ready and own > top + MOST_LOST else None
+
+    def heed_report(self, report: Report, arrival: Arrival) -> None:
+        """Draws the conclusions from a report of another, which the host has heard."""
+        member, now = self.member, self.member.board.moment
+        other = self.heard.others[report.sender]
+        if report.is_session:
+            member.wire.learn(arrival.origin, report.sender)
+            told = report.distance(member.me, now)
+            other.distance = other.distance if told is None else told
+        if other.distance is not None:
+            self.room.vouch(report)
+        member.board.keep_mark(report, member.drawn.top(report.page, member.me))
+        self.joining.consider(member.telling.notice(report), self.heard.present(now), report.sender)
 
     # ---- drawops
 
@@ -169,7 +153,7 @@ class Judging:
         for drawop, top, block in zip(drawops, tops, self.member.board.take(drawops)):
             sent += block.sent()
             fault = block.fault
-            self.conclude(drawop.name, top, block)
+            self.conclude(drawop, top, block)
         return fault
 
     def take_stream(self, datagrams: List[bytes]) -> int:
@@ -190,51 +174,12 @@ class Judging:
             self.heed_drawop(drawop, sent)
         self.member.send_all(sent)
 
-    def conclude(self, name: Name, own_top: int, block: Block) -> None:
-        """What the host's answer to a drawop tells."""
-        source, _, seq = name
+    def conclude(self, drawop: Drawop, own_top: int, block: Block) -> None:
+        """What the host's answer to a drawop tells. One of our number that is new, or another than ours, is of who has our number too."""
         member, batch = self.member, block.lines[-1:]
-        if batch == NEW:
-            self.told.come(name)
-            if source == member.me and member.is_ready and seq > own_top:
-                self.has_twin = True
-        elif batch == CLASH and source == member.me:
+        if drawop.name[0] == member.me and (batch == CLASH or (batch == NEW and member.is_ready and drawop.name[2] > own_top)):
             self.has_twin = True
-        elif batch == CLASH:
-            member.alarms.warn("two members draw with number %d: what they drew differs from member to member" % source)
-        elif batch == FULL:
-            member.alarms.warn("the board is full: new drawops are not kept")
-
-    # ---- reports
-
-    def heed_report(self, report: Report, arrival: Arrival) -> None:
-        """Draws the conclusions from a session message or a page state of another, which the host has heard."""
-        member, now = self.member, self.member.board.moment
-        other = self.heard.others[report.sender]
-        if report.is_session:
-            member.wire.learn(arrival.origin, report.sender)
-            told = report.distance(member.me, now)
-            other.distance = other.distance if told is None else told
-        if other.distance is not None:
-            self.room.vouch(report)
-        own = report.marks.get(member.me, 0)
-        if now < member.board.ready_at and own > max(member.drawn.top(report.page, member.me), self.own_marks.get(report.page, 0)):
-            self.own_marks[report.page] = own
-            member.board.keep(["page-state %d %s %d=%d" % (report.sender, page_text(report.page), member.me, own)])
-        lacking = 0
-        for source, high in list(report.marks.items())[:MARKS]:
-            if source != member.me and not member.drawn.holds((source, report.page, high)):
-                lacking += max(0, high - member.drawn.top(report.page, source))
-                self.told.tell((source, report.page, high))
-        self.joining.consider(lacking, self.heard.present(now), report.sender)
-
-    def is_own_forged(self, report: Report) -> bool:
-        """Whether a report tells of a drawing of ours that we can't have made: a host that listens would count on from there."""
-        top = self.member.drawn.top(report.page, self.member.me)
-        is_forged = report.marks.get(self.member.me, 0) > top + (0 if self.member.is_ready else MOST_LOST)
-        if is_forged:
-            self.member.alarms.warn("a report tells of a drawing of ours that we did not make")
-        return is_forged
+        member.telling.notice_batch(drawop.name, batch)
 
     # ---- what is sent
 
@@ -245,15 +190,7 @@ class Judging:
             if len(self.own_reports) > MOST_OWN:
                 del self.own_reports[next(iter(self.own_reports))]
             self.heard.spoke(len(digits) // 2, self.member.options.rate, self.member.board.clock.now())
-            self.warn_of_room()
-
-    def warn_of_room(self) -> None:
-        """Tells when few cells are left."""
-        total, cells = self.member.drawn.total, self.member.board.cells
-        if self.room.is_full():
-            self.member.alarms.warn("the board is full: %d of %d cells; deletes and restores alone have room" % (total, cells))
-        elif total * 100 >= cells * NEARLY_FULL:
-            self.member.alarms.warn("the board becomes full: %d of %d cells are taken" % (total, cells))
+            self.member.telling.notice_room(self.room.is_full())
 
     def fault_of_drawing(self) -> Optional[str]:
         """Why nothing can be drawn now."""

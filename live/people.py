@@ -110,7 +110,7 @@ class People:
         member = self.member
         if member.page[0] == member.me and not member.drawn.count(member.page):
             return self.turn_to(member.page)
-        used = {page[1] for page in [*member.drawn.drawn_pages(), *member.judging.told.pages(), member.page] if page[0] == member.me}
+        used = {page[1] for page in [*member.drawn.drawn_pages(), *member.telling.told.pages(), member.page] if page[0] == member.me}
         number = next(number for number in range(1, len(used) + 2) if number not in used)
         return self.turn_to((member.me, min(number, MOST_PAGE)))
 

@@ -9,7 +9,7 @@ from .carriers.carrier import Origin
 from .clock import SECOND
 from .drawn import Drawn
 from .film import SPEEDS, Film, scenes_of
-from .heard import Heard, Told
+from .heard import Heard
 from .inbox import Arrival
 from .times import wall
 from .views import Drawop
@@ -31,7 +31,6 @@ class Playing:
         self.member = member
         self.film = Film(list(lines), member.board.clock.now)
         self.tell_at = 0
-        self.told = Told()
         self.heard = Heard()
         self.has_twin = False
         member.telling.events.tell("scenes", scenes_of(self.film, member.words))

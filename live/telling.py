@@ -5,12 +5,12 @@ import os
 import time
 from typing import TYPE_CHECKING, Any, Dict, List, Set
 
-from .board import COLUMNS
+from .board import CLASH, COLUMNS, FULL, NEW
 from .clock import SECOND
 from .drawn import Sheet
 from .events import Events, Whole
-from .heard import GONE_AFTER
-from .views import Name, Page, page_text
+from .heard import GONE_AFTER, Told
+from .views import Name, Page, Report, page_text
 
 if TYPE_CHECKING:
     from .member import Member
@@ -32,6 +32,12 @@ CHECK_PART = 50
 # pages that are told
 MOST_PAGES = 1_000
 MOST_MEMBERS = 500
+
+# marks of a report that are taken note of, as many as a host tells
+MARKS = 64
+
+# the percentage of taken cells from which on the board is said to become full
+NEARLY_FULL = 80
 
 
 def notice_of(member: Member) -> str:
@@ -61,6 +67,7 @@ class Telling:
         self.differences = 0
         self.caught_up: Dict[Page, int] = {}
         self.missing: Set[Page] = set()
+        self.told = Told()
 
     def seconds_to_wait(self) -> float:
         return max(0.0, self.next_at - time.monotonic()) if self.is_changed else 3600.0
@@ -144,11 +151,40 @@ class Telling:
             self.page, self.is_changed = None, True
         self.check_at = time.monotonic() + CHECK_PART * (time.monotonic() - began)
 
+    # ---- what is noticed of what comes in, for people alone
+
+    def notice(self, report: Report) -> int:
+        """What a report tells that is not held. How many numbers are lacking up to its marks."""
+        drawn, lacking = self.member.drawn, 0
+        for source, high in list(report.marks.items())[:MARKS]:
+            if source != self.member.me and not drawn.holds((source, report.page, high)):
+                lacking += max(0, high - drawn.top(report.page, source))
+                self.told.tell((source, report.page, high))
+        return lacking
+
+    def notice_batch(self, name: Name, batch: List[str]) -> None:
+        """What the host has answered to a drawop."""
+        alarms, source = self.member.alarms, name[0]
+        if batch == NEW:
+            self.told.come(name)
+        elif batch == CLASH and source != self.member.me:
+            alarms.warn("two members draw with number %d: what they drew differs from member to member" % source)
+        elif batch == FULL:
+            alarms.warn("the board is full: new drawops are not kept")
+
+    def notice_room(self, is_full: bool) -> None:
+        """How many cells are left, where they are few."""
+        total, cells = self.member.drawn.total, self.member.board.cells
+        if is_full:
+            self.member.alarms.warn("the board is full: %d of %d cells; deletes and restores alone have room" % (total, cells))
+        elif total * 100 >= cells * NEARLY_FULL:
+            self.member.alarms.warn("the board becomes full: %d of %d cells are taken" % (total, cells))
+
     # ---- what stands beside it
 
     def tell_pages(self) -> None:
         member = self.member
-        pages = sorted({*member.drawn.drawn_pages(), *member.judging.told.pages(), member.page})
+        pages = sorted({*member.drawn.drawn_pages(), *self.told.pages(), member.page})
         told = [{"page": page_text(page), "drawn": member.drawn.count(page)} for page in pages[:MOST_PAGES]]
         self.events.tell("pages", {"page": page_text(member.page), "pages": told})
 
@@ -162,7 +198,7 @@ class Telling:
 
     def tell_health(self) -> None:
         member, page = self.member, self.member.page
-        missing = member.judging.told.missing(page, member.drawn)
+        missing = self.told.missing(page, member.drawn)
         if missing:
             self.missing.add(page)
         elif page in self.missing:

@@ -58,6 +58,9 @@ export class Board {
     this.keptMoment = 0; // of the record's last line
     this.readyAt = 0; // from then on it may draw
     this.base = 0;
+    /** Marks of our number by page, that were heard while the host listened.
+     * @type {Map<string, number>} */
+    this.ownMarks = new Map();
     /** The moment at which the host has something to do.
      * @type {number | null} */
     this.due = null;
@@ -203,6 +206,14 @@ export class Board {
   keep(line) {
     this.record.add(...this.withTick(line));
     this.keptMoment = this.moment;
+  }
+
+  /** Puts a mark of our own number into the record, which a host that listens has heard: the next start counts on from there too.
+   * @param {number} sender @param {string} page @param {number} own @param {number} top the greatest number of ours that is held there */
+  keepMark(sender, page, own, top) {
+    if (this.moment >= this.readyAt || own <= Math.max(top, this.ownMarks.get(page) ?? 0)) return;
+    this.ownMarks.set(page, own);
+    this.keep(`page-state ${sender} ${page} ${this.me}=${own}`);
   }
 
   /** Goes on under another number, with a record of its own and with all that was held.

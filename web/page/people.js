@@ -92,9 +92,9 @@ export class People {
 
   /** The number of a new page is the first that nobody told of. */
   newPage() {
-    const { me, page, drawn, judging } = this.member, ours = (/** @type {string} */ one) => one.startsWith(`${me}/`);
+    const { me, page, drawn, telling } = this.member, ours = (/** @type {string} */ one) => one.startsWith(`${me}/`);
     if (ours(page) && !drawn.count(page)) return page;
-    const used = new Set([...drawn.drawnPages(), ...judging.told.pages(), page].filter(ours).map((one) => Number(one.split('/')[1])));
+    const used = new Set([...drawn.drawnPages(), ...telling.told.pages(), page].filter(ours).map((one) => Number(one.split('/')[1])));
     let number = 1;
     while (used.has(number)) number += 1;
     return `${me}/${Math.min(number, MOST_PAGE)}`;

@@ -1,8 +1,8 @@
 /** What a member tells the board: what changed on the page, the pages, who is there, what is missing and what goes by. `live/telling.py`
  * once more. */
-import { COLUMNS } from './board.js';
+import { CLASH, COLUMNS, FULL, NEW } from './board.js';
 import { Sheet } from './drawn.js';
-import { GONE_AFTER, SECOND } from './heard.js';
+import { GONE_AFTER, SECOND, Told } from './heard.js';
 import { fieldsOf, orderOfPages } from './views.js';
 
 /** @typedef {import('./views.js').Drawop} Drawop */
@@ -17,6 +17,12 @@ const MEMBERS_PAUSE = 500, PAGES_PAUSE = 100;
 const CHECK_PAUSE = 2_000, CHECK_PART = 50;
 
 const MOST_PAGES = 1_000, MOST_MEMBERS = 500;
+
+/** Marks of a report that are taken note of, as many as a host tells. */
+const MARKS = 64;
+
+/** The percentage of taken cells from which on the board is said to become full. */
+const NEARLY_FULL = 80;
 
 export class Telling {
   /** @param {import('./member.js').Member} member @param {(name: string, news: any) => void} post */
@@ -39,6 +45,7 @@ export class Telling {
     this.caughtUp = new Map();
     /** @type {Set<string>} */
     this.missing = new Set();
+    this.told = new Told();
   }
 
   /** Milliseconds until something has to be told. */
@@ -133,10 +140,38 @@ export class Telling {
     this.checkAt = performance.now() + CHECK_PART * (performance.now() - began);
   }
 
+  // ---- what is noticed of what comes in, for people alone
+
+  /** What a report tells that is not held.
+   * @param {import('./views.js').Report} report */
+  notice({ page, marks }) {
+    const { me, drawn } = this.member;
+    for (const [source, seq] of [...marks].slice(0, MARKS)) {
+      if (source !== me && !drawn.holds(page, `${source} ${page} ${seq}`)) this.told.tell({ source, page, seq });
+    }
+  }
+
+  /** What the host has answered to a drawop.
+   * @param {Drawop} drawop @param {string | undefined} batch */
+  noticeBatch(drawop, batch) {
+    const { me, alarms } = this.member, { source } = drawop;
+    if (batch === NEW) this.told.come(drawop);
+    else if (batch === CLASH && source !== me) alarms.warn(`two members draw with number ${source}: what they drew differs from member to member`);
+    else if (batch === FULL) alarms.warn('the board is full: new drawops are not kept');
+  }
+
+  /** How many cells are left, where they are few.
+   * @param {boolean} isFull */
+  noticeRoom(isFull) {
+    const { drawn: { total }, board: { cells }, alarms } = this.member;
+    if (isFull) alarms.warn(`the board is full: ${total} of ${cells} cells; deletes and restores alone have room`);
+    else if (total * 100 >= cells * NEARLY_FULL) alarms.warn(`the board becomes full: ${total} of ${cells} cells are taken`);
+  }
+
   // ---- what stands beside it
 
   tellPages() {
-    const { page, drawn, judging } = this.member, pages = [...new Set([...drawn.drawnPages(), ...judging.told.pages(), page])].sort(orderOfPages).slice(0, MOST_PAGES);
+    const { page, drawn } = this.member, pages = [...new Set([...drawn.drawnPages(), ...this.told.pages(), page])].sort(orderOfPages).slice(0, MOST_PAGES);
     this.post('pages', { page, pages: pages.map((one) => ({ page: one, drawn: drawn.count(one) })) });
   }
 
@@ -148,7 +183,7 @@ export class Telling {
   }
 
   tellHealth() {
-    const { page, judging, drawn, wire, inbox, board, transport } = this.member, missing = judging.told.missing(page, drawn);
+    const { page, drawn, wire, inbox, board, transport } = this.member, missing = this.told.missing(page, drawn);
     if (missing) this.missing.add(page);
     else if (this.missing.delete(page)) this.caughtUp.set(page, board.now());
     const counts = { ...wire.counts, dropped: inbox.dropped, foreign: transport.foreign ?? 0, starts: 1 + board.ends.length, differences: this.differences };

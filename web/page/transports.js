@@ -32,7 +32,10 @@ export class Tabs {
 }
 
 /** Kinds of packets of MQTT 3.1.1, each with its flags. */
-const CONNECT = 0x10, CONNACK = 0x20, PUBLISH = 0x30, SUBSCRIBE = 0x82, SUBACK = 0x90, PINGREQ = 0xc0;
+const CONNECT = 0x10, CONNACK = 0x20, PUBLISH = 0x30, SUBSCRIBE = 0x82, SUBACK = 0x90, PINGREQ = 0xc0, PINGRESP = 0xd0;
+
+/** Bytes of the answers to `CONNECT` and to `SUBSCRIBE`, as they are asked for here. */
+const CONNACK_BYTES = 2, SUBACK_BYTES = 3;
 
 /** How a member comes: without what the broker kept of it, with a last will, a name, and a password. */
 const WITH_WILL = 6, WITH_NAME = 0x80, WITH_PASSWORD = 0x40;
@@ -40,17 +43,21 @@ const WITH_WILL = 6, WITH_NAME = 0x80, WITH_PASSWORD = 0x40;
 /** Seconds between two signs of life, as the broker is told. */
 const KEEP_ALIVE = 60;
 
-/** Milliseconds between two signs of life of ours, and of the broker's silence after which it is taken for gone: it answers each. */
+/** Milliseconds between two signs of life of ours; and of the broker's silence after which it is taken for gone, since it answers each. A
+ * connection that does not carry after as long is given up too. */
 const BEAT = 10_000, SILENCE = 25_000;
 
 /** Datagrams of ours that are told apart when the broker brings them back. */
 const MOST_RECENT = 256;
 
-/** Milliseconds from a loss to the next try: the first and the greatest. */
+/** Milliseconds from a loss to the next try, at most: the first and the greatest. */
 const FIRST_PAUSE = 500, MOST_PAUSE = 30_000;
 
 /** Bytes that may wait for the network, and the bytes of the greatest packet that is taken. */
 const MOST_WAITING = 1 << 20, MOST_PACKET = 1 << 18;
+
+/** What is told of a broker that is gone, or that sends what no broker should. */
+const GONE = 'the broker does not answer';
 
 /** Why a broker refuses, by the number that it gives. */
 const REFUSALS = ['', 'it knows no MQTT 3.1.1', 'it does not take this name', 'it is not available', 'the name or the password is wrong', 'it does not allow it'];
@@ -140,21 +147,25 @@ export class Broker {
     /** Datagrams of ours that were sent last.
      * @type {Set<string>} */
     this.recent = new Set();
-    this.heardAt = performance.now();
-    this.socket = this.open();
+    this.openedAt = this.heardAt = performance.now();
+    /** The connection, where there is one.
+     * @type {WebSocket | null} */
+    this.socket = null;
+    this.open();
     this.beat = setInterval(() => this.sign(), BEAT);
   }
 
-  /** A new connection, which asks for the session's topics. */
+  /** Opens a connection, which asks for the session's topics. */
   open() {
     const socket = new WebSocket(this.address, 'mqtt'), packets = new Packets();
     if (!this.state) this.state = 'connecting to the broker';
-    this.heardAt = performance.now();
+    this.openedAt = this.heardAt = performance.now();
+    this.socket = socket;
     socket.binaryType = 'arraybuffer';
     socket.onopen = () => this.put(this.greeting());
-    socket.onmessage = ({ data }) => this.hear(packets, new Uint8Array(data));
-    socket.onclose = () => this.lose();
-    return socket;
+    socket.onmessage = ({ data }) => this.hear(packets, data);
+    // not every engine tells the end of what never began
+    socket.onclose = socket.onerror = () => this.lose(GONE);
   }
 
   /** The packet that begins: who connects, and what is to be told when it is gone. */
@@ -164,56 +175,94 @@ export class Broker {
     return packet(CONNECT, text('MQTT'), [4, flags, 0, KEEP_ALIVE], text(this.client), text(this.own), [this.will.length >> 8, this.will.length & 255], this.will, ...login);
   }
 
-  /** Gives a sign of life. A broker that has given none for long is gone, though its connection may seem to stand. */
+  /** Gives a sign of life. A broker that has given none for long is gone, though its connection may seem to stand; and one that does not let
+   * us carry is given up, whatever else it sends. */
   sign() {
-    if (performance.now() - this.heardAt < SILENCE) this.put(packet(PINGREQ));
-    else if (this.socket.onclose) this.lose();
+    const since = this.state ? this.openedAt : this.heardAt;
+    if (performance.now() - since < SILENCE) this.put(packet(PINGREQ));
+    else this.lose(GONE);
   }
 
-  /** The connection was lost, or there was none: another try, after a pause that grows. */
-  lose() {
+  /** The connection, where there is one, was lost or is given up: another try follows.
+   * @param {string} why */
+  lose(why) {
     const { socket } = this;
-    [socket.onopen, socket.onmessage, socket.onclose] = [null, null, null];
+    if (!socket) return;
+    [socket.onopen, socket.onmessage, socket.onclose, socket.onerror] = [null, null, null, null];
+    this.socket = null;
     socket.close();
     if (this.isEnded) return;
-    if (!this.state.startsWith('refused')) this.state = 'the broker does not answer';
-    setTimeout(() => { if (!this.isEnded) this.socket = this.open(); }, this.pause * (0.5 + Math.random()));
+    this.state = why;
+    this.tryLater();
+  }
+
+  /** Another try, after a pause that grows. */
+  tryLater() {
+    setTimeout(() => {
+      if (this.isEnded) return;
+      try {
+        this.open();
+      } catch {
+        this.tryLater();
+      }
+    }, this.pause * (0.5 + Math.random() / 2));
     this.pause = Math.min(2 * this.pause, MOST_PAUSE);
   }
 
-  /** @param {Packets} packets @param {Uint8Array} bytes */
-  hear(packets, bytes) {
-    this.heardAt = performance.now();
+  /** Takes what the broker sends. Where that is no MQTT, nothing behind it is believed.
+   * @param {Packets} packets @param {unknown} data */
+  hear(packets, data) {
+    const { socket } = this;
     try {
-      packets.add(bytes);
-      for (let found = packets.next(); found; found = packets.next()) this.answer(found);
+      if (!(data instanceof ArrayBuffer)) throw new RangeError('a text');
+      packets.add(new Uint8Array(data));
+      for (let found = packets.next(); found && this.socket === socket; found = packets.next()) {
+        this.heardAt = performance.now();
+        this.answer(found);
+      }
     } catch {
-      this.lose();
+      this.lose(GONE);
     }
   }
 
-  /** @param {{ kind: number, body: Uint8Array }} packet */
+  /** RangeError of a packet that no broker sends.
+   * @param {{ kind: number, body: Uint8Array }} packet */
   answer({ kind, body }) {
-    if (kind === CONNACK && body[1]) {
-      this.state = `refused by the broker: ${REFUSALS[body[1]] ?? body[1]}`;
-      this.lose();
-    } else if (kind === CONNACK) this.put(packet(SUBSCRIBE, [0, 1], text(this.topics), [0]));
-    else if (kind === SUBACK && body[2] > 2) this.state = 'refused by the broker: it does not let us hear this session';
-    else if (kind === SUBACK) this.carry();
+    if (kind === CONNACK && body.length === CONNACK_BYTES) this.begin(body[1]);
+    else if (kind === SUBACK && body.length === SUBACK_BYTES) this.carry(body[2]);
+    else if (kind === PINGRESP && !body.length) this.settle();
     else if ((kind & 0xf0) === PUBLISH) this.publish(kind, body);
+    else throw new RangeError('a packet of a kind that no broker sends');
   }
 
-  /** From now on it carries, for the first time or again. */
-  carry() {
-    [this.state, this.pause] = ['', FIRST_PAUSE];
-    if (this.hasCarried) this.back();
-    this.hasCarried = true;
+  /** The broker takes us, where it gives no reason why not.
+   * @param {number} reason */
+  begin(reason) {
+    if (reason) this.lose(`refused by the broker: ${REFUSALS[reason] ?? reason}`);
+    else this.put(packet(SUBSCRIBE, [0, 1], text(this.topics), [0]));
+  }
+
+  /** From now on it carries, for the first time or again, where the broker lets us hear the session.
+   * @param {number} quality */
+  carry(quality) {
+    if (quality > 2) this.lose('refused by the broker: it does not let us hear this session');
+    else if (this.state) {
+      this.state = '';
+      if (this.hasCarried) this.back();
+      this.hasCarried = true;
+    }
+  }
+
+  /** A connection that has carried for a while: the next try comes soon. Of one that breaks off each time, the pauses grow. */
+  settle() {
+    if (!this.state) this.pause = FIRST_PAUSE;
   }
 
   /** Somebody has published something under the session's topics.
    * @param {number} kind @param {Uint8Array} body */
   publish(kind, body) {
     const behind = 2 + ((body[0] << 8) | body[1]), topic = decoder.decode(body.subarray(2, behind)), quality = kind & 6;
+    if (!(behind <= body.length)) throw new RangeError('a topic that is cut off');
     // what a broker keeps for those who come later is no datagram
     if (kind & 1) return;
     const bytes = body.slice(behind + (quality ? 2 : 0));
@@ -223,7 +272,8 @@ export class Broker {
   /** Hands bytes to the network, where it carries and not too many wait.
    * @param {Uint8Array} bytes */
   put(bytes) {
-    if (this.socket.readyState === WebSocket.OPEN && this.socket.bufferedAmount < MOST_WAITING) this.socket.send(bytes);
+    const { socket } = this;
+    if (socket && socket.readyState === WebSocket.OPEN && socket.bufferedAmount < MOST_WAITING) socket.send(bytes);
   }
 
   /** @param {Uint8Array} bytes */
@@ -238,6 +288,6 @@ export class Broker {
   end() {
     this.isEnded = true;
     clearInterval(this.beat);
-    this.socket.close();
+    this.lose('');
   }
 }

@@ -1,5 +1,5 @@
-"""A session that a broker carries: two tabs with the key, one of them hidden, a member of wb-live, a third lost, and a stranger without
-the key."""
+"""A session that a broker carries: two tabs with the key, one of them hidden, a member of wb-live, a third lost, a stranger without the key,
+and a broker that goes and comes."""
 from __future__ import annotations
 
 import random
@@ -8,6 +8,7 @@ from typing import Callable
 
 from .live_member import LiveMember, why_not
 from .serving import Broker, Folder
+from .spoilt import WAYS, Spoilt
 from .tabs import some_drawing
 from .windows import Window, agree
 from live.tests.browser import Browser
@@ -89,14 +90,49 @@ def test_stranger(judge: Judge, browser: Browser, folder: Folder, broker: Broker
         stranger.page.close()
 
 
-def test_outage(judge: Judge, broker: Broker, windows: list[Window]) -> None:
+IS_LOST = "document.getElementById('phrase').className === 'lost' && document.getElementById('phrase').textContent.includes('broker')"
+
+
+def test_gone(judge: Judge, windows: list[Window], what: str, go: Callable[[], None], come: Callable[[], None]) -> None:
+    """The broker goes in some way, members draw meanwhile, and it comes back."""
     before = windows[0].drawings()
-    broker.stop()
-    judge("a broker that is gone is told, and the dot is no more green", windows[0].page.wait("document.getElementById('phrase').className === 'lost' && document.getElementById('phrase').textContent.includes('broker')", 60.0), windows[0].health())
-    for window in windows:
-        judge("it draws on meanwhile", window.draw("text 3 33 \"meanwhile\"").get("ok"), True)
-    broker.start()
-    judge("all come together when it is back", agree(windows, before + 2, 120.0), [(window.drawings(), window.health()) for window in windows])
+    go()
+    try:
+        for window in windows:
+            judge(f"{what} is told, and the dot is no more green", window.page.wait(IS_LOST, 60.0), window.health())
+            judge("it draws on meanwhile", window.draw("text 3 33 \"meanwhile\"").get("ok"), True)
+    finally:
+        come()
+    began = time.monotonic()
+    judge(f"after {what} all come together", agree(windows, before + len(windows), 120.0), [(window.drawings(), window.health()) for window in windows])
+    print(f"after {what}: one canvas {time.monotonic() - began:.1f} s after it was back")
+
+
+def test_spoilt(judge: Judge, broker: Broker, windows: list[Window]) -> None:
+    """In the place of the broker stands what spoils each connection in another way, until both windows have met all of them."""
+    spoilt: list[Spoilt] = []
+
+    def go() -> None:
+        broker.stop()
+        spoilt.append(Spoilt())
+
+    def come() -> None:
+        until = time.monotonic() + 90
+        while spoilt[0].met < 2 * len(WAYS) and time.monotonic() < until:
+            for window in windows:
+                window.in_worker("member.transport.under.pause = 500")
+            time.sleep(0.2)
+        judge("each way to spoil a connection was met", spoilt[0].met >= 2 * len(WAYS), spoilt[0].met)
+        spoilt[0].end()
+        broker.start()
+
+    test_gone(judge, windows, "a broker that sends what none should", go, come)
+
+
+def test_outages(judge: Judge, broker: Broker, windows: list[Window]) -> None:
+    test_gone(judge, windows, "a broker that is gone", broker.stop, broker.start)
+    test_gone(judge, windows, "a network that is dead and tells no fault", lambda: broker.freeze(True), lambda: broker.freeze(False))
+    test_spoilt(judge, broker, windows)
 
 
 def test(judge: Judge, browser: Browser, folder: Folder, broker: Broker, program: str) -> None:
@@ -108,6 +144,6 @@ def test(judge: Judge, browser: Browser, folder: Folder, broker: Broker, program
     test_hidden(judge, browser, windows)
     test_live(judge, browser, program, str(windows[0].page.value("document.getElementById('line').value")), windows)
     test_stranger(judge, browser, folder, broker, windows)
-    test_outage(judge, broker, windows)
+    test_outages(judge, broker, windows)
     for window in windows:
         window.page.close()

@@ -46,7 +46,14 @@ class Socket {
   }
 
   say(...parts) {
-    this.onmessage({ data: packet(...parts).buffer });
+    this.onmessage?.({ data: packet(...parts).buffer });
+  }
+
+  /** It carries from now on. */
+  carry() {
+    this.open();
+    this.say(...CONNACK);
+    this.say(...SUBACK);
   }
 }
 
@@ -58,9 +65,7 @@ function begun(taken, back = () => {}) {
   Socket.all = [];
   const take = (bytes, place) => taken.push([[...bytes], place]);
   const broker = new Broker('ws://ann:word@host/mqtt', 'maths', 'ann', new Uint8Array([87, 71]), take, back), [socket] = Socket.all;
-  socket.open();
-  socket.say(...CONNACK);
-  socket.say(...SUBACK);
+  socket.carry();
   return { broker, socket };
 }
 
@@ -91,13 +96,13 @@ function testSilence() {
   judge('a broker that says nothing for long is gone, though its connection stands', [broker.state, socket.isClosed], ['the broker does not answer', true]);
   broker.send(new Uint8Array([9]));
   judge('nothing is sent to it', socket.sent.at(-1), [0xc0, 0]);
-  broker.socket = broker.open();
+  broker.open();
   judge('it is told until a new connection carries', broker.state, 'the broker does not answer');
-  const again = Socket.all.at(-1);
-  again.open();
-  again.say(...CONNACK);
-  again.say(...SUBACK);
+  Socket.all.at(-1).carry();
   judge('and then no more, and that it is back is told once', [broker.state, times], ['', 1]);
+  Socket.all.at(-1).say(...CONNACK);
+  Socket.all.at(-1).say(...SUBACK);
+  judge('nor where it answers twice', times, 1);
   broker.end();
 }
 
@@ -105,19 +110,95 @@ function testRefusals() {
   Socket.all = [];
   const broker = new Broker('ws://host/mqtt', 'maths', nameAt('ws://host/mqtt', 7), new Uint8Array(0), () => {}, () => {}), [socket] = Socket.all;
   judge('nothing is carried yet', broker.state, 'connecting to the broker');
-  broker.heardAt -= 26_000;
+  broker.openedAt -= 26_000;
   broker.sign();
-  judge('a connection that does not come', broker.state, 'the broker does not answer');
-  broker.socket = broker.open();
-  Socket.all[1].open();
-  Socket.all[1].say(0x20, [0, 5]);
-  judge('a refusal is told', [broker.state, socket.isClosed], ['refused by the broker: it does not allow it', true]);
+  judge('a connection that does not come', [broker.state, socket.isClosed], ['the broker does not answer', true]);
+  for (const [name, said, state] of [['a refusal', [[0x20, [0, 5]]], 'refused by the broker: it does not allow it'], ['a session that we may not hear', [CONNACK, [0x90, [0, 1, 0x80]]],
+    'refused by the broker: it does not let us hear this session']]) {
+    broker.open();
+    const another = Socket.all.at(-1);
+    another.open();
+    for (const parts of said) another.say(...parts);
+    judge(`${name} is told, and tried again`, [broker.state, another.isClosed, broker.socket], [state, true, null]);
+  }
   broker.end();
+}
+
+/** What no broker sends, to one that carries. */
+const SPOILT = { 'a length that does not end': new Uint8Array(40).fill(255).buffer, 'a text': '1e9', 'a packet of clients': packet(0xc0).buffer,
+  'an answer that is cut off': packet(0x90, [0]).buffer, 'a topic that is cut off': packet(0x30, [0, 9, 1]).buffer, 'two faults at once': Buffer.concat([packet(0x20, [0, 5]), packet(0x00)]) };
+
+/** Runs what waits for a time, at once. */
+function withTimers(act) {
+  const before = globalThis.setTimeout, pauses = [], calls = [];
+  globalThis.setTimeout = (call, pause) => {
+    calls.push(call);
+    pauses.push(pause);
+  };
+  try {
+    act(() => calls.splice(0).forEach((call) => call()), pauses);
+  } finally {
+    globalThis.setTimeout = before;
+  }
+}
+
+function testSpoilt() {
+  for (const [name, data] of Object.entries(SPOILT)) {
+    withTimers((pass, pauses) => {
+      let times = 0;
+      const { broker, socket } = begun([], () => { times += 1; });
+      socket.onmessage({ data: data instanceof Buffer ? new Uint8Array(data).buffer : data });
+      judge(`${name} ends a connection, and one try follows`, [broker.socket, socket.isClosed, pauses.length], [null, true, 1]);
+      pass();
+      Socket.all.at(-1).carry();
+      judge('which carries', [Socket.all.length, broker.state, times], [2, '', 1]);
+      broker.end();
+    });
+  }
+}
+
+function testPauses() {
+  withTimers((pass, pauses) => {
+    const { broker } = begun([]);
+    for (let i = 0; i < 9; i += 1) {
+      const { onclose, onerror } = Socket.all.at(-1);
+      onerror();
+      onclose();
+      pass();
+      Socket.all.at(-1).carry();
+    }
+    judge('where connections carry and break off, the pauses grow', pauses.map((pause, i) => pause >= 250 * 2 ** Math.min(i, 6) - 2_000 && pause <= Math.min(30_000, 500 * 2 ** i)), Array(9).fill(true));
+    Socket.all.at(-1).say(0xd0);
+    Socket.all.at(-1).onclose();
+    judge('and where one has carried for a while, the next try comes soon', pauses.at(-1) <= 500, true);
+    globalThis.WebSocket = class { constructor() { throw new Error('not now'); } };
+    pass();
+    globalThis.WebSocket = Socket;
+    pass();
+    Socket.all.at(-1).carry();
+    judge('a connection that can\u2019t be begun is tried again', broker.state, '');
+    broker.end();
+  });
+}
+
+/** A broker that says something again and again, but does not let us carry; and one that is silent in the midst of a packet. */
+function testUseless() {
+  for (const [name, begin, said] of [['that only answers signs', (socket) => socket.open(), packet(0xd0)], ['that stops in a packet', (socket) => socket.carry(), new Uint8Array([0x30, 200, 1, 0])]]) {
+    Socket.all = [];
+    const broker = new Broker('ws://host/mqtt', 'maths', 'ann', new Uint8Array(0), () => {}, () => {}), [socket] = Socket.all;
+    begin(socket);
+    broker.openedAt -= 26_000;
+    broker.heardAt -= 26_000;
+    socket.onmessage({ data: said.buffer });
+    broker.sign();
+    judge(`a broker ${name} is given up`, [broker.state, socket.isClosed], ['the broker does not answer', true]);
+    broker.end();
+  }
 }
 
 export function testBrokers() {
   const before = globalThis.WebSocket;
   globalThis.WebSocket = Socket;
-  for (const test of [testCarrying, testSilence, testRefusals]) test();
+  for (const test of [testCarrying, testSilence, testRefusals, testSpoilt, testPauses, testUseless]) test();
   globalThis.WebSocket = before;
 }

@@ -1,10 +1,12 @@
 // Tests what a member judges beside its host: whom it heard, what is missing, whose clock counts, who may fill the board, who has its
 // number. The member is none.
 import { Alarms } from '../page/alarms.js';
+import { Board } from '../page/board.js';
 import { Drawn } from '../page/drawn.js';
 import { GONE_AFTER, Heard, MOST_BEHIND_PLACE, MOST_NEW, MOST_OF_PLACE, MOST_TOLD, Told } from '../page/heard.js';
 import { Block } from '../page/host.js';
 import { Judging, MOST_LOST } from '../page/judging.js';
+import { Telling } from '../page/telling.js';
 import { Future, MINUTE, MOST_LEAD, MOST_OF_SOURCE, Times, wall } from '../page/times.js';
 import { drawopOf } from '../page/views.js';
 import { Wire } from '../page/wire.js';
@@ -88,6 +90,7 @@ function memberOf(more = {}) {
   member.begin = async () => { member.isReady = true; };
   member.send = async (digits) => { member.sent.push(digits); };
   member.board = { moment: 0, readyAt: 0, due: null, cells: 1_000, options: { rate: 4_000 }, now: () => member.board.moment, keep: (line) => kept.push(line),
+    me: 1, ownMarks: new Map(), keepMark: Board.prototype.keepMark,
     came: async (digits) => {
       came.push(digits);
       return new Block(['send 00ff'], 'ok never');
@@ -96,6 +99,7 @@ function memberOf(more = {}) {
       member.drawn.add(drawop);
       return new Block(['send 00aa', 'batch 1 0 0 0'], 'ok never');
     } };
+  member.telling = new Telling(member, () => {});
   return member;
 }
 
@@ -107,10 +111,12 @@ async function testHost() {
   for (const words of ['session-message 9 77 7/1 7=3', 'page-state 9 7/1 7=3', 'request 9 7 7/1 2', 'ask-pages 9', drawing(7, 2)]) await heed(judging, words, words.slice(0, 3), sent);
   judge('all of it comes to the host', member.came, ['ses', 'pag', 'req', 'ask']);
   judge('and what the host sends goes out', sent, ['00ff', '00ff', '00ff', '00ff', '00aa']);
-  judge('what is told is missing, and what is below', judging.told.missing('7/1', member.drawn), 2);
+  judge('what is told is missing, and what is below', member.telling.told.missing('7/1', member.drawn), 2);
   await heed(judging, drawing(7, 3));
-  judge('until it comes', judging.told.missing('7/1', member.drawn), 1);
-  judge('of what names this member nothing comes to it', [(await heed(judging, 'request 1 7 7/1 2'), await heed(judging, 'ask-pages 1')), member.came.length], [null, 4]);
+  judge('until it comes', member.telling.told.missing('7/1', member.drawn), 1);
+  judge('what names this member comes to it too, which it changes nothing of', [(await heed(judging, 'request 1 7 7/1 2', 'own'), await heed(judging, 'ask-pages 1', 'own')), member.came.slice(4)],
+    [null, ['own', 'own']]);
+  judge('and nobody is heard by it', [...judging.heard.others.keys()], [9]);
   member.board.due = 50;
   const [[moment, act]] = judging.plan();
   await act();

@@ -128,7 +128,7 @@ async function testSession(program) {
   judge('each has its name', new Set(answers.map(({ source, seq }) => `${source} ${seq}`)).size, 24);
   const all = () => members.map((member) => member.drawn.count(PAGE)), isWhole = () => members.every((member) => member.drawn.count(PAGE) === 24 && member.told.board);
   judge('all have all, though a third is lost', await comes(isWhole) || all(), true);
-  judge('nothing is told to be missing', [members.map(({ judging, drawn }) => judging.told.missing(PAGE, drawn)), members.map(({ telling }) => telling.differences)], [[0, 0, 0], [0, 0, 0]]);
+  judge('nothing is told to be missing', [members.map(({ telling, drawn }) => telling.told.missing(PAGE, drawn)), members.map(({ telling }) => telling.differences)], [[0, 0, 0], [0, 0, 0]]);
   judge('each knows how far the others are', await comes(() => members.every((member) => [...member.judging.heard.others.values()].filter(({ distance }) => distance !== null).length === 2)), true);
   judge('something was asked for, and repaired', members.reduce((sum, { wire }) => sum + wire.counts.requests, 0) > 0, true);
   const [one] = members, fault = await one.people.draw(PAGE, 'line 0 0 4 5000 x').catch((it) => it.message);

@@ -4,6 +4,7 @@ from __future__ import annotations
 import functools
 import http.server
 import shutil
+import signal
 import subprocess
 import tempfile
 import threading
@@ -74,6 +75,11 @@ class Broker:
             self.process.terminate()
             self.process.wait(10)
             self.process = None
+
+    def freeze(self, is_frozen: bool) -> None:
+        """Its connections stand, and nothing comes by them: as on a network that is dead and tells no fault."""
+        if self.process:
+            self.process.send_signal(signal.SIGSTOP if is_frozen else signal.SIGCONT)
 
     @property
     def address(self) -> str:
