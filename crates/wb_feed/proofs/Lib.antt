@@ -9,7 +9,7 @@ pub mod Rules
 pub mod Sending
 pub mod Serving
 pub mod TakingBack
-pub mod Marking
+pub mod Filing
 pub mod Placing
 pub mod OneWorker
 pub mod Batching

@@ -128,14 +128,6 @@ left_many ((d, Known i) ∷ es) = left_many es
 left_many ((d, Clashed i) ∷ es) = left_many es
 left_many ((d, Left) ∷ es) = omega (arith, left_many es)
 
--- each drawop is counted in one way
-pub tally_all : (es : List Entry) → (tally es).fresh + (tally es).again + (tally es).clash + (tally es).left ≡ length (drawops es)
-tally_all [] = omega arith
-tally_all ((d, Fresh i) ∷ es) = omega (arith, tally_all es)
-tally_all ((d, Known i) ∷ es) = omega (arith, tally_all es)
-tally_all ((d, Clashed i) ∷ es) = omega (arith, tally_all es)
-tally_all ((d, Left) ∷ es) = omega (arith, tally_all es)
-
 says_longer : (g h : List DrawopValue) (d : DrawopValue) (o : Outcome) → IsPrefix g h → Says g d o → Says h d o
 says_longer g h d (Fresh i) p s = prefix_get g h i d p s
 says_longer g h d (Known i) p s = prefix_get g h i d p s

@@ -1,5 +1,5 @@
 -- Lists of numbers, each once.
-use Rattle.std.proofs.Common.{◌≡◌, ◌≢◌, ◌⊎◌, ℕ, zero, suc, ◌+◌, ◌≤◌, ◌<◌, ◌==◌, Bool, true, false, cond, List, [], ◌∷◌, ◌++◌, length, sym, refl, ap, ◌∙◌, subst, inl, inr, ⊎_elim, arith, add-zero}
+use Rattle.std.proofs.Common.{◌≡◌, ◌≢◌, ◌⊎◌, ℕ, zero, suc, ◌+◌, ◌≤◌, ◌<◌, ◌==◌, ◌||◌, Bool, true, false, cond, List, [], ◌∷◌, ◌++◌, length, sym, refl, ap, ap₂, ◌∙◌, subst, inl, inr, ⊎_elim, arith, add-zero}
 use Rattle.std.proofs.lemmas.Bool.Decides.{nat_tests}
 use Rattle.std.specs.List.{range_with_len}
 use Rattle.std.specs.List.Sorted.{IsPermutation}
@@ -7,11 +7,8 @@ use Rattle.std.proofs.lemmas.List.Sorted.{IsPermutation-refl, IsPermutation-sym,
 use Rattle.std.specs.Prelude.{All, AllPairs}
 use Rattle.std.proofs.lemmas.List.Elements.{All-head, All-tail}
 use Rattle.wb_feed.specs.Channel.{once_below}
-
--- how often the number stands in the list
-abbrev pub times : ℕ → List ℕ → ℕ
-times p [] = 0
-times p (q ∷ qs) = cond (q == p) 1 0 + times p qs
+use Rattle.wb_feed.specs.Marks.{has}
+pub use Rattle.wb_feed.specs.Marks.{times}
 
 pub times-append : (p : ℕ) (xs ys : List ℕ) → times p (xs ++ ys) ≡ times p xs + times p ys
 times-append p [] ys = omega arith
@@ -26,6 +23,21 @@ test_same m n e = grind (arith, nat_tests)
 pub bool_cases : (b : Bool) → (b ≡ true) ⊎ (b ≡ false)
 bool_cases true = inl refl
 bool_cases false = inr refl
+
+one_here : (p q : ℕ) (ps : List ℕ) → (q == p) ≡ true → times p (q ∷ ps) ≡ 0 → ⊥
+one_here p q ps e h = let t : times p (q ∷ ps) ≡ 1 + times p ps = ap (λ b. cond b 1 0 + times p ps) e in absurd (omega (arith, t, h))
+
+pub has_false : (p : ℕ) (ps : List ℕ) → times p ps ≡ 0 → has p ps ≡ false
+has_false p [] h = refl
+has_false p (q ∷ ps) h =
+    ⊎_elim (λ (e : (q == p) ≡ true). absurd (one_here p q ps e h))
+    (λ (e : (q == p) ≡ false). ap₂ (λ a b. a || b) e (has_false p ps (omega (arith, h, ap (λ b. cond b 1 0 + times p ps) e)))) (bool_cases (q == p))
+
+pub once_under : (p n : ℕ) → p < n → once_below p n ≡ 1
+once_under p n h = grind (arith, nat_tests)
+
+pub once_past : (p n : ℕ) → n ≤ p → once_below p n ≡ 0
+once_past p n h = grind (arith, nat_tests)
 
 abbrev without : ℕ → List ℕ → List ℕ
 without n [] = []
@@ -142,9 +154,6 @@ first_apart x xs apart k d h = apart 0 (suc k) d (omega arith) (omega arith)
 rest_apart : (x : ℕ) (xs : List ℕ) → AllPairs (λ i k. i ≢ k) (x ∷ xs) → AllPairs (λ i k. i ≢ k) xs
 rest_apart x xs apart i j d ij h = apart (suc i) (suc j) d (omega arith) (omega arith)
 
-below_once : (x n : ℕ) → x < n → once_below x n ≡ 1
-below_once x n h = grind (arith, nat_tests)
-
 pub each_once : (n : ℕ) (xs : List ℕ) → All (λ x. x < n) xs → AllPairs (λ i k. i ≢ k) xs → (p : ℕ) → times p xs ≤ once_below p n
 each_once n [] low apart p = omega arith
 each_once n (x ∷ xs) low apart p =
@@ -153,5 +162,5 @@ each_once n (x ∷ xs) low apart p =
     ⊎_elim
     (λ (e : p ≡ x).
     let none : times x xs ≡ 0 = absent x xs (first_apart x xs apart) in
-    subst (λ (q : ℕ). times q (x ∷ xs) ≤ once_below q n) (sym e) (omega (arith, times_here x xs, none, below_once x n here)))
+    subst (λ (q : ℕ). times q (x ∷ xs) ≤ once_below q n) (sym e) (omega (arith, times_here x xs, none, once_under x n here)))
     (λ (d : p ≢ x). omega (arith, rest, times_apart p x xs d)) (dec_same p x)

@@ -27,9 +27,9 @@ use Rattle.wb_feed.specs.Served.{Spot, entries}
 use Rattle.wb_feed.specs.Workers.{Workers, nobody, worker, Work}
 use Rattle.wb_feed.proofs.Log.{is_taken, chosen, place, places, places-append, runs_leave, Gathers, gathers_none, gathers_run, moved_drawops, tally_moved, taken_tally}
 use Rattle.wb_feed.proofs.Members.{nothing}
-use Rattle.wb_feed.proofs.Numbers.{times, times-append}
+use Rattle.wb_feed.proofs.Numbers.{times, times-append, once_under, once_past}
 use Rattle.wb_feed.proofs.OneThread.{Lacks, takes_none, both_batches, counted_as, same_counts, plus}
-use Rattle.wb_feed.proofs.Placing.{once_under, once_past, workers_gather}
+use Rattle.wb_feed.proofs.Placing.{workers_gather}
 use Rattle.wb_feed.proofs.Prefixes.{prefix_self, prefix_trans, prefix_length, prefix_get, prefix_take}
 use Rattle.wb_feed.proofs.Serving.{entries-append}
 use Rattle.wb_feed.proofs.WholeDesks.{whole_mine, stays_whole}

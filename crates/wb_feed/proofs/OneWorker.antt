@@ -7,7 +7,7 @@ use Rattle.wb_names.specs.Arrivals.{Outcome, Fresh, Known, Clashed, Left, counts
 use Rattle.wb_host.specs.Desks.{PassValue, IsSound, IsWhole}
 use Rattle.wb_feed.specs.Accepts.{Entry, drawops, outcomes, tally, Runs}
 use Rattle.wb_feed.proofs.Prefixes.{prefix_whole, prefix_trans, prefix_length}
-use Rattle.wb_feed.proofs.Numbers.{times, test_apart, test_same, bool_cases}
+use Rattle.wb_feed.proofs.Numbers.{test_apart, test_same, has_false, once_under, once_past}
 use Rattle.wb_feed.proofs.Log.{chosen, AreAnswered, runs_leave, leaves_whole, runs_sound, runs_empty, tally-append, left_many}
 use Rattle.wb_feed.proofs.WholeDesks.{left_lacks}
 use Rattle.wb_feed.proofs.OneThread.{Lacks, both_batches, counted_as, same_counts, plus, zero_plus}
@@ -17,7 +17,7 @@ use Rattle.wb_feed.specs.declared.channel.Message.{Message}
 use Rattle.wb_feed.specs.Channel.{once_below}
 use Rattle.wb_feed.specs.Served.{Spot, is_left, entries, accepted_at, offered, OffersRight, times_offered, Rises, Serves}
 use Rattle.wb_feed.specs.Marks.{has, unmarked, Marks}
-use Rattle.wb_feed.proofs.Placing.{accepted_few, once_under, once_past}
+use Rattle.wb_feed.proofs.Placing.{accepted_few}
 
 -- positions that rise from low on have none below
 rises_none : (low p : ℕ) (xs : List (ℕ × DrawopValue)) → p < low → Rises low xs → times_offered p xs ≡ 0
@@ -56,15 +56,6 @@ first_is p k low d xs rise once =
     let none : times_offered k ((p, d) ∷ xs) ≡ 0 = ap (λ b. cond b 1 0 + times_offered k xs) (test_apart p k (λ e. absurd (omega (arith, e, h)))) ∙ (zero_plus (times_offered k xs) ∙ rises_none (p + 1) k xs (omega (arith, h)) rise.1) in
     absurd (omega (arith, once k (omega arith), none, once_under k low (omega (arith, h, under)))))
     (λ (h : p ≤ k). let e : p ≡ k = omega (arith, h, rise.0) in (e, omega (arith, e, under))) (cases_lt k p)
-
-one_more : (p q : ℕ) (ps : List ℕ) → (q == p) ≡ true → times p (q ∷ ps) ≡ 0 → ⊥
-one_more p q ps e h = let t : times p (q ∷ ps) ≡ 1 + times p ps = ap (λ b. cond b 1 0 + times p ps) e in absurd (omega (arith, t, h))
-
-has_false : (p : ℕ) (ps : List ℕ) → times p ps ≡ 0 → has p ps ≡ false
-has_false p [] h = refl
-has_false p (q ∷ ps) h =
-    ⊎_elim (λ (e : (q == p) ≡ true). absurd (one_more p q ps e h))
-    (λ (e : (q == p) ≡ false). ap₂ (λ a b. a || b) e (has_false p ps (sym (zero_plus (times p ps)) ∙ (sym (ap (λ b. cond b 1 0 + times p ps) e) ∙ h)))) (bool_cases (q == p))
 
 -- the rest of the log has no place up to k
 none_left : (k p : ℕ) (ss : List Spot) → p ≤ k → Rises (k + 1) (offered ss) → has p (accepted_at ss) ≡ false

@@ -1,8 +1,7 @@
 -- The drawops that workers accepted and those taken again are the drawops arrived.
-use Rattle.std.proofs.Common.{◌≡◌, ℕ, zero, suc, ◌+◌, ◌≤◌, ◌<◌, ◌==◌, ◌||◌, Bool, true, false, true≢false, cond, List, [], ◌∷◌, ◌++◌, length, map, get_or, Some, slice_get, refl, ap, ap₂, sym, subst, ◌∙◌, arith, ⊎_elim, append_assoc, length-append}
+use Rattle.std.proofs.Common.{◌≡◌, ℕ, zero, suc, ◌+◌, ◌≤◌, ◌<◌, ◌==◌, ◌||◌, Bool, true, false, true≢false, cond, List, [], ◌∷◌, ◌++◌, length, map, get_or, refl, ap, ap₂, sym, subst, ◌∙◌, arith, ⊎_elim, append_assoc, length-append}
 use Rattle.std.proofs.lemmas.List.{map-append}
 use Rattle.std.proofs.lemmas.Bool.{cases_lt}
-use Rattle.std.proofs.lemmas.Bool.Decides.{nat_tests}
 use Rattle.std.specs.List.{range_with_len}
 use Rattle.std.specs.List.Sorted.{IsPermutation}
 use Rattle.std.proofs.lemmas.List.Sorted.{IsPermutation-map}
@@ -12,7 +11,7 @@ use Rattle.wb_names.specs.Arrivals.{Fresh, Known, Clashed, Left}
 use Rattle.wb_host.specs.Desks.{PassValue}
 use Rattle.wb_feed.specs.Accepts.{drawops}
 use Rattle.wb_feed.proofs.Prefixes.{prefix_get}
-use Rattle.wb_feed.proofs.Numbers.{times, times-append, times_apart, test_same, bool_cases, IsPermutation-times, times-range}
+use Rattle.wb_feed.proofs.Numbers.{times, times-append, times_apart, test_same, bool_cases, once_under, once_past, IsPermutation-times, times-range}
 use Rattle.std.proofs.Math.Seq.{get_or-append_seam}
 use Rattle.wb_feed.proofs.Members.{nothing, get_at, map_range}
 use Rattle.wb_feed.proofs.Log.{is_taken, chosen, Gathers, gathers_none, gathers_level}
@@ -83,12 +82,6 @@ has_some : (p : ℕ) (ps : List ℕ) → has p ps ≡ true → (times p ps ≡ 0
 has_some p [] h = absurd (true≢false (sym h))
 has_some p (q ∷ ps) h = elim (q == p) as (λ b. (b || has p ps) ≡ true → (cond b 1 0 + times p ps ≡ zero → ⊥))
     [ true ↦ λ e z. absurd (omega (arith, z)) | false ↦ λ e z. has_some p ps e (sym (zero_plus (times p ps)) ∙ z) ] h
-
-pub once_under : (p n : ℕ) → p < n → once_below p n ≡ 1
-once_under p n h = grind (arith, nat_tests)
-
-pub once_past : (p n : ℕ) → n ≤ p → once_below p n ≡ 0
-once_past p n h = grind (arith, nat_tests)
 
 each_once : (ps : List ℕ) (n : ℕ) (ms : List Bool) (p : ℕ) → Marks ps n ms → times p ps ≤ once_below p n → times p ps + times p (free_places 0 ms) ≡ once_below p n
 each_once ps n ms p m most = ⊎_elim

@@ -1,17 +1,19 @@
 -- A worker's loop over the messages.
-use Rattle.std.proofs.Common.{◌≡◌, ℕ, ◌+◌, ◌≤◌, ◌<◌, ◌^◌, Bool, true, false, true≢false, cond, List, [], ◌∷◌, ◌++◌, length, refl, ap, sym, subst, ◌∙◌, arith, append_assoc, ◌⊎◌, ⊎_elim}
+use Rattle.std.proofs.Common.{◌≡◌, ℕ, ◌+◌, ◌≤◌, Bool, true, false, true≢false, List, [], ◌∷◌, ◌++◌, refl, ap, sym, subst, ◌∙◌, arith, append_assoc, ◌⊎◌, ⊎_elim}
 use Rattle.std.proofs.lemmas.List.{append-nil}
 use Rattle.wb_names.specs.Values.{DrawopValue}
 use Rattle.wb_names.specs.Arrivals.{Outcome}
 use Rattle.wb_host.specs.Desks.{PassValue}
-use Rattle.wb_feed.specs.Accepts.{LosesAtMost, Accepts, drawops}
-use Rattle.wb_feed.proofs.Log.{one_kind, loses_is, loses_trans, runs_more, tally-append, tally_all}
+use Rattle.wb_host.specs.Replies.{outcome}
+use Rattle.wb_host.specs.declared.reply.Reply.{Reply}
+use Rattle.wb_host.specs.declared.reply.Reply.TheVariants.{New, Again, Clash}
+use Rattle.wb_feed.specs.Accepts.{LosesAtMost, Accepts}
+use Rattle.wb_feed.proofs.Log.{loses_is, loses_trans, runs_more}
 use Rattle.wb_feed.specs.declared.channel.Message.{Message}
 use Rattle.wb_feed.specs.declared.channel.Message.TheVariants.{Take, End}
 use Rattle.wb_feed.specs.declared.channel.ChannelView.{ChannelView}
-use Rattle.wb_feed.specs.declared.worker.Accepted.{Accepted}
 use Rattle.wb_feed.specs.Channel.{channel_view, receives, AreBelow, Follows}
-use Rattle.wb_feed.specs.Served.{Spot, is_left, entries, accepted_at, takes, offered, Rises, AcceptsOne, Tells, TookAll, Served}
+use Rattle.wb_feed.specs.Served.{Spot, entries, takes, offered, noted, told_of, Rises, Served}
 
 pub takes-append : (xs ys : List Message) → takes (xs ++ ys) ≡ takes xs ++ takes ys
 takes-append [] ys = refl
@@ -26,15 +28,14 @@ pub offered-append : (xs ys : List Spot) → offered (xs ++ ys) ≡ offered xs +
 offered-append [] ys = refl
 offered-append (x ∷ xs) ys = ap (λ l. (x.0, x.1.0) ∷ l) (offered-append xs ys)
 
-pub accepted-append : (xs ys : List Spot) → accepted_at (xs ++ ys) ≡ accepted_at xs ++ accepted_at ys
-accepted-append [] ys = refl
-accepted-append (x ∷ xs) ys = let f = cond (is_left x.1.1) [] (x.0 ∷ []) in ap (λ l. f ++ l) (accepted-append xs ys) ∙ sym (append_assoc f (accepted_at xs) (accepted_at ys))
+pub told-append : (xs ys : List Spot) → told_of (xs ++ ys) ≡ told_of xs ++ told_of ys
+told-append [] ys = refl
+told-append (x ∷ xs) ys = let f = noted x.0 x.1.1 in ap (λ l. f ++ l) (told-append xs ys) ∙ sym (append_assoc f (told_of xs) (told_of ys))
 
--- rising positions below n are n at most
-rises_few : (low n : ℕ) (ms : List Message) → Rises low (takes ms) → AreBelow n ms → low ≤ n → low + length (takes ms) ≤ n
-rises_few low n [] r b le = omega (arith, le)
-rises_few low n (Take p d ∷ ms) r b le = omega (arith, r.0, rises_few (p + 1) n ms r.1 b.1 (omega (arith, b.0)))
-rises_few low n (End ∷ ms) r b le = rises_few low n ms r b.1 le
+pub noted_is : (p : ℕ) (r : Reply) → noted p (outcome r) ≡ (p, r) ∷ []
+noted_is p (New i) = refl
+noted_is p (Again i) = refl
+noted_is p (Clash i) = refl
 
 rises_more : (low p : ℕ) (d : DrawopValue) (ms : List Message) → Rises low (takes ms) → AreBelow p ms → low ≤ p → Rises low (takes (ms ++ Take p d ∷ []))
 rises_more low p d [] r b le = (le, tt)
@@ -44,17 +45,8 @@ rises_more low p d (End ∷ ms) r b le = rises_more low p d ms r b.1 le
 rises_end : (low : ℕ) (ms : List Message) → Rises low (takes ms) → Rises low (takes (ms ++ End ∷ []))
 rises_end low ms r = let e : takes (ms ++ End ∷ []) ≡ takes ms = takes-append ms (End ∷ []) ∙ append-nil (takes ms) in subst (λ x. Rises low x) (sym e) r
 
-offered_many : (log : List Spot) → length (drawops (entries log)) ≡ length (offered log)
-offered_many [] = refl
-offered_many (s ∷ ss) = omega (arith, offered_many ss)
-
--- the counts of one that took all that it received, where a message at p comes next
-pub tells_few : (v w : PassValue) (got : List Message) (a : Accepted) (p : ℕ) → TookAll v w got a → Rises 0 (takes got) → AreBelow p got → (a.fresh + a.again) + a.clash ≤ p
-tells_few v w got a p t r b =
-    omega (arith, t.tells.fresh, t.tells.again, t.tells.clash, tally_all (entries t.log), offered_many t.log, ap length t.serves.offered, rises_few 0 p got r b (omega arith))
-
-pub serves_none : (v : PassValue) (a : Accepted) (h : ChannelView) → h ≡ channel_view 1 false [] [] → Tells a [] → Served v v h a false
-serves_none v a h e t = record {
+pub serves_none : (v : PassValue) (told : List (ℕ × Reply)) (h : ChannelView) → h ≡ channel_view 1 false [] [] → told ≡ [] → Served v v h told false
+serves_none v told h e t = record {
   kept = loses_is v v refl;
   one_part = e ∙ ap (λ g. channel_view 1 false [] g) (sym (ap (λ (x : ChannelView). x.got) e));
   rises = subst (λ g. Rises 0 (takes g)) (sym (ap (λ (x : ChannelView). x.got) e)) tt;
@@ -62,7 +54,6 @@ serves_none v a h e t = record {
     log = [];
     serves = record { runs = refl; offered = ap takes (sym (ap (λ (x : ChannelView). x.got) e)); rises = subst (λ g. Rises 0 (takes g)) (sym (ap (λ (x : ChannelView). x.got) e)) tt };
     tells = t;
-    few = omega (arith, t.fresh, t.again, t.clash);
   };
 }
 
@@ -76,7 +67,7 @@ rises_next h i (Take p d) n f r = let g : i.got ≡ h.got ++ Take p d ∷ [] = a
 rises_next h i End n f r = let g : i.got ≡ h.got ++ End ∷ [] = ap (λ (y : ChannelView). y.got) n in rw g (rises_end 0 h.got r)
 
 -- the end message
-pub serves_end : (v w : PassValue) (h i : ChannelView) (a : Accepted) (failed : Bool) → Served v w h a failed → i ≡ receives h End → Follows h.got End → Served v w i a failed
+pub serves_end : (v w : PassValue) (h i : ChannelView) (a : List (ℕ × Reply)) (failed : Bool) → Served v w h a failed → i ≡ receives h End → Follows h.got End → Served v w i a failed
 serves_end v w h i a failed s n f =
     let g : i.got ≡ h.got ++ End ∷ [] = ap (λ (y : ChannelView). y.got) n in
     let e : takes i.got ≡ takes h.got = ap takes g ∙ (takes-append h.got (End ∷ []) ∙ append-nil (takes h.got)) in
@@ -84,11 +75,11 @@ serves_end v w h i a failed s n f =
       kept = s.kept;
       one_part = one_part_next h i End s.one_part n;
       rises = rises_next h i End n f s.rises;
-      took = λ ok. let t = s.took ok in record { log = t.log; serves = record { runs = t.serves.runs; offered = t.serves.offered ∙ sym e; rises = rises_next h i End n f s.rises }; tells = t.tells; few = t.few };
+      took = λ ok. let t = s.took ok in record { log = t.log; serves = record { runs = t.serves.runs; offered = t.serves.offered ∙ sym e; rises = rises_next h i End n f s.rises }; tells = t.tells };
     }
 
 -- a message while nothing is accepted any more
-pub serves_failed : (v w u : PassValue) (h i : ChannelView) (x : Message) (a b : Accepted) (failed : Bool) → Served v w h a failed → i ≡ receives h x → Follows h.got x → LosesAtMost 0 w u → Served v u i b true
+pub serves_failed : (v w u : PassValue) (h i : ChannelView) (x : Message) (a b : List (ℕ × Reply)) (failed : Bool) → Served v w h a failed → i ≡ receives h x → Follows h.got x → LosesAtMost 0 w u → Served v u i b true
 serves_failed v w u h i x a b failed s n f k = record {
   kept = loses_trans 0 0 0 v w u (omega arith) s.kept k;
   one_part = one_part_next h i x s.one_part n;
@@ -97,9 +88,9 @@ serves_failed v w u h i x a b failed s n f k = record {
 }
 
 -- an arrival that is accepted
-pub serves_more : (v w u : PassValue) (h i : ChannelView) (p : ℕ) (d : DrawopValue) (a b : Accepted) → p < 2 ^ 32 → Served v w h a false → i ≡ receives h (Take p d) → Follows h.got (Take p d) → LosesAtMost 0 w u
-    → (o : Outcome) × Accepts w d o u × AcceptsOne a p o b → Served v u i b false
-serves_more v w u h i p d a b small s n f k one =
+pub serves_more : (v w u : PassValue) (h i : ChannelView) (p : ℕ) (d : DrawopValue) (a b : List (ℕ × Reply)) → Served v w h a false → i ≡ receives h (Take p d) → Follows h.got (Take p d) → LosesAtMost 0 w u
+    → (o : Outcome) × Accepts w d o u × (b ≡ a ++ noted p o) → Served v u i b false
+serves_more v w u h i p d a b s n f k one =
     let g : i.got ≡ h.got ++ Take p d ∷ [] = ap (λ (y : ChannelView). y.got) n in
     let t = s.took refl in
     let o = one.0 in
@@ -116,21 +107,15 @@ serves_more v w u h i p d a b small s n f k one =
           offered = offered-append t.log (x ∷ []) ∙ (ap (λ l. l ++ (p, d) ∷ []) t.serves.offered ∙ sym (ap takes g ∙ takes-append h.got (Take p d ∷ [])));
           rises = rises_next h i (Take p d) n f s.rises;
         };
-        tells = record {
-          fresh = rw more (omega (arith, one.2.fresh, t.tells.fresh, (tally-append (entries t.log) ((d, o) ∷ [])).fresh));
-          again = rw more (omega (arith, one.2.again, t.tells.again, (tally-append (entries t.log) ((d, o) ∷ [])).again));
-          clash = rw more (omega (arith, one.2.clash, t.tells.clash, (tally-append (entries t.log) ((d, o) ∷ [])).clash));
-          positions = one.2.positions ∙ (ap (λ l. l ++ cond (is_left o) [] (p ∷ [])) t.tells.positions ∙ sym (accepted-append t.log (x ∷ []) ∙ ap (λ l. accepted_at t.log ++ l) (append-nil (cond (is_left o) [] (p ∷ [])))));
-        };
-        few = omega (arith, one.2.fresh, one.2.again, one.2.clash, one_kind o, tells_few v w h.got a p t s.rises f, small);
+        tells = one.2 ∙ (ap (λ l. l ++ noted p o) t.tells ∙ sym (told-append t.log (x ∷ []) ∙ ap (λ l. told_of t.log ++ l) (append-nil (noted p o))));
       };
     }
 
-pub serves_turn : (v w u : PassValue) (h i : ChannelView) (p : ℕ) (d : DrawopValue) (a b : Accepted) (failed r : Bool) → p < 2 ^ 32 → Served v w h a failed → i ≡ receives h (Take p d) → Follows h.got (Take p d) → LosesAtMost 0 w u
-    → (r ≡ false → (failed ≡ false) × ((o : Outcome) × Accepts w d o u × AcceptsOne a p o b)) → Served v u i b r
-serves_turn v w u h i p d a b failed true small s n f k took = serves_failed v w u h i (Take p d) a b failed s n f k
-serves_turn v w u h i p d a b failed false small s n f k took =
-    let t = took refl in serves_more v w u h i p d a b small (subst (λ (x : Bool). Served v w h a x) t.0 s) n f k t.1
+pub serves_turn : (v w u : PassValue) (h i : ChannelView) (p : ℕ) (d : DrawopValue) (a b : List (ℕ × Reply)) (failed r : Bool) → Served v w h a failed → i ≡ receives h (Take p d) → Follows h.got (Take p d) → LosesAtMost 0 w u
+    → (r ≡ false → (failed ≡ false) × ((o : Outcome) × Accepts w d o u × (b ≡ a ++ noted p o))) → Served v u i b r
+serves_turn v w u h i p d a b failed true s n f k took = serves_failed v w u h i (Take p d) a b failed s n f k
+serves_turn v w u h i p d a b failed false s n f k took =
+    let t = took refl in serves_more v w u h i p d a b (subst (λ (x : Bool). Served v w h a x) t.0 s) n f k t.1
 
-pub serves_same : (v w : PassValue) (h i : ChannelView) (a : Accepted) (failed : Bool) → Served v w h a failed → (i ≡ h) ⊎ (i ≡ receives h End) → Served v w i a failed
+pub serves_same : (v w : PassValue) (h i : ChannelView) (a : List (ℕ × Reply)) (failed : Bool) → Served v w h a failed → (i ≡ h) ⊎ (i ≡ receives h End) → Served v w i a failed
 serves_same v w h i a failed s e = ⊎_elim (λ (x : i ≡ h). subst (λ (y : ChannelView). Served v w y a failed) (sym x) s) (λ (x : i ≡ receives h End). serves_end v w h i a failed s x tt) e

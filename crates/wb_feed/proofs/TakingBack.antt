@@ -1,26 +1,27 @@
 -- What several workers did, put together.
-use Rattle.std.proofs.Common.{◌≡◌, ℕ, suc, ◌+◌, ◌-◌, ◌*◌, ◌≤◌, ◌<◌, Bool, true, List, [], ◌++◌, length, Result, Ok, Err, ap, sym, subst, ◌∙◌, ⊎_elim, arith, append_assoc, length-append}
+use Rattle.std.proofs.Common.{◌≡◌, ℕ, suc, ◌+◌, ◌-◌, ◌*◌, ◌≤◌, ◌<◌, Bool, true, List, [], ◌++◌, length, Result, Ok, Err, ap, ap₂, sym, subst, ◌∙◌, ⊎_elim, arith, append_assoc, length-append}
 use Rattle.std.specs.Prelude.{IfOk, OnOk}
 use Rattle.std.proofs.lemmas.List.{append-nil}
 use Rattle.crossbeam_channel.specs.Claims.{view}
 use Rattle.wb_names.specs.Values.{DrawopValue}
 use Rattle.wb_host.specs.Desks.{PassValue, IsSplit}
+use Rattle.wb_host.specs.declared.reply.Reply.{Reply}
 use Rattle.wb_feed.specs.Accepts.{LosesAtMost}
 use Rattle.wb_feed.specs.declared.channel.ChannelView.{ChannelView}
 use Rattle.wb_feed.specs.declared.sender.Feeding.{Feeding}
-use Rattle.wb_feed.specs.declared.worker.Accepted.{Accepted}
+use Rattle.wb_feed.specs.declared.worker.Told.{Told}
 use Rattle.wb_feed.specs.declared.worker.Done.{Done}
 use Rattle.wb_feed.specs.declared.workers.WorkFault.{WorkFault}
 use Rattle.wb_feed.specs.declared.workers.WorkFault.TheVariants.{Start, Memory}
 use Rattle.wb_feed.specs.Channel.{channel_view}
-use Rattle.wb_feed.specs.Served.{entries, accepted_at, Spot, Serves, Tells, Served}
+use Rattle.wb_feed.specs.Served.{Serves, Served}
 use Rattle.wb_feed.specs.Sent.{HasArrived}
 use Rattle.wb_feed.specs.Feeding.{IsWith, IsMerged, HasFed}
-use Rattle.wb_feed.specs.Workers.{IsBack, Workers, nobody, worker, Worked, IsSum, most_lost, TakesBack, ComesBack}
-use Rattle.wb_feed.proofs.Log.{loses_more, loses_trans, split_keeps, split_mine, keeps_trans, tally-append}
+use Rattle.wb_feed.specs.Workers.{IsBack, Workers, nobody, worker, Worked, most_lost, TakesBack, ComesBack}
+use Rattle.wb_feed.proofs.Log.{loses_more, loses_trans, split_keeps, split_mine, keeps_trans}
 use Rattle.wb_feed.proofs.Prefixes.{prefix_is, prefix_trans}
 use Rattle.wb_feed.proofs.Sending.{arrived_none}
-use Rattle.wb_feed.proofs.Serving.{entries-append, accepted-append}
+use Rattle.wb_feed.proofs.Serving.{told-append}
 
 -- ---- the rows
 
@@ -48,7 +49,7 @@ back_loses n m p rest back q desk done s l d b =
       rows = omega (arith, many, b.joined.free, l.rows, d.rows, s.rows, s.free, ap length same, ap length s.mine);
     }
 
-pub several_kept : (rows n m : ℕ) (p rest back q desk : PassValue) (d : Done) (j : ChannelView) (others r : Result Accepted WorkFault) → m ≡ suc n → IsSplit p rows rest desk → Served desk d.desk j d.accepted d.failed
+pub several_kept : (rows n m : ℕ) (p rest back q desk : PassValue) (d : Done) (j : ChannelView) (others r : Result Told WorkFault) → m ≡ suc n → IsSplit p rows rest desk → Served desk d.desk j d.told.replies.items d.failed
     → LosesAtMost (most_lost (rows * n) others) rest back → TakesBack back d others q r → LosesAtMost (most_lost (rows * m) r) p q
 several_kept rows n m p rest back q desk d j others (Ok all) next s w l t =
     let none : most_lost (rows * n) others ≡ 0 = ap (most_lost (rows * n)) t.3 in
@@ -83,13 +84,13 @@ fed_within gives most ended f f' g' g v w a b o r cut h back ok start = record {
   untouched = λ e. h.untouched (start e);
 }
 
-pub several_fed : {A : Type 0} (gives : A → List DrawopValue → A → Type 0) (most : A → ℕ) (ended : A → Bool) (f f' g' g : Feeding) (v w : ChannelView) (a b : A) (p q : PassValue) (d : Done) (others r : Result Accepted WorkFault)
+pub several_fed : {A : Type 0} (gives : A → List DrawopValue → A → Type 0) (most : A → ℕ) (ended : A → Bool) (f f' g' g : Feeding) (v w : ChannelView) (a b : A) (p q : PassValue) (d : Done) (others r : Result Told WorkFault)
     → IsWith f v f' → HasFed gives most ended f' a g' b others → IsWith g' w g → TakesBack p d others q r → HasFed gives most ended f a g b r
 several_fed gives most ended f f' g' g v w a b p q d others (Ok all) cut h back t = fed_within gives most ended f f' g' g v w a b others (Ok all) cut h back (subst (λ o. OnOk o (ended b ≡ true)) t.3 h.ended) (λ e. absurd (cc (e)))
 several_fed gives most ended f f' g' g v w a b p q d others (Err Start) cut h back t = fed_within gives most ended f f' g' g v w a b others (Err Start) cut h back tt (λ e. t.0)
 several_fed gives most ended f f' g' g v w a b p q d others (Err Memory) cut h back t = fed_within gives most ended f f' g' g v w a b others (Err Memory) cut h back tt (λ e. absurd (cc (e)))
 
-pub one_fed : {A : Type 0} (gives : A → List DrawopValue → A → Type 0) (most : A → ℕ) (ended : A → Bool) (f f' g' g : Feeding) (v w : ChannelView) (a b : A) (q : PassValue) (d : Done) (fed r : Result Accepted WorkFault)
+pub one_fed : {A : Type 0} (gives : A → List DrawopValue → A → Type 0) (most : A → ℕ) (ended : A → Bool) (f f' g' g : Feeding) (v w : ChannelView) (a b : A) (q : PassValue) (d : Done) (fed r : Result Told WorkFault)
     → IsWith f v f' → HasFed gives most ended f' a g' b fed → IsWith g' w g → ComesBack d fed q r → HasFed gives most ended f a g b r
 one_fed gives most ended f f' g' g v w a b q d fed (Ok all) cut h back t = fed_within gives most ended f f' g' g v w a b fed (Ok all) cut h back (subst (λ o. OnOk o (ended b ≡ true)) t.4 h.ended) (λ e. absurd (cc (e)))
 one_fed gives most ended f f' g' g v w a b q d fed (Err Start) cut h back t = fed_within gives most ended f f' g' g v w a b fed (Err Start) cut h back tt (λ e. t.1)
@@ -97,36 +98,24 @@ one_fed gives most ended f f' g' g v w a b q d fed (Err Memory) cut h back t = f
 
 -- ---- what was done
 
-tells_sum : (s t u : Accepted) (xs ys : List Spot) → Tells s xs → Tells t ys → IsSum s t u → Tells u (xs ++ ys)
-tells_sum s t u xs ys a b e =
-    let m = entries-append xs ys in
-    record {
-      fresh = rw m (omega (arith, e.fresh, a.fresh, b.fresh, (tally-append (entries xs) (entries ys)).fresh));
-      again = rw m (omega (arith, e.again, a.again, b.again, (tally-append (entries xs) (entries ys)).again));
-      clash = rw m (omega (arith, e.clash, a.clash, b.clash, (tally-append (entries xs) (entries ys)).clash));
-      positions = e.positions ∙ (ap (λ l. l ++ t.positions.items) a.positions ∙ (ap (λ l. accepted_at xs ++ l) b.positions ∙ sym (accepted-append xs ys)));
-    }
-
-pub nobody_worked : (rows n : ℕ) (p : PassValue) (g h : ChannelView) (a : Accepted) → n ≡ 0 → h.parts ≡ g.parts → h.got ≡ g.got → Tells a [] → Worked (λ log gots. Workers rows n p log gots p) n g h a
-nobody_worked rows n p g h a none parts got t = record {
+pub nobody_worked : (rows n : ℕ) (p : PassValue) (g h : ChannelView) (told : List (ℕ × Reply)) → n ≡ 0 → h.parts ≡ g.parts → h.got ≡ g.got → told ≡ [] → Worked (λ log gots. Workers rows n p log gots p) g h told
+nobody_worked rows n p g h told none parts got t = record {
   log = [];
   gots = [];
   did = subst (λ (k : ℕ). Workers rows k p [] [] p) (sym none) nobody;
   got = got ∙ sym (append-nil g.got);
   parts = parts;
   tells = t;
-  few = omega (arith, t.fresh, t.again, t.clash);
 }
 
-pub several_worked : (rows n m : ℕ) (p rest back q desk : PassValue) (d : Done) (f f' g' g : Feeding) (others r : Result Accepted WorkFault) → m ≡ suc n → 1 < (view f.pass).parts → IsSplit p rows rest desk
-    → IsWith f (channel_view ((view f.pass).parts - 1) (view f.pass).sends (view f.pass).sent (view f.pass).got) f' → Served desk d.desk (view d.pass) d.accepted d.failed
-    → IfOk others (Worked (λ log gots. Workers rows n rest log gots back) n (view f'.pass) (view g'.pass)) → IsMerged g' (view d.pass) g → TakesBack back d others q r
-    → IfOk r (Worked (λ log gots. Workers rows m p log gots q) m (view f.pass) (view g.pass))
+pub several_worked : (rows n m : ℕ) (p rest back q desk : PassValue) (d : Done) (f f' g' g : Feeding) (others r : Result Told WorkFault) → m ≡ suc n → 1 < (view f.pass).parts → IsSplit p rows rest desk
+    → IsWith f (channel_view ((view f.pass).parts - 1) (view f.pass).sends (view f.pass).sent (view f.pass).got) f' → Served desk d.desk (view d.pass) d.told.replies.items d.failed
+    → IfOk others (λ told. Worked (λ log gots. Workers rows n rest log gots back) (view f'.pass) (view g'.pass) told.replies.items) → IsMerged g' (view d.pass) g → TakesBack back d others q r
+    → IfOk r (λ told. Worked (λ log gots. Workers rows m p log gots q) (view f.pass) (view g.pass) told.replies.items)
 several_worked rows n m p rest back q desk d f f' g' g others (Err e) next some s cut served w merged t = tt
 several_worked rows n m p rest back q desk d f f' g' g others (Ok all) next some s cut served w merged t =
-    let o : Worked (λ log gots. Workers rows n rest log gots back) n (view f'.pass) (view g'.pass) t.2 = subst (λ x. IfOk x (Worked (λ log gots. Workers rows n rest log gots back) n (view f'.pass) (view g'.pass))) t.3 w in
+    let o : Worked (λ log gots. Workers rows n rest log gots back) (view f'.pass) (view g'.pass) t.2.replies.items = subst (λ x. IfOk x (λ told. Worked (λ log gots. Workers rows n rest log gots back) (view f'.pass) (view g'.pass) told.replies.items)) t.3 w in
     let k = served.took t.0 in
-    let sum = t.4 in
     let got = (view d.pass).got in
     record {
       log = k.log ++ o.log;
@@ -134,43 +123,42 @@ several_worked rows n m p rest back q desk d f f' g' g others (Ok all) next some
       did = subst (λ (x : ℕ). Workers rows x p (k.log ++ o.log) (o.gots ++ got) q) (sym next) (worker k.log o.log got o.gots s k.serves o.did t.1);
       got = ap (λ (z : ChannelView). z.got) merged.view ∙ (ap (λ l. l ++ got) (o.got ∙ ap (λ (z : ChannelView). z.got ++ o.gots) cut.view) ∙ append_assoc (view f.pass).got o.gots got);
       parts = omega (arith, ap (λ (z : ChannelView). z.parts) merged.view, o.parts, ap (λ (z : ChannelView). z.parts) cut.view, ap (λ (z : ChannelView). z.parts) served.one_part, some);
-      tells = tells_sum d.accepted t.2 all k.log o.log k.tells o.tells sum;
-      few = omega (arith, sum.fresh, sum.again, sum.clash, k.few, o.few, next);
+      tells = t.4 ∙ (ap₂ (λ a b. a ++ b) k.tells o.tells ∙ sym (told-append k.log o.log));
     }
 
-pub one_worked : (p q : PassValue) (d : Done) (f f' g' g : Feeding) (fed r : Result Accepted WorkFault) → 1 < (view f.pass).parts
-    → IsWith f (channel_view ((view f.pass).parts - 1) (view f.pass).sends (view f.pass).sent (view f.pass).got) f' → Served p d.desk (view d.pass) d.accepted d.failed
+pub one_worked : (p q : PassValue) (d : Done) (f f' g' g : Feeding) (fed r : Result Told WorkFault) → 1 < (view f.pass).parts
+    → IsWith f (channel_view ((view f.pass).parts - 1) (view f.pass).sends (view f.pass).sent (view f.pass).got) f' → Served p d.desk (view d.pass) d.told.replies.items d.failed
     → ((view g'.pass).parts ≡ (view f'.pass).parts) × ((view g'.pass).got ≡ (view f'.pass).got) → IsMerged g' (view d.pass) g → ComesBack d fed q r
-    → IfOk r (Worked (λ log gots. Serves p log gots q) 1 (view f.pass) (view g.pass))
+    → IfOk r (λ told. Worked (λ log gots. Serves p log gots q) (view f.pass) (view g.pass) told.replies.items)
 one_worked p q d f f' g' g fed (Err e) some cut served same merged t = tt
 one_worked p q d f f' g' g fed (Ok all) some cut served same merged t =
     let k = served.took t.1 in
     let got = (view d.pass).got in
-    let done : Worked (λ log gots. Serves p log gots d.desk) 1 (view f.pass) (view g.pass) d.accepted = record {
+    let done : Worked (λ log gots. Serves p log gots d.desk) (view f.pass) (view g.pass) d.told.replies.items = record {
       log = k.log;
       gots = got;
       did = k.serves;
       got = ap (λ (z : ChannelView). z.got) merged.view ∙ ap (λ l. l ++ got) (same.1 ∙ ap (λ (z : ChannelView). z.got) cut.view);
       parts = omega (arith, ap (λ (z : ChannelView). z.parts) merged.view, same.0, ap (λ (z : ChannelView). z.parts) cut.view, ap (λ (z : ChannelView). z.parts) served.one_part, some);
       tells = k.tells;
-      few = omega (arith, k.few);
     } in
-    subst (λ (x : PassValue × Accepted). Worked (λ log gots. Serves p log gots x.0) 1 (view f.pass) (view g.pass) x.1) (λ i. (sym t.0 i, sym t.2 i)) done
+    subst (λ (x : PassValue × Told). Worked (λ log gots. Serves p log gots x.0) (view f.pass) (view g.pass) x.1.replies.items) (λ i. (sym t.0 i, sym t.2 i)) done
 
-pub one_kept : (p q : PassValue) (d : Done) (j : ChannelView) (fed r : Result Accepted WorkFault) → Served p d.desk j d.accepted d.failed → ComesBack d fed q r → LosesAtMost 0 p q
+pub one_kept : (p q : PassValue) (d : Done) (j : ChannelView) (fed r : Result Told WorkFault) → Served p d.desk j d.told.replies.items d.failed → ComesBack d fed q r → LosesAtMost 0 p q
 one_kept p q d j fed (Ok all) s t = subst (λ (x : PassValue). LosesAtMost 0 p x) (sym t.0) s.kept
 one_kept p q d j fed (Err Start) s t = subst (λ (x : PassValue). LosesAtMost 0 p x) (sym t.0) s.kept
 one_kept p q d j fed (Err Memory) s t = subst (λ (x : PassValue). LosesAtMost 0 p x) (sym t) s.kept
 
 -- a worker whose thread was refused did nothing that counts
-pub refused_worked : (P : Accepted → Type 0) (d : Done) (q : PassValue) (f : WorkFault) (r : Result Accepted WorkFault) → ComesBack d (Err f) q r → IfOk r P
+pub refused_worked : (P : Told → Type 0) (d : Done) (q : PassValue) (f : WorkFault) (r : Result Told WorkFault) → ComesBack d (Err f) q r → IfOk r P
 refused_worked P d q f (Ok all) t = absurd (cc (t.4))
 refused_worked P d q f (Err e) t = tt
 
-pub refused_back : (P : Accepted → Type 0) (p : PassValue) (d : Done) (q : PassValue) (f : WorkFault) (r : Result Accepted WorkFault) → TakesBack p d (Err f) q r → IfOk r P
+pub refused_back : (P : Told → Type 0) (p : PassValue) (d : Done) (q : PassValue) (f : WorkFault) (r : Result Told WorkFault) → TakesBack p d (Err f) q r → IfOk r P
 refused_back P p d q f (Ok all) t = absurd (cc (t.3))
 refused_back P p d q f (Err e) t = tt
 
-pub nobody_all : (rows n : ℕ) (p : PassValue) (g h : ChannelView) (r : Result Accepted WorkFault) → n ≡ 0 → (h.parts ≡ g.parts) × (h.got ≡ g.got) → IfOk r (λ a. Tells a []) → IfOk r (Worked (λ log gots. Workers rows n p log gots p) n g h)
-nobody_all rows n p g h (Ok a) none same t = nobody_worked rows n p g h a none same.0 same.1 t
+pub nobody_all : (rows n : ℕ) (p : PassValue) (g h : ChannelView) (r : Result Told WorkFault) → n ≡ 0 → (h.parts ≡ g.parts) × (h.got ≡ g.got) → IfOk r (λ told. told.replies.items ≡ [])
+    → IfOk r (λ told. Worked (λ log gots. Workers rows n p log gots p) g h told.replies.items)
+nobody_all rows n p g h (Ok a) none same t = nobody_worked rows n p g h a.replies.items none same.0 same.1 t
 nobody_all rows n p g h (Err e) none same t = tt

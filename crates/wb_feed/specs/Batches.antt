@@ -7,7 +7,6 @@ use Rattle.wb_names.specs.Arrivals.{Counts, counts, IsBatch}
 use Rattle.wb_host.specs.Desks.{PassValue, IsWhole}
 use Rattle.wb_feed.specs.declared.batch.Batch.{Batch}
 use Rattle.wb_feed.specs.declared.channel.Message.{Message}
-use Rattle.wb_feed.specs.declared.worker.Accepted.{Accepted}
 use Rattle.wb_feed.specs.Accepts.{Entry, Runs, drawops}
 use Rattle.wb_feed.specs.Marks.{Marks, unmarked}
 use Rattle.wb_feed.specs.Channel.{once_below}
@@ -45,13 +44,6 @@ pub record Takes (p : PassValue) (given : List DrawopValue) (workers : ℕ) (q :
   pub settled : IsWhole p → IsInSomeOrder p given q b
   pub in_order : workers ≡ 1 → IsWhole p → IsInOrder p given q b
 
--- the counts of what the workers accepted, and of what was taken again
-pub record IsTotal (a : Accepted) (t b : Batch) : Type 0 where
-  pub fresh : b.fresh ≡ a.fresh + t.fresh
-  pub again : b.again ≡ a.again + t.again
-  pub clash : b.clash ≡ a.clash + t.clash
-  pub left : b.left ≡ t.left
-
 -- How the workers shared what was given: they received the first ones, each once and by its position; their desks came back into the
 -- desk `joined`, which then took, in order, what none of them had accepted
 pub record IsShared (workers : ℕ) (p : PassValue) (given : List DrawopValue) (q : PassValue) : Type 0 where
@@ -68,3 +60,8 @@ pub record IsShared (workers : ℕ) (p : PassValue) (given : List DrawopValue) (
   pub left_over : List Entry
   pub rest : Runs joined left_over q
   pub all : drawops left_over ≡ unmarked marks given
+
+-- what a batch did, and how it was shared
+pub record IsSettled (workers : ℕ) (p : PassValue) (given : List DrawopValue) (q : PassValue) (b : Batch) : Type 0 where
+  pub taken : Takes p given workers q b
+  pub shared : IsShared workers p given q

@@ -1,9 +1,12 @@
--- Which of the drawops arrived were accepted, and what is taken again of the others.
-use Rattle.std.specs.Prelude.{◌≡◌, ℕ, ◌+◌, ◌<◌, ◌==◌, ◌||◌, Bool, false, cond, List, [], ◌∷◌, length, slice_index_or}
+-- Which of the drawops arrived were accepted, with which replies, and what is taken again of the others.
+use Rattle.std.specs.Prelude.{◌≡◌, ℕ, ◌+◌, ◌<◌, ◌≤◌, ◌==◌, ◌||◌, Bool, true, false, cond, List, [], ◌∷◌, length, set, slice_index_or, Option, Some, None}
 use Rattle.wb_names.specs.Values.{DrawopValue}
-use Rattle.wb_names.specs.Arrivals.{counts_of, Outcome}
+use Rattle.wb_names.specs.Arrivals.{Counts, counts_of, Outcome}
 use Rattle.wb_host.specs.Desks.{PassValue}
+use Rattle.wb_host.specs.Replies.{outcome}
+use Rattle.wb_host.specs.declared.reply.Reply.{Reply}
 use Rattle.wb_feed.specs.Accepts.{Entry, Runs, drawops, tally}
+use Rattle.wb_feed.specs.Channel.{once_below}
 use Rattle.wb_feed.specs.declared.batch.Batch.{Batch}
 
 abbrev pub has : ℕ → List ℕ → Bool
@@ -28,16 +31,56 @@ pub record CountsOne (b : Batch) (o : Outcome) (c : Batch) : Type 0 where
   pub clash : c.clash ≡ b.clash + (counts_of (o ∷ [])).clash
   pub left : c.left ≡ b.left + (counts_of (o ∷ [])).left
 
--- the counts of a batch are those of the log
-pub record Tallies (b : Batch) (log : List Entry) : Type 0 where
-  pub fresh : b.fresh ≡ (tally log).fresh
-  pub again : b.again ≡ (tally log).again
-  pub clash : b.clash ≡ (tally log).clash
-  pub left : b.left ≡ (tally log).left
+-- where something was told, and with which outcomes
+abbrev pub told_at : List (ℕ × Reply) → List ℕ
+told_at [] = []
+told_at (t ∷ ts) = t.0 ∷ told_at ts
 
--- the desk p took these drawops in order, and is q
-pub record Retakes (p : PassValue) (ds : List DrawopValue) (q : PassValue) (b : Batch) : Type 0 where
+abbrev pub told_outcomes : List (ℕ × Reply) → List Outcome
+told_outcomes [] = []
+told_outcomes (t ∷ ts) = outcome t.1 ∷ told_outcomes ts
+
+-- how often the number stands in the list
+abbrev pub times : ℕ → List ℕ → ℕ
+times p [] = 0
+times p (q ∷ qs) = cond (q == p) 1 0 + times p qs
+
+-- the list has numbers below n, each once at most
+abbrev pub AreOnce : ℕ → List ℕ → Type 0
+AreOnce n places = (p : ℕ) → times p places ≤ once_below p n
+
+-- where a reply is filed, and the outcomes that are filed
+abbrev pub filled : List (Option Reply) → List Bool
+filled [] = []
+filled (None ∷ fs) = false ∷ filled fs
+filled (Some r ∷ fs) = true ∷ filled fs
+
+abbrev pub filed_outcomes : List (Option Reply) → List Outcome
+filed_outcomes [] = []
+filed_outcomes (None ∷ fs) = filed_outcomes fs
+filed_outcomes (Some r ∷ fs) = outcome r ∷ filed_outcomes fs
+
+-- a reply is filed at a place, unless that is past the end
+abbrev pub IsPut : List (Option Reply) → ℕ → Reply → List (Option Reply) → Type 0
+IsPut fs place r gs = (place < length fs → gs ≡ set fs place (Some r)) × (length fs ≤ place → gs ≡ fs)
+
+-- what was told is filed by its place, below n: each once, if it was told of each place once
+pub record Files (told : List (ℕ × Reply)) (n : ℕ) (filed : List (Option Reply)) : Type 0 where
+  pub long : length filed ≡ n
+  pub marks : Marks (told_at told) n (filled filed)
+  pub counted : AreOnce n (told_at told) → counts_of (filed_outcomes filed) ≡ counts_of (told_outcomes told)
+
+-- a batch counts these two together
+pub record IsTotal (m n : Counts) (b : Batch) : Type 0 where
+  pub fresh : b.fresh ≡ m.fresh + n.fresh
+  pub again : b.again ≡ m.again + n.again
+  pub clash : b.clash ≡ m.clash + n.clash
+  pub left : b.left ≡ m.left + n.left
+
+-- the desk p took, in order, the drawops for which no reply is filed, and is q; b counts the replies and what these became
+pub record Settles (p : PassValue) (filed : List (Option Reply)) (ds : List DrawopValue) (q : PassValue) (b : Batch) : Type 0 where
   pub log : List Entry
   pub runs : Runs p log q
-  pub all : drawops log ≡ ds
-  pub tallies : Tallies b log
+  pub all : drawops log ≡ unmarked (filled filed) ds
+  pub total : IsTotal (counts_of (filed_outcomes filed)) (tally log) b
+  pub many : b.fresh + b.again + b.clash + b.left ≡ length ds

@@ -1,13 +1,14 @@
 -- What a worker does with the messages that it receives.
-use Rattle.std.specs.Prelude.{◌≡◌, ℕ, ◌+◌, ◌≤◌, ◌==◌, ◌^◌, Bool, true, false, cond, List, [], ◌∷◌, ◌++◌, slice_get, Some}
+use Rattle.std.specs.Prelude.{◌≡◌, ℕ, ◌+◌, ◌≤◌, ◌==◌, Bool, true, false, cond, List, [], ◌∷◌, ◌++◌, slice_get, Some}
 use Rattle.wb_names.specs.Values.{DrawopValue}
-use Rattle.wb_names.specs.Arrivals.{Outcome, Fresh, Known, Clashed, Left, counts_of}
+use Rattle.wb_names.specs.Arrivals.{Outcome, Fresh, Known, Clashed, Left}
 use Rattle.wb_host.specs.Desks.{PassValue}
-use Rattle.wb_feed.specs.Accepts.{Entry, LosesAtMost, Runs, tally}
+use Rattle.wb_host.specs.declared.reply.Reply.{Reply}
+use Rattle.wb_host.specs.declared.reply.Reply.TheVariants.{New, Again, Clash}
+use Rattle.wb_feed.specs.Accepts.{Entry, LosesAtMost, Runs}
 use Rattle.wb_feed.specs.declared.channel.Message.{Message}
 use Rattle.wb_feed.specs.declared.channel.Message.TheVariants.{Take, End}
 use Rattle.wb_feed.specs.declared.channel.ChannelView.{ChannelView}
-use Rattle.wb_feed.specs.declared.worker.Accepted.{Accepted}
 use Rattle.wb_feed.specs.Channel.{channel_view}
 
 abbrev pub is_left : Outcome → Bool
@@ -54,18 +55,17 @@ abbrev pub Rises : ℕ → List (ℕ × DrawopValue) → Type 0
 Rises low [] = Unit {0}
 Rises low (x ∷ xs) = (low ≤ x.0) × Rises (x.0 + 1) xs
 
--- the outcome at a position is noted
-pub record AcceptsOne (a : Accepted) (position : ℕ) (o : Outcome) (b : Accepted) : Type 0 where
-  pub fresh : b.fresh ≡ a.fresh + (counts_of (o ∷ [])).fresh
-  pub again : b.again ≡ a.again + (counts_of (o ∷ [])).again
-  pub clash : b.clash ≡ a.clash + (counts_of (o ∷ [])).clash
-  pub positions : b.positions.items ≡ a.positions.items ++ cond (is_left o) [] (position ∷ [])
+-- what a worker notes of an outcome at a position: the reply, and nothing where the drawop was left
+abbrev pub noted : ℕ → Outcome → List (ℕ × Reply)
+noted p (Fresh i) = (p, New i) ∷ []
+noted p (Known i) = (p, Again i) ∷ []
+noted p (Clashed i) = (p, Clash i) ∷ []
+noted p Left = []
 
-pub record Tells (a : Accepted) (log : List Spot) : Type 0 where
-  pub fresh : a.fresh ≡ (tally (entries log)).fresh
-  pub again : a.again ≡ (tally (entries log)).again
-  pub clash : a.clash ≡ (tally (entries log)).clash
-  pub positions : a.positions.items ≡ accepted_at log
+-- the replies of a log, each with its position
+abbrev pub told_of : List Spot → List (ℕ × Reply)
+told_of [] = []
+told_of (s ∷ ss) = noted s.0 s.1.1 ++ told_of ss
 
 -- from the desk p to the desk q, one after another, the arrivals that were received
 pub record Serves (p : PassValue) (log : List Spot) (got : List Message) (q : PassValue) : Type 0 where
@@ -73,14 +73,14 @@ pub record Serves (p : PassValue) (log : List Spot) (got : List Message) (q : Pa
   pub offered : offered log ≡ takes got
   pub rises : Rises 0 (takes got)
 
-pub record TookAll (p q : PassValue) (got : List Message) (a : Accepted) : Type 0 where
+-- the worker took all that it received, and this is what it was told
+pub record TookAll (p q : PassValue) (got : List Message) (told : List (ℕ × Reply)) : Type 0 where
   pub log : List Spot
   pub serves : Serves p log got q
-  pub tells : Tells a log
-  pub few : (a.fresh + a.again) + a.clash ≤ 2 ^ 32
+  pub tells : told ≡ told_of log
 
-pub record Served (p q : PassValue) (h : ChannelView) (a : Accepted) (failed : Bool) : Type 0 where
+pub record Served (p q : PassValue) (h : ChannelView) (told : List (ℕ × Reply)) (failed : Bool) : Type 0 where
   pub kept : LosesAtMost 0 p q
   pub one_part : h ≡ channel_view 1 false [] h.got
   pub rises : Rises 0 (takes h.got)
-  pub took : failed ≡ false → TookAll p q h.got a
+  pub took : failed ≡ false → TookAll p q h.got told

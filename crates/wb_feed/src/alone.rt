@@ -12,7 +12,7 @@ use crate::arrivals::Arrivals;
 use crate::gate::Gate;
 use crate::place::Place;
 use crate::sender::Feeding;
-use crate::worker::{Accepted, Done, serve};
+use crate::worker::{Done, Told, serve};
 use crate::workers::{WorkFault, WorkerServes, feed_all};
 use std::mem::replace;
 use std::snapshot::Snapshot;
@@ -20,12 +20,12 @@ use std::sync::Wait;
 use std::thread::{Scope, Threads};
 use wb_host::{Board, Desk};
 
-/// The desk that a worker's thread gives back, and what the worker accepted.
+/// The desk that a worker's thread gives back, and what the worker was told.
 fn give_back(
     feeding: &mut Feeding,
     done: Done,
-    fed: Result<Accepted, WorkFault>,
-) -> (Desk, Result<Accepted, WorkFault>)
+    fed: Result<Told, WorkFault>,
+) -> (Desk, Result<Told, WorkFault>)
     requires seat { IsSeatAt (sends_on feeding.old.channel) done.pass }
     ensures pass { IsMerged feeding.old (view done.pass) feeding.new }
     ensures back { ComesBack done fed result.0 result.1 }
@@ -33,14 +33,14 @@ fn give_back(
     let Done {
         desk,
         pass,
-        accepted,
+        told,
         failed,
     } = done;
     feeding.absorb(pass);
     match fed {
         Err(fault) => (desk, Err(fault)),
         Ok(_) if failed => (desk, Err(WorkFault::Memory)),
-        Ok(_) => (desk, Ok(accepted)),
+        Ok(_) => (desk, Ok(told)),
     }
 }
 
@@ -52,14 +52,14 @@ fn work_with<'s, 'e: 's, R: Threads + Wait + Sync, S: Arrivals, G: Gate + Sync>(
     desk: Desk,
     feeding: &mut Feeding,
     arrivals: &mut S,
-) -> (Desk, Result<Accepted, WorkFault>)
+) -> (Desk, Result<Told, WorkFault>)
     requires desk { IsPassOf place.board.now desk }
     requires channel { receives_on place.end.now ≡ sends_on feeding.old.channel }
     requires ready { IsReady 1 feeding.old }
     requires few { S.most_to_come arrivals.old < 2 ^ 32 }
     ensures kept { LosesAtMost 0 desk result.0 }
     ensures fed { HasFed S.gives S.most_to_come S.has_ended feeding.old arrivals.old feeding.new arrivals.new result.1 }
-    ensures ok { IfOk result.1 (Worked (λ log gots. Serves desk log gots result.0) 1 (view feeding.old.pass) (view feeding.new.pass)) }
+    ensures ok { IfOk result.1 (λ told. Worked (λ log gots. Serves desk log gots result.0) (view feeding.old.pass) (view feeding.new.pass) told.replies.items) }
 {
     let theirs = feeding.cut();
     let promise = WorkerServes {
@@ -107,20 +107,20 @@ pub(crate) fn run_one<'s, 'e: 's, R: Threads + Wait + Sync, S: Arrivals, G: Gate
     root: &mut Desk,
     feeding: &mut Feeding,
     arrivals: &mut S,
-) -> Result<Accepted, WorkFault>
+) -> Result<Told, WorkFault>
     requires root { IsPassOf place.board.now root.old }
     requires channel { receives_on place.end.now ≡ sends_on feeding.old.channel }
     requires ready { IsReady 1 feeding.old }
     requires few { S.most_to_come arrivals.old < 2 ^ 32 }
     ensures kept { LosesAtMost 0 root.old root.new }
     ensures fed { HasFed S.gives S.most_to_come S.has_ended feeding.old arrivals.old feeding.new arrivals.new result }
-    ensures ok { IfOk result (Worked (λ log gots. Serves root.old log gots root.new) 1 (view feeding.old.pass) (view feeding.new.pass)) }
+    ensures ok { IfOk result (λ told. Worked (λ log gots. Serves root.old log gots root.new) (view feeding.old.pass) (view feeding.new.pass) told.replies.items) }
 {
     let Ok((_, stand_in)) = Board::open(place.alloc, 1) else {
         return Err(WorkFault::Memory);
     };
     let desk = replace(root, stand_in);
-    let (desk, accepted) = work_with(scope, place, desk, feeding, arrivals);
+    let (desk, told) = work_with(scope, place, desk, feeding, arrivals);
     *root = desk;
-    accepted
+    told
 }

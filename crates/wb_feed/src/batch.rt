@@ -7,10 +7,10 @@ ghost use Rattle.wb_names.specs.Arrivals.{Outcome};
 ghost use Rattle.wb_host.specs.Desks.{IsPassOf};
 ghost use Rattle.wb_feed.specs.Accepts.{Keeps, LosesAtMost, Accepts};
 ghost use Rattle.wb_feed.specs.Channel.{channel_view};
-ghost use Rattle.wb_feed.specs.Marks.{unmarked, Marks, Retakes, CountsOne};
+ghost use Rattle.wb_feed.specs.Marks.{CountsOne, Files, IsPut, Settles};
 ghost use Rattle.wb_feed.specs.Feeding.{HasFed};
 ghost use Rattle.wb_feed.specs.Workers.{handed_out, most_lost};
-ghost use Rattle.wb_feed.specs.Batches.{Takes, IsShared, IsTotal};
+ghost use Rattle.wb_feed.specs.Batches.{Takes, IsShared, IsSettled};
 
 use crate::arrivals::Arrivals;
 use crate::channel::{ChannelView, EachOnce, Message};
@@ -18,7 +18,6 @@ use crate::fault::FeedFault;
 use crate::gate::Gate;
 use crate::place::Place;
 use crate::sender::Feeding;
-use crate::worker::Accepted;
 use crate::workers::{WorkFault, run_all};
 use crossbeam_channel::bounded_with;
 use std::alloc::{AllocError, Global};
@@ -53,7 +52,7 @@ impl Batch {
     }
 }
 
-/// How many messages the channel has room for.
+/// How many messages the channel has room for, at most.
 const CAPACITY: usize = 64;
 
 /// Takes all that the source gives, each drawop once, by so many workers, from 1 to 8, each on a thread
@@ -92,13 +91,13 @@ pub fn run_batch<R: Threads + Wait + Sync, S: Arrivals, G: Gate + Sync>(
     if workers == 0 || workers > 8 {
         return Err(FeedFault::Workers);
     }
+    // No more room than for what may come.
+    let capacity = (arrivals.most() as usize).clamp(1, CAPACITY);
     let Ok((channel, end, pass)) = bounded_with::<Message, ChannelView, EachOnce, Global>(
-        alloc, CAPACITY,
+        alloc, capacity,
     ) else {
         return Err(FeedFault::Memory);
     };
-    // For the proof alone: what is still to come is a number of 32 bits.
-    let _most = arrivals.most();
     let place = Place {
         rt,
         alloc,
@@ -129,56 +128,58 @@ fn take_batch<R: Threads + Wait + Sync, S: Arrivals, G: Gate + Sync>(
     requires few { S.most_to_come arrivals.old < 2 ^ 32 }
     ensures kept { LosesAtMost (most_lost (handed_out place.entry.workers desk.old.free) result) desk.old desk.new }
     ensures fed { HasFed S.gives S.most_to_come S.has_ended feeding.old arrivals.old feeding.new arrivals.new result }
-    ensures taken { IfOk result (λ b. Takes desk.old feeding.new.arrived.items place.entry.workers desk.new b) }
-    ensures shared { OnOk result (IsShared place.entry.workers desk.old feeding.new.arrived.items desk.new) }
+    ensures settled { IfOk result (IsSettled place.entry.workers desk.old feeding.new.arrived.items desk.new) }
 {
-    // The number of its rows says, for the proof alone, that a desk is sound: here, once the workers are back, and at the end.
-    let _sound = desk.rows_left();
-    let accepted = run_all(place, desk, feeding, arrivals)?;
-    let _sound_joined = desk.rows_left();
+    let rows = desk.rows_left() / place.workers;
+    let told = run_all(place, desk, rows, feeding, arrivals)?;
     feeding.learn_all();
     let count = feeding.arrived.len();
-    let Ok(marks) = mark(place.alloc, accepted.positions.as_slice(), count) else {
+    let Ok(filed) = file(place.alloc, told.replies.as_slice(), count) else {
         return Err(WorkFault::Memory);
     };
-    let Ok(rest) = take_rest(
-        place.board,
-        desk,
-        marks.as_slice(),
-        feeding.arrived.as_slice(),
-    ) else {
-        return Err(WorkFault::Memory);
-    };
-    let _sound_after = desk.rows_left();
-    Ok(in_all(&accepted, &rest))
-}
-
-/// Marks these places, of so many.
-fn mark(alloc: Global, places: &[u32], count: usize) -> Result<Vec<bool>, AllocError>
-    ensures { IfOk result (λ v. Marks places.now count v.items) }
-{
-    let mut marks = Vec::from_elem(alloc, false, count)?;
-    for place in places {
-        let at = *place as usize;
-        if at >= marks.len() {
-            continue;
-        }
-        marks[at] = true;
+    let arrived = feeding.arrived.as_slice();
+    match settle(place.board, desk, filed.as_slice(), arrived) {
+        Ok(batch) => Ok(batch),
+        Err(_) => Err(WorkFault::Memory),
     }
-    Ok(marks)
 }
 
-/// Takes the drawops that are not marked, in order.
-fn take_rest(
+/// Files what was told by its place, of so many.
+fn file(
+    alloc: Global,
+    told: &[(u32, Reply)],
+    count: usize,
+) -> Result<Vec<Option<Reply>>, AllocError>
+    ensures { IfOk result (λ filed. Files told.now count filed.items) }
+{
+    let mut filed = Vec::from_elem(alloc, None, count)?;
+    for i in 0..told.len() {
+        put(&mut filed, &told[i]);
+    }
+    Ok(filed)
+}
+
+/// Files one reply, unless its place is past the end.
+fn put(filed: &mut Vec<Option<Reply>>, told: &(u32, Reply))
+    ensures { IsPut filed.old.items told.now.0 told.now.1 filed.new.items }
+{
+    let at = told.0 as usize;
+    if at < filed.len() {
+        filed[at] = Some(told.1);
+    }
+}
+
+/// Counts the replies that are filed, and takes, in order, the drawops for which none is.
+fn settle(
     board: &Board,
     desk: &mut Desk,
-    marks: &[bool],
+    filed: &[Option<Reply>],
     arrived: &[Drawop],
 ) -> Result<Batch, AllocError>
     requires desk { IsPassOf board.now desk.old }
     requires few { length arrived.now < 2 ^ 32 }
-    requires marks { length marks.now ≡ length arrived.now }
-    ensures ok { IfOk result (λ b. Retakes desk.old (unmarked marks.now arrived.now) desk.new b) }
+    requires filed { length filed.now ≡ length arrived.now }
+    ensures ok { IfOk result (λ b. Settles desk.old filed.now arrived.now desk.new b) }
     ensures kept { LosesAtMost 0 desk.old desk.new }
 {
     let mut batch = Batch {
@@ -187,11 +188,12 @@ fn take_rest(
         clash: 0,
         left: 0,
     };
-    for (i, drawop) in arrived.iter().enumerate() {
-        if marks[i] {
+    for i in 0..arrived.len() {
+        if let Some(reply) = filed[i] {
+            batch.count(reply);
             continue;
         }
-        take_one(board, desk, &mut batch, drawop)?;
+        take_one(board, desk, &mut batch, &arrived[i])?;
     }
     Ok(batch)
 }
@@ -214,17 +216,4 @@ fn take_one(
         Err(BoardFault::Memory) => return Err(AllocError),
     }
     Ok(())
-}
-
-/// The counts of both.
-fn in_all(accepted: &Accepted, rest: &Batch) -> Batch
-    requires few { (((accepted.now.fresh + rest.now.fresh) + (accepted.now.again + rest.now.again)) + (accepted.now.clash + rest.now.clash)) + rest.now.left < 2 ^ 32 }
-    ensures { IsTotal accepted.now rest.now result }
-{
-    Batch {
-        fresh: accepted.fresh as u32 + rest.fresh,
-        again: accepted.again as u32 + rest.again,
-        clash: accepted.clash as u32 + rest.clash,
-        left: rest.left,
-    }
 }

@@ -1,13 +1,12 @@
 //! The workers of a batch: they are started, fed, and joined, one level of a recursion for each.
-ghost use Rattle.std.specs.Prelude.{◌≡◌, ◌*◌, ◌<◌, ◌≤◌, ◌^◌, false, [], IfOk};
+ghost use Rattle.std.specs.Prelude.{◌≡◌, ◌*◌, ◌/◌, ◌<◌, ◌≤◌, ◌^◌, [], IfOk};
 ghost use Rattle.std.specs.Thread.{IsSync};
 ghost use Rattle.crossbeam_channel.specs.Claims.{view, IsSeatAt};
 ghost use Rattle.crossbeam_channel.specs.Ends.{sends_on, receives_on};
 ghost use Rattle.wb_host.specs.Desks.{IsPassOf};
 ghost use Rattle.wb_feed.specs.Accepts.{LosesAtMost};
-ghost use Rattle.wb_feed.specs.Served.{Tells};
 ghost use Rattle.wb_feed.specs.Feeding.{IsReady, IsMerged, HasFed};
-ghost use Rattle.wb_feed.specs.Workers.{Workers, Work, Worked, AreFew, most_lost, handed_out, TakesBack};
+ghost use Rattle.wb_feed.specs.Workers.{Workers, Work, Worked, most_lost, handed_out, TakesBack};
 
 use crate::alone::run_one;
 use crate::arrivals::Arrivals;
@@ -15,7 +14,7 @@ use crate::channel::ChannelReceiver;
 use crate::gate::Gate;
 use crate::place::Place;
 use crate::sender::Feeding;
-use crate::worker::{Accepted, Done, serve};
+use crate::worker::{Done, Told, serve};
 use std::snapshot::Snapshot;
 use std::sync::Wait;
 use std::thread;
@@ -43,7 +42,7 @@ impl<'a> Promise<Done> for WorkerServes<'a> {
     ghost use Rattle.crossbeam_channel.specs.Ends.{receives_on};
     ghost use Rattle.wb_feed.specs.Served.{Served};
 
-    ghost kept_by = { λ p r. IsSeatAt (receives_on p.end.now) r.pass × Served p.desk.value r.desk (view r.pass) r.accepted r.failed };
+    ghost kept_by = { λ p r. IsSeatAt (receives_on p.end.now) r.pass × Served p.desk.value r.desk (view r.pass) r.told.replies.items r.failed };
 }
 
 /// Feeds the workers, who are all started, and ends their work.
@@ -51,39 +50,38 @@ pub(crate) fn feed_all<R: Wait, S: Arrivals, G>(
     place: Place<R, G>,
     feeding: &mut Feeding,
     arrivals: &mut S,
-) -> Result<Accepted, WorkFault>
+) -> Result<Told, WorkFault>
     requires ready { IsReady 0 feeding.old }
     requires few { S.most_to_come arrivals.old < 2 ^ 32 }
     ensures fed { HasFed S.gives S.most_to_come S.has_ended feeding.old arrivals.old feeding.new arrivals.new result }
     ensures same { ((view feeding.new.pass).parts ≡ (view feeding.old.pass).parts) × ((view feeding.new.pass).got ≡ (view feeding.old.pass).got) }
-    ensures none { IfOk result (λ a. Tells a []) }
+    ensures none { IfOk result (λ told. told.replies.items ≡ []) }
 {
     let fed = feeding.feed(place.rt, arrivals);
     feeding.end_all(place.rt, place.workers);
     match fed {
-        Ok(()) => Ok(Accepted::new(place.alloc)),
+        Ok(()) => Ok(Told::new(place.alloc)),
         Err(_) => Err(WorkFault::Memory),
     }
 }
 
-/// Takes back what a worker's thread has, and adds what the others accepted.
+/// Takes back what a worker's thread has, and puts what it was told before what the others were.
 fn take_back(
     board: &Board,
     root: &mut Desk,
     feeding: &mut Feeding,
     done: Done,
-    others: Result<Accepted, WorkFault>,
-) -> Result<Accepted, WorkFault>
+    others: Result<Told, WorkFault>,
+) -> Result<Told, WorkFault>
     requires desks { IsPassOf board.now root.old × IsPassOf board.now done.desk }
     requires seat { IsSeatAt (sends_on feeding.old.channel) done.pass }
-    requires few { (done.failed ≡ false → AreFew 1 done.accepted) × IfOk others (AreFew 8) }
     ensures pass { IsMerged feeding.old (view done.pass) feeding.new }
     ensures back { TakesBack root.old done others root.new result }
 {
     let Done {
         desk,
         pass,
-        accepted,
+        told,
         failed,
     } = done;
     feeding.absorb(pass);
@@ -94,7 +92,7 @@ fn take_back(
     if failed {
         return Err(WorkFault::Memory);
     }
-    match accepted.and(others) {
+    match told.and(others) {
         Ok(both) => Ok(both),
         Err(_) => Err(WorkFault::Memory),
     }
@@ -111,7 +109,7 @@ fn run_several<'s, 'e: 's, R: Threads + Wait + Sync, S: Arrivals, G: Gate + Sync
     left: u32,
     feeding: &mut Feeding,
     arrivals: &mut S,
-) -> Result<Accepted, WorkFault>
+) -> Result<Told, WorkFault>
     requires root { IsPassOf place.board.now root.old }
     requires rows { rows * left ≤ root.old.free }
     requires workers { (left ≤ place.workers) × (place.workers ≤ 8) }
@@ -120,7 +118,7 @@ fn run_several<'s, 'e: 's, R: Threads + Wait + Sync, S: Arrivals, G: Gate + Sync
     requires few { S.most_to_come arrivals.old < 2 ^ 32 }
     ensures kept { LosesAtMost (most_lost (rows * left) result) root.old root.new }
     ensures fed { HasFed S.gives S.most_to_come S.has_ended feeding.old arrivals.old feeding.new arrivals.new result }
-    ensures ok { IfOk result (Worked (λ log gots. Workers rows left root.old log gots root.new) left (view feeding.old.pass) (view feeding.new.pass)) }
+    ensures ok { IfOk result (λ told. Worked (λ log gots. Workers rows left root.old log gots root.new) (view feeding.old.pass) (view feeding.new.pass) told.replies.items) }
 {
     if left == 0 {
         return feed_all(place, feeding, arrivals);
@@ -172,64 +170,68 @@ fn run_several<'s, 'e: 's, R: Threads + Wait + Sync, S: Arrivals, G: Gate + Sync
     }
 }
 
-/// The workers of a batch: one has the desk itself, and of more each gets an equal part of its free rows.
+/// The workers of a batch: one has the desk itself, and of more each gets so many rows.
 fn run_some<'s, 'e: 's, R: Threads + Wait + Sync, S: Arrivals, G: Gate + Sync>(
     scope: &'s Scope<'s, &'e ()>,
     place: Place<'e, R, G>,
     root: &mut Desk,
+    rows: u32,
     feeding: &mut Feeding,
     arrivals: &mut S,
-) -> Result<Accepted, WorkFault>
+) -> Result<Told, WorkFault>
     requires root { IsPassOf place.board.now root.old }
     requires workers { (0 < place.workers) × (place.workers ≤ 8) }
+    requires rows { rows ≡ root.old.free / place.workers }
     requires channel { receives_on place.end.now ≡ sends_on feeding.old.channel }
     requires ready { IsReady place.workers feeding.old }
     requires few { S.most_to_come arrivals.old < 2 ^ 32 }
     ensures kept { LosesAtMost (most_lost (handed_out place.entry.workers root.old.free) result) root.old root.new }
     ensures fed { HasFed S.gives S.most_to_come S.has_ended feeding.old arrivals.old feeding.new arrivals.new result }
-    ensures ok { IfOk result (Worked (λ log gots. Work place.entry.workers root.old log gots root.new) place.entry.workers (view feeding.old.pass) (view feeding.new.pass)) }
+    ensures ok { IfOk result (λ told. Worked (λ log gots. Work place.entry.workers root.old log gots root.new) (view feeding.old.pass) (view feeding.new.pass) told.replies.items) }
 {
     if place.workers == 1 {
         return run_one(scope, place, root, feeding, arrivals);
     }
-    let rows = root.rows_left() / place.workers;
     run_several(scope, place, root, rows, place.workers, feeding, arrivals)
 }
 
-/// All workers, each on a thread of its own, fed from this one.
+/// All workers, each on a thread of its own, fed from this one. One has the desk itself; of more each gets so many rows, an equal
+/// part of those that are free.
 pub(crate) fn run_all<R: Threads + Wait + Sync, S: Arrivals, G: Gate + Sync>(
     place: Place<R, G>,
     root: &mut Desk,
+    rows: u32,
     feeding: &mut Feeding,
     arrivals: &mut S,
-) -> Result<Accepted, WorkFault>
+) -> Result<Told, WorkFault>
     requires root { IsPassOf place.board.now root.old }
     requires workers { (0 < place.workers) × (place.workers ≤ 8) }
+    requires rows { rows ≡ root.old.free / place.workers }
     requires channel { receives_on place.end.now ≡ sends_on feeding.old.channel }
     requires ready { IsReady place.workers feeding.old }
     requires few { S.most_to_come arrivals.old < 2 ^ 32 }
     ensures kept { LosesAtMost (most_lost (handed_out place.entry.workers root.old.free) result) root.old root.new }
     ensures fed { HasFed S.gives S.most_to_come S.has_ended feeding.old arrivals.old feeding.new arrivals.new result }
-    ensures ok { IfOk result (Worked (λ log gots. Work place.entry.workers root.old log gots root.new) place.entry.workers (view feeding.old.pass) (view feeding.new.pass)) }
+    ensures ok { IfOk result (λ told. Worked (λ log gots. Work place.entry.workers root.old log gots root.new) (view feeding.old.pass) (view feeding.new.pass) told.replies.items) }
 {
-    let (root, feeding, arrivals, accepted) = thread::scope(
+    let (root, feeding, arrivals, told) = thread::scope(
         thread::scope_env(),
         place.rt,
-        move |scope| -> (&mut Desk, &mut Feeding, &mut S, Result<Accepted, WorkFault>)
-            requires { IsSync R.row × IsSync G.row × IsPassOf place.board.now root.now × ((0 < place.workers) × (place.workers ≤ 8)) × (receives_on place.end.now ≡ sends_on feeding.now.channel) × IsReady place.workers feeding.now × (S.most_to_come arrivals.now < 2 ^ 32) }
+        move |scope| -> (&mut Desk, &mut Feeding, &mut S, Result<Told, WorkFault>)
+            requires { IsSync R.row × IsSync G.row × IsPassOf place.board.now root.now × ((0 < place.workers) × (place.workers ≤ 8)) × (rows ≡ root.now.free / place.workers) × (receives_on place.end.now ≡ sends_on feeding.now.channel) × IsReady place.workers feeding.now × (S.most_to_come arrivals.now < 2 ^ 32) }
             ensures names { (result.0.ghost_name ≡ root.entry.ghost_name) × (result.1.ghost_name ≡ feeding.entry.ghost_name) × (result.2.ghost_name ≡ arrivals.entry.ghost_name) }
             ensures kept { LosesAtMost (most_lost (handed_out place.entry.workers root.entry.now.free) result.3) root.entry.now result.0.now }
             ensures fed { HasFed S.gives S.most_to_come S.has_ended feeding.entry.now arrivals.entry.now result.1.now result.2.now result.3 }
-            ensures ok { IfOk result.3 (Worked (λ log gots. Work place.entry.workers root.entry.now log gots result.0.now) place.entry.workers (view feeding.entry.now.pass) (view result.1.now.pass)) }
+            ensures ok { IfOk result.3 (λ told. Worked (λ log gots. Work place.entry.workers root.entry.now log gots result.0.now) (view feeding.entry.now.pass) (view result.1.now.pass) told.replies.items) }
         {
-            let accepted = run_some(scope, place, root, feeding, arrivals);
-            (root, feeding, arrivals, accepted)
+            let told = run_some(scope, place, root, rows, feeding, arrivals);
+            (root, feeding, arrivals, told)
         },
     );
     ends_here(root);
     ends_here(feeding);
     ends_here(arrivals);
-    accepted
+    told
 }
 
 /// Does nothing. It ends a borrow that the closure gave back, so that the proof knows what was written through it.

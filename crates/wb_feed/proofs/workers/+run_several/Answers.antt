@@ -14,8 +14,8 @@ pub returns-in-Ok-spawn_with-clause-kept : goal.returns-in-Ok-spawn_with-clause-
 returns-in-Ok-spawn_with-clause-kept g t c =
     let parts : IsSplit c.args.root.now c.args.rows c.split.new.desk c.in-Ok.desk = c.in-Ok.ensures.parts in
     let same : c.in-Ok-spawn_with.child.promise.desk.value ≡ c.in-Ok.desk = search rules in
-    let served : Served c.in-Ok.desk c.join.result.desk (view c.join.result.pass) c.join.result.accepted c.join.result.failed =
-    subst (λ (v : PassValue). Served v c.join.result.desk (view c.join.result.pass) c.join.result.accepted c.join.result.failed) same c.join.ensures.1 in
+    let served : Served c.in-Ok.desk c.join.result.desk (view c.join.result.pass) c.join.result.told.replies.items c.join.result.failed =
+    subst (λ (v : PassValue). Served v c.join.result.desk (view c.join.result.pass) c.join.result.told.replies.items c.join.result.failed) same c.join.ensures.1 in
     let next : c.args.left ≡ suc (c.args.left - 1) = omega (arith, c.if-left-eq0.false) in
     several_kept c.args.rows (c.args.left - 1) c.args.left _ _ _ _ c.in-Ok.desk c.join.result (view c.join.result.pass) c.run_several-others.result c.take_back.result next parts served c.run_several-others.ensures.kept c.take_back.ensures.back
 
@@ -23,8 +23,8 @@ pub returns-in-Ok-spawn_with-clause-ok : goal.returns-in-Ok-spawn_with-clause-ok
 returns-in-Ok-spawn_with-clause-ok g t c =
     let parts : IsSplit c.args.root.now c.args.rows c.split.new.desk c.in-Ok.desk = c.in-Ok.ensures.parts in
     let same : c.in-Ok-spawn_with.child.promise.desk.value ≡ c.in-Ok.desk = search rules in
-    let served : Served c.in-Ok.desk c.join.result.desk (view c.join.result.pass) c.join.result.accepted c.join.result.failed =
-    subst (λ (v : PassValue). Served v c.join.result.desk (view c.join.result.pass) c.join.result.accepted c.join.result.failed) same c.join.ensures.1 in
+    let served : Served c.in-Ok.desk c.join.result.desk (view c.join.result.pass) c.join.result.told.replies.items c.join.result.failed =
+    subst (λ (v : PassValue). Served v c.join.result.desk (view c.join.result.pass) c.join.result.told.replies.items c.join.result.failed) same c.join.ensures.1 in
     let next : c.args.left ≡ suc (c.args.left - 1) = omega (arith, c.if-left-eq0.false) in
     let some : 1 < (view c.args.feeding.now.pass).parts = omega (arith, c.requires.ready.parts, c.if-left-eq0.false) in
     several_worked c.args.rows (c.args.left - 1) c.args.left _ _ _ _ c.in-Ok.desk c.join.result c.args.feeding.now c.cut-theirs.new.self c.run_several-others.new.feeding c.take_back.new.feeding c.run_several-others.result c.take_back.result next some parts
@@ -33,7 +33,7 @@ returns-in-Ok-spawn_with-clause-ok g t c =
 pub returns-in-Err-clause-kept : goal.returns-in-Err-clause-kept
 returns-in-Err-clause-kept g t c =
     let parts : IsSplit c.args.root.now c.args.rows c.split.new.desk c.in-Ok.desk = c.in-Ok.ensures.parts in
-    let served : Served c.in-Ok.desk c.work.result.desk (view c.work.result.pass) c.work.result.accepted c.work.result.failed = search rules in
+    let served : Served c.in-Ok.desk c.work.result.desk (view c.work.result.pass) c.work.result.told.replies.items c.work.result.failed = search rules in
     let next : c.args.left ≡ suc (c.args.left - 1) = omega (arith, c.if-left-eq0.false) in
     several_kept c.args.rows (c.args.left - 1) c.args.left _ c.split.new.desk c.split.new.desk _ c.in-Ok.desk c.work.result (view c.work.result.pass) (Err Start) c.take_back-in-Err.result next parts served
     (loses_is c.split.new.desk c.split.new.desk refl) c.take_back-in-Err.ensures.back
