@@ -7,7 +7,7 @@ mod command;
 mod constants;
 mod serving;
 
-use serving::{NO_MEMORY, refuse_words, serve};
+use serving::{refuse_words, report_no_memory, serve};
 use std::env;
 use std::process::ExitCode;
 use wb_names::{FromRead, ToWrite};
@@ -19,14 +19,14 @@ fn main(rt: HostRuntime) -> ExitCode {
         Err(error) => return ExitCode::from(refuse_words(&mut errors, error.kind())),
     };
     let Ok(texts) = arguments.skip(1).collect::<Vec<String>>(rt.alloc()) else {
-        return ExitCode::from(NO_MEMORY);
+        return ExitCode::from(report_no_memory(&mut errors));
     };
     let Ok(words) = texts
         .iter()
         .map(|text| text.as_str())
         .collect::<Vec<&str>>(rt.alloc())
     else {
-        return ExitCode::from(NO_MEMORY);
+        return ExitCode::from(report_no_memory(&mut errors));
     };
     let mut source = FromRead::new(rt.stdin());
     let mut sink = ToWrite::new(rt.stdout());

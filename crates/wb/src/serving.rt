@@ -1,4 +1,6 @@
 //! What the program does for each of its commands, and the exit status that tells how it ended.
+ghost use Rattle.std.specs.Prelude.{◌<◌, ◌≤◌};
+
 use crate::command::{Task, task_of};
 use clap::Error;
 use clap::error::ErrorKind;
@@ -23,7 +25,7 @@ const MISUSED: u8 = 2;
 const DISCONNECTED: u8 = 3;
 
 /// Memory or a thread was refused.
-pub const NO_MEMORY: u8 = 4;
+const NO_MEMORY: u8 = 4;
 
 /// Why a task was not done.
 #[derive(Clone, Copy, Drop)]
@@ -51,7 +53,9 @@ impl From<HostFault> for Failure {
     }
 }
 
-fn status_of(failure: Failure) -> u8 {
+fn status_of(failure: Failure) -> u8
+    ensures { (0 < result) × (result ≤ 4) }
+{
     match failure {
         Failure::Run(RunFault::Line(_, _) | RunFault::Endless) => REFUSED,
         Failure::Run(RunFault::Read | RunFault::Write) => DISCONNECTED,
@@ -85,26 +89,39 @@ fn push_all<S: Sink>(sink: &mut S, bytes: &[u8]) -> bool {
     true
 }
 
+/// Writes that memory was refused, and answers the status for it. That takes no memory.
+pub fn report_no_memory<E: Sink>(errors: &mut E) -> u8
+    ensures { (0 < result) × (result ≤ 4) }
+{
+    push_all(errors, "wb: memory\n".as_bytes());
+    NO_MEMORY
+}
+
 /// Writes a line about a fault, and answers the status for it. A failure to write it changes
 /// nothing.
-fn report<E: Sink>(alloc: Global, errors: &mut E, failure: Failure) -> u8 {
-    if let Ok(text) = text_of(alloc, failure) {
-        push_all(errors, text.as_bytes());
-    }
+fn report<E: Sink>(alloc: Global, errors: &mut E, failure: Failure) -> u8
+    ensures { (0 < result) × (result ≤ 4) }
+{
+    match text_of(alloc, failure) {
+        Ok(text) => push_all(errors, text.as_bytes()),
+        Err(AllocError) => push_all(errors, "wb: memory\n".as_bytes()),
+    };
     status_of(failure)
 }
 
 /// Writes the parser's text about the words, and answers the status for it.
-fn misuse<E: Sink>(alloc: Global, errors: &mut E, error: Error) -> u8 {
+fn misuse<E: Sink>(alloc: Global, errors: &mut E, error: Error) -> u8
+    ensures { (0 < result) × (result ≤ 4) }
+{
     if error.kind() == ErrorKind::OutOfMemory {
-        return report(alloc, errors, Failure::Run(RunFault::Memory));
+        return report_no_memory(errors);
     }
     match error.to_string(alloc) {
         Ok(text) => {
             push_all(errors, text.as_bytes());
             MISUSED
         }
-        Err(_) => report(alloc, errors, Failure::Run(RunFault::Memory)),
+        Err(_) => report_no_memory(errors),
     }
 }
 
@@ -118,7 +135,7 @@ pub fn refuse_words<E: Sink>(errors: &mut E, kind: io::ErrorKind) -> u8 {
         );
         MISUSED
     } else {
-        NO_MEMORY
+        report_no_memory(errors)
     }
 }
 
@@ -167,7 +184,9 @@ pub fn serve<T: AllocGlobal + Threads + Wait + Sync, R: Source, W: Sink, E: Sink
     source: &mut R,
     sink: &mut W,
     errors: &mut E,
-) -> u8 {
+) -> u8
+    ensures { result ≤ 4 }
+{
     let alloc = rt.alloc();
     let task = match task_of(alloc, words) {
         Ok(task) => task,

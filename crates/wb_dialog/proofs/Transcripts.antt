@@ -1,5 +1,7 @@
 -- What a driver of lines makes of a dialog is the transcript of its input.
 use Rattle.std.proofs.Common.{◌≡◌, ℕ, ◌+◌, Bool, true, false, List, [], ◌∷◌, ◌++◌, Result, Ok, Err, inl, inr, refl, sym, ap, subst, ◌∙◌, rules}
+use Rattle.std.proofs.Common.{◌<◌, ◌≤◌, ◌⊎◌, arith, length, Contains}
+use Rattle.std.proofs.lemmas.Bool.Decides.{nat_tests}
 use Rattle.std.specs.Prelude.{nat_lt, if◌then◌else◌}
 use Rattle.std.specs.List.{concat}
 use Rattle.std.specs.declared.convert.Infallible.{Infallible}
@@ -7,13 +9,14 @@ use Rattle.wb_lines.specs.Input.{InputLine, input_lines, BeginsWith}
 use Rattle.wb_lines.specs.declared.fault.DriveFault.{DriveFault}
 use Rattle.wb_lines.specs.declared.fault.DriveFault.TheVariants as faults
 use Rattle.wb_lines.specs.Driving.{Outcome, writes, before, stop, rules_of, outcome, outcome_from, Meets, IsStopped}
-use Rattle.wb_lines.specs.Taking.{met, is_taken, is_passed}
+use Rattle.wb_lines.specs.Taking.{met, is_taken, is_passed, most_passed}
 use Rattle.wb_recovery.specs.declared.tuning.Tuning.{Tuning}
 use Rattle.wb_dialog.specs.declared.fault.HostFault.{HostFault}
 use Rattle.wb_dialog.specs.declared.fault.HostFault.TheVariants as host_faults
+use Rattle.wb_names.proofs.Listings.{Contains-here, Contains-there}
 use Rattle.wb_dialog.proofs.Fronts.{begins_all, begins_empty, begins_within, begins_behind, begins_front}
 use Rattle.wb_dialog.specs.Dialog.{answered_lines}
-use Rattle.wb_dialog.specs.Hosting.{Hosting, step, unopened, transcript, block_of, reply_of, hosting_after, blocks_from}
+use Rattle.wb_dialog.specs.Hosting.{Hosting, step, unopened, transcript, block_of, reply_of, hosting_after, blocks_from, IsEndless}
 use Rattle.wb_dialog.specs.Doing.{fault_of, Writes}
 
 -- ---- outcomes
@@ -101,6 +104,66 @@ pub hosts_transcript : (tuning : Tuning) (most : ℕ) (cut : Bool) (input writte
 hosts_transcript tuning most cut input written result m =
     Hosts-meets (transcript tuning cut input) written cut (outcome (rules_of step most) cut (unopened tuning) input) result (outcome_tells most 0 cut (unopened tuning) (input_lines input)) m
 
+-- ---- an input that has no end
+
+abbrev end_in : Outcome Infallible → Result ℕ (DriveFault Infallible)
+end_in (writes text end) = end
+
+end_before : (text : List ℕ) (o : Outcome Infallible) → end_in (before text o) ≡ end_in o
+end_before text (writes rest end) = refl
+
+-- a line that is too long to pass over
+abbrev HasLong : List InputLine → Type 0
+HasLong lines = (line : InputLine) × Contains lines line × (most_passed ≤ length line.bytes)
+
+long_behind : (line : InputLine) (lines : List InputLine) → HasLong lines → HasLong (line ∷ lines)
+long_behind line lines h = (h.0, Contains-there line h.0 lines h.1, h.2)
+
+not_passed : (line : InputLine) → is_passed line ≡ false → most_passed ≤ length line.bytes
+not_passed line e = grind (arith, nat_tests)
+
+few_yet : (n most : ℕ) → nat_lt n most ≡ true → n + 1 ≤ most
+few_yet n most e = grind (arith, nat_tests)
+
+none_left : (n most : ℕ) → nat_lt n most ≡ false → most ≤ n
+none_left n most e = grind (arith, nat_tests)
+
+ends_endless : (most n : ℕ) (cut : Bool) (s : Hosting) (lines : List InputLine) → n ≤ most → end_in (outcome_from (rules_of step most) cut n s lines) ≡ Err faults.Endless → (most < n + length lines) ⊎ HasLong lines
+ends_endless most n true s [] few e = absurd cc
+ends_endless most n false s [] few e = absurd cc
+ends_endless most n cut s (line ∷ lines) few e =
+    go (λ more h. ends_endless most (n + 1) cut (hosting_after s (reply_of s (met line))) lines more h) (nat_lt n most) (is_taken cut line) (is_passed line) refl refl e where
+      text : List ℕ
+      text = block_of (reply_of s (met line))
+
+      o : Outcome Infallible
+      o = outcome_from (rules_of step most) cut (n + 1) (hosting_after s (reply_of s (met line))) lines
+
+      later : (most < (n + 1) + length lines) ⊎ HasLong lines → (most < n + length (line ∷ lines)) ⊎ HasLong (line ∷ lines)
+      later (inl more) = inl (omega (arith, more))
+      later (inr h) = inr (long_behind line lines h)
+
+      go : (n + 1 ≤ most → end_in o ≡ Err faults.Endless → (most < (n + 1) + length lines) ⊎ HasLong lines) → (within taken passed : Bool) → nat_lt n most ≡ within → is_passed line ≡ passed
+          → end_in (if within then (if taken then before text (if passed then o else stop (Err faults.Endless)) else stop (Err faults.Read)) else stop (Err faults.Endless)) ≡ Err faults.Endless
+          → (most < n + length (line ∷ lines)) ⊎ HasLong (line ∷ lines)
+      go on false taken passed w p h = inl (let left = none_left n most w in omega (arith, left, few))
+      go on true false passed w p h = absurd cc
+      go on true true false w p h = inr (line, Contains-here line lines, not_passed line p)
+      go on true true true w p h = later (on (few_yet n most w) (sym (end_before text o) ∙ h))
+
+met_end : (o : Outcome Infallible) (written : List ℕ) → Meets o written (Err faults.Endless) → end_in o ≡ Err faults.Endless
+met_end (writes text end) written (inl m) = sym m.1
+met_end (writes text end) written (inr m) = absurd m.0
+
+from_start : (most : ℕ) (lines : List InputLine) → (most < 0 + length lines) ⊎ HasLong lines → IsEndless most lines
+from_start most lines (inl more) = inl (omega (arith, more))
+from_start most lines (inr h) = inr h
+
+-- A driver says that its lines have no end only where they have none.
+pub host_endless : (tuning : Tuning) (most : ℕ) (cut : Bool) (input written : List ℕ) → Meets (outcome (rules_of step most) cut (unopened tuning) input) written (Err faults.Endless) → IsEndless most (input_lines input)
+host_endless tuning most cut input written m =
+    from_start most (input_lines input) (ends_endless most 0 cut (unopened tuning) (input_lines input) (omega arith) (met_end (outcome (rules_of step most) cut (unopened tuning) input) written m))
+
 -- ---- why a host stopped
 
 fault_in : Result (Unit {0}) HostFault → HostFault
@@ -124,3 +187,10 @@ fault_writes faults.Read h = search rules
 fault_writes faults.Write h = refl
 fault_writes faults.Memory h = search rules
 fault_writes faults.Endless h = search rules
+
+pub fault_ends : (e : DriveFault Infallible) → fault_of e ≡ host_faults.Endless → e ≡ faults.Endless
+fault_ends (faults.Line n e) h = elim e [ ]
+fault_ends faults.Read h = search rules
+fault_ends faults.Write h = search rules
+fault_ends faults.Memory h = search rules
+fault_ends faults.Endless h = refl

@@ -1,5 +1,5 @@
 -- What a host does for the lines of a driver, whether its driver judges or it keeps itself, and what is written for them.
-use Rattle.std.specs.Prelude.{ℕ, List, [], ◌∷◌, ◌++◌, Bool, true, false, nat_lt, Option, Some, None, Result, Ok, Err, if◌then◌else◌}
+use Rattle.std.specs.Prelude.{ℕ, ◌<◌, ◌≤◌, ◌⊎◌, List, [], ◌∷◌, ◌++◌, length, Contains, Bool, true, false, nat_lt, Option, Some, None, Result, Ok, Err, if◌then◌else◌}
 use Rattle.std.specs.List.{concat}
 use Rattle.std.specs.declared.convert.Infallible.{Infallible}
 use Rattle.wb_names.specs.Arrivals.{Outcome, Fresh, Known as KnownDrawop, Clashed, Left}
@@ -18,7 +18,7 @@ use Rattle.wb_keeping.specs.declared.kept_fault.KeptFault.{KeptFault}
 use Rattle.wb_keeping.specs.declared.kept_fault.KeptFault.TheVariants as kept_faults
 use Rattle.wb_lines.specs.Input.{InputLine, input_lines}
 use Rattle.wb_lines.specs.Handling.{Met, Step, goes}
-use Rattle.wb_lines.specs.Taking.{met}
+use Rattle.wb_lines.specs.Taking.{met, most_passed}
 use Rattle.wb_words.specs.declared.adding.Adding.{Adding}
 use Rattle.wb_words.specs.declared.fault.WordFault.TheVariants as word_faults
 use Rattle.wb_commands.specs.SentLines.{sends_text}
@@ -222,3 +222,7 @@ unopened tuning = record { tuning = tuning; host = None }
 -- what is written for an input, which is cut off where reading fails after it
 abbrev pub transcript : Tuning → Bool → List ℕ → List ℕ
 transcript tuning cut input = concat (blocks_from (unopened tuning) (answered_lines cut (input_lines input)))
+
+-- An input has no end that a host waits for: there are more lines than these, or one that is too long to pass over.
+abbrev pub IsEndless : ℕ → List InputLine → Type 0
+IsEndless most lines = (most < length lines) ⊎ ((line : InputLine) × Contains lines line × (most_passed ≤ length line.bytes))

@@ -1,9 +1,10 @@
 //! A host from the lines of its driver to the blocks that it writes.
-ghost use Rattle.std.specs.Prelude.{◌≡◌, List, ℕ, true, false, Err, OnOk};
+ghost use Rattle.std.specs.Prelude.{◌≡◌, ◌^◌, ◌-◌, List, ℕ, true, false, Err, OnOk};
 ghost use Rattle.std.specs.Io.KnownBytes.{Appends};
 ghost use Rattle.wb_recovery.specs.Timing.{are_constants};
 ghost use Rattle.wb_lines.specs.Driving.{Gave};
-ghost use Rattle.wb_dialog.specs.Hosting.{transcript};
+ghost use Rattle.wb_lines.specs.Input.{input_lines};
+ghost use Rattle.wb_dialog.specs.Hosting.{transcript, IsEndless};
 ghost use Rattle.wb_dialog.specs.Doing.{fault_of, Writes};
 
 use crate::dialog::Dialog;
@@ -31,7 +32,8 @@ fn fault_of(fault: DriveFault<Infallible>) -> HostFault
 /// timers of the host have these constants, each from 1 to 16.
 ///
 /// What is written is the transcript of the input, which ends where the source does or where it fails. Where
-/// memory runs out, the sink fails, or there are 2^64 - 1 lines or bytes, a front of it is written.
+/// memory runs out or the sink fails, a front of it is written; and so where it has no end that is waited for: more than
+/// 2^64 - 1 lines, or one that is too long to pass over.
 pub fn host<R: Source, W: Sink>(
     alloc: Global,
     tuning: Tuning,
@@ -42,7 +44,8 @@ pub fn host<R: Source, W: Sink>(
     ensures text { (input : List ℕ) × (written : List ℕ)
         × Gave (R.left source.old) (R.left source.new) (R.has_failed source.new) input
         × Appends (W.taken sink.old) (W.taken sink.new) written
-        × Writes (transcript tuning (R.has_failed source.new) input) written result }
+        × Writes (transcript tuning (R.has_failed source.new) input) written result
+        × (result ≡ Err HostFault.Endless → IsEndless (2 ^ 64 - 1) (input_lines input)) }
     ensures whole { OnOk result (R.has_failed source.new ≡ false) }
     ensures read { result ≡ Err HostFault.Read → R.has_failed source.new ≡ true }
     ensures write { result ≡ Err HostFault.Write → W.has_failed sink.new ≡ true }

@@ -3,7 +3,7 @@ use Rattle.std.proofs.Common.{◌≡◌, ◌≢◌, ◌≤◌, ◌<◌, ◌+◌,
 use Rattle.std.proofs.lemmas.List.{take-append-drop, take-take, drop-drop, drop-take, length-take, length-append}
 use Rattle.memchr.specs.Find.{IsFirstByte, is_byte}
 use Rattle.std.proofs.lemmas.Bool.Decides.{nat_tests}
-use Rattle.wb_lines.specs.Ahead.{Ahead, Pulls, NoLineFeed, TakesRun}
+use Rattle.wb_lines.specs.Ahead.{Ahead, Pulls, NoLineFeed, TakesRun, PassesRun}
 use Rattle.wb_lines.proofs.KnownBytes.{Consumes-none, Consumes-then}
 
 pub Pulls-then : (a b c : Ahead) (l0 l1 l2 : Option (List ℕ)) (f0 f1 f2 : Bool) (x y : List ℕ) → Pulls a b l0 l1 f0 f1 x → Pulls b c l1 l2 f1 f2 y → Pulls a c l0 l2 f0 f2 (x ++ y)
@@ -85,6 +85,25 @@ run_taken old new block line line' start end count room before after in_order fi
       no_line_feed = subst NoLineFeed (take-take count room ahead below) none;
       short = omega (arith, ap length moved, length-append line (take count ahead), length-take count ahead);
     }
+
+-- the front of a block was passed over
+pub run_passed : (old new : Ahead) (block : List ℕ) (start end count room most : ℕ) → old.bytes ≡ take (end - start) (drop start block) → new.bytes ≡ take (end - (start + count)) (drop (start + count) block) → start ≤ end
+    → room ≡ min (length (take (end - start) (drop start block))) most → count ≤ length (take room (take (end - start) (drop start block))) → NoLineFeed (take count (take room (take (end - start) (drop start block)))) → PassesRun old new count
+run_passed old new block start end count room most before after in_order room_is within none =
+    let ahead = take (end - start) (drop start block) in
+    let below : count ≤ room = omega (arith, length-take room ahead) in
+    let inside : start + count ≤ end = omega (arith, length-take room ahead, length-take (end - start) (drop start block)) in
+    record {
+      run = take count ahead;
+      from = before ∙ at_hand block start end count inside ∙ ap (λ (t : List ℕ). take count ahead ++ t) (sym after);
+      no_line_feed = subst NoLineFeed (take-take count room ahead below) none;
+      counted = omega (arith, length-take count ahead, length-take room ahead);
+    }
+
+-- what was passed over goes on by a byte and by what follows it in the block
+pub passes_on : (all rest : List ℕ) (b count : ℕ) (old new : Ahead) (p : PassesRun old new count) → all ≡ rest ++ b ∷ old.bytes → all ≡ ((rest ++ b ∷ []) ++ p.run) ++ new.bytes
+passes_on all rest b count old new p e =
+    e ∙ ap (λ (r : List ℕ). rest ++ b ∷ r) p.from ∙ sym (append_assoc rest (b ∷ []) (p.run ++ new.bytes)) ∙ sym (append_assoc (rest ++ b ∷ []) p.run new.bytes)
 
 -- the line goes on
 pub stays_free : (line line' : List ℕ) (b : ℕ) (old new : Ahead) → NoLineFeed line → b ≢ 10 → TakesRun old new (line ++ b ∷ []) line' → NoLineFeed line'

@@ -40,6 +40,13 @@ pub record TakesRun (old new : Ahead) (line line' : List ℕ) : Type 0 where
   pub no_line_feed : NoLineFeed run
   pub short : length line' ≤ most_bytes + 1
 
+-- So many bytes without a line feed were passed over, at the front of what is at hand.
+pub record PassesRun (old new : Ahead) (count : ℕ) : Type 0 where
+  pub run : List ℕ
+  pub from : old.bytes ≡ run ++ new.bytes
+  pub no_line_feed : NoLineFeed run
+  pub counted : length run ≡ count
+
 -- A line that isn't too long.
 pub record IsLine (line : List ℕ) : Type 0 where
   pub no_line_feed : NoLineFeed line

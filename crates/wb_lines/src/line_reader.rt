@@ -2,7 +2,7 @@
 ghost use Rattle.std.specs.Prelude.{◌≡◌, ◌≢◌, ◌≤◌, ◌<◌, ◌+◌, ◌↔◌, [], ◌∷◌, ◌++◌, List, ℕ, length, take, slice_index, true, false, IfOk, OnOk, IsTrue, Ok};
 ghost use Rattle.wb_lines.specs.Output.{Sends};
 ghost use Rattle.wb_lines.specs.Input.{most_bytes};
-ghost use Rattle.wb_lines.specs.Ahead.{Pulls, GivesByte, NoLineFeed, TakesRun, MayGiveLine, PassesOver};
+ghost use Rattle.wb_lines.specs.Ahead.{Pulls, GivesByte, NoLineFeed, TakesRun, PassesRun, MayGiveLine, PassesOver};
 
 use crate::output::Output;
 use memchr::memchr;
@@ -212,6 +212,20 @@ impl LineReader {
         }
     }
 
+    /// Passes over what stands in the block before the next line feed, but for no more bytes than these. Answers how
+    /// many there were.
+    fn pass_run(&mut self, most: usize) -> usize
+        ensures run { PassesRun self.old self.new result }
+        ensures few { result ≤ most }
+        ensures ended { self.new.ended ≡ self.old.ended }
+    {
+        let ahead = &self.block[self.start..self.end];
+        let room = ahead.len().min(most);
+        let count = len_before_line_feed(&ahead[..room]);
+        self.start += count;
+        count
+    }
+
     /// Passes over the rest of a line, with its line feed where there is one. Answers how it ended: too
     /// long where it had more bytes than are counted.
     pub(crate) fn pass_over<R: Source, W: Sink>(
@@ -226,10 +240,14 @@ impl LineReader {
         ensures unwritten { result ≡ Found.Unwritten → W.has_failed sink.new ≡ true }
         ensures failed { result ≡ Found.Failed → R.has_failed source.new ≡ true }
     {
-        for _ in 0..u64::MAX {
+        let mut passed = 0usize;
+        while passed < usize::MAX {
             match self.next_byte(source, output, sink) {
                 Pulled::Byte(b'\n') => return Found::Whole,
-                Pulled::Byte(_) => {}
+                Pulled::Byte(_) => {
+                    passed += 1;
+                    passed += self.pass_run(usize::MAX - passed);
+                }
                 Pulled::End => return Found::Last,
                 Pulled::Failed => return Found::Failed,
                 Pulled::Unwritten => return Found::Unwritten,

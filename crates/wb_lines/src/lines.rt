@@ -1,5 +1,5 @@
 //! The lines of a source, of which the next is looked at before it is taken.
-ghost use Rattle.std.specs.Prelude.{◌≡◌, ◌≢◌, ◌<◌, ◌≤◌, ◌↔◌, [], List, ℕ, Err, IfOk, IsTrue};
+ghost use Rattle.std.specs.Prelude.{◌≡◌, ◌≢◌, ◌<◌, ◌≤◌, ◌↔◌, [], List, ℕ, Err, IfOk, IfSome, IsTrue};
 ghost use Rattle.wb_lines.specs.declared.lines.Seen.TheVariants as seens;
 ghost use Rattle.wb_lines.specs.Moments.{moment, is_broken, with_seen, Reads, IsSound, IsLineOrMemory, StartsLong, with_one, TakesLine, IsJoining, EndsBy, Moves, PassesLine, at_start, found_over};
 
@@ -223,7 +223,8 @@ impl<S: Saying> Lines<S> {
 
     /// Takes the line that was looked at, if it is one that is not too long. Answers what it says.
     pub(crate) fn take_line(&mut self) -> Option<S>
-        ensures { TakesLine S.says self.old self.new result }
+        ensures taken { TakesLine S.says self.old self.new result }
+        ensures few { IfSome result (λ said. self.new.done ≤ S.at_most) }
     {
         match replace(&mut self.seen, Seen::Nothing) {
             Seen::Line(said) => {

@@ -1,5 +1,5 @@
 //! How far a driver has come.
-ghost use Rattle.std.specs.Prelude.{◌≡◌, ◌<◌, [], List, ℕ};
+ghost use Rattle.std.specs.Prelude.{◌≡◌, ◌≤◌, ◌<◌, [], List, ℕ, IfSome};
 ghost use Rattle.wb_lines.specs.Moments.{moment, TakesJoined};
 
 use crate::lines::Lines;
@@ -23,9 +23,10 @@ impl<S: Saying> Progress<S> {
         source: &mut R,
         sink: &mut W,
     ) -> Option<S>
-        ensures { TakesJoined S.says S.by
+        ensures joined { TakesJoined S.says S.by
             (moment self.old.lines self.old.output (R.left source.old) (R.has_failed source.old) (W.taken sink.old) (W.has_failed sink.old))
             (moment self.new.lines self.new.output (R.left source.new) (R.has_failed source.new) (W.taken sink.new) (W.has_failed sink.new)) result }
+        ensures few { IfSome result (λ said. self.new.lines.done ≤ S.at_most) }
     {
         self.lines.look(alloc, source, &mut self.output, sink);
         if self.lines.joins() {

@@ -1,9 +1,12 @@
 use Rattle.std.proofs.Common.{◌≡◌, Result, Ok, Err, refl, sym, ap, subst, ◌∙◌, rules}
 use Rattle.std.specs.Prelude.{Option}
-use Rattle.wb_dialog.specs.Hosting.{unopened}
+use Rattle.std.specs.declared.convert.Infallible.{Infallible}
+use Rattle.wb_lines.specs.declared.fault.DriveFault.{DriveFault}
+use Rattle.wb_lines.specs.Driving.{rules_of, outcome, Meets}
+use Rattle.wb_dialog.specs.Hosting.{step, unopened}
 use Rattle.wb_dialog.specs.Doing.{DialogValue, IsAt, fault_of}
 use Rattle.wb_dialog.specs.declared.fault.HostFault.TheVariants as host_faults
-use Rattle.wb_dialog.proofs.Transcripts.{Hosts, hosts_transcript, same_fault, fault_reads, fault_writes}
+use Rattle.wb_dialog.proofs.Transcripts.{Hosts, hosts_transcript, host_endless, same_fault, fault_reads, fault_writes, fault_ends}
 use Rattle.wb_dialog.proofs.hosting.host.Goals as goal
 
 pub returns-in-Ok-clause-text : goal.returns-in-Ok-clause-text
@@ -15,6 +18,7 @@ returns-in-Ok-clause-text g c =
       l.2,
       l.3,
       (hosts_transcript c.args.tuning 18446744073709551615 (g.R.Source.has_failed c.drive.new.source) l.0 l.1 (Ok c.in-Ok.field-0) (l.4 (unopened c.args.tuning) at)).0,
+      λ e. cc,
     )
 
 pub returns-in-Ok-clause-whole : goal.returns-in-Ok-clause-whole
@@ -32,6 +36,10 @@ returns-clause-text g c =
       l.2,
       l.3,
       rw c.fault_of.ensures (hosts_transcript c.args.tuning 18446744073709551615 (g.R.Source.has_failed c.drive.new.source) l.0 l.1 (Err c.in-Err.fault) (l.4 (unopened c.args.tuning) at)),
+      λ e.
+          let ends = fault_ends c.in-Err.fault (sym c.fault_of.ensures ∙ same_fault c.fault_of.result host_faults.Endless e) in
+          host_endless c.args.tuning 18446744073709551615 (g.R.Source.has_failed c.drive.new.source) l.0 l.1
+          (subst (λ (f : DriveFault Infallible). Meets (outcome (rules_of step 18446744073709551615) (g.R.Source.has_failed c.drive.new.source) (unopened c.args.tuning) l.0) l.1 (Err f)) ends (l.4 (unopened c.args.tuning) at)),
     )
 
 pub returns-clause-read : goal.returns-clause-read
