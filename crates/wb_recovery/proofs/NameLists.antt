@@ -19,7 +19,7 @@ use Rattle.wb_names.proofs.Orders.{name_total, same_name-is}
 use Rattle.wb_names.proofs.Listings.{Contains-here, Contains-there, Contains-cases, Contains-filter, Contains-from_filter, one_list, lists_same}
 use Rattle.wb_recovery.specs.Timing.{no_timers, noticed, asked, got, ticked}
 use Rattle.wb_recovery.specs.Values.{RecoveryValue, timers_in, names_in}
-use Rattle.wb_recovery.specs.Events.{Event, Notice, Asked, Got, Tick, names_of, due_asks, word_for, timers_of}
+use Rattle.wb_recovery.specs.Events.{Event, Notice, Asked, Got, Tick, Tune, constants_after, names_of, due_asks, word_for, timers_of}
 use Rattle.wb_recovery.specs.Accepted.{StandsFor}
 use Rattle.wb_recovery.specs.declared.tuning.Tuning.{Tuning}
 use Rattle.wb_recovery.specs.declared.timers.Timers.{Timers}
@@ -78,6 +78,7 @@ names_rise (Asked name false now delay word ∷ events) = names_rise events
 names_rise (Asked name true now delay word ∷ events) = insert_rising name (names_of events) (names_rise events)
 names_rise (Got name now delay ∷ events) = names_rise events
 names_rise (Tick now words ∷ events) = names_rise events
+names_rise (Tune constants ∷ events) = names_rise events
 
 abbrev Known : Tuning → List Event → NameValue → Type 0
 Known t events n = (timers_of t events n ≡ no_timers) ⊎ Contains (names_of events) n
@@ -95,11 +96,12 @@ known_old t events n false step s k = k
 -- a name that the calls do not name has no timers
 pub known : (t : Tuning) (events : List Event) (n : NameValue) → Known t events n
 known t [] n = inl refl
-known t (Notice name now delay word ∷ events) n = known_new t events n name (noticed t now delay word) (known t events n)
-known t (Asked name false now delay word ∷ events) n = known_old t events n (same_name name n) (asked t false now delay word) refl (known t events n)
-known t (Asked name true now delay word ∷ events) n = known_new t events n name (asked t true now delay word) (known t events n)
+known t (Notice name now delay word ∷ events) n = known_new t events n name (noticed (constants_after t events) now delay word) (known t events n)
+known t (Asked name false now delay word ∷ events) n = known_old t events n (same_name name n) (asked (constants_after t events) false now delay word) refl (known t events n)
+known t (Asked name true now delay word ∷ events) n = known_new t events n name (asked (constants_after t events) true now delay word) (known t events n)
 known t (Got name now delay ∷ events) n = known_old t events n (same_name name n) (got now delay) refl (known t events n)
-known t (Tick now words ∷ events) n = known_old t events n true (ticked t now (word_for words (due_asks (names_of events) (λ m. timers_of t events m) now) n)) refl (known t events n)
+known t (Tick now words ∷ events) n = known_old t events n true (ticked (constants_after t events) now (word_for words (due_asks (names_of events) (λ m. timers_of t events m) now) n)) refl (known t events n)
+known t (Tune constants ∷ events) n = known t events n
 
 -- ---- names whose timers pass a test that no timers fail
 module _ (p : Timers → Bool) (none : p no_timers ≡ false) where

@@ -9,7 +9,7 @@ use Rattle.wb_names.specs.Orders.{same_name, name_cmp}
 use Rattle.wb_names.proofs.Orders.{same_name-is}
 use Rattle.wb_recovery.specs.Timing.{no_timers, noticed, new_ask}
 use Rattle.wb_recovery.specs.Values.{RecoveryValue, record_at, record_in, timers_at, timers_in, names_in, Replaces}
-use Rattle.wb_recovery.specs.Events.{Event, Notice, moment_of, timers_of}
+use Rattle.wb_recovery.specs.Events.{Event, Notice, moment_of, constants_after, timers_of}
 use Rattle.wb_recovery.specs.Noticing.{notices, unset, unset_at, taken_back}
 use Rattle.wb_recovery.specs.declared.tuning.Tuning.{Tuning}
 use Rattle.wb_recovery.specs.declared.timers.Timers.{Timers}
@@ -83,13 +83,13 @@ all_back first now s t tuning moment each =
     ∙ ap (λ (es : List (NameValue × Timers)). record first { records = es }) (same_records now.records first.records t s each)
 
 -- one more notice, of what a recovery stands for
-pub stands_more : (t : Tuning) (time : ℕ) (m : Missed) (events : List Event) (old new : RecoveryValue) → old.tuning ≡ t → ((n : NameValue) → timers_in old n ≡ timers_of t events n) → Replaces old new m.name (noticed old.tuning time m.delay m.word (timers_in old m.name)) → (n : NameValue) → timers_in new n ≡ timers_of t (Notice m.name time m.delay m.word ∷ events) n
+pub stands_more : (t : Tuning) (time : ℕ) (m : Missed) (events : List Event) (old new : RecoveryValue) → old.tuning ≡ constants_after t events → ((n : NameValue) → timers_in old n ≡ timers_of t events n) → Replaces old new m.name (noticed old.tuning time m.delay m.word (timers_in old m.name)) → (n : NameValue) → timers_in new n ≡ timers_of t (Notice m.name time m.delay m.word ∷ events) n
 stands_more t time m events old new is so_far r n = r.timers n ∙ from (same_name m.name n) refl where
-  from : (b : Bool) → same_name m.name n ≡ b → cond b (noticed old.tuning time m.delay m.word (timers_in old m.name)) (timers_in old n) ≡ cond b (noticed t time m.delay m.word (timers_of t events n)) (timers_of t events n)
+  from : (b : Bool) → same_name m.name n ≡ b → cond b (noticed old.tuning time m.delay m.word (timers_in old m.name)) (timers_in old n) ≡ cond b (noticed (constants_after t events) time m.delay m.word (timers_of t events n)) (timers_of t events n)
   from true h =
       ap (λ (c : Tuning). noticed c time m.delay m.word (timers_in old m.name)) is
-      ∙ ap (λ (k : NameValue). noticed t time m.delay m.word (timers_in old k)) (same_name-is m.name n h)
-      ∙ ap (noticed t time m.delay m.word) (so_far n)
+      ∙ ap (λ (k : NameValue). noticed (constants_after t events) time m.delay m.word (timers_in old k)) (same_name-is m.name n h)
+      ∙ ap (noticed (constants_after t events) time m.delay m.word) (so_far n)
   from false h = so_far n
 
 -- a map whose record of a name was written, or taken out
@@ -114,3 +114,8 @@ notices_first now events (m ∷ missed) h = notices_moment now (Notice m.name no
 pub notices_none : (now : ℕ) (events : List Event) (missed : List Missed) → length missed ≡ 0 → notices now events missed ≡ events
 notices_none now events [] h = refl
 notices_none now events (m ∷ missed) h = absurd (omega arith)
+
+-- the constants after notices
+pub notices_constants : (t : Tuning) (now : ℕ) (events : List Event) (missed : List Missed) → constants_after t (notices now events missed) ≡ constants_after t events
+notices_constants t now events [] = refl
+notices_constants t now events (m ∷ missed) = notices_constants t now (Notice m.name now m.delay m.word ∷ events) missed

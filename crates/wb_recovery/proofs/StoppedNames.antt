@@ -14,7 +14,7 @@ use Rattle.wb_names.proofs.Listings.{Contains-filter, Contains-from_filter, one_
 use Rattle.wb_recovery.specs.Timing.{ask_due, answer_due, got, ticked, is_standing, is_ask_due, is_answer_due, quiet_after}
 use Rattle.wb_recovery.specs.Alarms.{among, is_until}
 use Rattle.wb_recovery.specs.Values.{RecoveryValue, timers_at, timers_in, names_in, Replaces}
-use Rattle.wb_recovery.specs.Events.{Event, Got, Tick, names_of, timers_of, asking, due_asks, due_answers, word_for}
+use Rattle.wb_recovery.specs.Events.{Event, Got, Tick, constants_after, names_of, timers_of, asking, due_asks, due_answers, word_for}
 use Rattle.wb_recovery.specs.Accepted.{StandsFor}
 use Rattle.wb_recovery.specs.Firing.{with_ask_fired, with_answer_fired}
 use Rattle.wb_recovery.specs.Stopping.{receipts, is_received, got_each, EndsAll, FiresThese, with_these_fired}
@@ -115,6 +115,10 @@ pub timers_receipts : (t : Tuning) (now : ℕ) (events : List Event) (received :
 timers_receipts t now events [] n = refl
 timers_receipts t now events (c ∷ received) n = timers_receipts t now (Got c.name now c.delay ∷ events) received n
 
+pub constants_receipts : (t : Tuning) (now : ℕ) (events : List Event) (received : List Received) → constants_after t (receipts now events received) ≡ constants_after t events
+constants_receipts t now events [] = refl
+constants_receipts t now events (c ∷ received) = constants_receipts t now (Got c.name now c.delay ∷ events) received
+
 pub names_receipts : (now : ℕ) (events : List Event) (received : List Received) → names_of (receipts now events received) ≡ names_of events
 names_receipts now events [] = refl
 names_receipts now events (c ∷ received) = names_receipts now (Got c.name now c.delay ∷ events) received
@@ -202,18 +206,23 @@ pub stops_and_ticks : (now : ℕ) (words : List ℕ) (received : List Received) 
     → new.tuning ≡ end.tuning → new.records ≡ end.records → new.moment ≡ now → IsStrictlySortedBy name_cmp (names_in new)
     → (t : Tuning) (events : List Event) → StandsFor t events old → StandsFor t (Tick now words ∷ receipts now events received) new
 stops_and_ticks now words received asking answering old mid end new l k fires ends a b m rises t events s = record {
-  tuning = a ∙ ends.tuning ∙ fires.tuning ∙ s.tuning;
+  tuning = a ∙ ends.tuning ∙ fires.tuning ∙ same;
   moment = m;
   timers = λ n.
       ap (λ records. timers_at records n) b
       ∙ ends.timers n
       ∙ ap (λ (r : Timers). got_each now n r received) (fires.timers n)
-      ∙ ap (λ (c : Tuning). got_each now n (with_these_fired c now words asking answering (timers_in old) n) received) s.tuning
-      ∙ stopped_then_fired t now words received (timers_in old) asking answering l k n
-      ∙ ap (λ (xs : List NameValue). ticked t now (word_for words xs n) (got_each now n (timers_in old n) received)) (others_asking t now received events old s asking l)
-      ∙ ap (ticked t now (word_for words (due_asks (names_of (receipts now events received)) (timers_of t (receipts now events received)) now) n)) (sym (timers_then t now received events old s n));
+      ∙ ap (λ (c : Tuning). got_each now n (with_these_fired c now words asking answering (timers_in old) n) received) same
+      ∙ stopped_then_fired then now words received (timers_in old) asking answering l k n
+      ∙ ap (λ (xs : List NameValue). ticked then now (word_for words xs n) (got_each now n (timers_in old n) received)) (others_asking t now received events old s asking l)
+      ∙ ap (ticked then now (word_for words (due_asks (names_of (receipts now events received)) (timers_of t (receipts now events received)) now) n)) (sym (timers_then t now received events old s n));
   rising = rises;
-}
+} where
+  then : Tuning
+  then = constants_after t (receipts now events received)
+
+  same : old.tuning ≡ then
+  same = s.tuning ∙ sym (constants_receipts t now events received)
 
 -- the timers of one name are replaced by what an arrival makes of them
 pub got_stands : (now : ℕ) (c : Received) (old new : RecoveryValue) (after : Timers) (mid : RecoveryValue) → new ≡ mid → Replaces old mid c.name after → after ≡ got now c.delay (timers_in old c.name) → (n : NameValue) → timers_in new n ≡ cond (same_name c.name n) (got now c.delay (timers_in old c.name)) (timers_in old n)

@@ -4,12 +4,12 @@ use Rattle.std.specs.List.Sorted.{IsStrictlySortedBy}
 use Rattle.wb_names.specs.Values.{NameValue}
 use Rattle.wb_names.specs.Orders.{name_cmp}
 use Rattle.wb_recovery.specs.Values.{RecoveryValue, timers_in, names_in}
-use Rattle.wb_recovery.specs.Events.{Event, moment_of, timers_of}
+use Rattle.wb_recovery.specs.Events.{Event, moment_of, constants_after, timers_of}
 use Rattle.wb_recovery.specs.declared.tuning.Tuning.{Tuning}
 
--- with these constants, after these calls; its names rise, each once
+-- with these constants at first, after these calls; its names rise, each once
 pub record StandsFor (constants : Tuning) (events : List Event) (value : RecoveryValue) : Type 0 where
-  pub tuning : value.tuning ≡ constants
+  pub tuning : value.tuning ≡ constants_after constants events
   pub moment : value.moment ≡ moment_of events
   pub timers : (n : NameValue) → timers_in value n ≡ timers_of constants events n
   pub rising : IsStrictlySortedBy name_cmp (names_in value)

@@ -10,20 +10,31 @@ use Rattle.wb_recovery.specs.declared.timers.Timers.{Timers}
 use Rattle.wb_recovery.specs.declared.plan.Action.{Action}
 use Rattle.wb_recovery.specs.declared.plan.Action.TheVariants.{Ask, Answer}
 
--- an accepted call: a name is missed, is asked for by another member, has come; time goes on
+-- an accepted call: a name is missed, is asked for by another member, has come; time goes on; the constants change
 pub data Event : Type 0 where
   Notice : (name : NameValue) (now delay word : ℕ) → Event
   Asked : (name : NameValue) (held : Bool) (now delay word : ℕ) → Event
   Got : (name : NameValue) (now delay : ℕ) → Event
   Tick : (now : ℕ) (words : List ℕ) → Event
+  Tune : (constants : Tuning) → Event
 
--- the moment of the last call, or 0
+-- the constants after these calls, which were others at first
+abbrev pub constants_after : Tuning → List Event → Tuning
+constants_after t [] = t
+constants_after t (Notice name now delay word ∷ events) = constants_after t events
+constants_after t (Asked name held now delay word ∷ events) = constants_after t events
+constants_after t (Got name now delay ∷ events) = constants_after t events
+constants_after t (Tick now words ∷ events) = constants_after t events
+constants_after t (Tune constants ∷ events) = constants
+
+-- the moment of the last call that names one, or 0
 abbrev pub moment_of : List Event → ℕ
 moment_of [] = 0
 moment_of (Notice name now delay word ∷ events) = now
 moment_of (Asked name held now delay word ∷ events) = now
 moment_of (Got name now delay ∷ events) = now
 moment_of (Tick now words ∷ events) = now
+moment_of (Tune constants ∷ events) = moment_of events
 
 -- the names that were missed, or asked for while held, ascending
 abbrev pub names_of : List Event → List NameValue
@@ -33,6 +44,7 @@ names_of (Asked name false now delay word ∷ events) = names_of events
 names_of (Asked name true now delay word ∷ events) = insert_key name_cmp (names_of events) name
 names_of (Got name now delay ∷ events) = names_of events
 names_of (Tick now words ∷ events) = names_of events
+names_of (Tune constants ∷ events) = names_of events
 
 -- Of some names with their timers: those with a request timer, those whose request is due, those whose answer is due.
 abbrev pub asking : List NameValue → (NameValue → Timers) → List NameValue
@@ -61,13 +73,14 @@ smaller names n = count_by (λ m. is_lt (name_cmp m n)) names
 abbrev pub word_for : List ℕ → List NameValue → NameValue → ℕ
 word_for words firing n = slice_index words (smaller firing n)
 
--- the timers of a name
+-- the timers of a name, with these constants at first: each call takes those of its time, and a timer that stands keeps its moment
 abbrev pub timers_of : Tuning → List Event → NameValue → Timers
 timers_of t [] n = no_timers
-timers_of t (Notice name now delay word ∷ events) n = if same_name name n then noticed t now delay word (timers_of t events n) else timers_of t events n
-timers_of t (Asked name held now delay word ∷ events) n = if same_name name n then asked t held now delay word (timers_of t events n) else timers_of t events n
+timers_of t (Notice name now delay word ∷ events) n = if same_name name n then noticed (constants_after t events) now delay word (timers_of t events n) else timers_of t events n
+timers_of t (Asked name held now delay word ∷ events) n = if same_name name n then asked (constants_after t events) held now delay word (timers_of t events n) else timers_of t events n
 timers_of t (Got name now delay ∷ events) n = if same_name name n then got now delay (timers_of t events n) else timers_of t events n
-timers_of t (Tick now words ∷ events) n = ticked t now (word_for words (due_asks (names_of events) (λ m. timers_of t events m) now) n) (timers_of t events n)
+timers_of t (Tick now words ∷ events) n = ticked (constants_after t events) now (word_for words (due_asks (names_of events) (λ m. timers_of t events m) now) n) (timers_of t events n)
+timers_of t (Tune constants ∷ events) n = timers_of t events n
 
 -- the actions of a tick: a request for each name whose request is due, ascending, and then the answers that are due
 abbrev pub actions_of : Tuning → List Event → ℕ → List Action

@@ -3,7 +3,7 @@ use Rattle.std.specs.Prelude.{◌≡◌, ℕ, ◌+◌, ◌<◌, Bool, true, fals
 use Rattle.wb_names.specs.Values.{NameValue}
 use Rattle.wb_names.specs.Orders.{same_name}
 use Rattle.wb_recovery.specs.Timing.{no_timers, is_ask_due, is_answer_due, is_standing}
-use Rattle.wb_recovery.specs.Events.{Event, Notice, Asked, Got, Tick, names_of, timers_of}
+use Rattle.wb_recovery.specs.Events.{Event, Notice, Asked, Got, Tick, Tune, names_of, timers_of}
 use Rattle.wb_recovery.specs.declared.tuning.Tuning.{Tuning}
 use Rattle.wb_recovery.specs.declared.timers.AskTimer.{AskTimer}
 
@@ -18,6 +18,7 @@ notices n (Notice name now delay word) events = same_name name n
 notices n (Asked name held now delay word) events = false
 notices n (Got name now delay) events = false
 notices n (Tick now words) events = false
+notices n (Tune constants) events = false
 
 -- the name comes
 abbrev pub arrives : NameValue → Event → List Event → Bool
@@ -25,6 +26,7 @@ arrives n (Notice name now delay word) events = false
 arrives n (Asked name held now delay word) events = false
 arrives n (Got name now delay) events = same_name name n
 arrives n (Tick now words) events = false
+arrives n (Tune constants) events = false
 
 -- a notice of the name, while no request timer stands
 abbrev pub sets_ask : Tuning → NameValue → Event → List Event → Bool
@@ -32,6 +34,7 @@ sets_ask t n (Notice name now delay word) events = same_name name n && is_none (
 sets_ask t n (Asked name held now delay word) events = false
 sets_ask t n (Got name now delay) events = false
 sets_ask t n (Tick now words) events = false
+sets_ask t n (Tune constants) events = false
 
 -- a request timer hears a request at a moment
 abbrev pub hears : ℕ → Option AskTimer → Bool
@@ -45,6 +48,7 @@ backs_off t n (Asked name true now delay word) events = false
 backs_off t n (Asked name false now delay word) events = same_name name n && hears now (timers_of t events n).ask
 backs_off t n (Got name now delay) events = false
 backs_off t n (Tick now words) events = is_ask_due now (timers_of t events n).ask
+backs_off t n (Tune constants) events = false
 
 -- how often the name's request timer was backed off since it was set
 abbrev pub back_offs : Tuning → NameValue → List Event → ℕ
@@ -58,6 +62,7 @@ sets_answer t n (Asked name false now delay word) events = false
 sets_answer t n (Asked name true now delay word) events = same_name name n && (is_none (timers_of t events n).answer && nat_le (timers_of t events n).quiet now)
 sets_answer t n (Got name now delay) events = false
 sets_answer t n (Tick now words) events = false
+sets_answer t n (Tune constants) events = false
 
 -- the name comes, or its answer timer fires
 abbrev pub ends_answer : Tuning → NameValue → Event → List Event → Bool
@@ -65,6 +70,7 @@ ends_answer t n (Notice name now delay word) events = false
 ends_answer t n (Asked name held now delay word) events = false
 ends_answer t n (Got name now delay) events = same_name name n
 ends_answer t n (Tick now words) events = is_answer_due now (timers_of t events n).answer
+ends_answer t n (Tune constants) events = false
 
 -- the name comes while a timer of it stands, or its answer timer fires
 abbrev pub quiets : Tuning → NameValue → Event → List Event → Bool
@@ -72,6 +78,7 @@ quiets t n (Notice name now delay word) events = false
 quiets t n (Asked name held now delay word) events = false
 quiets t n (Got name now delay) events = same_name name n && is_standing (timers_of t events n)
 quiets t n (Tick now words) events = is_answer_due now (timers_of t events n).answer
+quiets t n (Tune constants) events = false
 
 -- a request timer stands just if a notice was made of the name, and it did not come since
 abbrev pub RequestStands : Type 0

@@ -7,7 +7,7 @@ ghost use Rattle.wb_recovery.specs.Faults.{is_delay, call_fault, IsCheckedBy};
 ghost use Rattle.wb_recovery.specs.Timing.{are_constants, is_standing, AreDelays, with_ask, with_answer};
 ghost use Rattle.wb_recovery.specs.Values.{record_in, timers_in, names_in, Replaces};
 ghost use Rattle.std.specs.Prelude.{Some as some, None as none};
-ghost use Rattle.wb_recovery.specs.Events.{Event, Notice, Asked, Got, Tick, names_of, timers_of, asking, due_asks, actions_of, IsNextDue};
+ghost use Rattle.wb_recovery.specs.Events.{Event, Notice, Asked, Got, Tick, Tune, names_of, timers_of, asking, due_asks, actions_of, IsNextDue};
 ghost use Rattle.wb_recovery.specs.Accepted.{StandsFor, Accepts};
 ghost use Rattle.wb_recovery.specs.declared.tuning.Tuning.{Tuning as Constants};
 
@@ -71,6 +71,23 @@ impl Recovery {
             asks: Alarms::new(alloc),
             answers: Alarms::new(alloc),
         })
+    }
+
+    /// Takes other constants: each timer that is set or backed off from now on is by them. A timer that stands keeps
+    /// its moment, and the present moment stays.
+    ///
+    /// Refused with `Constant` where one is not 1 to 16.
+    pub fn tune(&mut self, tuning: Tuning) -> Result<(), TuningFault>
+        ensures constants { MatchResult result (λ done. IsTrue (are_constants tuning)) (λ e. are_constants tuning ≡ false) }
+        ensures ok { OnOk result (Accepts (Tune tuning) self.old self.new) }
+        ensures moment { self.new.moment ≡ self.old.moment }
+        ensures err { OnErr result (self.new ≡ self.old) }
+    {
+        if !tuning.is_in_range() {
+            return Err(TuningFault::Constant);
+        }
+        self.tuning = tuning;
+        Ok(())
     }
 
     /// A name is missed: sets its request timer, unless one stands. `now` and `delay` are in microseconds.

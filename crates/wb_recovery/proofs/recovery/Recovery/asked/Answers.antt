@@ -20,7 +20,7 @@ returns-clause-ok c =
           let is = c.self-2.view_is ∙ w.self-is in
           subst (λ (b : Bool). Accepts (Asked a.name b a.now a.delay a.word) a.self.now new) (sym w.if-held.true)
           (accepted (Asked a.name true a.now a.delay a.word) a.name a.now (λ (t : Tuning). asked t true a.now a.delay a.word)
-          (record { timers = λ t events n. refl; moment = λ events. refl })
+          (record { timers = λ t events n. refl; moment = λ events. refl; constants = λ t events. refl })
           a.self.now w.set_answer.new.self _ w.in_ok-set_answer.ensures.ok after new
           (ap (λ (v : RecoveryValue). v.tuning) is) (ap (λ (v : RecoveryValue). v.records) is) refl c.self-2.invariant.ordered)
       | else-held+in_ok-set_ask w ↦
@@ -30,7 +30,7 @@ returns-clause-ok c =
           let is = c.self-2.view_is ∙ w.self-is in
           subst (λ (b : Bool). Accepts (Asked a.name b a.now a.delay a.word) a.self.now new) (sym w.if-held.false)
           (accepted (Asked a.name false a.now a.delay a.word) a.name a.now (λ (t : Tuning). asked t false a.now a.delay a.word)
-          (record { timers = λ t events n. refl; moment = λ events. refl })
+          (record { timers = λ t events n. refl; moment = λ events. refl; constants = λ t events. refl })
           a.self.now w.set_ask.new.self _ w.in_ok-set_ask.ensures.ok after new
           (ap (λ (v : RecoveryValue). v.tuning) is) (ap (λ (v : RecoveryValue). v.records) is) refl c.self-2.invariant.ordered)
     ]

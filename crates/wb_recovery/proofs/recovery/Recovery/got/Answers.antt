@@ -16,14 +16,14 @@ returns-clause-ok c =
           let is = c.self-2.view_is ∙ w.self-is in
           let after = got_standing a.now a.delay c.timers-before.result (sym c.is_standing.ensures ∙ w.if-is_standing.true) ∙ ap (got a.now a.delay) c.timers-before.ensures.timers in
           accepted (Got a.name a.now a.delay) a.name a.now (λ (t : Tuning). got a.now a.delay)
-          (record { timers = λ t events n. refl; moment = λ events. refl })
+          (record { timers = λ t events n. refl; moment = λ events. refl; constants = λ t events. refl })
           a.self.now w.end.new.self _ w.end.ensures after new
           (ap (λ (v : RecoveryValue). v.tuning) is) (ap (λ (v : RecoveryValue). v.records) is) refl c.self-2.invariant.ordered
       | else-is_standing w ↦
           let is = c.self-2.view_is ∙ w.self-is in
           let after = sym c.timers-before.ensures.timers ∙ got_none a.now a.delay c.timers-before.result (sym c.is_standing.ensures ∙ w.if-is_standing.false) ∙ ap (got a.now a.delay) c.timers-before.ensures.timers in
           accepted (Got a.name a.now a.delay) a.name a.now (λ (t : Tuning). got a.now a.delay)
-          (record { timers = λ t events n. refl; moment = λ events. refl })
+          (record { timers = λ t events n. refl; moment = λ events. refl; constants = λ t events. refl })
           a.self.now a.self.now (timers_in a.self.now a.name) (replaced_none a.self.now a.name) after new
           (ap (λ (v : RecoveryValue). v.tuning) is) (ap (λ (v : RecoveryValue). v.records) is) refl c.self-2.invariant.ordered
     ]

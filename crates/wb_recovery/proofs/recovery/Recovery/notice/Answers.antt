@@ -9,7 +9,7 @@ use Rattle.wb_recovery.proofs.recovery.Recovery.notice.Goals as goal
 pub returns-clause-ok : goal.returns-clause-ok
 returns-clause-ok c =
     accepted (Notice c.args.name c.args.now c.args.delay c.args.word) c.args.name c.args.now (λ (t : Tuning). noticed t c.args.now c.args.delay c.args.word)
-    (record { timers = λ t events n. refl; moment = λ events. refl })
+    (record { timers = λ t events n. refl; moment = λ events. refl; constants = λ t events. refl })
     c.args.self.now c.start.new.self _ c.in_ok-start.ensures.ok
     refl _
     (ap (λ (v : RecoveryValue). v.tuning) c.self.view_is)

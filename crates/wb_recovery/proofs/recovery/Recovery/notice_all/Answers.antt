@@ -10,7 +10,7 @@ use Rattle.wb_recovery.specs.Events.{Event, timers_of, moment_of}
 use Rattle.wb_recovery.specs.Noticing.{notices, taken_back}
 use Rattle.wb_recovery.specs.declared.missed.Missed.{Missed}
 use Rattle.wb_recovery.proofs.Outcomes.{on_err, on_no_err}
-use Rattle.wb_recovery.proofs.NoticedNames.{notices_first, notices_none, all_back, notices_more, stands_more}
+use Rattle.wb_recovery.proofs.NoticedNames.{notices_first, notices_none, notices_constants, all_back, notices_more, stands_more}
 use Rattle.wb_recovery.proofs.recovery.Recovery.notice_all.Goals as goal
 use Rattle.wb_recovery.proofs.recovery.Recovery.notice_all.Goals.{then-is_empty, else-is_empty}
 
@@ -32,7 +32,7 @@ loop-one-preserved c =
     let r : Replaces c.loop-one.self c.start_noted.new.self m.name (noticed c.loop-one.self.tuning a.now m.delay m.word (timers_in c.loop-one.self m.name)) = on_no_err c.start_noted.result kept c.start_noted.ensures.ok in
     record {
       events = λ constants events s n.
-          stands_more constants a.now m (notices a.now events (take i a.missed.now)) c.loop-one.self c.start_noted.new.self (inv.tuning ∙ s.tuning) (inv.events constants events s) r n
+          stands_more constants a.now m (notices a.now events (take i a.missed.now)) c.loop-one.self c.start_noted.new.self (inv.tuning ∙ s.tuning ∙ sym (notices_constants constants a.now events (take i a.missed.now))) (inv.events constants events s) r n
           ∙ ap (λ (after : List Event). timers_of constants after n) (sym (notices_more a.now events a.missed.now i m (omega arith) c.one-item.is));
       back = λ n. c.start_noted.ensures.back n ∙ inv.back n;
       tuning = r.tuning ∙ inv.tuning;
@@ -45,7 +45,7 @@ returns-clause-ok c = λ constants events s.
     let inv = c.loop-one.invariant in
     let len : length missed ≤ c.loop-one.one-index = omega arith in
     let whole = λ (n : NameValue). inv.events constants events s n ∙ ap (λ (xs : List Missed). timers_of constants (notices c.args.now events xs) n) (take_all c.loop-one.one-index missed len) in
-    let tuning = ap (λ (v : RecoveryValue). v.tuning) c.self-2.view_is ∙ inv.tuning ∙ s.tuning in
+    let tuning = ap (λ (v : RecoveryValue). v.tuning) c.self-2.view_is ∙ inv.tuning ∙ s.tuning ∙ sym (notices_constants constants c.args.now events missed) in
     let timers = λ (n : NameValue). ap (λ (v : RecoveryValue). timers_in v n) c.self-2.view_is ∙ whole n in
     elim c.if-is_empty.branch [
       | then-is_empty w ↦
