@@ -11,7 +11,7 @@ use Rattle.wb_recovery.specs.Events.{Event, Got, moment_of, timers_of}
 use Rattle.wb_recovery.specs.Stopping.{receipts, got_each}
 use Rattle.wb_recovery.specs.declared.timers.Timers.{Timers}
 use Rattle.wb_recovery.specs.declared.tuning.Tuning.{Tuning}
-use Rattle.wb_recovery.proofs.StoppedNames.{timers_receipts}
+use Rattle.wb_recovery.proofs.StoppedNames.{timers_receipts, constants_receipts}
 use Rattle.wb_host.specs.Keeper.{received_of, events_of, delay_to}
 use Rattle.wb_host.specs.KeeperLaws.{OrderOfArrivalIsFree}
 
@@ -67,7 +67,7 @@ order_of_arrival_is_free me t calls value now names other moved s =
       me_is = s.me_is;
       moment = s.moment;
       recovery = record {
-        tuning = s.recovery.tuning;
+        tuning = s.recovery.tuning ∙ constants_receipts t now events (received_of delays names) ∙ sym (constants_receipts t now events (received_of delays other));
         moment = s.recovery.moment ∙ moment_moved delays now events names other (length_permutation names other moved);
         timers = λ n. s.recovery.timers n ∙ timers_alike t delays now events names other (λ m. list_any-IsPermutation (λ (k : NameValue). same_name k m) names other moved) n;
         rising = s.recovery.rising;

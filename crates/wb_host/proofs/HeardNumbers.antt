@@ -9,7 +9,7 @@ use Rattle.wb_names.proofs.Listings.{Contains-here, Contains-there, Contains-cas
 use Rattle.wb_codec.specs.declared.datagram.Datagram.{Datagram}
 use Rattle.wb_codec.specs.declared.datagram.Datagram.TheVariants.{Draw, Session, Request, AskPages, PageState}
 use Rattle.wb_recovery.specs.Events.{Event, Asked}
-use Rattle.wb_host.specs.Keeper.{KeeperCall, SetDelay, Hear, Arrive, Miss, GoOn, Report, GiveUp, newest, moment_at, is_own, high_in, high_reported, high_heard, delay_in, delay_to, delay_given, session_in, session_heard, remember, senders_of, heard_by, asked_by, events_of}
+use Rattle.wb_host.specs.Keeper.{KeeperCall, SetDelay, SetConstants, Hear, Arrive, Miss, GoOn, Report, GiveUp, newest, moment_at, is_own, high_in, high_reported, high_heard, delay_in, delay_to, delay_given, session_in, session_heard, remember, senders_of, heard_by, asked_by, events_of}
 use Rattle.wb_host.specs.KeeperLaws.{IsReported, MarksAreGreatest, OnlyMoves, OwnOnlyMoves, DrawopsOnlyMove}
 use Rattle.wb_host.proofs.KeptCalls.{max_none}
 
@@ -17,6 +17,7 @@ module _ (me : ℕ) (page : PageId) (source : ℕ) where
   -- what one call tells
   told_here : (call : KeeperCall) (calls : List KeeperCall) → (high_reported me page source call ≡ 0) ⊎ IsReported me (call ∷ calls) page source (high_reported me page source call)
   told_here (SetDelay s micros) calls = inl refl
+  told_here (SetConstants constants) calls = inl refl
   told_here (Arrive now held) calls = inl refl
   told_here (Miss now names words) calls = inl refl
   told_here (GoOn now words stopped) calls = inl refl

@@ -1,6 +1,6 @@
 -- What a keeper stands for, once it has accepted a call.
-use Rattle.std.proofs.Common.{◌≡◌, ℕ, ◌+◌, ◌<◌, Bool, true, false, cond, Option, Some, None, List, [], ◌∷◌, ◌++◌, length, get_or, take, refl, ap, ◌∙◌, sym, subst, arith, true≢false, suc, ⊎_elim, add-one, append-nil}
-use Rattle.std.specs.Prelude.{max, map, filter, zip, nat_eq, unwrap_or, Contains, MatchOption, is_some, ◌||◌}
+use Rattle.std.proofs.Common.{◌≡◌, ℕ, ◌+◌, ◌<◌, Bool, true, false, cond, Option, Some, None, List, [], ◌∷◌, ◌++◌, length, get_or, take, refl, ap, ◌∙◌, sym, subst, arith, true≢false, suc, ⊎_elim, add-one, append-nil, Result, Ok, Err}
+use Rattle.std.specs.Prelude.{max, map, filter, zip, nat_eq, unwrap_or, Contains, MatchOption, OnOk, is_some, ◌||◌}
 use Rattle.std.specs.List.{list_any}
 use Rattle.std.specs.Option.{option_or}
 use Rattle.std.specs.Ordering.{nat_cmp}
@@ -16,13 +16,13 @@ use Rattle.wb_names.proofs.Listings.{Contains-cases, Contains-none}
 use Rattle.wb_recovery.proofs.NameOrder.{name_ties, name_decides}
 use Rattle.wb_names.proofs.Orders.{nat_ties, same_name-is}
 use Rattle.wb_recovery.specs.Values.{RecoveryValue}
-use Rattle.wb_recovery.specs.Events.{Event, Got}
+use Rattle.wb_recovery.specs.Events.{Event, Got, Tune}
 use Rattle.wb_recovery.specs.Accepted as timers
 use Rattle.wb_recovery.specs.Stopping.{receipts}
 use Rattle.wb_recovery.specs.declared.tuning.Tuning.{Tuning}
 use Rattle.wb_recovery.specs.declared.missed.Received.{Received}
 use Rattle.wb_recovery.specs.declared.missed.Missed.{Missed}
-use Rattle.wb_host.specs.Keeper.{KeeperCall, SetDelay, newest, moment_at, high_reported, high_heard, delay_given, delay_to, session_heard, senders_of, remember, heard_by, last_heard, received_of, missed_of, events_of, holds}
+use Rattle.wb_host.specs.Keeper.{KeeperCall, SetDelay, SetConstants, newest, moment_at, high_reported, high_heard, delay_given, delay_to, session_heard, senders_of, remember, heard_by, last_heard, received_of, missed_of, events_of, holds}
 use Rattle.wb_host.specs.Hearing.{marks_reported, marks_heard}
 use Rattle.wb_host.specs.Keeping.{KeeperValue, StandsFor, Keeps, delay_at}
 
@@ -84,6 +84,24 @@ keeps_delay source micros old new delays is r me t calls s = subst (StandsFor me
   from : (q : ℕ) (b : Bool) → unwrap_or (cond b (Some micros) (lookup (is_at (nat_cmp q)) old.delays)) 100000 ≡ unwrap_or (option_or (cond b (Some micros) None) (newest (delay_given me q) calls)) 100000
   from q true = refl
   from q false = s.delays q
+
+-- ---- the constants change
+pub on_ok : {T E P Q : Type 0} (r : Result T E) → (P → Q) → OnOk r P → OnOk r Q
+on_ok (Ok x) f p = f p
+on_ok (Err e) f p = tt
+
+pub keeps_constants : (constants : Tuning) (old new : KeeperValue) (recovery : RecoveryValue) → new ≡ record old { recovery = recovery }
+    → ((t : Tuning) (events : List Event) → timers.StandsFor t events old.recovery → timers.StandsFor t (Tune constants ∷ events) recovery) → Keeps (SetConstants constants) old new
+keeps_constants constants old new recovery is stands me t calls s = subst (StandsFor me t (SetConstants constants ∷ calls)) (sym is) (record {
+  me_is = s.me_is;
+  moment = s.moment;
+  recovery = stands t (events_of me calls) s.recovery;
+  delays = s.delays;
+  heard = s.heard;
+  senders = s.senders;
+  marks = λ page q. s.marks page q ∙ sym (max_none _);
+  merged = s.merged;
+})
 
 -- ---- names that have come
 pub same_here : (m n : NameValue) → m ≡ n → same_name m n ≡ true

@@ -22,7 +22,7 @@ use Rattle.wb_gaps.specs.Pages.{ArePages}
 use Rattle.wb_gaps.proofs.HeldNumbers.{same_page-here}
 use Rattle.wb_gaps.proofs.Sorting.{lists_sorted}
 use Rattle.wb_host.specs.Hearing.{marks_in, marks_reported, marks_heard}
-use Rattle.wb_host.specs.Keeper.{KeeperCall, SetDelay, Hear, Arrive, Miss, GoOn, Report, GiveUp, is_own}
+use Rattle.wb_host.specs.Keeper.{KeeperCall, SetDelay, SetConstants, Hear, Arrive, Miss, GoOn, Report, GiveUp, is_own}
 use Rattle.wb_host.specs.Keeping.{marks_at}
 use Rattle.wb_host.specs.Known.{AreKnownPages, page_where, page_in, page_named, pages_heard, known_pages, KnownPagesAreKnown}
 
@@ -62,6 +62,7 @@ in_call me q (Hear now v word held) = from (is_own me v) where
   from true = none_named q
   from false = in_datagram q v
 in_call me q (SetDelay source micros) = none_named q
+in_call me q (SetConstants constants) = none_named q
 in_call me q (Arrive now held) = none_named q
 in_call me q (Miss now names words) = none_named q
 in_call me q (GoOn now words stopped) = none_named q

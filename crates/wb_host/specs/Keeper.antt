@@ -10,17 +10,19 @@ use Rattle.wb_names.specs.declared.echo.Echo.{Echo}
 use Rattle.wb_codec.specs.declared.datagram.Datagram.{Datagram}
 use Rattle.wb_codec.specs.declared.datagram.Datagram.TheVariants.{Draw, Session, Request, AskPages, PageState}
 use Rattle.wb_recovery.specs.Distance.{distance_of}
-use Rattle.wb_recovery.specs.Events.{Event, Asked, Tick}
+use Rattle.wb_recovery.specs.Events.{Event, Asked, Tick, Tune}
 use Rattle.wb_recovery.specs.Noticing.{notices}
 use Rattle.wb_recovery.specs.Stopping.{receipts}
 use Rattle.wb_recovery.specs.declared.missed.Missed.{Missed}
 use Rattle.wb_recovery.specs.declared.missed.Received.{Received}
+use Rattle.wb_recovery.specs.declared.tuning.Tuning.{Tuning}
 use Rattle.wb_host.specs.declared.keeper.Heard.{Heard}
 
 -- An accepted call, with what it found on the desk: whether a name that was asked for was held; which of the names
 -- that arrived were held; which names with a request timer were; whether a name that is given up had a request timer.
 pub data KeeperCall : Type 0 where
   SetDelay : (source micros : ℕ) → KeeperCall
+  SetConstants : (constants : Tuning) → KeeperCall
   Hear : (now : ℕ) (datagram : Datagram) (word : ℕ) (held : Bool) → KeeperCall
   Arrive : (now : ℕ) (held : List NameValue) → KeeperCall
   Miss : (now : ℕ) (names : List NameValue) (words : List ℕ) → KeeperCall
@@ -42,6 +44,7 @@ greatest tells (call ∷ calls) = max (tells call) (greatest tells calls)
 
 abbrev pub now_of : KeeperCall → Option ℕ
 now_of (SetDelay source micros) = None
+now_of (SetConstants constants) = None
 now_of (Hear now datagram word held) = Some now
 now_of (Arrive now held) = Some now
 now_of (Miss now names words) = Some now
@@ -170,6 +173,7 @@ timer_calls me delays (Arrive now held) events = receipts now events (received_o
 timer_calls me delays (Miss now names words) events = notices now events (missed_of delays names words)
 timer_calls me delays (GoOn now words stopped) events = Tick now words ∷ receipts now events (received_of delays stopped)
 timer_calls me delays (GiveUp now name asked) events = given_up now name asked events
+timer_calls me delays (SetConstants constants) events = Tune constants ∷ events
 timer_calls me delays call events = events
 
 -- the calls of the timers, the newest first

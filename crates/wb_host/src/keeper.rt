@@ -12,7 +12,7 @@ ghost use Rattle.wb_recovery.specs.Values.{timers_in, names_in};
 ghost use Rattle.wb_recovery.specs.Events.{asking, due_asks, IsNextDue, names_of, timers_of};
 ghost use Rattle.wb_recovery.specs.declared.tuning.Tuning.{Tuning as Constants};
 ghost use Rattle.wb_host.specs.Dues.{next_due_of};
-ghost use Rattle.wb_host.specs.Keeper.{KeeperCall, SetDelay, events_of};
+ghost use Rattle.wb_host.specs.Keeper.{KeeperCall, SetDelay, SetConstants, events_of};
 ghost use Rattle.wb_host.specs.Keeping.{StandsFor, Keeps, delay_at, marks_at};
 ghost use Rattle.wb_host.specs.KeepFaults.{moment_fault, delay_fault, IsKeptBy};
 
@@ -114,6 +114,18 @@ impl Keeper {
             return Err(KeepFault::Memory);
         }
         Ok(())
+    }
+
+    /// Gives the timers other constants, each 1 to 16: what is set or backed off from now on is by them. A timer that
+    /// stands keeps its moment.
+    ///
+    /// Refused with `Constant`.
+    pub fn set_constants(&mut self, constants: Tuning) -> Result<(), TuningFault>
+        ensures constants { MatchResult result (λ done. IsTrue (are_constants constants)) (λ e. are_constants constants ≡ false) }
+        ensures ok { OnOk result (Keeps (SetConstants constants) self.old self.new) }
+        ensures err { OnErr result (self.new ≡ self.old) }
+    {
+        self.recovery.tune(constants)
     }
 
     /// The moment of the last accepted call that has one, in microseconds, and 0 before there is one.
