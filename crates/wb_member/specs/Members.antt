@@ -10,12 +10,12 @@ use Rattle.wb_codec.specs.declared.datagram.Datagram.TheVariants.{Draw, AskPages
 use Rattle.wb_recovery.specs.Events.{timers_of}
 use Rattle.wb_recovery.specs.declared.tuning.Tuning.{Tuning}
 use Rattle.wb_host.specs.GivingUp.{is_asked}
-use Rattle.wb_host.specs.Keeper.{KeeperCall, SetDelay, Hear, Arrive, Miss, GoOn, Report, GiveUp, events_of, holds}
+use Rattle.wb_host.specs.Keeper.{KeeperCall, SetDelay, SetConstants, Hear, Arrive, Miss, GoOn, Report, GiveUp, events_of, holds}
 use Rattle.wb_host.specs.Hearing.{asks_for_held, answers_to}
 use Rattle.wb_host.specs.Sessions.{message_of}
 use Rattle.wb_host.specs.Ticks.{sent_by_tick, stopped_after}
 
--- The number of a member, the cells of its board and the constants of its timers; what it drew, the newest first; what its
+-- The number of a member, the cells of its board and the constants of its timers at first; what it drew, the newest first; what its
 -- board holds, the newest last; and the calls that its keeper accepted, the newest first. A board is one history, however
 -- many desks take drawops into it.
 pub record Member : Type 0 where
@@ -34,6 +34,7 @@ pub data Act : Type 0 where
   Takes : (now : ℕ) (batch order : List DrawopValue) → Act
   Hears : (now : ℕ) (datagram : Datagram) (word : ℕ) → Act
   SetsDelay : (source micros : ℕ) → Act
+  SetsConstants : (constants : Tuning) → Act
   Misses : (now : ℕ) (names : List NameValue) (words : List ℕ) → Act
   GivesUp : (now : ℕ) (name : NameValue) → Act
   Ticks : (now : ℕ) (words : List ℕ) → Act
@@ -62,6 +63,7 @@ after (Draws page time op) m = record m { drawn = next_drawop m page time op ∷
 after (Takes now batch order) m = holding now batch (history_after m.cells m.held order) m
 after (Hears now datagram word) m = calling (Hear now datagram word (asks_for_held m.held datagram)) m
 after (SetsDelay source micros) m = calling (SetDelay source micros) m
+after (SetsConstants constants) m = calling (SetConstants constants) m
 after (Misses now names words) m = calling (Miss now names words) m
 after (GivesUp now name) m = calling (GiveUp now name (is_asked (timers_of m.constants (events_of m.number m.calls)) name)) m
 after (Ticks now words) m = calling (GoOn now words (stopped_after m.number m.constants m.calls m.held)) m
@@ -74,6 +76,7 @@ sends (Draws page time op) m = Draw (next_drawop m page time op) ∷ []
 sends (Takes now batch order) m = []
 sends (Hears now datagram word) m = answers_to m.number m.held datagram
 sends (SetsDelay source micros) m = []
+sends (SetsConstants constants) m = []
 sends (Misses now names words) m = []
 sends (GivesUp now name) m = []
 sends (Ticks now words) m = sent_by_tick m.number m.constants m.calls m.held now

@@ -23,7 +23,7 @@ use Rattle.wb_host.specs.Missing.{wanted_of as names_wanted}
 use Rattle.wb_host.specs.Sessions.{message_of}
 use Rattle.wb_host.specs.Ticks.{sent_by_tick}
 use Rattle.wb_member.specs.Board.{Held}
-use Rattle.wb_member.specs.Members.{Member, Act, Takes, Hears, SetsDelay, Misses, GivesUp, Ticks, Reports, after}
+use Rattle.wb_member.specs.Members.{Member, Act, Takes, Hears, SetsDelay, SetsConstants, Misses, GivesUp, Ticks, Reports, after}
 use Rattle.wb_member.specs.Queries.{view_of}
 use Rattle.wb_member.specs.Random.{started, word_of, words_of, after_words}
 
@@ -95,6 +95,10 @@ answered v host = answers_to host.is.number host.is.held v
 
 abbrev pub with_delay : ℕ → ℕ → Opened → Opened
 with_delay source micros host = doing (SetsDelay source micros) 0 host
+
+-- What is set or backed off from now on is by other constants. A timer that stands keeps its moment.
+abbrev pub with_constants : Tuning → Opened → Opened
+with_constants constants host = doing (SetsConstants constants) 0 host
 
 -- ---- time
 

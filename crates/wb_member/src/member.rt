@@ -1,9 +1,9 @@
 //! A member: what it is handed, and what follows.
-ghost use Rattle.std.specs.Prelude.{◌≡◌, ◌<◌, ◌≤◌, ◌^◌, true, length, IfOk, OnErr, IfSome};
+ghost use Rattle.std.specs.Prelude.{◌≡◌, ◌<◌, ◌≤◌, ◌^◌, false, true, length, IfOk, OnErr, IfSome, IsTrue, MatchResult};
 ghost use Rattle.wb_recovery.specs.Timing.{are_constants};
 ghost use Rattle.wb_host.specs.KeepFaults.{IsKeptBy, delay_fault};
 ghost use Rattle.wb_member.specs.Holding.{IsOpenAt, IsUnreached, outcome_in};
-ghost use Rattle.wb_member.specs.Opened.{Opened, opened_with, present, becomes, accepted, heard, heard_fault, takes_word, answered, with_delay, next_due, ticked, ticked_fault, sent_by, next_number};
+ghost use Rattle.wb_member.specs.Opened.{Opened, opened_with, present, becomes, accepted, heard, heard_fault, takes_word, answered, with_delay, with_constants, next_due, ticked, ticked_fault, sent_by, next_number};
 
 mod asking;
 mod judged;
@@ -16,7 +16,7 @@ use std::marker::Model;
 use wb_codec::Datagram;
 use wb_host::{KeepFault, Keeper, Reply};
 use wb_names::{Drawop, PageId};
-use wb_recovery::Tuning;
+use wb_recovery::{Tuning, TuningFault};
 
 /// A board, what its member keeps of the session, and the random words that were not taken yet.
 ///
@@ -119,6 +119,16 @@ impl Member {
         ensures err { OnErr result (self.new ≡ self.old) }
     {
         self.keeper.set_delay(source, micros)
+    }
+
+    /// Gives its timers other constants, each 1 to 16: what is set or backed off from now on is by them. A timer that
+    /// stands keeps its moment. Refused with `Constant`.
+    pub fn set_constants(&mut self, constants: Tuning) -> Result<(), TuningFault>
+        ensures constants { MatchResult result (λ _. IsTrue (are_constants constants)) (λ e. are_constants constants ≡ false) }
+        ensures set { IfOk result (λ _. (host : Opened) → IsOpenAt self.old host → IsOpenAt self.new (with_constants constants host)) }
+        ensures err { OnErr result (self.new ≡ self.old) }
+    {
+        self.keeper.set_constants(constants)
     }
 
     /// The least moment at which a timer is due, and so when the next tick has something to do. None

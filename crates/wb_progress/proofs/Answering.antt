@@ -10,7 +10,7 @@ use Rattle.wb_progress.specs.Calls.{Brings, Fires, Answers}
 use Rattle.wb_progress.specs.InTime.{answering_by, RequestIsAnswered}
 use Rattle.wb_progress.specs.Keepers.{AreWithin}
 use Rattle.wb_progress.specs.Repairs.{timers_at}
-use Rattle.wb_progress.specs.Turns.{Terms, settled_by, Turn, Places, desk_at, has, timers_there, time_of, AreInOrder, IsAnswerable, AllHoldBehind, IsTurn, IsHeardAt, KeepTime}
+use Rattle.wb_progress.specs.Turns.{longest, Terms, settled_by, Turn, Places, desk_at, has, timers_there, time_of, AreInOrder, IsAnswerable, AllHoldBehind, IsTurn, IsHeardAt, KeepTime}
 use Rattle.wb_progress.proofs.Calls.{answer_goes_on, requests_are_heard}
 use Rattle.wb_progress.proofs.Giving.{desk_here, Called, changes, keeps, held_before, Gave, why_quiet, brought, answered, copy_comes}
 use Rattle.wb_progress.proofs.Parts.{before_end, order_of, in_past, joined}
@@ -45,11 +45,11 @@ module _ (places : Places) (terms : Terms) (turns : List Turn) (is : KeepTime pl
           ⊎_elim
           (λ (same : (desk_at (e ∷ older) j).calls ≡ (desk_at older j).calls). inl (ap (λ (calls : List KeeperCall). (timers_at (places.me j) (places.constants j) calls n).answer) same ∙ stands, le))
           (λ (c : Called places terms turns is older e j).
-          let within = subst (AreWithin terms.far (places.me j)) c.calls (is.are.within newer (e ∷ older) j split live) in
+          let within = subst (AreWithin terms.far (longest terms) (places.me j) (places.constants j)) c.calls (is.are.within newer (e ∷ older) j split live) in
           ⊎_elim
           (λ (s : (timers_at (places.me j) (places.constants j) (c.call ∷ (desk_at older j).calls) n).answer ≡ Some answer). inl (ap (λ (calls : List KeeperCall). (timers_at (places.me j) (places.constants j) calls n).answer) c.calls ∙ s, le))
           (λ (g : Brings n c.call ⊎ Fires answer.due c.call). came le c g)
-          (answer_goes_on terms.far (places.me j) (places.constants j) c.call (desk_at older j).calls n within answer stands))
+          (answer_goes_on terms.far (places.me j) (longest terms) (places.constants j) c.call (desk_at older j).calls n within answer stands))
           (changes places terms turns is newer older e j split live)
 
     pub ends : (front middle base : List Turn) → turns ≡ front ++ (middle ++ base) → settled_by terms < time_of base → has base j n ≡ true → (timers_there places base j n).answer ≡ Some answer → time_of base ≤ limit → Ends (middle ++ base)
@@ -118,8 +118,8 @@ module _ (places : Places) (terms : Terms) (turns : List Turn) (is : KeepTime pl
       other : asker ≡ places.me j → ⊥
       other same = differ (is.are.apart e.place j lone a.1 (sym who.0 ∙ same))
 
-      within : AreWithin terms.far (places.me j) (Hear h.now (Request asker n) h.word true ∷ (desk_at before j).calls)
-      within = subst (AreWithin terms.far (places.me j)) at_j (is.are.within h.later (x ∷ before) j whole a.1)
+      within : AreWithin terms.far (longest terms) (places.me j) (places.constants j) (Hear h.now (Request asker n) h.word true ∷ (desk_at before j).calls)
+      within = subst (AreWithin terms.far (longest terms) (places.me j) (places.constants j)) at_j (is.are.within h.later (x ∷ before) j whole a.1)
 
       part_before : turns ≡ (h.later ++ x ∷ []) ++ before
       part_before = whole ∙ sym (append_assoc h.later (x ∷ []) before)
@@ -157,10 +157,10 @@ module _ (places : Places) (terms : Terms) (turns : List Turn) (is : KeepTime pl
                 g.gives
 
       -- an answer timer stands behind it
-      from_timer : (answer : AnswerTimer) → (timers_at (places.me j) (places.constants j) (Hear h.now (Request asker n) h.word true ∷ (desk_at before j).calls) n).answer ≡ Some answer → answer.due ≤ h.now + ((places.constants j).d1 + (places.constants j).d2) * terms.far → AllHoldBehind terms turns end n
+      from_timer : (answer : AnswerTimer) → (timers_at (places.me j) (places.constants j) (Hear h.now (Request asker n) h.word true ∷ (desk_at before j).calls) n).answer ≡ Some answer → answer.due ≤ h.now + ((longest terms).d1 + (longest terms).d2) * terms.far → AllHoldBehind terms turns end n
       from_timer answer stands due newest later i is_part lt live =
           let limit : ℕ = e.time + terms.delivery + terms.answering * terms.far + terms.late in
-          let wait : ((places.constants j).d1 + (places.constants j).d2) * terms.far ≤ terms.answering * terms.far = mul-le-mul_right terms.far (is.are.waits j).1 in
+          let wait : ((longest terms).d1 + (longest terms).d2) * terms.far ≤ terms.answering * terms.far = mul-le-mul_right terms.far (omega arith) in
           let m = moment in
           let soon = h.soon in
           let top : time_of (x ∷ before) < time_of later = omega (arith, soon, lt) in
@@ -178,8 +178,8 @@ module _ (places : Places) (terms : Terms) (turns : List Turn) (is : KeepTime pl
       pub all_hold : AllHoldBehind terms turns end n
       all_hold = ⊎_elim
           from_quiet
-          (λ (r : (answer : AnswerTimer) × ((timers_at (places.me j) (places.constants j) (Hear h.now (Request asker n) h.word true ∷ (desk_at before j).calls) n).answer ≡ Some answer) × (answer.due ≤ h.now + ((places.constants j).d1 + (places.constants j).d2) * terms.far)). from_timer r.0 r.1 r.2)
-          (requests_are_heard terms.far (places.me j) (places.constants j) (desk_at before j).calls h.now asker h.word n other within)
+          (λ (r : (answer : AnswerTimer) × ((timers_at (places.me j) (places.constants j) (Hear h.now (Request asker n) h.word true ∷ (desk_at before j).calls) n).answer ≡ Some answer) × (answer.due ≤ h.now + ((longest terms).d1 + (longest terms).d2) * terms.far)). from_timer r.0 r.1 r.2)
+          (requests_are_heard terms.far (places.me j) (longest terms) (places.constants j) (desk_at before j).calls h.now asker h.word n other within)
 
     pub answered_to_all : AllHoldBehind terms turns (e.time + answering_by terms) n
     answered_to_all newest later i is_part lt live =

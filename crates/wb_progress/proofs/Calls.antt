@@ -1,7 +1,7 @@
 -- What one call of a keeper makes of the timers of a name.
 use Rattle.std.proofs.Common.{◌≡◌, ℕ, ◌+◌, ◌*◌, ◌≤◌, ◌<◌, Bool, true, false, cond, List, [], ◌∷◌, Option, Some, None, refl, ap, ◌∙◌, sym, subst, arith, ◌⊎◌, inl, inr, ⊎_elim, eqb-true, eq-eqb, true≢false}
 use Rattle.std.specs.Prelude.{Contains, IfSome, nat_eq, nat_le, is_none, ◌&&◌}
-use Rattle.std.proofs.Math.Nat.{mul-le-mul_left}
+use Rattle.std.proofs.Math.Nat.{mul-le-mul_left, mul-le-mul_right}
 use Rattle.std.proofs.lemmas.Bool.Decides.{nat_tests}
 use Rattle.wb_names.specs.Values.{NameValue}
 use Rattle.wb_names.specs.Orders.{same_name}
@@ -10,7 +10,7 @@ use Rattle.wb_names.proofs.Listings.{Contains-here, Contains-there, Contains-cas
 use Rattle.wb_codec.specs.declared.datagram.Datagram.{Datagram}
 use Rattle.wb_codec.specs.declared.datagram.Datagram.TheVariants.{Draw, Session, Request, AskPages, PageState}
 use Rattle.wb_recovery.specs.Timing.{new_ask, new_answer, backed_off, fired_ask, fired_answer, heard_ask, quiet_after, noticed, asked, ticked}
-use Rattle.wb_recovery.specs.Events.{Event, Notice, Asked, timers_of, names_of, due_asks, word_for}
+use Rattle.wb_recovery.specs.Events.{Event, Notice, Asked, constants_after, timers_of, names_of, due_asks, word_for}
 use Rattle.wb_recovery.specs.Noticing.{notices}
 use Rattle.wb_recovery.specs.Stopping.{receipts, is_received, got_each}
 use Rattle.wb_recovery.specs.declared.tuning.Tuning.{Tuning}
@@ -18,12 +18,12 @@ use Rattle.wb_recovery.specs.declared.timers.AskTimer.{AskTimer}
 use Rattle.wb_recovery.specs.declared.timers.AnswerTimer.{AnswerTimer}
 use Rattle.wb_recovery.specs.declared.timers.Timers.{Timers}
 use Rattle.wb_recovery.proofs.StoppedNames.{not_received, received_stops, timers_receipts}
-use Rattle.wb_host.specs.Keeper.{KeeperCall, SetDelay, Hear, Arrive, Miss, GoOn, Report, GiveUp, moment_at, delay_to, received_of, missed_of, events_of}
-use Rattle.wb_progress.specs.Bounds.{AreSteady}
+use Rattle.wb_host.specs.Keeper.{KeeperCall, SetDelay, SetConstants, Hear, Arrive, Miss, GoOn, Report, GiveUp, moment_at, delay_to, received_of, missed_of, events_of}
+use Rattle.wb_progress.specs.Bounds.{IsUnder, AreSteady}
 use Rattle.wb_progress.specs.Calls.{Brings, Fires, Requests, Misses, AnswersGoOn, RequestsGoOn, Answers, QuietBegins, RequestsBegin, RequestsAreHeard}
-use Rattle.wb_progress.specs.Keepers.{AreWithin}
+use Rattle.wb_progress.specs.Keepers.{AreWithin, constants_at}
 use Rattle.wb_progress.specs.Repairs.{timers_at}
-use Rattle.wb_progress.proofs.KeeperBounds.{steady_within, near_within}
+use Rattle.wb_progress.proofs.KeeperBounds.{steady_within, within_now, near_within}
 use Rattle.wb_progress.proofs.OneCall.{received_from, not_standing, is_false}
 use Rattle.wb_progress.proofs.Standing.{requests_are_taken}
 use Rattle.wb_progress.proofs.TimerBounds.{expiry_within}
@@ -31,56 +31,59 @@ use Rattle.wb_progress.proofs.TimerBounds.{expiry_within}
 -- ---- what a call does to the timers s of a name
 
 -- it is asked for by another
-record IsHeard (me : ℕ) (t : Tuning) (n : NameValue) (call : KeeperCall) (s next : Timers) : Type 0 where
+record IsHeard (me : ℕ) (n : NameValue) (call : KeeperCall) (s next : Timers) : Type 0 where
   by : Requests me n call
   delay : ℕ
-  becomes : next ≡ asked t by.held by.now delay by.word s
+  constants : Tuning
+  becomes : next ≡ asked constants by.held by.now delay by.word s
 
 -- it is missed: its request timer stays, or is set
-record IsMissed (far : ℕ) (t : Tuning) (now : ℕ) (s next : Timers) : Type 0 where
+record IsMissed (far : ℕ) (bound : Tuning) (now : ℕ) (s next : Timers) : Type 0 where
   answer : next.answer ≡ s.answer
   quiet : next.quiet ≡ s.quiet
   stays : (ask : AskTimer) → s.ask ≡ Some ask → next.ask ≡ Some ask
-  new : s.ask ≡ None → IfSome next.ask (λ (ask : AskTimer). ask.due ≤ now + (t.c1 + t.c2) * far)
+  new : s.ask ≡ None → IfSome next.ask (λ (ask : AskTimer). ask.due ≤ now + (bound.c1 + bound.c2) * far)
 
 -- a tick of which it is no name that was stopped
-record IsTicked (t : Tuning) (call : KeeperCall) (s next : Timers) : Type 0 where
+record IsTicked (call : KeeperCall) (s next : Timers) : Type 0 where
   now : ℕ
   words : List ℕ
   stopped : List NameValue
   is : call ≡ GoOn now words stopped
   word : ℕ
-  becomes : next ≡ ticked t now word s
+  constants : Tuning
+  becomes : next ≡ ticked constants now word s
 
 abbrev Does : ℕ → ℕ → Tuning → NameValue → KeeperCall → Timers → Timers → Type 0
-Does far me t n call s next = (next ≡ s) ⊎ ((Brings n call × (next.ask ≡ None)) ⊎ (IsHeard me t n call s next ⊎ ((Misses n call × IsMissed far t (moment_at (call ∷ [])) s next) ⊎ IsTicked t call s next)))
+Does far me bound n call s next = (next ≡ s) ⊎ ((Brings n call × (next.ask ≡ None)) ⊎ (IsHeard me n call s next ⊎ ((Misses n call × IsMissed far bound (moment_at (call ∷ [])) s next) ⊎ IsTicked call s next)))
 
 -- ---- missed names
 
-new_within : (t : Tuning) (far now delay word : ℕ) → delay ≤ far → (new_ask t now delay word).due ≤ now + (t.c1 + t.c2) * far
-new_within t far now delay word le =
+new_within : (bound t : Tuning) (far now delay word : ℕ) → IsUnder bound t → delay ≤ far → (new_ask t now delay word).due ≤ now + (bound.c1 + bound.c2) * far
+new_within bound t far now delay word under le =
     let e = expiry_within now 0 t.c1 t.c2 delay word in
     let m = mul-le-mul_left (t.c1 + t.c2) le in
-    omega (arith, e, m)
+    let k = mul-le-mul_right far under.0 in
+    omega (arith, e, m, k)
 
-module _ (far : ℕ) (t : Tuning) (now : ℕ) where
-  untouched : (s : Timers) → s.ask ≡ s.ask → IsMissed far t now s s
-  untouched s e = record { answer = refl; quiet = refl; stays = λ ask h. h; new = λ none. subst (λ (o : Option AskTimer). IfSome o (λ (ask : AskTimer). ask.due ≤ now + (t.c1 + t.c2) * far)) (sym none) tt }
+module _ (far : ℕ) (bound : Tuning) (now : ℕ) where
+  untouched : (s : Timers) → s.ask ≡ s.ask → IsMissed far bound now s s
+  untouched s e = record { answer = refl; quiet = refl; stays = λ ask h. h; new = λ none. subst (λ (o : Option AskTimer). IfSome o (λ (ask : AskTimer). ask.due ≤ now + (bound.c1 + bound.c2) * far)) (sym none) tt }
 
-  one_missed : (delay word : ℕ) (s : Timers) → delay ≤ far → IsMissed far t now s (noticed t now delay word s)
-  one_missed delay word s le = from s.ask refl where
-    from : (o : Option AskTimer) → s.ask ≡ o → IsMissed far t now s (cond (is_none s.ask) (record s { ask = Some (new_ask t now delay word) }) s)
-    from (Some a) e = subst (λ (o : Option AskTimer). IsMissed far t now s (cond (is_none o) (record s { ask = Some (new_ask t now delay word) }) s)) (sym e) (untouched s refl)
-    from None e = subst (λ (o : Option AskTimer). IsMissed far t now s (cond (is_none o) (record s { ask = Some (new_ask t now delay word) }) s)) (sym e) (record {
+  one_missed : (t : Tuning) (delay word : ℕ) (s : Timers) → IsUnder bound t → delay ≤ far → IsMissed far bound now s (noticed t now delay word s)
+  one_missed t delay word s under le = from s.ask refl where
+    from : (o : Option AskTimer) → s.ask ≡ o → IsMissed far bound now s (cond (is_none s.ask) (record s { ask = Some (new_ask t now delay word) }) s)
+    from (Some a) e = subst (λ (o : Option AskTimer). IsMissed far bound now s (cond (is_none o) (record s { ask = Some (new_ask t now delay word) }) s)) (sym e) (untouched s refl)
+    from None e = subst (λ (o : Option AskTimer). IsMissed far bound now s (cond (is_none o) (record s { ask = Some (new_ask t now delay word) }) s)) (sym e) (record {
       answer = refl;
       quiet = refl;
       stays = λ ask h. absurd (none_some ask (sym e ∙ h));
-      new = λ none. new_within t far now delay word le;
+      new = λ none. new_within bound t far now delay word under le;
     }) where
       none_some : (ask : AskTimer) → ◌≡◌ {A = Option AskTimer} None (Some ask) → ⊥
       none_some ask h = cc
 
-  then_missed : (s mid next : Timers) → IsMissed far t now s mid → IsMissed far t now mid next → IsMissed far t now s next
+  then_missed : (s mid next : Timers) → IsMissed far bound now s mid → IsMissed far bound now mid next → IsMissed far bound now s next
   then_missed s mid next a b = record {
     answer = b.answer ∙ a.answer;
     quiet = b.quiet ∙ a.quiet;
@@ -88,17 +91,17 @@ module _ (far : ℕ) (t : Tuning) (now : ℕ) where
     new = λ none. from mid.ask refl (a.new none);
   } where
     Near : Option AskTimer → Type 0
-    Near o = IfSome o (λ (ask : AskTimer). ask.due ≤ now + (t.c1 + t.c2) * far)
+    Near o = IfSome o (λ (ask : AskTimer). ask.due ≤ now + (bound.c1 + bound.c2) * far)
 
     from : (o : Option AskTimer) → mid.ask ≡ o → Near mid.ask → Near next.ask
     from None e near = b.new e
     from (Some ask) e near = subst Near (sym (b.stays ask e)) (subst Near e near)
 
-  module _ (delays : ℕ → ℕ) (short : (source : ℕ) → delays source ≤ far) (n : NameValue) where
-    all_missed : (names : List NameValue) (words : List ℕ) (events : List Event) → (timers_of t (notices now events (missed_of delays names words)) n ≡ timers_of t events n) ⊎ (Contains names n × IsMissed far t now (timers_of t events n) (timers_of t (notices now events (missed_of delays names words)) n))
-    all_missed [] words events = inl refl
-    all_missed (m ∷ names) [] events = inl refl
-    all_missed (m ∷ names) (w ∷ words) events = from (same_name m n) refl (all_missed names words (Notice m now (delays m.source) w ∷ events)) where
+  module _ (t : Tuning) (delays : ℕ → ℕ) (short : (source : ℕ) → delays source ≤ far) (n : NameValue) where
+    all_missed : (names : List NameValue) (words : List ℕ) (events : List Event) → IsUnder bound (constants_after t events) → (timers_of t (notices now events (missed_of delays names words)) n ≡ timers_of t events n) ⊎ (Contains names n × IsMissed far bound now (timers_of t events n) (timers_of t (notices now events (missed_of delays names words)) n))
+    all_missed [] words events under = inl refl
+    all_missed (m ∷ names) [] events under = inl refl
+    all_missed (m ∷ names) (w ∷ words) events under = from (same_name m n) refl (all_missed names words (Notice m now (delays m.source) w ∷ events) under) where
       s : Timers
       s = timers_of t events n
 
@@ -106,26 +109,26 @@ module _ (far : ℕ) (t : Tuning) (now : ℕ) where
       end = timers_of t (notices now (Notice m now (delays m.source) w ∷ events) (missed_of delays names words)) n
 
       from : (b : Bool) → same_name m n ≡ b
-          → (end ≡ timers_of t (Notice m now (delays m.source) w ∷ events) n) ⊎ (Contains names n × IsMissed far t now (timers_of t (Notice m now (delays m.source) w ∷ events) n) end)
-          → (end ≡ s) ⊎ (Contains (m ∷ names) n × IsMissed far t now s end)
+          → (end ≡ timers_of t (Notice m now (delays m.source) w ∷ events) n) ⊎ (Contains names n × IsMissed far bound now (timers_of t (Notice m now (delays m.source) w ∷ events) n) end)
+          → (end ≡ s) ⊎ (Contains (m ∷ names) n × IsMissed far bound now s end)
       from true h rest =
-          let first : timers_of t (Notice m now (delays m.source) w ∷ events) n ≡ noticed t now (delays m.source) w s = ap (λ (b : Bool). cond b (noticed t now (delays m.source) w s) s) h in
-          let one = subst (IsMissed far t now s) (sym first) (one_missed (delays m.source) w s (short m.source)) in
+          let first : timers_of t (Notice m now (delays m.source) w ∷ events) n ≡ noticed (constants_after t events) now (delays m.source) w s = ap (λ (b : Bool). cond b (noticed (constants_after t events) now (delays m.source) w s) s) h in
+          let one = subst (IsMissed far bound now s) (sym first) (one_missed (constants_after t events) (delays m.source) w s under (short m.source)) in
           let here : Contains (m ∷ names) n = subst (λ (k : NameValue). Contains (m ∷ names) k) (same_name-is m n h) (Contains-here m names) in
           ⊎_elim
-          (λ (e : end ≡ timers_of t (Notice m now (delays m.source) w ∷ events) n). inr (here, subst (IsMissed far t now s) (sym e) one))
-          (λ (r : Contains names n × IsMissed far t now (timers_of t (Notice m now (delays m.source) w ∷ events) n) end). inr (here, then_missed s _ end one r.1))
+          (λ (e : end ≡ timers_of t (Notice m now (delays m.source) w ∷ events) n). inr (here, subst (IsMissed far bound now s) (sym e) one))
+          (λ (r : Contains names n × IsMissed far bound now (timers_of t (Notice m now (delays m.source) w ∷ events) n) end). inr (here, then_missed s _ end one r.1))
           rest
       from false h rest =
-          let first : timers_of t (Notice m now (delays m.source) w ∷ events) n ≡ s = ap (λ (b : Bool). cond b (noticed t now (delays m.source) w s) s) h in
+          let first : timers_of t (Notice m now (delays m.source) w ∷ events) n ≡ s = ap (λ (b : Bool). cond b (noticed (constants_after t events) now (delays m.source) w s) s) h in
           ⊎_elim
           (λ (e : end ≡ timers_of t (Notice m now (delays m.source) w ∷ events) n). inl (e ∙ first))
-          (λ (r : Contains names n × IsMissed far t now (timers_of t (Notice m now (delays m.source) w ∷ events) n) end). inr (Contains-there m n names r.0, subst (λ (k : Timers). IsMissed far t now k end) first r.1))
+          (λ (r : Contains names n × IsMissed far bound now (timers_of t (Notice m now (delays m.source) w ∷ events) n) end). inr (Contains-there m n names r.0, subst (λ (k : Timers). IsMissed far bound now k end) first r.1))
           rest
 
 -- ---- each call
 
-module _ (far me : ℕ) (t : Tuning) (calls : List KeeperCall) (n : NameValue) (short : (source : ℕ) → delay_to me calls source ≤ far) where
+module _ (far me : ℕ) (bound t : Tuning) (calls : List KeeperCall) (n : NameValue) (short : (source : ℕ) → delay_to me calls source ≤ far) (under : IsUnder bound (constants_at me t calls)) where
   abbrev s : Timers
   s = timers_at me t calls n
 
@@ -142,7 +145,7 @@ module _ (far me : ℕ) (t : Tuning) (calls : List KeeperCall) (n : NameValue) (
     from false e = inl (timers_receipts t now events (received_of delays' names) n ∙ not_received now n s (received_of delays' names) e)
 
   abbrev Goal : KeeperCall → Type 0
-  Goal call = Does far me t n call s (timers_at me t (call ∷ calls) n)
+  Goal call = Does far me bound n call s (timers_at me t (call ∷ calls) n)
 
   hears : (now : ℕ) (v : Datagram) (word : ℕ) (held : Bool) → Goal (Hear now v word held)
   hears now (Request asker name) word held = from (nat_eq asker me) refl (same_name name n) refl where
@@ -150,11 +153,11 @@ module _ (far me : ℕ) (t : Tuning) (calls : List KeeperCall) (n : NameValue) (
     delay = delays (cond held asker name.source)
 
     Here : Timers → Type 0
-    Here next = Does far me t n (Hear now (Request asker name) word held) s next
+    Here next = Does far me bound n (Hear now (Request asker name) word held) s next
 
     from : (b : Bool) → nat_eq asker me ≡ b → (c : Bool) → same_name name n ≡ c → Here (timers_of t (cond (nat_eq asker me) events (Asked name held now delay word ∷ events)) n)
     from true e c f = subst (λ (b : Bool). Here (timers_of t (cond b events (Asked name held now delay word ∷ events)) n)) (sym e) (inl refl)
-    from false e true f = subst (λ (b : Bool). Here (timers_of t (cond b events (Asked name held now delay word ∷ events)) n)) (sym e) (subst (λ (c : Bool). Here (cond c (asked t held now delay word s) s)) (sym f) (inr (inr (inl (record {
+    from false e true f = subst (λ (b : Bool). Here (timers_of t (cond b events (Asked name held now delay word ∷ events)) n)) (sym e) (subst (λ (c : Bool). Here (cond c (asked (constants_after t events) held now delay word s) s)) (sym f) (inr (inr (inl (record {
       by = record {
         now = now;
         asker = asker;
@@ -164,9 +167,10 @@ module _ (far me : ℕ) (t : Tuning) (calls : List KeeperCall) (n : NameValue) (
         other = λ same. true≢false (sym (eq-eqb asker me same) ∙ e);
       };
       delay = delay;
+      constants = constants_after t events;
       becomes = refl;
     })))))
-    from false e false f = subst (λ (b : Bool). Here (timers_of t (cond b events (Asked name held now delay word ∷ events)) n)) (sym e) (subst (λ (c : Bool). Here (cond c (asked t held now delay word s) s)) (sym f) (inl refl))
+    from false e false f = subst (λ (b : Bool). Here (timers_of t (cond b events (Asked name held now delay word ∷ events)) n)) (sym e) (subst (λ (c : Bool). Here (cond c (asked (constants_after t events) held now delay word s) s)) (sym f) (inl refl))
   hears now (Draw d) word held = inl refl
   hears now (Session sender sent page marks echoes) word held = inl refl
   hears now (AskPages asker) word held = inl refl
@@ -183,6 +187,7 @@ module _ (far me : ℕ) (t : Tuning) (calls : List KeeperCall) (n : NameValue) (
 
   does : (call : KeeperCall) → Goal call
   does (SetDelay source micros) = inl refl
+  does (SetConstants constants) = inl refl
   does (Report now) = inl refl
   does (Hear now v word held) = hears now v word held
   does (Arrive now names) = ⊎_elim
@@ -191,8 +196,8 @@ module _ (far me : ℕ) (t : Tuning) (calls : List KeeperCall) (n : NameValue) (
       (came now delays names)
   does (Miss now names words) = ⊎_elim
       (λ (e : timers_of t (notices now events (missed_of delays names words)) n ≡ s). inl e)
-      (λ (r : Contains names n × IsMissed far t now s (timers_of t (notices now events (missed_of delays names words)) n)). inr (inr (inr (inl (record { now = now; names = names; words = words; is = refl; named = r.0 }, r.1)))))
-      (all_missed far t now delays short n names words events)
+      (λ (r : Contains names n × IsMissed far bound now s (timers_of t (notices now events (missed_of delays names words)) n)). inr (inr (inr (inl (record { now = now; names = names; words = words; is = refl; named = r.0 }, r.1)))))
+      (all_missed far bound now t delays short n names words events under)
   does (GoOn now words stopped) = ⊎_elim
       (λ (e : timers_of t (receipts now events (received_of delays stopped)) n ≡ s). inr (inr (inr (inr (record {
         now = now;
@@ -200,9 +205,10 @@ module _ (far me : ℕ) (t : Tuning) (calls : List KeeperCall) (n : NameValue) (
         stopped = stopped;
         is = refl;
         word = word_for words (due_asks (names_of (receipts now events (received_of delays stopped))) (λ m. timers_of t (receipts now events (received_of delays stopped)) m) now) n;
-        becomes = ap (ticked t now (word_for words (due_asks (names_of (receipts now events (received_of delays stopped))) (λ m. timers_of t (receipts now events (received_of delays stopped)) m) now) n)) e;
+        constants = constants_after t (receipts now events (received_of delays stopped));
+        becomes = ap (ticked (constants_after t (receipts now events (received_of delays stopped))) now (word_for words (due_asks (names_of (receipts now events (received_of delays stopped))) (λ m. timers_of t (receipts now events (received_of delays stopped)) m) now) n)) e;
       })))))
-      (λ (c : Contains stopped n × ((timers_of t (receipts now events (received_of delays stopped)) n).ask ≡ None)). inr (inl (c.0, ap (fired_ask t now (word_for words (due_asks (names_of (receipts now events (received_of delays stopped))) (λ m. timers_of t (receipts now events (received_of delays stopped)) m) now) n)) c.1)))
+      (λ (c : Contains stopped n × ((timers_of t (receipts now events (received_of delays stopped)) n).ask ≡ None)). inr (inl (c.0, ap (fired_ask (constants_after t (receipts now events (received_of delays stopped))) now (word_for words (due_asks (names_of (receipts now events (received_of delays stopped))) (λ m. timers_of t (receipts now events (received_of delays stopped)) m) now) n)) c.1)))
       (came now delays stopped)
   does (GiveUp now name asked) = gives_up now name asked
 
@@ -251,7 +257,7 @@ asked_no_ask t true now delay word s e = from (is_none s.answer && nat_le s.quie
 fires : {call : KeeperCall} {now : ℕ} {words : List ℕ} {stopped : List NameValue} (due : ℕ) → call ≡ GoOn now words stopped → due ≤ now → Fires due call
 fires {call} {now} {words} {stopped} due is le = record { now = now; words = words; stopped = stopped; is = is; due_by = le }
 
-module _ (far me : ℕ) (t : Tuning) (call : KeeperCall) (calls : List KeeperCall) (n : NameValue) (within : AreWithin far me (call ∷ calls)) where
+module _ (far me : ℕ) (bound t : Tuning) (call : KeeperCall) (calls : List KeeperCall) (n : NameValue) (within : AreWithin far bound me t (call ∷ calls)) where
   abbrev s_0 : Timers
   s_0 = timers_at me t calls n
 
@@ -262,26 +268,26 @@ module _ (far me : ℕ) (t : Tuning) (call : KeeperCall) (calls : List KeeperCal
   Brought = Brings n call × (s_1.ask ≡ None)
 
   abbrev Heard : Type 0
-  Heard = IsHeard me t n call s_0 s_1
+  Heard = IsHeard me n call s_0 s_1
 
   abbrev Missed : Type 0
-  Missed = Misses n call × IsMissed far t (moment_at (call ∷ [])) s_0 s_1
+  Missed = Misses n call × IsMissed far bound (moment_at (call ∷ [])) s_0 s_1
 
   abbrev Ticked : Type 0
-  Ticked = IsTicked t call s_0 s_1
+  Ticked = IsTicked call s_0 s_1
 
   by_case : {A : Type 0} → (s_1 ≡ s_0 → A) → (Brought → A) → (Heard → A) → (Missed → A) → (Ticked → A) → A
   by_case {A} same brought heard missed ticks =
       ⊎_elim same (λ (r : Brought ⊎ (Heard ⊎ (Missed ⊎ Ticked))).
       ⊎_elim brought (λ (q : Heard ⊎ (Missed ⊎ Ticked)).
       ⊎_elim heard (λ (p : Missed ⊎ Ticked).
-      ⊎_elim missed ticks p) q) r) (does far me t calls n within.1 call)
+      ⊎_elim missed ticks p) q) r) (does far me bound t calls n within.1 (within_now far bound t me calls within.3) call)
 
   pub answer_goes_on : (answer : AnswerTimer) → s_0.answer ≡ Some answer → (s_1.answer ≡ Some answer) ⊎ (Brings n call ⊎ Fires answer.due call)
   answer_goes_on answer is = by_case
       (λ e. inl (ap (λ (k : Timers). k.answer) e ∙ is))
       (λ b. inr (inl b.0))
-      (λ h. inl (ap (λ (k : Timers). k.answer) h.becomes ∙ asked_answer t h.by.held h.by.now h.delay h.by.word s_0 answer is))
+      (λ h. inl (ap (λ (k : Timers). k.answer) h.becomes ∙ asked_answer h.constants h.by.held h.by.now h.delay h.by.word s_0 answer is))
       (λ m. inl (m.1.answer ∙ is))
       (λ k. ⊎_elim
       (λ (e : fired_answer k.now (Some answer) ≡ Some answer). inl (ap (λ (r : Timers). r.answer) k.becomes ∙ ap (fired_answer k.now) is ∙ e))
@@ -295,17 +301,17 @@ module _ (far me : ℕ) (t : Tuning) (call : KeeperCall) (calls : List KeeperCal
       (λ h. inr (inr (inr h.by)))
       (λ m. inl (m.1.stays ask is))
       (λ k. ⊎_elim
-      (λ (e : fired_ask t k.now k.word (Some ask) ≡ Some ask). inl (ap (λ (r : Timers). r.ask) k.becomes ∙ ap (fired_ask t k.now k.word) is ∙ e))
+      (λ (e : fired_ask k.constants k.now k.word (Some ask) ≡ Some ask). inl (ap (λ (r : Timers). r.ask) k.becomes ∙ ap (fired_ask k.constants k.now k.word) is ∙ e))
       (λ (le : ask.due ≤ k.now). inr (inr (inl (fires ask.due k.is le))))
-      (ask_fires t k.now k.word ask))
+      (ask_fires k.constants k.now k.word ask))
 
   pub quiet_begins : (s_1.quiet ≡ s_0.quiet) ⊎ ((Brings n call ⊎ Answers me t calls n call) × (s_1.quiet ≤ moment_at (call ∷ calls) + 3 * far))
   quiet_begins =
-      let near = (near_within far me t (call ∷ calls) within n).quiet in
+      let near = (near_within far me bound t (call ∷ calls) within n).quiet in
       by_case
       (λ e. inl (ap (λ (k : Timers). k.quiet) e))
       (λ b. inr (inl b.0, near))
-      (λ h. inl (ap (λ (k : Timers). k.quiet) h.becomes ∙ asked_quiet t h.by.held h.by.now h.delay h.by.word s_0))
+      (λ h. inl (ap (λ (k : Timers). k.quiet) h.becomes ∙ asked_quiet h.constants h.by.held h.by.now h.delay h.by.word s_0))
       (λ m. inl m.1.quiet)
       (λ k. ⊎_elim
       (λ (e : quiet_after k.now s_0.quiet s_0.answer ≡ s_0.quiet). inl (ap (λ (r : Timers). r.quiet) k.becomes ∙ e))
@@ -315,30 +321,30 @@ module _ (far me : ℕ) (t : Tuning) (call : KeeperCall) (calls : List KeeperCal
   none_some : (o : Option AskTimer) (ask : AskTimer) → o ≡ None → o ≡ Some ask → ⊥
   none_some o ask e f = cc
 
-  pub ask_begins : (ask : AskTimer) → s_0.ask ≡ None → s_1.ask ≡ Some ask → Misses n call × (ask.due ≤ moment_at (call ∷ calls) + (t.c1 + t.c2) * far)
+  pub ask_begins : (ask : AskTimer) → s_0.ask ≡ None → s_1.ask ≡ Some ask → Misses n call × (ask.due ≤ moment_at (call ∷ calls) + (bound.c1 + bound.c2) * far)
   ask_begins ask none is = by_case
       (λ e. absurd (none_some s_1.ask ask (ap (λ (k : Timers). k.ask) e ∙ none) is))
       (λ b. absurd (none_some s_1.ask ask b.1 is))
-      (λ h. absurd (none_some s_1.ask ask (ap (λ (k : Timers). k.ask) h.becomes ∙ asked_no_ask t h.by.held h.by.now h.delay h.by.word s_0 none) is))
-      (λ m. (m.0, at_miss m.0 (subst (λ (o : Option AskTimer). IfSome o (λ (a : AskTimer). a.due ≤ moment_at (call ∷ []) + (t.c1 + t.c2) * far)) is (m.1.new none))))
-      (λ k. absurd (none_some s_1.ask ask (ap (λ (r : Timers). r.ask) k.becomes ∙ ap (fired_ask t k.now k.word) none) is)) where
-        at_miss : Misses n call → ask.due ≤ moment_at (call ∷ []) + (t.c1 + t.c2) * far → ask.due ≤ moment_at (call ∷ calls) + (t.c1 + t.c2) * far
-        at_miss m le = subst (λ (k : ℕ). ask.due ≤ k + (t.c1 + t.c2) * far) (ap (λ (c : KeeperCall). moment_at (c ∷ [])) m.is ∙ sym (ap (λ (c : KeeperCall). moment_at (c ∷ calls)) m.is)) le
+      (λ h. absurd (none_some s_1.ask ask (ap (λ (k : Timers). k.ask) h.becomes ∙ asked_no_ask h.constants h.by.held h.by.now h.delay h.by.word s_0 none) is))
+      (λ m. (m.0, at_miss m.0 (subst (λ (o : Option AskTimer). IfSome o (λ (a : AskTimer). a.due ≤ moment_at (call ∷ []) + (bound.c1 + bound.c2) * far)) is (m.1.new none))))
+      (λ k. absurd (none_some s_1.ask ask (ap (λ (r : Timers). r.ask) k.becomes ∙ ap (fired_ask k.constants k.now k.word) none) is)) where
+        at_miss : Misses n call → ask.due ≤ moment_at (call ∷ []) + (bound.c1 + bound.c2) * far → ask.due ≤ moment_at (call ∷ calls) + (bound.c1 + bound.c2) * far
+        at_miss m le = subst (λ (k : ℕ). ask.due ≤ k + (bound.c1 + bound.c2) * far) (ap (λ (c : KeeperCall). moment_at (c ∷ [])) m.is ∙ sym (ap (λ (c : KeeperCall). moment_at (c ∷ calls)) m.is)) le
 
 pub answers_go_on : AnswersGoOn
-answers_go_on far me t call calls n answer within is = answer_goes_on far me t call calls n within answer is
+answers_go_on far me bound t call calls n answer within is = answer_goes_on far me bound t call calls n within answer is
 
 pub requests_go_on : RequestsGoOn
-requests_go_on far me t call calls n ask within is = ask_goes_on far me t call calls n within ask is
+requests_go_on far me bound t call calls n ask within is = ask_goes_on far me bound t call calls n within ask is
 
 pub quiet_begins_so : QuietBegins
-quiet_begins_so far me t call calls n within = quiet_begins far me t call calls n within
+quiet_begins_so far me bound t call calls n within = quiet_begins far me bound t call calls n within
 
 pub requests_begin : RequestsBegin
-requests_begin far me t call calls n ask within none is = ask_begins far me t call calls n within ask none is
+requests_begin far me bound t call calls n ask within none is = ask_begins far me bound t call calls n within ask none is
 
 pub requests_are_heard : RequestsAreHeard
-requests_are_heard far me t calls now asker word n other within = subst Found (sym heard) (requests_are_taken t far n events now delay word (subst (AreSteady far) heard (steady_within far me (Hear now (Request asker n) word true ∷ calls) within).0)) where
+requests_are_heard far me bound t calls now asker word n other within = subst Found (sym heard) (requests_are_taken bound t far n events now delay word (subst (AreSteady far bound t) heard (steady_within far bound t me (Hear now (Request asker n) word true ∷ calls) within).0)) where
   events : List Event
   events = events_of me calls
 
@@ -346,7 +352,7 @@ requests_are_heard far me t calls now asker word n other within = subst Found (s
   delay = delay_to me calls asker
 
   Found : List Event → Type 0
-  Found newer = (now < (timers_of t events n).quiet) ⊎ ((answer : AnswerTimer) × ((timers_of t newer n).answer ≡ Some answer) × (answer.due ≤ now + (t.d1 + t.d2) * far))
+  Found newer = (now < (timers_of t events n).quiet) ⊎ ((answer : AnswerTimer) × ((timers_of t newer n).answer ≡ Some answer) × (answer.due ≤ now + (bound.d1 + bound.d2) * far))
 
   heard : events_of me (Hear now (Request asker n) word true ∷ calls) ≡ Asked n true now delay word ∷ events
   heard = ap (λ (b : Bool). cond b events (Asked n true now delay word ∷ events)) (is_false (nat_eq asker me) (λ e. other (eqb-true asker me e)))

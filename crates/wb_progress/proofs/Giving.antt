@@ -11,11 +11,11 @@ use Rattle.wb_recovery.specs.Timing.{is_answer_due}
 use Rattle.wb_recovery.specs.declared.timers.AskTimer.{AskTimer}
 use Rattle.wb_recovery.specs.declared.timers.AnswerTimer.{AnswerTimer}
 use Rattle.wb_host.specs.Ticks.{sent_by_tick}
-use Rattle.wb_host.specs.Keeper.{KeeperCall, SetDelay, Hear, Arrive, Miss, GoOn, Report, GiveUp, moment_at, events_of, holds}
+use Rattle.wb_host.specs.Keeper.{KeeperCall, SetDelay, SetConstants, Hear, Arrive, Miss, GoOn, Report, GiveUp, moment_at, events_of, holds}
 use Rattle.wb_progress.specs.Calls.{Brings, Fires, Answers}
 use Rattle.wb_progress.specs.Keepers.{AreWithin}
 use Rattle.wb_progress.specs.Repairs.{timers_at}
-use Rattle.wb_progress.specs.Turns.{Terms, settled_by, Turn, Places, desk_at, has, timers_there, time_of, AreInOrder, until, IsAnswerable, AllHoldBehind, Accepts, WasSent, KeepTime}
+use Rattle.wb_progress.specs.Turns.{longest, Terms, settled_by, Turn, Places, desk_at, has, timers_there, time_of, AreInOrder, until, IsAnswerable, AllHoldBehind, Accepts, WasSent, KeepTime}
 use Rattle.wb_progress.proofs.Calls.{quiet_begins}
 use Rattle.wb_progress.proofs.OneCall.{le_true, ticks_answer}
 use Rattle.wb_progress.proofs.Parts.{before_end, order_of, goes_on, joined}
@@ -125,7 +125,7 @@ module _ (places : Places) (terms : Terms) (turns : List Turn) (is : KeepTime pl
         gives = g.0;
         until = at_time _ _ _ _ _ (ap (q i n) c.calls) (ap moment_at c.calls) g.1 (is.are.clock newer (e ∷ older) i split live);
       }))
-      (quiet_begins terms.far (places.me i) (places.constants i) c.call calls n (subst (AreWithin terms.far (places.me i)) c.calls (is.are.within newer (e ∷ older) i split live)))
+      (quiet_begins terms.far (places.me i) (longest terms) (places.constants i) c.call calls n (subst (AreWithin terms.far (longest terms) (places.me i) (places.constants i)) c.calls (is.are.within newer (e ∷ older) i split live)))
 
   pub why_quiet : (newer part : List Turn) (i : ℕ) (n : NameValue) → turns ≡ newer ++ part → Live i → WhyQuiet i n part
   why_quiet newer [] i n split live = inl refl
@@ -193,6 +193,7 @@ module _ (places : Places) (terms : Terms) (turns : List Turn) (is : KeepTime pl
         absurd (none_some (timers_there places older e.place n).ask (is.are.lacking (newer ++ e ∷ []) older e.place n (split ∙ sym (append_assoc newer (e ∷ []) older)) live' both.1) asks.1)
     by (GiveUp now name asked) accepts named = absurd ((is.quiet newer older e split quiet).goes_on now name asked accepts)
     by (SetDelay source micros) accepts named = absurd named
+    by (SetConstants constants) accepts named = absurd named
     by (Hear now v word held) accepts named = absurd named
     by (Miss now names words) accepts named = absurd named
     by (Report now) accepts named = absurd named

@@ -12,7 +12,7 @@ use Rattle.wb_progress.specs.Calls.{Brings, Fires, Requests}
 use Rattle.wb_progress.specs.InTime.{answering_by, repairing, known_from, TimerLeads}
 use Rattle.wb_progress.specs.Keepers.{AreWithin}
 use Rattle.wb_progress.specs.Repairs.{timers_at}
-use Rattle.wb_progress.specs.Turns.{Terms, settled_by, Turn, Places, desk_at, has, timers_there, time_of, AreInOrder, IsAnswerable, AllHoldBehind, WasSent, KeepTime}
+use Rattle.wb_progress.specs.Turns.{longest, Terms, settled_by, Turn, Places, desk_at, has, timers_there, time_of, AreInOrder, IsAnswerable, AllHoldBehind, WasSent, KeepTime}
 use Rattle.wb_progress.proofs.Answering.{sooner, request_is_answered}
 use Rattle.wb_progress.proofs.Calls.{ask_goes_on}
 use Rattle.wb_progress.proofs.Giving.{Called, changes, brought, copy_comes}
@@ -80,14 +80,14 @@ module _ (places : Places) (terms : Terms) (turns : List Turn) (is : KeepTime pl
         ⊎_elim
         (λ (same : (desk_at (e ∷ older) i).calls ≡ (desk_at older i).calls). inl (ap (λ (calls : List KeeperCall). (timers_at (places.me i) (places.constants i) calls n).ask) same ∙ stands, le))
         (λ (c : Called places terms turns is older e i).
-        let within = subst (AreWithin terms.far (places.me i)) c.calls (is.are.within newer (e ∷ older) i split live) in
+        let within = subst (AreWithin terms.far (longest terms) (places.me i) (places.constants i)) c.calls (is.are.within newer (e ∷ older) i split live) in
         ⊎_elim
         (λ (s : (timers_at (places.me i) (places.constants i) (c.call ∷ (desk_at older i).calls) n).ask ≡ Some ask). inl (ap (λ (calls : List KeeperCall). (timers_at (places.me i) (places.constants i) calls n).ask) c.calls ∙ s, le))
         (λ (g : Brings n c.call ⊎ (Fires ask.due c.call ⊎ Requests (places.me i) n c.call)). inr (⊎_elim
         (λ (b : Brings n c.call). came le c b)
         (λ (k : Fires ask.due c.call ⊎ Requests (places.me i) n c.call). ⊎_elim (λ (f : Fires ask.due c.call). fired le c f) (λ (r : Requests (places.me i) n c.call). heard le c r) k)
         g))
-        (ask_goes_on terms.far (places.me i) (places.constants i) c.call (desk_at older i).calls n within ask stands))
+        (ask_goes_on terms.far (places.me i) (longest terms) (places.constants i) c.call (desk_at older i).calls n within ask stands))
         (changes places terms turns is newer older e i split live)
 
   ends : (front middle base : List Turn) → turns ≡ front ++ (middle ++ base) → AreFrom (known_from terms) middle → (timers_there places base i n).ask ≡ Some ask → time_of base ≤ limit → Ends (middle ++ base)

@@ -12,7 +12,7 @@ use Rattle.wb_names.proofs.Listings.{Contains-here, Contains-there, Contains-cas
 use Rattle.wb_codec.specs.declared.datagram.Datagram.{Datagram}
 use Rattle.wb_codec.specs.declared.datagram.Datagram.TheVariants.{Draw, Request}
 use Rattle.wb_recovery.specs.Timing.{new_ask, new_answer, fired_ask, fired_answer, quiet_after, noticed, asked, ticked, is_standing, is_ask_due, is_answer_due}
-use Rattle.wb_recovery.specs.Events.{Event, Asked, names_of, timers_of, asking, due_asks, due_answers, actions_of, word_for}
+use Rattle.wb_recovery.specs.Events.{Event, Asked, names_of, constants_after, timers_of, asking, due_asks, due_answers, actions_of, word_for}
 use Rattle.wb_recovery.specs.Stopping.{receipts, is_received, got_each}
 use Rattle.wb_recovery.specs.declared.plan.Action.TheVariants.{Ask, Answer}
 use Rattle.wb_recovery.specs.declared.missed.Received.{Received}
@@ -28,6 +28,7 @@ use Rattle.wb_host.specs.Ticks.{sent_for, sent_by_tick, stopped_after}
 use Rattle.wb_host.proofs.FoundDrawops.{found_member}
 use Rattle.wb_host.proofs.KeptCalls.{same_here}
 use Rattle.wb_host.proofs.TickSends.{sent_by}
+use Rattle.wb_progress.specs.Keepers.{constants_at}
 use Rattle.wb_progress.specs.Repairs.{timers_at, gone_on, IsIdle, TicksAsk, TicksAnswer, TicksClear, TicksEnd, TicksLeave, RequestsSet, MissesStand, GivenUpIsIdle}
 
 pub le_true : (a b : ℕ) → a ≤ b → nat_le a b ≡ true
@@ -85,14 +86,18 @@ module _ (me : ℕ) (t : Tuning) (calls : List KeeperCall) (history : List Drawo
   abbrev after : List Event
   after = receipts now events received
 
+  -- the constants of the tick
+  abbrev c : Tuning
+  c = constants_after t after
+
   then : timers_of t after n ≡ got_each now n s received
   then = timers_receipts t now events received n
 
   -- a name is stopped just if it is held and has a request timer
   stopped_only : is_received received n ≡ true → (holds history n ≡ true) × (is_some s.ask ≡ true)
   stopped_only e =
-      let c = Contains-from_filter (holds history) (asking (names_of events) (timers_of t events)) n (received_from (delay_to me calls) stopped n e) in
-      (c.1, ((listed_of (λ (r : Timers). is_some r.ask) refl t events).members n).0 c.0)
+      let among = Contains-from_filter (holds history) (asking (names_of events) (timers_of t events)) n (received_from (delay_to me calls) stopped n e) in
+      (among.1, ((listed_of (λ (r : Timers). is_some r.ask) refl t events).members n).0 among.0)
 
   stopped_if : holds history n ≡ true → is_some s.ask ≡ true → is_received received n ≡ true
   stopped_if h a = received_in (delay_to me calls) stopped n (Contains-filter (holds history) (asking (names_of events) (timers_of t events)) n (((listed_of (λ (r : Timers). is_some r.ask) refl t events).members n).1 a) h)
@@ -105,24 +110,24 @@ module _ (me : ℕ) (t : Tuning) (calls : List KeeperCall) (history : List Drawo
 
   asks : is_ask_due now s.ask ≡ true → holds history n ≡ false → Contains (sent_by_tick me t calls history now) (Request me n)
   asks due h =
-      let c = ((listed_of (λ (r : Timers). is_ask_due now r.ask) refl t after).members n).1 (ap (λ (r : Timers). is_ask_due now r.ask) (not_held h) ∙ due) in
+      let listed = ((listed_of (λ (r : Timers). is_ask_due now r.ask) refl t after).members n).1 (ap (λ (r : Timers). is_ask_due now r.ask) (not_held h) ∙ due) in
       sent_by (sent_for me history) (actions_of t after now) (Ask n) (Request me n)
       (Contains-append_left (map Ask (due_asks (names_of after) (timers_of t after) now)) (map Answer (due_answers (names_of after) (timers_of t after) now)) (Ask n)
-      (Contains-map Ask (due_asks (names_of after) (timers_of t after) now) (Ask n) (c.0, n, c.1, c.2, refl)))
+      (Contains-map Ask (due_asks (names_of after) (timers_of t after) now) (Ask n) (listed.0, n, listed.1, listed.2, refl)))
       refl
 
   answers : (d : DrawopValue) → d.name ≡ n → IsHistory history → Contains history d → s.ask ≡ None → is_answer_due now s.answer ≡ true → Contains (sent_by_tick me t calls history now) (Draw d)
   answers d is names held e due =
-      let c = ((listed_of (λ (r : Timers). is_answer_due now r.answer) refl t after).members n).1 (ap (λ (r : Timers). is_answer_due now r.answer) (not_asked e) ∙ due) in
+      let listed = ((listed_of (λ (r : Timers). is_answer_due now r.answer) refl t after).members n).1 (ap (λ (r : Timers). is_answer_due now r.answer) (not_asked e) ∙ due) in
       sent_by (sent_for me history) (actions_of t after now) (Answer n) (Draw d)
       (Contains-append_right (map Ask (due_asks (names_of after) (timers_of t after) now)) (map Answer (due_answers (names_of after) (timers_of t after) now)) (Answer n)
-      (Contains-map Answer (due_answers (names_of after) (timers_of t after) now) (Answer n) (c.0, n, c.1, c.2, refl)))
+      (Contains-map Answer (due_answers (names_of after) (timers_of t after) now) (Answer n) (listed.0, n, listed.1, listed.2, refl)))
       (ap (option_map {T = DrawopValue} {U = Datagram} Draw) (found_member history n d names held is))
 
   -- what has no timers does not fire
-  idle_ticks : (word : ℕ) (r : Timers) → IsIdle r → ticked t now word r ≡ r
+  idle_ticks : (word : ℕ) (r : Timers) → IsIdle r → ticked c now word r ≡ r
   idle_ticks word r idle =
-      ap (λ (o : Option AskTimer). record (ticked t now word r) { ask = fired_ask t now word o }) idle.ask
+      ap (λ (o : Option AskTimer). record (ticked c now word r) { ask = fired_ask c now word o }) idle.ask
       ∙ ap (λ (o : Option AnswerTimer). record { ask = None; answer = fired_answer now o; quiet = quiet_after now r.quiet o }) idle.answer
       ∙ ap (λ (o : Option AnswerTimer). record { ask = None; answer = o; quiet = r.quiet }) (sym idle.answer)
       ∙ ap (λ (o : Option AskTimer). record r { ask = o }) (sym idle.ask)
@@ -136,15 +141,15 @@ module _ (me : ℕ) (t : Tuning) (calls : List KeeperCall) (history : List Drawo
     word = word_for words (due_asks (names_of after) (λ m. timers_of t after m) now) n
 
     clears : holds history n ≡ true → IfSome s.answer (λ answer. answer.due ≤ now) → IsIdle (timers_at me t (gone_on me t calls history now words) n)
-    clears h due = subst (λ (r : Timers). IsIdle (ticked t now word r)) (sym then) (from (is_received received n) refl) where
-      from : (b : Bool) → is_received received n ≡ b → IsIdle (ticked t now word (got_each now n s received))
+    clears h due = subst (λ (r : Timers). IsIdle (ticked c now word r)) (sym then) (from (is_received received n) refl) where
+      from : (b : Bool) → is_received received n ≡ b → IsIdle (ticked c now word (got_each now n s received))
       from true e =
           let idle = not_standing (got_each now n s received) (received_stops now n s received e) in
           subst IsIdle (sym (idle_ticks word (got_each now n s received) idle)) idle
       from false e =
           let none = no_ask s.ask (λ a. true≢false (sym (stopped_if h a) ∙ e)) in
-          subst (λ (r : Timers). IsIdle (ticked t now word r)) (sym (not_received now n s received e)) (record {
-            ask = ap (fired_ask t now word) none;
+          subst (λ (r : Timers). IsIdle (ticked c now word r)) (sym (not_received now n s received e)) (record {
+            ask = ap (fired_ask c now word) none;
             answer = due_ends s.answer due;
           })
 
@@ -155,7 +160,7 @@ module _ (me : ℕ) (t : Tuning) (calls : List KeeperCall) (history : List Drawo
       from false e = ap (λ (r : Timers). fired_answer now r.answer) (not_received now n s received e) ∙ due_ends s.answer due
 
     leaves : IsIdle s → timers_at me t (gone_on me t calls history now words) n ≡ s
-    leaves idle = ap (ticked t now word) (not_asked idle.ask) ∙ idle_ticks word s idle
+    leaves idle = ap (ticked c now word) (not_asked idle.ask) ∙ idle_ticks word s idle
 
 pub ticks_ask : TicksAsk
 ticks_ask me t calls history now n due h = asks me t calls history now n due h
@@ -182,18 +187,18 @@ module _ (me : ℕ) (t : Tuning) (calls : List KeeperCall) (now asker word : ℕ
   delay = delay_to me calls asker
 
   abbrev set : Timers
-  set = record { ask = None; answer = Some (new_answer t now delay word); quiet = before.quiet }
+  set = record { ask = None; answer = Some (new_answer (constants_at me t calls) now delay word); quiet = before.quiet }
 
-  sets_here : asked t true now delay word before ≡ set
-  sets_here = ap (λ (o : Option AnswerTimer). cond (is_none o && nat_le before.quiet now) (record before { answer = Some (new_answer t now delay word) }) before) idle.answer
-      ∙ ap (λ (b : Bool). cond b (record before { answer = Some (new_answer t now delay word) }) before) (le_true before.quiet now quiet)
+  sets_here : asked (constants_at me t calls) true now delay word before ≡ set
+  sets_here = ap (λ (o : Option AnswerTimer). cond (is_none o && nat_le before.quiet now) (record before { answer = Some (new_answer (constants_at me t calls) now delay word) }) before) idle.answer
+      ∙ ap (λ (b : Bool). cond b (record before { answer = Some (new_answer (constants_at me t calls) now delay word) }) before) (le_true before.quiet now quiet)
       ∙ ap (λ (o : Option AskTimer). record set { ask = o }) idle.ask
 
   sets : (asker ≡ me → ⊥) → timers_of t (cond (nat_eq asker me) (events_of me calls) (Asked n true now delay word ∷ events_of me calls)) n ≡ set
   sets other = from (nat_eq asker me) refl where
     from : (b : Bool) → nat_eq asker me ≡ b → timers_of t (cond b (events_of me calls) (Asked n true now delay word ∷ events_of me calls)) n ≡ set
     from true e = absurd (other (eqb-true asker me e))
-    from false e = ap (λ (b : Bool). cond b (asked t true now delay word before) before) (same_here n n refl) ∙ sets_here
+    from false e = ap (λ (b : Bool). cond b (asked (constants_at me t calls) true now delay word before) before) (same_here n n refl) ∙ sets_here
 
 pub requests_set : RequestsSet
 requests_set me t calls now asker word n other idle quiet = sets me t calls now asker word n idle quiet other
@@ -208,7 +213,7 @@ pub misses_stand : MissesStand
 misses_stand me t calls now word n =
     let s = timers_at me t calls n in
     let delay = delay_to me calls n.source in
-    ap (λ (b : Bool). is_some (cond b (noticed t now delay word s) s).ask) (same_here n n refl) ∙ stands t now delay word s
+    ap (λ (b : Bool). is_some (cond b (noticed (constants_at me t calls) now delay word s) s).ask) (same_here n n refl) ∙ stands (constants_at me t calls) now delay word s
 
 -- ---- a name that is given up
 
@@ -223,9 +228,9 @@ given_up_is_idle me t calls now n none = from (is_asked (timers_of t (events_of 
   from false e = record { ask = no_ask (timers_of t (events_of me calls) n).ask (λ f. true≢false (sym f ∙ e)); answer = none }
 
 -- a miss sets the timer where none stands
-pub sets_anew : (me : ℕ) (t : Tuning) (calls : List KeeperCall) (now word : ℕ) (n : NameValue) → (timers_at me t calls n).ask ≡ None → (timers_at me t (Miss now (n ∷ []) (word ∷ []) ∷ calls) n).ask ≡ Some (new_ask t now (delay_to me calls n.source) word)
+pub sets_anew : (me : ℕ) (t : Tuning) (calls : List KeeperCall) (now word : ℕ) (n : NameValue) → (timers_at me t calls n).ask ≡ None → (timers_at me t (Miss now (n ∷ []) (word ∷ []) ∷ calls) n).ask ≡ Some (new_ask (constants_at me t calls) now (delay_to me calls n.source) word)
 sets_anew me t calls now word n none =
     let s = timers_at me t calls n in
     let delay = delay_to me calls n.source in
-    ap (λ (b : Bool). (cond b (noticed t now delay word s) s).ask) (same_here n n refl)
-    ∙ ap (λ (o : Option AskTimer). (cond (is_none o) (record s { ask = Some (new_ask t now delay word) }) s).ask) none
+    ap (λ (b : Bool). (cond b (noticed (constants_at me t calls) now delay word s) s).ask) (same_here n n refl)
+    ∙ ap (λ (o : Option AskTimer). (cond (is_none o) (record s { ask = Some (new_ask (constants_at me t calls) now delay word) }) s).ask) none

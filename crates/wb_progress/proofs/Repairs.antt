@@ -15,10 +15,10 @@ use Rattle.wb_host.specs.Keeper.{KeeperCall, Hear, Miss, moment_at, delay_to, ho
 use Rattle.wb_host.specs.Ticks.{sent_by_tick}
 use Rattle.wb_host.proofs.KeptCalls.{holds_from}
 use Rattle.wb_progress.specs.Bounds.{IsAskNear, IsAnswerNear}
-use Rattle.wb_progress.specs.Keepers.{farthest, AreOrderly}
+use Rattle.wb_progress.specs.Keepers.{farthest, greatest_constants, constants_at, AreOrderly}
 use Rattle.wb_progress.specs.Repairs.{timers_at, gone_on, gave_up, IsIdle, first_wait, asking_wait, answering_wait, quiet_wait, AskerAsks, AskedAnewIsSoon, AnswersAreSoon, HolderAnswers}
 use Rattle.wb_progress.proofs.TimerBounds.{expiry_within}
-use Rattle.wb_progress.proofs.KeeperBounds.{delays_fit, keepers_are_bounded}
+use Rattle.wb_progress.proofs.KeeperBounds.{delays_fit, in_range, keepers_are_bounded}
 use Rattle.wb_progress.proofs.OneCall.{le_true, ticks_ask, ticks_answer, ticks_clear, ticks_leave, requests_set, given_up_is_idle, sets_anew}
 
 record AreSmall (t : Tuning) : Type 0 where
@@ -37,6 +37,9 @@ small t e =
     let c = and_both (is_constant t.c1) (is_constant t.c2) b.0 in
     record { c1 = most t.c1 c.0; c2 = most t.c2 c.1; d1 = most t.d1 b.1; d2 = most t.d2 a.1 }
 
+itself : (k : ℕ) → k ≤ k
+itself k = omega arith
+
 asking_bound : (level c delay : ℕ) → level ≤ 16 → c ≤ 32 → delay ≤ farthest → 2 ^ level * c * delay ≤ 2 ^ 45
 asking_bound level c delay l x d =
     let two : 0 < 2 = omega arith in
@@ -52,15 +55,11 @@ answering_bound c delay x d =
 
 pub asker_asks : AskerAsks
 asker_asks me t calls history n constants orderly h stands =
-    ticks_ask me t calls history (moment_at calls + asking_wait) n (from (timers_at me t calls n).ask (keepers_are_bounded me t calls orderly n).ask stands) h where
-      from : (o : Option AskTimer) → IfSome o (IsAskNear t farthest (moment_at calls)) → is_some o ≡ true → is_ask_due (moment_at calls + asking_wait) o ≡ true
+    ticks_ask me t calls history (moment_at calls + asking_wait) n (from (timers_at me t calls n).ask (keepers_are_bounded me t calls constants orderly n).ask stands) h where
+      from : (o : Option AskTimer) → IfSome o (IsAskNear greatest_constants farthest (moment_at calls)) → is_some o ≡ true → is_ask_due (moment_at calls + asking_wait) o ≡ true
       from None near e = absurd (true≢false (sym e))
       from (Some a) near e =
-          let s = small t constants in
-          let c1 = s.c1 in
-          let c2 = s.c2 in
-          let sum : t.c1 + t.c2 ≤ 32 = omega arith in
-          let b = asking_bound a.level (t.c1 + t.c2) a.delay near.level sum near.delay in
+          let b = asking_bound a.level 32 a.delay near.level (itself 32) near.delay in
           let due = near.due in
           le_true a.due (moment_at calls + asking_wait) (omega (arith, b, due))
 
@@ -72,26 +71,24 @@ asked_anew_is_soon me t calls history n word constants orderly lost none =
     let now = moment_at calls in
     let stopped = gave_up me t calls now n in
     let delay = delay_to me stopped n.source in
-    let s = small t constants in
+    let now_used = constants_at me t stopped in
+    let s = small now_used (in_range me t stopped constants (itself now, tt, orderly)) in
     let c1 = s.c1 in
     let c2 = s.c2 in
-    let sum : t.c1 + t.c2 ≤ 32 = omega arith in
-    let timer = new_ask t now delay word in
+    let sum : now_used.c1 + now_used.c2 ≤ 32 = omega arith in
+    let timer = new_ask now_used now delay word in
     let set : (timers_at me t (Miss now (n ∷ []) (word ∷ []) ∷ stopped) n).ask ≡ Some timer = sets_anew me t stopped now word n (given_up_is_idle me t calls now n none).ask in
-    let e = expiry_within now 0 t.c1 t.c2 delay word in
-    let b = answering_bound (t.c1 + t.c2) delay sum (delays_fit me stopped (itself now, tt, orderly) n.source) in
+    let e = expiry_within now 0 now_used.c1 now_used.c2 delay word in
+    let b = answering_bound (now_used.c1 + now_used.c2) delay sum (delays_fit me stopped (itself now, tt, orderly) n.source) in
     let due : timer.due ≤ now + first_wait = omega (arith, e, b) in
     ticks_ask me t (Miss now (n ∷ []) (word ∷ []) ∷ stopped) history (now + first_wait) n (ap (is_ask_due (now + first_wait)) set ∙ le_true timer.due (now + first_wait) due) lost
-  where
-    itself : (k : ℕ) → k ≤ k
-    itself k = omega arith
 
 pub answers_are_soon : AnswersAreSoon
-answers_are_soon me t calls n constants orderly = from (timers_at me t calls n).answer (keepers_are_bounded me t calls orderly n).answer where
-  from : (o : Option AnswerTimer) → IfSome o (IsAnswerNear t farthest (moment_at calls)) → IfSome o (λ answer. answer.due ≤ moment_at calls + answering_wait)
+answers_are_soon me t calls n constants orderly = from (timers_at me t calls n).answer (keepers_are_bounded me t calls constants orderly n).answer where
+  from : (o : Option AnswerTimer) → IfSome o (IsAnswerNear greatest_constants farthest (moment_at calls)) → IfSome o (λ answer. answer.due ≤ moment_at calls + answering_wait)
   from None near = tt
   from (Some a) near =
-      let b = answering_bound (t.d1 + t.d2) a.delay (few t constants) near.delay in
+      let b = answering_bound 32 a.delay (itself 32) near.delay in
       let due = near.due in
       omega (arith, b, due)
 
@@ -134,19 +131,20 @@ module _ (me : ℕ) (t : Tuning) (calls : List KeeperCall) (history : List Drawo
 
   is_quiet : (timers_at me t quiet d.name).quiet ≤ second
   is_quiet =
-      let le = (keepers_are_bounded me t cleared cleared_orderly d.name).quiet in
+      let le = (keepers_are_bounded me t cleared constants cleared_orderly d.name).quiet in
       let e : (timers_at me t quiet d.name).quiet ≡ (timers_at me t cleared d.name).quiet = ap (λ (s : Timers). s.quiet) same in
       omega (arith, le, e)
 
-  set : timers_at me t heard d.name ≡ record { ask = None; answer = Some (new_answer t second (delay_to me quiet asker) word); quiet = (timers_at me t quiet d.name).quiet }
+  set : timers_at me t heard d.name ≡ record { ask = None; answer = Some (new_answer (constants_at me t quiet) second (delay_to me quiet asker) word); quiet = (timers_at me t quiet d.name).quiet }
   set = requests_set me t quiet second asker word d.name other idle is_quiet
 
   due : is_answer_due third (timers_at me t heard d.name).answer ≡ true
   due =
-      let e = expiry_within second 0 t.d1 t.d2 (delay_to me quiet asker) word in
-      let b = answering_bound (t.d1 + t.d2) (delay_to me quiet asker) (few t constants) (delays_fit me quiet quiet_orderly asker) in
-      let le : (new_answer t second (delay_to me quiet asker) word).due ≤ third = omega (arith, e, b) in
-      ap (λ (s : Timers). is_answer_due third s.answer) set ∙ le_true (new_answer t second (delay_to me quiet asker) word).due third le
+      let used = constants_at me t quiet in
+      let e = expiry_within second 0 used.d1 used.d2 (delay_to me quiet asker) word in
+      let b = answering_bound (used.d1 + used.d2) (delay_to me quiet asker) (few used (in_range me t quiet constants quiet_orderly)) (delays_fit me quiet quiet_orderly asker) in
+      let le : (new_answer (constants_at me t quiet) second (delay_to me quiet asker) word).due ≤ third = omega (arith, e, b) in
+      ap (λ (s : Timers). is_answer_due third s.answer) set ∙ le_true (new_answer (constants_at me t quiet) second (delay_to me quiet asker) word).due third le
 
   pub answers : Contains (sent_by_tick me t heard history third) (Draw d)
   answers = ticks_answer me t heard history third d names held (ap (λ (s : Timers). s.ask) set) due

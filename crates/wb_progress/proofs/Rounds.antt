@@ -6,7 +6,7 @@ use Rattle.std.proofs.lemmas.Nat.{div-add-mod', mod_below}
 use Rattle.wb_names.specs.Values.{NameValue}
 use Rattle.wb_names.specs.Orders.{same_name}
 use Rattle.wb_names.proofs.Listings.{Contains-here, Contains-there, Contains-cases, Contains-none}
-use Rattle.wb_recovery.specs.Events.{Event, Notice, asking, names_of, timers_of}
+use Rattle.wb_recovery.specs.Events.{Event, Notice, asking, names_of, constants_after, timers_of}
 use Rattle.wb_recovery.specs.Noticing.{notices}
 use Rattle.wb_recovery.specs.Timing.{new_ask, noticed}
 use Rattle.wb_recovery.specs.declared.tuning.Tuning.{Tuning}
@@ -41,15 +41,15 @@ missed_stand t now delays n (m ∷ names) (w ∷ words) events same h = missed_s
   s = timers_of t events n
 
   set : Timers
-  set = noticed t now (delays m.source) w s
+  set = noticed (constants_after t events) now (delays m.source) w s
 
   after : m ≡ n → is_some (cond (same_name m n) set s).ask ≡ true
-  after e = ap (λ (b : Bool). is_some (cond b set s).ask) (same_here m n e) ∙ noticed_stands t now (delays m.source) w s
+  after e = ap (λ (b : Bool). is_some (cond b set s).ask) (same_here m n e) ∙ noticed_stands (constants_after t events) now (delays m.source) w s
 
   still : is_some s.ask ≡ true → is_some (cond (same_name m n) set s).ask ≡ true
   still stands = from (same_name m n) where
     from : (b : Bool) → is_some (cond b set s).ask ≡ true
-    from true = noticed_stands t now (delays m.source) w s
+    from true = noticed_stands (constants_after t events) now (delays m.source) w s
     from false = stands
 
   next : Contains names n ⊎ (is_some (cond (same_name m n) set s).ask ≡ true)

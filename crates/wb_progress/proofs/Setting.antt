@@ -10,7 +10,7 @@ use Rattle.wb_progress.specs.Calls.{Misses}
 use Rattle.wb_progress.specs.InTime.{answering_by, repairing, known_from, WaitsAtMost, RoundsEnd}
 use Rattle.wb_progress.specs.Keepers.{AreWithin}
 use Rattle.wb_progress.specs.Repairs.{timers_at}
-use Rattle.wb_progress.specs.Turns.{Terms, Turn, Places, desk_at, timers_there, time_of, AreInOrder, until, IsAnswerable, AllHoldBehind, KeepTime}
+use Rattle.wb_progress.specs.Turns.{longest, Terms, Turn, Places, desk_at, timers_there, time_of, AreInOrder, until, IsAnswerable, AllHoldBehind, KeepTime}
 use Rattle.wb_progress.proofs.Answering.{sooner}
 use Rattle.wb_progress.proofs.Calls.{ask_begins}
 use Rattle.wb_progress.proofs.Giving.{Called, changes}
@@ -45,9 +45,9 @@ module _ (places : Places) (terms : Terms) (turns : List Turn) (is : KeepTime pl
   sets newer older e ask split none stands = ⊎_elim
       (λ (same : (desk_at (e ∷ older) i).calls ≡ (desk_at older i).calls). absurd (none_some (timers_there places (e ∷ older) i n).ask ask (ap asks same ∙ none) stands))
       (λ (c : Called places terms turns is older e i).
-      let within = subst (AreWithin terms.far (places.me i)) c.calls (is.are.within newer (e ∷ older) i split live) in
-      let b = ask_begins terms.far (places.me i) (places.constants i) c.call (desk_at older i).calls n within ask none (sym (ap asks c.calls) ∙ stands) in
-      let wait : ((places.constants i).c1 + (places.constants i).c2) * terms.far ≤ terms.asking * terms.far = mul-le-mul_right terms.far (is.are.waits i).0 in
+      let within = subst (AreWithin terms.far (longest terms) (places.me i) (places.constants i)) c.calls (is.are.within newer (e ∷ older) i split live) in
+      let b = ask_begins terms.far (places.me i) (longest terms) (places.constants i) c.call (desk_at older i).calls n within ask none (sym (ap asks c.calls) ∙ stands) in
+      let wait : ((longest terms).c1 + (longest terms).c2) * terms.far ≤ terms.asking * terms.far = mul-le-mul_right terms.far (omega arith) in
       let due = b.1 in
       let clock = is.are.clock newer (e ∷ older) i split live in
       let moment : moment_at (desk_at (e ∷ older) i).calls ≡ moment_at (c.call ∷ (desk_at older i).calls) = ap moment_at c.calls in

@@ -6,7 +6,7 @@ use Rattle.std.proofs.lemmas.Bool.Decides.{nat_tests}
 use Rattle.wb_names.specs.Values.{NameValue}
 use Rattle.wb_names.specs.Orders.{same_name}
 use Rattle.wb_recovery.specs.Timing.{asked, new_answer, is_answer_due}
-use Rattle.wb_recovery.specs.Events.{Event, Notice, Asked, Got, Tick, timers_of}
+use Rattle.wb_recovery.specs.Events.{Event, Notice, Asked, Got, Tick, Tune, constants_after, timers_of}
 use Rattle.wb_recovery.specs.Laws.{arrives, sets_ask, backs_off, sets_answer, ends_answer, quiets}
 use Rattle.wb_recovery.specs.declared.tuning.Tuning.{Tuning}
 use Rattle.wb_recovery.specs.declared.timers.AskTimer.{AskTimer}
@@ -36,6 +36,7 @@ no_set_answer t n (Asked name true now delay word) events answer is = ap (λ (o 
   none false = refl
 no_set_answer t n (Got name now delay) events answer is = refl
 no_set_answer t n (Tick now words) events answer is = refl
+no_set_answer t n (Tune constants) events answer is = refl
 
 no_set_ask : (t : Tuning) (n : NameValue) (e : Event) (events : List Event) (ask : AskTimer) → (timers_of t events n).ask ≡ Some ask → sets_ask t n e events ≡ false
 no_set_ask t n (Notice name now delay word) events ask is = ap (λ (o : Option AskTimer). same_name name n && is_none o) is ∙ none (same_name name n) where
@@ -45,6 +46,7 @@ no_set_ask t n (Notice name now delay word) events ask is = ap (λ (o : Option A
 no_set_ask t n (Asked name held now delay word) events ask is = refl
 no_set_ask t n (Got name now delay) events ask is = refl
 no_set_ask t n (Tick now words) events ask is = refl
+no_set_ask t n (Tune constants) events ask is = refl
 
 pub answers_are_kept : AnswersAreKept
 answers_are_kept t n [] older answer is = inl is
@@ -75,12 +77,12 @@ same_cause : (t : Tuning) (far : ℕ) (n : NameValue) (newer older : List Event)
 same_cause t far n newer older a b e h = subst (λ (q : ℕ). Did (IsCause t far n q) newer older) e h
 
 pub quiet_has_cause : QuietHasCause
-quiet_has_cause t far n [] older steady = inl refl
-quiet_has_cause t far n (e ∷ newer) older steady = from (quiets t n e (newer ++ older)) refl (quiet_has_cause t far n newer older steady.2) where
+quiet_has_cause bound t far n [] older steady = inl refl
+quiet_has_cause bound t far n (e ∷ newer) older steady = from (quiets t n e (newer ++ older)) refl (quiet_has_cause bound t far n newer older steady.3) where
   from : (b : Bool) → quiets t n e (newer ++ older) ≡ b
       → ((timers_of t (newer ++ older) n).quiet ≡ (timers_of t older n).quiet) ⊎ Did (IsCause t far n (timers_of t (newer ++ older) n).quiet) newer older
       → ((timers_of t (e ∷ (newer ++ older)) n).quiet ≡ (timers_of t older n).quiet) ⊎ Did (IsCause t far n (timers_of t (e ∷ (newer ++ older)) n).quiet) (e ∷ newer) older
-  from true f rest = inr (newest (IsCause t far n (timers_of t (e ∷ (newer ++ older)) n).quiet) e newer older (record { quiets_it = f; until = (timers_are_bounded t far (e ∷ (newer ++ older)) steady n).quiet }))
+  from true f rest = inr (newest (IsCause t far n (timers_of t (e ∷ (newer ++ older)) n).quiet) e newer older (record { quiets_it = f; until = (timers_are_bounded bound t far (e ∷ (newer ++ older)) steady n).quiet }))
   from false f rest =
       let same = quiet_stays_left t e (newer ++ older) n f in
       ⊎_elim
@@ -108,11 +110,11 @@ waits : (now due c delay far : ℕ) → due ≤ now + c * delay → delay ≤ fa
 waits now due c delay far le near = let m = mul-le-mul_left c near in omega (arith, le, m)
 
 pub requests_are_taken : RequestsAreTaken
-requests_are_taken t far n events now delay word steady = from (timers_of t (Asked n true now delay word ∷ events) n).answer refl (timers_are_bounded t far (Asked n true now delay word ∷ events) steady n).answer where
-  from : (o : Option AnswerTimer) → (timers_of t (Asked n true now delay word ∷ events) n).answer ≡ o → IfSome o (IsAnswerNear t far now)
-      → (now < (timers_of t events n).quiet) ⊎ ((answer : AnswerTimer) × ((timers_of t (Asked n true now delay word ∷ events) n).answer ≡ Some answer) × (answer.due ≤ now + (t.d1 + t.d2) * far))
-  from (Some a) e near = inr (a, e, waits now a.due (t.d1 + t.d2) a.delay far near.due near.delay)
-  from None e near = inl (is_quiet t now delay word (timers_of t events n) (sym (ap (λ (b : Bool). (cond b (asked t true now delay word (timers_of t events n)) (timers_of t events n)).answer) (same_here n n refl)) ∙ e))
+requests_are_taken bound t far n events now delay word steady = from (timers_of t (Asked n true now delay word ∷ events) n).answer refl (timers_are_bounded bound t far (Asked n true now delay word ∷ events) steady n).answer where
+  from : (o : Option AnswerTimer) → (timers_of t (Asked n true now delay word ∷ events) n).answer ≡ o → IfSome o (IsAnswerNear bound far now)
+      → (now < (timers_of t events n).quiet) ⊎ ((answer : AnswerTimer) × ((timers_of t (Asked n true now delay word ∷ events) n).answer ≡ Some answer) × (answer.due ≤ now + (bound.d1 + bound.d2) * far))
+  from (Some a) e near = inr (a, e, waits now a.due (bound.d1 + bound.d2) a.delay far near.due near.delay)
+  from None e near = inl (is_quiet (constants_after t events) now delay word (timers_of t events n) (sym (ap (λ (b : Bool). (cond b (asked (constants_after t events) true now delay word (timers_of t events n)) (timers_of t events n)).answer) (same_here n n refl)) ∙ e))
 
 -- ---- and what it leads to
 
@@ -136,23 +138,23 @@ EndsAnswer t n e older = ends_answer t n e older ≡ true
 no_moment : (now q : ℕ) → now < q → q ≡ 0 → ⊥
 no_moment now q lt e = omega (arith, lt, e)
 
-quiet_recent : (t : Tuning) (far : ℕ) (n : NameValue) (now : ℕ) (events : List Event) → AreSteady far events → now < (timers_of t events n).quiet → Did (IsRecent t far n now) events []
-quiet_recent t far n now events steady lt =
+quiet_recent : (bound t : Tuning) (far : ℕ) (n : NameValue) (now : ℕ) (events : List Event) → AreSteady far bound t events → now < (timers_of t events n).quiet → Did (IsRecent t far n now) events []
+quiet_recent bound t far n now events steady lt =
     let same : events ++ [] ≡ events = append-nil events in
     let q : ℕ = (timers_of t (events ++ []) n).quiet in
     let less : now < q = subst (λ (es : List Event). now < (timers_of t es n).quiet) (sym same) lt in
     ⊎_elim
     (λ (e : q ≡ 0). absurd (no_moment now q less e))
     (λ (h : Did (IsCause t far n q) events []). recent t far n now q events [] less h)
-    (quiet_has_cause t far n events [] (subst (AreSteady far) (sym same) steady))
+    (quiet_has_cause bound t far n events [] (subst (AreSteady far bound t) (sym same) steady))
 
 pub requests_lead_on : RequestsLeadOn
-requests_lead_on t far n after before events now delay word moment words steady late = ⊎_elim
-    (λ (q : now < (timers_of t events n).quiet). inl (quiet_recent t far n now events steady.2 q))
-    (λ (a : (answer : AnswerTimer) × ((timers_of t (Asked n true now delay word ∷ events) n).answer ≡ Some answer) × (answer.due ≤ now + (t.d1 + t.d2) * far)).
+requests_lead_on bound t far n after before events now delay word moment words steady late = ⊎_elim
+    (λ (q : now < (timers_of t events n).quiet). inl (quiet_recent bound t far n now events steady.3 q))
+    (λ (a : (answer : AnswerTimer) × ((timers_of t (Asked n true now delay word ∷ events) n).answer ≡ Some answer) × (answer.due ≤ now + (bound.d1 + bound.d2) * far)).
     inr (further (EndsAnswer t n) after (Tick moment words ∷ before) (Asked n true now delay word ∷ events) (ends a.0 a.1 (within a.2))))
-    (requests_are_taken t far n events now delay word steady) where
-      within : {due : ℕ} → due ≤ now + (t.d1 + t.d2) * far → due ≤ moment
+    (requests_are_taken bound t far n events now delay word steady) where
+      within : {due : ℕ} → due ≤ now + (bound.d1 + bound.d2) * far → due ≤ moment
       within le = omega (arith, le, late)
 
       ends : (answer : AnswerTimer) → (timers_of t (Asked n true now delay word ∷ events) n).answer ≡ Some answer → answer.due ≤ moment → Did (EndsAnswer t n) (Tick moment words ∷ before) (Asked n true now delay word ∷ events)

@@ -5,13 +5,14 @@ use Rattle.wb_codec.specs.declared.datagram.Datagram.TheVariants.{Request}
 use Rattle.wb_recovery.specs.declared.tuning.Tuning.{Tuning}
 use Rattle.wb_recovery.specs.declared.timers.AskTimer.{AskTimer}
 use Rattle.wb_recovery.specs.declared.timers.AnswerTimer.{AnswerTimer}
-use Rattle.wb_host.specs.Keeper.{KeeperCall, SetDelay, Hear, Arrive, Miss, GoOn, Report, GiveUp, moment_at}
+use Rattle.wb_host.specs.Keeper.{KeeperCall, SetDelay, SetConstants, Hear, Arrive, Miss, GoOn, Report, GiveUp, moment_at}
 use Rattle.wb_progress.specs.Keepers.{AreWithin}
 use Rattle.wb_progress.specs.Repairs.{timers_at}
 
 -- the name comes by the call: it arrives, a tick finds it held, or it is given up
 abbrev pub Brings : NameValue → KeeperCall → Type 0
 Brings n (SetDelay source micros) = ⊥
+Brings n (SetConstants constants) = ⊥
 Brings n (Hear now datagram word held) = ⊥
 Brings n (Arrive now held) = Contains held n
 Brings n (Miss now names words) = ⊥
@@ -46,12 +47,12 @@ pub record Misses (n : NameValue) (call : KeeperCall) : Type 0 where
 
 -- An answer timer stands as it was set, until its name comes or it fires.
 abbrev pub AnswersGoOn : Type 0
-AnswersGoOn = (far me : ℕ) (t : Tuning) (call : KeeperCall) (calls : List KeeperCall) (n : NameValue) (answer : AnswerTimer) → AreWithin far me (call ∷ calls) → (timers_at me t calls n).answer ≡ Some answer
+AnswersGoOn = (far me : ℕ) (bound t : Tuning) (call : KeeperCall) (calls : List KeeperCall) (n : NameValue) (answer : AnswerTimer) → AreWithin far bound me t (call ∷ calls) → (timers_at me t calls n).answer ≡ Some answer
     → ((timers_at me t (call ∷ calls) n).answer ≡ Some answer) ⊎ (Brings n call ⊎ Fires answer.due call)
 
 -- A request timer stands as it was set, until its name comes, or it fires, or another member asks for the name.
 abbrev pub RequestsGoOn : Type 0
-RequestsGoOn = (far me : ℕ) (t : Tuning) (call : KeeperCall) (calls : List KeeperCall) (n : NameValue) (ask : AskTimer) → AreWithin far me (call ∷ calls) → (timers_at me t calls n).ask ≡ Some ask
+RequestsGoOn = (far me : ℕ) (bound t : Tuning) (call : KeeperCall) (calls : List KeeperCall) (n : NameValue) (ask : AskTimer) → AreWithin far bound me t (call ∷ calls) → (timers_at me t calls n).ask ≡ Some ask
     → ((timers_at me t (call ∷ calls) n).ask ≡ Some ask) ⊎ (Brings n call ⊎ (Fires ask.due call ⊎ Requests me n call))
 
 -- an answer timer of the name fires
@@ -60,15 +61,15 @@ Answers me t calls n call = (answer : AnswerTimer) × ((timers_at me t calls n).
 
 -- A name is quiet as it was, unless it comes or is answered; then it is so for three of the greatest delays at most.
 abbrev pub QuietBegins : Type 0
-QuietBegins = (far me : ℕ) (t : Tuning) (call : KeeperCall) (calls : List KeeperCall) (n : NameValue) → AreWithin far me (call ∷ calls)
+QuietBegins = (far me : ℕ) (bound t : Tuning) (call : KeeperCall) (calls : List KeeperCall) (n : NameValue) → AreWithin far bound me t (call ∷ calls)
     → ((timers_at me t (call ∷ calls) n).quiet ≡ (timers_at me t calls n).quiet) ⊎ ((Brings n call ⊎ Answers me t calls n call) × ((timers_at me t (call ∷ calls) n).quiet ≤ moment_at (call ∷ calls) + 3 * far))
 
 -- A request timer begins to stand as the name is missed, for one wait of the lowest level at most.
 abbrev pub RequestsBegin : Type 0
-RequestsBegin = (far me : ℕ) (t : Tuning) (call : KeeperCall) (calls : List KeeperCall) (n : NameValue) (ask : AskTimer) → AreWithin far me (call ∷ calls) → (timers_at me t calls n).ask ≡ None → (timers_at me t (call ∷ calls) n).ask ≡ Some ask
-    → Misses n call × (ask.due ≤ moment_at (call ∷ calls) + (t.c1 + t.c2) * far)
+RequestsBegin = (far me : ℕ) (bound t : Tuning) (call : KeeperCall) (calls : List KeeperCall) (n : NameValue) (ask : AskTimer) → AreWithin far bound me t (call ∷ calls) → (timers_at me t calls n).ask ≡ None → (timers_at me t (call ∷ calls) n).ask ≡ Some ask
+    → Misses n call × (ask.due ≤ moment_at (call ∷ calls) + (bound.c1 + bound.c2) * far)
 
 -- A request for a held name finds it quiet, or an answer timer stands behind it, due within the waits of an answer.
 abbrev pub RequestsAreHeard : Type 0
-RequestsAreHeard = (far me : ℕ) (t : Tuning) (calls : List KeeperCall) (now asker word : ℕ) (n : NameValue) → asker ≢ me → let heard = Hear now (Request asker n) word true ∷ calls in AreWithin far me heard
-    → (now < (timers_at me t calls n).quiet) ⊎ ((answer : AnswerTimer) × ((timers_at me t heard n).answer ≡ Some answer) × (answer.due ≤ now + (t.d1 + t.d2) * far))
+RequestsAreHeard = (far me : ℕ) (bound t : Tuning) (calls : List KeeperCall) (now asker word : ℕ) (n : NameValue) → asker ≢ me → let heard = Hear now (Request asker n) word true ∷ calls in AreWithin far bound me t heard
+    → (now < (timers_at me t calls n).quiet) ⊎ ((answer : AnswerTimer) × ((timers_at me t heard n).answer ≡ Some answer) × (answer.due ≤ now + (bound.d1 + bound.d2) * far))

@@ -10,7 +10,7 @@ use Rattle.wb_recovery.specs.declared.timers.Timers.{Timers}
 use Rattle.wb_host.specs.GivingUp.{is_asked}
 use Rattle.wb_host.specs.Keeper.{KeeperCall, Hear, Miss, GoOn, GiveUp, moment_at, delay_to, events_of, holds}
 use Rattle.wb_host.specs.Ticks.{sent_by_tick, stopped_after}
-use Rattle.wb_progress.specs.Keepers.{AreOrderly}
+use Rattle.wb_progress.specs.Keepers.{AreOrderly, constants_at}
 
 -- the timers of a name at a keeper
 abbrev pub timers_at : ℕ → Tuning → List KeeperCall → NameValue → Timers
@@ -59,7 +59,7 @@ TicksLeave = (me : ℕ) (t : Tuning) (calls : List KeeperCall) (history : List D
 -- A request of another member for a held name that is not quiet sets an answer timer, where no timer stands.
 abbrev pub RequestsSet : Type 0
 RequestsSet = (me : ℕ) (t : Tuning) (calls : List KeeperCall) (now asker word : ℕ) (n : NameValue) → (asker ≡ me → ⊥) → IsIdle (timers_at me t calls n) → (timers_at me t calls n).quiet ≤ now
-    → timers_at me t (Hear now (Request asker n) word true ∷ calls) n ≡ record { ask = None; answer = Some (new_answer t now (delay_to me calls asker) word); quiet = (timers_at me t calls n).quiet }
+    → timers_at me t (Hear now (Request asker n) word true ∷ calls) n ≡ record { ask = None; answer = Some (new_answer (constants_at me t calls) now (delay_to me calls asker) word); quiet = (timers_at me t calls n).quiet }
 
 -- A name that is missed has a request timer.
 abbrev pub MissesStand : Type 0

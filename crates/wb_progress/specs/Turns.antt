@@ -36,6 +36,10 @@ pub record Terms : Type 0 where
   pub unanswerable : ℕ
   pub offset : ℕ → ℕ
 
+-- constants that wait as long as the terms say
+abbrev pub longest : Terms → Tuning
+longest terms = record { c1 = terms.asking; c2 = 0; d1 = terms.answering; d2 = 0 }
+
 -- what was printed before `quiet` has arrived by then
 abbrev pub settled_by : Terms → ℕ
 settled_by terms = terms.quiet + terms.delivery
@@ -54,7 +58,7 @@ pub record Turn : Type 0 where
   pub desk : Desk
   pub sent : List Datagram
 
--- the members at the places, and the constants of their timers
+-- the members at the places, and the constants of their timers at first
 pub record Places : Type 0 where
   pub me : ℕ → ℕ
   pub constants : ℕ → Tuning
@@ -181,10 +185,9 @@ pub record LooksWithin (places : Places) (terms : Terms) (turns : List Turn) (i 
 
 -- What live places do, each by itself.
 pub record AreTurns (places : Places) (terms : Terms) (turns : List Turn) : Type 0 where
-  pub waits : (i : ℕ) → ((places.constants i).c1 + (places.constants i).c2 ≤ terms.asking) × ((places.constants i).d1 + (places.constants i).d2 ≤ terms.answering)
   pub apart : (i j : ℕ) → Contains terms.live i → Contains terms.live j → places.me i ≡ places.me j → i ≡ j
   pub turn : (newer older : List Turn) (e : Turn) → turns ≡ newer ++ e ∷ older → Contains terms.live e.place → IsTurn places terms older e
-  pub within : (newer older : List Turn) (i : ℕ) → turns ≡ newer ++ older → Contains terms.live i → AreWithin terms.far (places.me i) (desk_at older i).calls
+  pub within : (newer older : List Turn) (i : ℕ) → turns ≡ newer ++ older → Contains terms.live i → AreWithin terms.far (longest terms) (places.me i) (places.constants i) (desk_at older i).calls
   pub clock : (newer older : List Turn) (i : ℕ) → turns ≡ newer ++ older → Contains terms.live i → moment_at (desk_at older i).calls ≤ time_of older + terms.offset i
   pub history : (newer older : List Turn) (i : ℕ) → turns ≡ newer ++ older → Contains terms.live i → IsHistory (desk_at older i).held
   pub lacking : (newer older : List Turn) (i : ℕ) (n : NameValue) → turns ≡ newer ++ older → Contains terms.live i → has older i n ≡ true → (timers_there places older i n).ask ≡ None
