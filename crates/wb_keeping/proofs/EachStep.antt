@@ -15,8 +15,9 @@ use Rattle.wb_gaps.specs.declared.holes.Hole.{Hole}
 use Rattle.wb_host.specs.declared.keep_fault.KeepFault.TheVariants.{BackInTime}
 use Rattle.wb_member.specs.Opened.{Opened, present}
 use Rattle.wb_keeping.specs.Distances.{bounded}
-use Rattle.wb_keeping.specs.Kept.{Arrives, Doing, Hears, Line, Says, SetsDistance, Stops, Ticks, Transition, and_then, answers, asks_pages, came, distance_in, draws_it, drawing, end, ends_full, hears, hears_session, hears_some, hears_state, is_begun, is_unasked, learned, measures, own_echo, own_marks, paid_for, performs, reports, reports_due, reports_page, reports_rest, state_of, still, takes, takes_question, timed, told_names, turn, turn_to, want, want_near, want_told}
-use Rattle.wb_keeping.specs.Laws.{Added, AreTaken, Came, KeptLine, Ticked, after_kept, doing_of, expand, fault_of}
+use Rattle.wb_recovery.specs.declared.tuning.Tuning.{Tuning}
+use Rattle.wb_keeping.specs.Kept.{Arrives, Doing, Hears, Line, Says, SetsDistance, Tunes, Stops, Ticks, Transition, and_then, answers, asks_pages, came, distance_in, draws_it, drawing, end, ends_full, hears, hears_session, hears_some, hears_state, is_begun, is_unasked, learned, measures, own_echo, own_marks, paid_for, performs, reports, reports_due, reports_page, reports_rest, state_of, still, takes, takes_question, timed, told_names, turn, turn_to, want, want_near, want_told}
+use Rattle.wb_keeping.specs.Laws.{Added, AreTaken, Came, KeptLine, Ticked, Tuned, after_kept, doing_of, expand, fault_of}
 use Rattle.wb_keeping.specs.Performing.{Keeping, after_doing, after_line, after_lines, sees, view_of}
 use Rattle.wb_keeping.specs.Policy.{Policy, View, after_answer, after_came, after_question, after_state, after_taking_up, after_turn, holds, in_next_round, is_asked, is_full, with_distance}
 use Rattle.wb_keeping.specs.Questions.{is_due, is_to_answer}
@@ -54,6 +55,7 @@ pub record HoldsOfSteps (R : Keeping → List Line → Keeping → Type 0) : Typ
   pub hears : (v : Datagram) (k : Keeping) → R k (Hears v ∷ []) (having (Hears v) k)
   pub stops : (name : NameValue) (k : Keeping) → R k (Stops name ∷ []) (having (Stops name) k)
   pub sets : (source micros : ℕ) (k : Keeping) → R k (SetsDistance source micros ∷ []) (having (SetsDistance source micros) k)
+  pub tunes : (constants : Tuning) (k : Keeping) → R k (Tunes constants ∷ []) (having (Tunes constants) k)
   pub wants : (name : NameValue) (anew : Bool) (k : Keeping) → R k (want name anew (sees k.host) k.policy).lines (after_doing (want name anew) k)
   pub draws : (d : DrawopValue) (k : Keeping) → R k (Says (Draw d) ∷ []) (having (Says (Draw d)) k)
   pub turned : (t : Turns) (k : Keeping) → R k [] (with_policy (record k.policy { turns = t }) k)
@@ -283,6 +285,7 @@ module _ (R : Keeping → List Line → Keeping → Type 0) (is : HoldsOfSteps R
       let later = leb-true _ _ (on_time (nat_le (present k.host) now) _ (first_none _ _ none)) in
       then_at first (and_then second (and_then ends_full timed)) k (is.ticks now k later)
       (then_holds second (and_then ends_full timed) (λ k. is.draws (drawing (view_of k.host) page time op) k) (then_holds ends_full timed ends_hold timed_holds) (after_doing first k))
+  line_holds (Tuned constants) k none = is.tunes constants k
 
   -- all that a kept host does
   pub all_hold : (lines : List KeptLine) (k : Keeping) → AreTaken lines k → R k (expand lines k) (after_kept lines k)

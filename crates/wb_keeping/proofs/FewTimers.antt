@@ -12,7 +12,7 @@ use Rattle.wb_recovery.specs.declared.tuning.Tuning.{Tuning}
 use Rattle.wb_member.specs.Judged.{asked_names}
 use Rattle.wb_member.specs.Opened.{Opened, events, opened_with, present}
 use Rattle.wb_keeping.specs.Bounds.{FewRequestsAtOnce, FewTimersStand, is_ask, is_request, new_keeping, timer_count}
-use Rattle.wb_keeping.specs.Kept.{Asks, Doing, Line, Says, SetsDistance, Stops, Ticks, Transition, performs, reports_page, room_lines, state_of, still, stops_oldest, usual_lines, want}
+use Rattle.wb_keeping.specs.Kept.{Asks, Doing, Line, Says, SetsDistance, Tunes, Stops, Ticks, Transition, performs, reports_page, room_lines, state_of, still, stops_oldest, usual_lines, want}
 use Rattle.wb_keeping.specs.Laws.{AreTaken, KeptLine, after_kept, expand}
 use Rattle.wb_keeping.specs.Performing.{Keeping, after_doing, after_line, after_lines, sees, sent_by_line, view_of}
 use Rattle.wb_keeping.specs.Policy.{Policy, View, after_wanting, holds, is_asked, is_full, level}
@@ -156,6 +156,7 @@ steps_keep_few = record {
   hears = λ v k. quietly k _ k.policy (refl, tt);
   stops = λ name k. quietly k _ k.policy (refl, tt);
   sets = λ source micros k. quietly k _ k.policy (refl, tt);
+  tunes = λ constants k. quietly k _ k.policy (refl, tt);
   wants = λ name anew k. record { at = refl; few = wanted_few name anew k };
   draws = λ d k. quietly k _ k.policy (refl, tt);
   turned = λ t k. quietly k [] _ tt;

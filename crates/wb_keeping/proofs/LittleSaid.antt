@@ -15,7 +15,7 @@ use Rattle.wb_member.specs.Opened.{Opened, doing as doing_act, has_room_for, hea
 use Rattle.wb_member.specs.Random.{word_of}
 use Rattle.wb_keeping.specs.Bounds.{FewNamesAreAsked, IsRarelySaid, LittleIsSaid, answer_count, ask_count, is_answer, is_ask, is_question, is_report, is_state}
 use Rattle.wb_keeping.specs.Credit.{has_credit}
-use Rattle.wb_keeping.specs.Kept.{Arrives, Asks, Doing, Hears, Line, Says, SetsDistance, Stops, Ticks, Transition, last_heard, performs, reports_page, room_lines, state_of, still, stops_oldest, usual_lines, want}
+use Rattle.wb_keeping.specs.Kept.{Arrives, Asks, Doing, Hears, Line, Says, SetsDistance, Tunes, Stops, Ticks, Transition, last_heard, performs, reports_page, room_lines, state_of, still, stops_oldest, usual_lines, want}
 use Rattle.wb_keeping.specs.Laws.{AreTaken, KeptLine, after_kept, expand}
 use Rattle.wb_keeping.specs.Performing.{Keeping, after_doing, after_line, after_lines, sees, view_of}
 use Rattle.wb_keeping.specs.Policy.{Policy, View, after_answer, after_came, after_question, after_state, after_taking_up, after_wanting, draws, holds, is_asked, is_full, level}
@@ -144,6 +144,7 @@ IsPlain (Hears v) = Unit {0}
 IsPlain (Asks name) = ⊥
 IsPlain (Stops name) = Unit {0}
 IsPlain (SetsDistance source micros) = Unit {0}
+IsPlain (Tunes constants) = Unit {0}
 IsPlain (Says v) = ⊥
 
 abbrev ArePlain : List Line → Type 0
@@ -168,6 +169,7 @@ present_plain [] host plain = refl
 present_plain (Hears v ∷ lines) host plain = present_plain lines (after_line (Hears v) host) plain.1 ∙ present_heard v host (has_room_for v host)
 present_plain (Stops name ∷ lines) host plain = present_plain lines (after_line (Stops name) host) plain.1
 present_plain (SetsDistance source micros ∷ lines) host plain = present_plain lines (after_line (SetsDistance source micros) host) plain.1
+present_plain (Tunes constants ∷ lines) host plain = present_plain lines (after_line (Tunes constants) host) plain.1
 present_plain (Ticks now ∷ lines) host plain = absurd plain.0
 present_plain (Arrives d ∷ lines) host plain = absurd plain.0
 present_plain (Asks name ∷ lines) host plain = absurd plain.0
@@ -189,6 +191,7 @@ plain_nothing [] host plain = record { asks = refl; comes = refl; reports = refl
 plain_nothing (Hears v ∷ lines) host plain = let n = plain_nothing lines (after_line (Hears v) host) plain.1 in record { asks = n.asks; comes = let c = n.comes in omega (arith, c); reports = n.reports; states = n.states; questions = n.questions }
 plain_nothing (Stops name ∷ lines) host plain = let n = plain_nothing lines (after_line (Stops name) host) plain.1 in record { asks = n.asks; comes = let c = n.comes in omega (arith, c); reports = n.reports; states = n.states; questions = n.questions }
 plain_nothing (SetsDistance source micros ∷ lines) host plain = let n = plain_nothing lines (after_line (SetsDistance source micros) host) plain.1 in record { asks = n.asks; comes = let c = n.comes in omega (arith, c); reports = n.reports; states = n.states; questions = n.questions }
+plain_nothing (Tunes constants ∷ lines) host plain = let n = plain_nothing lines (after_line (Tunes constants) host) plain.1 in record { asks = n.asks; comes = let c = n.comes in omega (arith, c); reports = n.reports; states = n.states; questions = n.questions }
 plain_nothing (Ticks now ∷ lines) host plain = absurd plain.0
 plain_nothing (Arrives d ∷ lines) host plain = absurd plain.0
 plain_nothing (Asks name ∷ lines) host plain = absurd plain.0
@@ -556,6 +559,7 @@ steps_keep = record {
   hears = λ v k. plainly k (Hears v ∷ []) (tt, tt);
   stops = λ name k. plainly k (Stops name ∷ []) (tt, tt);
   sets = λ source micros k. plainly k (SetsDistance source micros ∷ []) (tt, tt);
+  tunes = λ constants k. plainly k (Tunes constants ∷ []) (tt, tt);
   wants = wants_keep;
   draws = draws_keep;
   turned = λ t k. quietly k [] _ (plain_nothing [] k.host tt) refl refl refl refl;

@@ -40,7 +40,7 @@ use Rattle.wb_member.specs.Members.{Misses}
 use Rattle.wb_member.specs.Opened.{Opened, becomes, doing, events, has_room_for, heard, may_ask, present, word_at}
 use Rattle.wb_member.specs.Random.{word_of}
 use Rattle.wb_keeping.specs.Bounds.{is_ask, is_request, timer_count}
-use Rattle.wb_keeping.specs.Kept.{Arrives, Asks, Hears, Line, Says, SetsDistance, Stops, Ticks}
+use Rattle.wb_keeping.specs.Kept.{Arrives, Asks, Hears, Line, Says, SetsDistance, Tunes, Stops, Ticks}
 use Rattle.wb_keeping.specs.Performing.{after_line, said_where, sent_by_line, view_of}
 use Rattle.wb_keeping.specs.Policy.{is_asked as is_asked_by}
 use Rattle.wb_names.specs.Arrivals.{Outcome, Fresh, Known, Clashed, Left}
@@ -175,6 +175,7 @@ keeps (Hears v) host other = heard_keeps v host (has_room_for v host)
 keeps (Asks name) host other = absurd (true≢false other)
 keeps (Stops name) host other = stood_by host (after_line (Stops name) host) (λ n missed. given n (present host) name (is_asked (timers_of host.is.constants (events host)) name) (events host) missed)
 keeps (SetsDistance source micros) host other = λ n stands. stands
+keeps (Tunes constants) host other = λ n stands. stands
 keeps (Says (Draw d)) host other = arrival_keeps d host
 keeps (Says (Session sender sent page marks echoes)) host other = λ n stands. stands
 keeps (Says (Request asker name)) host other = λ n stands. stands
@@ -263,6 +264,7 @@ few_requests (Hears v) host few = let none = heard_requests v host (has_room_for
 few_requests (Asks name) host few = omega arith
 few_requests (Stops name) host few = omega arith
 few_requests (SetsDistance source micros) host few = omega arith
+few_requests (Tunes constants) host few = omega arith
 few_requests (Says (Draw d)) host few = let none = drawn_requests d (becomes d host) in omega (arith, none)
 few_requests (Says (Session sender sent page marks echoes)) host few = omega arith
 few_requests (Says (Request asker name)) host few = omega arith

@@ -26,8 +26,8 @@ use Rattle.wb_member.specs.Members.{Misses}
 use Rattle.wb_member.specs.Opened.{Opened, accepted, doing, has_room_for, heard, last_number, may_ask, opened_with, present, ticked, word_at}
 use Rattle.wb_member.specs.Random.{word_of}
 use Rattle.wb_keeping.specs.Distances.{bounded}
-use Rattle.wb_keeping.specs.Kept.{Arrives, Asks, Doing, Hears, Line, Says, SetsDistance, Stops, Ticks, Transition, and_then, answers, asks_pages, came, distance_in, draws_it, drawing, end, ends_full, hears, hears_session, hears_some, hears_state, is_begun, is_unasked, learned, measures, own_echo, own_marks, paid_for, performs, reports, reports_due, reports_rest, room_lines, state_of, still, stops_oldest, takes, takes_question, timed, told_names, turn, turn_to, usual_lines, want, want_near, want_told}
-use Rattle.wb_keeping.specs.Laws.{ANumberIsLeft, Added, AreTaken, Came, KeptLine, Ticked, after_kept, doing_of, fault_of}
+use Rattle.wb_keeping.specs.Kept.{Arrives, Asks, Doing, Hears, Line, Says, SetsDistance, Tunes, Stops, Ticks, Transition, and_then, answers, asks_pages, came, distance_in, draws_it, drawing, end, ends_full, hears, hears_session, hears_some, hears_state, is_begun, is_unasked, learned, measures, own_echo, own_marks, paid_for, performs, reports, reports_due, reports_rest, room_lines, state_of, still, stops_oldest, takes, takes_question, timed, told_names, turn, turn_to, usual_lines, want, want_near, want_told}
+use Rattle.wb_keeping.specs.Laws.{ANumberIsLeft, Added, AreTaken, Came, KeptLine, Ticked, Tuned, after_kept, doing_of, fault_of}
 use Rattle.wb_keeping.specs.Performing.{Keeping, after_doing, after_line, after_lines, sees, view_of}
 use Rattle.wb_keeping.specs.Policy.{Policy, View, after_answer, after_question, after_state, after_taking_up, after_turn, after_wanting, holds as holds_in, in_next_round, is_asked, is_full, level}
 use Rattle.wb_keeping.specs.Questions.{is_due, is_to_answer}
@@ -153,6 +153,7 @@ IsTame host (Hears v) = (page : PageId) → OwnBelow host.is.number 2147483647 (
 IsTame host (Asks name) = Unit {0}
 IsTame host (Stops name) = Unit {0}
 IsTame host (SetsDistance source micros) = Unit {0}
+IsTame host (Tunes constants) = Unit {0}
 IsTame host (Says (Draw d)) = d.name.seq ≤ last_number d.name.page host + 1
 IsTame host (Says (Session sender sent page marks echoes)) = Unit {0}
 IsTame host (Says (Request asker name)) = Unit {0}
@@ -189,6 +190,7 @@ bounded_line (Asks name) host b tame = by (may_ask name host) where
   by false = b
 bounded_line (Stops name) host b tame = record { marks = b.marks; held = b.held; room = b.room; cells = b.cells }
 bounded_line (SetsDistance source micros) host b tame = record { marks = b.marks; held = b.held; room = b.room; cells = b.cells }
+bounded_line (Tunes constants) host b tame = record { marks = b.marks; held = b.held; room = b.room; cells = b.cells }
 bounded_line (Says (Draw d)) host b tame = taken d host b (λ page i fresh of. drawn d host page b tame)
 bounded_line (Says (Session sender sent page marks echoes)) host b tame = b
 bounded_line (Says (Request asker name)) host b tame = b
@@ -204,6 +206,7 @@ IsQuiet (Hears v) = ⊥
 IsQuiet (Asks name) = Unit {0}
 IsQuiet (Stops name) = Unit {0}
 IsQuiet (SetsDistance source micros) = Unit {0}
+IsQuiet (Tunes constants) = Unit {0}
 IsQuiet (Says (Draw d)) = ⊥
 IsQuiet (Says (Session sender sent page marks echoes)) = Unit {0}
 IsQuiet (Says (Request asker name)) = Unit {0}
@@ -217,6 +220,7 @@ tame_quiet (Hears v) host q = absurd q
 tame_quiet (Asks name) host q = tt
 tame_quiet (Stops name) host q = tt
 tame_quiet (SetsDistance source micros) host q = tt
+tame_quiet (Tunes constants) host q = tt
 tame_quiet (Says (Draw d)) host q = absurd q
 tame_quiet (Says (Session sender sent page marks echoes)) host q = tt
 tame_quiet (Says (Request asker name)) host q = tt
@@ -430,6 +434,7 @@ bounded_kept (Added now page time op) k none b =
     let there : IsBounded one.host = bounded_line (Ticks now) k.host b tt in
     let drew : IsBounded (after_doing second one).host = bounded_line (Says (Draw (drawing (view_of one.host) page time op))) one.host there (omega arith) in
     bounded_then first (and_then second (and_then ends_full timed)) k (bounded_then second (and_then ends_full timed) one (bounded_doing (and_then ends_full timed) (then_quiet ends_full timed ends_quiet timed_quiet) (after_doing second one) drew))
+bounded_kept (Tuned constants) k none b = bounded_line (Tunes constants) k.host b tt
 
 bounded_all : (lines : List KeptLine) (k : Keeping) → AreTaken lines k → IsBounded k.host → IsBounded (after_kept lines k).host
 bounded_all [] k taken b = b

@@ -25,7 +25,7 @@ use Rattle.wb_member.specs.Opened.{Opened, doing as doing_act, events, has_room_
 use Rattle.wb_member.specs.Random.{word_of}
 use Rattle.wb_keeping.specs.Credit.{has_credit}
 use Rattle.wb_keeping.specs.Fairness.{AnswersWhatIsHeld, OnlyHeldIsAnswered, WantedIsAsked, is_answering}
-use Rattle.wb_keeping.specs.Kept.{Arrives, Asks, Doing, Hears, Line, Says, SetsDistance, Stops, Ticks, room_lines, still, stops_oldest, usual_lines, want}
+use Rattle.wb_keeping.specs.Kept.{Arrives, Asks, Doing, Hears, Line, Says, SetsDistance, Tunes, Stops, Ticks, room_lines, still, stops_oldest, usual_lines, want}
 use Rattle.wb_keeping.specs.Performing.{Keeping, after_doing, after_line, after_lines, sees, view_of}
 use Rattle.wb_keeping.specs.Policy.{View, after_wanting, is_asked, is_full, level}
 use Rattle.wb_keeping.specs.Wanting.{goes_on, is_wanted, oldest}
@@ -122,6 +122,7 @@ module _ (n : NameValue) where
     by false e = old e
   answers_held (Stops name) host old e = old (to host (given host.is.constants n (present host) name (is_asked_in (timers_of host.is.constants (events host)) name) (events host) (from (after_line (Stops name) host) e)))
   answers_held (SetsDistance source micros) host old e = old e
+  answers_held (Tunes constants) host old e = old e
   answers_held (Says (Draw d)) host old e = arrival d host old e
   answers_held (Says (Session sender sent page marks echoes)) host old e = old e
   answers_held (Says (Request asker name)) host old e = old e
@@ -142,12 +143,14 @@ abbrev AreSmall : List Line → Type 0
 AreSmall [] = Unit {0}
 AreSmall (Stops name ∷ lines) = AreSmall lines
 AreSmall (SetsDistance source micros ∷ lines) = AreSmall lines
+AreSmall (Tunes constants ∷ lines) = AreSmall lines
 AreSmall (line ∷ lines) = ⊥
 
 small_held : (lines : List Line) (host : Opened) → AreSmall lines → (after_lines lines host).is.held ≡ host.is.held
 small_held [] host small = refl
 small_held (Stops name ∷ lines) host small = small_held lines (after_line (Stops name) host) small
 small_held (SetsDistance source micros ∷ lines) host small = small_held lines (after_line (SetsDistance source micros) host) small
+small_held (Tunes constants ∷ lines) host small = small_held lines (after_line (Tunes constants) host) small
 small_held (Ticks now ∷ lines) host small = absurd small
 small_held (Arrives d ∷ lines) host small = absurd small
 small_held (Hears v ∷ lines) host small = absurd small
@@ -158,6 +161,7 @@ small_stands : (lines : List Line) (host : Opened) (n : NameValue) → AreSmall 
 small_stands [] host n small stands = stands
 small_stands (Stops name ∷ lines) host n small stands = keeps (Stops name) host refl n (small_stands lines (after_line (Stops name) host) n small stands)
 small_stands (SetsDistance source micros ∷ lines) host n small stands = small_stands lines (after_line (SetsDistance source micros) host) n small stands
+small_stands (Tunes constants ∷ lines) host n small stands = small_stands lines (after_line (Tunes constants) host) n small stands
 small_stands (Ticks now ∷ lines) host n small stands = absurd small
 small_stands (Arrives d ∷ lines) host n small stands = absurd small
 small_stands (Hears v ∷ lines) host n small stands = absurd small

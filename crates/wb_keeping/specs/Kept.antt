@@ -15,6 +15,7 @@ use Rattle.wb_gaps.specs.Answers.{pages_of, report_of}
 use Rattle.wb_gaps.specs.Holes.{hole_after}
 use Rattle.wb_gaps.specs.declared.holes.Hole.{Hole}
 use Rattle.wb_recovery.specs.Distance.{distance_of}
+use Rattle.wb_recovery.specs.declared.tuning.Tuning.{Tuning}
 use Rattle.wb_keeping.specs.Distances.{bounded}
 use Rattle.wb_keeping.specs.Drawings.{drawing_time}
 use Rattle.wb_keeping.specs.Policy.{Policy, View, after_answer, after_came, after_question, after_report, after_state, after_taking_up, after_turn, after_wanting, holds, in_next_round, is_asked, is_full, level, with_distance}
@@ -32,6 +33,7 @@ pub data Line : Type 0 where
   Asks : (name : NameValue) → Line
   Stops : (name : NameValue) → Line
   SetsDistance : (source micros : ℕ) → Line
+  Tunes : (constants : Tuning) → Line
   Says : (v : Datagram) → Line
 
 -- what a policy does: the lines that its host performs, and the policy afterwards

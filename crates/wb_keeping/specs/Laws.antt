@@ -9,7 +9,7 @@ use Rattle.wb_names.specs.declared.parts.Op.{Op}
 use Rattle.wb_codec.specs.declared.datagram.Datagram.{Datagram}
 use Rattle.wb_recovery.specs.declared.tuning.Tuning.{Tuning}
 use Rattle.wb_member.specs.Opened.{last_number, opened_with, present}
-use Rattle.wb_keeping.specs.Kept.{Line, Ticks, Transition, adds, came, drawing, last_heard, still, ticks, want}
+use Rattle.wb_keeping.specs.Kept.{Line, Ticks, Tunes, Transition, adds, came, drawing, last_heard, performs, still, ticks, want}
 use Rattle.wb_keeping.specs.Performing.{Keeping, after_doing, after_lines, sees, sent_by_doing, sent_by_lines, view_of}
 use Rattle.wb_keeping.specs.Refusing.{add_fault, came_fault, tick_fault}
 use Rattle.wb_keeping.specs.declared.kept_fault.KeptFault.{KeptFault}
@@ -78,16 +78,19 @@ pub data KeptLine : Type 0 where
   Came : (now : ℕ) (v : Datagram) → KeptLine
   Ticked : (now : ℕ) → KeptLine
   Added : (now : ℕ) (page : PageId) (time : ℕ) (op : Op) → KeptLine
+  Tuned : (constants : Tuning) → KeptLine
 
 abbrev pub doing_of : KeptLine → Transition
 doing_of (Came now v) = came now v
 doing_of (Ticked now) = ticks now
 doing_of (Added now page time op) = adds now page time op
+doing_of (Tuned constants) = performs (Tunes constants)
 
 abbrev pub fault_of : KeptLine → Keeping → Option KeptFault
 fault_of (Came now v) k = came_fault now v k
 fault_of (Ticked now) k = tick_fault now k
 fault_of (Added now page time op) k = add_fault now page time op k
+fault_of (Tuned constants) k = None
 
 -- each of these lines is taken, and none is refused
 abbrev pub AreTaken : List KeptLine → Keeping → Type 0

@@ -12,8 +12,8 @@ use Rattle.wb_recovery.specs.declared.timers.AskTimer.{AskTimer}
 use Rattle.wb_recovery.specs.declared.timers.Timers.{Timers}
 use Rattle.wb_member.specs.Holding.{IsOpenAt, MemberValue}
 use Rattle.wb_member.specs.Judged.{delay, echoes}
-use Rattle.wb_member.specs.Opened.{Opened, accepted, answered, becomes, events, has_room_for, heard, last_number, next_due, present, sent_by, ticked, with_asked, with_delay, with_stopped}
-use Rattle.wb_keeping.specs.Kept.{Line, Ticks, Arrives, Hears, Asks, Stops, SetsDistance, Says, Transition}
+use Rattle.wb_member.specs.Opened.{Opened, accepted, answered, becomes, events, has_room_for, heard, last_number, next_due, present, sent_by, ticked, with_asked, with_constants, with_delay, with_stopped}
+use Rattle.wb_keeping.specs.Kept.{Line, Ticks, Arrives, Hears, Asks, Stops, SetsDistance, Tunes, Says, Transition}
 use Rattle.wb_keeping.specs.Policy.{Policy, View, next_moment}
 use Rattle.wb_keeping.specs.declared.wanting.AskedName.{AskedName}
 
@@ -70,6 +70,7 @@ after_line (Hears v) host = if has_room_for v host then heard v host else host
 after_line (Asks name) host = with_asked name host
 after_line (Stops name) host = with_stopped name host
 after_line (SetsDistance source micros) host = with_delay source micros host
+after_line (Tunes constants) host = with_constants constants host
 after_line (Says v) host = after_saying v host
 
 -- and what it sends by that
@@ -80,6 +81,7 @@ sent_by_line (Hears v) host = if has_room_for v host then answered v host else [
 sent_by_line (Asks name) host = []
 sent_by_line (Stops name) host = []
 sent_by_line (SetsDistance source micros) host = []
+sent_by_line (Tunes constants) host = []
 sent_by_line (Says v) host = said v host
 
 -- ---- lines, one after the other

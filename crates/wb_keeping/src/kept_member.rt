@@ -1,10 +1,11 @@
 //! A member that keeps itself: it does what its policy judges, and hands out what is to be sent.
-ghost use Rattle.std.specs.Prelude.{◌≡◌, ◌≤◌, ◌<◌, ◌^◌, [], IfOk, IsTrue, is_some, nat_le};
+ghost use Rattle.std.specs.Prelude.{◌≡◌, ◌≤◌, ◌<◌, ◌^◌, [], IfOk, OnErr, IsTrue, MatchResult, false, is_some, nat_le};
+ghost use Rattle.wb_recovery.specs.Timing.{are_constants};
 ghost use Rattle.wb_names.specs.Faults.{value_unless};
 ghost use Rattle.wb_names.specs.Shapes.{op_of};
 ghost use Rattle.wb_member.specs.Holding.{IsOpenAt, outcome_in};
 ghost use Rattle.wb_member.specs.Opened.{Opened, present};
-ghost use Rattle.wb_keeping.specs.Kept.{adds, came, drawing, ticks};
+ghost use Rattle.wb_keeping.specs.Kept.{Tunes, adds, came, drawing, performs, ticks};
 ghost use Rattle.wb_keeping.specs.Performing.{IsKeptAt, Keeping, after_doing, due, sent_by_doing, view_of};
 ghost use Rattle.wb_keeping.specs.Policy.{begun};
 ghost use Rattle.wb_keeping.specs.Refusing.{IsRefusedBy, add_fault, came_as, came_fault, drawing_fault, drawn_as, is_unknown, is_unknown_of_ours, tick_fault};
@@ -24,6 +25,7 @@ use wb_codec::Datagram;
 use wb_host::{KeepFault, Reply};
 use wb_member::Member;
 use wb_names::{Drawop, Name, PageId, Shape};
+use wb_recovery::{Tuning, TuningFault};
 
 /// From this number on a number of its own is one that the member would never come to.
 const FORGED: u32 = 1 << 31;
@@ -67,6 +69,16 @@ impl KeptMember {
     {
         let policy = Policy::new(member.moment(), rate, listen, seed);
         KeptMember { member, policy }
+    }
+
+    /// Gives its timers other constants, each 1 to 16: what is set or backed off from now on is by them. A timer that
+    /// stands keeps its moment. Refused with `Constant`.
+    pub fn set_constants(&mut self, constants: Tuning) -> Result<(), TuningFault>
+        ensures constants { MatchResult result (λ _. IsTrue (are_constants constants)) (λ e. are_constants constants ≡ false) }
+        ensures set { IfOk result (λ _. (k : Keeping) → IsKeptAt self.old k → IsKeptAt self.new (after_doing (performs (Tunes constants)) k)) }
+        ensures err { OnErr result (self.new ≡ self.old) }
+    {
+        self.member.set_constants(constants)
     }
 
     /// A datagram came in at a moment of its clock, in microseconds below 2^48. Answers what is to be sent, and what became of

@@ -18,7 +18,7 @@ use Rattle.wb_host.specs.Keeper.{KeeperCall, Miss, newest, now_of, moment_at, se
 use Rattle.wb_host.specs.Known.{page_named, pages_heard}
 use Rattle.wb_host.specs.Sessions.{echo_cmp, echo_to, echoes_of, message_of}
 use Rattle.wb_host.specs.declared.keeper.Heard.{Heard}
-use Rattle.wb_member.specs.Members.{Member, Act, Draws, Takes, Hears, SetsDelay, Misses, GivesUp, Ticks, Reports, AsksForPages, after}
+use Rattle.wb_member.specs.Members.{Member, Act, Draws, Takes, Hears, SetsDelay, SetsConstants, Misses, GivesUp, Ticks, Reports, AsksForPages, after}
 use Rattle.wb_session.specs.Constants.{with_constants, SendTheSame, DifferInTimers, ConstantsMoveTimers}
 use Rattle.wb_session.specs.Session.{Event, Group, member}
 
@@ -120,6 +120,7 @@ module _ (m : Member) (constants : Tuning) (calls : List KeeperCall) (t : TellAl
   after_alike (Takes now batch order) = record { same = refl; calls = one_call _ }
   after_alike (Hears now datagram word) = record { same = refl; calls = one_call _ }
   after_alike (SetsDelay source micros) = record { same = refl; calls = one_call _ }
+  after_alike (SetsConstants constants) = record { same = refl; calls = one_call _ }
   after_alike (Misses now names words) = record { same = refl; calls = one_call _ }
   after_alike (GivesUp now name) = record { same = refl; calls = like _ _ (record { moment = refl; marks = λ page. refl; session = refl; page = refl }) }
   after_alike (Ticks now words) = record { same = refl; calls = like _ _ (record { moment = refl; marks = λ page. refl; session = refl; page = refl }) }

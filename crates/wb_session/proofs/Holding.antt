@@ -10,7 +10,7 @@ use Rattle.wb_names.proofs.Listings.{Contains-here, Contains-there, Contains-fil
 use Rattle.wb_codec.specs.declared.datagram.Datagram.{Datagram}
 use Rattle.wb_codec.specs.declared.datagram.Datagram.TheVariants.{Draw, Session, Request, AskPages, PageState}
 use Rattle.wb_recovery.specs.Timing.{new_ask, new_answer, heard_ask, fired_ask, fired_answer, noticed, asked, got, is_standing}
-use Rattle.wb_recovery.specs.Events.{Event as Call, Notice, Asked, timers_of}
+use Rattle.wb_recovery.specs.Events.{Event as Call, Notice, Asked, constants_after, timers_of}
 use Rattle.wb_recovery.specs.Noticing.{notices}
 use Rattle.wb_recovery.specs.Stopping.{receipts, is_received, got_each}
 use Rattle.wb_recovery.specs.declared.missed.Received.{Received}
@@ -23,7 +23,7 @@ use Rattle.wb_host.specs.Hearing.{asks_for_held}
 use Rattle.wb_host.specs.Keeper.{delay_to, received_of, missed_of, asked_by, given_up, events_of, holds}
 use Rattle.wb_host.specs.Ticks.{stopped_after}
 use Rattle.wb_host.proofs.KeptCalls.{holds_from}
-use Rattle.wb_member.specs.Members.{Member, Act, Draws, Takes, Hears, SetsDelay, Misses, GivesUp, Ticks, Reports, AsksForPages, after}
+use Rattle.wb_member.specs.Members.{Member, Act, Draws, Takes, Hears, SetsDelay, SetsConstants, Misses, GivesUp, Ticks, Reports, AsksForPages, after}
 use Rattle.wb_session.specs.Session.{Event, Group, member}
 use Rattle.wb_session.proofs.Members.{held_after, held_grows, step}
 use Rattle.wb_progress.proofs.OneCall.{received_in, not_standing}
@@ -73,7 +73,7 @@ module _ (t : Tuning) (n : NameValue) where
   missed_none delays now held h [] words lacking events e = e
   missed_none delays now held h (m ∷ names) [] lacking events e = e
   missed_none delays now held h (m ∷ names) (w ∷ words) lacking events e = missed_none delays now held h names words (All-tail (λ k. holds held k ≡ false) m names lacking) (Notice m now (delays m.source) w ∷ events) (from (same_name m n) refl) where
-    from : (b : Bool) → same_name m n ≡ b → HasNone (cond b (noticed t now (delays m.source) w (timers_of t events n)) (timers_of t events n))
+    from : (b : Bool) → same_name m n ≡ b → HasNone (cond b (noticed (constants_after t events) now (delays m.source) w (timers_of t events n)) (timers_of t events n))
     from true f = absurd (true≢false (sym h ∙ ap (holds held) (sym (same_name-is m n f)) ∙ All-head (λ k. holds held k ≡ false) m names lacking))
     from false f = e
 
@@ -81,7 +81,7 @@ module _ (t : Tuning) (n : NameValue) where
   heard_none me delays now (Request asker name) word held events e = from (nat_eq asker me) where
     from : (b : Bool) → HasNone (timers_of t (cond b events (Asked name held now (delays (cond held asker name.source)) word ∷ events)) n)
     from true = e
-    from false = either_none (same_name name n) _ _ (asked_none t held now (delays (cond held asker name.source)) word (timers_of t events n) e) e
+    from false = either_none (same_name name n) _ _ (asked_none (constants_after t events) held now (delays (cond held asker name.source)) word (timers_of t events n) e) e
   heard_none me delays now (Draw d) word held events e = e
   heard_none me delays now (Session sender sent page marks echoes) word held events e = e
   heard_none me delays now (AskPages asker) word held events e = e
@@ -113,12 +113,13 @@ none_after (Draws page time op) m careful none n h = none n h
 none_after (Takes now batch order) m careful none n h = taken_none m now batch order careful none n h
 none_after (Hears now v word) m careful none n h = heard_none m.constants n m.number (delay_to m.number m.calls) now v word (asks_for_held m.held v) (events_of m.number m.calls) (none n h)
 none_after (SetsDelay source micros) m careful none n h = none n h
+none_after (SetsConstants constants) m careful none n h = none n h
 none_after (Misses now names words) m careful none n h = missed_none m.constants n (delay_to m.number m.calls) now m.held h names words careful (events_of m.number m.calls) (none n h)
 none_after (GivesUp now name) m careful none n h = from (is_asked (timers_of m.constants (events_of m.number m.calls)) name) where
   from : (b : Bool) → HasNone (timers_of m.constants (given_up now name b (events_of m.number m.calls)) n)
   from true = receipts_none m.constants n now (events_of m.number m.calls) (received_of (λ source. 0) (name ∷ [])) (none n h)
   from false = none n h
-none_after (Ticks now words) m careful none n h = ap (fired_ask m.constants now _) (receipts_none m.constants n now (events_of m.number m.calls) (received_of (delay_to m.number m.calls) (stopped_after m.number m.constants m.calls m.held)) (none n h))
+none_after (Ticks now words) m careful none n h = ap (fired_ask _ now _) (receipts_none m.constants n now (events_of m.number m.calls) (received_of (delay_to m.number m.calls) (stopped_after m.number m.constants m.calls m.held)) (none n h))
 none_after (Reports now page) m careful none n h = none n h
 none_after AsksForPages m careful none n h = none n h
 
@@ -167,8 +168,8 @@ module _ (t : Tuning) (n : NameValue) where
   missed_answer delays now [] words events e = e
   missed_answer delays now (m ∷ names) [] events e = e
   missed_answer delays now (m ∷ names) (w ∷ words) events e = from (same_name m n) (missed_answer delays now names words (Notice m now (delays m.source) w ∷ events) e) where
-    from : (b : Bool) → HasAnswer (cond b (noticed t now (delays m.source) w (timers_of t events n)) (timers_of t events n)) → HasAnswer (timers_of t events n)
-    from true f = noticed_answer t now (delays m.source) w (timers_of t events n) f
+    from : (b : Bool) → HasAnswer (cond b (noticed (constants_after t events) now (delays m.source) w (timers_of t events n)) (timers_of t events n)) → HasAnswer (timers_of t events n)
+    from true f = noticed_answer (constants_after t events) now (delays m.source) w (timers_of t events n) f
     from false f = f
 
   -- a request sets one only for what is held
@@ -176,12 +177,12 @@ module _ (t : Tuning) (n : NameValue) where
   heard_answer me delays now (Request asker name) word held events rest e = from (nat_eq asker me) (holds held name) refl (same_name name n) refl e where
     from : (own there : Bool) → holds held name ≡ there → (b : Bool) → same_name name n ≡ b → HasAnswer (timers_of t (cond own events (Asked name there now (delays (cond there asker name.source)) word ∷ events)) n) → holds held n ≡ true
     from true there h b f e = rest e
-    from false true h b f e = by b f (subst (λ (c : Bool). HasAnswer (cond c (asked t true now (delays asker) word (timers_of t events n)) (timers_of t events n))) f e) where
-      by : (b : Bool) → same_name name n ≡ b → HasAnswer (cond b (asked t true now (delays asker) word (timers_of t events n)) (timers_of t events n)) → holds held n ≡ true
+    from false true h b f e = by b f (subst (λ (c : Bool). HasAnswer (cond c (asked (constants_after t events) true now (delays asker) word (timers_of t events n)) (timers_of t events n))) f e) where
+      by : (b : Bool) → same_name name n ≡ b → HasAnswer (cond b (asked (constants_after t events) true now (delays asker) word (timers_of t events n)) (timers_of t events n)) → holds held n ≡ true
       by true f e = subst (λ (k : NameValue). holds held k ≡ true) (same_name-is name n f) h
       by false f e = rest e
     from false false h b f e = by (same_name name n) e where
-      by : (b : Bool) → HasAnswer (cond b (asked t false now (delays name.source) word (timers_of t events n)) (timers_of t events n)) → holds held n ≡ true
+      by : (b : Bool) → HasAnswer (cond b (asked (constants_after t events) false now (delays name.source) word (timers_of t events n)) (timers_of t events n)) → holds held n ≡ true
       by true e = rest e
       by false e = rest e
   heard_answer me delays now (Draw d) word held events rest e = rest e
@@ -200,6 +201,7 @@ answer_after (Draws page time op) m is n e = is n e
 answer_after (Takes now batch order) m is n e = grows (Takes now batch order) m n (is n (receipts_answer m.constants n now (events_of m.number m.calls) (received_of (delay_to m.number m.calls) (filter (holds (history_after m.cells m.held order)) (map (λ (d : DrawopValue). d.name) batch))) e))
 answer_after (Hears now v word) m is n e = heard_answer m.constants n m.number (delay_to m.number m.calls) now v word m.held (events_of m.number m.calls) (is n) e
 answer_after (SetsDelay source micros) m is n e = is n e
+answer_after (SetsConstants constants) m is n e = is n e
 answer_after (Misses now names words) m is n e = is n (missed_answer m.constants n (delay_to m.number m.calls) now names words (events_of m.number m.calls) e)
 answer_after (GivesUp now name) m is n e = from (is_asked (timers_of m.constants (events_of m.number m.calls)) name) e where
   from : (b : Bool) → HasAnswer (timers_of m.constants (given_up now name b (events_of m.number m.calls)) n) → holds m.held n ≡ true

@@ -19,10 +19,11 @@ use Rattle.wb_gaps.specs.declared.page_reports.PageReport.{PageReport}
 use Rattle.wb_recovery.specs.declared.plan.Action.{Action}
 use Rattle.wb_recovery.specs.declared.plan.Action.TheVariants.{Ask, Answer}
 use Rattle.wb_host.specs.Hearing.{answers_to, asks_for_pages, asks_for_held, page_states}
-use Rattle.wb_host.specs.Keeper.{KeeperCall, SetDelay, Hear, Arrive, Miss, GoOn, Report, GiveUp}
+use Rattle.wb_recovery.specs.declared.tuning.Tuning.{Tuning}
+use Rattle.wb_host.specs.Keeper.{KeeperCall, SetDelay, SetConstants, Hear, Arrive, Miss, GoOn, Report, GiveUp}
 use Rattle.wb_host.specs.Ticks.{drawop_of, sent_for, sends_for}
 use Rattle.wb_host.proofs.TickSends.{sent_from}
-use Rattle.wb_member.specs.Members.{Member, Act, Draws, Takes, Hears, SetsDelay, Misses, GivesUp, Ticks, Reports, AsksForPages, next_drawop, after, sends}
+use Rattle.wb_member.specs.Members.{Member, Act, Draws, Takes, Hears, SetsDelay, SetsConstants, Misses, GivesUp, Ticks, Reports, AsksForPages, next_drawop, after, sends}
 use Rattle.wb_session.specs.Session.{IsTelling, ComesFrom, Event, Group, member}
 
 -- an act takes this drawop
@@ -160,6 +161,9 @@ module _ (at : ℕ) (x : Datagram) (word : ℕ) (held : Bool) where
   not_delay : (source micros : ℕ) → SetDelay source micros ≡ heard → ⊥
   not_delay source micros e = cc
 
+  not_constants : (constants : Tuning) → SetConstants constants ≡ heard → ⊥
+  not_constants constants e = cc
+
   not_miss : (now : ℕ) (names : List NameValue) (words : List ℕ) → Miss now names words ≡ heard → ⊥
   not_miss now names words e = cc
 
@@ -178,6 +182,7 @@ module _ (at : ℕ) (x : Datagram) (word : ℕ) (held : Bool) where
     same : (b : Bool) → Hear now datagram w b ≡ Hear at x word held → datagram ≡ x
     same b e = cc
   heard_after (SetsDelay source micros) m c = other_call _ m.calls ⊥ (not_delay source micros) c
+  heard_after (SetsConstants constants) m c = other_call _ m.calls ⊥ (not_constants constants) c
   heard_after (Misses now names words) m c = other_call _ m.calls ⊥ (not_miss now names words) c
   heard_after (GivesUp now name) m c = other_call _ m.calls ⊥ (not_given_up now name _) c
   heard_after (Ticks now words) m c = other_call _ m.calls ⊥ (not_tick now words _) c
