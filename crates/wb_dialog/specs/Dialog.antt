@@ -7,7 +7,6 @@ use Rattle.wb_names.specs.declared.name.PageId.{PageId}
 use Rattle.wb_recovery.specs.declared.tuning.Tuning.{Tuning}
 use Rattle.wb_codec.specs.declared.datagram.Datagram.{Datagram as DatagramValue}
 use Rattle.wb_codec.specs.declared.datagram.Datagram.TheVariants as datagrams
-use Rattle.wb_words.specs.FaultText.{wrong_text}
 use Rattle.wb_words.specs.Spelling.{spelled}
 use Rattle.std.specs.declared.convert.Infallible.{Infallible}
 use Rattle.wb_lines.specs.Input.{InputLine, input_lines, content}
@@ -144,7 +143,6 @@ answer tuning s (Err e) = refuses e
 
 abbrev pub refusal_text : Refusal → List ℕ
 refusal_text (refusals.Line e) = line_text e
-refusal_text (refusals.Word wrong) = wrong_text wrong
 refusal_text refusals.Member = codes "member"
 refusal_text refusals.Endless = codes "endless"
 refusal_text refusals.NotKept = codes "not kept"

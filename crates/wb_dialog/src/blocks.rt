@@ -8,7 +8,7 @@ use std::alloc::{AllocError, Global};
 use wb_codec::Datagram;
 use wb_commands::list_text;
 use wb_names::{Drawop, PageId};
-use wb_words::{write_words, wrong_text};
+use wb_words::write_words;
 
 /// The number of our next drawop on a page.
 pub(crate) fn next_line(alloc: Global, number: u32) -> Result<String, AllocError>
@@ -64,7 +64,6 @@ fn refusal_text(alloc: Global, refusal: Refusal) -> Result<String, AllocError>
 {
     match refusal {
         Refusal::Line(fault) => format!(in alloc; "{fault}"),
-        Refusal::Word(wrong) => wrong_text(alloc, wrong),
         Refusal::Member => format!(in alloc; "member"),
         Refusal::Endless => format!(in alloc; "endless"),
         Refusal::NotKept => format!(in alloc; "not kept"),

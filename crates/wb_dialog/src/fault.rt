@@ -6,18 +6,14 @@ ghost use Rattle.wb_dialog.specs.declared.fault.Refusal.TheVariants as refusals;
 use std::alloc::{AllocError, AllocFailed};
 use thiserror::Error;
 use wb_commands::LineFault;
-use wb_words::WrongWord;
 
 /// Why a line of a driver is refused.
 #[derive(Clone, Copy, Debug, PartialEq, Eq, Error)]
 pub enum Refusal {
     /// As a script's line is: `unknown`, `words`, `number`, `hex`, `datagram N`, `kind`, `no board`, `second
-    /// board`, `back in time` or `too many`.
+    /// board`, `back in time`, `too many` or `word N: ..`. The last of what is to be said or added, too.
     #[error("{0}")]
     Line(LineFault),
-    /// A word of a datagram in words is wrong, by its place among them.
-    #[error("{0}")]
-    Word(WrongWord),
     /// What is to be said names another member as its source, sender or asker.
     #[error("member")]
     Member,

@@ -7,7 +7,7 @@ ghost use Rattle.wb_display.specs.Canvas.{is_canvas_size};
 ghost use Rattle.wb_commands.specs.Parsing.{IsWithin as IsScriptWithin};
 ghost use Rattle.wb_commands.specs.SentLines.{sends_text};
 ghost use Rattle.wb_dialog.specs.Doing.{DoesKept, Tells, unanswered_of};
-ghost use Rattle.wb_dialog.specs.Hosting.{came_text, kept_adds, kept_draws, kept_reply, kept_takes, kept_ticks, unsent_text};
+ghost use Rattle.wb_dialog.specs.Hosting.{came_text, kept_adds, kept_draws, kept_reply, kept_takes, kept_ticks, unsent_text, wrong_target};
 ghost use Rattle.wb_dialog.specs.Lines.{IsWithin};
 
 use crate::blocks::{known_text, next_line, view_text};
@@ -28,13 +28,14 @@ use wb_words::{Adding, WordFault, WrongWord};
 const TARGET: u32 = 6;
 
 /// A fault of a drawing that has its number now: its target is itself.
-fn wrong_target(fault: FieldFault) -> WrongWord
-    ensures { result ≡ record { place = 6; fault = WordFault.Field fault } }
+fn wrong_target(fault: FieldFault) -> Refusal
+    ensures { result ≡ wrong_target fault }
 {
-    WrongWord {
+    let fault = WordFault::Field(fault);
+    Refusal::Line(LineFault::Word(WrongWord {
         place: TARGET,
-        fault: WordFault::Field(fault),
-    }
+        fault,
+    }))
 }
 
 /// Why a host that keeps itself does not do a line.
@@ -47,7 +48,7 @@ fn refused(fault: KeptFault) -> Unanswered
         KeptFault::Listening => Unanswered::Refused(Refusal::Listening),
         KeptFault::Ours => Unanswered::Refused(Refusal::Ours),
         KeptFault::Numbers => Unanswered::Refused(Refusal::Line(LineFault::TooMany)),
-        KeptFault::Operation(fault) => Unanswered::Refused(Refusal::Word(wrong_target(fault))),
+        KeptFault::Operation(fault) => Unanswered::Refused(wrong_target(fault)),
     }
 }
 

@@ -18,7 +18,7 @@ use wb_commands::Command;
 use wb_keeping::KeptMember;
 use wb_lines::Output;
 use wb_member::Member;
-use wb_recovery::Tuning;
+use wb_recovery::{MOMENT_LIMIT, Tuning};
 
 /// A host, once its board is open.
 #[derive(Drop)]
@@ -103,7 +103,11 @@ fn begin_to_keep(
 fn in_time(moment: u64) -> Option<u64>
     ensures { result ≡ in_time moment }
 {
-    if moment < 1 << 48 { Some(moment) } else { None }
+    if moment < MOMENT_LIMIT {
+        Some(moment)
+    } else {
+        None
+    }
 }
 
 impl Host {

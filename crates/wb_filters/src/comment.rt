@@ -6,13 +6,12 @@ ghost use Rattle.wb_filters.specs.Comments.{fault_text, comment};
 
 use crate::fault::LineFault;
 use std::alloc::{AllocError, Global};
-use wb_words::wrong_text;
 
 fn fault_text(alloc: Global, fault: LineFault) -> Result<String, AllocError>
     ensures { IfOk result (λ text. string_bytes text ≡ fault_text fault) }
 {
     match fault {
-        LineFault::Word(wrong) => wrong_text(alloc, wrong),
+        LineFault::Word(wrong) => format!(in alloc; "{wrong}"),
         LineFault::Hex => format!(in alloc; "word 2: hex"),
         LineFault::Datagram(fault) => {
             let code = fault.code();
