@@ -8,8 +8,8 @@ use thiserror::Error;
 use wb_codec::ReadFault;
 use wb_words::WrongWord;
 
-/// Why a line is refused: the first fault in the order of the variants. A datagram in words has one fault of its own, its
-/// first word that is wrong.
+/// Why a line is refused: the first fault in the order of the variants. A datagram in words has a
+/// fault of its own, its first word that is wrong.
 #[derive(Clone, Copy, Debug, PartialEq, Eq)]
 pub enum LineFault {
     /// The first word is no word of a script.

@@ -63,7 +63,8 @@ pub fn two_words(rest: &[u8]) -> Option<(&[u8], &[u8])>
 
 /// The only four words.
 pub fn four_words(rest: &[u8]) -> Option<(&[u8], &[u8], &[u8], &[u8])>
-    ensures { option_map (λ x. (x.0.now, x.1.now, x.2.now, x.3.now)) result ≡ four_of (words rest.now) }
+    ensures { option_map (λ x. (x.0.now, x.1.now, x.2.now, x.3.now)) result
+        ≡ four_of (words rest.now) }
 {
     let (first, rest) = next_word(rest)?;
     let (second, rest) = next_word(rest)?;
@@ -285,9 +286,9 @@ fn in_words(alloc: Global, line: &[u8]) -> Result<Command, Untaken>
 }
 
 /// The line that the bytes say, which stand without their end; or its first fault: `Unknown`,
-/// `Words`, `Number`, `Hex`, `Datagram` or `Kind`, in this order; and of a datagram in words, `Word`.
-/// Memory can run out only in a line that carries a datagram, and only once its hexadecimal digits are checked,
-/// or in a datagram in words.
+/// `Words`, `Number`, `Hex`, `Datagram` or `Kind`, in this order; or `Word`, of a datagram in words.
+/// Memory can run out only in a line that carries a datagram: where that is in hexadecimal, once its
+/// digits are checked.
 pub fn parse_line(alloc: Global, bytes: &[u8]) -> Result<Command, Untaken>
     ensures line { ParsesLine result (line_of bytes.now) }
     ensures within { IfOk result IsWithin }

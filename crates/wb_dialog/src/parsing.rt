@@ -179,8 +179,8 @@ fn added(alloc: Global, words: &[u8]) -> Result<DriverLine, Unanswered>
     }
 }
 
-/// The line that the bytes say, which stand without their end, or its first fault: of what is to be said or added, the first
-/// word that is wrong; else that of a script's line.
+/// The line that the bytes say, which stand without their end, or its first fault: of what is to be
+/// said or added, the first word that is wrong; else that of a script's line.
 pub(crate) fn read_line(alloc: Global, line: &[u8]) -> Result<DriverLine, Unanswered>
     ensures line { Parses result (line_of line.now) }
     ensures within { IfOk result IsWithin }

@@ -91,7 +91,7 @@ fn is_kind(word: &[u8]) -> bool
         || word == b"page-state".as_slice()
 }
 
-/// Whether the first word of a line tells the kind of a datagram, so that it is meant as one in words.
+/// Whether the first word of a line tells the kind of a datagram: the line is meant as one in words.
 pub fn begins_datagram(line: &[u8]) -> bool
     ensures { result ≡ begins_datagram line.now }
 {
