@@ -3,6 +3,7 @@ use crate::constants::{Constants, WrongConstants};
 use clap::error::ErrorKind;
 use clap::{Arg, ArgAction, ArgMatches, Command, Error, value_parser};
 use std::alloc::{AllocError, Global};
+use wb_commands::MAX_WORKERS;
 use wb_filters::{Direction, Filter};
 
 /// What the program is asked to do.
@@ -70,7 +71,7 @@ fn run_command<'a>(alloc: Global) -> Result<Command<'a>, AllocError> {
         .help(
             "Takes each batch of arrivals by N workers, 1 to 8, in place of those that the script's board names. One is the fastest",
         )
-        .value_parser(value_parser!(u32).range(1..=8))
+        .value_parser(value_parser!(u32).range(1..=i64::from(MAX_WORKERS)))
         .action(ArgAction::Set);
     Command::new(alloc, "run")
         .about("Runs a script from standard input, and prints what it shows")
