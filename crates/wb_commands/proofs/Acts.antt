@@ -1,5 +1,5 @@
 -- What a host does and then is, from what its member answered.
-use Rattle.std.proofs.Common.{◌≡◌, ℕ, ◌<◌, ◌^◌, Bool, true, false, cond, List, [], ◌∷◌, ◌++◌, Result, Ok, Err, inl, inr, refl, sym, ap, subst, ◌∙◌, arith, OnOk, IfErr, nat_le, nat_lt, append-nil}
+use Rattle.std.proofs.Common.{◌≡◌, ℕ, ◌<◌, ◌^◌, Bool, true, false, cond, List, [], ◌∷◌, ◌++◌, Result, Ok, Err, refl, sym, subst, ◌∙◌, arith, OnOk, IfErr, nat_le, nat_lt, append-nil}
 use Rattle.std.proofs.lemmas.Bool.Decides.{nat_tests}
 use Rattle.wb_names.specs.Faults.{first_of, fault_unless}
 use Rattle.wb_codec.specs.declared.datagram.Datagram.{Datagram}
@@ -7,7 +7,7 @@ use Rattle.wb_host.specs.KeepFaults.{IsKeptBy}
 use Rattle.wb_host.specs.declared.keep_fault.KeepFault.{KeepFault}
 use Rattle.wb_host.specs.declared.keep_fault.KeepFault.TheVariants as keeping
 use Rattle.wb_member.specs.Holding.{IsOpenAt, MemberValue}
-use Rattle.wb_member.specs.Opened.{Opened, present, has_room_for, heard, heard_fault, answered, ticked, ticked_fault, sent_by}
+use Rattle.wb_member.specs.Opened.{Opened, present, has_room_for, heard, heard_fault, answered, ticked_fault}
 use Rattle.wb_commands.specs.declared.fault.LineFault.TheVariants as faults
 use Rattle.wb_commands.specs.declared.fault.Untaken.{Untaken}
 use Rattle.wb_commands.specs.declared.fault.Untaken.TheVariants as untaken
