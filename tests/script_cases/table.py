@@ -6,7 +6,7 @@ from __future__ import annotations
 from dataclasses import dataclass
 from itertools import permutations
 
-from host_cases.datagrams import Words, delete, drawn, drawop, frame, line, request, restore, session, text
+from host_cases.datagrams import Words, delete, drawn, drawop, frame, line, page_state, request, restore, session, text
 
 
 @dataclass(frozen=True)
@@ -267,7 +267,7 @@ REFUSED = [
     Script("a tick without its moment", "board 1 16 W 42\ntick", "", "wb: line 2: words"),
     Script("a canvas that is too wide", "board 1 16 W 42\nshow 7 1 201 3", "", "wb: line 2: number"),
     Script("half a byte", "board 1 16 W 42\narrive 5", "", "wb: line 2: hex"),
-    Script("a word of no script", "board 1 16 W 42\ndraw", "", "wb: line 2: unknown"),
+    Script("a word of no script", "board 1 16 W 42\ndraws 7 7/1 1 10 line 0 1 4 1 *", "", "wb: line 2: unknown"),
     Script("the arrival of a session message", f"board 1 16 W 42\narrive {told(7)}", "", "wb: line 2: kind"),
     Script("a datagram that is cut off ends the batch before it", f"""
 board 1 16 W 42
@@ -281,6 +281,143 @@ board 1 16 W 42
 hear {told(7).replace("00040001", "0004ffff")}
 """, "", "wb: line 2: datagram 6"),
     Script("more sources than a page has", f"board 1 16 W 42\n{many_sources()}", "", "wb: line 18: too many"),
+]
+
+# Datagrams that do not say whether they arrive or are heard: by their bytes, and in words
+WORDED = [
+    Script("a batch of drawops by their bytes and in words, between which lines are skipped", f"""
+board 1 16 W 42
+arrive {STARS}
+datagram {AB}
+
+# the third is in words
+draw 9 7/1 1 10 text 2 1 "cd"
+datagram {STARS}
+draw 9 7/1 1 10 text 2 1 "cd"
+show 7 1 5 3
+""", """
+batch 3 2 0 0
+|     |
+|*acd*|
+|     |
+"""),
+    Script("another drawop of one name, in words", f"""
+board 1 16 W 42
+arrive {STARS}
+distance 7 5
+draw 7 7/1 1 10 line 0 1 4 1 +
+show 7 1 5 2
+""", """
+batch 1 0 0 0
+batch 0 0 1 0
+|     |
+|*****|
+"""),
+    Script("an operation of each kind in words", """
+board 1 16 W 42
+draw 7 7/1 1 10 frame 0 0 4 2 #
+draw 7 7/1 2 11 line 0 1 4 1 *
+draw 8 7/1 1 12 delete 7 2
+show 7 1 5 3
+draw 8 7/1 2 13 restore 7 2
+draw 8 7/1 3 14 text 1 1 "\\"q\\""
+show 7 1 5 3
+""", """
+batch 3 0 0 0
+|#####|
+|#   #|
+|#####|
+batch 2 0 0 0
+|#####|
+|*"q"*|
+|#####|
+"""),
+    Script("a session message in words ends the batch, and tells what is missing", f"""
+board 1 16 W 42
+datagram {dot(1)}
+session-message 8 0 7/4 7=3 8=1
+gaps 7 4
+""", """
+batch 1 0 0 0
+gaps 2
+7 2 3
+8 1 1
+"""),
+    Script("a session message by its bytes", f"""
+board 1 16 W 42
+datagram {told(3)}
+gaps 7 4
+""", """
+gaps 1
+7 1 3
+"""),
+    Script("a request by its bytes is repaired, and so is one in words", f"""
+board 1 16 W 42
+datagram {STARS}
+datagram {request(9, 7, PAGE, 1)}
+tick 900000
+tick 90000000
+request 9 7 7/1 1
+tick 99000000
+""", f"""
+batch 1 0 0 0
+send {STARS}
+send {STARS}
+"""),
+    Script("a question for the pages in words, and a page state", f"""
+board 1 16 W 42
+datagram {dot(1)}
+page-state 8 7/9 8=2
+ask-pages 9
+gaps 7 9
+""", f"""
+batch 1 0 0 0
+send {page_state(1, DOTS, [(7, 1)])}
+gaps 1
+8 1 2
+"""),
+    Script("a drawop in words before there is a board", "draw 7 7/1 1 10 line 0 1 4 1 *", "", "wb: line 1: no board"),
+    Script("a datagram before there is a board", f"# none\ndatagram {told(3)}", "", "wb: line 2: no board"),
+]
+
+
+def refused(line: str, fault: str) -> Script:
+    """A batch ends before the line is refused."""
+    return Script(f"{line[:60] or 'nothing'}: {fault}", f"board 1 16 W 42\narrive {STARS}\n{line}", "batch 1 0 0 0", f"wb: line 3: {fault}")
+
+
+NOT_WORDED = [
+    refused("datagram", "words"),
+    refused(f"datagram {STARS} {STARS}", "words"),
+    refused("datagram 5", "hex"),
+    refused("datagram 5g", "hex"),
+    refused("datagram 57", "datagram 1"),
+    refused(f"datagram {of_version(3, STARS)}", "datagram 3"),
+    refused("datagrams 57", "unknown"),
+    refused("Datagram 57", "unknown"),
+    refused("draw", "word 2: missing"),
+    refused("draw ", "word 2: number"),
+    refused("draw 07 7/1 1 10 line 0 1 4 1 *", "word 2: number"),
+    refused("draw 7 7 1 10 line 0 1 4 1 *", "word 3: page"),
+    refused("draw 7 7/1 0 10 line 0 1 4 1 *", "word 4: sequence number 0"),
+    refused("draw 7 7/1 1 18446744073709551616 line 0 1 4 1 *", "word 5: number"),
+    refused("draw 7 7/1 1 10 circle 0 1 4", "word 6: operation"),
+    refused("draw 7 7/1 1 10 line 0 1 4096 1 *", "word 9: number"),
+    refused("draw 7 7/1 1 10 line 0 1 4 1 **", "word 11: glyph"),
+    refused("draw 7 7/1 1 10 line 0 1 4 1 * *", "word 12: one too many"),
+    refused("draw 7 7/1 1 10 text 0 1 ab", "word 9: text"),
+    refused("draw 7 7/1 1 10 text 0 1 \"\"", "word 9: text of 0 or over 64 bytes"),
+    refused("draw 7 7/1 1 10 delete 7 1", "word 8: target is the drawop itself"),
+    refused("draw 7 7/1 1 10 line 0 1 4 1 *\r\r", "word 11: glyph"),
+    refused("draw  7 7/1 1 10 line 0 1 4 1 *", "word 2: number"),
+    refused(" draw 7 7/1 1 10 line 0 1 4 1 *", "unknown"),
+    refused("draw\t7", "unknown"),
+    refused("request 8 7 7 4", "word 4: page"),
+    refused("request 8 7 7/4 0", "word 5: sequence number 0"),
+    refused("ask-pages 8 9", "word 3: one too many"),
+    refused("page-state 8 7/1 7:3", "word 4: mark"),
+    refused("session-message 8 0 7/4 7=3 7=4", "word 6: order"),
+    refused("session-message 8 0 7/4 7=3 8@1", "word 6: echo"),
 ]
 
 # Each datagram has one version, the first that can say it

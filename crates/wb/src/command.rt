@@ -3,6 +3,7 @@ use crate::constants::{Constants, WrongConstants};
 use clap::error::ErrorKind;
 use clap::{Arg, ArgAction, ArgMatches, Command, Error, value_parser};
 use std::alloc::{AllocError, Global};
+use wb_commands::MAX_WORKERS;
 use wb_filters::{Direction, Filter};
 
 /// What the program is asked to do.
@@ -38,7 +39,7 @@ source 7 made on page 1 of creator 7:
     show 7 1 5 3
 
 The look finds a number missing and sets its timer; at 0.4 seconds the timer is due, and
-the host asks all others; one of them repairs. So `wb hex < lost.txt | wb run | wb words`
+the host asks all others; one of them repairs. So `wb run < lost.txt | wb words`
 prints the counts of the first batch (new, known, clashing and left over), the look, what
 is sent, the second batch, and the page on a canvas 5 cells wide and 3 high:
 
@@ -50,8 +51,8 @@ is sent, the second batch, and the page on a canvas 5 cells wide and 3 high:
     found
     *****
 
-`wb run` takes and prints datagrams in hexadecimal, as `arrive`, `hear` and `send`; `wb hex`
-and `wb words` turn them from and into words.
+`wb run` takes datagrams in words, as `wb hex --help` shows them, and in hexadecimal, behind
+`datagram`. It prints them in hexadecimal, behind `send`; `wb words` turns these into words.
 
 The line `gaps 7 1` prints the numbers that are missing on that page, as ranges; `report 7 1`
 prints the greatest number of each source there, `pages` the pages that were drawn on, and
@@ -70,7 +71,7 @@ fn run_command<'a>(alloc: Global) -> Result<Command<'a>, AllocError> {
         .help(
             "Takes each batch of arrivals by N workers, 1 to 8, in place of those that the script's board names. One is the fastest",
         )
-        .value_parser(value_parser!(u32).range(1..=8))
+        .value_parser(value_parser!(u32).range(1..=i64::from(MAX_WORKERS)))
         .action(ArgAction::Set);
     Command::new(alloc, "run")
         .about("Runs a script from standard input, and prints what it shows")
@@ -87,12 +88,10 @@ A datagram in words is a line such as
     request 8 7 7/4 2
 
 The first is: source 7 draws, on page 1 of creator 7, its drawop number 1, at time 10,
-a line from (0, 1) to (4, 1) of stars. All other lines stay as they are, so that
-
-    wb hex < board.txt | wb run | wb words
-
-runs a board that is written in words. Where a word is wrong, the fault tells its line
-and its place, and with --keep-going a comment with the fault stands for that line.
+a line from (0, 1) to (4, 1) of stars. Such a line becomes `arrive` of a drawop, or `hear`
+of any other datagram, with its bytes. All other lines stay as they are. Where a word is
+wrong, the fault tells its line and its place, and with --keep-going a comment with the
+fault stands for that line.
 A line of over 65,536 bytes ends the filter in any case: `endless`.";
 
 const WORDS_HELP: &str = "\

@@ -1,21 +1,19 @@
 -- What a host does and then is, from what its member answered.
-use Rattle.std.proofs.Common.{◌≡◌, ℕ, ◌<◌, ◌^◌, Bool, true, false, cond, List, [], ◌∷◌, ◌++◌, Result, Ok, Err, inl, inr, refl, sym, ap, subst, ◌∙◌, arith, OnOk, IfErr, nat_le, nat_lt, append-nil}
+use Rattle.std.proofs.Common.{◌≡◌, ℕ, ◌<◌, ◌^◌, Bool, true, false, cond, List, [], ◌∷◌, ◌++◌, Result, Ok, Err, refl, sym, subst, ◌∙◌, arith, OnOk, IfErr, nat_le, nat_lt, append-nil}
 use Rattle.std.proofs.lemmas.Bool.Decides.{nat_tests}
 use Rattle.wb_names.specs.Faults.{first_of, fault_unless}
 use Rattle.wb_codec.specs.declared.datagram.Datagram.{Datagram}
-use Rattle.wb_host.specs.Hearing.{marks_heard}
 use Rattle.wb_host.specs.KeepFaults.{IsKeptBy}
 use Rattle.wb_host.specs.declared.keep_fault.KeepFault.{KeepFault}
 use Rattle.wb_host.specs.declared.keep_fault.KeepFault.TheVariants as keeping
 use Rattle.wb_member.specs.Holding.{IsOpenAt, MemberValue}
-use Rattle.wb_member.specs.Opened.{Opened, present, has_room_for, heard, heard_fault, answered, ticked, ticked_fault, sent_by}
+use Rattle.wb_member.specs.Opened.{Opened, present, has_room_for, heard, heard_fault, answered, ticked_fault}
 use Rattle.wb_commands.specs.declared.fault.LineFault.TheVariants as faults
 use Rattle.wb_commands.specs.declared.fault.Untaken.{Untaken}
 use Rattle.wb_commands.specs.declared.fault.Untaken.TheVariants as untaken
 use Rattle.wb_commands.specs.declared.command.Command.TheVariants as lines
 use Rattle.wb_commands.specs.declared.query.Query.{Query}
-use Rattle.wb_commands.specs.Answers.{answer_text}
-use Rattle.wb_commands.specs.Doing.{DoesAct, fault_of, printed}
+use Rattle.wb_commands.specs.Doing.{DoesAct, Tells, fault_of, printed}
 use Rattle.wb_commands.specs.Acts.{Act, does, fails, asked, act}
 use Rattle.wb_commands.specs.SentLines.{sends_text}
 
@@ -24,10 +22,6 @@ pub act_at_once : (host : Opened) (new : MemberValue) (a : Act) → DoesAct {U =
 act_at_once host new a = (printed a, refl)
 
 -- ---- a question
-
--- what a member prints for a question, at each host at which it may be
-abbrev pub Tells : MemberValue → Query → List ℕ → List ℕ → Type 0
-Tells v query old new = (text : List ℕ) × (new ≡ old ++ text) × ((host : Opened) → IsOpenAt v host → text ≡ answer_text (marks_heard host.is.number host.is.calls) host.is.held query)
 
 pub asked_done : (r : Result (Unit {0}) Untaken) (v w : MemberValue) (query : Query) (old new : List ℕ) → w ≡ v → OnOk r (Tells v query old new) → IfErr r (λ e. (e ≡ untaken.Memory) × (new ≡ old))
     → (x : List ℕ) × (new ≡ old ++ x) × ((host : Opened) → IsOpenAt v host → DoesAct host w x r (asked query host))

@@ -6,11 +6,15 @@ use Rattle.std.proofs.lemmas.Bool.Decides.{nat_tests}
 use Rattle.hex.specs.Hex.{encode_with, lower_digits}
 use Rattle.hex.proofs.HexLemmas.{decode_of-encode_lower, length-encode_with}
 use Rattle.wb_codec.specs.declared.datagram.Datagram.{Datagram}
+use Rattle.wb_codec.specs.declared.datagram.Datagram.TheVariants.{Draw, Session, Request, AskPages, PageState}
 use Rattle.wb_codec.specs.Ranges.{IsDatagram}
 use Rattle.wb_codec.specs.Spelling.{body, kind_code, version_of, version_code, spelling}
 use Rattle.wb_codec.proofs.GrammarLaws.{reading_again}
 use Rattle.wb_lines.specs.Words.{words, words_after, unhex}
-use Rattle.wb_commands.specs.Parsing.{datagram, command, line_of_words, arrived, heard}
+use Rattle.wb_words.specs.Reading.{is_kind, first_is_kind, begins_datagram}
+use Rattle.wb_words.specs.Spelling.{word_list, spelled}
+use Rattle.wb_words.proofs.SpellingLaws.{words_spelled, read_again}
+use Rattle.wb_commands.specs.Parsing.{datagram, command, line_of_words, line_of, arrived, heard, handed_in}
 use Rattle.wb_commands.specs.SentLines.{digits_of, SentIsTaken}
 use Rattle.wb_codec.proofs.SpelledBytes.{spelled_bytes}
 
@@ -70,8 +74,44 @@ as_heard : (v : Datagram) → IsDatagram v → command (codes "hear") (digits_of
 unfolding command
 as_heard v fits = rw (datagram_read v fits) refl
 
+as_bytes : (v : Datagram) → IsDatagram v → command (codes "datagram") (digits_of v ∷ []) ≡ Ok (handed_in v)
+unfolding command
+as_bytes v fits = rw (datagram_read v fits) refl
+
+-- ---- a datagram in words, and other lines
+
+opens : (v : Datagram) → first_is_kind (word_list v) ≡ true
+unfolding is_kind
+opens (Draw d) = refl
+opens (Session sender sent page marks echoes) = refl
+opens (Request asker name) = refl
+opens (AskPages asker) = refl
+opens (PageState sender page marks) = refl
+
+as_words : (v : Datagram) → IsDatagram v → line_of (spelled v) ≡ Ok (handed_in v)
+as_words v fits =
+    let begins : begins_datagram (spelled v) ≡ true = ap first_is_kind (words_spelled v fits) ∙ opens v in
+    rw (begins, read_again (spelled v) v (fits, refl)) refl
+
+record AreOther (rest : List ℕ) : Type 0 where
+  pub arrive : begins_datagram (codes "arrive " ++ rest) ≡ false
+  pub hear : begins_datagram (codes "hear " ++ rest) ≡ false
+  pub bytes : begins_datagram (codes "datagram " ++ rest) ≡ false
+
+others : (rest : List ℕ) → AreOther rest
+unfolding is_kind
+others rest = record { arrive = refl; hear = refl; bytes = refl }
+
+-- a line that is none in words is told by its first word
+told : (line : List ℕ) (ws : List (List ℕ)) → begins_datagram line ≡ false → words line ≡ ws → line_of line ≡ line_of_words ws
+told line ws other e = rw other (ap line_of_words e)
+
 pub taken : SentIsTaken
-taken v fits = (
-  ap (λ (ws : List (List ℕ)). line_of_words (codes "arrive" ∷ ws)) (one_word v) ∙ as_arrival v fits,
-  ap (λ (ws : List (List ℕ)). line_of_words (codes "hear" ∷ ws)) (one_word v) ∙ as_heard v fits,
-)
+taken v fits =
+    let rest = digits_of v in
+    let one = one_word v in record {
+      arrives = told (codes "arrive " ++ rest) (codes "arrive" ∷ rest ∷ []) (others rest).arrive (ap (λ (ws : List (List ℕ)). codes "arrive" ∷ ws) one) ∙ as_arrival v fits;
+      hears = told (codes "hear " ++ rest) (codes "hear" ∷ rest ∷ []) (others rest).hear (ap (λ (ws : List (List ℕ)). codes "hear" ∷ ws) one) ∙ as_heard v fits;
+      by_bytes = told (codes "datagram " ++ rest) (codes "datagram" ∷ rest ∷ []) (others rest).bytes (ap (λ (ws : List (List ℕ)). codes "datagram" ∷ ws) one) ∙ as_bytes v fits;
+      by_words = as_words v fits;
+    }

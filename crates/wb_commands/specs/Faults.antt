@@ -1,8 +1,9 @@
 -- The numbers of the faults of a line, and their texts.
 use Rattle.std.specs.Prelude.{ℕ, List, ◌++◌, codes, decimal}
 use Rattle.wb_codec.specs.Fault.{read_code}
+use Rattle.wb_words.specs.FaultText.{wrong_text}
 use Rattle.wb_commands.specs.declared.fault.LineFault.{LineFault}
-use Rattle.wb_commands.specs.declared.fault.LineFault.TheVariants.{Unknown, Words, Number, Hex, Datagram, Kind, NoBoard, SecondBoard, BackInTime, TooMany}
+use Rattle.wb_commands.specs.declared.fault.LineFault.TheVariants.{Unknown, Words, Number, Hex, Datagram, Kind, NoBoard, SecondBoard, BackInTime, TooMany, Word}
 
 -- from 1, in the order in which a line is looked at
 abbrev pub line_code : LineFault → ℕ
@@ -16,6 +17,7 @@ line_code NoBoard = 7
 line_code SecondBoard = 8
 line_code BackInTime = 9
 line_code TooMany = 10
+line_code (Word wrong) = 11
 
 -- what is said of it
 abbrev pub line_text : LineFault → List ℕ
@@ -29,3 +31,4 @@ line_text NoBoard = codes "no board"
 line_text SecondBoard = codes "second board"
 line_text BackInTime = codes "back in time"
 line_text TooMany = codes "too many"
+line_text (Word wrong) = wrong_text wrong

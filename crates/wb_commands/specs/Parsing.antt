@@ -5,6 +5,8 @@ use Rattle.wb_codec.specs.Reading.{reading}
 use Rattle.wb_codec.specs.declared.datagram.Datagram.{Datagram}
 use Rattle.wb_codec.specs.declared.datagram.Datagram.TheVariants as datagrams
 use Rattle.wb_codec.specs.declared.fault.ReadFault.{ReadFault}
+use Rattle.wb_words.specs.Reading.{begins_datagram, reading as reading_words}
+use Rattle.wb_words.specs.declared.fault.WrongWord.{WrongWord}
 use Rattle.wb_commands.specs.declared.fault.LineFault.{LineFault}
 use Rattle.wb_commands.specs.declared.fault.LineFault.TheVariants as faults
 use Rattle.wb_commands.specs.declared.fault.Untaken.{Untaken}
@@ -112,11 +114,19 @@ abbrev pub heard : Datagram → Result Command LineFault
 heard (datagrams.Draw d) = Err faults.Kind
 heard v = Ok (Hear v)
 
+-- Where a line does not say which it is to be, a drawop arrives, and every other datagram is heard.
+abbrev pub handed_in : Datagram → Command
+handed_in (datagrams.Draw d) = Arrive d
+handed_in v = Hear v
+
 abbrev pub arrive : List (List ℕ) → Result Command LineFault
 arrive arguments = datagram arguments >>= arrived
 
 abbrev pub hear : List (List ℕ) → Result Command LineFault
 hear arguments = datagram arguments >>= heard
+
+abbrev pub bytes_line : List (List ℕ) → Result Command LineFault
+bytes_line arguments = datagram arguments >>= λ v. Ok (handed_in v)
 
 -- the line of a page with this first word
 unfoldable pub page_line : List ℕ → List (List ℕ) → Result Command LineFault
@@ -133,11 +143,12 @@ command word arguments =
     if bytes_eq word (codes "board") then board arguments
     else (if bytes_eq word (codes "arrive") then arrive arguments
     else (if bytes_eq word (codes "hear") then hear arguments
+    else (if bytes_eq word (codes "datagram") then bytes_line arguments
     else (if bytes_eq word (codes "show") then show arguments
     else (if bytes_eq word (codes "distance") then distance arguments
     else (if bytes_eq word (codes "tick") then tick arguments
     else (if bytes_eq word (codes "pages") then pages arguments
-    else page_line word arguments))))))
+    else page_line word arguments)))))))
 
 -- a comment begins with `#`
 abbrev pub begins_comment : List ℕ → Bool
@@ -148,9 +159,14 @@ abbrev pub line_of_words : List (List ℕ) → Result Command LineFault
 line_of_words [] = Ok Skip
 line_of_words (word ∷ arguments) = if begins_comment word then Ok Skip else command word arguments
 
--- the line, which stands without its end
+-- a datagram in words
+abbrev pub in_words : Result Datagram WrongWord → Result Command LineFault
+in_words (Ok v) = Ok (handed_in v)
+in_words (Err wrong) = Err (faults.Word wrong)
+
+-- The line, which stands without its end. One whose first word tells the kind of a datagram is a datagram in words.
 abbrev pub line_of : List ℕ → Result Command LineFault
-line_of bytes = line_of_words (words bytes)
+line_of bytes = if begins_datagram bytes then in_words (reading_words bytes) else line_of_words (words bytes)
 
 -- What a line carries is in its range: a board has 1 to 65,535 cells, a canvas is not too large, moments are microseconds below
 -- 2^48, and delays below 2^24.

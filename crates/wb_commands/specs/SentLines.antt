@@ -1,11 +1,12 @@
 -- The lines that tell what a host sends, and how many drawops it begins to miss.
-use Rattle.std.specs.Prelude.{◌≡◌, ℕ, List, ◌++◌, codes, flat_map}
+use Rattle.std.specs.Prelude.{◌≡◌, ℕ, List, ◌++◌, codes, flat_map, Ok}
 use Rattle.std.specs.Fmt.{decimal}
 use Rattle.hex.specs.Hex.{encode_lower}
 use Rattle.wb_codec.specs.declared.datagram.Datagram.{Datagram}
 use Rattle.wb_codec.specs.Ranges.{IsDatagram}
 use Rattle.wb_codec.specs.Spelling.{spelling}
-use Rattle.wb_commands.specs.Parsing.{line_of, arrived, heard}
+use Rattle.wb_words.specs.Spelling.{spelled}
+use Rattle.wb_commands.specs.Parsing.{line_of, arrived, heard, handed_in}
 
 -- the bytes of a datagram in hexadecimal, with lower-case letters
 abbrev pub digits_of : Datagram → List ℕ
@@ -25,6 +26,13 @@ look_line count = codes "look " ++ (decimal count ++ codes "\n")
 
 -- ---- laws
 
--- What one script prints as sent, another takes: behind the word `arrive` the digits of a drawop, and behind `hear` those of every other datagram, are read as that datagram.
+-- What one script prints as sent, another takes. Behind the word `arrive` the digits of a drawop, and behind `hear` those of every
+-- other datagram, are read as that datagram; behind `datagram` those of each are, and so are its words.
+pub record IsTaken (v : Datagram) : Type 0 where
+  pub arrives : line_of (codes "arrive " ++ digits_of v) ≡ arrived v
+  pub hears : line_of (codes "hear " ++ digits_of v) ≡ heard v
+  pub by_bytes : line_of (codes "datagram " ++ digits_of v) ≡ Ok (handed_in v)
+  pub by_words : line_of (spelled v) ≡ Ok (handed_in v)
+
 abbrev pub SentIsTaken : Type 0
-SentIsTaken = (v : Datagram) → IsDatagram v → (line_of (codes "arrive " ++ digits_of v) ≡ arrived v) × (line_of (codes "hear " ++ digits_of v) ≡ heard v)
+SentIsTaken = (v : Datagram) → IsDatagram v → IsTaken v

@@ -47,7 +47,8 @@ fn answer(
 /// Sets the delay to a source, in microseconds.
 fn set_delay(member: &mut Member, source: u32, micros: u64) -> Result<(), Untaken>
     requires { micros < 2 ^ 24 }
-    ensures act { (host : Opened) → IsOpenAt member.old host → DoesAct host member.new [] result (act (Command.Distance source micros) host) }
+    ensures act { (host : Opened) → IsOpenAt member.old host →
+        DoesAct host member.new [] result (act (Command.Distance source micros) host) }
 {
     match member.set_delay(source, micros) {
         Ok(()) => Ok(()),
@@ -59,7 +60,8 @@ fn set_delay(member: &mut Member, source: u32, micros: u64) -> Result<(), Untake
 /// Time goes on to a moment: what is sent is printed.
 fn tick(alloc: Global, member: &mut Member, now: u64, output: &mut Output) -> Result<(), Untaken>
     requires { now < 2 ^ 48 }
-    ensures text { DoesAt member.old member.new output.old output.new result (act (Command.Tick now)) }
+    ensures text { DoesAt member.old member.new output.old output.new result
+        (act (Command.Tick now)) }
 {
     match member.tick(alloc, now) {
         Ok(sent) => {
@@ -77,7 +79,8 @@ fn look(
     page: PageId,
     output: &mut Output,
 ) -> Result<(), Untaken>
-    ensures text { DoesAt member.old member.new output.old output.new result (act (Command.Look page)) }
+    ensures text { DoesAt member.old member.new output.old output.new result
+        (act (Command.Look page)) }
 {
     let count = member.look(alloc, page)?;
     output.add(look_line(alloc, count)?.as_bytes())?;
@@ -91,7 +94,8 @@ fn hear(
     datagram: &Datagram,
     output: &mut Output,
 ) -> Result<(), Untaken>
-    ensures text { DoesAt member.old member.new output.old output.new result (act (Command.Hear datagram.now)) }
+    ensures text { DoesAt member.old member.new output.old output.new result
+        (act (Command.Hear datagram.now)) }
 {
     match member.hear(alloc, datagram) {
         Ok(sent) => {
@@ -109,7 +113,8 @@ fn session(
     page: PageId,
     output: &mut Output,
 ) -> Result<(), Untaken>
-    ensures text { DoesAt member.old member.new output.old output.new result (act (Command.Session page)) }
+    ensures text { DoesAt member.old member.new output.old output.new result
+        (act (Command.Session page)) }
 {
     let sent = [member.session(alloc, page)?];
     print_sends(alloc, &sent, output)?;

@@ -1,11 +1,10 @@
 //! The lines that answer questions, and the counts of a batch.
-ghost use Rattle.std.specs.Prelude.{◌≡◌, ◌++◌, ◌∷◌, [], List, ℕ, IfOk, IfErr, OnOk};
+ghost use Rattle.std.specs.Prelude.{◌≡◌, ◌∷◌, [], IfOk, IfErr, OnOk};
 ghost use Rattle.std.specs.String.{string_bytes};
 ghost use Rattle.wb_names.specs.Arrivals.{counts, counts_of};
-ghost use Rattle.wb_host.specs.Hearing.{marks_heard};
-ghost use Rattle.wb_member.specs.Holding.{IsOpenAt, outcome_in};
-ghost use Rattle.wb_member.specs.Opened.{Opened};
-ghost use Rattle.wb_commands.specs.Answers.{batch_line, gaps_text, report_text, pages_text, answer_text, IsAnswerable};
+ghost use Rattle.wb_member.specs.Holding.{outcome_in};
+ghost use Rattle.wb_commands.specs.Answers.{batch_line, gaps_text, report_text, pages_text, IsAnswerable};
+ghost use Rattle.wb_commands.specs.Doing.{Tells};
 
 use crate::fault::Untaken;
 use crate::listing::list_text;
@@ -32,7 +31,8 @@ pub fn batch_line(
 
 /// The line that ends the batch that one drawop is, by what became of it.
 pub fn arrival_line(alloc: Global, became: Option<Reply>) -> Result<String, AllocError>
-    ensures { IfOk result (λ text. string_bytes text ≡ batch_line (counts_of (outcome_in became ∷ []))) }
+    ensures { IfOk result (λ text.
+        string_bytes text ≡ batch_line (counts_of (outcome_in became ∷ []))) }
 {
     match became {
         Some(Reply::New(_)) => batch_line(alloc, 1, 0, 0, 0),
@@ -72,7 +72,7 @@ pub fn print(
 ) -> Result<(), Untaken>
     requires { IsAnswerable query }
     ensures same { member.new ≡ member.old }
-    ensures ok { OnOk result ((text : List ℕ) × (output.new ≡ output.old ++ text) × ((host : Opened) → IsOpenAt member.old host → text ≡ answer_text (marks_heard host.is.number host.is.calls) host.is.held query)) }
+    ensures ok { OnOk result (Tells member.old query output.old output.new) }
     ensures err { IfErr result (λ e. (e ≡ Untaken.Memory) × (output.new ≡ output.old)) }
 {
     match query {

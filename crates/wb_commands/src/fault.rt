@@ -6,8 +6,10 @@ use std::alloc::{AllocError, AllocFailed};
 use std::{error, fmt};
 use thiserror::Error;
 use wb_codec::ReadFault;
+use wb_words::WrongWord;
 
-/// Why a line is refused: the first fault in the order of the variants.
+/// Why a line is refused: the first fault in the order of the variants. A datagram in words has a
+/// fault of its own, its first word that is wrong.
 #[derive(Clone, Copy, Debug, PartialEq, Eq)]
 pub enum LineFault {
     /// The first word is no word of a script.
@@ -30,6 +32,8 @@ pub enum LineFault {
     BackInTime,
     /// A page would have marks of too many sources.
     TooMany,
+    /// A word of a datagram in words is wrong, by its place among them.
+    Word(WrongWord),
 }
 
 impl LineFault {
@@ -50,6 +54,7 @@ impl LineFault {
             LineFault::SecondBoard => 8,
             LineFault::BackInTime => 9,
             LineFault::TooMany => 10,
+            LineFault::Word(_) => 11,
         }
     }
 }
@@ -75,6 +80,7 @@ impl fmt::Display for LineFault {
             LineFault::SecondBoard => f.write_str("second board"),
             LineFault::BackInTime => f.write_str("back in time"),
             LineFault::TooMany => f.write_str("too many"),
+            LineFault::Word(wrong) => write!(f, "{wrong}"),
         }
     }
 }

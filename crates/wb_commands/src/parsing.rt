@@ -1,7 +1,8 @@
 //! What the words of a line mean.
 ghost use Rattle.std.specs.Prelude.{◌≡◌, ◌≤◌, IfOk, Result, Ok, Err, option_map};
 ghost use Rattle.wb_lines.specs.Words.{words};
-ghost use Rattle.wb_commands.specs.Parsing.{Parses, ParsesLine, IsWithin, number, none_of, one_of, two_of, four_of, board, show, distance, tick, page, pages, page_line, datagram, arrive, hear, command, begins_comment, line_of};
+ghost use Rattle.wb_commands.specs.Parsing.{Parses, ParsesLine, IsWithin, number, none_of, one_of, two_of, four_of, board, show, distance, tick, page, pages, page_line, datagram, arrive, hear, handed_in, bytes_line, command, begins_comment, line_of_words, in_words, line_of, CarriesDatagram};
+ghost use Rattle.wb_words.specs.Reading.{reading as reading_words};
 
 use crate::command::Command;
 use crate::fault::{LineFault, Untaken};
@@ -10,6 +11,7 @@ use wb_codec::{Datagram, ReadFault, read};
 use wb_lines::{next_word, number, unhex};
 use wb_names::PageId;
 use wb_recovery::{DELAY_LIMIT, MOMENT_LIMIT};
+use wb_words::{WordsFault, begins_datagram, read_words};
 
 const MAX_CELLS: u32 = 65_535;
 
@@ -23,8 +25,8 @@ const MAX_HEIGHT: u32 = 100;
 /// The greatest delay, in microseconds.
 const MAX_DELAY: u64 = DELAY_LIMIT - 1;
 
-/// The greatest moment, in microseconds.
-const MAX_MOMENT: u64 = MOMENT_LIMIT - 1;
+/// The greatest moment that a line can tell, in microseconds.
+pub const MAX_MOMENT: u64 = MOMENT_LIMIT - 1;
 
 /// That there are no words.
 pub fn no_words(rest: &[u8]) -> Option<()>
@@ -61,7 +63,8 @@ pub fn two_words(rest: &[u8]) -> Option<(&[u8], &[u8])>
 
 /// The only four words.
 pub fn four_words(rest: &[u8]) -> Option<(&[u8], &[u8], &[u8], &[u8])>
-    ensures { option_map (λ x. (x.0.now, x.1.now, x.2.now, x.3.now)) result ≡ four_of (words rest.now) }
+    ensures { option_map (λ x. (x.0.now, x.1.now, x.2.now, x.3.now)) result
+        ≡ four_of (words rest.now) }
 {
     let (first, rest) = next_word(rest)?;
     let (second, rest) = next_word(rest)?;
@@ -178,6 +181,18 @@ pub fn datagram(alloc: Global, rest: &[u8]) -> Result<Datagram, Untaken>
     }
 }
 
+/// The line that hands in a datagram.
+fn handed_in(datagram: Datagram) -> Command
+    ensures line { result ≡ handed_in datagram }
+    ensures within { IsWithin result }
+    ensures carries { CarriesDatagram result }
+{
+    match datagram {
+        Datagram::Draw(drawop) => Command::Arrive(drawop),
+        heard => Command::Hear(heard),
+    }
+}
+
 fn arrive(alloc: Global, rest: &[u8]) -> Result<Command, Untaken>
     ensures line { ParsesLine result (arrive (words rest.now)) }
     ensures within { IfOk result IsWithin }
@@ -196,6 +211,13 @@ fn hear(alloc: Global, rest: &[u8]) -> Result<Command, Untaken>
         Datagram::Draw(_) => Err(Untaken::Line(LineFault::Kind)),
         heard => Ok(Command::Hear(heard)),
     }
+}
+
+fn bytes_line(alloc: Global, rest: &[u8]) -> Result<Command, Untaken>
+    ensures line { ParsesLine result (bytes_line (words rest.now)) }
+    ensures within { IfOk result IsWithin }
+{
+    Ok(handed_in(datagram(alloc, rest)?))
 }
 
 #[tactic(auto, unfolding(crate::specs::Parsing::page_line))]
@@ -227,6 +249,8 @@ fn command(alloc: Global, word: &[u8], rest: &[u8]) -> Result<Command, Untaken>
         arrive(alloc, rest)
     } else if word == b"hear".as_slice() {
         hear(alloc, rest)
+    } else if word == b"datagram".as_slice() {
+        bytes_line(alloc, rest)
     } else if word == b"show".as_slice() {
         Ok(show(rest)?)
     } else if word == b"distance".as_slice() {
@@ -249,11 +273,35 @@ fn begins_comment(word: &[u8]) -> bool
     }
 }
 
+/// The line that a datagram in words is, or its first word that is wrong.
+fn in_words(alloc: Global, line: &[u8]) -> Result<Command, Untaken>
+    ensures line { ParsesLine result (in_words (reading_words line.now)) }
+    ensures within { IfOk result IsWithin }
+{
+    match read_words(alloc, line) {
+        Ok(datagram) => Ok(handed_in(datagram)),
+        Err(WordsFault::Word(wrong)) => Err(Untaken::Line(LineFault::Word(wrong))),
+        Err(WordsFault::Memory) => Err(Untaken::Memory),
+    }
+}
+
 /// The line that the bytes say, which stand without their end; or its first fault: `Unknown`,
-/// `Words`, `Number`, `Hex`, `Datagram` or `Kind`, in this order. Memory can run out only in a line
-/// that carries a datagram, and only once its hexadecimal digits are checked.
+/// `Words`, `Number`, `Hex`, `Datagram` or `Kind`, in this order; or `Word`, of a datagram in words.
+/// Memory can run out only in a line that carries a datagram: where that is in hexadecimal, once its
+/// digits are checked.
 pub fn parse_line(alloc: Global, bytes: &[u8]) -> Result<Command, Untaken>
     ensures line { ParsesLine result (line_of bytes.now) }
+    ensures within { IfOk result IsWithin }
+{
+    if begins_datagram(bytes) {
+        return in_words(alloc, bytes);
+    }
+    line_of_words(alloc, bytes)
+}
+
+/// The line that is told by its first word.
+fn line_of_words(alloc: Global, bytes: &[u8]) -> Result<Command, Untaken>
+    ensures line { ParsesLine result (line_of_words (words bytes.now)) }
     ensures within { IfOk result IsWithin }
 {
     match next_word(bytes) {

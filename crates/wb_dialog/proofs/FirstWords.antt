@@ -1,68 +1,16 @@
 -- Words that begin no line of a script, and what stands before the first space of a line.
-use Rattle.std.proofs.Common.{◌≡◌, ℕ, Bool, true, false, List, [], ◌∷◌, ◌++◌, length, Option, Some, None, Result, Ok, Err, refl, sym, ap, ◌∙◌, append_assoc, append-nil}
+use Rattle.std.proofs.Common.{◌≡◌, ℕ, Bool, true, false, List, [], ◌∷◌, ◌++◌, length, Option, Some, None, Result, Ok, Err, refl, sym, ap, subst, ◌∙◌, append_assoc, append-nil}
 use Rattle.std.specs.Prelude.{nat_eq, codes, if◌then◌else◌}
 use Rattle.std.specs.Str.{bytes_eq}
 use Rattle.std.proofs.lemmas.Slice.Eq.{bytes_eq-Decides}
 use Rattle.wb_lines.specs.Words.{words, words_after}
-use Rattle.wb_words.specs.Words.{split_after}
-use Rattle.wb_words.proofs.Splitting.{chosen, some_is}
+use Rattle.wb_words.specs.Words.{split_after, split_once}
+use Rattle.wb_words.specs.Reading.{is_kind, first_is_kind, begins_datagram, reading}
+use Rattle.wb_words.proofs.Splitting.{chosen, some_is, words_split_once, words_whole}
 use Rattle.wb_commands.specs.declared.command.Command.{Command}
 use Rattle.wb_commands.specs.declared.fault.LineFault.{LineFault}
 use Rattle.wb_commands.specs.declared.fault.LineFault.TheVariants as faults
-use Rattle.wb_commands.specs.Parsing.{line_of_words, line_of, command, page_line}
-
--- ---- words that begin no line of a script
-
-abbrev pub IsUnknown : List ℕ → Type 0
-IsUnknown word = (arguments : List (List ℕ)) → line_of_words (word ∷ arguments) ≡ Err faults.Unknown
-
--- the words that begin a datagram, or a line of a driver alone
-pub record AreUnknown : Type 0 where
-  pub draw : IsUnknown (codes "draw")
-  pub session : IsUnknown (codes "session-message")
-  pub request : IsUnknown (codes "request")
-  pub ask_pages : IsUnknown (codes "ask-pages")
-  pub page_state : IsUnknown (codes "page-state")
-  pub bytes : IsUnknown (codes "datagram")
-  pub say : IsUnknown (codes "say")
-  pub next : IsUnknown (codes "next")
-  pub view : IsUnknown (codes "view")
-  pub known : IsUnknown (codes "known")
-  pub ask : IsUnknown (codes "ask")
-  pub stop : IsUnknown (codes "stop")
-  pub keep : IsUnknown (codes "keep")
-  pub came : IsUnknown (codes "came")
-  pub add : IsUnknown (codes "add")
-
-pub unknown : AreUnknown
-unfolding command page_line
-unknown = record {
-  draw = λ arguments. refl;
-  session = λ arguments. refl;
-  request = λ arguments. refl;
-  ask_pages = λ arguments. refl;
-  page_state = λ arguments. refl;
-  bytes = λ arguments. refl;
-  say = λ arguments. refl;
-  next = λ arguments. refl;
-  view = λ arguments. refl;
-  known = λ arguments. refl;
-  ask = λ arguments. refl;
-  stop = λ arguments. refl;
-  keep = λ arguments. refl;
-  came = λ arguments. refl;
-  add = λ arguments. refl;
-}
-
--- a line that a script takes has no such word in front
-pub begins_other : (opener word : List ℕ) (arguments : List (List ℕ)) (l : Command) → IsUnknown opener → line_of_words (word ∷ arguments) ≡ Ok l → bytes_eq word opener ≡ false
-begins_other opener word arguments l none e = at (bytes_eq word opener) refl where
-  at : (t : Bool) → bytes_eq word opener ≡ t → bytes_eq word opener ≡ false
-  at true same =
-      let is : word ≡ opener = (bytes_eq-Decides word opener).0 same in
-      let bad : ◌≡◌ {A = Result Command LineFault} (Err faults.Unknown) (Ok l) = sym (none arguments) ∙ sym (ap (λ (w : List ℕ). line_of_words (w ∷ arguments)) is) ∙ e in
-      absurd cc
-  at false other = other
+use Rattle.wb_commands.specs.Parsing.{line_of_words, line_of, in_words, command, page_line}
 
 -- ---- what stands before the first space
 
@@ -89,13 +37,74 @@ words_none begun (b ∷ bytes) e = by (words_none (begun ++ b ∷ []) bytes) (na
   by later true h = let made : ◌≡◌ {A = Option (List ℕ × List ℕ)} (Some (begun, bytes)) None = (chosen (nat_eq b 32) _ _ _ e).first h in absurd cc
   by later false h = rw h (later ((chosen (nat_eq b 32) _ _ _ e).second h) ∙ ap (λ (w : List ℕ). first_and w []) (append_assoc begun (b ∷ []) bytes))
 
--- Where a script takes a line, none of those words stands before its first space.
+-- ---- words that begin no line of a script
+
+-- it is no word of a script's line, and tells no kind of datagram
+pub record IsUnknown (word : List ℕ) : Type 0 where
+  pub script : (arguments : List (List ℕ)) → line_of_words (word ∷ arguments) ≡ Err faults.Unknown
+  pub kind : is_kind word ≡ false
+
+-- the words that begin a line of a driver alone
+pub record AreUnknown : Type 0 where
+  pub say : IsUnknown (codes "say")
+  pub next : IsUnknown (codes "next")
+  pub view : IsUnknown (codes "view")
+  pub known : IsUnknown (codes "known")
+  pub ask : IsUnknown (codes "ask")
+  pub stop : IsUnknown (codes "stop")
+  pub keep : IsUnknown (codes "keep")
+  pub came : IsUnknown (codes "came")
+  pub add : IsUnknown (codes "add")
+
+pub unknown : AreUnknown
+unfolding command page_line is_kind
+unknown = record {
+  say = record { script = λ arguments. refl; kind = refl };
+  next = record { script = λ arguments. refl; kind = refl };
+  view = record { script = λ arguments. refl; kind = refl };
+  known = record { script = λ arguments. refl; kind = refl };
+  ask = record { script = λ arguments. refl; kind = refl };
+  stop = record { script = λ arguments. refl; kind = refl };
+  keep = record { script = λ arguments. refl; kind = refl };
+  came = record { script = λ arguments. refl; kind = refl };
+  add = record { script = λ arguments. refl; kind = refl };
+}
+
+-- A kind that stands before the first space is the first word.
+kind_is_first : (front word : List ℕ) (more arguments : List (List ℕ)) → is_kind front ≡ true → first_and front more ≡ word ∷ arguments → is_kind word ≡ true
+unfolding is_kind
+kind_is_first [] word more arguments kind e = absurd cc
+kind_is_first (b ∷ front) word more arguments kind e = let same : b ∷ front ≡ word = cc in subst (λ (w : List ℕ). is_kind w ≡ true) same kind
+
+kind_first : (line word : List ℕ) (arguments : List (List ℕ)) → begins_datagram line ≡ true → words line ≡ word ∷ arguments → is_kind word ≡ true
+kind_first line word arguments begins first = at (split_once 32 line) refl where
+  at : (parts : Option (List ℕ × List ℕ)) → split_once 32 line ≡ parts → is_kind word ≡ true
+  at None is = kind_is_first line word [] arguments (sym (ap first_is_kind (words_whole line is)) ∙ begins) (sym (words_none [] line is) ∙ first)
+  at (Some (front, rest)) is =
+      kind_is_first front word (words rest) arguments (sym (ap first_is_kind (words_split_once line front rest is)) ∙ begins) (sym (words_split [] line front rest is) ∙ first)
+
+-- a line that a script takes has no such word in front
+not_taken : (opener line : List ℕ) (arguments : List (List ℕ)) (l : Command) → IsUnknown opener → words line ≡ opener ∷ arguments → line_of line ≡ Ok l → ⊥
+not_taken opener line arguments l none first e = at (begins_datagram line) refl e where
+  at : (begins : Bool) → begins_datagram line ≡ begins → (if begins then in_words (reading line) else line_of_words (words line)) ≡ Ok l → ⊥
+  at true begins taken = let kind : true ≡ false = sym (kind_first line opener arguments begins first) ∙ none.kind in absurd cc
+  at false begins taken =
+      let bad : ◌≡◌ {A = Result Command LineFault} (Err faults.Unknown) (Ok l) = sym (none.script arguments) ∙ sym (ap line_of_words first) ∙ taken in
+      absurd cc
+
+pub begins_other : (opener line word : List ℕ) (arguments : List (List ℕ)) (l : Command) → IsUnknown opener → words line ≡ word ∷ arguments → line_of line ≡ Ok l → bytes_eq word opener ≡ false
+begins_other opener line word arguments l none first e = at (bytes_eq word opener) refl where
+  at : (t : Bool) → bytes_eq word opener ≡ t → bytes_eq word opener ≡ false
+  at true same =
+      let is : word ≡ opener = (bytes_eq-Decides word opener).0 same in
+      absurd (not_taken opener line arguments l none (first ∙ ap (λ (w : List ℕ). w ∷ arguments) is) e)
+  at false other = other
+
+-- Nor does one stand before its first space.
 pub opens_other : (opener line word : List ℕ) (more : List (List ℕ)) (l : Command) → IsUnknown opener → nat_eq (length opener) 0 ≡ false → words line ≡ first_and word more → line_of line ≡ Ok l → bytes_eq word opener ≡ false
 opens_other opener line word more l none some first e = at (bytes_eq word opener) refl where
   at : (t : Bool) → bytes_eq word opener ≡ t → bytes_eq word opener ≡ false
   at true same =
       let is : word ≡ opener = (bytes_eq-Decides word opener).0 same in
-      let begins : words line ≡ opener ∷ more = first ∙ ap (λ (w : List ℕ). first_and w more) is ∙ ap (λ (t : Bool). if t then more else opener ∷ more) some in
-      let bad : ◌≡◌ {A = Result Command LineFault} (Err faults.Unknown) (Ok l) = sym (none more) ∙ sym (ap line_of_words begins) ∙ e in
-      absurd cc
+      absurd (not_taken opener line more l none (first ∙ ap (λ (w : List ℕ). first_and w more) is ∙ ap (λ (t : Bool). if t then more else opener ∷ more) some) e)
   at false other = other

@@ -1,25 +1,18 @@
--- The line of a datagram that is sent, behind the word of a driver's line.
-use Rattle.std.proofs.Common.{◌≡◌, ℕ, List, [], ◌∷◌, ◌++◌, Ok, Err, refl, sym, ap, ◌∙◌}
+-- The line of a datagram that is sent, behind the word of a line.
+use Rattle.std.proofs.Common.{◌≡◌, ℕ, List, ◌++◌, refl, ap, ◌∙◌}
 use Rattle.std.specs.Prelude.{codes}
-use Rattle.wb_codec.specs.declared.datagram.Datagram.{Datagram}
-use Rattle.wb_codec.specs.Ranges.{IsDatagram}
-use Rattle.wb_words.specs.declared.fault.WordFault.TheVariants as word_faults
-use Rattle.wb_words.specs.Reading.{reading, reading_of, datagram_at, wrong}
-use Rattle.wb_dialog.specs.Lines.{line_of_words, came_in, handed_in, command}
+use Rattle.wb_lines.specs.Words.{words}
+use Rattle.wb_dialog.specs.declared.line.DriverLine.TheVariants.{Script}
+use Rattle.wb_dialog.specs.Lines.{by_words, command, line_of}
 use Rattle.wb_dialog.specs.Laws.{SaidIsRead}
+use Rattle.wb_commands.specs.Parsing.{line_of as script_line_of}
 use Rattle.wb_commands.specs.SentLines.{digits_of}
-use Rattle.wb_commands.proofs.SentDigits.{one_word, datagram_read}
+use Rattle.wb_commands.proofs.SentDigits.{taken}
 
--- the first word is no kind of datagram
-no_kind : (rest : List ℕ) → reading (codes "datagram " ++ rest) ≡ wrong 1 word_faults.Unknown
-unfolding reading_of datagram_at
-no_kind rest = refl
-
-as_bytes : (line : List ℕ) (v : Datagram) → IsDatagram v → command line (codes "datagram") (digits_of v ∷ []) ≡ Ok (handed_in v)
+-- it is a script's
+as_script : (rest : List ℕ) → line_of (codes "datagram " ++ rest) ≡ by_words Script (script_line_of (codes "datagram " ++ rest))
 unfolding command
-as_bytes line v fits = rw (datagram_read v fits) refl
+as_script rest = refl
 
 pub said_is_read : SaidIsRead
-said_is_read v fits =
-    let line : List ℕ = codes "datagram " ++ digits_of v in
-    ap (came_in line) (no_kind (digits_of v)) ∙ ap (λ (ws : List (List ℕ)). line_of_words line (codes "datagram" ∷ ws)) (one_word v) ∙ as_bytes line v fits
+said_is_read v fits = as_script (digits_of v) ∙ ap (by_words Script) (taken v fits).by_bytes

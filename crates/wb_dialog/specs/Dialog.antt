@@ -7,7 +7,6 @@ use Rattle.wb_names.specs.declared.name.PageId.{PageId}
 use Rattle.wb_recovery.specs.declared.tuning.Tuning.{Tuning}
 use Rattle.wb_codec.specs.declared.datagram.Datagram.{Datagram as DatagramValue}
 use Rattle.wb_codec.specs.declared.datagram.Datagram.TheVariants as datagrams
-use Rattle.wb_words.specs.FaultText.{wrong_text}
 use Rattle.wb_words.specs.Spelling.{spelled}
 use Rattle.std.specs.declared.convert.Infallible.{Infallible}
 use Rattle.wb_lines.specs.Input.{InputLine, input_lines, content}
@@ -16,7 +15,6 @@ use Rattle.wb_lines.specs.Taking.{met, is_taken}
 use Rattle.wb_commands.specs.declared.command.Command.{Command}
 use Rattle.wb_commands.specs.declared.command.Command.TheVariants as lines
 use Rattle.wb_commands.specs.declared.fault.LineFault.TheVariants as faults
-use Rattle.wb_commands.specs.Faults.{line_text}
 use Rattle.wb_commands.specs.Answers.{batch_line, list_text, page_line}
 use Rattle.wb_commands.specs.SentLines.{send_line}
 use Rattle.wb_commands.specs.Acts.{Act, does, fails, act}
@@ -25,6 +23,7 @@ use Rattle.wb_dialog.specs.declared.line.DriverLine.{DriverLine}
 use Rattle.wb_dialog.specs.declared.line.DriverLine.TheVariants.{Script, Say, Next, View, Known, Ask, Stop, Keep, Came, Add}
 use Rattle.wb_dialog.specs.declared.fault.Refusal.{Refusal}
 use Rattle.wb_dialog.specs.declared.fault.Refusal.TheVariants as refusals
+use Rattle.wb_dialog.specs.Refusals.{refusal_text}
 use Rattle.wb_dialog.specs.Lines.{line_of}
 
 -- What a line does: it leads to a host, once a board was opened, and a text is printed; or it is refused.
@@ -141,17 +140,6 @@ answer tuning s (Ok line) = answer_to tuning s line
 answer tuning s (Err e) = refuses e
 
 -- ---- blocks
-
-abbrev pub refusal_text : Refusal → List ℕ
-refusal_text (refusals.Line e) = line_text e
-refusal_text (refusals.Word wrong) = wrong_text wrong
-refusal_text refusals.Member = codes "member"
-refusal_text refusals.Endless = codes "endless"
-refusal_text refusals.NotKept = codes "not kept"
-refusal_text refusals.Kept = codes "kept"
-refusal_text refusals.TooLate = codes "too late"
-refusal_text refusals.Listening = codes "listening"
-refusal_text refusals.Ours = codes "ours"
 
 -- the next moment at which a timer is due, where one stands
 abbrev pub due : Option Opened → Option ℕ

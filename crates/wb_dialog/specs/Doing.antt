@@ -18,12 +18,16 @@ use Rattle.wb_dialog.specs.declared.fault.HostFault.TheVariants as host_faults
 use Rattle.wb_dialog.specs.declared.opened.Host.{Host as HostValue}
 use Rattle.wb_dialog.specs.declared.opened.Host.TheVariants as values
 use Rattle.wb_dialog.specs.Dialog.{Answer, gives, refuses}
-use Rattle.wb_dialog.specs.Hosting.{Host, Driven, Kept, Reply, prints, denies, block_of, kept_refusal, Hosting}
+use Rattle.wb_dialog.specs.Hosting.{Host, Driven, Kept, Reply, prints, denies, block_of, host_after, kept_refusal, Hosting}
 
 -- The constants of the timers, and the host, once its board is open.
 pub record DialogValue : Type 0 where
   pub tuning : Tuning
   pub host : Option HostValue
+
+-- Something was written behind what waits, and this holds of it.
+abbrev pub Adds : List ℕ → List ℕ → (List ℕ → Type 0) → Type 0
+Adds before after holds = (written : List ℕ) × (after ≡ before ++ written) × holds written
 
 -- ---- a member whose driver judges
 
@@ -90,6 +94,13 @@ DoesReply s new written (Err (unanswered.Refused f)) (prints t text) = ⊥
 DoesReply s new written (Err (unanswered.Refused f)) (denies e) = (f ≡ e) × MayBeAt new s × (written ≡ [])
 DoesReply s new written (Err unanswered.Memory) r = BeginsWith (text_in r) written
 
+-- The same at each host at which one was that is open, and at each at which one was, once a board was opened.
+abbrev pub DoesOpen : {U : Type 0} → HostValue → HostValue → List ℕ → Result U Unanswered → (Host → Reply) → Type 0
+DoesOpen old new written result reply = (h : Host) → IsHostAt old h → DoesReply (Some h) (Some new) written result (reply h)
+
+abbrev pub DoesHost : {U : Type 0} → Option HostValue → Option HostValue → List ℕ → Result U Unanswered → (Option Host → Reply) → Type 0
+DoesHost old new written result reply = (s : Option Host) → MayBeAt old s → DoesReply s new written result (reply s)
+
 -- why a line is not done, by why a member that keeps itself does not do it
 abbrev pub unanswered_of : KeptFault → Unanswered
 unanswered_of (kept_faults.Host keep_faults.Memory) = unanswered.Memory
@@ -103,6 +114,10 @@ DoesKept old new written result reply = (k : Keeping) → IsKeptAt old k → Doe
 abbrev pub Blocks : {U E : Type 0} → Option HostValue → List ℕ → Result U E → Option Host → Reply → Type 0
 Blocks new written (Ok u) next r = MayBeAt new next × (written ≡ block_of r)
 Blocks new written (Err e) next r = BeginsWith (block_of r) written
+
+-- The same at each host at which one was, by what it replies there.
+abbrev pub BlocksAt : {U E : Type 0} → Option HostValue → Option HostValue → List ℕ → Result U E → (Option Host → Reply) → Type 0
+BlocksAt old new written result reply = (s : Option Host) → MayBeAt old s → Blocks new written result (host_after s (reply s)) (reply s)
 
 -- A dialog has the constants of a state, and its host is at that of the state.
 pub record IsAt (d : DialogValue) (s : Hosting) : Type 0 where

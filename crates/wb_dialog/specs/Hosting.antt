@@ -82,7 +82,7 @@ begins rate listen host (Some seed) = prints (Some (Kept (record { host = host; 
 
 -- The number of a target is the sixth word of a drawing.
 abbrev pub wrong_target : FieldFault → Refusal
-wrong_target fault = refusals.Word (record { place = 6; fault = word_faults.Field fault })
+wrong_target fault = refusals.Line (faults.Word (record { place = 6; fault = word_faults.Field fault }))
 
 -- Why a line is refused, by why its host refuses it. Of a moment it knows one fault.
 abbrev pub kept_refusal : KeptFault → Refusal

@@ -13,9 +13,9 @@ use Rattle.wb_member.specs.Opened.{Opened, next_number}
 use Rattle.wb_commands.specs.SentLines.{digits_of}
 use Rattle.wb_dialog.specs.declared.fault.Refusal.{Refusal}
 use Rattle.wb_commands.specs.declared.command.Command.{Command}
-use Rattle.wb_commands.specs.Parsing.{line_of as script_line_of}
+use Rattle.wb_commands.specs.Parsing.{handed_in, line_of as script_line_of}
 use Rattle.wb_dialog.specs.declared.line.DriverLine.TheVariants.{Script}
-use Rattle.wb_dialog.specs.Lines.{line_of, handed_in}
+use Rattle.wb_dialog.specs.Lines.{line_of}
 use Rattle.wb_dialog.specs.declared.line.DriverLine.{DriverLine}
 use Rattle.wb_dialog.specs.declared.line.DriverLine.TheVariants.{Keep}
 use Rattle.wb_dialog.specs.Dialog.{ok_line, refused_line, says_line, transcript as driven_transcript}
@@ -89,7 +89,7 @@ NextIsNew = (page : PageId) (host : Opened) (n : ℕ) → next_number page host 
 
 -- What `say` prints as sent is read back, behind the word `datagram`, as what was said.
 abbrev pub SaidIsRead : Type 0
-SaidIsRead = (v : Datagram) → IsDatagram v → line_of (codes "datagram " ++ digits_of v) ≡ Ok (handed_in v)
+SaidIsRead = (v : Datagram) → IsDatagram v → line_of (codes "datagram " ++ digits_of v) ≡ Ok (Script (handed_in v))
 
 -- ---- what a script says
 

@@ -1,17 +1,16 @@
 -- What a line of a driver says, or its first fault.
-use Rattle.std.specs.Prelude.{◌≡◌, ◌≤◌, ◌<◌, ℕ, ◌-◌, ◌^◌, List, [], ◌∷◌, Bool, Option, Some, None, Result, Ok, Err, if◌then◌else◌, nat_eq, codes}
+use Rattle.std.specs.Prelude.{◌≡◌, ◌≤◌, ◌<◌, ℕ, ◌-◌, ◌^◌, List, [], ◌∷◌, Bool, Option, Some, None, Result, Ok, Err, if◌then◌else◌, codes}
 use Rattle.std.specs.Str.{bytes_eq}
 use Rattle.wb_names.specs.Values.{NameValue}
 use Rattle.wb_codec.specs.declared.datagram.Datagram.{Datagram as DatagramValue}
 use Rattle.wb_words.specs.declared.fault.WrongWord.{WrongWord}
+use Rattle.wb_words.specs.declared.fault.WordsFault.{WordsFault}
+use Rattle.wb_words.specs.declared.fault.WordsFault.TheVariants as words_faults
 use Rattle.wb_words.specs.Words.{split_once}
 use Rattle.wb_words.specs.Adding.{adding_reading}
 use Rattle.wb_words.specs.Reading.{reading as reading_words}
 use Rattle.wb_words.specs.declared.adding.Adding.{Adding}
 use Rattle.wb_lines.specs.Words.{words}
-use Rattle.wb_codec.specs.declared.datagram.Datagram.TheVariants as datagrams
-use Rattle.wb_commands.specs.declared.command.Command.{Command}
-use Rattle.wb_commands.specs.declared.command.Command.TheVariants as lines
 use Rattle.wb_commands.specs.declared.fault.LineFault.{LineFault}
 use Rattle.wb_commands.specs.declared.fault.LineFault.TheVariants as faults
 use Rattle.wb_commands.specs.declared.fault.Untaken.{Untaken}
@@ -50,14 +49,6 @@ name arguments = do
   seq ← number 1 (2 ^ 32 - 1) words'.3
   Ok (record { source = source; page = record { creator = creator; number = number' }; seq = seq })
 
--- The line of a script that hands in a datagram: drawops arrive, and every other datagram is heard.
-abbrev pub handed_in : DatagramValue → DriverLine
-handed_in (datagrams.Draw d) = Script (lines.Arrive d)
-handed_in v = Script (lines.Hear v)
-
-abbrev pub bytes_line : List (List ℕ) → Result DriverLine Refusal
-bytes_line arguments = by_words handed_in (datagram arguments)
-
 abbrev pub known_line : List (List ℕ) → Result DriverLine Refusal
 known_line arguments = by_words (λ nothing. Known) (or_fault faults.Words (none_of arguments))
 
@@ -89,8 +80,7 @@ came_line arguments = do
 -- `say` and `add` stand one space after it, so where they do not, they are wrong.
 unfoldable pub command : List ℕ → List ℕ → List (List ℕ) → Result DriverLine Refusal
 command line word arguments =
-    if bytes_eq word (codes "datagram") then bytes_line arguments
-    else (if bytes_eq word (codes "say") then Err (refusals.Line faults.Words)
+    if bytes_eq word (codes "say") then Err (refusals.Line faults.Words)
     else (if bytes_eq word (codes "next") then by_words Next (page arguments)
     else (if bytes_eq word (codes "view") then by_words View (page arguments)
     else (if bytes_eq word (codes "known") then known_line arguments
@@ -99,31 +89,26 @@ command line word arguments =
     else (if bytes_eq word (codes "keep") then by_words (λ line. line) (keep_line arguments)
     else (if bytes_eq word (codes "came") then by_words (λ line. line) (came_line arguments)
     else (if bytes_eq word (codes "add") then Err (refusals.Line faults.Words)
-    else by_words Script (script_line_of line))))))))))
+    else by_words Script (script_line_of line)))))))))
 
 abbrev pub line_of_words : List ℕ → List (List ℕ) → Result DriverLine Refusal
 line_of_words line [] = by_words Script (script_line_of line)
 line_of_words line (word ∷ arguments) = command line word arguments
 
--- a line whose first word is no kind of datagram is none in words
-abbrev pub unless_other : List ℕ → WrongWord → Result DriverLine Refusal
-unless_other line wrong = if nat_eq wrong.place 1 then line_of_words line (words line) else Err (refusals.Word wrong)
-
-abbrev pub came_in : List ℕ → Result DatagramValue WrongWord → Result DriverLine Refusal
-came_in line (Ok v) = Ok (handed_in v)
-came_in line (Err wrong) = unless_other line wrong
+-- the line of what is read in words, or its first word that is wrong
+abbrev pub in_words : {A : Type 0} → (A → DriverLine) → Result A WrongWord → Result DriverLine Refusal
+in_words line (Ok x) = Ok (line x)
+in_words line (Err wrong) = Err (refusals.Line (faults.Word wrong))
 
 abbrev pub said_by : Result DatagramValue WrongWord → Result DriverLine Refusal
-said_by (Ok v) = Ok (Say v)
-said_by (Err wrong) = Err (refusals.Word wrong)
+said_by read = in_words Say read
 
 abbrev pub added_by : Result Adding WrongWord → Result DriverLine Refusal
-added_by (Ok adding) = Ok (Add adding)
-added_by (Err wrong) = Err (refusals.Word wrong)
+added_by read = in_words Add read
 
 -- by what stands behind the word `say`, or behind the word `add`
 abbrev pub line_behind : List ℕ → Option (List ℕ) → Option (List ℕ) → Result DriverLine Refusal
-line_behind line None None = came_in line (reading_words line)
+line_behind line None None = line_of_words line (words line)
 line_behind line None (Some rest) = added_by (adding_reading rest)
 line_behind line (Some rest) added = said_by (reading_words rest)
 
@@ -150,6 +135,11 @@ IsWithin (Add adding) = adding.moment < 2 ^ 48
 abbrev pub unanswered_by : Untaken → Unanswered
 unanswered_by (untaken.Line e) = unanswered.Refused (refusals.Line e)
 unanswered_by untaken.Memory = unanswered.Memory
+
+-- why what is said in words was not read
+abbrev pub unanswered_words : WordsFault → Unanswered
+unanswered_words (words_faults.Word wrong) = unanswered.Refused (refusals.Line (faults.Word wrong))
+unanswered_words words_faults.Memory = unanswered.Memory
 
 -- what a line says, its first fault, or want of memory
 abbrev pub Parses : {X : Type 0} → Result X Unanswered → Result X Refusal → Type 0

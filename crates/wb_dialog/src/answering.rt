@@ -1,5 +1,5 @@
 //! What the lines of a driver do at an open member.
-ghost use Rattle.std.specs.Prelude.{◌≡◌, ◌++◌, List, ℕ, OnOk, OnErr};
+ghost use Rattle.std.specs.Prelude.{◌≡◌, ◌++◌, OnOk, OnErr};
 ghost use Rattle.wb_member.specs.Holding.{outcome_in};
 ghost use Rattle.wb_member.specs.Opened.{next_number};
 ghost use Rattle.wb_commands.specs.Acts.{act};
@@ -7,7 +7,7 @@ ghost use Rattle.wb_commands.specs.Parsing.{IsWithin as IsScriptWithin};
 ghost use Rattle.wb_dialog.specs.Lines.{IsWithin};
 ghost use Rattle.wb_commands.specs.SentLines.{send_line};
 ghost use Rattle.wb_dialog.specs.Dialog.{answered, arrives, batch_of, goes_out, speaker, says, script_answer, numbered, answer_at};
-ghost use Rattle.wb_dialog.specs.Doing.{DoesAt};
+ghost use Rattle.wb_dialog.specs.Doing.{DoesAt, Adds};
 
 use crate::blocks::{ask_line, known_text, next_line, stop_line, view_text};
 use crate::fault::{Refusal, Unanswered};
@@ -28,7 +28,8 @@ fn act(
     output: &mut Output,
 ) -> Result<(), Unanswered>
     requires { IsScriptWithin command.now }
-    ensures text { (written : List ℕ) × (output.new ≡ output.old ++ written) × DoesAt member.old member.new written result (λ host. answered (act command.now host)) }
+    ensures text { Adds output.old output.new (λ written.
+        DoesAt member.old member.new written result (λ host. answered (act command.now host))) }
 {
     match wb_commands::act(alloc, member, command, output) {
         Ok(()) => Ok(()),
@@ -44,7 +45,8 @@ fn arrive(
     drawop: &Drawop,
     output: &mut Output,
 ) -> Result<(), Unanswered>
-    ensures text { (written : List ℕ) × (output.new ≡ output.old ++ written) × DoesAt member.old member.new written result (λ host. arrives drawop.now host) }
+    ensures text { Adds output.old output.new (λ written.
+        DoesAt member.old member.new written result (arrives drawop.now)) }
 {
     let became = member.accept(drawop)?;
     count(alloc, became, output)?;
@@ -59,7 +61,8 @@ fn script(
     output: &mut Output,
 ) -> Result<(), Unanswered>
     requires { IsScriptWithin command.now }
-    ensures text { (written : List ℕ) × (output.new ≡ output.old ++ written) × DoesAt member.old member.new written result (λ host. script_answer command.now host) }
+    ensures text { Adds output.old output.new (λ written.
+        DoesAt member.old member.new written result (script_answer command.now)) }
 {
     match command {
         Command::Arrive(drawop) => arrive(alloc, member, drawop, output),
@@ -106,7 +109,8 @@ fn publish(
     drawop: &Drawop,
     output: &mut Output,
 ) -> Result<(), Unanswered>
-    ensures text { (written : List ℕ) × (output.new ≡ output.old ++ written) × DoesAt member.old member.new written result (λ host. goes_out (Datagram.Draw drawop.now) host) }
+    ensures text { Adds output.old output.new (λ written.
+        DoesAt member.old member.new written result (goes_out (Datagram.Draw drawop.now))) }
 {
     let became = member.accept(drawop)?;
     match became {
@@ -125,7 +129,8 @@ fn go_out(
     datagram: &Datagram,
     output: &mut Output,
 ) -> Result<(), Unanswered>
-    ensures text { (written : List ℕ) × (output.new ≡ output.old ++ written) × DoesAt member.old member.new written result (λ host. goes_out datagram.now host) }
+    ensures text { Adds output.old output.new (λ written.
+        DoesAt member.old member.new written result (goes_out datagram.now)) }
 {
     if let Datagram::Draw(drawop) = datagram {
         return publish(alloc, member, drawop, output);
@@ -141,7 +146,8 @@ fn say(
     datagram: &Datagram,
     output: &mut Output,
 ) -> Result<(), Unanswered>
-    ensures text { (written : List ℕ) × (output.new ≡ output.old ++ written) × DoesAt member.old member.new written result (λ host. says datagram.now host) }
+    ensures text { Adds output.old output.new (λ written.
+        DoesAt member.old member.new written result (says datagram.now)) }
 {
     if speaker(datagram) != member.me() {
         return Err(Unanswered::Refused(Refusal::Member));
@@ -151,7 +157,9 @@ fn say(
 
 /// The number of our next drawop on a page is asked for.
 fn next(alloc: Global, member: &Member, page: PageId, output: &mut Output) -> Result<(), Unanswered>
-    ensures text { (written : List ℕ) × (output.new ≡ output.old ++ written) × DoesAt member.now member.now written result (λ host. numbered host (next_number page host)) }
+    ensures text { Adds output.old output.new (λ written.
+        DoesAt member.now member.now written result
+        (λ host. numbered host (next_number page host))) }
 {
     let Some(number) = member.next_number(page) else {
         return Err(Unanswered::Refused(Refusal::Line(LineFault::TooMany)));
@@ -167,7 +175,8 @@ fn view(
     page: PageId,
     output: &mut Output,
 ) -> Result<(), Unanswered>
-    ensures text { (written : List ℕ) × (output.new ≡ output.old ++ written) × DoesAt member.old member.new written result (λ host. answer_at (DriverLine.View page) host) }
+    ensures text { Adds output.old output.new (λ written.
+        DoesAt member.old member.new written result (answer_at (DriverLine.View page))) }
 {
     let drawops = member.view(alloc, page)?;
     output.add(view_text(alloc, &drawops)?.as_slice())?;
@@ -176,7 +185,8 @@ fn view(
 
 /// The pages that are known are asked for.
 fn known(alloc: Global, member: &mut Member, output: &mut Output) -> Result<(), Unanswered>
-    ensures text { (written : List ℕ) × (output.new ≡ output.old ++ written) × DoesAt member.old member.new written result (λ host. answer_at DriverLine.Known host) }
+    ensures text { Adds output.old output.new (λ written.
+        DoesAt member.old member.new written result (answer_at DriverLine.Known)) }
 {
     let pages = member.known(alloc)?;
     output.add(known_text(alloc, &pages)?.as_bytes())?;
@@ -190,7 +200,8 @@ fn ask(
     name: &Name,
     output: &mut Output,
 ) -> Result<(), Unanswered>
-    ensures text { (written : List ℕ) × (output.new ≡ output.old ++ written) × DoesAt member.old member.new written result (λ host. answer_at (DriverLine.Ask name.now) host) }
+    ensures text { Adds output.old output.new (λ written.
+        DoesAt member.old member.new written result (answer_at (DriverLine.Ask name.now))) }
 {
     let begun = member.ask(alloc, name)?;
     output.add(ask_line(begun))?;
@@ -199,7 +210,8 @@ fn ask(
 
 /// It gives up asking for a name.
 fn stop(member: &mut Member, name: &Name, output: &mut Output) -> Result<(), Unanswered>
-    ensures text { (written : List ℕ) × (output.new ≡ output.old ++ written) × DoesAt member.old member.new written result (λ host. answer_at (DriverLine.Stop name.now) host) }
+    ensures text { Adds output.old output.new (λ written.
+        DoesAt member.old member.new written result (answer_at (DriverLine.Stop name.now))) }
 {
     let asked = member.stop(name);
     output.add(stop_line(asked))?;
@@ -214,7 +226,8 @@ pub(crate) fn answer(
     output: &mut Output,
 ) -> Result<(), Unanswered>
     requires { IsWithin line.now }
-    ensures text { (written : List ℕ) × (output.new ≡ output.old ++ written) × DoesAt member.old member.new written result (λ host. answer_at line.now host) }
+    ensures text { Adds output.old output.new (λ written.
+        DoesAt member.old member.new written result (answer_at line.now)) }
 {
     match line {
         DriverLine::Script(line) => script(alloc, member, line, output),

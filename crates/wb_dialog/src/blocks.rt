@@ -1,14 +1,14 @@
 //! The texts of a block.
 ghost use Rattle.std.specs.Prelude.{◌≡◌, IfOk};
 ghost use Rattle.std.specs.String.{string_bytes};
-ghost use Rattle.wb_dialog.specs.Dialog.{view_text, known_text, words_line, next_line, ask_line, stop_line, refusal_text, due_word, ok_line, refused_line};
+ghost use Rattle.wb_dialog.specs.Dialog.{view_text, known_text, words_line, next_line, ask_line, stop_line, due_word, ok_line, refused_line};
 
 use crate::fault::Refusal;
 use std::alloc::{AllocError, Global};
 use wb_codec::Datagram;
 use wb_commands::list_text;
 use wb_names::{Drawop, PageId};
-use wb_words::{write_words, wrong_text};
+use wb_words::write_words;
 
 /// The number of our next drawop on a page.
 pub(crate) fn next_line(alloc: Global, number: u32) -> Result<String, AllocError>
@@ -59,28 +59,11 @@ pub(crate) fn stop_line(asked: bool) -> &'static [u8]
     if asked { b"stop 1\n" } else { b"stop 0\n" }
 }
 
-fn refusal_text(alloc: Global, refusal: Refusal) -> Result<String, AllocError>
-    ensures { IfOk result (λ text. string_bytes text ≡ refusal_text refusal) }
-{
-    match refusal {
-        Refusal::Line(fault) => format!(in alloc; "{fault}"),
-        Refusal::Word(wrong) => wrong_text(alloc, wrong),
-        Refusal::Member => format!(in alloc; "member"),
-        Refusal::Endless => format!(in alloc; "endless"),
-        Refusal::NotKept => format!(in alloc; "not kept"),
-        Refusal::Kept => format!(in alloc; "kept"),
-        Refusal::TooLate => format!(in alloc; "too late"),
-        Refusal::Listening => format!(in alloc; "listening"),
-        Refusal::Ours => format!(in alloc; "ours"),
-    }
-}
-
 /// The line that closes the block of a line that is refused.
 pub(crate) fn refused_line(alloc: Global, refusal: Refusal) -> Result<String, AllocError>
     ensures { IfOk result (λ text. string_bytes text ≡ refused_line refusal) }
 {
-    let fault = refusal_text(alloc, refusal)?;
-    format!(in alloc; "refused {fault}\n")
+    format!(in alloc; "refused {refusal}\n")
 }
 
 fn due_word(alloc: Global, due: Option<u64>) -> Result<String, AllocError>

@@ -1,10 +1,10 @@
 //! A host as a handler of the lines of a driver: each line has its block.
-ghost use Rattle.std.specs.Prelude.{◌≡◌, ◌≤◌, ◌++◌, List, [], ℕ, None, Option, Err, true};
+ghost use Rattle.std.specs.Prelude.{◌≡◌, ◌≤◌, [], None, Option, Err, true};
 ghost use Rattle.wb_recovery.specs.Timing.{are_constants};
 ghost use Rattle.wb_dialog.specs.Lines.{IsWithin, line_of};
 ghost use Rattle.wb_dialog.specs.Dialog.{ok_line};
-ghost use Rattle.wb_dialog.specs.Hosting.{Host as HostState, due_at, host_after, keep_reply, reply, reply_to, taken_reply};
-ghost use Rattle.wb_dialog.specs.Doing.{DoesReply, MayBeAt, Prints, Blocks};
+ghost use Rattle.wb_dialog.specs.Hosting.{Host as HostState, due_at, keep_reply, reply, reply_to, taken_reply};
+ghost use Rattle.wb_dialog.specs.Doing.{DoesReply, MayBeAt, Prints, Adds, DoesHost, BlocksAt};
 
 use crate::blocks::{ok_line, refused_line};
 use crate::fault::{Refusal, Unanswered};
@@ -61,7 +61,8 @@ impl Dialog {
     fn begin(&mut self, alloc: Global, line: &DriverLine) -> Result<(), Unanswered>
         requires line { IsWithin line.now }
         requires closed { self.old.host ≡ None }
-        ensures does { DoesReply None self.new.host [] result (taken_reply self.old.tuning None line.now) }
+        ensures does { DoesReply None self.new.host [] result
+            (taken_reply self.old.tuning None line.now) }
         ensures tuning { self.new.tuning ≡ self.old.tuning }
     {
         match line {
@@ -89,7 +90,9 @@ impl Dialog {
         output: &mut Output,
     ) -> Result<(), Unanswered>
         requires { IsWithin line.now }
-        ensures text { (written : List ℕ) × (output.new ≡ output.old ++ written) × ((s : Option HostState) → MayBeAt self.old.host s → DoesReply s self.new.host written result (taken_reply self.old.tuning s line.now)) }
+        ensures text { Adds output.old output.new (λ written.
+            DoesHost self.old.host self.new.host written result
+            (λ s. taken_reply self.old.tuning s line.now)) }
         ensures tuning { self.new.tuning ≡ self.old.tuning }
     {
         match &mut self.host {
@@ -101,7 +104,7 @@ impl Dialog {
     /// From now on the host keeps itself, where it may.
     fn keep(&mut self, rate: u32, listen: u32) -> Result<(), Unanswered>
         requires rate { 1 ≤ rate }
-        ensures does { (s : Option HostState) → MayBeAt self.old.host s → DoesReply s self.new.host [] result (keep_reply rate listen s) }
+        ensures does { DoesHost self.old.host self.new.host [] result (keep_reply rate listen) }
         ensures tuning { self.new.tuning ≡ self.old.tuning }
     {
         let Some(host) = self.host.take() else {
@@ -120,7 +123,9 @@ impl Dialog {
         output: &mut Output,
     ) -> Result<(), Unanswered>
         requires { IsWithin line.now }
-        ensures text { (written : List ℕ) × (output.new ≡ output.old ++ written) × ((s : Option HostState) → MayBeAt self.old.host s → DoesReply s self.new.host written result (reply_to self.old.tuning s line.now)) }
+        ensures text { Adds output.old output.new (λ written.
+            DoesHost self.old.host self.new.host written result
+            (λ s. reply_to self.old.tuning s line.now)) }
         ensures tuning { self.new.tuning ≡ self.old.tuning }
     {
         match line {
@@ -131,7 +136,9 @@ impl Dialog {
 
     /// Reads a line, which stands without its end, and does what it says.
     fn read(&mut self, alloc: Global, content: &[u8], output: &mut Output) -> Result<(), Unanswered>
-        ensures text { (written : List ℕ) × (output.new ≡ output.old ++ written) × ((s : Option HostState) → MayBeAt self.old.host s → DoesReply s self.new.host written result (reply self.old.tuning s (line_of content.now))) }
+        ensures text { Adds output.old output.new (λ written.
+            DoesHost self.old.host self.new.host written result
+            (λ s. reply self.old.tuning s (line_of content.now))) }
         ensures tuning { self.new.tuning ≡ self.old.tuning }
     {
         let line = read_line(alloc, content)?;
@@ -140,7 +147,9 @@ impl Dialog {
 
     /// Closes the block of a line that was taken.
     fn close(&self, alloc: Global, output: &mut Output) -> Result<(), AllocError>
-        ensures { (written : List ℕ) × (output.new ≡ output.old ++ written) × ((s : Option HostState) → MayBeAt self.now.host s → Prints written result (ok_line (due_at s))) }
+        ensures { Adds output.old output.new (λ written.
+            (s : Option HostState) → MayBeAt self.now.host s →
+            Prints written result (ok_line (due_at s))) }
     {
         let text = ok_line(alloc, self.next_due())?;
         output.add(text.as_bytes())
@@ -155,7 +164,9 @@ impl Dialog {
         content: &[u8],
         output: &mut Output,
     ) -> Result<(), AllocError>
-        ensures text { (written : List ℕ) × (output.new ≡ output.old ++ written) × ((s : Option HostState) → MayBeAt self.old.host s → (let r = reply self.old.tuning s (line_of content.now) in Blocks self.new.host written result (host_after s r) r)) }
+        ensures text { Adds output.old output.new (λ written.
+            BlocksAt self.old.host self.new.host written result
+            (λ s. reply self.old.tuning s (line_of content.now))) }
         ensures tuning { self.new.tuning ≡ self.old.tuning }
     {
         match self.read(alloc, content, output) {
@@ -173,7 +184,9 @@ impl Dialog {
         output: &mut Output,
     ) -> Result<(), AllocError>
         ensures same { self.new ≡ self.old }
-        ensures text { (written : List ℕ) × (output.new ≡ output.old ++ written) × ((s : Option HostState) → MayBeAt self.old.host s → (let r = reply self.old.tuning s (Err refusal) in Blocks self.new.host written result (host_after s r) r)) }
+        ensures text { Adds output.old output.new (λ written.
+            BlocksAt self.old.host self.new.host written result
+            (λ s. reply self.old.tuning s (Err refusal))) }
     {
         let text = refused_line(alloc, refusal)?;
         output.add(text.as_bytes())

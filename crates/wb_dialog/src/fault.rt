@@ -4,51 +4,60 @@ ghost use Rattle.wb_dialog.specs.declared.fault.Unanswered.TheVariants as unansw
 ghost use Rattle.wb_dialog.specs.declared.fault.Refusal.TheVariants as refusals;
 
 use std::alloc::{AllocError, AllocFailed};
+use std::{error, fmt};
 use thiserror::Error;
 use wb_commands::LineFault;
-use wb_words::WrongWord;
 
 /// Why a line of a driver is refused.
-#[derive(Clone, Copy, Debug, PartialEq, Eq, Error)]
+#[derive(Clone, Copy, Debug, PartialEq, Eq)]
 pub enum Refusal {
     /// As a script's line is: `unknown`, `words`, `number`, `hex`, `datagram N`, `kind`, `no board`, `second
-    /// board`, `back in time` or `too many`.
-    #[error("{0}")]
+    /// board`, `back in time`, `too many` or `word N: ..`. The last of what is to be said or added, too.
     Line(LineFault),
-    /// A word of a datagram in words is wrong, by its place among them.
-    #[error("{0}")]
-    Word(WrongWord),
     /// What is to be said names another member as its source, sender or asker.
-    #[error("member")]
     Member,
     /// The line has over 65,536 bytes before its line feed.
-    #[error("endless")]
     Endless,
     /// The line is one of a host that keeps itself, and this one does not.
-    #[error("not kept")]
     NotKept,
     /// The line is for its driver to judge, and the host keeps itself.
-    #[error("kept")]
     Kept,
     /// A line that acts was taken, so the host can't begin to keep itself.
-    #[error("too late")]
     TooLate,
     /// Nothing is added yet.
-    #[error("listening")]
     Listening,
     /// A drawop of our own number of 2^31 or more that is not held.
-    #[error("ours")]
     Ours,
 }
 
+impl fmt::Display for Refusal {
+    ghost use Rattle.std.specs.Prelude.{Some};
+    ghost use Rattle.wb_dialog.specs.Refusals.{refusal_text};
+
+    ghost output = { λ e. Some (refusal_text e) };
+
+    fn fmt<W: fmt::Write>(&self, f: &mut fmt::Formatter<W>) -> fmt::Result {
+        match self {
+            Refusal::Line(fault) => write!(f, "{fault}"),
+            Refusal::Member => f.write_str("member"),
+            Refusal::Endless => f.write_str("endless"),
+            Refusal::NotKept => f.write_str("not kept"),
+            Refusal::Kept => f.write_str("kept"),
+            Refusal::TooLate => f.write_str("too late"),
+            Refusal::Listening => f.write_str("listening"),
+            Refusal::Ours => f.write_str("ours"),
+        }
+    }
+}
+
+impl error::Error for Refusal {}
+
 /// Why a line was not answered with what it does.
-#[derive(Clone, Copy, Debug, PartialEq, Eq, Error)]
+#[derive(Clone, Copy, Debug, PartialEq, Eq)]
 pub(crate) enum Unanswered {
     /// It is refused.
-    #[error("{0}")]
     Refused(Refusal),
     /// Memory ran out. This says nothing of the line.
-    #[error("memory")]
     Memory,
 }
 

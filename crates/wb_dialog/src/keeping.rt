@@ -1,13 +1,13 @@
 //! What the lines of a driver do at a host that keeps itself.
-ghost use Rattle.std.specs.Prelude.{◌≡◌, ◌<◌, ◌^◌, ◌++◌, List, [], ℕ, IfOk, true};
+ghost use Rattle.std.specs.Prelude.{◌≡◌, ◌<◌, ◌^◌, ◌++◌, IfOk, true};
 ghost use Rattle.std.specs.String.{string_bytes};
 ghost use Rattle.wb_names.specs.Shapes.{op_of};
 ghost use Rattle.wb_member.specs.Holding.{outcome_in};
 ghost use Rattle.wb_display.specs.Canvas.{is_canvas_size};
 ghost use Rattle.wb_commands.specs.Parsing.{IsWithin as IsScriptWithin};
 ghost use Rattle.wb_commands.specs.SentLines.{sends_text};
-ghost use Rattle.wb_dialog.specs.Doing.{DoesKept, Tells, unanswered_of};
-ghost use Rattle.wb_dialog.specs.Hosting.{came_text, kept_adds, kept_draws, kept_reply, kept_takes, kept_ticks, unsent_text};
+ghost use Rattle.wb_dialog.specs.Doing.{DoesKept, Tells, unanswered_of, Adds};
+ghost use Rattle.wb_dialog.specs.Hosting.{came_text, kept_adds, kept_draws, kept_reply, kept_takes, kept_ticks, unsent_text, wrong_target};
 ghost use Rattle.wb_dialog.specs.Lines.{IsWithin};
 
 use crate::blocks::{known_text, next_line, view_text};
@@ -28,13 +28,14 @@ use wb_words::{Adding, WordFault, WrongWord};
 const TARGET: u32 = 6;
 
 /// A fault of a drawing that has its number now: its target is itself.
-fn wrong_target(fault: FieldFault) -> WrongWord
-    ensures { result ≡ record { place = 6; fault = WordFault.Field fault } }
+fn wrong_target(fault: FieldFault) -> Refusal
+    ensures { result ≡ wrong_target fault }
 {
-    WrongWord {
+    let fault = WordFault::Field(fault);
+    Refusal::Line(LineFault::Word(WrongWord {
         place: TARGET,
-        fault: WordFault::Field(fault),
-    }
+        fault,
+    }))
 }
 
 /// Why a host that keeps itself does not do a line.
@@ -47,7 +48,7 @@ fn refused(fault: KeptFault) -> Unanswered
         KeptFault::Listening => Unanswered::Refused(Refusal::Listening),
         KeptFault::Ours => Unanswered::Refused(Refusal::Ours),
         KeptFault::Numbers => Unanswered::Refused(Refusal::Line(LineFault::TooMany)),
-        KeptFault::Operation(fault) => Unanswered::Refused(Refusal::Word(wrong_target(fault))),
+        KeptFault::Operation(fault) => Unanswered::Refused(wrong_target(fault)),
     }
 }
 
@@ -58,7 +59,8 @@ fn tell(
     text: &[u8],
     output: &mut Output,
 ) -> Result<(), Unanswered>
-    ensures { (written : List ℕ) × (output.new ≡ output.old ++ written) × Tells written result (sends_text sent.now ++ text.now) }
+    ensures { Adds output.old output.new (λ written.
+        Tells written result (sends_text sent.now ++ text.now)) }
 {
     print_sends(alloc, sent, output)?;
     output.add(text)?;
@@ -74,7 +76,8 @@ fn tick(
     output: &mut Output,
 ) -> Result<(), Unanswered>
     requires { now < 2 ^ 48 }
-    ensures text { (written : List ℕ) × (output.new ≡ output.old ++ written) × DoesKept kept.old kept.new written result (kept_ticks now) }
+    ensures text { Adds output.old output.new (λ written.
+        DoesKept kept.old kept.new written result (kept_ticks now)) }
 {
     match kept.tick(alloc, now) {
         Ok(sent) => tell(alloc, &sent, b"", output),
@@ -102,7 +105,8 @@ fn came(
     output: &mut Output,
 ) -> Result<(), Unanswered>
     requires { now < 2 ^ 48 }
-    ensures text { (written : List ℕ) × (output.new ≡ output.old ++ written) × DoesKept kept.old kept.new written result (kept_takes now datagram.now) }
+    ensures text { Adds output.old output.new (λ written.
+        DoesKept kept.old kept.new written result (kept_takes now datagram.now)) }
 {
     match kept.came(alloc, now, datagram) {
         Ok(Done { sent, became }) => {
@@ -150,7 +154,9 @@ fn draw(
     output: &mut Output,
 ) -> Result<(), Unanswered>
     requires { adding.now.moment < 2 ^ 48 }
-    ensures text { (written : List ℕ) × (output.new ≡ output.old ++ written) × DoesKept kept.old kept.new written result (kept_draws adding.now.moment adding.now.page adding.now.time (op_of shape.entry)) }
+    ensures text { Adds output.old output.new (λ written.
+        DoesKept kept.old kept.new written result
+        (kept_draws adding.now.moment adding.now.page adding.now.time (op_of shape.entry))) }
 {
     match kept.add(alloc, adding.moment, adding.page, adding.time, shape) {
         Ok(Done { sent, became }) => {
@@ -169,7 +175,8 @@ fn add(
     output: &mut Output,
 ) -> Result<(), Unanswered>
     requires { adding.now.moment < 2 ^ 48 }
-    ensures text { (written : List ℕ) × (output.new ≡ output.old ++ written) × DoesKept kept.old kept.new written result (kept_adds adding.now) }
+    ensures text { Adds output.old output.new (λ written.
+        DoesKept kept.old kept.new written result (kept_adds adding.now)) }
 {
     draw(alloc, kept, adding, shape_of(&adding.op), output)
 }
@@ -184,7 +191,9 @@ fn show(
     output: &mut Output,
 ) -> Result<(), Unanswered>
     requires { is_canvas_size width height ≡ true }
-    ensures text { (written : List ℕ) × (output.new ≡ output.old ++ written) × DoesKept kept.old kept.new written result (kept_reply (DriverLine.Script (Command.Show page width height))) }
+    ensures text { Adds output.old output.new (λ written.
+        DoesKept kept.old kept.new written result
+        (kept_reply (DriverLine.Script (Command.Show page width height)))) }
 {
     let canvas = kept.show(alloc, page, width, height)?;
     output.add(canvas.bytes())?;
@@ -198,7 +207,9 @@ fn gaps(
     page: PageId,
     output: &mut Output,
 ) -> Result<(), Unanswered>
-    ensures text { (written : List ℕ) × (output.new ≡ output.old ++ written) × DoesKept kept.old kept.new written result (kept_reply (DriverLine.Script (Command.Gaps page))) }
+    ensures text { Adds output.old output.new (λ written.
+        DoesKept kept.old kept.new written result
+        (kept_reply (DriverLine.Script (Command.Gaps page)))) }
 {
     let gaps = kept.gaps(alloc, page)?;
     output.add(gaps_text(alloc, &gaps)?.as_bytes())?;
@@ -212,7 +223,9 @@ fn report(
     page: PageId,
     output: &mut Output,
 ) -> Result<(), Unanswered>
-    ensures text { (written : List ℕ) × (output.new ≡ output.old ++ written) × DoesKept kept.old kept.new written result (kept_reply (DriverLine.Script (Command.Report page))) }
+    ensures text { Adds output.old output.new (λ written.
+        DoesKept kept.old kept.new written result
+        (kept_reply (DriverLine.Script (Command.Report page)))) }
 {
     let marks = kept.report(alloc, page)?;
     output.add(report_text(alloc, marks.as_slice())?.as_bytes())?;
@@ -221,7 +234,8 @@ fn report(
 
 /// The pages that have drawops are asked for.
 fn pages(alloc: Global, kept: &mut KeptMember, output: &mut Output) -> Result<(), Unanswered>
-    ensures text { (written : List ℕ) × (output.new ≡ output.old ++ written) × DoesKept kept.old kept.new written result (kept_reply (DriverLine.Script Command.Pages)) }
+    ensures text { Adds output.old output.new (λ written.
+        DoesKept kept.old kept.new written result (kept_reply (DriverLine.Script Command.Pages))) }
 {
     let pages = kept.pages(alloc)?;
     output.add(pages_text(alloc, &pages)?.as_bytes())?;
@@ -236,7 +250,8 @@ fn script(
     output: &mut Output,
 ) -> Result<(), Unanswered>
     requires { IsScriptWithin command.now }
-    ensures text { (written : List ℕ) × (output.new ≡ output.old ++ written) × DoesKept kept.old kept.new written result (kept_reply (DriverLine.Script command.now)) }
+    ensures text { Adds output.old output.new (λ written.
+        DoesKept kept.old kept.new written result (kept_reply (DriverLine.Script command.now))) }
 {
     match command {
         Command::Skip => Ok(()),
@@ -261,7 +276,8 @@ fn next(
     page: PageId,
     output: &mut Output,
 ) -> Result<(), Unanswered>
-    ensures text { (written : List ℕ) × (output.new ≡ output.old ++ written) × DoesKept kept.now kept.now written result (kept_reply (DriverLine.Next page)) }
+    ensures text { Adds output.old output.new (λ written.
+        DoesKept kept.now kept.now written result (kept_reply (DriverLine.Next page))) }
 {
     let Some(number) = kept.next_number(page) else {
         return Err(Unanswered::Refused(Refusal::Line(LineFault::TooMany)));
@@ -277,7 +293,8 @@ fn view(
     page: PageId,
     output: &mut Output,
 ) -> Result<(), Unanswered>
-    ensures text { (written : List ℕ) × (output.new ≡ output.old ++ written) × DoesKept kept.old kept.new written result (kept_reply (DriverLine.View page)) }
+    ensures text { Adds output.old output.new (λ written.
+        DoesKept kept.old kept.new written result (kept_reply (DriverLine.View page))) }
 {
     let drawops = kept.view(alloc, page)?;
     output.add(view_text(alloc, &drawops)?.as_slice())?;
@@ -286,7 +303,8 @@ fn view(
 
 /// The pages that are known are asked for.
 fn known(alloc: Global, kept: &mut KeptMember, output: &mut Output) -> Result<(), Unanswered>
-    ensures text { (written : List ℕ) × (output.new ≡ output.old ++ written) × DoesKept kept.old kept.new written result (kept_reply DriverLine.Known) }
+    ensures text { Adds output.old output.new (λ written.
+        DoesKept kept.old kept.new written result (kept_reply DriverLine.Known)) }
 {
     let pages = kept.known(alloc)?;
     output.add(known_text(alloc, &pages)?.as_bytes())?;
@@ -301,7 +319,8 @@ pub(crate) fn answer_kept(
     output: &mut Output,
 ) -> Result<(), Unanswered>
     requires { IsWithin line.now }
-    ensures text { (written : List ℕ) × (output.new ≡ output.old ++ written) × DoesKept kept.old kept.new written result (kept_reply line.now) }
+    ensures text { Adds output.old output.new (λ written.
+        DoesKept kept.old kept.new written result (kept_reply line.now)) }
 {
     match line {
         DriverLine::Script(line) => script(alloc, kept, line, output),

@@ -7,7 +7,7 @@ use wb_words::Adding;
 /// A line of a driver, with its words as fields.
 #[derive(Debug, Drop)]
 pub enum DriverLine {
-    /// A line of a script, or one that hands in a datagram: `datagram HEX`, or a datagram in words.
+    /// A line of a script.
     Script(Command),
     /// `say WORDS`: a datagram of ours is to go out.
     Say(Datagram),

@@ -1,10 +1,9 @@
 //! A host once its board is open: what a line does there.
-ghost use Rattle.std.specs.Prelude.{◌≡◌, ◌≤◌, ◌<◌, ◌^◌, ◌++◌, List, [], ℕ, None, Some, Option, true, IfOk};
+ghost use Rattle.std.specs.Prelude.{◌≡◌, ◌≤◌, ◌<◌, [], None, Some, Option, true, IfOk};
 ghost use Rattle.wb_recovery.specs.Timing.{are_constants};
-ghost use Rattle.wb_member.specs.Holding.{IsOpenAt};
-ghost use Rattle.wb_member.specs.Opened.{Opened, opened_with};
+ghost use Rattle.wb_member.specs.Opened.{opened_with};
 ghost use Rattle.wb_dialog.specs.Dialog.{answer_at};
-ghost use Rattle.wb_dialog.specs.Doing.{DoesAt, DoesReply, IsHostAt, seed_by};
+ghost use Rattle.wb_dialog.specs.Doing.{DoesAt, IsHostAt, seed_by, Adds, DoesOpen};
 ghost use Rattle.wb_dialog.specs.Hosting.{Driven, Host as HostState, acts_in_script, due_at, in_time, is_acting, keep_reply, seed_after, taken_by};
 ghost use Rattle.wb_dialog.specs.Lines.{IsWithin};
 ghost use Rattle.wb_dialog.specs.declared.opened.Host.TheVariants as values;
@@ -18,7 +17,7 @@ use wb_commands::Command;
 use wb_keeping::KeptMember;
 use wb_lines::Output;
 use wb_member::Member;
-use wb_recovery::Tuning;
+use wb_recovery::{MOMENT_LIMIT, Tuning};
 
 /// A host, once its board is open.
 #[derive(Drop)]
@@ -66,7 +65,8 @@ fn drive(
     output: &mut Output,
 ) -> Result<(), Unanswered>
     requires { IsWithin line.now }
-    ensures text { (written : List ℕ) × (output.new ≡ output.old ++ written) × DoesAt member.old member.new written result (λ host. answer_at line.now host) }
+    ensures text { Adds output.old output.new (λ written.
+        DoesAt member.old member.new written result (answer_at line.now)) }
     ensures seed { seed.new ≡ seed_by result seed.old (seed_after line.now seed.old) }
 {
     answer(alloc, member, line, output)?;
@@ -85,7 +85,8 @@ fn begin_to_keep(
     listen: u32,
 ) -> (Host, Result<(), Unanswered>)
     requires rate { 1 ≤ rate }
-    ensures { (h : HostState) → IsHostAt (values.Driven member seed) h → DoesReply (Some h) (Some result.0) [] result.1 (keep_reply rate listen (Some h)) }
+    ensures { DoesOpen (values.Driven member seed) result.0 [] result.1
+        (λ h. keep_reply rate listen (Some h)) }
 {
     match seed {
         Some(seed) => {
@@ -103,7 +104,11 @@ fn begin_to_keep(
 fn in_time(moment: u64) -> Option<u64>
     ensures { result ≡ in_time moment }
 {
-    if moment < 1 << 48 { Some(moment) } else { None }
+    if moment < MOMENT_LIMIT {
+        Some(moment)
+    } else {
+        None
+    }
 }
 
 impl Host {
@@ -117,7 +122,8 @@ impl Host {
     ) -> Result<Host, AllocError>
         requires cells { (0 < cells) × (cells ≤ 65535) }
         requires constants { are_constants tuning ≡ true }
-        ensures { IfOk result (λ h. IsHostAt h (Driven (opened_with tuning member cells seed) (Some seed))) }
+        ensures { IfOk result (λ h.
+            IsHostAt h (Driven (opened_with tuning member cells seed) (Some seed))) }
     {
         let member = Member::open(alloc, member, cells, seed, tuning)?;
         Ok(Host::Driven {
@@ -147,7 +153,8 @@ impl Host {
         output: &mut Output,
     ) -> Result<(), Unanswered>
         requires { IsWithin line.now }
-        ensures text { (written : List ℕ) × (output.new ≡ output.old ++ written) × ((h : HostState) → IsHostAt self.old h → DoesReply (Some h) (Some self.new) written result (taken_by line.now h)) }
+        ensures text { Adds output.old output.new (λ written.
+            DoesOpen self.old self.new written result (taken_by line.now)) }
     {
         match self {
             Host::Driven { member, seed } => drive(alloc, member, seed, line, output),
@@ -159,7 +166,7 @@ impl Host {
     #[tactic(auto, using(crate::proofs::KeptReplies::begins_again))]
     pub fn keep(self, rate: u32, listen: u32) -> (Host, Result<(), Unanswered>)
         requires rate { 1 ≤ rate }
-        ensures { (h : HostState) → IsHostAt self h → DoesReply (Some h) (Some result.0) [] result.1 (keep_reply rate listen (Some h)) }
+        ensures { DoesOpen self result.0 [] result.1 (λ h. keep_reply rate listen (Some h)) }
     {
         match self {
             Host::Driven { member, seed } => begin_to_keep(member, seed, rate, listen),

@@ -6,14 +6,13 @@ ghost use Rattle.wb_words.specs.Adding.{adding_reading};
 ghost use Rattle.wb_words.specs.Reading.{reading as reading_words};
 ghost use Rattle.wb_lines.specs.Words.{words};
 ghost use Rattle.wb_commands.specs.Parsing.{line_of as script_line_of};
-ghost use Rattle.wb_dialog.specs.Lines.{Parses, IsWithin, by_words, unanswered_by, handed_in, part_behind, said_by, added_by, name, command, bytes_line, keep_line, moment_of, came_line, line_of_words, line_of};
+ghost use Rattle.wb_dialog.specs.Lines.{Parses, IsWithin, by_words, unanswered_by, unanswered_words, part_behind, said_by, added_by, name, command, keep_line, moment_of, came_line, line_of_words, line_of};
 
 use crate::fault::{Refusal, Unanswered};
 use crate::line::DriverLine;
 use std::alloc::Global;
-use wb_codec::Datagram;
 use wb_commands::{
-    Command, LineFault, Untaken, datagram, four_words, no_words, number_word, page, parse_line,
+    LineFault, MAX_MOMENT, Untaken, datagram, four_words, no_words, number_word, page, parse_line,
     two_words, u32_word,
 };
 use wb_lines::next_word;
@@ -22,9 +21,6 @@ use wb_words::{WordsFault, read_adding, read_words, split_once};
 
 /// The most bytes a second that reports may take.
 const MAX_RATE: u32 = 1_000_000;
-
-/// The greatest moment, in microseconds.
-const MAX_MOMENT: u64 = (1 << 48) - 1;
 
 /// What stands behind a word and a space, with which a line begins.
 fn behind<'a>(line: &'a [u8], opener: &[u8]) -> Option<&'a [u8]>
@@ -60,28 +56,6 @@ fn refused(fault: Untaken) -> Unanswered
     match fault {
         Untaken::Line(fault) => Unanswered::Refused(Refusal::Line(fault)),
         Untaken::Memory => Unanswered::Memory,
-    }
-}
-
-/// The line of a script that hands in a datagram.
-fn handed_in(datagram: Datagram) -> DriverLine
-    ensures line { result ≡ handed_in datagram }
-    ensures within { IsWithin result }
-{
-    match datagram {
-        Datagram::Draw(drawop) => DriverLine::Script(Command::Arrive(drawop)),
-        heard => DriverLine::Script(Command::Hear(heard)),
-    }
-}
-
-/// The datagram whose bytes the only word spells.
-fn bytes_line(alloc: Global, rest: &[u8]) -> Result<DriverLine, Unanswered>
-    ensures line { Parses result (bytes_line (words rest.now)) }
-    ensures within { IfOk result IsWithin }
-{
-    match datagram(alloc, rest) {
-        Ok(datagram) => Ok(handed_in(datagram)),
-        Err(fault) => Err(refused(fault)),
     }
 }
 
@@ -127,9 +101,7 @@ fn command(alloc: Global, line: &[u8], word: &[u8], rest: &[u8]) -> Result<Drive
     ensures line { Parses result (command line.now word.now (words rest.now)) }
     ensures within { IfOk result IsWithin }
 {
-    if word == b"datagram".as_slice() {
-        bytes_line(alloc, rest)
-    } else if word == b"say".as_slice() {
+    if word == b"say".as_slice() {
         Err(Unanswered::Refused(Refusal::Line(LineFault::Words)))
     } else if word == b"next".as_slice() {
         Ok(DriverLine::Next(page(rest)?))
@@ -164,7 +136,7 @@ fn script_line(alloc: Global, line: &[u8]) -> Result<DriverLine, Unanswered>
     }
 }
 
-/// A line that is no datagram in words.
+/// A line that is told by its first word.
 fn words_line(alloc: Global, line: &[u8]) -> Result<DriverLine, Unanswered>
     ensures line { Parses result (line_of_words line.now (words line.now)) }
     ensures within { IfOk result IsWithin }
@@ -175,6 +147,16 @@ fn words_line(alloc: Global, line: &[u8]) -> Result<DriverLine, Unanswered>
     }
 }
 
+/// Why what is said in words was not read.
+fn refused_words(fault: WordsFault) -> Unanswered
+    ensures { result ≡ unanswered_words fault }
+{
+    match fault {
+        WordsFault::Word(wrong) => Unanswered::Refused(Refusal::Line(LineFault::Word(wrong))),
+        WordsFault::Memory => Unanswered::Memory,
+    }
+}
+
 /// What is to be said.
 fn said(alloc: Global, words: &[u8]) -> Result<DriverLine, Unanswered>
     ensures line { Parses result (said_by (reading_words words.now)) }
@@ -182,8 +164,7 @@ fn said(alloc: Global, words: &[u8]) -> Result<DriverLine, Unanswered>
 {
     match read_words(alloc, words) {
         Ok(datagram) => Ok(DriverLine::Say(datagram)),
-        Err(WordsFault::Word(wrong)) => Err(Unanswered::Refused(Refusal::Word(wrong))),
-        Err(WordsFault::Memory) => Err(Unanswered::Memory),
+        Err(fault) => Err(refused_words(fault)),
     }
 }
 
@@ -194,13 +175,12 @@ fn added(alloc: Global, words: &[u8]) -> Result<DriverLine, Unanswered>
 {
     match read_adding(alloc, words) {
         Ok(adding) => Ok(DriverLine::Add(adding)),
-        Err(WordsFault::Word(wrong)) => Err(Unanswered::Refused(Refusal::Word(wrong))),
-        Err(WordsFault::Memory) => Err(Unanswered::Memory),
+        Err(fault) => Err(refused_words(fault)),
     }
 }
 
-/// The line that the bytes say, which stand without their end, or its first fault: of a datagram in words and
-/// of what is to be said, the first word that is wrong; else that of a script's line.
+/// The line that the bytes say, which stand without their end, or its first fault: of what is to be
+/// said or added, the first word that is wrong; else that of a script's line.
 pub(crate) fn read_line(alloc: Global, line: &[u8]) -> Result<DriverLine, Unanswered>
     ensures line { Parses result (line_of line.now) }
     ensures within { IfOk result IsWithin }
@@ -211,14 +191,5 @@ pub(crate) fn read_line(alloc: Global, line: &[u8]) -> Result<DriverLine, Unansw
     if let Some(words) = behind(line, b"add") {
         return added(alloc, words);
     }
-    match read_words(alloc, line) {
-        Ok(datagram) => Ok(handed_in(datagram)),
-        Err(WordsFault::Word(wrong)) => {
-            if wrong.place == 1 {
-                return words_line(alloc, line);
-            }
-            Err(Unanswered::Refused(Refusal::Word(wrong)))
-        }
-        Err(WordsFault::Memory) => Err(Unanswered::Memory),
-    }
+    words_line(alloc, line)
 }

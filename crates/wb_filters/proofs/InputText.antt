@@ -8,7 +8,8 @@ use Rattle.wb_lines.specs.Input.{InputLine, content, feed, standing}
 use Rattle.wb_lines.proofs.StandingLines.{stripped}
 use Rattle.wb_lines.proofs.LineBytes.{NoLineFeed-push}
 use Rattle.wb_filters.specs.Filtering.{end_of, ending}
-use Rattle.wb_filters.proofs.Visible.{Visible, no_return, no_feed}
+use Rattle.wb_words.proofs.Visible.{Visible, no_return}
+use Rattle.wb_filters.proofs.Visible.{no_feed}
 
 -- ---- the end of a line
 

@@ -16,7 +16,8 @@ use Rattle.wb_lines.proofs.Outcomes.{short_line_taken}
 use Rattle.wb_filters.specs.Filtering.{turned, told_on, ending, ended_by, said_of, filter_step, most_lines}
 use Rattle.wb_filters.specs.Laws.{IsOther, IsWithinLimits, Turns, WordsComeBack, DigitsComeBack}
 use Rattle.wb_filters.proofs.TurningLaws.{words_are_turned, digits_are_turned}
-use Rattle.wb_filters.proofs.Visible.{Visible, digits_visible, digits_some, words_visible, words_some}
+use Rattle.wb_words.proofs.Visible.{Visible}
+use Rattle.wb_filters.proofs.Visible.{digits_visible, digits_some, words_visible, words_some}
 use Rattle.wb_lines.proofs.StandingLines.{all_bytes, Stands, AreLines, reads, lines_again}
 use Rattle.wb_filters.proofs.InputText.{content_ending, SameEnd, same_end}
 

@@ -4,27 +4,45 @@ ghost use Rattle.std.specs.Prelude.{◌≡◌};
 ghost use Rattle.wb_filters.specs.declared.fault.TurnFault.TheVariants as turn_faults;
 
 use std::alloc::{AllocError, AllocFailed};
+use std::{error, fmt};
 use thiserror::Error;
 use wb_codec::ReadFault;
 use wb_lines::DriveFault;
 use wb_words::WrongWord;
 
 /// Why a line can't be turned.
-#[derive(Clone, Copy, Debug, PartialEq, Eq, Error)]
+#[derive(Clone, Copy, Debug, PartialEq, Eq)]
 pub enum LineFault {
     /// A word of a datagram in words is wrong, by its place among them.
-    #[error("{0}")]
     Word(WrongWord),
     /// The word after `arrive`, `hear` or `send` is no even number of hexadecimal digits.
-    #[error("word 2: hex")]
     Hex,
     /// The bytes are no datagram.
-    #[error("word 2: datagram {}", .0.code())]
     Datagram(ReadFault),
     /// The datagram is of a kind that the line does not take.
-    #[error("word 2: kind")]
     Kind,
 }
+
+impl fmt::Display for LineFault {
+    ghost use Rattle.std.specs.Prelude.{Some};
+    ghost use Rattle.wb_filters.specs.Comments.{fault_text};
+
+    ghost output = { λ e. Some (fault_text e) };
+
+    fn fmt<W: fmt::Write>(&self, f: &mut fmt::Formatter<W>) -> fmt::Result {
+        match self {
+            LineFault::Word(wrong) => write!(f, "{wrong}"),
+            LineFault::Hex => f.write_str("word 2: hex"),
+            LineFault::Datagram(fault) => {
+                let code = fault.code();
+                write!(f, "word 2: datagram {code}")
+            }
+            LineFault::Kind => f.write_str("word 2: kind"),
+        }
+    }
+}
+
+impl error::Error for LineFault {}
 
 /// Why a line was not turned.
 #[derive(Clone, Copy, Debug, PartialEq, Eq, Error)]

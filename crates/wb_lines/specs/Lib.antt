@@ -9,3 +9,4 @@ pub mod Items
 pub mod Groups
 pub mod Moments
 pub mod Steps
+pub mod Faults

@@ -24,6 +24,10 @@ pub enum DriveFault<F> {
 }
 
 impl<F: Display> Display for DriveFault<F> {
+    ghost use Rattle.wb_lines.specs.Faults.{drive_text};
+
+    ghost output = { drive_text F.output };
+
     fn fmt<W: Write>(&self, f: &mut Formatter<W>) -> fmt::Result {
         match self {
             DriveFault::Line(number, fault) => write!(f, "line {}: {}", number, fault),

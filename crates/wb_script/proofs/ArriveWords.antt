@@ -5,17 +5,20 @@ use Rattle.std.specs.Str.Lines.{strip_carriage_return}
 use Rattle.std.proofs.lemmas.Bool.Decides.{nat_tests}
 use Rattle.hex.specs.Hex.{is_hex_digit}
 use Rattle.wb_names.specs.Values.{DrawopValue}
-use Rattle.wb_lines.specs.Words.{words_after, is_hex, unhex}
+use Rattle.wb_lines.specs.Words.{words, words_after, is_hex, unhex}
 use Rattle.wb_lines.proofs.HexWords.{unhex-not_hex}
 use Rattle.wb_lines.proofs.StandingLines.{stripped}
 use Rattle.wb_codec.specs.declared.datagram.Datagram.{Datagram}
 use Rattle.wb_codec.specs.declared.datagram.Datagram.TheVariants as datagrams
 use Rattle.wb_codec.specs.Reading.{reading}
+use Rattle.wb_words.specs.Reading.{is_kind, begins_datagram, reading as reading_words}
+use Rattle.wb_words.specs.declared.fault.WrongWord.{WrongWord}
+use Rattle.wb_words.proofs.Visible.{read_visible, no_return_ends}
 use Rattle.wb_commands.specs.declared.fault.LineFault.{LineFault}
 use Rattle.wb_commands.specs.declared.fault.LineFault.TheVariants as faults
 use Rattle.wb_commands.specs.declared.command.Command.{Command}
 use Rattle.wb_commands.specs.declared.command.Command.TheVariants.{Arrive, Skip, Board, Distance, Tick, Look, Session, Show, Gaps, Report, Pages}
-use Rattle.wb_commands.specs.Parsing.{◌>>=◌, or_fault, number, none_of, one_of, two_of, four_of, page, spelled, datagram, board, arrived, heard, arrive, hear, show, distance, tick, pages, page_line, command, begins_comment, line_of_words, line_of}
+use Rattle.wb_commands.specs.Parsing.{◌>>=◌, or_fault, number, none_of, one_of, two_of, four_of, page, spelled, datagram, board, arrived, heard, arrive, hear, handed_in, bytes_line, show, distance, tick, pages, page_line, command, begins_comment, line_of_words, in_words, line_of}
 use Rattle.wb_script.specs.Script.{Arrival, part_of}
 
 -- ---- the words of a line that ends so
@@ -119,28 +122,29 @@ digits_of (a ∷ []) v e = at (unhex a) refl e where
   at (Some bytes) is f = (a, bytes, refl, is)
 digits_of ws v e = absurd cc
 
-arrives_with : (ws : List (List ℕ)) (d : DrawopValue) → arrive ws ≡ Ok (Arrive d) → HasDigits ws
-arrives_with ws d e = at (datagram ws) refl e where
-  at : (r : Result Datagram LineFault) → datagram ws ≡ r → (r >>= arrived) ≡ Ok (Arrive d) → HasDigits ws
+arrives_with : (ws : List (List ℕ)) (then : Datagram → Result Command LineFault) (d : DrawopValue) → (datagram ws >>= then) ≡ Ok (Arrive d) → HasDigits ws
+arrives_with ws then d e = at (datagram ws) refl e where
+  at : (r : Result Datagram LineFault) → datagram ws ≡ r → (r >>= then) ≡ Ok (Arrive d) → HasDigits ws
   at (Ok v) is f = digits_of ws v is
   at (Err fault) is f = absurd cc
 
 has_digits : (word : List ℕ) (ws : List (List ℕ)) (d : DrawopValue) → command word ws ≡ Ok (Arrive d) → HasDigits ws
 unfolding command
 has_digits word ws d e =
-    at (bytes_eq word (codes "board")) (bytes_eq word (codes "arrive")) (bytes_eq word (codes "hear")) (bytes_eq word (codes "show")) (bytes_eq word (codes "distance")) (bytes_eq word (codes "tick")) (bytes_eq word (codes "pages")) e where
+    at (bytes_eq word (codes "board")) (bytes_eq word (codes "arrive")) (bytes_eq word (codes "hear")) (bytes_eq word (codes "datagram")) (bytes_eq word (codes "show")) (bytes_eq word (codes "distance")) (bytes_eq word (codes "tick")) (bytes_eq word (codes "pages")) e where
       none : (said : Result Command LineFault) → HandsInNone said → said ≡ Ok (Arrive d) → HasDigits ws
       none said is e = absurd (subst HandsInNone e is)
 
-      at : (a b c f g i j : Bool) → cond a (board ws) (cond b (arrive ws) (cond c (hear ws) (cond f (show ws) (cond g (distance ws) (cond i (tick ws) (cond j (pages ws) (page_line word ws))))))) ≡ Ok (Arrive d) → HasDigits ws
-      at true b c f g i j e = none (board ws) (no_board ws) e
-      at false true c f g i j e = arrives_with ws d e
-      at false false true f g i j e = none (hear ws) (none_then (datagram ws) heard none_heard) e
-      at false false false true g i j e = none (show ws) (no_show ws) e
-      at false false false false true i j e = none (distance ws) (no_distance ws) e
-      at false false false false false true j e = none (tick ws) (no_tick ws) e
-      at false false false false false false true e = none (pages ws) (none_then (or_fault faults.Words (none_of ws)) (λ nothing. Ok Pages) (λ nothing. tt)) e
-      at false false false false false false false e = none (page_line word ws) (no_page word ws) e
+      at : (a b c h f g i j : Bool) → cond a (board ws) (cond b (arrive ws) (cond c (hear ws) (cond h (bytes_line ws) (cond f (show ws) (cond g (distance ws) (cond i (tick ws) (cond j (pages ws) (page_line word ws)))))))) ≡ Ok (Arrive d) → HasDigits ws
+      at true b c h f g i j e = none (board ws) (no_board ws) e
+      at false true c h f g i j e = arrives_with ws arrived d e
+      at false false true h f g i j e = none (hear ws) (none_then (datagram ws) heard none_heard) e
+      at false false false true f g i j e = arrives_with ws (λ v. Ok (handed_in v)) d e
+      at false false false false true g i j e = none (show ws) (no_show ws) e
+      at false false false false false true i j e = none (distance ws) (no_distance ws) e
+      at false false false false false false true j e = none (tick ws) (no_tick ws) e
+      at false false false false false false false true e = none (pages ws) (none_then (or_fault faults.Words (none_of ws)) (λ nothing. Ok Pages) (λ nothing. tt)) e
+      at false false false false false false false false e = none (page_line word ws) (no_page word ws) e
 
 words_arrive : (word : List ℕ) (ws : List (List ℕ)) (d : DrawopValue) → line_of_words (word ∷ ws) ≡ Ok (Arrive d) → HasDigits ws
 words_arrive word ws d e = at (begins_comment word) e where
@@ -173,9 +177,14 @@ said_arrival (Ok (Arrive e)) d p = let same : e ≡ d = cc in ap (λ (x : Drawop
 said_arrival said d p = absurd cc
 
 no_return : (xs : List ℕ) (d : DrawopValue) → part_of (line_of (xs ++ 13 ∷ [])) ≡ Arrival d → ⊥
-no_return xs d p =
-    let e = ends_so [] xs in
-    no_arrival e.0 e.1 d (ap line_of_words (sym e.2) ∙ said_arrival (line_of (xs ++ 13 ∷ [])) d p)
+no_return xs d p = at (begins_datagram (xs ++ 13 ∷ [])) (said_arrival (line_of (xs ++ 13 ∷ [])) d p) where
+  worded : (r : Result Datagram WrongWord) → reading_words (xs ++ 13 ∷ []) ≡ r → in_words r ≡ Ok (Arrive d) → ⊥
+  worded (Ok v) is f = no_return_ends xs (read_visible (xs ++ 13 ∷ []) v is)
+  worded (Err wrong) is f = absurd cc
+
+  at : (begins : Bool) → cond begins (in_words (reading_words (xs ++ 13 ∷ []))) (line_of_words (words (xs ++ 13 ∷ []))) ≡ Ok (Arrive d) → ⊥
+  at true f = worded (reading_words (xs ++ 13 ∷ [])) refl f
+  at false f = let e = ends_so [] xs in no_arrival e.0 e.1 d (ap line_of_words (sym e.2) ∙ f)
 
 -- So it is its content.
 pub unreturned : (bytes : List ℕ) (d : DrawopValue) → part_of (line_of bytes) ≡ Arrival d → strip_carriage_return bytes ≡ bytes
@@ -186,4 +195,5 @@ unreturned bytes d p = at (stripped bytes) where
 
 -- It has some bytes.
 pub some_bytes : (bytes : List ℕ) (d : DrawopValue) → part_of (line_of bytes) ≡ Arrival d → bytes ≡ [] → ⊥
+unfolding is_kind
 some_bytes bytes d p none = let said = ap (λ (b : List ℕ). part_of (line_of b)) (sym none) ∙ p in absurd cc

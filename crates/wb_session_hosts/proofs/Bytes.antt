@@ -16,7 +16,7 @@ use Rattle.wb_commands.specs.declared.fault.LineFault.{LineFault}
 use Rattle.wb_commands.specs.declared.command.Command.{Command}
 use Rattle.wb_commands.specs.declared.command.Command.TheVariants as lines
 use Rattle.wb_commands.proofs.SentDigits.{datagram_read}
-use Rattle.wb_dialog.specs.Lines.{handed_in}
+use Rattle.wb_commands.specs.Parsing.{handed_in}
 use Rattle.wb_dialog.specs.declared.fault.Refusal.{Refusal}
 use Rattle.wb_dialog.specs.declared.line.DriverLine.{DriverLine}
 use Rattle.wb_dialog.specs.declared.line.DriverLine.TheVariants.{Script}
@@ -47,7 +47,7 @@ pub came_out : (constants : ℕ → Tuning) (lines' : List LineAt) (v : Datagram
 came_out constants lines' v fit c = out_of (sent constants lines') (sent_fits constants lines') v fit c
 
 pub bytes_tell_datagrams : BytesTellDatagrams
-bytes_tell_datagrams constants lines' line v e c = came_out constants lines' v (handed_has IsDatagram v (says_fits (met line) (handed_in v) e)) c
+bytes_tell_datagrams constants lines' line v e c = came_out constants lines' v (handed_has IsDatagram v (says_fits (met line) (Script (handed_in v)) e)) c
 
 -- ---- one sense in which a datagram came out, and another
 

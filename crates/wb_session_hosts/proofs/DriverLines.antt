@@ -1,6 +1,6 @@
 -- What a line of a driver carries is in range.
 use Rattle.std.proofs.Common.{◌≡◌, ◌-◌, ◌^◌, ℕ, Bool, true, false, List, [], ◌∷◌, Option, Some, None, Result, Ok, Err, refl, ap, ◌∙◌, subst, arith, inl, inr}
-use Rattle.std.specs.Prelude.{IfOk, nat_eq, codes, if◌then◌else◌}
+use Rattle.std.specs.Prelude.{IfOk, codes, if◌then◌else◌}
 use Rattle.std.specs.Str.{bytes_eq}
 use Rattle.wb_codec.specs.Ranges.{IsName, IsDatagram}
 use Rattle.wb_codec.specs.declared.datagram.Datagram.{Datagram}
@@ -15,16 +15,16 @@ use Rattle.wb_words.specs.declared.adding.Adding.{Adding}
 use Rattle.wb_words.specs.declared.fault.WrongWord.{WrongWord}
 use Rattle.wb_words.proofs.LineLaws.{reading_takes}
 use Rattle.wb_words.proofs.Splitting.{NoSpaces-words}
-use Rattle.wb_commands.specs.Parsing.{number, two_of, four_of, none_of, or_fault, page as page_of, datagram, line_of as script_line_of}
+use Rattle.wb_commands.specs.Parsing.{number, two_of, four_of, none_of, or_fault, page as page_of, datagram, handed_in, line_of as script_line_of}
 use Rattle.wb_commands.specs.declared.fault.LineFault.{LineFault}
 use Rattle.wb_commands.specs.declared.fault.LineFault.TheVariants as faults
 use Rattle.wb_dialog.specs.Dialog.{says_line}
-use Rattle.wb_dialog.specs.Lines.{name, by_words, handed_in, command, line_of_words, keep_line, came_line, moment_of, words_behind, came_in, said_by, said_part, added_by, added_part, line_behind, line_of}
+use Rattle.wb_dialog.specs.Lines.{name, by_words, command, line_of_words, keep_line, came_line, moment_of, words_behind, said_by, said_part, added_by, added_part, line_behind, line_of}
 use Rattle.wb_dialog.specs.declared.fault.Refusal.{Refusal}
 use Rattle.wb_dialog.specs.declared.line.DriverLine.{DriverLine}
 use Rattle.wb_dialog.specs.declared.line.DriverLine.TheVariants.{Script, Say, Next, View, Known, Ask, Stop, Keep, Came, Add}
 use Rattle.wb_session_hosts.proofs.ScriptLines as scripts
-use Rattle.wb_session_hosts.proofs.ScriptLines.{IsWithin, IsDigitsOf, bound, behind, number_fits, datagram_fits, datagram_digits, line_fits}
+use Rattle.wb_session_hosts.proofs.ScriptLines.{Asks, IsWithin, IsDigitsOf, bound, behind, number_fits, datagram_fits, datagram_digits, line_fits}
 use Rattle.wb_session_hosts.specs.Laws.{SaysDatagram, LinesCarryBytes}
 
 -- a datagram that a line hands in has a property, and all else that it carries is in range
@@ -100,21 +100,9 @@ came_line_fits : (arguments : List (List ℕ)) → IfOk (came_line arguments) Is
 unfolding came_line
 came_line_fits arguments = behind IsKept (moment_of arguments) _ (λ now. bound IsDatagram IsKept (datagram (words_behind arguments)) _ (datagram_fits (words_behind arguments)) (λ v fit. fit))
 
--- What is asked of the datagram that a line says in words, or behind its first word.
-pub record Asks (P : Datagram → Type 0) (line : List ℕ) : Type 0 where
-  pub in_words : IfOk (reading line) P
-  pub in_bytes : (word : List ℕ) (arguments : List (List ℕ)) → words line ≡ word ∷ arguments → IfOk (datagram arguments) P
-
 module _ (P : Datagram → Type 0) where
   abbrev Has : DriverLine → Type 0
   Has line = Carries P line
-
-  handed_fits : (v : Datagram) → P v → Has (handed_in v)
-  handed_fits (datagrams.Draw d) has = has
-  handed_fits (datagrams.Session sender sent page marks echoes) has = has
-  handed_fits (datagrams.Request asker name) has = has
-  handed_fits (datagrams.AskPages asker) has = has
-  handed_fits (datagrams.PageState sender page marks) has = has
 
   either : (b : Bool) (x y : Result DriverLine Refusal) → IfOk x Has → IfOk y Has → IfOk (if b then x else y) Has
   either true x y p q = p
@@ -122,13 +110,12 @@ module _ (P : Datagram → Type 0) where
 
   module _ (line : List ℕ) (asks : Asks P line) where
     script_fits : IfOk (by_words Script (script_line_of line)) Has
-    script_fits = by_words_fits (scripts.Carries P) Has Script (script_line_of line) (line_fits P (words line) asks.in_bytes) (λ l has. has)
+    script_fits = by_words_fits (scripts.Carries P) Has Script (script_line_of line) (line_fits P line asks) (λ l has. has)
 
-    command_fits : (word : List ℕ) (arguments : List (List ℕ)) → IfOk (datagram arguments) P → IfOk (command line word arguments) Has
+    command_fits : (word : List ℕ) (arguments : List (List ℕ)) → IfOk (command line word arguments) Has
     unfolding command
-    command_fits word arguments has =
-        either (bytes_eq word (codes "datagram")) _ _ (by_words_fits P Has handed_in (datagram arguments) has handed_fits)
-        (either (bytes_eq word (codes "say")) _ _ tt
+    command_fits word arguments =
+        either (bytes_eq word (codes "say")) _ _ tt
         (either (bytes_eq word (codes "next")) _ _ (free Has Next (page_of arguments) (λ p. tt))
         (either (bytes_eq word (codes "view")) _ _ (free Has View (page_of arguments) (λ p. tt))
         (either (bytes_eq word (codes "known")) _ _ (free Has (λ nothing. Known) (or_fault faults.Words (none_of arguments)) (λ x. tt))
@@ -137,22 +124,18 @@ module _ (P : Datagram → Type 0) where
         (either (bytes_eq word (codes "keep")) _ _ (by_words_fits IsKept Has (λ l. l) (keep_line arguments) (keep_fits arguments) (kept_carries P))
         (either (bytes_eq word (codes "came")) _ _ (by_words_fits IsKept Has (λ l. l) (came_line arguments) (came_line_fits arguments) (kept_carries P))
         (either (bytes_eq word (codes "add")) _ _ tt
-        script_fits)))))))))
+        script_fits))))))))
 
-    words_fit : (ws : List (List ℕ)) → words line ≡ ws → IfOk (line_of_words line ws) Has
-    words_fit [] e = script_fits
-    words_fit (word ∷ arguments) e = command_fits word arguments (asks.in_bytes word arguments e)
-
-    came_fits : (r : Result Datagram WrongWord) → IfOk r P → IfOk (came_in line r) Has
-    came_fits (Ok v) has = handed_fits v has
-    came_fits (Err wrong) has = either (nat_eq wrong.place 1) _ _ (words_fit (words line) refl) tt
+    words_fit : (ws : List (List ℕ)) → IfOk (line_of_words line ws) Has
+    words_fit [] = script_fits
+    words_fit (word ∷ arguments) = command_fits word arguments
 
     added_fits : (r : Result Adding WrongWord) → IfOk (added_by r) Has
     added_fits (Ok adding) = tt
     added_fits (Err wrong) = tt
 
     part_fits : (said added : Option (List ℕ)) → IfOk (line_behind line said added) Has
-    part_fits None None = came_fits (reading line) asks.in_words
+    part_fits None None = words_fit (words line)
     part_fits None (Some rest) = added_fits (adding_reading rest)
     part_fits (Some rest) added = said_fits P (reading rest) (reading_fits rest)
 
@@ -171,7 +154,7 @@ says_fits m line e = subst (λ (r : Result DriverLine Refusal). IfOk r Fits) e (
 -- ---- the bytes of what it hands in
 
 -- the property that a line hands in
-pub handed_has : (P : Datagram → Type 0) (v : Datagram) → Carries P (handed_in v) → P v
+pub handed_has : (P : Datagram → Type 0) (v : Datagram) → Carries P (Script (handed_in v)) → P v
 handed_has P (datagrams.Draw d) has = has
 handed_has P (datagrams.Session sender sent page marks echoes) has = has
 handed_has P (datagrams.Request asker name) has = has

@@ -19,10 +19,9 @@ use Rattle.wb_lines.specs.Words.{words, words_after, is_digit, number_after}
 use Rattle.wb_commands.specs.Parsing.{number, tick, command, line_of_words, line_of as script_line_of}
 use Rattle.wb_commands.specs.SentLines.{digits_of}
 use Rattle.wb_commands.specs.declared.command.Command.TheVariants as lines
-use Rattle.wb_words.specs.declared.fault.WordFault.TheVariants as word_faults
-use Rattle.wb_words.specs.Reading.{reading, reading_of, datagram_at, wrong}
+use Rattle.wb_words.specs.Reading.{is_kind}
 use Rattle.wb_dialog.specs.Dialog.{says_line}
-use Rattle.wb_dialog.specs.Lines.{name, by_words, came_in, handed_in, line_of, command as driver_command}
+use Rattle.wb_dialog.specs.Lines.{name, by_words, line_of, command as driver_command}
 use Rattle.wb_dialog.specs.declared.line.DriverLine.TheVariants.{Script, Ask, Stop}
 use Rattle.wb_dialog.proofs.SaidLines.{said_is_read}
 use Rattle.wb_session_hosts.specs.Repairs.{ended_by}
@@ -96,13 +95,13 @@ says text le =
 abbrev pub tick_text : ℕ → List ℕ
 tick_text m = codes "tick " ++ (decimal m ++ 32 ∷ [])
 
-no_kind_tick : (rest : List ℕ) → reading (codes "tick " ++ rest) ≡ wrong 1 word_faults.Unknown
-unfolding reading_of datagram_at
-no_kind_tick rest = refl
-
 driver_tick : (line : List ℕ) (ws : List (List ℕ)) → driver_command line (codes "tick") ws ≡ by_words Script (script_line_of line)
 unfolding driver_command
 driver_tick line ws = refl
+
+told_tick : (rest : List ℕ) → script_line_of (codes "tick " ++ rest) ≡ line_of_words (codes "tick" ∷ words rest)
+unfolding is_kind
+told_tick rest = refl
 
 script_tick : (ws : List (List ℕ)) → command (codes "tick") ws ≡ tick ws
 unfolding command
@@ -116,10 +115,11 @@ tick_line : (m : ℕ) → m < 2 ^ 48 → line_of (tick_text m) ≡ Ok (Script (l
 tick_line m lt =
     let line = tick_text m in
     let one : words (decimal m ++ 32 ∷ []) ≡ decimal m ∷ [] = number_word m [] (omega arith) in
-    ap (came_in line) (no_kind_tick (decimal m ++ 32 ∷ []))
-    ∙ driver_tick line (words (decimal m ++ 32 ∷ []))
-    ∙ ap (λ (ws : List (List ℕ)). by_words Script (line_of_words (codes "tick" ∷ ws))) one
-    ∙ ap (by_words Script) (script_tick (decimal m ∷ []) ∙ tick_again m lt)
+    driver_tick line (words (decimal m ++ 32 ∷ []))
+    ∙ ap (by_words Script) (told_tick (decimal m ++ 32 ∷ [])
+    ∙ ap (λ (ws : List (List ℕ)). line_of_words (codes "tick" ∷ ws)) one
+    ∙ script_tick (decimal m ∷ [])
+    ∙ tick_again m lt)
 
 pub tick_says : (m : ℕ) → m < 2 ^ 48 → says_line (met (ended_by (tick_text m))) ≡ Ok (Script (lines.Tick m))
 tick_says m lt =
@@ -133,10 +133,6 @@ name_text n = decimal n.page.creator ++ 32 ∷ (decimal n.page.number ++ 32 ∷ 
 
 abbrev pub ask_text : NameValue → List ℕ
 ask_text n = codes "ask " ++ name_text n
-
-no_kind_ask : (rest : List ℕ) → reading (codes "ask " ++ rest) ≡ wrong 1 word_faults.Unknown
-unfolding reading_of datagram_at
-no_kind_ask rest = refl
 
 driver_ask : (line : List ℕ) (ws : List (List ℕ)) → driver_command line (codes "ask") ws ≡ by_words Ask (name ws)
 unfolding driver_command
@@ -174,8 +170,7 @@ name_again n fit =
 ask_line : (n : NameValue) → IsName n → line_of (ask_text n) ≡ Ok (Ask n)
 ask_line n fit =
     let line = ask_text n in
-    ap (came_in line) (no_kind_ask (name_text n))
-    ∙ driver_ask line (words (name_text n))
+    driver_ask line (words (name_text n))
     ∙ ap (λ (ws : List (List ℕ)). by_words Ask (name ws)) (name_words n fit)
     ∙ ap (by_words Ask) (name_again n fit)
 
@@ -202,10 +197,6 @@ ask_says n fit = says (ask_text n) (omega (arith, name_long n fit, length-append
 abbrev pub stop_text : NameValue → List ℕ
 stop_text n = codes "stop " ++ name_text n
 
-no_kind_stop : (rest : List ℕ) → reading (codes "stop " ++ rest) ≡ wrong 1 word_faults.Unknown
-unfolding reading_of datagram_at
-no_kind_stop rest = refl
-
 driver_stop : (line : List ℕ) (ws : List (List ℕ)) → driver_command line (codes "stop") ws ≡ by_words Stop (name ws)
 unfolding driver_command
 driver_stop line ws = refl
@@ -213,8 +204,7 @@ driver_stop line ws = refl
 stop_line : (n : NameValue) → IsName n → line_of (stop_text n) ≡ Ok (Stop n)
 stop_line n fit =
     let line = stop_text n in
-    ap (came_in line) (no_kind_stop (name_text n))
-    ∙ driver_stop line (words (name_text n))
+    driver_stop line (words (name_text n))
     ∙ ap (λ (ws : List (List ℕ)). by_words Stop (name ws)) (name_words n fit)
     ∙ ap (by_words Stop) (name_again n fit)
 
@@ -226,5 +216,5 @@ stop_says n fit = says (stop_text n) (omega (arith, name_long n fit, length-appe
 abbrev pub datagram_text : Datagram → List ℕ
 datagram_text v = codes "datagram " ++ digits_of v
 
-pub datagram_says : (v : Datagram) → IsDatagram v → length (digits_of v) ≤ 65000 → says_line (met (ended_by (datagram_text v))) ≡ Ok (handed_in v)
+pub datagram_says : (v : Datagram) → IsDatagram v → length (digits_of v) ≤ 65000 → says_line (met (ended_by (datagram_text v))) ≡ Ok (Script (handed_in v))
 datagram_says v fit le = says (datagram_text v) (omega (arith, le, length-append (codes "datagram ") (digits_of v))) ∙ said_is_read v fit

@@ -14,8 +14,10 @@ use Rattle.wb_codec.specs.declared.datagram.Datagram.{Datagram}
 use Rattle.wb_codec.specs.declared.datagram.Datagram.TheVariants as datagrams
 use Rattle.wb_codec.specs.declared.fault.ReadFault.{ReadFault}
 use Rattle.wb_codec.proofs.GrammarLaws.{reading_takes}
-use Rattle.wb_lines.specs.Words.{is_digit, number_after, number_of, unhex}
-use Rattle.wb_commands.specs.Parsing.{◌>>=◌, or_fault, number, one_of, two_of, four_of, none_of, board, show, distance, tick, page, pages, spelled, datagram, arrived, heard, arrive, hear, page_line, command, begins_comment, line_of_words}
+use Rattle.wb_words.specs.Reading.{begins_datagram, reading as reading_words}
+use Rattle.wb_words.specs.declared.fault.WrongWord.{WrongWord}
+use Rattle.wb_lines.specs.Words.{words, is_digit, number_after, number_of, unhex}
+use Rattle.wb_commands.specs.Parsing.{◌>>=◌, or_fault, number, one_of, two_of, four_of, none_of, board, show, distance, tick, page, pages, spelled, datagram, arrived, heard, arrive, hear, handed_in, bytes_line, page_line, command, begins_comment, line_of_words, in_words, line_of}
 use Rattle.wb_commands.specs.declared.fault.LineFault.{LineFault}
 use Rattle.wb_commands.specs.declared.fault.LineFault.TheVariants as faults
 use Rattle.wb_commands.specs.declared.command.Command.{Command}
@@ -140,6 +142,11 @@ Carries P line = Unit {0}
 abbrev pub Fits : Command → Type 0
 Fits line = Carries IsDatagram line
 
+-- What is asked of the datagram that a line says in words, or behind its first word.
+pub record Asks (P : Datagram → Type 0) (line : List ℕ) : Type 0 where
+  pub in_words : IfOk (reading_words line) P
+  pub in_bytes : (word : List ℕ) (arguments : List (List ℕ)) → words line ≡ word ∷ arguments → IfOk (datagram arguments) P
+
 module _ (P : Datagram → Type 0) where
   abbrev Has : Command → Type 0
   Has line = Carries P line
@@ -188,11 +195,21 @@ module _ (P : Datagram → Type 0) where
   heard_fits (datagrams.AskPages asker) fit = fit
   heard_fits (datagrams.PageState sender page marks) fit = fit
 
+  pub handed_fits : (v : Datagram) → P v → Has (handed_in v)
+  handed_fits (datagrams.Draw d) has = has
+  handed_fits (datagrams.Session sender sent page marks echoes) has = has
+  handed_fits (datagrams.Request asker name) has = has
+  handed_fits (datagrams.AskPages asker) has = has
+  handed_fits (datagrams.PageState sender page marks) has = has
+
   arrive_fits : (arguments : List (List ℕ)) → IfOk (datagram arguments) P → IfOk (arrive arguments) Has
   arrive_fits arguments has = bound P Has (datagram arguments) arrived has arrived_fits
 
   hear_fits : (arguments : List (List ℕ)) → IfOk (datagram arguments) P → IfOk (hear arguments) Has
   hear_fits arguments has = bound P Has (datagram arguments) heard has heard_fits
+
+  bytes_line_fits : (arguments : List (List ℕ)) → IfOk (datagram arguments) P → IfOk (bytes_line arguments) Has
+  bytes_line_fits arguments has = bound P Has (datagram arguments) (λ v. Ok (handed_in v)) has handed_fits
 
   page_line_fits : (word : List ℕ) (arguments : List (List ℕ)) → IfOk (page_line word arguments) Has
   unfolding page_line
@@ -209,13 +226,21 @@ module _ (P : Datagram → Type 0) where
       either Has (bytes_eq word (codes "board")) _ _ (board_fits arguments)
       (either Has (bytes_eq word (codes "arrive")) _ _ (arrive_fits arguments has)
       (either Has (bytes_eq word (codes "hear")) _ _ (hear_fits arguments has)
+      (either Has (bytes_eq word (codes "datagram")) _ _ (bytes_line_fits arguments has)
       (either Has (bytes_eq word (codes "show")) _ _ (show_fits arguments)
       (either Has (bytes_eq word (codes "distance")) _ _ (distance_fits arguments)
       (either Has (bytes_eq word (codes "tick")) _ _ (tick_fits arguments)
       (either Has (bytes_eq word (codes "pages")) _ _ (pages_fits arguments)
-      (page_line_fits word arguments)))))))
+      (page_line_fits word arguments))))))))
 
   -- the words of a line, of which those behind the first may say a datagram
-  pub line_fits : (ws : List (List ℕ)) → ((word : List ℕ) (arguments : List (List ℕ)) → ws ≡ word ∷ arguments → IfOk (datagram arguments) P) → IfOk (line_of_words ws) Has
-  line_fits [] has = tt
-  line_fits (word ∷ arguments) has = either Has (begins_comment word) (Ok lines.Skip) _ tt (command_fits word arguments (has word arguments refl))
+  words_fit : (ws : List (List ℕ)) → ((word : List ℕ) (arguments : List (List ℕ)) → ws ≡ word ∷ arguments → IfOk (datagram arguments) P) → IfOk (line_of_words ws) Has
+  words_fit [] has = tt
+  words_fit (word ∷ arguments) has = either Has (begins_comment word) (Ok lines.Skip) _ tt (command_fits word arguments (has word arguments refl))
+
+  in_words_fit : (r : Result Datagram WrongWord) → IfOk r P → IfOk (in_words r) Has
+  in_words_fit (Ok v) has = handed_fits v has
+  in_words_fit (Err wrong) has = tt
+
+  pub line_fits : (line : List ℕ) → Asks P line → IfOk (line_of line) Has
+  line_fits line asks = either Has (begins_datagram line) _ _ (in_words_fit (reading_words line) asks.in_words) (words_fit (words line) asks.in_bytes)

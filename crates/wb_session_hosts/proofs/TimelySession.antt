@@ -16,7 +16,7 @@ use Rattle.wb_commands.specs.SentLines.{sends_text}
 use Rattle.wb_commands.specs.declared.command.Command.TheVariants as lines
 use Rattle.wb_commands.specs.declared.fault.LineFault.TheVariants as faults
 use Rattle.wb_dialog.specs.Dialog.{answer_at, answered, gives}
-use Rattle.wb_dialog.specs.Lines.{handed_in}
+use Rattle.wb_commands.specs.Parsing.{handed_in}
 use Rattle.wb_dialog.specs.declared.fault.Refusal.{Refusal}
 use Rattle.wb_dialog.specs.declared.fault.Refusal.TheVariants as refusals
 use Rattle.wb_dialog.specs.declared.line.DriverLine.{DriverLine}
@@ -56,7 +56,7 @@ module _ (constants : ℕ → Tuning) (terms : Terms) (trace : List TimedLine) (
   heard now asker word n held accepts =
       let m = made constants back e (Hear now (Request asker n) word held) accepts in
       let w = m.0 in
-      let b = timely.behind front back e (handed_in (Request asker n)) split (taken_of constants terms trace timely back e w (handed_in (Request asker n)) m.1.0) (inl (Request asker n, refl)) in
+      let b = timely.behind front back e (Script (handed_in (Request asker n))) split (taken_of constants terms trace timely back e w (Script (handed_in (Request asker n))) m.1.0) (inl (Request asker n, refl)) in
       (m.1.1 ∙ present_now b w.host w.there, m.1.2 ∙ sym (ap (λ (d : Desk). holds d.held n) (desk_at_part constants terms trace timely back q w.host w.there)))
 
   pub turn : IsTurn (places constants terms trace timely) terms (turns_of constants back) (turn_of constants back e)

@@ -27,7 +27,8 @@ use Rattle.wb_dialog.specs.Dialog.{gives, answer_at, answered_lines, batch_of, s
 use Rattle.wb_dialog.specs.Hosting.{transcript}
 use Rattle.wb_dialog.specs.Laws.{BeginsNoKeep}
 use Rattle.wb_dialog.specs.Doing.{text_of}
-use Rattle.wb_dialog.specs.Lines.{handed_in, line_of}
+use Rattle.wb_commands.specs.Parsing.{handed_in}
+use Rattle.wb_dialog.specs.Lines.{line_of}
 use Rattle.wb_session_hosts.specs.Acts.{events_of}
 use Rattle.wb_session_hosts.specs.Hosts.{LineAt, saying, host_at, reply_at, lines_at, blocks_at, sends_at, told_at, sent, Board, board_at, HaveDistinctMembers, HasBoards, group_of, CameOut, IsHonest}
 
@@ -75,11 +76,11 @@ SaysDatagram line v = (reading line ≡ Ok v) ⊎ ((word digits : List ℕ) × (
 
 -- So does each line that hands one in.
 abbrev pub LinesCarryBytes : Type 0
-LinesCarryBytes = (line : List ℕ) (v : Datagram) → line_of line ≡ Ok (handed_in v) → SaysDatagram line v
+LinesCarryBytes = (line : List ℕ) (v : Datagram) → line_of line ≡ Ok (Script (handed_in v)) → SaysDatagram line v
 
 -- The bytes of what is sent tell it: a line that hands in a datagram of which a `send` line was printed hands in one that was sent.
 abbrev pub BytesTellDatagrams : Type 0
-BytesTellDatagrams = (constants : ℕ → Tuning) (lines : List LineAt) (line : InputLine) (v : Datagram) → says_line (met line) ≡ Ok (handed_in v) → CameOut constants lines v → Contains (sent constants lines) v
+BytesTellDatagrams = (constants : ℕ → Tuning) (lines : List LineAt) (line : InputLine) (v : Datagram) → says_line (met line) ≡ Ok (Script (handed_in v)) → CameOut constants lines v → Contains (sent constants lines) v
 
 -- ---- no clash
 

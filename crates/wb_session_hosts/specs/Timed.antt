@@ -19,7 +19,7 @@ use Rattle.wb_progress.specs.Turns.{Terms}
 use Rattle.wb_member.specs.Opened.{Opened, events}
 use Rattle.wb_commands.specs.declared.command.Command.TheVariants as lines
 use Rattle.wb_dialog.specs.Dialog.{gives, answer_at}
-use Rattle.wb_dialog.specs.Lines.{handed_in}
+use Rattle.wb_commands.specs.Parsing.{handed_in}
 use Rattle.wb_dialog.specs.declared.line.DriverLine.{DriverLine}
 use Rattle.wb_dialog.specs.declared.line.DriverLine.TheVariants.{Script, Say, Ask, Stop}
 use Rattle.wb_session_hosts.specs.Hosts.{LineAt, saying, host_at, sends_by, HaveDistinctMembers, IsHonest}
@@ -91,7 +91,7 @@ pub record IsBehindTick (constants : ℕ → Tuning) (older : List TimedLine) (e
 
 -- the moment of a host bears on what the line does
 abbrev pub NeedsTime : DriverLine → Type 0
-NeedsTime said = ((v : Datagram) × (said ≡ handed_in v)) ⊎ (((page : PageId) × (said ≡ Script (lines.Look page))) ⊎ ((page : PageId) × (said ≡ Script (lines.Session page))))
+NeedsTime said = ((v : Datagram) × (said ≡ Script (handed_in v))) ⊎ (((page : PageId) × (said ≡ Script (lines.Look page))) ⊎ ((page : PageId) × (said ≡ Script (lines.Session page))))
 
 -- Each line that hands in a datagram, looks or reports stands behind such a tick.
 abbrev pub AreBehindTicks : (ℕ → Tuning) → List TimedLine → Type 0
@@ -142,7 +142,7 @@ pub record IsDelivered (constants : ℕ → Tuning) (newer : List TimedLine) (e 
   pub split : newer ≡ later ++ arrival ∷ between
   pub place : arrival.at.place ≡ j
   pub soon : arrival.time ≤ e.time + within
-  pub taken : IsTaken constants (between ++ e ∷ older) arrival (handed_in v)
+  pub taken : IsTaken constants (between ++ e ∷ older) arrival (Script (handed_in v))
 
 -- What a live place prints from `quiet` on is handed to each other live place in time.
 abbrev pub AllIsDelivered : (ℕ → Tuning) → Terms → List TimedLine → Type 0
@@ -160,7 +160,7 @@ pub record WasPrinted (constants : ℕ → Tuning) (older : List TimedLine) (tim
 
 -- What is handed in after `settled` was printed within the time of delivery.
 abbrev pub NothingIsOld : (ℕ → Tuning) → Terms → List TimedLine → Type 0
-NothingIsOld constants terms trace = (newer older : List TimedLine) (e : TimedLine) (v : Datagram) → trace ≡ newer ++ e ∷ older → terms.quiet + terms.delivery < e.time → saying e.at ≡ Ok (handed_in v) → WasPrinted constants older e.time terms.delivery v
+NothingIsOld constants terms trace = (newer older : List TimedLine) (e : TimedLine) (v : Datagram) → trace ≡ newer ++ e ∷ older → terms.quiet + terms.delivery < e.time → saying e.at ≡ Ok (Script (handed_in v)) → WasPrinted constants older e.time terms.delivery v
 
 -- ---- all of it
 

@@ -7,3 +7,4 @@ pub mod LineLaws
 pub mod SpellingLaws
 pub mod Appending
 pub mod AddingLaws
+pub mod Visible

@@ -1,6 +1,6 @@
 -- What the words of a drawing say that is to be added, or the first word from the left that is wrong.
-use Rattle.std.specs.Prelude.{ℕ, ◌-◌, List, [], ◌∷◌, Option, Result, Ok, Err}
-use Rattle.wb_names.specs.Values.{NameValue, DrawopValue}
+use Rattle.std.specs.Prelude.{ℕ, ◌-◌, List, Result, Ok, Err}
+use Rattle.wb_names.specs.Values.{NameValue}
 use Rattle.wb_names.specs.declared.name.PageId.{PageId}
 use Rattle.wb_words.specs.declared.adding.Adding.{Adding}
 use Rattle.wb_words.specs.declared.fault.WrongWord.{WrongWord}

@@ -1,5 +1,5 @@
 -- What the words of a line say, or the first word from the left that is wrong. Places of words count from 1.
-use Rattle.std.specs.Prelude.{◌≡◌, ℕ, ◌+◌, Bool, true, false, List, [], ◌∷◌, length, Option, Some, None, Result, Ok, Err, nat_lt, if◌then◌else◌, codes, is_some}
+use Rattle.std.specs.Prelude.{◌≡◌, ℕ, ◌+◌, Bool, ◌||◌, true, false, List, [], ◌∷◌, length, Option, Some, None, Result, Ok, Err, nat_lt, if◌then◌else◌, codes, is_some}
 use Rattle.std.specs.Str.{bytes_eq}
 use Rattle.wb_names.specs.Values.{NameValue, DrawopValue, MarkValue}
 use Rattle.wb_names.specs.Drawing.{seq_fault, op_fault}
@@ -234,6 +234,23 @@ page_state_at ws = do
   page ← page_at 3 sender.1
   marks ← marks_at 4 page.1
   end_at (4 + length marks) (left_at is_echo page.1) (PageState sender.0 page.0 marks)
+
+-- a word that tells the kind of a datagram
+unfoldable pub is_kind : List ℕ → Bool
+is_kind word =
+    bytes_eq word (codes "draw")
+    || (bytes_eq word (codes "session-message")
+    || (bytes_eq word (codes "request")
+    || (bytes_eq word (codes "ask-pages")
+    || bytes_eq word (codes "page-state"))))
+
+abbrev pub first_is_kind : List (List ℕ) → Bool
+first_is_kind [] = false
+first_is_kind (word ∷ ws) = is_kind word
+
+-- Its first word tells the kind of a datagram.
+abbrev pub begins_datagram : List ℕ → Bool
+begins_datagram line = first_is_kind (words line)
 
 -- the datagram of this word
 unfoldable pub datagram_at : List ℕ → List (List ℕ) → Result Datagram WrongWord

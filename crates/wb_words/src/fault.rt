@@ -3,58 +3,46 @@
 ghost use Rattle.std.specs.Prelude.{◌≡◌};
 ghost use Rattle.wb_words.specs.declared.fault.WordsFault.TheVariants as words_faults;
 
+use crate::fault_text::word_text;
 use std::alloc::{AllocError, AllocFailed};
+use std::{error, fmt};
 use thiserror::Error;
 use wb_names::FieldFault;
 
 /// What is wrong with a word.
-#[derive(Clone, Copy, Debug, PartialEq, Eq, Error)]
+#[derive(Clone, Copy, Debug, PartialEq, Eq)]
 pub enum WordFault {
     /// The line ends before it.
-    #[error("missing")]
     Missing,
     /// The line should end before it.
-    #[error("one too many")]
     Extra,
     /// The first word of the line is no kind of datagram.
-    #[error("unknown")]
     Unknown,
     /// The word is no operation.
-    #[error("operation")]
     Operation,
     /// The word is no number in its range, in decimal digits without a zero in front.
-    #[error("number")]
     Number,
     /// The word is not `CREATOR/NUMBER`.
-    #[error("page")]
     Page,
     /// The word is not one byte.
-    #[error("glyph")]
     Glyph,
     /// The rest of the line is not a text in quotes, with a backslash before each quote and each
     /// backslash in it.
-    #[error("text")]
     Text,
     /// The word is not `SOURCE=HIGH`.
-    #[error("mark")]
     Mark,
     /// The word is not `SOURCE@SENT+HELD`.
-    #[error("echo")]
     Echo,
     /// The source is not above the one before it in its list.
-    #[error("order")]
     Order,
     /// The list has over 65,535 members.
-    #[error("too many")]
     TooMany,
     /// The field is out of its range.
-    #[error("{0}")]
     Field(FieldFault),
 }
 
 /// The first word of a line that is wrong, by its place from 1. A text in quotes is one word.
-#[derive(Clone, Copy, Debug, PartialEq, Eq, Error)]
-#[error("word {place}: {fault}")]
+#[derive(Clone, Copy, Debug, PartialEq, Eq)]
 pub struct WrongWord {
     pub place: u32,
     pub fault: WordFault,
@@ -80,6 +68,34 @@ impl WordFault {
         WrongWord { place, fault: self }
     }
 }
+
+impl fmt::Display for WordFault {
+    ghost use Rattle.std.specs.Prelude.{Some};
+    ghost use Rattle.wb_words.specs.FaultText.{word_text};
+
+    ghost output = { λ e. Some (word_text e) };
+
+    fn fmt<W: fmt::Write>(&self, f: &mut fmt::Formatter<W>) -> fmt::Result {
+        f.write_str(word_text(*self))
+    }
+}
+
+impl error::Error for WordFault {}
+
+impl fmt::Display for WrongWord {
+    ghost use Rattle.std.specs.Prelude.{Some};
+    ghost use Rattle.wb_words.specs.FaultText.{wrong_text};
+
+    ghost output = { λ e. Some (wrong_text e) };
+
+    fn fmt<W: fmt::Write>(&self, f: &mut fmt::Formatter<W>) -> fmt::Result {
+        let place = self.place;
+        let text = word_text(self.fault);
+        write!(f, "word {place}: {text}")
+    }
+}
+
+impl error::Error for WrongWord {}
 
 impl From<WrongWord> for WordsFault {
     ghost from_gives = { λ e f. f ≡ words_faults.Word e };

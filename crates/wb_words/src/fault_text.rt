@@ -1,10 +1,8 @@
 //! What is said of a word that is wrong.
-ghost use Rattle.std.specs.Prelude.{◌≡◌, IfOk};
-ghost use Rattle.std.specs.String.{string_bytes};
-ghost use Rattle.wb_words.specs.FaultText.{field_text, word_text, wrong_text};
+ghost use Rattle.std.specs.Prelude.{◌≡◌};
+ghost use Rattle.wb_words.specs.FaultText.{field_text, word_text};
 
-use crate::fault::{WordFault, WrongWord};
-use std::alloc::{AllocError, Global};
+use crate::fault::WordFault;
 use wb_names::FieldFault;
 
 fn field_text(fault: FieldFault) -> &'static str
@@ -21,7 +19,8 @@ fn field_text(fault: FieldFault) -> &'static str
     }
 }
 
-fn word_text(fault: WordFault) -> &'static str
+/// What is said of a fault of a word.
+pub(crate) fn word_text(fault: WordFault) -> &'static str
     ensures { result.now ≡ word_text fault }
 {
     match fault {
@@ -39,13 +38,4 @@ fn word_text(fault: WordFault) -> &'static str
         WordFault::TooMany => "too many",
         WordFault::Field(fault) => field_text(fault),
     }
-}
-
-/// What is said of a word that is wrong: `word PLACE: FAULT`.
-pub fn wrong_text(alloc: Global, wrong: WrongWord) -> Result<String, AllocError>
-    ensures { IfOk result (λ text. string_bytes text ≡ wrong_text wrong) }
-{
-    let place = wrong.place;
-    let text = word_text(wrong.fault);
-    format!(in alloc; "word {place}: {text}")
 }

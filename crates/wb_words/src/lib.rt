@@ -20,7 +20,6 @@ mod writing;
 
 pub use adding::{Adding, read_adding};
 pub use fault::{WordFault, WordsFault, WrongWord};
-pub use fault_text::wrong_text;
-pub use reading::read_words;
+pub use reading::{begins_datagram, read_words};
 pub use rest::split_once;
 pub use writing::write_words;

@@ -4,7 +4,7 @@ ghost use Rattle.std.specs.Prelude.{◌≡◌, ◌⊎◌, IfOk};
 ghost use Rattle.wb_codec.specs.declared.datagram.Datagram.{Datagram as DatagramValue};
 ghost use Rattle.wb_words.specs.Rests.{words_left};
 ghost use Rattle.wb_words.specs.Grammar.{Says};
-ghost use Rattle.wb_words.specs.Reading.{MayGive, draw_at, session_at, request_at, ask_pages_at, page_state_at, datagram_at, reading};
+ghost use Rattle.wb_words.specs.Reading.{MayGive, draw_at, session_at, request_at, ask_pages_at, page_state_at, is_kind, begins_datagram, datagram_at, reading};
 
 use crate::drawing::drawop_of;
 use crate::entries::{after_marks, entries_of};
@@ -77,6 +77,26 @@ fn page_state_of(alloc: Global, rest: Rest<'_>) -> Result<Datagram, WordsFault>
         page,
         marks,
     })
+}
+
+/// Whether a word tells the kind of a datagram.
+#[tactic(auto, unfolding(crate::specs::Reading::is_kind))]
+fn is_kind(word: &[u8]) -> bool
+    ensures { result ≡ is_kind word.now }
+{
+    word == b"draw".as_slice()
+        || word == b"session-message".as_slice()
+        || word == b"request".as_slice()
+        || word == b"ask-pages".as_slice()
+        || word == b"page-state".as_slice()
+}
+
+/// Whether the first word of a line tells the kind of a datagram: the line is meant as one in words.
+pub fn begins_datagram(line: &[u8]) -> bool
+    ensures { result ≡ begins_datagram line.now }
+{
+    let (word, _rest) = first_word(line);
+    is_kind(word)
 }
 
 /// The datagram of the kind that the first word tells.

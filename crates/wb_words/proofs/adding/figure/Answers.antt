@@ -1,4 +1,4 @@
-use Rattle.std.proofs.Common.{◌≡◌, Ok, sym, ap, ◌∙◌}
+use Rattle.std.proofs.Common.{Ok, sym, ap, ◌∙◌}
 use Rattle.wb_words.specs.Adding.{numberless}
 use Rattle.wb_words.specs.Rests.{words_left}
 use Rattle.wb_words.proofs.AddingLaws.{of, figure_drawn, figure_wrong}
