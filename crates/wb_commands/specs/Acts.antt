@@ -2,7 +2,7 @@
 -- the member is.
 use Rattle.std.specs.Prelude.{ℕ, List, [], ◌∷◌, length, nat_lt, if◌then◌else◌}
 use Rattle.wb_host.specs.Hearing.{marks_heard}
-use Rattle.wb_member.specs.Opened.{Opened, present, has_room_for, heard, answered, with_delay, ticked, sent_by, reported, message, wanted_of, looked}
+use Rattle.wb_member.specs.Opened.{Opened, present, has_room_for, heard, answered, with_constants, with_delay, ticked, sent_by, reported, message, wanted_of, looked}
 use Rattle.wb_commands.specs.declared.fault.LineFault.{LineFault}
 use Rattle.wb_commands.specs.declared.fault.LineFault.TheVariants as faults
 use Rattle.wb_commands.specs.declared.command.Command.{Command}
@@ -28,6 +28,7 @@ act (lines.Report page) host = asked (queries.Report page) host
 act lines.Pages host = asked queries.Pages host
 act (lines.Hear v) host = if has_room_for v host then does (heard v host) (sends_text (answered v host)) else fails faults.TooMany
 act (lines.Distance source micros) host = does (with_delay source micros host) []
+act (lines.Tune constants) host = does (with_constants constants host) []
 act (lines.Tick moment) host = if nat_lt moment (present host) then fails faults.BackInTime else does (ticked moment host) (sends_text (sent_by moment host))
 act (lines.Look page) host = does (looked page host) (look_line (length (wanted_of page host)))
 act (lines.Session page) host = does (reported page host) (sends_text (message page host ∷ []))

@@ -12,9 +12,10 @@ use Rattle.wb_commands.specs.declared.fault.LineFault.TheVariants as faults
 use Rattle.wb_commands.specs.declared.fault.Untaken.{Untaken}
 use Rattle.wb_commands.specs.declared.fault.Untaken.TheVariants as untaken
 use Rattle.wb_display.specs.Canvas.{is_canvas_size}
+use Rattle.wb_recovery.specs.Timing.{are_constants}
 use Rattle.wb_commands.specs.Faults.{line_code}
 use Rattle.wb_commands.specs.declared.command.Command.{Command}
-use Rattle.wb_commands.specs.declared.command.Command.TheVariants.{Skip, Board, Arrive, Hear, Distance, Tick, Look, Session, Show, Gaps, Report, Pages}
+use Rattle.wb_commands.specs.declared.command.Command.TheVariants.{Skip, Board, Arrive, Hear, Distance, Tune, Tick, Look, Session, Show, Gaps, Report, Pages}
 use Rattle.wb_lines.specs.Words.{words, number_of, unhex}
 
 infixl 10 ◌>>=◌
@@ -74,6 +75,16 @@ distance arguments = do
   source ← number 0 (2 ^ 32 - 1) words'.0
   micros ← number 0 (2 ^ 24 - 1) words'.1
   Ok (Distance source micros)
+
+-- four constants from 1 to 16
+unfoldable pub tuning : List (List ℕ) → Result Command LineFault
+tuning arguments = do
+  words' ← or_fault faults.Words (four_of arguments)
+  c1 ← number 1 16 words'.0
+  c2 ← number 1 16 words'.1
+  d1 ← number 1 16 words'.2
+  d2 ← number 1 16 words'.3
+  Ok (Tune (record { c1 = c1; c2 = c2; d1 = d1; d2 = d2 }))
 
 -- a moment below 2^48 microseconds
 unfoldable pub tick : List (List ℕ) → Result Command LineFault
@@ -146,9 +157,10 @@ command word arguments =
     else (if bytes_eq word (codes "datagram") then bytes_line arguments
     else (if bytes_eq word (codes "show") then show arguments
     else (if bytes_eq word (codes "distance") then distance arguments
+    else (if bytes_eq word (codes "tuning") then tuning arguments
     else (if bytes_eq word (codes "tick") then tick arguments
     else (if bytes_eq word (codes "pages") then pages arguments
-    else page_line word arguments)))))))
+    else page_line word arguments))))))))
 
 -- a comment begins with `#`
 abbrev pub begins_comment : List ℕ → Bool
@@ -168,12 +180,13 @@ in_words (Err wrong) = Err (faults.Word wrong)
 abbrev pub line_of : List ℕ → Result Command LineFault
 line_of bytes = if begins_datagram bytes then in_words (reading_words bytes) else line_of_words (words bytes)
 
--- What a line carries is in its range: a board has 1 to 65,535 cells, a canvas is not too large, moments are microseconds below
--- 2^48, and delays below 2^24.
+-- What a line carries is in its range: a board has 1 to 65,535 cells, a canvas is not too large, constants are 1 to 16, moments
+-- are microseconds below 2^48, and delays below 2^24.
 abbrev pub IsWithin : Command → Type 0
 IsWithin (Board member cells workers seed) = (0 < cells) × (cells ≤ 65535)
 IsWithin (Show page width height) = is_canvas_size width height ≡ true
 IsWithin (Distance source micros) = micros < 2 ^ 24
+IsWithin (Tune constants) = are_constants constants ≡ true
 IsWithin (Tick moment) = moment < 2 ^ 48
 IsWithin line = Unit {0}
 

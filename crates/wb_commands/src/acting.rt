@@ -1,5 +1,6 @@
 //! What lines do to a member, and what they print.
-ghost use Rattle.std.specs.Prelude.{◌≡◌, ◌<◌, ◌^◌, []};
+ghost use Rattle.std.specs.Prelude.{◌≡◌, ◌<◌, ◌^◌, [], true};
+ghost use Rattle.wb_recovery.specs.Timing.{are_constants};
 ghost use Rattle.wb_member.specs.Holding.{IsOpenAt};
 ghost use Rattle.wb_member.specs.Opened.{Opened};
 ghost use Rattle.wb_commands.specs.Answers.{IsAnswerable};
@@ -18,6 +19,7 @@ use wb_host::KeepFault;
 use wb_lines::Output;
 use wb_member::Member;
 use wb_names::PageId;
+use wb_recovery::Tuning;
 
 /// Why a line is not taken, where the member refuses what it says.
 fn refused(fault: KeepFault) -> Untaken
@@ -53,6 +55,18 @@ fn set_delay(member: &mut Member, source: u32, micros: u64) -> Result<(), Untake
     match member.set_delay(source, micros) {
         Ok(()) => Ok(()),
         Err(KeepFault::Memory) => Err(Untaken::Memory),
+        Err(_) => unreachable!(),
+    }
+}
+
+/// Gives the timers other constants.
+fn tune(member: &mut Member, constants: Tuning) -> Result<(), Untaken>
+    requires { are_constants constants ≡ true }
+    ensures act { (host : Opened) → IsOpenAt member.old host →
+        DoesAct host member.new [] result (act (Command.Tune constants) host) }
+{
+    match member.set_constants(constants) {
+        Ok(()) => Ok(()),
         Err(_) => unreachable!(),
     }
 }
@@ -150,6 +164,7 @@ pub fn act(
         Command::Pages => answer(alloc, member, Query::Pages, output),
         Command::Hear(datagram) => hear(alloc, member, datagram, output),
         Command::Distance { source, micros } => set_delay(member, *source, *micros),
+        Command::Tune(constants) => tune(member, *constants),
         Command::Tick { moment } => tick(alloc, member, *moment, output),
         Command::Look(page) => look(alloc, member, *page, output),
         Command::Skip | Command::Board { .. } | Command::Arrive(_) => Ok(()),

@@ -1,6 +1,7 @@
 //! The lines of a script, with their words as fields.
 use wb_codec::Datagram;
 use wb_names::{Drawop, PageId};
+use wb_recovery::Tuning;
 
 /// A line of a script, with its words as fields.
 #[derive(Debug, Drop)]
@@ -24,6 +25,8 @@ pub enum Command {
         source: u32,
         micros: u64,
     },
+    /// `tuning C1 C2 D1 D2` gives the timers other constants, each 1 to 16.
+    Tune(Tuning),
     /// `tick MICROS` makes this the present moment, in microseconds.
     Tick {
         moment: u64,

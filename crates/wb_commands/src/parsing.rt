@@ -1,7 +1,7 @@
 //! What the words of a line mean.
 ghost use Rattle.std.specs.Prelude.{◌≡◌, ◌≤◌, IfOk, Result, Ok, Err, option_map};
 ghost use Rattle.wb_lines.specs.Words.{words};
-ghost use Rattle.wb_commands.specs.Parsing.{Parses, ParsesLine, IsWithin, number, none_of, one_of, two_of, four_of, board, show, distance, tick, page, pages, page_line, datagram, arrive, hear, handed_in, bytes_line, command, begins_comment, line_of_words, in_words, line_of, CarriesDatagram};
+ghost use Rattle.wb_commands.specs.Parsing.{Parses, ParsesLine, IsWithin, number, none_of, one_of, two_of, four_of, board, show, distance, tuning, tick, page, pages, page_line, datagram, arrive, hear, handed_in, bytes_line, command, begins_comment, line_of_words, in_words, line_of, CarriesDatagram};
 ghost use Rattle.wb_words.specs.Reading.{reading as reading_words};
 
 use crate::command::Command;
@@ -10,7 +10,7 @@ use std::alloc::Global;
 use wb_codec::{Datagram, ReadFault, read};
 use wb_lines::{next_word, number, unhex};
 use wb_names::PageId;
-use wb_recovery::{DELAY_LIMIT, MOMENT_LIMIT};
+use wb_recovery::{DELAY_LIMIT, MOMENT_LIMIT, Tuning};
 use wb_words::{WordsFault, begins_datagram, read_words};
 
 const MAX_CELLS: u32 = 65_535;
@@ -21,6 +21,9 @@ pub const MAX_WORKERS: u32 = 8;
 const MAX_WIDTH: u32 = 200;
 
 const MAX_HEIGHT: u32 = 100;
+
+/// The greatest constant of the timers.
+const MAX_CONSTANT: u32 = 16;
 
 /// The greatest delay, in microseconds.
 const MAX_DELAY: u64 = DELAY_LIMIT - 1;
@@ -134,6 +137,19 @@ fn distance(rest: &[u8]) -> Result<Command, LineFault>
     let source = u32_word(source, 0, u32::MAX)?;
     let micros = number_word(micros, 0, MAX_DELAY)?;
     Ok(Command::Distance { source, micros })
+}
+
+#[tactic(auto, unfolding(crate::specs::Parsing::tuning))]
+fn tuning(rest: &[u8]) -> Result<Command, LineFault>
+    ensures line { result ≡ tuning (words rest.now) }
+    ensures within { IfOk result IsWithin }
+{
+    let (c1, c2, d1, d2) = four_words(rest).ok_or(LineFault::Words)?;
+    let c1 = u32_word(c1, 1, MAX_CONSTANT)?;
+    let c2 = u32_word(c2, 1, MAX_CONSTANT)?;
+    let d1 = u32_word(d1, 1, MAX_CONSTANT)?;
+    let d2 = u32_word(d2, 1, MAX_CONSTANT)?;
+    Ok(Command::Tune(Tuning { c1, c2, d1, d2 }))
 }
 
 #[tactic(auto, unfolding(crate::specs::Parsing::tick))]
@@ -255,6 +271,8 @@ fn command(alloc: Global, word: &[u8], rest: &[u8]) -> Result<Command, Untaken>
         Ok(show(rest)?)
     } else if word == b"distance".as_slice() {
         Ok(distance(rest)?)
+    } else if word == b"tuning".as_slice() {
+        Ok(tuning(rest)?)
     } else if word == b"tick".as_slice() {
         Ok(tick(rest)?)
     } else if word == b"pages".as_slice() {

@@ -17,7 +17,7 @@ use Rattle.wb_gaps.specs.declared.holes.Hole.{Hole}
 use Rattle.wb_member.specs.Members.{Misses}
 use Rattle.wb_member.specs.Opened.{Opened, accepted, answered, becomes, doing, has_room_for, heard, may_ask, present, sent_by, ticked, with_asked}
 use Rattle.wb_member.specs.Random.{word_of}
-use Rattle.wb_keeping.specs.Kept.{Doing, Line, Ticks, Arrives, Hears, Asks, Stops, SetsDistance, Says, Transition, adds, and_then, answers, asks_pages, came, distance_in, draws_it, end, ends_full, hears, hears_session, hears_some, hears_state, is_begun, is_unasked, last_heard, learned, measures, near_names, of_other, own_echo, own_marks, paid_for, performs, reports, reports_due, reports_page, reports_rest, room_lines, state_of, still, stops_oldest, takes, takes_question, ticks, timed, told_names, turn, turn_to, usual_lines, want, want_near, want_told}
+use Rattle.wb_keeping.specs.Kept.{Doing, Line, Ticks, Arrives, Hears, Asks, Stops, SetsDistance, Tunes, Says, Transition, adds, and_then, answers, asks_pages, came, distance_in, draws_it, end, ends_full, hears, hears_session, hears_some, hears_state, is_begun, is_unasked, last_heard, learned, measures, near_names, of_other, own_echo, own_marks, paid_for, performs, reports, reports_due, reports_page, reports_rest, room_lines, state_of, still, stops_oldest, takes, takes_question, ticks, timed, told_names, turn, turn_to, usual_lines, want, want_near, want_told}
 use Rattle.wb_keeping.specs.Distances.{bounded}
 use Rattle.wb_keeping.specs.Performing.{Keeping, after_line, after_lines, after_saying, said, said_where, sees, sent_by_line}
 use Rattle.wb_keeping.specs.Policy.{Policy, View, after_answer, after_question, after_state, after_taking_up, after_turn, after_wanting, holds, in_next_round, is_asked, is_full, level}
@@ -46,6 +46,7 @@ IsOwn n (Hears v) = Unit {0}
 IsOwn n (Asks name) = Unit {0}
 IsOwn n (Stops name) = Unit {0}
 IsOwn n (SetsDistance source micros) = Unit {0}
+IsOwn n (Tunes constants) = Unit {0}
 IsOwn n (Says v) = speaker v ≡ n
 
 abbrev AllOwn : ℕ → List Line → Type 0
@@ -251,6 +252,7 @@ number_stays (Hears v) host = number_if (has_room_for v host) (heard v host) hos
 number_stays (Asks name) host = number_if (may_ask name host) (doing (Misses (present host) (name ∷ []) (word_of host.random ∷ [])) 1 host) host refl
 number_stays (Stops name) host = refl
 number_stays (SetsDistance source micros) host = refl
+number_stays (Tunes constants) host = refl
 number_stays (Says v) host = number_said v host
 
 -- what a line does, and what is printed for it
@@ -298,6 +300,7 @@ drives_own n (Hears v) host same own = hears_drives v host
 drives_own n (Asks name) host same own = (refl, refl)
 drives_own n (Stops name) host same own = (refl, refl)
 drives_own n (SetsDistance source micros) host same own = (refl, refl)
+drives_own n (Tunes constants) host same own = (refl, refl)
 drives_own n (Says v) host same own = says_drives v host (own ∙ sym same)
 
 -- ---- lines, one after the other
@@ -343,6 +346,7 @@ kept_is_driven = record {
       let n : ℕ = k.host.is.number in
       driven_behind now (and_then (hears v) timed) k (own_then n (hears v) timed (own_hears n v) (own_timed n))
       (in_time now k (head_none (back_in_time now k) (fault_unless (not (is_unknown_of_ours v k.host)) kept_faults.Ours ∷ []) none));
+  tuned = λ k constants. (refl, refl, tt);
   drew = λ k now page time op none.
       let n : ℕ = k.host.is.number in
       let rest : Transition = and_then ends_full timed in

@@ -13,8 +13,8 @@ use Rattle.wb_host.specs.declared.keep_fault.KeepFault.TheVariants.{BackInTime}
 use Rattle.wb_member.specs.Members.{Misses}
 use Rattle.wb_member.specs.Opened.{Opened, doing, has_room_for, heard, last_number, may_ask, next_number, present, sent_by, ticked}
 use Rattle.wb_member.specs.Random.{word_of}
-use Rattle.wb_keeping.specs.Kept.{Arrives, Asks, Hears, Line, Says, SetsDistance, Stops, Ticks, Transition, drawing}
-use Rattle.wb_keeping.specs.Laws.{Added, Came as CameIn, KeptLine, Ticked, doing_of, fault_of}
+use Rattle.wb_keeping.specs.Kept.{Arrives, Asks, Hears, Line, Says, SetsDistance, Tunes, Stops, Ticks, Transition, drawing}
+use Rattle.wb_keeping.specs.Laws.{Added, Came as CameIn, KeptLine, Ticked, Tuned, doing_of, fault_of}
 use Rattle.wb_keeping.specs.Performing.{Keeping, after_line, after_lines, sees, view_of}
 use Rattle.wb_keeping.specs.declared.kept_fault.KeptFault.{KeptFault}
 use Rattle.wb_keeping.specs.declared.kept_fault.KeptFault.TheVariants as kept_faults
@@ -58,6 +58,7 @@ cells_line (Asks name) host = by (may_ask name host) where
   by false = refl
 cells_line (Stops name) host = refl
 cells_line (SetsDistance source micros) host = refl
+cells_line (Tunes constants) host = refl
 cells_line (Says (datagrams.Draw d)) host = refl
 cells_line (Says (datagrams.Session sender sent page marks echoes)) host = refl
 cells_line (Says (datagrams.Request asker name)) host = refl
@@ -81,6 +82,7 @@ shows_count k (refuses e) counts = counts
 
 kept_counts : (line : DriverLine) (k : Keeping) → MayCount k.host → Counts (host_after (Some (Kept k)) (kept_reply line k))
 kept_counts (Script (lines.Tick now)) k counts = does_count (Ticked now) [] k _ refl counts
+kept_counts (Script (lines.Tune constants)) k counts = does_count (Tuned constants) [] k _ refl counts
 kept_counts (Came now v) k counts = does_count (CameIn now v) _ k _ refl counts
 kept_counts (Add a) k counts = does_count (Added a.moment a.page a.time a.op) _ k _ refl counts
 kept_counts (Script lines.Skip) k counts = counts
@@ -137,6 +139,7 @@ driven_counts (Script (lines.Board member cells workers s)) host (Some seed) cou
 driven_counts (Script (lines.Arrive d)) host (Some seed) counts = acted host (Some seed) (answer_at (Script (lines.Arrive d)) host) counts
 driven_counts (Script (lines.Hear v)) host (Some seed) counts = acted host (Some seed) (answer_at (Script (lines.Hear v)) host) counts
 driven_counts (Script (lines.Distance source micros)) host (Some seed) counts = acted host (Some seed) (answer_at (Script (lines.Distance source micros)) host) counts
+driven_counts (Script (lines.Tune constants)) host (Some seed) counts = acted host (Some seed) (answer_at (Script (lines.Tune constants)) host) counts
 driven_counts (Script (lines.Look page)) host (Some seed) counts = acted host (Some seed) (answer_at (Script (lines.Look page)) host) counts
 driven_counts (Script (lines.Session page)) host (Some seed) counts = acted host (Some seed) (answer_at (Script (lines.Session page)) host) counts
 driven_counts (Script (lines.Show page width height)) host (Some seed) counts = counts
@@ -162,6 +165,7 @@ opened_counts tuning (Script (lines.Arrive d)) = tt
 opened_counts tuning (Script (lines.Hear v)) = tt
 opened_counts tuning (Script (lines.Distance source micros)) = tt
 opened_counts tuning (Script (lines.Tick now)) = tt
+opened_counts tuning (Script (lines.Tune constants)) = tt
 opened_counts tuning (Script (lines.Look page)) = tt
 opened_counts tuning (Script (lines.Session page)) = tt
 opened_counts tuning (Script (lines.Show page width height)) = tt

@@ -10,7 +10,7 @@ use Rattle.wb_codec.specs.declared.datagram.Datagram.{Datagram as DatagramValue}
 use Rattle.wb_codec.specs.declared.datagram.Datagram.TheVariants as datagrams
 use Rattle.wb_recovery.specs.declared.tuning.Tuning.{Tuning}
 use Rattle.wb_member.specs.Opened.{Opened, next_due, present}
-use Rattle.wb_keeping.specs.Kept.{Transition, adds, came, ticks}
+use Rattle.wb_keeping.specs.Kept.{Transition, Tunes, adds, came, performs, ticks}
 use Rattle.wb_keeping.specs.Performing.{Keeping, after_doing, due as kept_due, sent_by_doing}
 use Rattle.wb_keeping.specs.Policy.{begun}
 use Rattle.wb_keeping.specs.Refusing.{add_fault, came_as, came_fault, drawn_as, tick_fault}
@@ -49,6 +49,7 @@ abbrev pub acts_in_script : Command → Bool
 acts_in_script (lines.Arrive d) = true
 acts_in_script (lines.Hear v) = true
 acts_in_script (lines.Distance source micros) = true
+acts_in_script (lines.Tune constants) = true
 acts_in_script (lines.Look page) = true
 acts_in_script (lines.Session page) = true
 acts_in_script line = false
@@ -115,6 +116,10 @@ unsent_text Left = batch_of Left
 abbrev pub kept_ticks : ℕ → Keeping → Reply
 kept_ticks now k = kept_does (tick_fault now k) (ticks now) [] k
 
+-- Its timers are given other constants.
+abbrev pub kept_tunes : Tuning → Keeping → Reply
+kept_tunes constants k = kept_does None (performs (Tunes constants)) [] k
+
 abbrev pub kept_takes : ℕ → DatagramValue → Keeping → Reply
 kept_takes now v k = kept_does (came_fault now v k) (came now v) (came_text v (came_as v k.host)) k
 
@@ -129,9 +134,10 @@ abbrev pub kept_shows : Keeping → Answer → Reply
 kept_shows k (gives next text) = prints (Some (Kept k)) text
 kept_shows k (refuses e) = denies e
 
--- A line that acts is for its driver to judge no more.
+-- A line that acts is for its driver to judge no more, but for one that gives the timers other constants.
 abbrev pub kept_reply : DriverLine → Keeping → Reply
 kept_reply (Script (lines.Tick now)) k = kept_ticks now k
+kept_reply (Script (lines.Tune constants)) k = kept_tunes constants k
 kept_reply (Came now v) k = kept_takes now v k
 kept_reply (Add adding) k = kept_adds adding k
 kept_reply line k = if is_acting line then denies refusals.Kept else kept_shows k (answer_at line k.host)

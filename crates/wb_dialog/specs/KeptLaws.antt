@@ -6,7 +6,7 @@ use Rattle.wb_names.specs.declared.parts.Op.{Op}
 use Rattle.wb_codec.specs.declared.datagram.Datagram.{Datagram}
 use Rattle.wb_codec.specs.declared.datagram.Datagram.TheVariants as datagrams
 use Rattle.wb_member.specs.Opened.{Opened, asks_for, becomes, may_ask}
-use Rattle.wb_keeping.specs.Kept.{Line, Ticks, Arrives, Hears, Asks, Stops, SetsDistance, Says, adds, came, ticks}
+use Rattle.wb_keeping.specs.Kept.{Line, Ticks, Arrives, Hears, Asks, Stops, SetsDistance, Tunes, Says, adds, came, performs, ticks}
 use Rattle.wb_keeping.specs.Performing.{Keeping, after_line, sees, sent_by_line}
 use Rattle.wb_keeping.specs.Refusing.{add_fault, came_fault, tick_fault}
 use Rattle.wb_commands.specs.SentLines.{sends_text}
@@ -30,6 +30,7 @@ driver_line (Hears v) = Script (lines.Hear v)
 driver_line (Asks name) = Ask name
 driver_line (Stops name) = Stop name
 driver_line (SetsDistance source micros) = Script (lines.Distance source micros)
+driver_line (Tunes constants) = Script (lines.Tune constants)
 driver_line (Says v) = Say v
 
 -- what it prints beside the datagrams that it sends
@@ -47,6 +48,7 @@ told_by (Hears v) host = []
 told_by (Asks name) host = ask_line (may_ask name host)
 told_by (Stops name) host = stop_line (asks_for name host)
 told_by (SetsDistance source micros) host = []
+told_by (Tunes constants) host = []
 told_by (Says v) host = told_said v host
 
 -- A host that its driver hands these lines comes to the same hosts, and prints a `send` line for each datagram of theirs.
@@ -60,6 +62,7 @@ IsDrivenBy (line ∷ lines') host =
 pub record KeptIsDriven : Type 0 where
   pub ticked : (k : Keeping) (now : ℕ) → tick_fault now k ≡ None → IsDrivenBy (ticks now (sees k.host) k.policy).lines k.host
   pub took : (k : Keeping) (now : ℕ) (v : Datagram) → came_fault now v k ≡ None → IsDrivenBy (came now v (sees k.host) k.policy).lines k.host
+  pub tuned : (k : Keeping) (constants : Tuning) → IsDrivenBy (performs (Tunes constants) (sees k.host) k.policy).lines k.host
   pub drew : (k : Keeping) (now : ℕ) (page : PageId) (time : ℕ) (op : Op) → add_fault now page time op k ≡ None → IsDrivenBy (adds now page time op (sees k.host) k.policy).lines k.host
 
 -- On a board of at most 65,535 cells, which is as many as a line can tell, no drawing is refused as too many, whatever was handed in

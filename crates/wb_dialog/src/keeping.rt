@@ -1,5 +1,5 @@
 //! What the lines of a driver do at a host that keeps itself.
-ghost use Rattle.std.specs.Prelude.{◌≡◌, ◌<◌, ◌^◌, ◌++◌, IfOk, true};
+ghost use Rattle.std.specs.Prelude.{◌≡◌, ◌<◌, ◌^◌, ◌++◌, [], IfOk, true};
 ghost use Rattle.std.specs.String.{string_bytes};
 ghost use Rattle.wb_names.specs.Shapes.{op_of};
 ghost use Rattle.wb_member.specs.Holding.{outcome_in};
@@ -7,7 +7,8 @@ ghost use Rattle.wb_display.specs.Canvas.{is_canvas_size};
 ghost use Rattle.wb_commands.specs.Parsing.{IsWithin as IsScriptWithin};
 ghost use Rattle.wb_commands.specs.SentLines.{sends_text};
 ghost use Rattle.wb_dialog.specs.Doing.{DoesKept, Tells, unanswered_of, Adds};
-ghost use Rattle.wb_dialog.specs.Hosting.{came_text, kept_adds, kept_draws, kept_reply, kept_takes, kept_ticks, unsent_text, wrong_target};
+ghost use Rattle.wb_recovery.specs.Timing.{are_constants};
+ghost use Rattle.wb_dialog.specs.Hosting.{came_text, kept_adds, kept_draws, kept_reply, kept_takes, kept_ticks, kept_tunes, unsent_text, wrong_target};
 ghost use Rattle.wb_dialog.specs.Lines.{IsWithin};
 
 use crate::blocks::{known_text, next_line, view_text};
@@ -22,6 +23,7 @@ use wb_host::{KeepFault, Reply};
 use wb_keeping::{Done, KeptFault, KeptMember};
 use wb_lines::Output;
 use wb_names::{FieldFault, Op, PageId, Shape};
+use wb_recovery::Tuning;
 use wb_words::{Adding, WordFault, WrongWord};
 
 /// Where the number of its target stands among the words of a drawing.
@@ -82,6 +84,17 @@ fn tick(
     match kept.tick(alloc, now) {
         Ok(sent) => tell(alloc, &sent, b"", output),
         Err(fault) => Err(refused(fault)),
+    }
+}
+
+/// Its timers are given other constants.
+fn tune(kept: &mut KeptMember, constants: Tuning) -> Result<(), Unanswered>
+    requires { are_constants constants ≡ true }
+    ensures { DoesKept kept.old kept.new [] result (kept_tunes constants) }
+{
+    match kept.set_constants(constants) {
+        Ok(()) => Ok(()),
+        Err(_) => unreachable!(),
     }
 }
 
@@ -257,6 +270,7 @@ fn script(
         Command::Skip => Ok(()),
         Command::Board { .. } => Err(Unanswered::Refused(Refusal::Line(LineFault::SecondBoard))),
         Command::Tick { moment } => tick(alloc, kept, *moment, output),
+        Command::Tune(constants) => tune(kept, *constants),
         Command::Show {
             page,
             width,

@@ -36,6 +36,7 @@ fn acts_in_script(line: &Command) -> bool
         Command::Arrive(_) => true,
         Command::Hear(_) => true,
         Command::Distance { .. } => true,
+        Command::Tune(_) => true,
         Command::Look(_) => true,
         Command::Session(_) => true,
         _ => false,

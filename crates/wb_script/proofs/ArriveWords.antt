@@ -17,8 +17,8 @@ use Rattle.wb_words.proofs.Visible.{read_visible, no_return_ends}
 use Rattle.wb_commands.specs.declared.fault.LineFault.{LineFault}
 use Rattle.wb_commands.specs.declared.fault.LineFault.TheVariants as faults
 use Rattle.wb_commands.specs.declared.command.Command.{Command}
-use Rattle.wb_commands.specs.declared.command.Command.TheVariants.{Arrive, Skip, Board, Distance, Tick, Look, Session, Show, Gaps, Report, Pages}
-use Rattle.wb_commands.specs.Parsing.{◌>>=◌, or_fault, number, none_of, one_of, two_of, four_of, page, spelled, datagram, board, arrived, heard, arrive, hear, handed_in, bytes_line, show, distance, tick, pages, page_line, command, begins_comment, line_of_words, in_words, line_of}
+use Rattle.wb_commands.specs.declared.command.Command.TheVariants.{Arrive, Skip, Board, Distance, Tune, Tick, Look, Session, Show, Gaps, Report, Pages}
+use Rattle.wb_commands.specs.Parsing.{◌>>=◌, or_fault, number, none_of, one_of, two_of, four_of, page, spelled, datagram, board, arrived, heard, arrive, hear, handed_in, bytes_line, show, distance, tuning, tick, pages, page_line, command, begins_comment, line_of_words, in_words, line_of}
 use Rattle.wb_script.specs.Script.{Arrival, part_of}
 
 -- ---- the words of a line that ends so
@@ -90,6 +90,15 @@ no_distance ws =
     none_then (number 0 (2 ^ 32 - 1) w.0) _ (λ source.
     none_then (number 0 (2 ^ 24 - 1) w.1) (λ micros. Ok (Distance source micros)) (λ micros. tt)))
 
+no_tuning : (ws : List (List ℕ)) → HandsInNone (tuning ws)
+unfolding tuning
+no_tuning ws =
+    none_then (or_fault faults.Words (four_of ws)) _ (λ w.
+    none_then (number 1 16 w.0) _ (λ c1.
+    none_then (number 1 16 w.1) _ (λ c2.
+    none_then (number 1 16 w.2) _ (λ d1.
+    none_then (number 1 16 w.3) (λ d2. Ok (Tune (record { c1 = c1; c2 = c2; d1 = d1; d2 = d2 }))) (λ d2. tt)))))
+
 no_tick : (ws : List (List ℕ)) → HandsInNone (tick ws)
 unfolding tick
 no_tick ws =
@@ -131,20 +140,21 @@ arrives_with ws then d e = at (datagram ws) refl e where
 has_digits : (word : List ℕ) (ws : List (List ℕ)) (d : DrawopValue) → command word ws ≡ Ok (Arrive d) → HasDigits ws
 unfolding command
 has_digits word ws d e =
-    at (bytes_eq word (codes "board")) (bytes_eq word (codes "arrive")) (bytes_eq word (codes "hear")) (bytes_eq word (codes "datagram")) (bytes_eq word (codes "show")) (bytes_eq word (codes "distance")) (bytes_eq word (codes "tick")) (bytes_eq word (codes "pages")) e where
+    at (bytes_eq word (codes "board")) (bytes_eq word (codes "arrive")) (bytes_eq word (codes "hear")) (bytes_eq word (codes "datagram")) (bytes_eq word (codes "show")) (bytes_eq word (codes "distance")) (bytes_eq word (codes "tuning")) (bytes_eq word (codes "tick")) (bytes_eq word (codes "pages")) e where
       none : (said : Result Command LineFault) → HandsInNone said → said ≡ Ok (Arrive d) → HasDigits ws
       none said is e = absurd (subst HandsInNone e is)
 
-      at : (a b c h f g i j : Bool) → cond a (board ws) (cond b (arrive ws) (cond c (hear ws) (cond h (bytes_line ws) (cond f (show ws) (cond g (distance ws) (cond i (tick ws) (cond j (pages ws) (page_line word ws)))))))) ≡ Ok (Arrive d) → HasDigits ws
-      at true b c h f g i j e = none (board ws) (no_board ws) e
-      at false true c h f g i j e = arrives_with ws arrived d e
-      at false false true h f g i j e = none (hear ws) (none_then (datagram ws) heard none_heard) e
-      at false false false true f g i j e = arrives_with ws (λ v. Ok (handed_in v)) d e
-      at false false false false true g i j e = none (show ws) (no_show ws) e
-      at false false false false false true i j e = none (distance ws) (no_distance ws) e
-      at false false false false false false true j e = none (tick ws) (no_tick ws) e
-      at false false false false false false false true e = none (pages ws) (none_then (or_fault faults.Words (none_of ws)) (λ nothing. Ok Pages) (λ nothing. tt)) e
-      at false false false false false false false false e = none (page_line word ws) (no_page word ws) e
+      at : (a b c h f g t i j : Bool) → cond a (board ws) (cond b (arrive ws) (cond c (hear ws) (cond h (bytes_line ws) (cond f (show ws) (cond g (distance ws) (cond t (tuning ws) (cond i (tick ws) (cond j (pages ws) (page_line word ws))))))))) ≡ Ok (Arrive d) → HasDigits ws
+      at true b c h f g t i j e = none (board ws) (no_board ws) e
+      at false true c h f g t i j e = arrives_with ws arrived d e
+      at false false true h f g t i j e = none (hear ws) (none_then (datagram ws) heard none_heard) e
+      at false false false true f g t i j e = arrives_with ws (λ v. Ok (handed_in v)) d e
+      at false false false false true g t i j e = none (show ws) (no_show ws) e
+      at false false false false false true t i j e = none (distance ws) (no_distance ws) e
+      at false false false false false false true i j e = none (tuning ws) (no_tuning ws) e
+      at false false false false false false false true j e = none (tick ws) (no_tick ws) e
+      at false false false false false false false false true e = none (pages ws) (none_then (or_fault faults.Words (none_of ws)) (λ nothing. Ok Pages) (λ nothing. tt)) e
+      at false false false false false false false false false e = none (page_line word ws) (no_page word ws) e
 
 words_arrive : (word : List ℕ) (ws : List (List ℕ)) (d : DrawopValue) → line_of_words (word ∷ ws) ≡ Ok (Arrive d) → HasDigits ws
 words_arrive word ws d e = at (begins_comment word) e where

@@ -11,11 +11,11 @@ use Rattle.wb_commands.specs.declared.fault.LineFault.TheVariants as faults
 use Rattle.wb_script.specs.declared.fault.RunFault.{RunFault}
 use Rattle.wb_script.specs.declared.fault.RunFault.TheVariants as run_faults
 use Rattle.wb_commands.specs.declared.command.Command.{Command}
-use Rattle.wb_commands.specs.declared.command.Command.TheVariants.{Hear, Distance, Tick, Look, Session, Show}
+use Rattle.wb_commands.specs.declared.command.Command.TheVariants.{Hear, Distance, Tune, Tick, Look, Session, Show}
 use Rattle.wb_script.specs.declared.running.Summary.{Summary}
 use Rattle.wb_commands.specs.SentLines.{sends_text}
 use Rattle.wb_member.specs.Board.{Held}
-use Rattle.wb_member.specs.Opened.{Opened, present, board_of, has_room_for, heard, answered, with_delay, ticked, sent_by, looked, reported}
+use Rattle.wb_member.specs.Opened.{Opened, present, board_of, has_room_for, heard, answered, with_constants, with_delay, ticked, sent_by, looked, reported}
 use Rattle.wb_script.specs.Hosts.{opened, taken, batch_text}
 use Rattle.wb_commands.specs.Acts.{Act, does, fails, act}
 use Rattle.wb_member.specs.Holding.{board_after}
@@ -64,6 +64,7 @@ act_board (Hear v) host next printed e = at (has_room_for v host) e where
   at true f = ap board_of (sym (same_host (heard v host) next _ printed f))
   at false f = absurd cc
 act_board (Distance source micros) host next printed e = ap board_of (sym (same_host (with_delay source micros host) next _ printed e))
+act_board (Tune constants) host next printed e = ap board_of (sym (same_host (with_constants constants host) next _ printed e))
 act_board (Tick moment) host next printed e = at (nat_lt moment (present host)) e where
   at : (early : Bool) → cond early (fails faults.BackInTime) (does (ticked moment host) (sends_text (sent_by moment host))) ≡ does next printed → board_of next ≡ board_of host
   at true f = absurd cc

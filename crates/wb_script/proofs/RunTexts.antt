@@ -63,6 +63,7 @@ line_as k None waiting (lines.Board member cells workers seed) none = ([], refl,
 line_as k None waiting (lines.Arrive d) none = refl
 line_as k None waiting (lines.Hear v) none = refl
 line_as k None waiting (lines.Distance source micros) none = refl
+line_as k None waiting (lines.Tune constants) none = refl
 line_as k None waiting (lines.Tick moment) none = refl
 line_as k None waiting (lines.Look page) none = refl
 line_as k None waiting (lines.Session page) none = refl
@@ -76,6 +77,7 @@ line_as k (Some host) waiting (lines.Arrive d) none =
     subst (λ (w : List DrawopValue). DoesAs (board k (Some host) w) (arrives d (taken w host)) (goes (board k (Some host) (w ++ d ∷ [])) [])) (sym (none d refl)) (arrives_as k host d)
 line_as k (Some host) waiting (lines.Hear v) none = let next = taken waiting host in acts_as k (board k (Some host) waiting) (act (lines.Hear v) next) next
 line_as k (Some host) waiting (lines.Distance source micros) none = let next = taken waiting host in acts_as k (board k (Some host) waiting) (act (lines.Distance source micros) next) next
+line_as k (Some host) waiting (lines.Tune constants) none = let next = taken waiting host in acts_as k (board k (Some host) waiting) (act (lines.Tune constants) next) next
 line_as k (Some host) waiting (lines.Tick moment) none = let next = taken waiting host in acts_as k (board k (Some host) waiting) (act (lines.Tick moment) next) next
 line_as k (Some host) waiting (lines.Look page) none = let next = taken waiting host in acts_as k (board k (Some host) waiting) (act (lines.Look page) next) next
 line_as k (Some host) waiting (lines.Session page) none = let next = taken waiting host in acts_as k (board k (Some host) waiting) (act (lines.Session page) next) next

@@ -7,7 +7,7 @@ use Rattle.wb_gaps.specs.Answers.{gaps_of, report_of, pages_of}
 use Rattle.wb_host.specs.Hearing.{marks_heard}
 use Rattle.wb_names.specs.Arrivals.{Outcome, Fresh, Known as KnownDrawop, Clashed, Left}
 use Rattle.wb_recovery.specs.declared.tuning.Tuning.{Tuning}
-use Rattle.wb_keeping.specs.Kept.{Transition, adds, came, ticks}
+use Rattle.wb_keeping.specs.Kept.{Transition, Tunes, adds, came, performs, ticks}
 use Rattle.wb_keeping.specs.Performing.{Keeping, sent_by_doing}
 use Rattle.wb_keeping.specs.Refusing.{add_fault, came_as, came_fault, drawn_as, tick_fault}
 use Rattle.wb_keeping.specs.declared.kept_fault.KeptFault.{KeptFault}
@@ -62,6 +62,7 @@ module _ (host : Opened) (held : AreOneLine host.is.held) where
   script_told (lines.Board member cells workers seed) shows = none
   script_told (lines.Hear v) shows = none
   script_told (lines.Distance source micros) shows = none
+  script_told (lines.Tune constants) shows = none
   script_told (lines.Tick moment) shows = none
   script_told (lines.Session page) shows = none
   script_told lines.Skip shows = none
@@ -128,6 +129,7 @@ module _ (k : Keeping) (held : AreOneLine k.host.is.held) where
 
   kept_script : (line : Command) → IsNoShow (Ok (Script line)) → Plain (text_in (kept_reply (Script line) k))
   kept_script (lines.Tick now) shows = does_plain (tick_fault now k) (ticks now) [] k none
+  kept_script (lines.Tune constants) shows = does_plain None (performs (Tunes constants)) [] k none
   kept_script line shows = other (is_acting (Script line)) (Script line) refusals.Kept shows
 
   kept_plain : (line : DriverLine) → IsNoShow (Ok line) → Plain (text_in (kept_reply line k))

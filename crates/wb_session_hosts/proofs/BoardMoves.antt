@@ -84,6 +84,7 @@ module _ (host : Opened) where
   script_moves (lines.Board member cells workers seed) = tt
   script_moves (lines.Hear v) = either (Script (lines.Hear v)) (is_own host.is.number v || has_room (marks_heard host.is.number host.is.calls) v) _ _ (calls _ _ (words_for v)) tt
   script_moves (lines.Distance source micros) = calls _ _ 0
+  script_moves (lines.Tune constants) = calls _ _ 0
   script_moves (lines.Tick now) = either (Script (lines.Tick now)) (nat_lt now (present host)) _ _ tt (calls _ _ (due_count now host))
   script_moves (lines.Look page) = calls _ _ (length (wanted_of page host))
   script_moves (lines.Session page) = calls _ _ 0

@@ -22,7 +22,7 @@ use Rattle.wb_recovery.specs.declared.timers.Timers.{Timers}
 use Rattle.wb_recovery.specs.declared.tuning.Tuning.{Tuning}
 use Rattle.wb_recovery.proofs.StoppedNames.{names_receipts}
 use Rattle.wb_host.specs.Hearing.{marks_in, marks_heard}
-use Rattle.wb_host.specs.Keeper.{KeeperCall, SetDelay, Hear, Arrive, Miss, GoOn, Report, GiveUp, now_of, newest, moment_at, is_own, high_in, high_reported, high_heard, delay_to, received_of, missed_of, asked_by, given_up, timer_calls, events_of}
+use Rattle.wb_host.specs.Keeper.{KeeperCall, SetDelay, SetConstants, Hear, Arrive, Miss, GoOn, Report, GiveUp, now_of, newest, moment_at, is_own, high_in, high_reported, high_heard, delay_to, received_of, missed_of, asked_by, given_up, timer_calls, events_of}
 use Rattle.wb_host.specs.KeeperLaws.{AreOrderly}
 use Rattle.wb_host.specs.Missing.{IsWanted, wanted_of}
 use Rattle.wb_host.proofs.FirstWanted.{first_are_wanted}
@@ -32,6 +32,7 @@ use Rattle.wb_session_hosts.proofs.BoardRanges.{all_from, IsSmall, small_max, hi
 -- what a call carries is in range
 abbrev pub Fits : KeeperCall → Type 0
 Fits (SetDelay source micros) = Unit {0}
+Fits (SetConstants constants) = Unit {0}
 Fits (Hear now v word held) = (now < 2 ^ 48) × IsDatagram v
 Fits (Arrive now held) = now < 2 ^ 48
 Fits (Miss now names words) = (now < 2 ^ 48) × All IsName names
@@ -46,6 +47,7 @@ moment_fits [] fit = omega arith
 moment_fits (call ∷ calls) fit = from call (All-head Fits call calls fit) (moment_fits calls (All-tail Fits call calls fit)) where
   from : (call : KeeperCall) → Fits call → moment_at calls < 2 ^ 48 → unwrap_or (option_or (now_of call) (newest now_of calls)) 0 < 2 ^ 48
   from (SetDelay source micros) f rest = rest
+  from (SetConstants constants) f rest = rest
   from (Hear now v word held) f rest = f.0
   from (Arrive now held) f rest = f
   from (Miss now names words) f rest = f.0
@@ -84,6 +86,7 @@ module _ (me : ℕ) (delays : ℕ → ℕ) (events : List Event) (fit : All IsNa
 
   timer_calls_fit : (call : KeeperCall) → Fits call → All IsName (names_of (timer_calls me delays call events))
   timer_calls_fit (SetDelay source micros) f = fit
+  timer_calls_fit (SetConstants constants) f = fit
   timer_calls_fit (Hear now v word held) f = asked_fits now v word held f.1
   timer_calls_fit (Arrive now held) f = receipts_fit now (received_of delays held)
   timer_calls_fit (Miss now names words) f = notices_fit now events (missed_of delays names words) fit (missed_fits delays names words f.1)

@@ -12,7 +12,7 @@ use Rattle.wb_gaps.specs.Answers.{gaps_of}
 use Rattle.wb_gaps.specs.Sorting.{sorted}
 use Rattle.wb_recovery.specs.declared.tuning.Tuning.{Tuning}
 use Rattle.wb_host.specs.Hearing.{has_room, marks_heard, answers_to}
-use Rattle.wb_host.specs.Keeper.{KeeperCall, SetDelay, Hear, Miss, is_own, session_heard}
+use Rattle.wb_host.specs.Keeper.{KeeperCall, SetDelay, SetConstants, Hear, Miss, is_own, session_heard}
 use Rattle.wb_host.specs.Sessions.{message_of}
 use Rattle.wb_commands.specs.Answers.{gaps_text}
 use Rattle.wb_member.specs.Opened.{accepted, may_ask, next_number, with_asked, Opened, due_count, present, words_for}
@@ -104,6 +104,7 @@ module _ (host o : Opened) (t : TellAlike host.is.number host.is.calls o.is.call
       }))
       tt
   script_alike (lines.Distance source micros) = both _ _ 0 0 (as_itself host.is.number (SetDelay source micros))
+  script_alike (lines.Tune constants) = both _ _ 0 0 (as_itself host.is.number (SetConstants constants))
   script_alike (lines.Tick now) = either _ _ _ _ _ _ (ap (nat_lt now) t.moment) tt
       (both _ _ (due_count now host) (due_count now changed) (record { moment = refl; marks = λ page. refl; session = refl; page = refl }))
   script_alike (lines.Look page) = record { same = refl; calls = miss_both host.is.number host.is.calls o.is.calls t _ _ _ _ }
@@ -170,6 +171,7 @@ module _ (host o : Opened) (t : TellAlike host.is.number host.is.calls o.is.call
   script_text (lines.Board member cells workers seed) u = refl
   script_text (lines.Hear v) u = one_text _ _ _ _ (sends_text (answers_to host.is.number host.is.held v)) faults.TooMany (same_room v)
   script_text (lines.Distance source micros) u = refl
+  script_text (lines.Tune constants) u = refl
   script_text (lines.Tick now) u = absurd u
   script_text (lines.Look page) u = absurd u
   script_text (lines.Session page) u = ap (λ (v : Datagram). sends_text (v ∷ [])) (same_session page)

@@ -23,7 +23,7 @@ use Rattle.wb_commands.specs.Acts.{Act, does, fails, act}
 use Rattle.wb_commands.specs.declared.command.Command.{Command}
 use Rattle.wb_commands.specs.declared.command.Command.TheVariants as lines
 use Rattle.wb_member.specs.Members as members
-use Rattle.wb_member.specs.Members.{Member, Takes, Hears, SetsDelay, Misses, GivesUp, Ticks, Reports, after}
+use Rattle.wb_member.specs.Members.{Member, Takes, Hears, SetsDelay, SetsConstants, Misses, GivesUp, Ticks, Reports, after}
 use Rattle.wb_session_hosts.specs.Scripts.{member_of, act_of, after_any}
 use Rattle.wb_session_hosts.proofs.ScriptActs.{batches_are_acts, giving_up_is_an_act, asking_is_an_act, lines_are_acts}
 use Rattle.wb_dialog.specs.Dialog.{Answer, gives, refuses, after as host_after, answer, answer_at, answer_first, answered, goes_out, numbered, says, speaker}
@@ -81,6 +81,7 @@ module _ (host : Opened) (is : Is host) where
   careful_line : (line : Command) → Tells (after_any (act_of line host) m)
   careful_line (lines.Hear v) = tells_after (Hears _ v _) m tt is
   careful_line (lines.Distance source micros) = tells_after (SetsDelay source micros) m tt is
+  careful_line (lines.Tune constants) = tells_after (SetsConstants constants) m tt is
   careful_line (lines.Tick moment) = tells_after (Ticks moment _) m tt is
   careful_line (lines.Look page) = tells_after (Misses _ (wanted_of page host) _) m (wanted_lacking host page) is
   careful_line (lines.Session page) = tells_after (Reports _ page) m tt is
@@ -99,6 +100,7 @@ module _ (host : Opened) (is : Is host) where
   script_is (lines.Board member cells workers seed) = tt
   script_is (lines.Hear v) = by_act (lines.Hear v) (act (lines.Hear v) host) refl
   script_is (lines.Distance source micros) = by_act (lines.Distance source micros) (act (lines.Distance source micros) host) refl
+  script_is (lines.Tune constants) = by_act (lines.Tune constants) (act (lines.Tune constants) host) refl
   script_is (lines.Tick now) = by_act (lines.Tick now) (act (lines.Tick now) host) refl
   script_is (lines.Look page) = by_act (lines.Look page) (act (lines.Look page) host) refl
   script_is (lines.Session page) = by_act (lines.Session page) (act (lines.Session page) host) refl

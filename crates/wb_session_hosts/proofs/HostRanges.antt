@@ -8,7 +8,7 @@ use Rattle.wb_codec.specs.declared.datagram.Datagram.{Datagram}
 use Rattle.wb_codec.specs.declared.datagram.Datagram.TheVariants as datagrams
 use Rattle.wb_recovery.specs.declared.tuning.Tuning.{Tuning}
 use Rattle.wb_host.specs.Hearing.{asks_for_held, has_room, marks_heard}
-use Rattle.wb_host.specs.Keeper.{KeeperCall, SetDelay, Hear, Miss, GoOn, Report, GiveUp, is_own}
+use Rattle.wb_host.specs.Keeper.{KeeperCall, SetDelay, SetConstants, Hear, Miss, GoOn, Report, GiveUp, is_own}
 use Rattle.wb_member.specs.Opened.{becomes, accepted, asks_for, may_ask, next_number, with_asked, Opened, due_count, present, wanted_of, word_at, words_for}
 use Rattle.wb_member.specs.Random.{word_of, words_of}
 use Rattle.wb_session_hosts.proofs.Calling.{calling, stopped}
@@ -89,6 +89,7 @@ module _ (host : Opened) (f : Fits host) where
   script_fits (lines.Board member cells workers seed) fit = tt
   script_fits (lines.Hear v) fit = either (is_own host.is.number v || has_room (marks_heard host.is.number host.is.calls) v) _ _ (given _ (called (Hear (present host) v (word_at v host.random) (asks_for_held host.is.held v)) (words_for v) (moment, fit))) tt
   script_fits (lines.Distance source micros) fit = given _ (called (SetDelay source micros) 0 tt)
+  script_fits (lines.Tune constants) fit = given _ (called (SetConstants constants) 0 tt)
   script_fits (lines.Tick now) fit = either (nat_lt now (present host)) _ _ tt (given _ (called (GoOn now (words_of host.random (due_count now host)) (stopped host)) (due_count now host) fit))
   script_fits (lines.Look page) fit = given _ (called (Miss (present host) (wanted_of page host) (words_of host.random (length (wanted_of page host)))) (length (wanted_of page host)) (moment, wanted_fits host.is.number page host.is.calls f.calls host.is.held f.board host.is.constants fit))
   script_fits (lines.Session page) fit = given _ (called (Report (present host)) 0 moment)

@@ -9,7 +9,7 @@ use Rattle.wb_recovery.specs.declared.timers.Timers.{Timers}
 use Rattle.wb_host.specs.Keeper.{Arrive, Hear, moment_at}
 use Rattle.wb_progress.specs.Keepers.{AreWithin}
 use Rattle.wb_progress.specs.Repairs.{timers_at}
-use Rattle.wb_progress.specs.Turns.{Terms, Turn, Desk, Places, settled_by, IsTurn, IsQuietTurn, IsHeardAt, Accepts, WasSent, AreTurns, KeepTime, AllHoldBehind}
+use Rattle.wb_progress.specs.Turns.{Terms, longest, Turn, Desk, Places, settled_by, IsTurn, IsQuietTurn, IsHeardAt, Accepts, WasSent, AreTurns, KeepTime, AllHoldBehind}
 use Rattle.wb_progress.specs.Turns as turning
 use Rattle.wb_member.specs.Opened.{Opened}
 use Rattle.wb_session_hosts.specs.Hosts.{host_at}
@@ -54,10 +54,9 @@ module _ (constants : ℕ → Tuning) (terms : Terms) (trace : List TimedLine) (
 
   are : AreTurns at terms all
   are = record {
-    waits = timely.waits;
     apart = live_apart constants terms trace timely;
     turn = λ newer older x same live. by_line constants trace (λ newer x older. IsTurn at terms older x) (λ front back e split. turn constants terms trace timely front back e split) newer older x same;
-    within = λ newer older i same live. by_part constants trace (λ newer older. AreWithin terms.far (at.me i) (turning.desk_at older i).calls) (λ front back split. within constants terms trace timely front back i split live) newer older same;
+    within = λ newer older i same live. by_part constants trace (λ newer older. AreWithin terms.far (longest terms) (at.me i) (at.constants i) (turning.desk_at older i).calls) (λ front back split. within constants terms trace timely front back i split live) newer older same;
     clock = λ newer older i same live. by_part constants trace (λ newer older. moment_at (turning.desk_at older i).calls ≤ turning.time_of older + terms.offset i)
         (λ front back split. subst (λ (k : ℕ). moment_at (turning.desk_at (turns_of constants back) i).calls ≤ k + terms.offset i) (sym (time_is constants back)) (clock constants terms trace timely front back i split)) newer older same;
     history = λ newer older i same live. by_part constants trace (λ newer older. IsHistory (turning.desk_at older i).held) (λ front back split. history constants terms trace timely front back i split) newer older same;

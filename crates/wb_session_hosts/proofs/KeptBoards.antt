@@ -15,7 +15,7 @@ use Rattle.wb_codec.specs.declared.datagram.Datagram.TheVariants as datagrams
 use Rattle.wb_recovery.specs.declared.tuning.Tuning.{Tuning}
 use Rattle.wb_member.specs.Members.{Takes}
 use Rattle.wb_member.specs.Opened.{Opened, accepted, has_room_for, heard, may_ask, present}
-use Rattle.wb_keeping.specs.Kept.{Line, Ticks, Arrives, Hears, Asks, Stops, SetsDistance, Says, Transition, adds, came, drawing, ticks}
+use Rattle.wb_keeping.specs.Kept.{Line, Ticks, Arrives, Hears, Asks, Stops, SetsDistance, Tunes, Says, Transition, adds, came, drawing, performs, ticks}
 use Rattle.wb_keeping.specs.Performing.{Keeping, after_doing, after_line, after_lines, after_saying, sees, view_of}
 use Rattle.wb_keeping.specs.Refusing.{add_fault, came_as, came_fault, drawing_fault, drawn_as, tick_fault, waits_fault}
 use Rattle.wb_keeping.specs.declared.kept_fault.KeptFault.{KeptFault}
@@ -37,7 +37,7 @@ use Rattle.wb_session_hosts.proofs.BoardRanges.{all_from}
 use Rattle.wb_session_hosts.proofs.DriverLines as drivers
 use Rattle.wb_session_hosts.proofs.DriverLines.{met_fits}
 use Rattle.wb_session_hosts.proofs.HostRanges.{Fits, AnswerFits, first_fits, line_fits}
-use Rattle.wb_session_hosts.proofs.KeptLines.{IsOneLineIn, Brings, Frees, adds_free, came_free, ticks_free}
+use Rattle.wb_session_hosts.proofs.KeptLines.{IsOneLineIn, Brings, Frees, adds_free, came_free, ticks_free, performs_free}
 use Rattle.wb_session_hosts.proofs.OneLines.{board_lines, lawful_line}
 
 -- ---- what is held after lines
@@ -69,6 +69,7 @@ held_line (Hears v) host h held = either (has_room_for v host) (heard v host) ho
 held_line (Asks name) host h held = either (may_ask name host) _ host held held
 held_line (Stops name) host h held = held
 held_line (SetsDistance source micros) host h held = held
+held_line (Tunes constants) host h held = held
 held_line (Says v) host h held = says v host h held
 
 held_lines : (ls : List Line) (host : Opened) → All Brings ls → AreOneLine host.is.held → AreOneLine (after_lines ls host).is.held
@@ -137,6 +138,7 @@ module _ (k : Keeping) (held : AreOneLine k.host.is.held) where
 
   script_leads : (line : Command) → Leads (kept_reply (Script line) k)
   script_leads (lines.Tick now) = does_leads (tick_fault now k) (ticks now) [] k (λ e. ticks_free now) held
+  script_leads (lines.Tune constants) = does_leads None (performs (Tunes constants)) [] k (λ e. performs_free (Tunes constants) tt) held
   script_leads line = other_leads (is_acting (Script line)) (answer_at (Script line) k.host) refusals.Kept
 
   kept_leads : (line : DriverLine) → drivers.Fits line → Leads (kept_reply line k)

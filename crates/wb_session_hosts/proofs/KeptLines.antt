@@ -13,7 +13,7 @@ use Rattle.wb_gaps.specs.Answers.{pages_of}
 use Rattle.wb_gaps.specs.Holes.{hole_after}
 use Rattle.wb_gaps.specs.declared.holes.Hole.{Hole}
 use Rattle.wb_keeping.specs.Distances.{bounded}
-use Rattle.wb_keeping.specs.Kept.{Line, Ticks, Arrives, Hears, Asks, Stops, SetsDistance, Says, Doing, Transition, adds, and_then, answers, asks_pages, came, distance_in, draws_it, end, ends_full, hears, hears_session, hears_some, hears_state, is_begun, is_unasked, learned, measures, near_names, of_other, own_echo, own_marks, paid_for, performs, reports, reports_due, reports_page, reports_rest, room_lines, state_of, still, stops_oldest, takes, takes_question, ticks, timed, told_names, turn, turn_to, usual_lines, want, want_near, want_told}
+use Rattle.wb_keeping.specs.Kept.{Line, Ticks, Arrives, Hears, Asks, Stops, SetsDistance, Tunes, Says, Doing, Transition, adds, and_then, answers, asks_pages, came, distance_in, draws_it, end, ends_full, hears, hears_session, hears_some, hears_state, is_begun, is_unasked, learned, measures, near_names, of_other, own_echo, own_marks, paid_for, performs, reports, reports_due, reports_page, reports_rest, room_lines, state_of, still, stops_oldest, takes, takes_question, ticks, timed, told_names, turn, turn_to, usual_lines, want, want_near, want_told}
 use Rattle.wb_keeping.specs.Policy.{Policy, View, after_answer, after_question, after_state, after_taking_up, after_turn, after_wanting, holds, in_next_round, is_asked, is_full, level}
 use Rattle.wb_keeping.specs.Questions.{is_due, is_to_answer}
 use Rattle.wb_keeping.specs.Turns.{name_in, nowhere}
@@ -38,6 +38,7 @@ Brings (Hears v) = Unit {0}
 Brings (Asks name) = Unit {0}
 Brings (Stops name) = Unit {0}
 Brings (SetsDistance source micros) = Unit {0}
+Brings (Tunes constants) = Unit {0}
 Brings (Says v) = IsOneLineIn v
 
 none : All Brings []
@@ -69,7 +70,7 @@ both first second f s see p = All-append Brings (first see p).lines _ (f see p) 
 still_free : Frees still
 still_free see p = none
 
-performs_free : (line : Line) → Brings line → Frees (performs line)
+pub performs_free : (line : Line) → Brings line → Frees (performs line)
 performs_free line h see p = one line h
 
 stops_free : (o : Option AskedName) → All Brings (stops_oldest o)

@@ -7,7 +7,7 @@ use Rattle.wb_names.specs.declared.name.PageId.{PageId}
 use Rattle.wb_codec.specs.declared.datagram.Datagram.{Datagram}
 use Rattle.wb_codec.specs.declared.datagram.Datagram.TheVariants as datagrams
 use Rattle.wb_host.specs.Hearing.{asks_for_held, has_room, marks_heard}
-use Rattle.wb_host.specs.Keeper.{KeeperCall, SetDelay, Hear, Arrive, Miss, GoOn, Report, GiveUp, holds, is_own}
+use Rattle.wb_host.specs.Keeper.{KeeperCall, SetDelay, SetConstants, Hear, Arrive, Miss, GoOn, Report, GiveUp, holds, is_own}
 use Rattle.wb_member.specs.Opened.{accepted, asks_for, may_ask, next_number, Opened, due_count, present, sent_by, wanted_of, word_at, words_for, ticked}
 use Rattle.wb_member.specs.Random.{word_of, words_of}
 use Rattle.wb_session_hosts.proofs.Calling.{calling, stopped}
@@ -31,6 +31,7 @@ IsMissing host line names = ((page : PageId) × (line ≡ Script (lines.Look pag
 -- what the line of a call says
 abbrev pub IsMade : Opened → DriverLine → KeeperCall → Type 0
 IsMade host line (SetDelay source micros) = Unit {0}
+IsMade host line (SetConstants constants) = Unit {0}
 IsMade host line (Hear now v word held) = (line ≡ Script (lines.Hear v)) × (now ≡ present host) × (held ≡ asks_for_held host.is.held v)
 IsMade host line (Arrive now names) = (d : DrawopValue) × IsBringing line d × (now ≡ present host) × (names ≡ filter (holds (accepted d host).is.held) (d.name ∷ []))
 IsMade host line (Miss now names words) = (now ≡ present host) × IsMissing host line names
@@ -78,6 +79,7 @@ module _ (host : Opened) where
   script_did (lines.Board member cells workers seed) = tt
   script_did (lines.Hear v) = either (Script (lines.Hear v)) (is_own host.is.number v || has_room (marks_heard host.is.number host.is.calls) v) _ _ (calls (Script (lines.Hear v)) (Hear (present host) v (word_at v host.random) (asks_for_held host.is.held v)) (words_for v) (refl, refl, refl)) tt
   script_did (lines.Distance source micros) = calls (Script (lines.Distance source micros)) (SetDelay source micros) 0 tt
+  script_did (lines.Tune constants) = calls (Script (lines.Tune constants)) (SetConstants constants) 0 tt
   script_did (lines.Tick now) = ticks now
   script_did (lines.Look page) = calls (Script (lines.Look page)) (Miss (present host) (wanted_of page host) (words_of host.random (length (wanted_of page host)))) (length (wanted_of page host)) (refl, inl (page, refl, refl))
   script_did (lines.Session page) = calls (Script (lines.Session page)) (Report (present host)) 0 refl

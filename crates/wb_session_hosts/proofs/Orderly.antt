@@ -7,7 +7,7 @@ use Rattle.wb_codec.specs.declared.datagram.Datagram.{Datagram}
 use Rattle.wb_codec.specs.declared.datagram.Datagram.TheVariants as datagrams
 use Rattle.wb_recovery.specs.declared.tuning.Tuning.{Tuning}
 use Rattle.wb_host.specs.Hearing.{asks_for_held, has_room, marks_heard}
-use Rattle.wb_host.specs.Keeper.{KeeperCall, SetDelay, Hear, Miss, GoOn, Report, GiveUp, moment_at, is_own}
+use Rattle.wb_host.specs.Keeper.{KeeperCall, SetDelay, SetConstants, Hear, Miss, GoOn, Report, GiveUp, moment_at, is_own}
 use Rattle.wb_progress.specs.Keepers.{IsInRange, AreOrderly}
 use Rattle.wb_member.specs.Opened.{accepted, asks_for, may_ask, next_number, with_asked, Opened, due_count, present, sent_by, wanted_of, word_at, words_for, ticked}
 use Rattle.wb_member.specs.Random.{word_of, words_of}
@@ -72,6 +72,7 @@ module _ (t : Tuning) where
     script_steady (lines.Board member cells workers seed) fit = tt
     script_steady (lines.Hear v) fit = either (is_own host.is.number v || has_room (marks_heard host.is.number host.is.calls) v) _ _ (given _ (called (Hear (present host) v (word_at v host.random) (asks_for_held host.is.held v)) (words_for v) (itself (present host)) tt)) tt
     script_steady (lines.Distance source micros) fit = given _ (called (SetDelay source micros) 0 (itself (present host)) (omega (arith, fit)))
+    script_steady (lines.Tune constants) fit = given _ (called (SetConstants constants) 0 (itself (present host)) fit)
     script_steady (lines.Tick now) fit = ticks now
     script_steady (lines.Look page) fit = given _ (called (Miss (present host) (wanted_of page host) (words_of host.random (length (wanted_of page host)))) (length (wanted_of page host)) (itself (present host)) tt)
     script_steady (lines.Session page) fit = given _ (called (Report (present host)) 0 (itself (present host)) tt)

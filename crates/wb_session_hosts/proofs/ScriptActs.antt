@@ -6,13 +6,13 @@ use Rattle.wb_names.specs.Values.{DrawopValue}
 use Rattle.wb_codec.specs.declared.datagram.Datagram.{Datagram}
 use Rattle.wb_recovery.specs.declared.tuning.Tuning.{Tuning}
 use Rattle.wb_member.specs.Members.{Member, Misses}
-use Rattle.wb_member.specs.Opened.{Opened, present, has_room_for, heard, answered as answers, with_delay, ticked, sent_by, looked, wanted_of, reported, message, may_ask, doing}
+use Rattle.wb_member.specs.Opened.{Opened, present, has_room_for, heard, answered as answers, with_constants, with_delay, ticked, sent_by, looked, wanted_of, reported, message, may_ask, doing}
 use Rattle.wb_member.specs.Random.{word_of}
 use Rattle.wb_commands.specs.Acts.{does, fails, act}
 use Rattle.wb_commands.specs.SentLines.{sends_text, look_line}
 use Rattle.wb_commands.specs.declared.fault.LineFault.TheVariants as faults
 use Rattle.wb_commands.specs.declared.command.Command.{Command}
-use Rattle.wb_commands.specs.declared.command.Command.TheVariants.{Skip, Board, Arrive, Hear, Distance, Tick, Look, Session, Show, Gaps, Report, Pages}
+use Rattle.wb_commands.specs.declared.command.Command.TheVariants.{Skip, Board, Arrive, Hear, Distance, Tune, Tick, Look, Session, Show, Gaps, Report, Pages}
 use Rattle.wb_commands.specs.declared.query.Query.TheVariants as queries
 use Rattle.wb_session_hosts.specs.Scripts.{answered, member_of, after_any, OpenedIsNewcomer, BatchesAreActs, GivingUpIsAnAct, AskingIsAnAct, IsDone, LinesAreActs}
 
@@ -56,6 +56,7 @@ module _ (drawn : List DrawopValue) (host next : Opened) (printed : List ℕ) wh
   line_is_act (Report page) e = done (Report page) host (answered (queries.Report page) host) (record { member = refl; text = refl }) e
   line_is_act Pages e = done Pages host (answered queries.Pages host) (record { member = refl; text = refl }) e
   line_is_act (Distance source micros) e = done (Distance source micros) (with_delay source micros host) [] (record { member = refl; text = refl }) e
+  line_is_act (Tune constants) e = done (Tune constants) (with_constants constants host) [] (record { member = refl; text = refl }) e
   line_is_act (Look page) e = done (Look page) (looked page host) (look_line (length (wanted_of page host))) (record { member = refl; text = refl }) e
   line_is_act (Session page) e = done (Session page) (reported page host) (sends_text (message page host ∷ [])) (record { member = refl; text = alone (message page host ∷ []) }) e
   line_is_act (Tick moment) e = from (nat_lt moment (present host)) e where

@@ -17,7 +17,9 @@ use Rattle.wb_codec.proofs.GrammarLaws.{reading_takes}
 use Rattle.wb_words.specs.Reading.{begins_datagram, reading as reading_words}
 use Rattle.wb_words.specs.declared.fault.WrongWord.{WrongWord}
 use Rattle.wb_lines.specs.Words.{words, is_digit, number_after, number_of, unhex}
-use Rattle.wb_commands.specs.Parsing.{◌>>=◌, or_fault, number, one_of, two_of, four_of, none_of, board, show, distance, tick, page, pages, spelled, datagram, arrived, heard, arrive, hear, handed_in, bytes_line, page_line, command, begins_comment, line_of_words, in_words, line_of}
+use Rattle.wb_recovery.specs.Timing.{are_constants, is_constant}
+use Rattle.wb_progress.proofs.OneCall.{le_true}
+use Rattle.wb_commands.specs.Parsing.{◌>>=◌, or_fault, number, one_of, two_of, four_of, none_of, board, show, distance, tuning, tick, page, pages, spelled, datagram, arrived, heard, arrive, hear, handed_in, bytes_line, page_line, command, begins_comment, line_of_words, in_words, line_of}
 use Rattle.wb_commands.specs.declared.fault.LineFault.{LineFault}
 use Rattle.wb_commands.specs.declared.fault.LineFault.TheVariants as faults
 use Rattle.wb_commands.specs.declared.command.Command.{Command}
@@ -134,6 +136,7 @@ Carries P (lines.Arrive d) = P (datagrams.Draw d)
 Carries P (lines.Hear v) = P v
 Carries P (lines.Tick moment) = moment < 2 ^ 48
 Carries P (lines.Distance source micros) = micros < 2 ^ 24
+Carries P (lines.Tune constants) = are_constants constants ≡ true
 Carries P (lines.Look page) = IsPage page
 Carries P (lines.Session page) = IsPage page
 Carries P line = Unit {0}
@@ -146,6 +149,9 @@ Fits line = Carries IsDatagram line
 pub record Asks (P : Datagram → Type 0) (line : List ℕ) : Type 0 where
   pub in_words : IfOk (reading_words line) P
   pub in_bytes : (word : List ℕ) (arguments : List (List ℕ)) → words line ≡ word ∷ arguments → IfOk (datagram arguments) P
+
+both : (a b : Bool) → a ≡ true → b ≡ true → (a && b) ≡ true
+both a b e f = ap (λ (c : Bool). c && b) e ∙ f
 
 module _ (P : Datagram → Type 0) where
   abbrev Has : Command → Type 0
@@ -180,6 +186,18 @@ module _ (P : Datagram → Type 0) where
       behind Has (number 0 (2 ^ 32 - 1) ws.0) _ (λ source.
       bound (IsWithin 0 (2 ^ 24 - 1)) Has (number 0 (2 ^ 24 - 1) ws.1) _ (number_fits 0 (2 ^ 24 - 1) ws.1) (λ micros m.
       let a = m.1 in omega arith)))
+
+  constant_fits : (n : ℕ) → IsWithin 1 16 n → is_constant n ≡ true
+  constant_fits n fit = both (nat_le 1 n) (nat_le n 16) (le_true 1 n fit.0) (le_true n 16 fit.1)
+
+  tuning_fits : (arguments : List (List ℕ)) → IfOk (tuning arguments) Has
+  unfolding tuning
+  tuning_fits arguments = behind Has (or_fault faults.Words (four_of arguments)) _ (λ ws.
+      bound (IsWithin 1 16) Has (number 1 16 ws.0) _ (number_fits 1 16 ws.0) (λ c1 one.
+      bound (IsWithin 1 16) Has (number 1 16 ws.1) _ (number_fits 1 16 ws.1) (λ c2 two.
+      bound (IsWithin 1 16) Has (number 1 16 ws.2) _ (number_fits 1 16 ws.2) (λ d1 three.
+      bound (IsWithin 1 16) Has (number 1 16 ws.3) _ (number_fits 1 16 ws.3) (λ d2 four.
+      both _ (is_constant d2) (both _ (is_constant d1) (both (is_constant c1) (is_constant c2) (constant_fits c1 one) (constant_fits c2 two)) (constant_fits d1 three)) (constant_fits d2 four))))))
 
   pages_fits : (arguments : List (List ℕ)) → IfOk (pages arguments) Has
   pages_fits arguments = behind Has (or_fault faults.Words (none_of arguments)) _ (λ nothing. tt)
@@ -229,9 +247,10 @@ module _ (P : Datagram → Type 0) where
       (either Has (bytes_eq word (codes "datagram")) _ _ (bytes_line_fits arguments has)
       (either Has (bytes_eq word (codes "show")) _ _ (show_fits arguments)
       (either Has (bytes_eq word (codes "distance")) _ _ (distance_fits arguments)
+      (either Has (bytes_eq word (codes "tuning")) _ _ (tuning_fits arguments)
       (either Has (bytes_eq word (codes "tick")) _ _ (tick_fits arguments)
       (either Has (bytes_eq word (codes "pages")) _ _ (pages_fits arguments)
-      (page_line_fits word arguments))))))))
+      (page_line_fits word arguments)))))))))
 
   -- the words of a line, of which those behind the first may say a datagram
   words_fit : (ws : List (List ℕ)) → ((word : List ℕ) (arguments : List (List ℕ)) → ws ≡ word ∷ arguments → IfOk (datagram arguments) P) → IfOk (line_of_words ws) Has

@@ -36,6 +36,7 @@ module _ (host : Opened) (next : Option Opened) (text : List ℕ) where
   script lines.Skip given = by_act lines.Skip (act lines.Skip host) refl given
   script (lines.Hear v) given = by_act (lines.Hear v) (act (lines.Hear v) host) refl given
   script (lines.Distance source micros) given = by_act (lines.Distance source micros) (act (lines.Distance source micros) host) refl given
+  script (lines.Tune constants) given = by_act (lines.Tune constants) (act (lines.Tune constants) host) refl given
   script (lines.Tick moment) given = by_act (lines.Tick moment) (act (lines.Tick moment) host) refl given
   script (lines.Look page) given = by_act (lines.Look page) (act (lines.Look page) host) refl given
   script (lines.Session page) given = by_act (lines.Session page) (act (lines.Session page) host) refl given

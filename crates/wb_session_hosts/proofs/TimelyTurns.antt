@@ -7,7 +7,7 @@ use Rattle.wb_codec.specs.declared.datagram.Datagram.{Datagram}
 use Rattle.wb_recovery.specs.Events.{timers_of}
 use Rattle.wb_recovery.specs.declared.tuning.Tuning.{Tuning}
 use Rattle.wb_recovery.specs.declared.timers.Timers.{Timers}
-use Rattle.wb_host.specs.Keeper.{KeeperCall, SetDelay, Hear, Arrive, Miss, GoOn, Report, GiveUp, moment_at, holds}
+use Rattle.wb_host.specs.Keeper.{KeeperCall, SetDelay, SetConstants, Hear, Arrive, Miss, GoOn, Report, GiveUp, moment_at, holds}
 use Rattle.wb_host.specs.Ticks.{sent_by_tick, stopped_after}
 use Rattle.wb_host.proofs.KeptCalls.{holds_from}
 use Rattle.wb_progress.specs.Repairs.{timers_at}
@@ -171,6 +171,7 @@ module _ (constants : ℕ → Tuning) (terms : Terms) (trace : List TimedLine) (
   -- a call is made at the present moment, or a tick makes its own
   call_moment : (host : Opened) (line : DriverLine) (call : KeeperCall) → IsMade host line call → (moment_at (call ∷ host.is.calls) ≡ present host) ⊎ ((now : ℕ) × (line ≡ Script (lines.Tick now)) × (moment_at (call ∷ host.is.calls) ≡ now))
   call_moment host line (SetDelay source micros) m = inl refl
+  call_moment host line (SetConstants constants) m = inl refl
   call_moment host line (Hear now v word held) m = inl m.1
   call_moment host line (Arrive now names) m = inl m.2
   call_moment host line (Miss now names words) m = inl m.0

@@ -139,6 +139,7 @@ module _ (group : Group) (is : IsDistinct group) (i : ℕ) (events : List Event)
   script said (lines.Arrive d) fair = one said (Takes (present host) (d ∷ []) (d ∷ [])) (accepted d host) [] refl (λ n x h. h) (All-cons (λ x. Contains (members.sent group events) (datagrams.Draw x)) d [] fair (All-nil (λ x. Contains (members.sent group events) (datagrams.Draw x)))) (itself d) (λ v c. none_out v c)
   script said (lines.Hear v) fair = by_act said (lines.Hear v) (act (lines.Hear v) host) refl (λ n x h. h) fair tt
   script said (lines.Distance source micros) fair = by_act said (lines.Distance source micros) (act (lines.Distance source micros) host) refl (λ n x h. h) tt tt
+  script said (lines.Tune constants) fair = by_act said (lines.Tune constants) (act (lines.Tune constants) host) refl (λ n x h. h) tt tt
   script said (lines.Tick moment) fair = by_act said (lines.Tick moment) (act (lines.Tick moment) host) refl (λ n x h. h) tt tt
   script said (lines.Look page) fair = by_act said (lines.Look page) (act (lines.Look page) host) refl (λ n x h. h) tt (wanted_lacking host page)
   script said (lines.Session page) fair = by_act said (lines.Session page) (act (lines.Session page) host) refl (λ n x h. h) tt tt

@@ -15,7 +15,7 @@ use Rattle.wb_commands.specs.declared.command.Command.{Command}
 use Rattle.wb_commands.specs.declared.command.Command.TheVariants as lines
 use Rattle.wb_commands.specs.declared.query.Query.{Query}
 use Rattle.wb_commands.specs.declared.query.Query.TheVariants as queries
-use Rattle.wb_member.specs.Members.{Member, Act, Takes, Hears, SetsDelay, Misses, GivesUp, Ticks, Reports, after, sends}
+use Rattle.wb_member.specs.Members.{Member, Act, Takes, Hears, SetsDelay, SetsConstants, Misses, GivesUp, Ticks, Reports, after, sends}
 use Rattle.wb_session.specs.Session.{Event, Group, IsDistinct, member, newcomer, IsSession, LacksNothing}
 
 -- the member that a host is, which drew these drawops: a script draws none itself, and they come to it as any do
@@ -26,6 +26,7 @@ member_of drawn host = record host.is { drawn = drawn }
 abbrev pub act_of : Command → Opened → Option Act
 act_of (lines.Hear v) host = Some (Hears (present host) v (word_at v host.random))
 act_of (lines.Distance source micros) host = Some (SetsDelay source micros)
+act_of (lines.Tune constants) host = Some (SetsConstants constants)
 act_of (lines.Tick moment) host = Some (Ticks moment (words_of host.random (due_count moment host)))
 act_of (lines.Look page) host = Some (Misses (present host) (wanted_of page host) (words_of host.random (length (wanted_of page host))))
 act_of (lines.Session page) host = Some (Reports (present host) page)

@@ -7,7 +7,7 @@ use Rattle.wb_codec.specs.declared.datagram.Datagram.{Datagram}
 use Rattle.wb_codec.specs.declared.datagram.Datagram.TheVariants.{Draw}
 use Rattle.wb_gaps.specs.Answers.{gaps_of}
 use Rattle.wb_gaps.specs.Gaps.{Covers}
-use Rattle.wb_recovery.specs.Events.{timers_of}
+use Rattle.wb_recovery.specs.Events.{constants_after, timers_of}
 use Rattle.wb_recovery.specs.Timing.{are_constants}
 use Rattle.wb_recovery.specs.declared.tuning.Tuning.{Tuning}
 use Rattle.wb_recovery.specs.declared.timers.AskTimer.{AskTimer}
@@ -15,7 +15,8 @@ use Rattle.wb_recovery.specs.declared.timers.AnswerTimer.{AnswerTimer}
 use Rattle.wb_host.specs.GivingUp.{is_asked}
 use Rattle.wb_host.specs.Hearing.{marks_heard}
 use Rattle.wb_host.specs.Keeper.{delay_to, holds}
-use Rattle.wb_progress.specs.Turns.{Terms}
+use Rattle.wb_progress.specs.Bounds.{IsUnder}
+use Rattle.wb_progress.specs.Turns.{Terms, longest}
 use Rattle.wb_member.specs.Opened.{Opened, events}
 use Rattle.wb_commands.specs.declared.command.Command.TheVariants as lines
 use Rattle.wb_dialog.specs.Dialog.{gives, answer_at}
@@ -172,7 +173,8 @@ pub record IsTimely (constants : ℕ → Tuning) (terms : Terms) (trace : List T
   pub distinct : HaveDistinctMembers (lines_of trace)
   pub honest : IsHonest constants (lines_of trace)
   pub in_range : (i : ℕ) → are_constants (constants i) ≡ true
-  pub waits : (i : ℕ) → ((constants i).c1 + (constants i).c2 ≤ terms.asking) × ((constants i).d1 + (constants i).d2 ≤ terms.answering)
+  pub waits : (i : ℕ) → IsUnder (longest terms) (constants i)
+  pub tuned : (newer older : List TimedLine) (i : ℕ) (host : Opened) → trace ≡ newer ++ older → Contains terms.live i → StandsAt constants older i host → IsUnder (longest terms) (constants_after host.is.constants (events host))
   pub order : AreInOrder trace
   pub times : TicksTellTime constants terms trace
   pub behind : AreBehindTicks constants trace
