@@ -306,6 +306,20 @@ ok {asked_at(50, 0, 10_000)}
 > came 60 {session(9, 9, PAGE, [(8, 1)], [])}
 ok {min(asked_at(50, 0, 10_000), asked_at(60, 1, 10_000))}
 """,
+    "its timers are given other constants": f"""
+{kept()}> tuning 3 16 1 11
+ok {QUESTION}
+> came 0 {STARS}
+batch 1 0 0 0
+ok {QUESTION}
+> came 0 {datagrams.request(9, 7, PAGE, 1)}
+ok {min(QUESTION, drawn(0, 100_000, TIMERS[0], 1, 11))}
+> tick {QUESTION}
+send {datagrams.ask_pages(1)}
+ok {drawn(0, 100_000, TIMERS[0], 1, 11)}
+> keep 4000 0
+refused kept
+""",
     "a request is answered as by any host": f"""
 {kept()}> came 0 {STARS}
 batch 1 0 0 0

@@ -180,6 +180,26 @@ ok {min(asked_at(0, 0), asked_at(0, 1))}
 look 0
 ok {min(asked_at(0, 0), asked_at(0, 1))}
 """,
+    "a timer that stands keeps its moment, and the next one has other constants": f"""
+> board 1 16 1 42
+ok never
+> look 7 1
+look 0
+ok never
+> ask 7 1 7 1
+ask 1
+ok {asked_at(0, 0)}
+> tuning 3 16 1 11
+ok {asked_at(0, 0)}
+> ask 7 1 7 2
+ask 1
+ok {min(asked_at(0, 0), drawn(0, 100_000, WORDS[1], 3, 16))}
+> keep 4000 0
+refused too late
+> tick {asked_at(0, 0)}
+send {datagrams.request(1, 7, PAGE, 1)}
+ok {min(drawn(asked_at(0, 0), 100_000, WORDS[2], 3, 16, 1), drawn(0, 100_000, WORDS[1], 3, 16))}
+""",
     "another asks for what is held": f"""
 > board 1 16 1 42
 ok never

@@ -460,7 +460,25 @@ def asks_in_time(seed: int) -> Script:
     return Script(f"the random words of the seed {seed}", f"{looked_for(seed)}\n{ticks}", f"look 3\n{asks}")
 
 
+TUNING = (3, 16, 1, 11)
+
+
+def retuned(seed: int) -> Script:
+    """A timer that stands keeps its moment. The name that is asked for again behind it, and the one that is missed later, have other
+    constants, and the words that come next."""
+    words = Words(seed)
+    first = drawn(0, DELAY, words.next(), 2, 2)
+    again = drawn(first, DELAY, words.next(), 3, 16, 1)
+    later = drawn(first, DELAY, words.next(), 3, 16)
+    ticks = [first - 1, first, *sorted([again - 1, again, later - 1, later])]
+    asks = [asked(number) for _, number in sorted([(first, 1), (again, 1), (later, 2)])]
+    lines = [f"board 1 16 W {seed}", f"distance 7 {DELAY}", f"hear {told(1)}", "look 7 4", "tuning 3 16 1 11",
+             f"tick {ticks[0]}", f"tick {ticks[1]}", f"hear {told(2)}", "look 7 4", *(f"tick {moment}" for moment in ticks[2:])]
+    return Script(f"other constants while a timer stands, with the seed {seed}", "\n".join(lines), "\n".join(["look 1", asks[0], "look 1", *asks[1:]]))
+
+
 RANDOM = [
+    *(retuned(seed) for seed in (1, 42)),
     *(asks_in_time(seed) for seed in (0, 42, 2**64 - 1)),
     Script("what is due at once is asked for in the order of the names", f"{looked_for(42)}\ntick {4 * DELAY}", "\n".join(["look 3", asked(1), asked(2), asked(3)])),
 ]

@@ -57,7 +57,7 @@ is sent, the second batch, and the page on a canvas 5 cells wide and 3 high:
 The line `gaps 7 1` prints the numbers that are missing on that page, as ranges; `report 7 1`
 prints the greatest number of each source there, `pages` the pages that were drawn on, and
 `session 7 1` the session message of the page. `distance 7 5000` says that source 7 is 5,000
-microseconds away.
+microseconds away, and `tuning 2 8 1 6` gives the timers other constants.
 
 Lines that are blank or begin with # are skipped.
 
