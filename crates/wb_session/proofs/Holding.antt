@@ -119,7 +119,7 @@ none_after (GivesUp now name) m careful none n h = from (is_asked (timers_of m.c
   from : (b : Bool) → HasNone (timers_of m.constants (given_up now name b (events_of m.number m.calls)) n)
   from true = receipts_none m.constants n now (events_of m.number m.calls) (received_of (λ source. 0) (name ∷ [])) (none n h)
   from false = none n h
-none_after (Ticks now words) m careful none n h = ap (fired_ask _ now _) (receipts_none m.constants n now (events_of m.number m.calls) (received_of (delay_to m.number m.calls) (stopped_after m.number m.constants m.calls m.held)) (none n h))
+none_after (Ticks now words) m careful none n h = ap (fired_ask (constants_after m.constants (receipts now (events_of m.number m.calls) (received_of (delay_to m.number m.calls) (stopped_after m.number m.constants m.calls m.held)))) now _) (receipts_none m.constants n now (events_of m.number m.calls) (received_of (delay_to m.number m.calls) (stopped_after m.number m.constants m.calls m.held)) (none n h))
 none_after (Reports now page) m careful none n h = none n h
 none_after AsksForPages m careful none n h = none n h
 
