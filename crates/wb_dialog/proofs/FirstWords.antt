@@ -1,7 +1,8 @@
 -- Words that begin no line of a script, and what stands before the first space of a line.
-use Rattle.std.proofs.Common.{◌≡◌, ℕ, Bool, true, false, List, [], ◌∷◌, ◌++◌, length, Option, Some, None, Result, Ok, Err, refl, sym, ap, subst, ◌∙◌, append_assoc, append-nil}
+use Rattle.std.proofs.Common.{◌≡◌, ℕ, Bool, true, false, List, [], ◌∷◌, ◌++◌, length, Option, Some, None, Result, Ok, Err, refl, sym, ap, subst, ◌∙◌, append_assoc, append-nil, arith}
 use Rattle.std.specs.Prelude.{nat_eq, codes, if◌then◌else◌}
 use Rattle.std.specs.Str.{bytes_eq}
+use Rattle.std.proofs.lemmas.Bool.Decides.{nat_tests}
 use Rattle.std.proofs.lemmas.Slice.Eq.{bytes_eq-Decides}
 use Rattle.wb_lines.specs.Words.{words, words_after}
 use Rattle.wb_words.specs.Words.{split_after, split_once}
@@ -70,11 +71,17 @@ unknown = record {
   add = record { script = λ arguments. refl; kind = refl };
 }
 
+same_first : (x y : List ℕ) (xs ys : List (List ℕ)) → x ∷ xs ≡ y ∷ ys → x ≡ y
+same_first x y xs ys e = cc
+
 -- A kind that stands before the first space is the first word.
 kind_is_first : (front word : List ℕ) (more arguments : List (List ℕ)) → is_kind front ≡ true → first_and front more ≡ word ∷ arguments → is_kind word ≡ true
 unfolding is_kind
 kind_is_first [] word more arguments kind e = absurd cc
-kind_is_first (b ∷ front) word more arguments kind e = let same : b ∷ front ≡ word = cc in subst (λ (w : List ℕ). is_kind w ≡ true) same kind
+kind_is_first (b ∷ front) word more arguments kind e =
+    let some : nat_eq (length (b ∷ front)) 0 ≡ false = grind (arith, nat_tests) in
+    let begins : (b ∷ front) ∷ more ≡ word ∷ arguments = ap (λ (t : Bool). if t then more else (b ∷ front) ∷ more) (sym some) ∙ e in
+    subst (λ (w : List ℕ). is_kind w ≡ true) (same_first (b ∷ front) word more arguments begins) kind
 
 kind_first : (line word : List ℕ) (arguments : List (List ℕ)) → begins_datagram line ≡ true → words line ≡ word ∷ arguments → is_kind word ≡ true
 kind_first line word arguments begins first = at (split_once 32 line) refl where
