@@ -22,8 +22,6 @@ fn read_on<R: Source, W: Sink>(
         (moment progress.new.lines progress.new.output (R.left source.new) (R.has_failed source.new) (W.taken sink.new) (W.has_failed sink.new)) result }
 {
     while let Some(said) = progress.next_joined(alloc, source, sink) {
-        // For the proof alone: how many lines there may be.
-        let _done = progress.lines.done();
         if let Part::Arrival(drawop) = said.part() {
             return Some(drawop);
         }

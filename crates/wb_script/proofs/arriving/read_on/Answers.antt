@@ -10,22 +10,22 @@ loop-said-init g c = (omega arith, skips_none _)
 pub loop-said-preserved : goal.loop-said-preserved
 loop-said-preserved g c =
     let so_far = c.loop-said.invariant in
-    let one = c.in-Some.ensures in
+    let one = c.in-Some.ensures.joined in
     let part : part_in one.0 ≡ Nothing = skipped_so c.part.result (part_in one.0) (subst (IsPart c.part.result) (ap part_of one.1.0) c.part.ensures) one.2 c.in_default.not-Arrival in
     (omega (arith, so_far.0, one.3), skips_one _ _ _ one.0 so_far.1 one.4 part)
 
 pub loop-said-smaller : goal.loop-said-smaller
-loop-said-smaller g c = omega (arith, c.in-Some.ensures.3, c.done-_done.ensures.count, c.done-_done.ensures.few, c.done-_done.ensures.most)
+loop-said-smaller g c = omega (arith, c.in-Some.ensures.joined.3, c.in-Some.ensures.few)
 
 pub returns-in-Arrival : goal.returns-in-Arrival
 returns-in-Arrival g c =
     let so_far = c.loop-said.invariant in
-    let one = c.in-Some.ensures in
+    let one = c.in-Some.ensures.joined in
     let part = sym (ap part_of one.1.0) ∙ rw c.in-Arrival.is at c.part.ensures in
-    (omega (arith, so_far.0, one.3), omega (arith, c.done-_done.ensures.count, c.done-_done.ensures.few, c.done-_done.ensures.most), arrives_one _ _ _ one.0 c.in-Arrival.drawop so_far.1 one.4 part)
+    (omega (arith, so_far.0, one.3), c.in-Some.ensures.few, arrives_one _ _ _ one.0 c.in-Arrival.drawop so_far.1 one.4 part)
 
 pub returns : goal.returns
 returns g c =
     let so_far = c.loop-said.invariant in
-    let one = c.in-None.ensures in
+    let one = c.in-None.ensures.joined in
     (omega (arith, so_far.0, one.0.moves.done), one.1, skips_then _ _ _ so_far.1 one.0)
