@@ -1,13 +1,9 @@
 pub mod Outcomes
-pub mod Looking
-pub mod ReadLines
-pub mod Following
-pub mod EarlyEnds
-pub mod TakingArrivals
-pub mod RunOn
-pub mod Endings
+pub mod Batches
+pub mod Reading
 pub mod FreeArrivals
 pub mod Steps
+pub mod Ending
 pub mod WholeBatches
 pub mod CheckEnds
 pub mod CountLaws

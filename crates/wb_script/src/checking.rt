@@ -4,7 +4,7 @@ ghost use Rattle.wb_lines.specs.Driving.{Gave};
 ghost use Rattle.wb_script.specs.Checking.{Checks, CountsLines, IsCounted, fault_of};
 
 use crate::fault::RunFault;
-use crate::script_lines::MAX_LINES;
+use crate::said::MAX_LINES;
 use std::alloc::Global;
 use wb_commands::{LineFault, Untaken, parse_line};
 use wb_lines::{DriveFault, Handler, Output, Stop, drive, without_end};

@@ -1,12 +1,10 @@
 //! Why a script is not run to its end.
 ghost use Rattle.std.specs.Prelude.{◌≡◌};
 ghost use Rattle.wb_script.specs.declared.fault.RunFault.TheVariants as run_faults;
-ghost use Rattle.wb_script.specs.Faults.{at_line, numbered};
 
 use std::alloc::{AllocError, AllocFailed};
 use thiserror::Error;
-use wb_commands::{LineFault, Untaken};
-use wb_lines::Unwritten;
+use wb_commands::LineFault;
 
 /// Why a script was not run to its end.
 #[derive(Clone, Copy, Debug, PartialEq, Eq, Error)]
@@ -62,33 +60,5 @@ impl<T: Drop> From<AllocFailed<T>> for RunFault {
 
     fn from(_error: AllocFailed<T>) -> RunFault {
         RunFault::Memory
-    }
-}
-
-impl From<Unwritten> for RunFault {
-    ghost from_gives = { λ _ f. f ≡ run_faults.Write };
-
-    fn from(_error: Unwritten) -> RunFault {
-        RunFault::Write
-    }
-}
-
-/// Why a run ends with the line of this number, which was not taken.
-fn at_line(number: u32, fault: Untaken) -> RunFault
-    ensures { result ≡ at_line number fault }
-{
-    match fault {
-        Untaken::Line(fault) => RunFault::Line(number, fault),
-        Untaken::Memory => RunFault::Memory,
-    }
-}
-
-/// What became of the line of this number, in a run.
-pub(crate) fn numbered(number: u32, taken: Result<(), Untaken>) -> Result<(), RunFault>
-    ensures { result ≡ numbered number taken }
-{
-    match taken {
-        Ok(()) => Ok(()),
-        Err(fault) => Err(at_line(number, fault)),
     }
 }

@@ -1,25 +1,25 @@
 //! The host of a script, and what its lines do to it.
-ghost use Rattle.std.specs.Prelude.{◌≡◌, ◌≢◌, ◌<◌, List, [], ℕ, ◌≤◌, ◌++◌, Ok, Err, None, true};
-ghost use Rattle.wb_lines.specs.Ahead.{Pulls};
-ghost use Rattle.wb_script.specs.Inside.Lines.{IsSeen};
-ghost use Rattle.wb_lines.specs.Output.{Sends};
+ghost use Rattle.std.specs.Prelude.{◌≡◌, ◌<◌, List, [], ℕ, ◌≤◌, ◌++◌, Ok, None, false};
+ghost use Rattle.wb_lines.specs.Input.{InputLine};
+ghost use Rattle.wb_lines.specs.Handling.{whole};
+ghost use Rattle.wb_lines.specs.Moments.{moment, Reads};
+ghost use Rattle.wb_lines.specs.Steps.{DoesGroup};
 ghost use Rattle.wb_commands.specs.Parsing.{IsWithin};
-ghost use Rattle.wb_script.specs.Inside.Parts.{EndsBatchAt, IsPartOf};
-ghost use Rattle.wb_script.specs.Inside.Passing.{RunsOn};
-ghost use Rattle.wb_script.specs.Script.{State, IsAlone, Acts, End, part_of, held_count, part_step, said_step, most_lines};
-ghost use Rattle.wb_script.specs.Inside.Steps.{IsAt, MayDoStep, Moves};
+ghost use Rattle.wb_script.specs.Script.{State, IsAlone, Acts, Arrival, End, part_in, part_of, held_count, part_step, said_step};
+ghost use Rattle.wb_script.specs.Inside.Parts.{by_batches, EndsBatchAt};
+ghost use Rattle.wb_script.specs.Inside.Steps.{IsAt, MayDoStep, may_take, faulted};
 
-use crate::fault::{RunFault, numbered};
 use crate::part::Part;
-use crate::progress::{Place, Progress};
-use crate::taking::{PrintedBatch, take_batch};
+use crate::place::Place;
+use crate::said::Said;
+use crate::taking::{Untaken as UntakenBatch, take_batch};
 use std::alloc::Global;
 use std::marker::Model;
 use std::sync::Wait;
 use std::thread::Threads;
-use wb_commands::{Command, LineFault, MAX_WORKERS, act};
+use wb_commands::{Command, LineFault, MAX_WORKERS, Untaken, act};
 use wb_feed::Gate;
-use wb_lines::Output;
+use wb_lines::{GroupHandler, Output, Progress, Stop};
 use wb_member::Member;
 use wb_names::{Drawop, Sink, Source};
 use wb_recovery::Tuning;
@@ -30,12 +30,15 @@ use wb_recovery::Tuning;
 /// What its keeper holds stands for the calls that it accepted. So the contracts speak of each state of
 /// a script at which the host may be, and say at which it is afterwards.
 #[derive(Drop)]
-pub struct Host {
+pub struct Host<'a, T, G> {
+    place: Place<'a, T, G>,
     member: Option<Member>,
     workers: Option<u32>,
+    /// Whether a thread was refused.
+    refused: bool,
 }
 
-impl Model for Host {
+impl<'a, T, G> Model for Host<'a, T, G> {
     ghost use Rattle.wb_script.specs.Inside.Steps.{HostValue};
 
     ghost Value = { HostValue };
@@ -43,14 +46,72 @@ impl Model for Host {
     ghost view = { λ h. record { member = h.member; workers = h.workers } };
 }
 
-impl Host {
+impl<T: Threads + Wait + Sync, G: Gate + Sync> GroupHandler for Host<'_, T, G> {
+    type Fault = LineFault;
+
+    type Said = Said;
+
+    ghost use Rattle.wb_script.specs.Script.{State};
+    ghost use Rattle.wb_script.specs.Inside.Steps.{IsAt, may_take};
+    ghost use Rattle.wb_script.specs.Inside.SomeSteps.{some_step};
+
+    ghost State = { State };
+
+    ghost is_at = { IsAt };
+
+    ghost step = { may_take };
+
+    fn take<R: Source, W: Sink>(
+        &mut self,
+        alloc: Global,
+        said: Said,
+        progress: &mut Progress<Said>,
+        source: &mut R,
+        sink: &mut W,
+    ) -> Result<(), Stop<LineFault>> {
+        match said.part() {
+            Part::Arrival(drawop) => self.arrive(drawop, progress, source, sink),
+            Part::Skipped => Ok(()),
+            Part::Other => match &said.said {
+                Ok(command) => self.take_line(alloc, command, &mut progress.output),
+                Err(fault) => Err(Stop::Fault(*fault)),
+            },
+        }
+    }
+
+    fn take_too_long(
+        &mut self,
+        _alloc: Global,
+        _number: u64,
+        _output: &mut Output,
+    ) -> Result<(), Stop<LineFault>> {
+        Err(Stop::Endless)
+    }
+
+    ghost some_step = { some_step };
+}
+
+/// What became of a line, for who hands it in.
+fn faulted(taken: Result<(), Untaken>) -> Result<(), Stop<LineFault>>
+    ensures { result ≡ faulted taken }
+{
+    match taken {
+        Ok(()) => Ok(()),
+        Err(Untaken::Line(fault)) => Err(Stop::Fault(fault)),
+        Err(Untaken::Memory) => Err(Stop::Memory),
+    }
+}
+
+impl<'a, T, G> Host<'a, T, G> {
     /// No board is open. The number of workers, where there is one, goes before that of the board.
-    pub fn new(workers: Option<u32>) -> Self
+    pub fn new(place: Place<'a, T, G>, workers: Option<u32>) -> Self
         ensures { result ≡ record { member = None; workers = workers } }
     {
         Host {
+            place,
             member: None,
             workers,
+            refused: false,
         }
     }
 
@@ -64,21 +125,24 @@ impl Host {
         }
     }
 
+    /// Whether a thread was refused.
+    pub fn is_refused(&self) -> bool {
+        self.refused
+    }
+
     fn open_board(
         &mut self,
         alloc: Global,
-        number: u32,
         member: u32,
         cells: u32,
         workers: u32,
         seed: u64,
-    ) -> Result<(), RunFault>
+    ) -> Result<(), Stop<LineFault>>
         requires { (0 < cells) × (cells ≤ 65535) }
-        ensures step { (s : State) → IsAt self.old s → MayDoStep s number self.new [] result (λ order. said_step s order (Ok (Command.Board member cells workers seed))) }
-        ensures unwritten { result ≢ Err RunFault.Write }
+        ensures { (s : State) → IsAt self.old s → MayDoStep s self.new [] result (λ order. said_step s order (Ok (Command.Board member cells workers seed))) }
     {
         if self.member.is_some() {
-            return Err(RunFault::Line(number, LineFault::SecondBoard));
+            return Err(Stop::Fault(LineFault::SecondBoard));
         }
         self.member = Some(Member::open(alloc, member, cells, seed, Tuning::default())?);
         self.workers = Some(self.workers.unwrap_or(workers));
@@ -89,32 +153,28 @@ impl Host {
     fn act(
         &mut self,
         alloc: Global,
-        number: u32,
         command: &Command,
         output: &mut Output,
-    ) -> Result<(), RunFault>
+    ) -> Result<(), Stop<LineFault>>
         requires { IsWithin command.now }
-        ensures text { (written : List ℕ) × (output.new ≡ output.old ++ written) × ((s : State) → IsAt self.old s → MayDoStep s number self.new written result (λ order. part_step s order (End (Acts command.now)))) }
-        ensures unwritten { result ≢ Err RunFault.Write }
+        ensures { (written : List ℕ) × (output.new ≡ output.old ++ written) × ((s : State) → IsAt self.old s → MayDoStep s self.new written result (λ order. part_step s order (End (Acts command.now)))) }
     {
         match &mut self.member {
-            None => Err(RunFault::Line(number, LineFault::NoBoard)),
-            Some(member) => numbered(number, act(alloc, member, command, output)),
+            None => Err(Stop::Fault(LineFault::NoBoard)),
+            Some(member) => faulted(act(alloc, member, command, output)),
         }
     }
 
-    /// Does what the line of this number says, which is neither skipped nor an arrival.
-    pub fn take_line(
+    /// Does what a line says, which is neither skipped nor an arrival.
+    fn take_line(
         &mut self,
         alloc: Global,
-        number: u32,
         command: &Command,
         output: &mut Output,
-    ) -> Result<(), RunFault>
+    ) -> Result<(), Stop<LineFault>>
         requires command { IsWithin command.now }
         requires other { EndsBatchAt (part_of (Ok command.now)) }
-        ensures text { (written : List ℕ) × (output.new ≡ output.old ++ written) × ((s : State) → IsAt self.old s → MayDoStep s number self.new written result (λ order. said_step s order (Ok command.now))) }
-        ensures unwritten { result ≢ Err RunFault.Write }
+        ensures { (written : List ℕ) × (output.new ≡ output.old ++ written) × ((s : State) → IsAt self.old s → MayDoStep s self.new written result (λ order. said_step s order (Ok command.now))) }
     {
         match command {
             Command::Board {
@@ -122,42 +182,43 @@ impl Host {
                 cells,
                 workers,
                 seed,
-            } => self.open_board(alloc, number, *member, *cells, *workers, *seed),
-            _ => self.act(alloc, number, command, output),
+            } => self.open_board(alloc, *member, *cells, *workers, *seed),
+            _ => self.act(alloc, command, output),
         }
     }
+}
 
-    /// Takes the batch that begins with the next line, which was looked at and hands in this drawop: the script
-    /// is read on to its end.
-    pub fn arrive<T: Threads + Wait + Sync, R: Source, W: Sink, G: Gate + Sync>(
+impl<T: Threads + Wait + Sync, G: Gate + Sync> Host<'_, T, G> {
+    /// Takes the batch that begins with the line that was taken last and hands in this drawop: the script is read on
+    /// to its end.
+    fn arrive<R: Source, W: Sink>(
         &mut self,
-        place: &Place<'_, T, G>,
         drawop: Drawop,
-        progress: &mut Progress,
+        progress: &mut Progress<Said>,
         source: &mut R,
         sink: &mut W,
-    ) -> Result<(), RunFault>
-        requires seen { IsSeen progress.old.lines.next }
-        requires part { IsPartOf (Part.Arrival drawop) progress.old.lines.next }
-        ensures text { (given : List ℕ) × (written : List ℕ)
-            × Pulls progress.old.lines.ahead progress.new.lines.ahead (R.left source.old) (R.left source.new) (R.has_failed source.old) (R.has_failed source.new) given
-            × Sends (W.taken sink.old) progress.old.output (W.taken sink.new) progress.new.output written
-            × Moves self.old self.new result (λ s t. RunsOn progress.old.lines.done s progress.old.lines.ahead given written progress.new.lines.done t progress.new.lines.ahead (R.has_failed source.new) result) }
-        ensures on { (progress.old.lines.done < most_lines) × (progress.old.lines.done < progress.new.lines.done) }
-        ensures failed { result ≡ Err RunFault.Write → W.has_failed sink.new ≡ true }
+    ) -> Result<(), Stop<LineFault>>
+        requires part { part_in progress.old.lines.line ≡ Arrival drawop }
+        ensures { (printed : List ℕ) × (joined : List InputLine)
+            × Reads by_batches
+            (moment progress.old.lines progress.old.output (R.left source.old) (R.has_failed source.old) (W.taken sink.old) (W.has_failed sink.old))
+            (moment progress.new.lines progress.new.output (R.left source.new) (R.has_failed source.new) (W.taken sink.new) (W.has_failed sink.new)) printed joined
+            × ((s : State) → IsAt self.old s
+            → DoesGroup by_batches (IsAt self.new) printed (may_take s progress.old.lines.done (whole progress.old.lines.line)) progress.old.lines.line joined progress.new.lines result) }
     {
-        progress.lines.pass();
         let Some(member) = self.member.take() else {
-            return Err(RunFault::Line(progress.lines.done(), LineFault::NoBoard));
+            return Err(Stop::Fault(LineFault::NoBoard));
         };
         let workers = worker_count(self.workers);
-        let PrintedBatch { member, fault } = take_batch(
-            place, member, workers, drawop, progress, source, sink,
-        )?;
-        self.member = Some(member);
-        match fault {
-            None => Ok(()),
-            Some(fault) => Err(fault),
+        match take_batch(&self.place, member, workers, drawop, progress, source, sink) {
+            Ok(member) => {
+                self.member = Some(member);
+                Ok(())
+            }
+            Err(untaken) => {
+                self.refused = matches!(&untaken, UntakenBatch::Start);
+                Err(Stop::Memory)
+            }
         }
     }
 }

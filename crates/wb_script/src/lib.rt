@@ -12,9 +12,9 @@ mod fault;
 mod host;
 pub mod laws;
 mod part;
-mod progress;
+mod place;
 mod running;
-mod script_lines;
+mod said;
 mod taking;
 
 pub use checking::check;

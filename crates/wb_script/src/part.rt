@@ -1,5 +1,6 @@
 //! What a line is to a batch.
-ghost use Rattle.wb_script.specs.Inside.Parts.{IsPart};
+ghost use Rattle.std.specs.Prelude.{◌≡◌};
+ghost use Rattle.wb_script.specs.Inside.Parts.{IsPart, joins};
 ghost use Rattle.wb_script.specs.Script.{part_of};
 
 use wb_commands::{Command, LineFault};
@@ -12,6 +13,18 @@ pub enum Part {
     Arrival(Drawop),
     /// The batch ends before it.
     Other,
+}
+
+impl Part {
+    /// Whether a line that is this joins the batch before it.
+    pub fn joins(&self) -> bool
+        ensures { result ≡ joins self.now }
+    {
+        match self {
+            Part::Skipped | Part::Arrival(_) => true,
+            Part::Other => false,
+        }
+    }
 }
 
 /// What a line that says this is to a batch.

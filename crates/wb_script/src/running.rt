@@ -1,26 +1,21 @@
 //! A script is run, line by line and batch by batch.
-ghost use Rattle.std.specs.Prelude.{◌≡◌, ◌<◌, List, ℕ, true, Ok, Err};
+ghost use Rattle.std.specs.Prelude.{◌≡◌, List, ℕ, true, Err};
 ghost use Rattle.std.specs.Io.KnownBytes.{Appends};
 ghost use Rattle.wb_lines.specs.Driving.{Gave};
-ghost use Rattle.wb_lines.specs.Output.{Sends};
-ghost use Rattle.wb_lines.specs.Ahead.{Pulls};
-ghost use Rattle.wb_script.specs.Inside.Lines.{IsSeen};
-ghost use Rattle.wb_script.specs.Script.{State, most_lines};
-ghost use Rattle.wb_script.specs.Inside.Steps.{IsLeftAt, Moves};
-ghost use Rattle.wb_script.specs.Inside.Passing.{RunsOn, RunsLine, RunsLines, Closes};
+ghost use Rattle.wb_script.specs.Checking.{IsCounted};
+ghost use Rattle.wb_script.specs.Inside.Ending.{ended_by};
 ghost use Rattle.wb_script.specs.Runs.{Runs};
 
 use crate::fault::RunFault;
 use crate::host::Host;
-use crate::part::Part;
-use crate::progress::{Place, Progress};
-use crate::script_lines::ScriptLines;
-use crate::taking::is_stop;
+use crate::place::Place;
+use crate::said::MAX_LINES;
 use std::alloc::Global;
 use std::sync::Wait;
 use std::thread::Threads;
+use wb_commands::LineFault;
 use wb_feed::Gate;
-use wb_lines::Output;
+use wb_lines::{DriveFault, drive_groups};
 use wb_names::{Sink, Source};
 
 /// How far a script went.
@@ -32,110 +27,18 @@ pub struct Summary {
     pub held: u32,
 }
 
-/// Runs the line that was looked at, and where a batch begins with it, all of the batch.
-fn run_seen<T: Threads + Wait + Sync, R: Source, W: Sink, G: Gate + Sync>(
-    place: &Place<'_, T, G>,
-    progress: &mut Progress,
-    host: &mut Host,
-    source: &mut R,
-    sink: &mut W,
-) -> Result<(), RunFault>
-    requires { IsSeen progress.old.lines.next }
-    ensures text { (given : List ℕ) × (written : List ℕ)
-        × Pulls progress.old.lines.ahead progress.new.lines.ahead (R.left source.old) (R.left source.new) (R.has_failed source.old) (R.has_failed source.new) given
-        × Sends (W.taken sink.old) progress.old.output (W.taken sink.new) progress.new.output written
-        × Moves host.old host.new result (λ s t. RunsOn progress.old.lines.done s progress.old.lines.ahead given written progress.new.lines.done t progress.new.lines.ahead (R.has_failed source.new) result) }
-    ensures on { result ≡ Ok tt → (progress.old.lines.done < most_lines) × (progress.old.lines.done < progress.new.lines.done) }
-    ensures failed { result ≡ Err RunFault.Write → W.has_failed sink.new ≡ true }
+/// Why a run stops, by why its driver does, and whether a thread was refused.
+fn ended_by(refused: bool, fault: DriveFault<LineFault>) -> RunFault
+    requires { IsCounted 1048576 fault }
+    ensures { result ≡ ended_by refused fault }
 {
-    match progress.lines.part() {
-        Part::Arrival(drawop) => host.arrive(place, drawop, progress, source, sink),
-        Part::Skipped => {
-            progress.lines.pass();
-            Ok(())
-        }
-        Part::Other => match progress.lines.take() {
-            Ok(command) => host.take_line(
-                place.alloc,
-                progress.lines.done(),
-                &command,
-                &mut progress.output,
-            ),
-            Err(fault) => Err(RunFault::Line(progress.lines.done(), fault)),
-        },
-    }
-}
-
-/// Runs the next line, and where a batch begins with it, all of the batch. Answers whether there was one.
-fn run_line<T: Threads + Wait + Sync, R: Source, W: Sink, G: Gate + Sync>(
-    place: &Place<'_, T, G>,
-    progress: &mut Progress,
-    host: &mut Host,
-    source: &mut R,
-    sink: &mut W,
-) -> Result<bool, RunFault>
-    ensures text { (given : List ℕ) × (written : List ℕ)
-        × Pulls progress.old.lines.ahead progress.new.lines.ahead (R.left source.old) (R.left source.new) (R.has_failed source.old) (R.has_failed source.new) given
-        × Sends (W.taken sink.old) progress.old.output (W.taken sink.new) progress.new.output written
-        × Moves host.old host.new result (λ s t. RunsLine progress.old.lines.done s progress.old.lines.ahead given written progress.new.lines.done t progress.new.lines.ahead (R.has_failed source.new) result) }
-    ensures on { result ≡ Ok true → (progress.old.lines.done < most_lines) × (progress.old.lines.done < progress.new.lines.done) }
-    ensures failed { result ≡ Err RunFault.Write → W.has_failed sink.new ≡ true }
-{
-    let alloc = place.alloc;
-    if !progress
-        .lines
-        .look(alloc, source, &mut progress.output, sink)?
-    {
-        return Ok(false);
-    }
-    run_seen(place, progress, host, source, sink)?;
-    Ok(true)
-}
-
-/// Runs line after line. Answers how many there were.
-fn run_lines<T: Threads + Wait + Sync, R: Source, W: Sink, G: Gate + Sync>(
-    place: &Place<'_, T, G>,
-    progress: &mut Progress,
-    host: &mut Host,
-    source: &mut R,
-    sink: &mut W,
-) -> Result<u32, RunFault>
-    requires { progress.old.lines.done ≡ 0 }
-    ensures text { (given : List ℕ) × (written : List ℕ)
-        × Pulls progress.old.lines.ahead progress.new.lines.ahead (R.left source.old) (R.left source.new) (R.has_failed source.old) (R.has_failed source.new) given
-        × Sends (W.taken sink.old) progress.old.output (W.taken sink.new) progress.new.output written
-        × Moves host.old host.new result (λ s t. RunsLines s progress.old.lines.ahead given written t progress.new.lines.ahead (R.has_failed source.new) result) }
-    ensures failed { result ≡ Err RunFault.Write → W.has_failed sink.new ≡ true }
-{
-    while run_line(place, progress, host, source, sink)? {}
-    Ok(progress.lines.done())
-}
-
-/// Ends the run.
-fn close<W: Sink>(
-    host: &Host,
-    ending: Result<u32, RunFault>,
-    output: &mut Output,
-    sink: &mut W,
-) -> Result<Summary, RunFault>
-    ensures text { (written : List ℕ) × Sends (W.taken sink.old) output.old (W.taken sink.new) output.new written
-        × ((s : State) → IsLeftAt host.now ending s → Closes s ending written output.new result) }
-    ensures read { result ≡ Err RunFault.Read → ending ≡ Err RunFault.Read }
-    ensures failed { (ending ≡ Err RunFault.Write → W.has_failed sink.old ≡ true) → result ≡ Err RunFault.Write → W.has_failed sink.new ≡ true }
-{
-    match ending {
-        Ok(lines) => {
-            output.flush(sink)?;
-            let held = host.held();
-            Ok(Summary { lines, held })
-        }
-        Err(fault) => {
-            if is_stop(fault) {
-                return Err(fault);
-            }
-            output.flush(sink)?;
-            Err(fault)
-        }
+    match fault {
+        DriveFault::Line(number, fault) => RunFault::Line(number as u32, fault),
+        DriveFault::Read => RunFault::Read,
+        DriveFault::Write => RunFault::Write,
+        DriveFault::Memory if refused => RunFault::Start,
+        DriveFault::Memory => RunFault::Memory,
+        DriveFault::Endless => RunFault::Endless,
     }
 }
 
@@ -162,11 +65,13 @@ pub fn run<T: Threads + Wait + Sync, R: Source, W: Sink, G: Gate + Sync>(
     ensures read { result ≡ Err RunFault.Read → R.has_failed source.new ≡ true }
     ensures write { result ≡ Err RunFault.Write → W.has_failed sink.new ≡ true }
 {
-    let lines = ScriptLines::new(alloc)?;
-    let output = Output::new(alloc);
-    let mut progress = Progress { lines, output };
-    let mut host = Host::new(workers);
-    let place = Place { rt, alloc, gate };
-    let ending = run_lines(&place, &mut progress, &mut host, source, sink);
-    close(&host, ending, &mut progress.output, sink)
+    let mut host = Host::new(Place { rt, alloc, gate }, workers);
+    let most_lines = u64::from(MAX_LINES);
+    match drive_groups(alloc, most_lines, &mut host, source, sink) {
+        Ok(lines) => Ok(Summary {
+            lines: lines as u32,
+            held: host.held(),
+        }),
+        Err(fault) => Err(ended_by(host.is_refused(), fault)),
+    }
 }

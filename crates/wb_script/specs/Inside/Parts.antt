@@ -1,8 +1,8 @@
 -- What a line is to a batch, for the code that reads it.
-use Rattle.std.specs.Prelude.{◌≡◌, Option, Some, None}
+use Rattle.std.specs.Prelude.{◌≡◌, Bool, true, false}
 use Rattle.wb_script.specs.declared.part.Part.{Part as ReadPart}
 use Rattle.wb_script.specs.declared.part.Part.TheVariants as parts
-use Rattle.wb_lines.specs.Input.{InputLine}
+use Rattle.wb_lines.specs.Items.{Grouping}
 use Rattle.wb_script.specs.Script.{Part, Arrival, Nothing, End, part_in}
 
 -- It is neither skipped nor an arrival.
@@ -16,7 +16,18 @@ IsPart parts.Skipped part = part ≡ Nothing
 IsPart (parts.Arrival d) part = part ≡ Arrival d
 IsPart parts.Other part = EndsBatchAt part
 
--- the same of the line that was looked at
-abbrev pub IsPartOf : ReadPart → Option InputLine → Type 0
-IsPartOf part None = ⊥
-IsPartOf part (Some line) = IsPart part (part_in line)
+abbrev pub joins : ReadPart → Bool
+joins parts.Other = false
+joins part = true
+
+abbrev pub is_arrival : Part → Bool
+is_arrival (Arrival d) = true
+is_arrival part = false
+
+abbrev pub joins_batch : Part → Bool
+joins_batch (End c) = false
+joins_batch part = true
+
+-- A batch begins with an arrival. Arrivals join it, and what is skipped between them.
+abbrev pub by_batches : Grouping
+by_batches = record { gathers = λ line. is_arrival (part_in line); joins = λ line. joins_batch (part_in line) }

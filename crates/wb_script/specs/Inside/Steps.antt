@@ -1,12 +1,17 @@
--- At which state of a script a host is inside a run, and what a line does there.
-use Rattle.std.specs.Prelude.{◌≡◌, ℕ, List, [], Option, Result, Ok, Err, ◌⊎◌, false}
+-- At which state of a script a host is inside a run, and what it may do there with a line, or with a batch.
+use Rattle.std.specs.Prelude.{◌≡◌, ◌++◌, [], ◌∷◌, ℕ, List, Option, Some, None, Result, Ok, Err}
 use Rattle.wb_names.specs.Values.{DrawopValue}
-use Rattle.wb_script.specs.declared.fault.RunFault.{RunFault}
-use Rattle.wb_script.specs.declared.fault.RunFault.TheVariants as run_faults
-use Rattle.wb_member.specs.Opened.{Opened, board_of}
-use Rattle.wb_script.specs.Hosts.{taken, batch_text}
-use Rattle.wb_script.specs.Script.{State, InSomeOrder, Step, goes, refused, is_stop, StopsWithin}
-use Rattle.wb_member.specs.Holding.{MemberValue, IsOpenAt, MayBeOpenAt}
+use Rattle.wb_lines.specs.declared.handler.Stop.{Stop}
+use Rattle.wb_lines.specs.declared.handler.Stop.TheVariants as stops
+use Rattle.wb_lines.specs.Input.{InputLine}
+use Rattle.wb_lines.specs.Handling.{Met, whole, too_long, Step as LineStep, goes as goes_on, stops as stops_at, ends, Does}
+use Rattle.wb_commands.specs.declared.fault.LineFault.{LineFault}
+use Rattle.wb_commands.specs.declared.fault.Untaken.{Untaken}
+use Rattle.wb_commands.specs.declared.fault.Untaken.TheVariants as untaken
+use Rattle.wb_member.specs.Opened.{Opened}
+use Rattle.wb_member.specs.Holding.{MemberValue, MayBeOpenAt}
+use Rattle.wb_script.specs.Shows.{arrivals_of}
+use Rattle.wb_script.specs.Script.{State, InSomeOrder, Part, Arrival, part_in, Step, goes, refused, part_step, closing_text, after_batch}
 
 pub record HostValue : Type 0 where
   pub member : Option MemberValue
@@ -18,26 +23,44 @@ pub record IsAt (h : HostValue) (s : State) : Type 0 where
   pub workers : h.workers ≡ s.workers
   pub waiting : s.waiting ≡ []
 
--- A member that was at this host has taken a batch, in this order, and printed a text.
-pub record TakesBatch (host : Opened) (batch order : List DrawopValue) (new : MemberValue) (written : List ℕ) : Type 0 where
-  pub leads : IsOpenAt new (taken order host)
-  pub text : written ≡ batch_text (board_of host) order
+-- these arrivals wait
+abbrev pub with_waiting : State → List DrawopValue → State
+with_waiting s waiting = record { host = s.host; workers = s.workers; waiting = waiting }
 
-abbrev pub DoesStep : {U : Type 0} → ℕ → HostValue → List ℕ → Result U RunFault → Step → Type 0
-DoesStep number new written (Ok u) (goes t text) = IsAt new t × (written ≡ text)
-DoesStep number new written (Ok u) (refused t text e) = ⊥
-DoesStep number new written (Err f) (goes t text) = StopsWithin text written f
-DoesStep number new written (Err f) (refused t text e) = StopsWithin text written f ⊎ ((f ≡ run_faults.Line number e) × IsAt new t × (written ≡ text))
+-- these wait besides
+abbrev pub with_more : State → List DrawopValue → State
+with_more s more = with_waiting s (s.waiting ++ more)
 
--- The same, for some order in which the present batch may be taken.
-abbrev pub MayDoStep : {U : Type 0} → State → ℕ → HostValue → List ℕ → Result U RunFault → (List DrawopValue → Step) → Type 0
-MayDoStep s number new written result step = InSomeOrder s (λ order. DoesStep number new written result (step order))
+-- what a line does, as a step of the driver
+abbrev pub as_step : Step → LineStep State LineFault
+as_step (goes t text) = goes_on text t
+as_step (refused t text e) = stops_at text e
 
--- a host is at a state, unless it had to stop
-abbrev pub IsLeftAt : {X : Type 0} → HostValue → Result X RunFault → State → Type 0
-IsLeftAt new (Ok x) t = IsAt new t
-IsLeftAt new (Err e) t = is_stop e ≡ false → IsAt new t
+-- A line does this, in some order in which the present batch may be taken.
+abbrev pub MayDo : State → Part → LineStep State LineFault → Type 0
+MayDo s part step = InSomeOrder s (λ order. step ≡ as_step (part_step s order part))
 
--- Wherever a host was, it is at some state then, with this between the two.
-abbrev pub Moves : {X : Type 0} → HostValue → HostValue → Result X RunFault → (State → State → Type 0) → Type 0
-Moves old new result Between = (s : State) → IsAt old s → (t : State) × IsLeftAt new result t × Between s t
+-- These arrivals are a batch, and are taken in some order.
+abbrev pub MayTakeBatch : State → List DrawopValue → LineStep State LineFault → Type 0
+MayTakeBatch s batch step =
+    InSomeOrder (with_more s batch) (λ order. step ≡ goes_on (closing_text (with_more s batch) order) (after_batch (with_more s batch) order))
+
+-- Where a board is open, a batch begins with an arrival, and these lines join it.
+abbrev pub may_take_at : State → Option Opened → Part → List InputLine → LineStep State LineFault → Type 0
+may_take_at s (Some host) (Arrival d) joined step = MayTakeBatch s (d ∷ arrivals_of joined) step
+may_take_at s host part joined step = MayDo s part step
+
+-- A script ends at a line that is too long.
+abbrev pub may_take : State → ℕ → Met → List InputLine → LineStep State LineFault → Type 0
+may_take s number (whole line) joined step = may_take_at s s.host (part_in line) joined step
+may_take s number too_long joined step = step ≡ ends []
+
+-- The code did what a line does in some order in which the present batch may be taken; or a front of that.
+abbrev pub MayDoStep : {U : Type 0} → State → HostValue → List ℕ → Result U (Stop LineFault) → (List DrawopValue → Step) → Type 0
+MayDoStep s new written result step = InSomeOrder s (λ order. Does (IsAt new) written result (as_step (step order)))
+
+-- what became of a line
+abbrev pub faulted : {U : Type 0} → Result U Untaken → Result U (Stop LineFault)
+faulted (Ok u) = Ok u
+faulted (Err (untaken.Line e)) = Err (stops.Fault e)
+faulted (Err untaken.Memory) = Err stops.Memory

@@ -1,18 +1,13 @@
-use Rattle.std.proofs.Common.{◌≤◌, ◌-◌, ℕ, List, []}
-use Rattle.wb_lines.specs.Output.{Sends}
-use Rattle.wb_lines.specs.Ahead.{Pulls}
-use Rattle.wb_script.specs.Script.{State, most_lines}
-use Rattle.wb_script.specs.Inside.Passing.{Passes}
-use Rattle.wb_script.specs.Inside.Reading.{IsOpen}
+use Rattle.std.proofs.Common.{◌≤◌, ◌-◌, ◌+◌}
+use Rattle.wb_lines.specs.Moments.{moment}
+use Rattle.wb_script.specs.Script.{most_lines}
+use Rattle.wb_script.proofs.Reading.{Skips}
 use Rattle.wb_script.proofs.arriving.read_on.Given as goal
 
-abbrev pub invariant-loop-progress : goal.invariant-loop-progress
-invariant-loop-progress g l =
-    (given : List ℕ)
-    × Pulls l.fn.progress.lines.ahead l.progress.lines.ahead (g.R.Source.left l.fn.source) (g.R.Source.left l.source) (g.R.Source.has_failed l.fn.source) (g.R.Source.has_failed l.source) given
-    × Sends (g.W.Sink.taken l.fn.sink) l.fn.progress.output (g.W.Sink.taken l.sink) l.progress.output []
-    × (l.fn.progress.lines.done ≤ l.progress.lines.done)
-    × ((s : State) → IsOpen s.host → Passes l.fn.progress.lines.done s l.fn.progress.lines.ahead given [] l.progress.lines.done s l.progress.lines.ahead)
+abbrev pub invariant-loop-said : goal.invariant-loop-said
+invariant-loop-said g l =
+    (l.fn.progress.lines.done ≤ l.progress.lines.done)
+    × Skips (moment l.fn.progress.lines l.fn.progress.output (g.R.Source.left l.fn.source) (g.R.Source.has_failed l.fn.source) (g.W.Sink.taken l.fn.sink) (g.W.Sink.has_failed l.fn.sink)) (moment l.progress.lines l.progress.output (g.R.Source.left l.source) (g.R.Source.has_failed l.source) (g.W.Sink.taken l.sink) (g.W.Sink.has_failed l.sink))
 
-abbrev pub decreases-loop-progress : goal.decreases-loop-progress
-decreases-loop-progress g l = most_lines - l.progress.lines.done
+abbrev pub decreases-loop-said : goal.decreases-loop-said
+decreases-loop-said g l = (most_lines + 1) - l.progress.lines.done

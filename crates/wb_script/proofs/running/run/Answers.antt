@@ -1,42 +1,39 @@
-use Rattle.std.proofs.Common.{[], ◌++◌, refl}
-use Rattle.std.proofs.lemmas.Result.{err_from_is_err_and}
-use Rattle.wb_lines.proofs.Endings.{input_from, input_none}
-use Rattle.wb_lines.proofs.KnownBytes.{Appends-none, Sends-then}
+use Rattle.std.proofs.Common.{refl, sym, ap, ◌∙◌, Ok, Err}
+use Rattle.wb_script.specs.declared.fault.RunFault.TheVariants as run_faults
 use Rattle.wb_script.specs.Script.{start}
-use Rattle.wb_script.proofs.Endings.{runs, runs_nothing, read_failed}
+use Rattle.wb_script.proofs.CheckEnds.{same_fault}
+use Rattle.wb_script.proofs.Ending.{run_counted, runs_ok, runs_err, ended_reads, ended_writes}
 use Rattle.wb_script.proofs.running.run.Goals as goal
 
-pub returns-in_err-lines-clause-script : goal.returns-in_err-lines-clause-script
-returns-in_err-lines-clause-script g c =
-    let none = input_none (g.R.Source.left c.args.source.now) (g.R.Source.has_failed c.args.source.now) in
-    let p = err_from_is_err_and c.from_residual.result c.from_residual.ensures.1 in (
-      none.more,
-      [],
-      none.gave,
-      Appends-none (g.W.Sink.taken c.args.sink.now),
-      rw (p.1, p.2) (runs_nothing c.args.workers (g.R.Source.has_failed c.args.source.now) none.more),
+pub ended_by-requires : goal.ended_by-requires
+ended_by-requires g c =
+    let l = rw (c.from-most_lines.ensures, c.new-host.ensures) at c.in-Err.ensures.lines in
+    run_counted c.drive_groups.new.handler (start c.args.workers) (g.R.Source.has_failed c.drive_groups.new.source) l.0 l.1 c.in-Err.fault (l.4 (start c.args.workers) (record { member = tt; workers = refl; waiting = refl }))
+
+pub returns-in-Ok-clause-script : goal.returns-in-Ok-clause-script
+returns-in-Ok-clause-script g c =
+    let l = rw (c.from-most_lines.ensures, c.new-host.ensures) at c.in-Ok.ensures.lines in (
+      l.0,
+      l.1,
+      l.2,
+      l.3,
+      runs_ok c.drive_groups.new.handler c.args.workers (g.R.Source.has_failed c.drive_groups.new.source) l.0 l.1 c.in-Ok.lines c.held.result (l.4 (start c.args.workers) (record { member = tt; workers = refl; waiting = refl })) c.held.ensures,
     )
 
-pub returns-clause-script : goal.returns-clause-script
-returns-clause-script g c =
-    let lines = rw (c.in_ok-lines.ensures, c.new-host.ensures, c.new-output.ensures) at c.run_lines-ending.ensures.text in
-    let end = c.close.ensures.text in
-    let ending = c.run_lines-ending.new in
-    let last = lines.4 (start c.args.workers) (record { member = tt; workers = refl; waiting = refl }) in
-    let sends = Sends-then (g.W.Sink.taken c.args.sink.now) (g.W.Sink.taken ending.sink) (g.W.Sink.taken c.close.new.sink) [] ending.progress.output c.close.new.output lines.1 end.0 lines.3 end.1 in
-    let input = input_from ending.progress.lines.ahead (g.R.Source.left c.args.source.now) (g.R.Source.left ending.source) (g.R.Source.has_failed c.args.source.now) (g.R.Source.has_failed ending.source) lines.0 lines.2 in (
-      lines.0 ++ input.more,
-      sends.0,
-      input.gave,
-      sends.1,
-      runs c.args.workers last.0 (g.R.Source.left c.args.source.now) (g.R.Source.left ending.source) (g.R.Source.has_failed c.args.source.now) (g.R.Source.has_failed ending.source) ending.progress.lines.ahead lines.0 lines.1 end.0 sends.0 c.close.new.output c.run_lines-ending.result c.close.result lines.2 sends.2 last.2 (end.2 last.0 last.1),
+pub returns-in-Err-clause-script : goal.returns-in-Err-clause-script
+returns-in-Err-clause-script g c =
+    let l = rw (c.from-most_lines.ensures, c.new-host.ensures) at c.in-Err.ensures.lines in (
+      l.0,
+      l.1,
+      l.2,
+      l.3,
+      rw c.ended_by.ensures (runs_err c.drive_groups.new.handler c.args.workers (g.R.Source.has_failed c.drive_groups.new.source) l.0 l.1 c.in-Err.fault c.is_refused.result (l.4 (start c.args.workers) (record { member = tt; workers = refl; waiting = refl }))),
     )
 
-pub returns-clause-write : goal.returns-clause-write
-returns-clause-write g c = c.close.ensures.failed c.run_lines-ending.ensures.failed
+pub returns-in-Err-clause-read : goal.returns-in-Err-clause-read
+returns-in-Err-clause-read g c = λ e.
+    c.in-Err.ensures.read (ap Err (ended_reads c.is_refused.result c.in-Err.fault (sym c.ended_by.ensures ∙ same_fault c.ended_by.result run_faults.Read (Err c.ended_by.result) (Err run_faults.Read) refl refl e)))
 
-pub returns-clause-read : goal.returns-clause-read
-returns-clause-read g c = λ e.
-    let lines = rw c.new-host.ensures at c.run_lines-ending.ensures.text in
-    let last = lines.4 (start c.args.workers) (record { member = tt; workers = refl; waiting = refl }) in
-    read_failed (start c.args.workers) last.0 c.in_ok-lines.lines.ahead c.run_lines-ending.new.progress.lines.ahead lines.0 lines.1 (g.R.Source.has_failed c.run_lines-ending.new.source) c.run_lines-ending.result last.2 (c.close.ensures.read e)
+pub returns-in-Err-clause-write : goal.returns-in-Err-clause-write
+returns-in-Err-clause-write g c = λ e.
+    c.in-Err.ensures.write (ap Err (ended_writes c.is_refused.result c.in-Err.fault (sym c.ended_by.ensures ∙ same_fault c.ended_by.result run_faults.Write (Err c.ended_by.result) (Err run_faults.Write) refl refl e)))
