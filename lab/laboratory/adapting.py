@@ -1,6 +1,7 @@
 """Constants that follow the session: by the number of members, or by what each member sees, as the publication adapts its timers.
 
-A running host has its constants for ever, so these policies are tried over bare timers here, and by no program yet.
+A driver gives them to its running host by `tuning` lines (driving.py). Bare timers (timers.py) take them from the policy itself. Of either
+a line goes by the constants from before what it sends: who asks is backed off by those, and what it learns by asking counts from then on.
 """
 from __future__ import annotations
 
@@ -8,7 +9,8 @@ from collections.abc import Callable
 from dataclasses import dataclass
 
 from laboratory.reading import Name
-from laboratory.timers import Constants, Policy
+
+Constants = tuple[int, int, int, int]
 
 MOST = 16
 UNIT = 20  # constants are kept in twentieths, the least step of the publication, and used as the nearest whole number
@@ -16,6 +18,28 @@ FINE = 1_024  # averages are kept in parts of this
 MOST_LEAD = 2
 HIGH, LOW, FEW = FINE, FINE * 9 // 10, FINE // 4  # duplicates: from one on too many, below 0.9 few, below a quarter very few
 SLOW = FINE  # a wait of more than one round trip is long
+
+
+class Policy:
+    """Which constants C1, C2, D1, D2 a member has now, and what it learns of. This one has the same for ever."""
+
+    def __init__(self, constants: Constants) -> None:
+        self.constants = constants
+
+    def now(self, moment: int) -> Constants:
+        return self.constants
+
+    def begins_to_ask(self, name: Name, moment: int, distance: int) -> None:
+        """A request timer is about to be set."""
+
+    def begins_to_answer(self, name: Name, moment: int, distance: int) -> None:
+        """An answer timer is about to be set."""
+
+    def sees_request(self, name: Name, moment: int, is_own: bool) -> None:
+        """A request is sent, or comes."""
+
+    def sees_repair(self, name: Name, moment: int, is_own: bool) -> None:
+        """A repair is sent, or a drawop comes."""
 
 
 def by_members(members: int) -> Constants:

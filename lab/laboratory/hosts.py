@@ -2,12 +2,13 @@
 from __future__ import annotations
 
 import resource
-from collections.abc import Callable
+from collections.abc import Callable, Iterator
 from dataclasses import dataclass
 from pathlib import Path
 from typing import Protocol
 
 from laboratory.clocks import Clock
+from laboratory.driving import Tuner
 from laboratory.reading import Datagram, Name
 from wbhost import Host, HostEnded
 
@@ -77,43 +78,65 @@ class Member(Protocol):
 
 
 class HostMember:
-    """A member that is a `wb host`; `lines` is all that it was given, and `last_new` when the last drawop that it lacked came."""
+    """A member that is a `wb host`; `lines` is all that it was given, and `last_new` when the last drawop that it lacked came. Where a `tuner`
+    has its constants follow the session, what it sends is read before the next line is made."""
 
-    def __init__(self, number: int, host: Host, opening: str, clock: Clock) -> None:
-        self.number, self.host, self.clock = number, host, clock
+    def __init__(self, number: int, host: Host, opening: str, clock: Clock, tuner: Tuner | None = None) -> None:
+        self.number, self.host, self.clock, self.tuner = number, host, clock, tuner
+        self.takes_constants = True
         self.due: int | None = None
         self.moment = -1  # of the last line, in the session's time
         self.last_new = 0
         self.lines: list[bytes] = []
-        self.given: list[tuple[int, bytes]] = []
-        self.give_lines([(0, opening)])
+        self.made: list[tuple[int, str]] = []  # lines that the host is still to be given
+        self.given: list[tuple[int, bytes]] = []  # lines whose blocks are still to be read
+        self.sent: list[Sent] = []
+        self.made.append((0, opening))
+        self.give_made()
         self.take()
 
     def give(self, happenings: list[tuple[int, Happening]], start: int, end: int) -> None:
-        lines: list[tuple[int, str]] = []
         due = None if self.due is None or self.due >= end else max(self.due, self.moment, start)
         for moment, happening in happenings:
             if due is not None and due <= moment:
-                lines.append((due, self.tick(due)))
+                self.make(due, self.tick(due))
                 due = None
-            lines += [(moment, line) for line in self.lines_of(moment, happening)]
+            for line in self.lines_of(moment, happening):
+                self.make(moment, line)
         if due is not None:
-            lines.append((due, self.tick(due)))
-        self.give_lines(lines)
+            self.make(due, self.tick(due))
+        self.give_made()
 
-    def give_lines(self, lines: list[tuple[int, str]]) -> None:
-        self.given = [(moment, line.encode()) for moment, line in lines]
-        given = [line for _, line in self.given]
-        self.lines += given
-        if lines:
-            self.moment = lines[-1][0]
+    def make(self, moment: int, line: str) -> None:
+        """A line that the host is to be given, behind one for other constants where these are due. If a timer may be due at it, then what it
+        sends is read at once, since constants may follow that."""
+        if self.tuner and self.takes_constants:
+            self.made += [(moment, other) for other in self.tuner.lines(moment)]
+        self.made.append((moment, line))
+        if self.tuner and self.due is not None and self.due <= moment:
+            self.give_made()
+            self.read_given()
+
+    def give_made(self) -> None:
+        given = [(moment, line.encode()) for moment, line in self.made]
+        self.made = []
+        self.given += given
+        self.lines += [line for _, line in given]
+        if given:
+            self.moment = given[-1][0]
         try:
-            self.host.give(given)
+            self.host.give([line for _, line in given])
         except HostEnded as error:
-            raise Fault(f"member {self.number} ended at '{lines[0][1][:60]}'") from error
+            raise Fault(f"member {self.number} ended at '{given[0][1][:60].decode()}'") from error
 
     def take(self) -> list[Sent]:
-        sent: list[Sent] = []
+        self.read_given()
+        sent, self.sent = self.sent, []
+        return sent
+
+    def read_given(self) -> None:
+        """Reads what the lines that were given printed."""
+        sent: list[tuple[int, str]] = []
         last = b""
         for moment, line in self.given:
             *printed, last = self.printed(line)
@@ -127,7 +150,7 @@ class HostMember:
         if last:
             self.due = None if last == b"ok never" else self.clock.when(int(last[3:]))
         self.given = []
-        return sent
+        self.sent += self.tuner.goes(sent) if self.tuner else sent
 
     def printed(self, line: bytes) -> list[bytes]:
         """What a line printed, its closing line too."""
@@ -142,8 +165,17 @@ class HostMember:
     def tick(self, moment: int) -> str:
         return f"tick {self.clock.local(moment)}"
 
-    def lines_of(self, moment: int, happening: Happening) -> list[str]:
+    def lines_of(self, moment: int, happening: Happening) -> Iterator[str]:
+        """The lines for what happens, each of which is made before the next is asked for."""
         raise NotImplementedError
+
+    def comes(self, moment: int, datagram: Datagram) -> None:
+        if self.tuner:
+            self.tuner.comes(moment, datagram)
+
+    def misses(self, moment: int, names: tuple[Name, ...]) -> None:
+        if self.tuner:
+            self.tuner.misses(moment, names)
 
     def answer(self, question: str) -> list[str]:
         """What a question that changes nothing prints."""
@@ -158,25 +190,31 @@ class BareMember(HostMember):
     """A member whose driver judges, by today's lines: it looks when it learns that it lacks something, and tells distances that it
     knows, if it knows them. `distance` gives that to another member."""
 
-    def __init__(self, number: int, host: Host, opening: str, clock: Clock, distance: Callable[[int, int], int] | None) -> None:
-        super().__init__(number, host, opening, clock)
+    def __init__(
+        self, number: int, host: Host, opening: str, clock: Clock, distance: Callable[[int, int], int] | None, tuner: Tuner | None = None,
+    ) -> None:
+        super().__init__(number, host, opening, clock, tuner)
         self.distance = distance
         self.told = frozenset([number])
         self.ticked = -1
 
-    def lines_of(self, moment: int, happening: Happening) -> list[str]:
-        lines = [] if self.ticked == moment else [self.tick(moment)]
-        self.ticked = moment
+    def lines_of(self, moment: int, happening: Happening) -> Iterator[str]:
+        if self.ticked != moment:
+            self.ticked = moment
+            yield self.tick(moment)
         match happening:
             case Drawing(number, shape):
-                lines.append(f"say draw {self.number} {PAGE_NAME} {number} {moment} {shape}")
+                yield f"say draw {self.number} {PAGE_NAME} {number} {moment} {shape}"
             case Report():
-                lines += [f"session {PAGE}", LOOK]
+                yield from (f"session {PAGE}", LOOK)
             case Joining(is_late):
-                lines += [f"say ask-pages {self.number}"] if is_late else []
-            case Arrival(datagram, _, is_looked):
-                lines += [*self.distances(datagram), f"datagram {datagram.digits}", *([LOOK] if is_looked else [])]
-        return lines
+                yield from [f"say ask-pages {self.number}"] if is_late else []
+            case Arrival(datagram, missed, is_looked):
+                yield from self.distances(datagram)
+                self.comes(moment, datagram)
+                yield f"datagram {datagram.digits}"
+                self.misses(moment, missed)
+                yield from [LOOK] if is_looked else []
 
     def distances(self, datagram: Datagram) -> list[str]:
         """The distances of whomever a datagram tells of first."""
@@ -188,22 +226,26 @@ class BareMember(HostMember):
 
 
 class KeptMember(HostMember):
-    """A member that keeps itself whole. Its driver does four things alone: it hands in what comes, ticks, draws and asks."""
+    """A member that keeps itself whole. Its driver does four things alone: it hands in what comes, ticks, draws and asks; and a fifth where
+    constants follow the session, behind `keep`."""
 
-    def __init__(self, number: int, host: Host, opening: str, clock: Clock, rate: int) -> None:
-        super().__init__(number, host, opening, clock)
+    def __init__(self, number: int, host: Host, opening: str, clock: Clock, rate: int, tuner: Tuner | None = None) -> None:
+        super().__init__(number, host, opening, clock, tuner)
         self.keep = f"keep {rate} 0"  # its number is new, so it need not listen first
+        self.takes_constants = False
 
-    def lines_of(self, moment: int, happening: Happening) -> list[str]:
+    def lines_of(self, moment: int, happening: Happening) -> Iterator[str]:
         now = self.clock.local(moment)
         match happening:
             case Drawing(_, shape):
-                return [f"add {now} {moment} {PAGE_NAME} {shape}"]
+                yield f"add {now} {moment} {PAGE_NAME} {shape}"
             case Joining():
-                return [f"tick {now}", self.keep]
-            case Arrival(datagram, _, _):
-                return [f"came {now} {datagram.digits}"]
-        return []
+                yield from (f"tick {now}", self.keep)
+                self.takes_constants = True
+            case Arrival(datagram, missed, _):
+                self.comes(moment, datagram)
+                self.misses(moment, missed)
+                yield f"came {now} {datagram.digits}"
 
 
 def allow_many(members: int) -> None:

@@ -10,31 +10,33 @@ from dataclasses import asdict, dataclass
 from pathlib import Path
 from typing import Any
 
-from laboratory.adapting import Adapting, ByMembers
+from laboratory.adapting import Adapting, ByMembers, Constants, Policy
 from laboratory.clocks import Clock
+from laboratory.driving import OWN_DISTANCE, Tuner
 from laboratory.hosts import PATIENCE, BareMember, Fault, KeptMember, Member, allow_many, write_record
 from laboratory.losses import Both, Bursts, Cut, Loss, NoLoss, OnceEach, Same, Share
 from laboratory.measures import Book, Row, row_of, summary
 from laboratory.network import Network
 from laboratory.queues import Queues
-from laboratory.reading import Reader
+from laboratory.reading import Read, Reader
 from laboratory.session import Plan, Session
 from laboratory.shapes import Tree, make_tree
-from laboratory.timers import Policy, TimerMember, Words
+from laboratory.timers import TimerMember, Words
 from wbhost import Host
 
 SECOND = 1_000_000
 DEFAULT_TUNING = "2,2,1,1"
+KEPT_DISTANCES = 10_000, SECOND
 
 
 @dataclass(frozen=True)
 class Settings:
     """What a run is of. Delays and times are seconds; `degree` and `nodes` are for trees, and 0 nodes means one a member.
 
-    `who` is what the members are: `hosts`, or timers that are reckoned here, with constants that are `fixed`, by the number of
-    `members`, or `adapting`. `judge` says who judges for hosts: the members themselves (`keep`, whose reports have `rate` bytes a
-    second together), or the laboratory by today's lines (`looks`). The first drawing is at `start`. `late` members come at `join`, or when half is drawn; `leaving` members go then; `coming` members go
-    and come, for `gone` seconds at a time. `fast` lets each member's clock gain or lose up to so many microseconds in a million. Links
+    `who` is what the members are: `hosts`, or `timers` that are reckoned here. Their constants are those of `tuning` and `fixed`, or `adapt`
+    from these on: by the number of `members`, or as `published`. `judge` says who judges for hosts: the members themselves (`keep`, whose
+    reports have `rate` bytes a second together), or the laboratory by today's lines (`looks`). The first drawing is at `start`. `late`
+    members come at `join`, or when half is drawn; `leaving` members go then; `coming` members go and come, for `gone` seconds at a time. `fast` lets each member's clock gain or lose up to so many microseconds in a million. Links
     carry `bandwidth` bytes a second, where it is not 0, and queue `queue` bytes. The run goes on to `lasts`, also if all is well.
     """
 
@@ -56,6 +58,7 @@ class Settings:
     gone: float = 10.0
     tuning: str = DEFAULT_TUNING
     who: str = "hosts"
+    adapt: str = "fixed"
     judge: str = "looks"
     rate: int = 4_000
     session: float = 0.0
@@ -150,36 +153,60 @@ def board_words(settings: Settings) -> dict[int, int]:
     return {member: settings.seed * 100_003 + member for member in range(1, settings.members + 1)}
 
 
-def start_hosts(path: str, settings: Settings, network: Network, cells: int, chance: random.Random) -> dict[int, Member]:
+def start_hosts(path: str, settings: Settings, network: Network, plan: Plan, read: Read, chance: random.Random) -> dict[int, Member]:
     """A host for each member, with an open board."""
     options = () if settings.tuning == DEFAULT_TUNING else ("--tuning", settings.tuning)
+    cells = min(65_535, len(plan.draws) + 1)
     hosts = {number: Host(path, *options, patience=PATIENCE) for number in range(1, settings.members + 1)}
     members: dict[int, Member] = {}
     for number, seed in board_words(settings).items():
         opening = f"board {number} {cells} 1 {seed}"
         clock = Clock(chance.randrange(SECOND), chance.randint(-settings.fast, settings.fast)) if settings.fast else Clock()
+        tuner = make_tuner(settings, network, plan, read, number)
         if settings.judge == "keep":
-            members[number] = KeptMember(number, hosts[number], opening, clock, settings.rate)
+            members[number] = KeptMember(number, hosts[number], opening, clock, settings.rate, tuner)
         else:
-            members[number] = BareMember(number, hosts[number], opening, clock, network.distance if settings.distances == "known" else None)
+            far = network.distance if settings.distances == "known" else None
+            members[number] = BareMember(number, hosts[number], opening, clock, far, tuner)
     return members
+
+
+def make_tuner(settings: Settings, network: Network, plan: Plan, read: Read, number: int) -> Tuner | None:
+    """The driver of a host whose constants follow the session. A host that keeps itself counts no distance as less than 10 ms or more than a
+    second."""
+    if settings.adapt == "fixed":
+        return None
+    least, most = KEPT_DISTANCES if settings.judge == "keep" else (0, SECOND)
+
+    def far(other: int) -> int:
+        return OWN_DISTANCE if other == number else min(most, max(least, network.distance(number, other)))
+
+    return Tuner(make_policy(settings, present_in(settings, plan)), constants_in(settings.tuning), far, read)
+
+
+def present_in(settings: Settings, plan: Plan) -> Callable[[int], int]:
+    """How many members are there at a moment."""
+    return lambda moment: settings.members - sum(start <= moment < end for times in plan.away.values() for start, end in times)
 
 
 def start_timers(settings: Settings, network: Network, plan: Plan) -> dict[int, Member]:
     """Timers for each member, with the words that its host would have."""
-    def present(moment: int) -> int:
-        return settings.members - sum(start <= moment < end for times in plan.away.values() for start, end in times)
-
+    present = present_in(settings, plan)
     return {number: TimerMember(number, Words(seed), make_policy(settings, present), network.distance) for number, seed in board_words(settings).items()}
+
+
+def constants_in(tuning: str) -> Constants:
+    c1, c2, d1, d2 = (int(constant) for constant in tuning.split(","))
+    return c1, c2, d1, d2
 
 
 def make_policy(settings: Settings, present: Callable[[int], int]) -> Policy:
     """The constants of one member: fixed, by the number of members that are present, or adapting from these on."""
-    c1, c2, d1, d2 = (int(constant) for constant in settings.tuning.split(","))
+    constants = constants_in(settings.tuning)
     policies: dict[str, Callable[[], Policy]] = {
-        "fixed": lambda: Policy((c1, c2, d1, d2)), "members": lambda: ByMembers(present), "adapting": lambda: Adapting((c1, c2, d1, d2)),
+        "fixed": lambda: Policy(constants), "members": lambda: ByMembers(present), "published": lambda: Adapting(constants),
     }
-    return policies[settings.who]()
+    return policies[settings.adapt]()
 
 
 class Progress:
@@ -232,12 +259,12 @@ def run(settings: Settings, path: str, record: Path | None = None, see: Callable
     chance = random.Random(settings.seed)
     network, plan = make_network(settings, chance), make_plan(settings)
     allow_many(settings.members)
+    progress, reader = Progress(f"{settings.shape} of {settings.members}"), Reader(path)
     if settings.who == "hosts":
-        members = start_hosts(path, settings, network, min(65_535, len(plan.draws) + 1), chance)
+        members = start_hosts(path, settings, network, plan, reader.read, chance)
     else:
         members = start_timers(settings, network, plan)
     queues = Queues(network, settings.bandwidth, settings.queue) if settings.bandwidth else None
-    progress, reader = Progress(f"{settings.shape} of {settings.members}"), Reader(path)
     session = Session(members, network, plan, chance, reader.read, queues, progress.show)
     try:
         session.run()

@@ -1,23 +1,21 @@
 """Members that are timers alone, reckoned here: what `wb host` does with requests and repairs by today's lines, without the host.
 
-With the same seeds they send what hosts send, at the same moments, which `lab/test` holds them to. They are for what a running host
-can't do yet, to change the constants of its timers, and for groups of hundreds.
+With the same seeds they send what hosts send, at the same moments, also where constants follow the session, which `lab/test` holds them
+to. They take a tenth of the time, and are for groups of hundreds.
 """
 from __future__ import annotations
 
-from collections.abc import Callable
+from collections.abc import Callable, Sequence
 from dataclasses import dataclass, field
 
+from laboratory.adapting import Policy
+from laboratory.driving import OWN_DISTANCE, QUIET
 from laboratory.hosts import Arrival, Drawing, Happening, Sent
 from laboratory.reading import Datagram, Name
 
 MASK = (1 << 64) - 1
 MOST_LEVEL = 16
-QUIET = 3  # distances for which a name is quiet behind its repair
-OWN_DISTANCE = 100_000  # a host takes this for a source of which nothing was told, itself too
 DRAWOP_SIZE, REQUEST_SIZE = 42, 28  # bytes of a drawop that is a line, and of a request
-
-Constants = tuple[int, int, int, int]
 
 
 class Words:
@@ -36,28 +34,6 @@ class Words:
     def word(self) -> int:
         low = self.half()
         return low | self.half() << 32
-
-
-class Policy:
-    """Which constants C1, C2, D1, D2 a member has now, and what it learns of. This one has the same for ever."""
-
-    def __init__(self, constants: Constants) -> None:
-        self.constants = constants
-
-    def now(self, moment: int) -> Constants:
-        return self.constants
-
-    def begins_to_ask(self, name: Name, moment: int, distance: int) -> None:
-        """A request timer is about to be set."""
-
-    def begins_to_answer(self, name: Name, moment: int, distance: int) -> None:
-        """An answer timer is about to be set."""
-
-    def sees_request(self, name: Name, moment: int, is_own: bool) -> None:
-        """A request is sent, or comes."""
-
-    def sees_repair(self, name: Name, moment: int, is_own: bool) -> None:
-        """A repair is sent, or a drawop comes."""
 
 
 @dataclass
@@ -123,8 +99,7 @@ class TimerMember:
                     self.hear(moment, datagram.author, datagram.name)
                 elif datagram.name:
                     self.arrives(moment, datagram.name)
-                for name in missed:
-                    self.notice(moment, name)
+                self.notice(moment, missed)
 
     def send(self, moment: int, kind: str, name: Name) -> None:
         is_drawop = kind == "drawop"
@@ -142,26 +117,34 @@ class TimerMember:
         ask.deaf = moment + (ask.due - moment) // 2
 
     def tick(self, moment: int) -> None:
-        """What is due fires."""
+        """What is due fires. The policy sees it behind that, since a host is told nothing between a request and its back-off."""
         self.ticked = moment
-        for name in sorted(name for name, ask in self.asks.items() if ask.due <= moment):
+        asked = sorted(name for name, ask in self.asks.items() if ask.due <= moment)
+        for name in asked:
             self.send(moment, "request", name)
-            self.policy.sees_request(name, moment, True)
             self.back_off(moment, self.asks[name])
-        for name in sorted(name for name, (due, _) in self.answers.items() if due <= moment):
+        repaired = sorted(name for name, (due, _) in self.answers.items() if due <= moment)
+        for name in repaired:
             _, distance = self.answers.pop(name)
             self.quiet[name] = moment + QUIET * distance
             self.send(moment, "drawop", name)
+        self.sees_own(moment, asked, repaired)
+
+    def sees_own(self, moment: int, asked: Sequence[Name], repaired: Sequence[Name]) -> None:
+        for name in asked:
+            self.policy.sees_request(name, moment, True)
+        for name in repaired:
             self.policy.sees_repair(name, moment, True)
 
-    def notice(self, moment: int, name: Name) -> None:
-        """A drawop is missed."""
-        if name in self.held or name in self.asks:
-            return
-        distance = self.distance(name[0])
-        self.policy.begins_to_ask(name, moment, distance)
+    def notice(self, moment: int, names: Sequence[Name]) -> None:
+        """Drawops are missed. Their timers go by the same constants, as those of one look do."""
+        new = [name for name in names if name not in self.held and name not in self.asks]
+        for name in new:
+            self.policy.begins_to_ask(name, moment, self.distance(name[0]))
         lead, spread, _, _ = self.policy.now(moment)
-        self.asks[name] = Ask(0, self.expiry(moment, 0, lead, spread, distance), 0, distance)
+        for name in new:
+            distance = self.distance(name[0])
+            self.asks[name] = Ask(0, self.expiry(moment, 0, lead, spread, distance), 0, distance)
 
     def hear(self, moment: int, asker: int, name: Name) -> None:
         """Another member asks."""

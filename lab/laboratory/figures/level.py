@@ -38,8 +38,9 @@ class Key(NamedTuple):
     def case(self, losses: int, runs: int) -> Case:
         """What adapts begins at the constants of a host, and has as many losses before those that count."""
         delay, adapts = self.distance / 2_000, self.policy == ADAPTING
-        who, tuning, draws = (ADAPTING, TUNING, 2 * losses) if adapts else ("fixed", self.policy, losses)
-        return Case(Settings(members=self.group, delay=(delay, delay), loss=self.loss, tuning=tuning, who=who, draws=draws), runs, run_level)
+        adapt, tuning, draws = ("published", TUNING, 2 * losses) if adapts else ("fixed", self.policy, losses)
+        settings = Settings(members=self.group, delay=(delay, delay), loss=self.loss, tuning=tuning, who="timers", adapt=adapt, draws=draws)
+        return Case(settings, runs, run_level)
 
     def record(self, measured: Measured, losses: int) -> Record:
         """What a point measured, with where it is; what adapts counts once it has seen so many losses."""

@@ -10,7 +10,7 @@ from laboratory.theory import exact_senders, published_first_request, published_
 
 def star_of(group: int, link: int, tuning: str, losses: int) -> Settings:
     """A star whose link to one member loses, at each second drawop."""
-    return Settings(shape="star", members=group, loss=f"link:0-{link}", tuning=tuning, draws=2 * losses, every=0.5, who="fixed")
+    return Settings(shape="star", members=group, loss=f"link:0-{link}", tuning=tuning, draws=2 * losses, every=0.5, who="timers")
 
 
 def by_group(title: str, records: list[Record], across: str, up: str, columns: list[tuple[str, str, bool]]) -> Plot:

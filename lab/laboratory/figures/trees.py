@@ -24,7 +24,7 @@ def trees(shape: str, scale: Scale) -> Figure:
     def settings(members: int) -> Settings:
         nodes = scale.tree_nodes if sparse else 0
         return Settings(shape=shape, members=members, nodes=nodes, loss="each", draws=2 * scale.losses, tuning=published_tuning(members),
-                        who="fixed")
+                        who="timers")
 
     def table(measured: dict[str, Measured]) -> list[Record]:
         records = []
@@ -94,6 +94,6 @@ def chains(scale: Scale) -> Figure:
             {sure(most, 'requests')} requests, {most['hop']} hops from the source, and {sure(max(short, key=lambda r: r['repairs']), 'repairs')} repairs.
             Each point is of {2 * scale.runs} losses.""")
 
-    base = Settings(shape="chain", members=scale.chain, loss=f"link:{links}", draws=4 * len(hops), who="fixed")
+    base = Settings(shape="chain", members=scale.chain, loss=f"link:{links}", draws=4 * len(hops), who="timers")
     cases = {tuning: Case(Settings(**{**vars(base), "tuning": tuning}), scale.runs) for tuning in tunings}
     return Figure("chain", cases, table, plots, section)

@@ -33,7 +33,7 @@ def tunings(network: str, scale: Scale) -> Figure:
     keys = [(group, tuning) for group in scale.classes for tuning in candidates]
 
     def settings(group: int, tuning: str) -> Settings:
-        return Settings(members=group, loss=f"link:0-1,0-{group}", tuning=constants_of(tuning, group), delay=delay, who="fixed",
+        return Settings(members=group, loss=f"link:0-1,0-{group}", tuning=constants_of(tuning, group), delay=delay, who="timers",
                         draws=4 * scale.losses, every=4.0)
 
     def table(measured: dict[str, Measured]) -> list[Record]:
