@@ -1,5 +1,5 @@
 -- What was told, filed by its place, and the drawops for which nothing is filed.
-use Rattle.std.proofs.Common.{◌≡◌, ◌≢◌, ℕ, zero, suc, ◌+◌, ◌≤◌, ◌<◌, ◌==◌, ◌||◌, Bool, true, false, cond, List, [], ◌∷◌, ◌++◌, length, take, get_or, set, refl, ap, ap₂, sym, subst, ◌∙◌, arith, ⊎_elim, length-take, length-set, get_or-set_same, get_or-set_other, Option, Some, None}
+use Rattle.std.proofs.Common.{◌≡◌, ◌≢◌, ℕ, zero, suc, ◌+◌, ◌≤◌, ◌<◌, ◌==◌, ◌||◌, Bool, true, false, cond, List, [], ◌∷◌, ◌++◌, length, take, get_or, set, refl, ap, ap₂, sym, subst, ◌∙◌, arith, length-take, length-set, get_or-set_same, get_or-set_other, Option, Some, None}
 use Rattle.std.proofs.lemmas.Bool.{cases_lt}
 use Rattle.std.proofs.lemmas.List.{append-nil, length-replicate, take_more}
 use Rattle.std.specs.Prelude.{replicate}
@@ -59,12 +59,6 @@ filed_more fs i f lt is = ap (λ l. counts_of (filed_outcomes l)) (take_more fs 
 pub record RestSoFar (p : PassValue) (fs : List (Option Reply)) (ds : List DrawopValue) (i : ℕ) (q : PassValue) (b : Batch) : Type 0 where
   pub settled : Settles p (take i fs) (take i ds) q b
   pub few : b.fresh + b.again + b.clash + b.left ≤ i
-
-pub rest_none : (p : PassValue) (fs : List (Option Reply)) (ds : List DrawopValue) (b : Batch) → (b.fresh ≡ 0) × (b.again ≡ 0) × (b.clash ≡ 0) × (b.left ≡ 0) → RestSoFar p fs ds 0 p b
-rest_none p fs ds b z = record {
-  settled = record { log = []; runs = refl; all = refl; total = record { fresh = z.0; again = z.1; clash = z.2; left = z.3 }; many = omega (arith, z.0, z.1, z.2, z.3) };
-  few = omega (arith, z.0, z.1, z.2, z.3);
-}
 
 -- a reply that is filed is counted
 pub rest_filed : (p q : PassValue) (fs : List (Option Reply)) (ds : List DrawopValue) (i : ℕ) (b c : Batch) (r : Reply) (z : DrawopValue) → i < length ds → length fs ≡ length ds → get_or fs i None ≡ Some r → RestSoFar p fs ds i q b → CountsOne b (outcome r) c

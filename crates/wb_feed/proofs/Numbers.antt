@@ -1,5 +1,5 @@
 -- Lists of numbers, each once.
-use Rattle.std.proofs.Common.{◌≡◌, ◌≢◌, ◌⊎◌, ℕ, zero, suc, ◌+◌, ◌≤◌, ◌<◌, ◌==◌, ◌||◌, Bool, true, false, cond, List, [], ◌∷◌, ◌++◌, length, sym, refl, ap, ap₂, ◌∙◌, subst, inl, inr, ⊎_elim, arith, add-zero}
+use Rattle.std.proofs.Common.{◌≡◌, ◌≢◌, ◌⊎◌, ℕ, zero, suc, ◌+◌, ◌≤◌, ◌<◌, ◌==◌, ◌||◌, Bool, true, false, cond, List, [], ◌∷◌, ◌++◌, length, sym, refl, ap, ap₂, ◌∙◌, subst, inl, inr, arith, add-zero}
 use Rattle.std.proofs.lemmas.Bool.Decides.{nat_tests}
 use Rattle.std.specs.List.{range_with_len}
 use Rattle.std.specs.List.Sorted.{IsPermutation}
@@ -81,9 +81,6 @@ once_suc p n apart = grind (arith, nat_tests)
 
 once_last : (n : ℕ) → once_below n (suc n) ≡ 1
 once_last n = grind (arith, nat_tests)
-
-once_none : (n : ℕ) → once_below n n ≡ 0
-once_none n = grind (arith, nat_tests)
 
 once_zero : (p : ℕ) → once_below p 0 ≡ 0
 once_zero p = grind (arith, nat_tests)
