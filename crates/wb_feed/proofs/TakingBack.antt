@@ -1,5 +1,5 @@
 -- What several workers did, put together.
-use Rattle.std.proofs.Common.{◌≡◌, ℕ, suc, ◌+◌, ◌-◌, ◌*◌, ◌≤◌, ◌<◌, Bool, true, List, [], ◌++◌, length, Result, Ok, Err, ap, ap₂, sym, subst, ◌∙◌, arith, append_assoc, length-append}
+use Rattle.std.proofs.Common.{◌≡◌, ℕ, suc, ◌+◌, ◌-◌, ◌*◌, ◌≤◌, ◌<◌, Bool, true, List, [], ◌++◌, length, Result, Ok, Err, ap, ap₂, sym, subst, ◌∙◌, arith, append_assoc, length-append, ⊎_elim}
 use Rattle.std.specs.Prelude.{IfOk, OnOk}
 use Rattle.std.proofs.lemmas.List.{append-nil}
 use Rattle.crossbeam_channel.specs.Claims.{view}

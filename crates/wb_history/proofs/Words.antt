@@ -1,6 +1,6 @@
 -- What stands at a place of a list, in the words of this crate's rule and in those of its public clauses.
 use Rattle.std.proofs.lemmas.Grind.{common_steps}
-use Rattle.std.proofs.Common.{◌≡◌, ◌≢◌, ℕ, zero, suc, List, [], ◌∷◌, get_or, sym, ap, ◌∙◌, arith, Some, subst, ◌<◌, ◌≤◌}
+use Rattle.std.proofs.Common.{◌≡◌, ◌≢◌, ℕ, zero, suc, List, [], ◌∷◌, get_or, sym, ap, ◌∙◌, arith, Some, subst, ⊎_elim, ◌<◌, ◌≤◌}
 use Rattle.std.proofs.lemmas.Bool.{cases_lt}
 use Rattle.std.specs.Prelude.{All, AllPairs, Contains, slice_get, take}
 use mathlib.Core.Option.{some, some-injective, some-ne-none}
