@@ -10,7 +10,8 @@ use Rattle.wb_host.specs.Replies.{outcome}
 use Rattle.wb_host.specs.declared.reply.Reply.{Reply}
 use Rattle.wb_feed.specs.Accepts.{LosesAtMost, Accepts}
 use Rattle.wb_feed.specs.declared.batch.Batch.{Batch}
-use Rattle.wb_feed.proofs.Numbers.{test_apart, test_same, dec_same, times-append, has_false, once_past, once_under}
+use Rattle.std.proofs.lemmas.Bool.{cases_eq}
+use Rattle.wb_feed.proofs.Numbers.{test_apart, test_same, times-append, has_false, once_past, once_under}
 use Rattle.wb_feed.proofs.OneThread.{plus, same_counts, counts_of-append}
 use Rattle.wb_feed.proofs.Log.{one_kind, runs_more, runs_leave, leaves_lose, drawops-append, tally-append}
 use Rattle.wb_feed.specs.Marks.{has, unmarked, Marks, CountsOne, told_at, told_outcomes, times, AreOnce, filled, filed_outcomes, Files, IsPut, Settles}
@@ -140,7 +141,7 @@ marks_more ps q n ms small h =
           (λ (e : p ≡ q). ap (λ k. get_or (set ms q true) k false) e ∙ (get_or-set_same ms q true false room
           ∙ sym (has-append p ps (q ∷ []) ∙ (ap (λ b. has p ps || (b || false)) (test_same q p (sym e)) ∙ or_true (has p ps)))))
           (λ (d : p ≢ q). get_or-set_other ms q p true false d ∙ (h.each p under
-          ∙ sym (has-append p ps (q ∷ []) ∙ (ap (λ b. has p ps || (b || false)) (test_apart q p (λ e. d (sym e))) ∙ or_false (has p ps))))) (dec_same p q);
+          ∙ sym (has-append p ps (q ∷ []) ∙ (ap (λ b. has p ps || (b || false)) (test_apart q p (λ e. d (sym e))) ∙ or_false (has p ps))))) (cases_eq p q);
     }
 
 told-append : (xs ys : List (ℕ × Reply)) → (told_at (xs ++ ys) ≡ told_at xs ++ told_at ys) × (told_outcomes (xs ++ ys) ≡ told_outcomes xs ++ told_outcomes ys)
