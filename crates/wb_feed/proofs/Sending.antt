@@ -11,9 +11,6 @@ use Rattle.wb_feed.specs.Channel.{sends}
 use Rattle.wb_feed.specs.Sent.{IsSent, HasArrived, OneArrives}
 
 -- the sender's pass keeps its parts, and what it received
-abbrev pub Stays : ChannelView → ChannelView → Type 0
-Stays h i = (i.parts ≡ h.parts) × (i.got ≡ h.got)
-
 pub arrived_none : {A : Type 0} (gives : A → List DrawopValue → A → Type 0) (most : A → ℕ) (a : A) (was : List DrawopValue) → gives a [] a → HasArrived gives most a was a was
 arrived_none gives most a was none = record { more = []; given = none; all = sym (append-nil was); few = omega arith }
 
