@@ -107,10 +107,10 @@ fn relay_on_threads<R: Threads + Sync>(
 }
 
 /// Whether two desks that meet have one list, of so many drawops.
-fn meet(board: &Board, alloc: Global, one: &mut Desk, two: &mut Desk, count: usize) -> bool
+fn meet(board: &Board, one: &mut Desk, two: &mut Desk, count: usize) -> bool
     requires { IsPassOf board.now one.old × IsPassOf board.now two.old }
 {
-    let met = board.meet(alloc, one, two).is_ok();
+    let met = board.meet(one, two).is_ok();
     met && one.list() == two.list() && one.list().len() == count
 }
 
@@ -119,7 +119,7 @@ fn all_goes_well<R: Threads + Sync>(rt: &R, alloc: Global) -> Option<bool> {
     let (board, mut root) = open(alloc)?;
     let other = split(&board, alloc, &mut root, 4)?;
     let (well, mut one, mut two) = relay_on_threads(rt, alloc, &board, root, other, &drawops);
-    Some(well && meet(&board, alloc, &mut one, &mut two, 2))
+    Some(well && meet(&board, &mut one, &mut two, 2))
 }
 
 #[test]

@@ -1,5 +1,5 @@
 -- What was told, filed by its place, and the drawops for which nothing is filed.
-use Rattle.std.proofs.Common.{◌≡◌, ◌≢◌, ℕ, zero, suc, ◌+◌, ◌≤◌, ◌<◌, ◌==◌, ◌||◌, Bool, true, false, cond, List, [], ◌∷◌, ◌++◌, length, take, get_or, set, refl, ap, ap₂, sym, subst, ◌∙◌, arith, ⊎_elim, length-take, length-set, get_or-set_same, get_or-set_other, Option, Some, None}
+use Rattle.std.proofs.Common.{◌≡◌, ◌≢◌, ℕ, zero, suc, ◌+◌, ◌≤◌, ◌<◌, ◌==◌, ◌||◌, Bool, true, false, cond, List, [], ◌∷◌, ◌++◌, length, take, get_or, set, refl, ap, ap₂, sym, subst, ◌∙◌, arith, length-take, length-set, get_or-set_same, get_or-set_other, Option, Some, None, ⊎_elim}
 use Rattle.std.proofs.lemmas.Bool.{cases_lt}
 use Rattle.std.proofs.lemmas.List.{append-nil, length-replicate, take_more}
 use Rattle.std.specs.Prelude.{replicate}
@@ -10,7 +10,8 @@ use Rattle.wb_host.specs.Replies.{outcome}
 use Rattle.wb_host.specs.declared.reply.Reply.{Reply}
 use Rattle.wb_feed.specs.Accepts.{LosesAtMost, Accepts}
 use Rattle.wb_feed.specs.declared.batch.Batch.{Batch}
-use Rattle.wb_feed.proofs.Numbers.{test_apart, test_same, dec_same, times-append, has_false, once_past, once_under}
+use Rattle.std.proofs.lemmas.Bool.{cases_eq}
+use Rattle.wb_feed.proofs.Numbers.{test_apart, test_same, times-append, has_false, once_past, once_under}
 use Rattle.wb_feed.proofs.OneThread.{plus, same_counts, counts_of-append}
 use Rattle.wb_feed.proofs.Log.{one_kind, runs_more, runs_leave, leaves_lose, drawops-append, tally-append}
 use Rattle.wb_feed.specs.Marks.{has, unmarked, Marks, CountsOne, told_at, told_outcomes, times, AreOnce, filled, filed_outcomes, Files, IsPut, Settles}
@@ -59,12 +60,6 @@ filed_more fs i f lt is = ap (λ l. counts_of (filed_outcomes l)) (take_more fs 
 pub record RestSoFar (p : PassValue) (fs : List (Option Reply)) (ds : List DrawopValue) (i : ℕ) (q : PassValue) (b : Batch) : Type 0 where
   pub settled : Settles p (take i fs) (take i ds) q b
   pub few : b.fresh + b.again + b.clash + b.left ≤ i
-
-pub rest_none : (p : PassValue) (fs : List (Option Reply)) (ds : List DrawopValue) (b : Batch) → (b.fresh ≡ 0) × (b.again ≡ 0) × (b.clash ≡ 0) × (b.left ≡ 0) → RestSoFar p fs ds 0 p b
-rest_none p fs ds b z = record {
-  settled = record { log = []; runs = refl; all = refl; total = record { fresh = z.0; again = z.1; clash = z.2; left = z.3 }; many = omega (arith, z.0, z.1, z.2, z.3) };
-  few = omega (arith, z.0, z.1, z.2, z.3);
-}
 
 -- a reply that is filed is counted
 pub rest_filed : (p q : PassValue) (fs : List (Option Reply)) (ds : List DrawopValue) (i : ℕ) (b c : Batch) (r : Reply) (z : DrawopValue) → i < length ds → length fs ≡ length ds → get_or fs i None ≡ Some r → RestSoFar p fs ds i q b → CountsOne b (outcome r) c
@@ -146,7 +141,7 @@ marks_more ps q n ms small h =
           (λ (e : p ≡ q). ap (λ k. get_or (set ms q true) k false) e ∙ (get_or-set_same ms q true false room
           ∙ sym (has-append p ps (q ∷ []) ∙ (ap (λ b. has p ps || (b || false)) (test_same q p (sym e)) ∙ or_true (has p ps)))))
           (λ (d : p ≢ q). get_or-set_other ms q p true false d ∙ (h.each p under
-          ∙ sym (has-append p ps (q ∷ []) ∙ (ap (λ b. has p ps || (b || false)) (test_apart q p (λ e. d (sym e))) ∙ or_false (has p ps))))) (dec_same p q);
+          ∙ sym (has-append p ps (q ∷ []) ∙ (ap (λ b. has p ps || (b || false)) (test_apart q p (λ e. d (sym e))) ∙ or_false (has p ps))))) (cases_eq p q);
     }
 
 told-append : (xs ys : List (ℕ × Reply)) → (told_at (xs ++ ys) ≡ told_at xs ++ told_at ys) × (told_outcomes (xs ++ ys) ≡ told_outcomes xs ++ told_outcomes ys)

@@ -9,11 +9,7 @@ use Rattle.wb_names.specs.Values.{DrawopValue}
 use Rattle.wb_names.specs.History.{IsAgainAt, IsClashAt}
 use Rattle.wb_names.specs.Arrivals.{Outcome, Fresh, Known, Clashed, Left, Counts, counts, counts_of}
 use Rattle.wb_host.specs.Desks.{PassValue, KeepsRows, AddsNothing, IsSound, IsWhole, IsSplit}
-use Rattle.wb_host.specs.Replies.{Accepted, NotAccepted}
-use Rattle.wb_host.specs.declared.reply.Reply.{Reply}
 use Rattle.wb_host.specs.declared.reply.Reply.TheVariants as replied
-use Rattle.wb_host.specs.declared.reply.BoardFault.{BoardFault}
-use Rattle.wb_host.specs.declared.reply.BoardFault.TheVariants.{NoRow, Memory}
 use Rattle.wb_feed.specs.Accepts.{Keeps, LosesAtMost, Accepts, Entry, drawops, outcomes, tally, Runs}
 use Rattle.wb_feed.proofs.Prefixes.{prefix_self, prefix_is, prefix_trans, prefix_get}
 use Rattle.wb_feed.specs.Channel.{once_below}
@@ -204,17 +200,6 @@ leaves_lose p q es l =
 
 rows_stay : (p q : PassValue) → Keeps p q → KeepsRows p q → LosesAtMost 0 p q
 rows_stay p q k r = record { kept = k; places = prefix_is p.mine q.mine r.0; none_more = omega (arith, r.1, ap length r.0); rows = omega (arith, r.1, ap length r.0) }
-
-pub accepted_loses : (p q : PassValue) (d : DrawopValue) (r : Reply) → Keeps p q → Accepted p d q r → LosesAtMost 0 p q
-accepted_loses p q d (replied.New i) k a =
-    let many : length q.mine ≡ length p.mine + 1 = ap length a.gains ∙ length-append p.mine (i ∷ []) in
-    record { kept = k; places = (i ∷ [], sym a.gains); none_more = omega (arith, a.row, many); rows = omega (arith, a.row, many) }
-accepted_loses p q d (replied.Again i) k a = rows_stay p q k a.1.0
-accepted_loses p q d (replied.Clash i) k a = rows_stay p q k a.1.0
-
-pub refused_loses : (p q : PassValue) (d : DrawopValue) (f : BoardFault) → Keeps p q → NotAccepted p d q f → LosesAtMost 0 p q
-refused_loses p q d NoRow k a = rows_stay p q k a.kept.0
-refused_loses p q d Memory k a = rows_stay p q k a.0
 
 pub loses_is : (p q : PassValue) → q ≡ p → LosesAtMost 0 p q
 loses_is p q e = rows_stay p q (keeps_is p q e) (ap (λ (x : PassValue). x.mine) e, ap (λ (x : PassValue). x.free) e)

@@ -1,9 +1,9 @@
 -- Members of a history, and names that stand nowhere in it.
-use Rattle.std.proofs.Common.{◌≡◌, ℕ, zero, suc, ◌+◌, ◌<◌, List, [], ◌∷◌, ◌++◌, length, map, get_or, Some, slice_get, refl, ap, ap₂, sym, ◌∙◌, arith, append_assoc, length-append}
+use Rattle.std.proofs.Common.{◌≡◌, ℕ, ◌+◌, ◌<◌, List, [], ◌∷◌, ◌++◌, length, map, get_or, Some, slice_get, refl, ap, ap₂, sym, ◌∙◌, arith, append_assoc, length-append}
 use Rattle.std.specs.List.{range_with_len}
 use Rattle.std.proofs.Math.Seq.{get_or-append_seam}
 use Rattle.std.proofs.lemmas.List.{get_or_append_left}
-use Rattle.std.proofs.lemmas.Option.{slice_get_within}
+use Rattle.std.proofs.lemmas.Option.{get_or_from_slice_get, slice_get_within}
 use Rattle.wb_names.specs.Values.{DrawopValue}
 use Rattle.wb_names.specs.History.{IsHistory, HoldsName}
 use Rattle.wb_names.specs.declared.parts.Change.TheVariants.{Delete}
@@ -12,11 +12,6 @@ use Rattle.wb_names.specs.declared.parts.Op.TheVariants.{Aimed}
 -- some drawop, which stands for what is at no place
 abbrev pub nothing : DrawopValue
 nothing = record { name = record { source = 0; page = record { creator = 0; number = 0 }; seq = 0 }; time = 0; op = Aimed Delete (record { source = 0; seq = 0 }) }
-
-pub get_at : (h : List DrawopValue) (i : ℕ) (d z : DrawopValue) → slice_get h i ≡ Some d → get_or h i z ≡ d
-get_at [] i d z e = absurd cc
-get_at (x ∷ xs) zero d z e = cc
-get_at (x ∷ xs) (suc i) d z e = get_at xs i d z e
 
 -- the places from n on, and what stands at them
 pub map_range : (a r : List DrawopValue) (n : ℕ) → n ≡ length a → map (λ i. get_or (a ++ r) i nothing) (range_with_len n (length r)) ≡ r
@@ -32,7 +27,7 @@ map_range a (x ∷ r) n e =
 
 -- the name of a member is held
 pub at_named : (h : List DrawopValue) (i : ℕ) (e d : DrawopValue) → slice_get h i ≡ Some e → e.name ≡ d.name → HoldsName h d.name
-at_named h i e d at same = (i, e, slice_get_within h i e at, get_at h i e e at, same)
+at_named h i e d at same = (i, e, slice_get_within h i e at, get_or_from_slice_get h i e e at, same)
 
 -- in a history the name of a member does not stand before it
 pub history_mid : (a r : List DrawopValue) (d : DrawopValue) → IsHistory (a ++ d ∷ r) → HoldsName a d.name → ⊥

@@ -1,5 +1,6 @@
 -- Lists of numbers, each once.
-use Rattle.std.proofs.Common.{◌≡◌, ◌≢◌, ◌⊎◌, ℕ, zero, suc, ◌+◌, ◌≤◌, ◌<◌, ◌==◌, ◌||◌, Bool, true, false, cond, List, [], ◌∷◌, ◌++◌, length, sym, refl, ap, ap₂, ◌∙◌, subst, inl, inr, ⊎_elim, arith, add-zero}
+use Rattle.std.proofs.Common.{◌≡◌, ◌≢◌, ◌⊎◌, ℕ, zero, suc, ◌+◌, ◌≤◌, ◌<◌, ◌==◌, ◌||◌, Bool, true, false, cond, List, [], ◌∷◌, ◌++◌, length, sym, refl, ap, ap₂, ◌∙◌, subst, inl, inr, arith, add-zero, ⊎_elim}
+use Rattle.std.proofs.lemmas.Bool.{cases_eq}
 use Rattle.std.proofs.lemmas.Bool.Decides.{nat_tests}
 use Rattle.std.specs.List.{range_with_len}
 use Rattle.std.specs.List.Sorted.{IsPermutation}
@@ -82,9 +83,6 @@ once_suc p n apart = grind (arith, nat_tests)
 once_last : (n : ℕ) → once_below n (suc n) ≡ 1
 once_last n = grind (arith, nat_tests)
 
-once_none : (n : ℕ) → once_below n n ≡ 0
-once_none n = grind (arith, nat_tests)
-
 once_zero : (p : ℕ) → once_below p 0 ≡ 0
 once_zero p = grind (arith, nat_tests)
 
@@ -92,16 +90,13 @@ no_times : (xs : List ℕ) → ((p : ℕ) → times p xs ≤ 0) → xs ≡ []
 no_times [] h = refl
 no_times (x ∷ xs) h = absurd (omega (arith, h x, times_here x xs))
 
-pub dec_same : (p n : ℕ) → (p ≡ n) ⊎ (p ≢ n)
-dec_same p n = elim (p == n) as (λ b. (p == n) ≡ b → (p ≡ n) ⊎ (p ≢ n)) [ true ↦ λ e. inl (is_same p n e) | false ↦ λ e. inr (false≢same p n e) ] refl
-
 -- different numbers below n are n at most
 pub few_below : (n : ℕ) (xs : List ℕ) → ((p : ℕ) → times p xs ≤ once_below p n) → length xs ≤ n
 few_below zero xs h = let e : xs ≡ [] = no_times xs (λ p. omega (arith, h p, once_zero p)) in omega (arith, ap length e)
 few_below (suc n) xs h =
     let rest = few_below n (without n xs) (λ p. ⊎_elim
     (λ (e : p ≡ n). omega (arith, ap (λ k. times k (without n xs)) e, times_gone n xs))
-    (λ (d : p ≢ n). omega (arith, times-without n p xs d, h p, once_suc p n d)) (dec_same p n)) in
+    (λ (d : p ≢ n). omega (arith, times-without n p xs d, h p, once_suc p n d)) (cases_eq p n)) in
     omega (arith, length-without n xs, rest, h n, once_last n)
 
 -- and where they are n, all are there
@@ -110,17 +105,17 @@ all_below zero xs h many p = omega (arith, h p, once_zero p)
 all_below (suc n) xs h many p =
     let below : (q : ℕ) → times q (without n xs) ≤ once_below q n = λ q. ⊎_elim
     (λ (e : q ≡ n). omega (arith, ap (λ k. times k (without n xs)) e, times_gone n xs))
-    (λ (d : q ≢ n). omega (arith, times-without n q xs d, h q, once_suc q n d)) (dec_same q n) in
+    (λ (d : q ≢ n). omega (arith, times-without n q xs d, h q, once_suc q n d)) (cases_eq q n) in
     let few = few_below n (without n xs) below in
     let one : times n xs ≡ 1 = omega (arith, h n, once_last n, few, length-without n xs) in
     ⊎_elim (λ (e : p ≡ n). rw e (one ∙ sym (once_last n)))
-    (λ (d : p ≢ n). sym (times-without n p xs d) ∙ (all_below n (without n xs) below (omega (arith, length-without n xs, one)) p ∙ sym (once_suc p n d))) (dec_same p n)
+    (λ (d : p ≢ n). sym (times-without n p xs d) ∙ (all_below n (without n xs) below (omega (arith, length-without n xs, one)) p ∙ sym (once_suc p n d))) (cases_eq p n)
 
 -- a number that stands in a list
 found : (x : ℕ) (ys : List ℕ) → (times x ys ≡ 0 → ⊥) → (a : List ℕ) × ((b : List ℕ) × (ys ≡ a ++ x ∷ b))
 found x [] some = absurd (some refl)
 found x (y ∷ ys) some = ⊎_elim (λ (e : y ≡ x). ([], (ys, ap (λ k. k ∷ ys) e)))
-    (λ (d : y ≢ x). let r = found x ys (λ none. some (times_apart x y ys (λ q. d (sym q)) ∙ none)) in (y ∷ r.0, (r.1.0, ap (λ l. y ∷ l) r.1.1))) (dec_same y x)
+    (λ (d : y ≢ x). let r = found x ys (λ none. some (times_apart x y ys (λ q. d (sym q)) ∙ none)) in (y ∷ r.0, (r.1.0, ap (λ l. y ∷ l) r.1.1))) (cases_eq y x)
 
 -- lists with each number as often are rearrangements
 pub IsPermutation-times : (xs ys : List ℕ) → ((p : ℕ) → times p xs ≡ times p ys) → IsPermutation xs ys
@@ -132,7 +127,7 @@ IsPermutation-times (x ∷ xs) ys h =
     let q = IsPermutation-trans (x ∷ xs) (x ∷ (a ++ b)) (a ++ x ∷ b) (IsPermutation-cons x xs (a ++ b) (IsPermutation-times xs (a ++ b) rest)) (IsPermutation-sym (a ++ x ∷ b) (x ∷ (a ++ b)) (IsPermutation-middle a x b)) in
     subst (λ l. IsPermutation (x ∷ xs) l) (sym f.1.1) q
 
-once_step : (p a : ℕ) → once_below p (a + 1) ≡ once_below p a + cond (a == p) 1 0
+pub once_step : (p a : ℕ) → once_below p (a + 1) ≡ once_below p a + cond (a == p) 1 0
 once_step p a = grind (arith, nat_tests)
 
 regroup : (a n : ℕ) → a + 1 + n ≡ a + suc n
@@ -163,4 +158,4 @@ each_once n (x ∷ xs) low apart p =
     (λ (e : p ≡ x).
     let none : times x xs ≡ 0 = absent x xs (first_apart x xs apart) in
     subst (λ (q : ℕ). times q (x ∷ xs) ≤ once_below q n) (sym e) (omega (arith, times_here x xs, none, once_under x n here)))
-    (λ (d : p ≢ x). omega (arith, rest, times_apart p x xs d)) (dec_same p x)
+    (λ (d : p ≢ x). omega (arith, rest, times_apart p x xs d)) (cases_eq p x)

@@ -1,6 +1,7 @@
 -- The drawops that workers accepted and those taken again are the drawops arrived.
 use Rattle.std.proofs.Common.{◌≡◌, ℕ, zero, suc, ◌+◌, ◌≤◌, ◌<◌, ◌==◌, ◌||◌, Bool, true, false, true≢false, cond, List, [], ◌∷◌, ◌++◌, length, map, get_or, refl, ap, ap₂, sym, subst, ◌∙◌, arith, ⊎_elim, append_assoc, length-append}
 use Rattle.std.proofs.lemmas.List.{map-append}
+use Rattle.std.proofs.lemmas.Option.{get_or_from_slice_get}
 use Rattle.std.proofs.lemmas.Bool.{cases_lt}
 use Rattle.std.specs.List.{range_with_len}
 use Rattle.std.specs.List.Sorted.{IsPermutation}
@@ -13,7 +14,7 @@ use Rattle.wb_feed.specs.Accepts.{drawops}
 use Rattle.wb_feed.proofs.Prefixes.{prefix_get}
 use Rattle.wb_feed.proofs.Numbers.{times, times-append, times_apart, test_same, bool_cases, once_under, once_past, IsPermutation-times, times-range}
 use Rattle.std.proofs.Math.Seq.{get_or-append_seam}
-use Rattle.wb_feed.proofs.Members.{nothing, get_at, map_range}
+use Rattle.wb_feed.proofs.Members.{nothing, map_range}
 use Rattle.wb_feed.proofs.Log.{is_taken, chosen, Gathers, gathers_none, gathers_level}
 use Rattle.wb_feed.proofs.OneThread.{zero_plus}
 use Rattle.wb_feed.specs.declared.channel.Message.{Message}
@@ -162,6 +163,6 @@ workers_gather {rows = rows} (worker {p = v} {rest = x} {back = y} {q = w} {desk
 pub taken_at : (ds : List DrawopValue) (log : List Spot) → OffersRight ds (offered log) → drawops (chosen is_taken (entries log)) ≡ map (λ i. get_or ds i nothing) (accepted_at log)
 taken_at ds [] o = refl
 taken_at ds ((q, (d, Left)) ∷ ss) o = taken_at ds ss o.1
-taken_at ds ((q, (d, Fresh i)) ∷ ss) o = ap₂ (λ x xs. x ∷ xs) (sym (get_at ds q d nothing o.0)) (taken_at ds ss o.1)
-taken_at ds ((q, (d, Known i)) ∷ ss) o = ap₂ (λ x xs. x ∷ xs) (sym (get_at ds q d nothing o.0)) (taken_at ds ss o.1)
-taken_at ds ((q, (d, Clashed i)) ∷ ss) o = ap₂ (λ x xs. x ∷ xs) (sym (get_at ds q d nothing o.0)) (taken_at ds ss o.1)
+taken_at ds ((q, (d, Fresh i)) ∷ ss) o = ap₂ (λ x xs. x ∷ xs) (sym (get_or_from_slice_get ds q d nothing o.0)) (taken_at ds ss o.1)
+taken_at ds ((q, (d, Known i)) ∷ ss) o = ap₂ (λ x xs. x ∷ xs) (sym (get_or_from_slice_get ds q d nothing o.0)) (taken_at ds ss o.1)
+taken_at ds ((q, (d, Clashed i)) ∷ ss) o = ap₂ (λ x xs. x ∷ xs) (sym (get_or_from_slice_get ds q d nothing o.0)) (taken_at ds ss o.1)

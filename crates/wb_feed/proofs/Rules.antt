@@ -7,12 +7,13 @@ use mathlib.Core.List.{IsPrefix}
 use lib.ListN.{get_elem?}
 use Rattle.crossbeam_channel.specs.Fifo.{Pushes, Pops, Forks, Merges, Learns}
 use Rattle.wb_names.specs.Values.{DrawopValue}
+use Rattle.wb_feed.proofs.Numbers.{once_step}
 use Rattle.wb_feed.proofs.Prefixes.{prefix_get}
 use Rattle.wb_feed.specs.declared.channel.Message.{Message}
 use Rattle.wb_feed.specs.declared.channel.Message.TheVariants.{Take, End}
 use Rattle.wb_feed.specs.declared.channel.ChannelView.{ChannelView}
 use Rattle.wb_feed.specs.Sent.{IsNext}
-use Rattle.wb_feed.specs.Channel.{channel_view, sent_with, sends, receives, spots, IsRight, AreRight, IsBelow, AreBelow, Follows, IsRow, total, once_below, Fits, Kept, IsComplete}
+use Rattle.wb_feed.specs.Channel.{channel_view, sent_with, sends, receives, spots, IsRight, AreRight, IsBelow, AreBelow, Follows, IsRow, total, Fits, Kept, IsComplete}
 
 -- what stands in a list after one element was set, and after one was put at the end
 at_set : (views : List ChannelView) (pass j : ℕ) (v w : ChannelView) → get_elem? (set views pass v) j ≡ some w → ((j ≡ pass) × (v ≡ w)) ⊎ ((j ≢ pass) × (get_elem? views j ≡ some w))
@@ -160,9 +161,6 @@ sends_kept n pass v x may next items views room h at =
 abbrev one_at : ℕ → ℕ → ℕ
 one_at a b = cond (a == b) 1 0
 
-once_more : (p low : ℕ) → once_below p (low + 1) ≡ once_below p low + cond (low == p) 1 0
-once_more p low = grind (arith, nat_tests)
-
 pub receives_kept : (pass : ℕ) (v : ChannelView) → 0 < v.parts → Pops Kept pass v (λ x w. (w ≡ receives v x) × Follows v.got x)
 receives_kept pass v some_part (Take p d) items views h at =
     let mine = h.each pass v at in
@@ -186,7 +184,7 @@ receives_kept pass v some_part (Take p d) items views h at =
             (λ j u other e. let theirs = h.each j u e in record { sender = theirs.sender; right = theirs.right; below = all_below_more h.low (h.low + 1) u.got up theirs.below; idle = theirs.idle });
         parts = omega (arith, total_set (λ u. u.parts) views pass v w at, h.parts);
         once = λ q. let same : one_at h.low q ≡ one_at p q = ap (λ k. one_at k q) (sym h.row.0) in
-            omega (arith, total_set (λ u. spots q u.got) views pass v w at, h.once q, spots-append q v.got (x ∷ []), once_more q h.low, same);
+            omega (arith, total_set (λ u. spots q u.got) views pass v w at, h.once q, spots-append q v.got (x ∷ []), once_step q h.low, same);
       },
       (refl, subst (λ (k : ℕ). AreBelow k v.got) (sym h.row.0) mine.below),
     )

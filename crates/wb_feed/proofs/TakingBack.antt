@@ -1,5 +1,5 @@
 -- What several workers did, put together.
-use Rattle.std.proofs.Common.{◌≡◌, ℕ, suc, ◌+◌, ◌-◌, ◌*◌, ◌≤◌, ◌<◌, Bool, true, List, [], ◌++◌, length, Result, Ok, Err, ap, ap₂, sym, subst, ◌∙◌, ⊎_elim, arith, append_assoc, length-append}
+use Rattle.std.proofs.Common.{◌≡◌, ℕ, suc, ◌+◌, ◌-◌, ◌*◌, ◌≤◌, ◌<◌, Bool, true, List, [], ◌++◌, length, Result, Ok, Err, ap, ap₂, sym, subst, ◌∙◌, arith, append_assoc, length-append, ⊎_elim}
 use Rattle.std.specs.Prelude.{IfOk, OnOk}
 use Rattle.std.proofs.lemmas.List.{append-nil}
 use Rattle.crossbeam_channel.specs.Claims.{view}
@@ -14,7 +14,7 @@ use Rattle.wb_feed.specs.declared.worker.Done.{Done}
 use Rattle.wb_feed.specs.declared.workers.WorkFault.{WorkFault}
 use Rattle.wb_feed.specs.declared.workers.WorkFault.TheVariants.{Start, Memory}
 use Rattle.wb_feed.specs.Channel.{channel_view}
-use Rattle.wb_feed.specs.Served.{Serves, Served}
+use Rattle.wb_feed.specs.Served.{Served}
 use Rattle.wb_feed.specs.Sent.{HasArrived}
 use Rattle.wb_feed.specs.Feeding.{IsWith, IsMerged, HasFed}
 use Rattle.wb_feed.specs.Workers.{IsBack, Workers, nobody, worker, Worked, most_lost, TakesBack, ComesBack}
@@ -125,24 +125,6 @@ several_worked rows n m p rest back q desk d f f' g' g others (Ok all) next some
       parts = omega (arith, ap (λ (z : ChannelView). z.parts) merged.view, o.parts, ap (λ (z : ChannelView). z.parts) cut.view, ap (λ (z : ChannelView). z.parts) served.one_part, some);
       tells = t.4 ∙ (ap₂ (λ a b. a ++ b) k.tells o.tells ∙ sym (told-append k.log o.log));
     }
-
-pub one_worked : (p q : PassValue) (d : Done) (f f' g' g : Feeding) (fed r : Result Told WorkFault) → 1 < (view f.pass).parts
-    → IsWith f (channel_view ((view f.pass).parts - 1) (view f.pass).sends (view f.pass).sent (view f.pass).got) f' → Served p d.desk (view d.pass) d.told.replies.items d.failed
-    → ((view g'.pass).parts ≡ (view f'.pass).parts) × ((view g'.pass).got ≡ (view f'.pass).got) → IsMerged g' (view d.pass) g → ComesBack d fed q r
-    → IfOk r (λ told. Worked (λ log gots. Serves p log gots q) (view f.pass) (view g.pass) told.replies.items)
-one_worked p q d f f' g' g fed (Err e) some cut served same merged t = tt
-one_worked p q d f f' g' g fed (Ok all) some cut served same merged t =
-    let k = served.took t.1 in
-    let got = (view d.pass).got in
-    let done : Worked (λ log gots. Serves p log gots d.desk) (view f.pass) (view g.pass) d.told.replies.items = record {
-      log = k.log;
-      gots = got;
-      did = k.serves;
-      got = ap (λ (z : ChannelView). z.got) merged.view ∙ ap (λ l. l ++ got) (same.1 ∙ ap (λ (z : ChannelView). z.got) cut.view);
-      parts = omega (arith, ap (λ (z : ChannelView). z.parts) merged.view, same.0, ap (λ (z : ChannelView). z.parts) cut.view, ap (λ (z : ChannelView). z.parts) served.one_part, some);
-      tells = k.tells;
-    } in
-    subst (λ (x : PassValue × Told). Worked (λ log gots. Serves p log gots x.0) (view f.pass) (view g.pass) x.1.replies.items) (λ i. (sym t.0 i, sym t.2 i)) done
 
 pub one_kept : (p q : PassValue) (d : Done) (j : ChannelView) (fed r : Result Told WorkFault) → Served p d.desk j d.told.replies.items d.failed → ComesBack d fed q r → LosesAtMost 0 p q
 one_kept p q d j fed (Ok all) s t = subst (λ (x : PassValue). LosesAtMost 0 p x) (sym t.0) s.kept

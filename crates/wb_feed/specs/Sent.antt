@@ -11,6 +11,10 @@ abbrev pub IsNext : List DrawopValue → Message → Type 0
 IsNext sent (Take p d) = p ≡ length sent
 IsNext sent End = Unit {0}
 
+-- no part is cut off or taken back, and nothing more is received
+abbrev pub Stays : ChannelView → ChannelView → Type 0
+Stays h i = (i.parts ≡ h.parts) × (i.got ≡ h.got)
+
 -- what was sent are the first of the drawops arrived, and all of them while the channel is open
 pub record IsSent (h : ChannelView) (arrived : List DrawopValue) (going : Bool) : Type 0 where
   pub sends : h.sends ≡ true

@@ -5,7 +5,7 @@ use Rattle.wb_names.specs.Arrivals.{Outcome, Fresh, Known, Clashed, Left}
 use Rattle.wb_host.specs.Desks.{PassValue}
 use Rattle.wb_host.specs.declared.reply.Reply.{Reply}
 use Rattle.wb_host.specs.declared.reply.Reply.TheVariants.{New, Again, Clash}
-use Rattle.wb_feed.specs.Accepts.{Entry, LosesAtMost, Runs}
+use Rattle.wb_feed.specs.Accepts.{Accepts, Entry, LosesAtMost, Runs}
 use Rattle.wb_feed.specs.declared.channel.Message.{Message}
 use Rattle.wb_feed.specs.declared.channel.Message.TheVariants.{Take, End}
 use Rattle.wb_feed.specs.declared.channel.ChannelView.{ChannelView}
@@ -61,6 +61,10 @@ noted p (Fresh i) = (p, New i) ∷ []
 noted p (Known i) = (p, Again i) ∷ []
 noted p (Clashed i) = (p, Clash i) ∷ []
 noted p Left = []
+
+-- the desk p accepted the drawop of this position and is q, and what was noted of it comes behind what was told before
+abbrev pub NotesOne : PassValue → ℕ → DrawopValue → PassValue → List (ℕ × Reply) → List (ℕ × Reply) → Type 0
+NotesOne p position d q before after = (o : Outcome) × Accepts p d o q × (after ≡ before ++ noted position o)
 
 -- the replies of a log, each with its position
 abbrev pub told_of : List Spot → List (ℕ × Reply)

@@ -1,13 +1,16 @@
 -- Workers that each serve the channel.
-use Rattle.std.specs.Prelude.{◌≡◌, ◌⊎◌, ℕ, zero, suc, ◌*◌, ◌/◌, ◌<◌, false, if◌then◌else◌, nat_eq, List, [], ◌++◌, Result, Ok, Err}
+use Rattle.std.specs.Prelude.{◌≡◌, ◌⊎◌, ℕ, zero, suc, ◌*◌, ◌/◌, ◌<◌, false, if◌then◌else◌, nat_eq, List, [], ◌++◌, Result, Ok, Err, IfOk}
+use Rattle.crossbeam_channel.specs.Claims.{view}
 use Rattle.wb_host.specs.Desks.{PassValue, IsSamePass, IsSound, IsSplit, IsJoined}
 use Rattle.wb_host.specs.declared.reply.Reply.{Reply}
 use Rattle.wb_feed.specs.declared.channel.Message.{Message}
 use Rattle.wb_feed.specs.declared.channel.ChannelView.{ChannelView}
+use Rattle.wb_feed.specs.declared.sender.Feeding.{Feeding}
 use Rattle.wb_feed.specs.declared.worker.Done.{Done}
 use Rattle.wb_feed.specs.declared.worker.Told.{Told}
 use Rattle.wb_feed.specs.declared.workers.WorkFault.{WorkFault}
 use Rattle.wb_feed.specs.declared.workers.WorkFault.TheVariants.{Start, Memory}
+use Rattle.wb_feed.specs.Accepts.{LosesAtMost}
 use Rattle.wb_feed.specs.Served.{Spot, Serves, told_of}
 
 -- the desk took back another one
@@ -46,6 +49,14 @@ pub record Worked (Did : List Spot → List Message → Type 0) (g h : ChannelVi
   pub got : h.got ≡ g.got ++ gots
   pub parts : h.parts ≡ g.parts
   pub tells : told ≡ told_of log
+
+-- The workers did this, up to the desk q, and what they were told is r: f is how far the batch had got before, and g after
+abbrev pub HasWorked : (List Spot → List Message → PassValue → Type 0) → Feeding → Feeding → PassValue → Result Told WorkFault → Type 0
+HasWorked Did f g q r = IfOk r (λ told. Worked (λ log gots. Did log gots q) (view f.pass) (view g.pass) told.replies.items)
+
+-- the desk p, of which n workers had their rows, is q, and r was answered
+abbrev pub MayLose : {X : Type 0} → ℕ → PassValue → Result X WorkFault → PassValue → Type 0
+MayLose n p r q = LosesAtMost (most_lost (handed_out n p.free) r) p q
 
 -- the desk p took back a worker's, unless memory was refused, and is q; others is what the others were told, and the last what all were
 abbrev pub TakesBack : PassValue → Done → Result Told WorkFault → PassValue → Result Told WorkFault → Type 0

@@ -1,12 +1,12 @@
 //! A single worker: its thread has the desk itself, so nothing is split off, copied or joined.
-ghost use Rattle.std.specs.Prelude.{◌≡◌, ◌<◌, ◌^◌, IfOk};
+ghost use Rattle.std.specs.Prelude.{◌≡◌, ◌<◌, ◌^◌};
 ghost use Rattle.crossbeam_channel.specs.Claims.{view, IsSeatAt};
 ghost use Rattle.crossbeam_channel.specs.Ends.{sends_on, receives_on};
 ghost use Rattle.wb_host.specs.Desks.{IsPassOf};
 ghost use Rattle.wb_feed.specs.Accepts.{LosesAtMost};
 ghost use Rattle.wb_feed.specs.Served.{Serves};
 ghost use Rattle.wb_feed.specs.Feeding.{IsReady, IsMerged, HasFed};
-ghost use Rattle.wb_feed.specs.Workers.{Worked, ComesBack};
+ghost use Rattle.wb_feed.specs.Workers.{HasWorked, ComesBack};
 
 use crate::arrivals::Arrivals;
 use crate::gate::Gate;
@@ -58,8 +58,9 @@ fn work_with<'s, 'e: 's, R: Threads + Wait + Sync, S: Arrivals, G: Gate + Sync>(
     requires ready { IsReady 1 feeding.old }
     requires few { S.most_to_come arrivals.old < 2 ^ 32 }
     ensures kept { LosesAtMost 0 desk result.0 }
-    ensures fed { HasFed S.gives S.most_to_come S.has_ended feeding.old arrivals.old feeding.new arrivals.new result.1 }
-    ensures ok { IfOk result.1 (λ told. Worked (λ log gots. Serves desk log gots result.0) (view feeding.old.pass) (view feeding.new.pass) told.replies.items) }
+    ensures fed { HasFed S.gives S.most_to_come S.has_ended feeding.old arrivals.old
+        feeding.new arrivals.new result.1 }
+    ensures ok { HasWorked (Serves desk) feeding.old feeding.new result.0 result.1 }
 {
     let theirs = feeding.cut();
     let promise = WorkerServes {
@@ -113,8 +114,9 @@ pub(crate) fn run_one<'s, 'e: 's, R: Threads + Wait + Sync, S: Arrivals, G: Gate
     requires ready { IsReady 1 feeding.old }
     requires few { S.most_to_come arrivals.old < 2 ^ 32 }
     ensures kept { LosesAtMost 0 root.old root.new }
-    ensures fed { HasFed S.gives S.most_to_come S.has_ended feeding.old arrivals.old feeding.new arrivals.new result }
-    ensures ok { IfOk result (λ told. Worked (λ log gots. Serves root.old log gots root.new) (view feeding.old.pass) (view feeding.new.pass) told.replies.items) }
+    ensures fed { HasFed S.gives S.most_to_come S.has_ended feeding.old arrivals.old
+        feeding.new arrivals.new result }
+    ensures ok { HasWorked (Serves root.old) feeding.old feeding.new root.new result }
 {
     let Ok((_, stand_in)) = Board::open(place.alloc, 1) else {
         return Err(WorkFault::Memory);

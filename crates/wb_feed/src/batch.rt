@@ -9,7 +9,7 @@ ghost use Rattle.wb_feed.specs.Accepts.{Keeps, LosesAtMost, Accepts};
 ghost use Rattle.wb_feed.specs.Channel.{channel_view};
 ghost use Rattle.wb_feed.specs.Marks.{CountsOne, Files, IsPut, Settles};
 ghost use Rattle.wb_feed.specs.Feeding.{HasFed};
-ghost use Rattle.wb_feed.specs.Workers.{handed_out, most_lost};
+ghost use Rattle.wb_feed.specs.Workers.{handed_out, MayLose};
 ghost use Rattle.wb_feed.specs.Batches.{Takes, IsShared, IsSettled};
 
 use crate::arrivals::Arrivals;
@@ -41,7 +41,8 @@ impl Batch {
 
     /// Counts a reply.
     fn count(&mut self, reply: Reply)
-        requires room { self.old.fresh + self.old.again + self.old.clash + self.old.left + 1 < 2 ^ 32 }
+        requires room { self.old.fresh + self.old.again + self.old.clash + self.old.left + 1
+            < 2 ^ 32 }
         ensures { CountsOne self.old (outcome reply) self.new }
     {
         match reply {
@@ -79,11 +80,14 @@ pub fn run_batch<R: Threads + Wait + Sync, S: Arrivals, G: Gate + Sync>(
     ensures rows { LosesAtMost (handed_out workers desk.old.free) desk.old desk.new }
     ensures every_row { result ≢ Err FeedFault.Memory → LosesAtMost 0 desk.old desk.new }
     ensures workers { (result ≡ Err FeedFault.Workers) ↔ ((workers ≡ 0) ⊎ (8 < workers)) }
-    ensures untouched { (workers ≡ 0) ⊎ (8 < workers) → (desk.new ≡ desk.old) × (arrivals.new ≡ arrivals.old) }
-    ensures started { result ≡ Err FeedFault.Start → (arrivals.new ≡ arrivals.old) × LosesAtMost 0 desk.old desk.new }
+    ensures untouched { (workers ≡ 0) ⊎ (8 < workers)
+        → (desk.new ≡ desk.old) × (arrivals.new ≡ arrivals.old) }
+    ensures started { result ≡ Err FeedFault.Start
+        → (arrivals.new ≡ arrivals.old) × LosesAtMost 0 desk.old desk.new }
     ensures arrived { (given : List DrawopValue) × S.gives arrivals.old given arrivals.new }
     ensures given { IfOk result (λ r. S.gives arrivals.old r.1.items arrivals.new) }
-    ensures few { IfOk result (λ r. length r.1.items + S.most_to_come arrivals.new ≤ S.most_to_come arrivals.old) }
+    ensures few { IfOk result
+        (λ r. length r.1.items + S.most_to_come arrivals.new ≤ S.most_to_come arrivals.old) }
     ensures taken { IfOk result (λ r. Takes desk.old r.1.items workers desk.new r.0) }
     ensures shared { IfOk result (λ r. IsShared workers desk.old r.1.items desk.new) }
     ensures ended { OnOk result (S.has_ended arrivals.new ≡ true) }
@@ -124,11 +128,14 @@ fn take_batch<R: Threads + Wait + Sync, S: Arrivals, G: Gate + Sync>(
     requires desk { IsPassOf place.board.now desk.old }
     requires workers { (0 < place.workers) × (place.workers ≤ 8) }
     requires channel { receives_on place.end.now ≡ sends_on feeding.old.channel }
-    requires first { (view feeding.old.pass ≡ channel_view 16 true [] []) × (feeding.old.arrived.items ≡ []) × (feeding.old.going ≡ true) }
+    requires first { (view feeding.old.pass ≡ channel_view 16 true [] [])
+        × (feeding.old.arrived.items ≡ []) × (feeding.old.going ≡ true) }
     requires few { S.most_to_come arrivals.old < 2 ^ 32 }
-    ensures kept { LosesAtMost (most_lost (handed_out place.entry.workers desk.old.free) result) desk.old desk.new }
-    ensures fed { HasFed S.gives S.most_to_come S.has_ended feeding.old arrivals.old feeding.new arrivals.new result }
-    ensures settled { IfOk result (IsSettled place.entry.workers desk.old feeding.new.arrived.items desk.new) }
+    ensures kept { MayLose place.entry.workers desk.old result desk.new }
+    ensures fed { HasFed S.gives S.most_to_come S.has_ended feeding.old arrivals.old
+        feeding.new arrivals.new result }
+    ensures settled { IfOk result
+        (IsSettled place.entry.workers desk.old feeding.new.arrived.items desk.new) }
 {
     let rows = desk.rows_left() / place.workers;
     let told = run_all(place, desk, rows, feeding, arrivals)?;
@@ -206,8 +213,10 @@ fn take_one(
     drawop: &Drawop,
 ) -> Result<(), AllocError>
     requires desk { IsPassOf board.now desk.old }
-    requires room { batch.old.fresh + batch.old.again + batch.old.clash + batch.old.left + 1 < 2 ^ 32 }
-    ensures ok { OnOk result ((o : Outcome) × Accepts desk.old drawop.now o desk.new × CountsOne batch.old o batch.new) }
+    requires room { batch.old.fresh + batch.old.again + batch.old.clash + batch.old.left + 1
+        < 2 ^ 32 }
+    ensures ok { OnOk result
+        ((o : Outcome) × Accepts desk.old drawop.now o desk.new × CountsOne batch.old o batch.new) }
     ensures kept { LosesAtMost 0 desk.old desk.new }
 {
     match board.accept(desk, drawop) {

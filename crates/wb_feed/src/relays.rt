@@ -51,7 +51,9 @@ pub fn relay<R: Threads + Sync>(
     requires teller { IsPassOf board.now teller.old }
     requires hearer { IsPassOf board.now hearer.old }
     ensures kept { Keeps teller.old teller.new × Keeps hearer.old hearer.new }
-    ensures relayed { MatchResult result (Relayed teller.old hearer.old drawop.now teller.new hearer.new) (NotRelayed teller.old hearer.old drawop.now teller.new hearer.new) }
+    ensures relayed { MatchResult result
+        (Relayed teller.old hearer.old drawop.now teller.new hearer.new)
+        (NotRelayed teller.old hearer.old drawop.now teller.new hearer.new) }
 {
     let (told, ()) = join_mut(rt, &mut || tell(alloc, board, teller, drawop), &mut || ());
     hear(board, hearer, told)
@@ -83,7 +85,8 @@ fn tell(
 ) -> Result<(Reply, Desk), RelayFault>
     requires teller { IsPassOf board.now teller.old }
     ensures kept { Keeps teller.old teller.new }
-    ensures told { MatchResult result (λ t. TellsOf teller.old drawop.now teller.new t.0 t.1) (NotTold teller.old drawop.now teller.new) }
+    ensures told { MatchResult result (λ t. TellsOf teller.old drawop.now teller.new t.0 t.1)
+        (NotTold teller.old drawop.now teller.new) }
 {
     let reply = match board.accept(teller, drawop) {
         Ok(reply) => reply,

@@ -1,9 +1,9 @@
-//! The sender's part: arrivals are arrived one at a time, and sent as they are arrived.
+//! The sender's part: arrivals come one at a time, and are sent as they come.
 ghost use Rattle.std.specs.Prelude.{◌≡◌, ◌+◌, ◌-◌, ◌<◌, ◌^◌, true, false, [], OnOk, length};
 ghost use Rattle.crossbeam_channel.specs.Claims.{view, IsSeatAt};
 ghost use Rattle.crossbeam_channel.specs.Ends.{sends_on};
 ghost use Rattle.wb_feed.specs.Channel.{channel_view, sends, IsComplete};
-ghost use Rattle.wb_feed.specs.Sent.{IsNext, IsSent, NextArrives, HasArrived};
+ghost use Rattle.wb_feed.specs.Sent.{IsNext, IsSent, NextArrives, HasArrived, Stays};
 
 use crate::arrivals::Arrivals;
 use crate::channel::{ChannelPass, ChannelSender, Cut, Message, Sends, Whole};
@@ -42,7 +42,7 @@ impl Feeding {
         }
     }
 
-    /// NextArrives and sends all arrivals. After the first message that is handed back it sends none.
+    /// Takes and sends all arrivals. After the first message that is handed back it sends none.
     pub(crate) fn feed<R: Wait, S: Arrivals>(
         &mut self,
         rt: &R,
@@ -50,8 +50,9 @@ impl Feeding {
     ) -> Result<(), AllocError>
         requires few { length self.old.arrived.items + S.most_to_come arrivals.old < 2 ^ 32 }
         ensures channel { self.new.channel ≡ self.old.channel }
-        ensures same { ((view self.new.pass).parts ≡ (view self.old.pass).parts) × ((view self.new.pass).got ≡ (view self.old.pass).got) }
-        ensures arrived { HasArrived S.gives S.most_to_come arrivals.old self.old.arrived.items arrivals.new self.new.arrived.items }
+        ensures same { Stays (view self.old.pass) (view self.new.pass) }
+        ensures arrived { HasArrived S.gives S.most_to_come arrivals.old self.old.arrived.items
+            arrivals.new self.new.arrived.items }
         ensures ended { OnOk result (S.has_ended arrivals.new ≡ true) }
     {
         while let Some(message) = next_message(arrivals, &mut self.arrived)? {
@@ -87,8 +88,10 @@ impl Feeding {
     /// Cuts off a pass for a worker.
     pub(crate) fn cut(&mut self) -> ChannelPass
         requires { 1 < (view self.old.pass).parts }
-        ensures theirs { IsSeatAt (sends_on self.old.channel) result × (view result ≡ channel_view 1 false [] []) }
-        ensures left { let v = view self.old.pass in IsWith self.old (channel_view (v.parts - 1) v.sends v.sent v.got) self.new }
+        ensures theirs { IsSeatAt (sends_on self.old.channel) result
+            × (view result ≡ channel_view 1 false [] []) }
+        ensures left { let v = view self.old.pass in
+            IsWith self.old (channel_view (v.parts - 1) v.sends v.sent v.got) self.new }
     {
         self.channel.another::<Cut>(&mut self.pass)
     }
@@ -112,13 +115,14 @@ impl Feeding {
     }
 }
 
-/// NextArrives one arrival, once there is room for it, and answers the message that it becomes.
+/// Takes one arrival, once there is room for it, and answers the message that it becomes.
 fn next_message<S: Arrivals>(
     arrivals: &mut S,
     arrived: &mut Vec<Drawop>,
 ) -> Result<Option<Message>, AllocError>
     requires { length arrived.old.items + S.most_to_come arrivals.old < 2 ^ 32 }
-    ensures { NextArrives S.gives S.most_to_come S.has_ended arrivals.old arrived.old.items arrivals.new arrived.new.items result }
+    ensures { NextArrives S.gives S.most_to_come S.has_ended arrivals.old arrived.old.items
+        arrivals.new arrived.new.items result }
 {
     arrived.reserve(1)?;
     let position = arrived.len() as u32;
@@ -141,7 +145,8 @@ fn send_one<R: Wait>(
     requires sender { (view pass.old).sends ≡ true }
     requires next { going ≡ true → IsNext (view pass.old).sent message }
     ensures seat { IsSeatAt (sends_on channel.now) pass.new }
-    ensures sent { result ≡ true → (going ≡ true) × (view pass.new ≡ sends (view pass.old) message) }
+    ensures sent { result ≡ true
+        → (going ≡ true) × (view pass.new ≡ sends (view pass.old) message) }
     ensures closed { result ≡ false → view pass.new ≡ view pass.old }
 {
     if !going {

@@ -2,12 +2,11 @@
 ghost use Rattle.std.specs.Prelude.{◌≡◌, ◌<◌, ◌⊎◌, ◌++◌, false, [], OnOk, IfSome, IfNone};
 ghost use Rattle.crossbeam_channel.specs.Claims.{view, IsSeatAt};
 ghost use Rattle.crossbeam_channel.specs.Ends.{receives_on};
-ghost use Rattle.wb_names.specs.Arrivals.{Outcome};
 ghost use Rattle.wb_host.specs.Desks.{IsPassOf};
 ghost use Rattle.wb_feed.specs.declared.channel.Message.TheVariants.{Take, End};
-ghost use Rattle.wb_feed.specs.Accepts.{LosesAtMost, Accepts};
+ghost use Rattle.wb_feed.specs.Accepts.{LosesAtMost};
 ghost use Rattle.wb_feed.specs.Channel.{channel_view, receives, Follows};
-ghost use Rattle.wb_feed.specs.Served.{noted, Served};
+ghost use Rattle.wb_feed.specs.Served.{NotesOne, Served};
 
 use crate::channel::{ChannelPass, ChannelReceiver, Message, Receives};
 use crate::gate::Gate;
@@ -37,7 +36,8 @@ impl Told {
 
     /// What both were told.
     pub(crate) fn and(self, other: Told) -> Result<Told, AllocError>
-        ensures { IfOk result (λ both. both.replies.items ≡ self.replies.items ++ other.replies.items) }
+        ensures { IfOk result
+            (λ both. both.replies.items ≡ self.replies.items ++ other.replies.items) }
     {
         let mut other = other;
         let mut replies = self.replies;
@@ -66,7 +66,8 @@ fn accept_one(
     drawop: &Drawop,
 ) -> Result<(), AllocError>
     requires desk { IsPassOf board.now desk.old }
-    ensures ok { OnOk result ((o : Outcome) × Accepts desk.old drawop.now o desk.new × (told.new.replies.items ≡ told.old.replies.items ++ noted position o)) }
+    ensures ok { OnOk result (NotesOne desk.old position drawop.now desk.new
+        told.old.replies.items told.new.replies.items) }
     ensures kept { LosesAtMost 0 desk.old desk.new }
 {
     told.replies.reserve(1)?;
@@ -89,8 +90,10 @@ fn next_arrival<R: Wait>(
     requires seat { IsSeatAt (receives_on channel.now) pass.old }
     requires part { 0 < (view pass.old).parts }
     ensures seat { IsSeatAt (receives_on channel.now) pass.new }
-    ensures some { IfSome result (λ r. (view pass.new ≡ receives (view pass.old) (Take r.0 r.1)) × Follows (view pass.old).got (Take r.0 r.1)) }
-    ensures none { IfNone result ((view pass.new ≡ view pass.old) ⊎ (view pass.new ≡ receives (view pass.old) End)) }
+    ensures some { IfSome result (λ r. (view pass.new ≡ receives (view pass.old) (Take r.0 r.1))
+        × Follows (view pass.old).got (Take r.0 r.1)) }
+    ensures none { IfNone result ((view pass.new ≡ view pass.old)
+        ⊎ (view pass.new ≡ receives (view pass.old) End)) }
 {
     let Ok(message) = channel.recv_as::<Receives, R>(rt, pass) else {
         return None;
@@ -113,7 +116,8 @@ fn take_turn<R, G: Gate>(
 ) -> bool
     requires desk { IsPassOf place.board.now desk.old }
     ensures kept { LosesAtMost 0 desk.old desk.new }
-    ensures took { result ≡ false → (failed ≡ false) × ((o : Outcome) × Accepts desk.old arrival.1 o desk.new × (told.new.replies.items ≡ told.old.replies.items ++ noted arrival.0 o)) }
+    ensures took { result ≡ false → (failed ≡ false) × NotesOne desk.old arrival.0 arrival.1 desk.new
+        told.old.replies.items told.new.replies.items }
 {
     if failed {
         return true;
@@ -136,9 +140,11 @@ pub(crate) fn serve<R: Wait, G: Gate>(
     worker: u32,
 ) -> Done
     requires desk { IsPassOf place.board.now desk }
-    requires seat { IsSeatAt (receives_on place.end.now) pass × (view pass ≡ channel_view 1 false [] []) }
+    requires seat { IsSeatAt (receives_on place.end.now) pass
+        × (view pass ≡ channel_view 1 false [] []) }
     ensures seat { IsSeatAt (receives_on place.entry.end.now) result.pass }
-    ensures served { Served desk result.desk (view result.pass) result.told.replies.items result.failed }
+    ensures served { Served desk result.desk (view result.pass) result.told.replies.items
+        result.failed }
 {
     let mut desk = desk;
     let mut pass = pass;

@@ -6,7 +6,8 @@ ghost use Rattle.crossbeam_channel.specs.Ends.{sends_on, receives_on};
 ghost use Rattle.wb_host.specs.Desks.{IsPassOf};
 ghost use Rattle.wb_feed.specs.Accepts.{LosesAtMost};
 ghost use Rattle.wb_feed.specs.Feeding.{IsReady, IsMerged, HasFed};
-ghost use Rattle.wb_feed.specs.Workers.{Workers, Work, Worked, most_lost, handed_out, TakesBack};
+ghost use Rattle.wb_feed.specs.Sent.{Stays};
+ghost use Rattle.wb_feed.specs.Workers.{Workers, Work, HasWorked, MayLose, most_lost, TakesBack};
 
 use crate::alone::run_one;
 use crate::arrivals::Arrivals;
@@ -53,8 +54,9 @@ pub(crate) fn feed_all<R: Wait, S: Arrivals, G>(
 ) -> Result<Told, WorkFault>
     requires ready { IsReady 0 feeding.old }
     requires few { S.most_to_come arrivals.old < 2 ^ 32 }
-    ensures fed { HasFed S.gives S.most_to_come S.has_ended feeding.old arrivals.old feeding.new arrivals.new result }
-    ensures same { ((view feeding.new.pass).parts ≡ (view feeding.old.pass).parts) × ((view feeding.new.pass).got ≡ (view feeding.old.pass).got) }
+    ensures fed { HasFed S.gives S.most_to_come S.has_ended feeding.old arrivals.old
+        feeding.new arrivals.new result }
+    ensures same { Stays (view feeding.old.pass) (view feeding.new.pass) }
     ensures none { IfOk result (λ told. told.replies.items ≡ []) }
 {
     let fed = feeding.feed(place.rt, arrivals);
@@ -117,8 +119,9 @@ fn run_several<'s, 'e: 's, R: Threads + Wait + Sync, S: Arrivals, G: Gate + Sync
     requires ready { IsReady left feeding.old }
     requires few { S.most_to_come arrivals.old < 2 ^ 32 }
     ensures kept { LosesAtMost (most_lost (rows * left) result) root.old root.new }
-    ensures fed { HasFed S.gives S.most_to_come S.has_ended feeding.old arrivals.old feeding.new arrivals.new result }
-    ensures ok { IfOk result (λ told. Worked (λ log gots. Workers rows left root.old log gots root.new) (view feeding.old.pass) (view feeding.new.pass) told.replies.items) }
+    ensures fed { HasFed S.gives S.most_to_come S.has_ended feeding.old arrivals.old
+        feeding.new arrivals.new result }
+    ensures ok { HasWorked (Workers rows left root.old) feeding.old feeding.new root.new result }
 {
     if left == 0 {
         return feed_all(place, feeding, arrivals);
@@ -185,9 +188,10 @@ fn run_some<'s, 'e: 's, R: Threads + Wait + Sync, S: Arrivals, G: Gate + Sync>(
     requires channel { receives_on place.end.now ≡ sends_on feeding.old.channel }
     requires ready { IsReady place.workers feeding.old }
     requires few { S.most_to_come arrivals.old < 2 ^ 32 }
-    ensures kept { LosesAtMost (most_lost (handed_out place.entry.workers root.old.free) result) root.old root.new }
-    ensures fed { HasFed S.gives S.most_to_come S.has_ended feeding.old arrivals.old feeding.new arrivals.new result }
-    ensures ok { IfOk result (λ told. Worked (λ log gots. Work place.entry.workers root.old log gots root.new) (view feeding.old.pass) (view feeding.new.pass) told.replies.items) }
+    ensures kept { MayLose place.entry.workers root.old result root.new }
+    ensures fed { HasFed S.gives S.most_to_come S.has_ended feeding.old arrivals.old
+        feeding.new arrivals.new result }
+    ensures ok { HasWorked (Work place.entry.workers root.old) feeding.old feeding.new root.new result }
 {
     if place.workers == 1 {
         return run_one(scope, place, root, feeding, arrivals);
@@ -210,19 +214,27 @@ pub(crate) fn run_all<R: Threads + Wait + Sync, S: Arrivals, G: Gate + Sync>(
     requires channel { receives_on place.end.now ≡ sends_on feeding.old.channel }
     requires ready { IsReady place.workers feeding.old }
     requires few { S.most_to_come arrivals.old < 2 ^ 32 }
-    ensures kept { LosesAtMost (most_lost (handed_out place.entry.workers root.old.free) result) root.old root.new }
-    ensures fed { HasFed S.gives S.most_to_come S.has_ended feeding.old arrivals.old feeding.new arrivals.new result }
-    ensures ok { IfOk result (λ told. Worked (λ log gots. Work place.entry.workers root.old log gots root.new) (view feeding.old.pass) (view feeding.new.pass) told.replies.items) }
+    ensures kept { MayLose place.entry.workers root.old result root.new }
+    ensures fed { HasFed S.gives S.most_to_come S.has_ended feeding.old arrivals.old
+        feeding.new arrivals.new result }
+    ensures ok { HasWorked (Work place.entry.workers root.old) feeding.old feeding.new root.new result }
 {
     let (root, feeding, arrivals, told) = thread::scope(
         thread::scope_env(),
         place.rt,
         move |scope| -> (&mut Desk, &mut Feeding, &mut S, Result<Told, WorkFault>)
-            requires { IsSync R.row × IsSync G.row × IsPassOf place.board.now root.now × ((0 < place.workers) × (place.workers ≤ 8)) × (rows ≡ root.now.free / place.workers) × (receives_on place.end.now ≡ sends_on feeding.now.channel) × IsReady place.workers feeding.now × (S.most_to_come arrivals.now < 2 ^ 32) }
-            ensures names { (result.0.ghost_name ≡ root.entry.ghost_name) × (result.1.ghost_name ≡ feeding.entry.ghost_name) × (result.2.ghost_name ≡ arrivals.entry.ghost_name) }
-            ensures kept { LosesAtMost (most_lost (handed_out place.entry.workers root.entry.now.free) result.3) root.entry.now result.0.now }
-            ensures fed { HasFed S.gives S.most_to_come S.has_ended feeding.entry.now arrivals.entry.now result.1.now result.2.now result.3 }
-            ensures ok { IfOk result.3 (λ told. Worked (λ log gots. Work place.entry.workers root.entry.now log gots result.0.now) (view feeding.entry.now.pass) (view result.1.now.pass) told.replies.items) }
+            requires { IsSync R.row × IsSync G.row × IsPassOf place.board.now root.now
+                × ((0 < place.workers) × (place.workers ≤ 8)) × (rows ≡ root.now.free / place.workers)
+                × (receives_on place.end.now ≡ sends_on feeding.now.channel)
+                × IsReady place.workers feeding.now × (S.most_to_come arrivals.now < 2 ^ 32) }
+            ensures names { (result.0.ghost_name ≡ root.entry.ghost_name)
+                × (result.1.ghost_name ≡ feeding.entry.ghost_name)
+                × (result.2.ghost_name ≡ arrivals.entry.ghost_name) }
+            ensures kept { MayLose place.entry.workers root.entry.now result.3 result.0.now }
+            ensures fed { HasFed S.gives S.most_to_come S.has_ended feeding.entry.now arrivals.entry.now
+                result.1.now result.2.now result.3 }
+            ensures ok { HasWorked (Work place.entry.workers root.entry.now) feeding.entry.now result.1.now
+                result.0.now result.3 }
         {
             let told = run_some(scope, place, root, rows, feeding, arrivals);
             (root, feeding, arrivals, told)

@@ -1,12 +1,11 @@
 -- The first hole that begins after a place, found page by page.
-use Rattle.std.proofs.Common.{◌≡◌, ◌≤◌, ℕ, Bool, true, false, cond, List, [], ◌∷◌, refl, ap, ◌∙◌, sym, Option, None, Some, true≢false, arith, length, ◌+◌, ◌<◌, add-one, drop, drop-cons, get_or}
+use Rattle.std.proofs.Common.{◌≡◌, ℕ, Bool, true, false, cond, List, [], ◌∷◌, refl, ap, ◌∙◌, sym, Option, None, Some, true≢false, arith, length, ◌+◌, ◌<◌, add-one, drop, drop-cons, get_or}
 use Rattle.std.specs.Prelude.{map, is_some}
 use Rattle.std.specs.List.{find, flat_map}
 use Rattle.std.specs.Option.{option_or}
 use Rattle.std.specs.Ordering.{is_lt, ordering_reverse, ordering_then}
 use Rattle.std.specs.declared.cmp.Ordering.{Ordering}
 use Rattle.std.specs.declared.cmp.Ordering.TheVariants.{Less}
-use Rattle.std.proofs.lemmas.List.{drop_all}
 use Rattle.std.proofs.lemmas.List.Folds.{find-append}
 use Rattle.std.proofs.lemmas.Grind.{common_steps}
 use Rattle.wb_names.specs.Ascending.{AreMarks}
@@ -64,6 +63,3 @@ module _ (p : Hole → Bool) (holes : PageId → List Hole) where
 -- the pages from an index on
 pub page_next : (pages : List PageId) (i : ℕ) (d : PageId) → i < length pages → drop i pages ≡ get_or pages i d ∷ drop (i + 1) pages
 page_next pages i d lt = rw (add-one, drop-cons pages i d)
-
-pub past_all : (pages : List PageId) (i : ℕ) → length pages ≤ i → drop i pages ≡ []
-past_all pages i le = drop_all i pages le

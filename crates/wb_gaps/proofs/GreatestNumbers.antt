@@ -1,6 +1,6 @@
 -- The walk over ascending runs that keeps the last one of each source.
 use Rattle.std.proofs.Common.{◌≡◌, ℕ, suc, ◌<◌, ◌≤◌, true, false, cond, List, [], ◌∷◌, ◌++◌, append_assoc, Option, None, Some, length, refl, ap, ◌∙◌, sym, subst, arith, ◌⊎◌, inl, inr, ⊎_elim, eqb-true}
-use Rattle.std.proofs.lemmas.Bool.{cases_lt}
+use Rattle.std.proofs.lemmas.Bool.{cases_eq}
 use Rattle.std.specs.Prelude.{◌≢◌, All, AllPairs, MatchOption, nat_eq}
 use Rattle.std.proofs.lemmas.Bool.Decides.{nat_tests}
 use Rattle.std.proofs.lemmas.List.Elements.{All-nil, All-cons, All-head, All-tail, All-weaker, All-contains}
@@ -14,9 +14,6 @@ use Rattle.wb_gaps.specs.Greatest.{IsGreatest}
 use Rattle.wb_gaps.specs.Runs.{AreRuns, InRuns, IsBelow}
 use Rattle.wb_gaps.specs.Walk.{ahead}
 use Rattle.wb_gaps.specs.declared.run.Run.{Run}
-
-pub same_or_not : (a b : ℕ) → (a ≡ b) ⊎ (a ≢ b)
-same_or_not a b = ⊎_elim (λ (lt : a < b). inr (omega arith)) (λ (le : b ≤ a). ⊎_elim (λ (lt : b < a). inr (omega arith)) (λ (ge : a ≤ b). inl (omega arith)) (cases_lt b a)) (cases_lt a b)
 
 -- ---- the first of some runs, and the later ones
 
@@ -159,7 +156,7 @@ greatest_kept x xs marks s full apart g = ⊎_elim
           (number_cases x xs s n h);
       reached = ⊎_elim (λ (e : mark_of marks s ≡ 0). inl e) (λ (c : InRuns xs s (mark_of marks s)). inr (number_there x xs s _ c)) g.reached;
     }))
-    (same_or_not x.source s)
+    (cases_eq x.source s)
 
 greatest_last : (xs : List Run) (s : ℕ) → AreRuns xs → IsGreatest (InRuns xs s) (mark_of (last_marks xs) s)
 greatest_last [] s runs = record { bound = λ n h. absurd (number_none s n h); reached = inl refl }

@@ -4,7 +4,7 @@ use Rattle.std.specs.Prelude.{◌≢◌, Contains, IsSome, nat_eq, nat_le, not, 
 use Rattle.std.specs.BTreeMap.Range.{IsInRange, IsEntryInRange}
 use Rattle.std.specs.Ordering.{is_gt, is_lt}
 use Rattle.std.specs.declared.ops.Bound.TheVariants.{Included, Unbounded}
-use Rattle.std.proofs.lemmas.Bool.{cases_lt, cases_eq}
+use Rattle.std.proofs.lemmas.Bool.{and_from, cases_lt, cases_eq, or_left, or_right}
 use Rattle.std.specs.BTreeMap.{BTreeMap, IsOrdered, Updates, UpdatesBy, get}
 use Rattle.std.specs.Cmp.{nat_eq_equiv, eq_by_cmp_equiv}
 use Rattle.std.proofs.lemmas.Bool.Decides.{nat_tests}
@@ -26,18 +26,6 @@ use Rattle.wb_gaps.proofs.GreatestNumbers.{one_greatest}
 use Rattle.wb_gaps.proofs.HeldNames.{held-by, held-from}
 use Rattle.wb_gaps.proofs.Reports.{greatest_held}
 use Rattle.wb_gaps.proofs.Starts.{start_total, start_is, start_not, start_parts, between, up_to, up_to_is, from_is}
-
-or_left : (a b : Bool) → a ≡ true → (a || b) ≡ true
-or_left true b h = refl
-or_left false b h = absurd (true≢false (sym h))
-
-or_right : (a b : Bool) → b ≡ true → (a || b) ≡ true
-or_right true b h = refl
-or_right false b h = h
-
-and_is : (a b : Bool) → a ≡ true → b ≡ true → (a && b) ≡ true
-and_is true b g h = h
-and_is false b g h = absurd (true≢false (sym g))
 
 or_bits : (a b c : Bool) → (a ≡ true → (b ≡ true) ⊎ (c ≡ true)) → (b ≡ true → a ≡ true) → (c ≡ true → a ≡ true) → a ≡ (b || c)
 or_bits true true c f g h = refl
@@ -86,7 +74,7 @@ module _ (name : NameValue) where
     pub name_covered : Covers (last_at m.entries name.page name.source) name.seq → holds (ranges_of m.entries) name ≡ true
     name_covered c =
         entry_found m.entries (start name.page name.source c.0, c.1) (Contains-from_lookup start_is (start name.page name.source c.0) c.1 m.entries c.2)
-        (and_is _ _ (and_is _ _ (page_tested name.page) (nat_eq_equiv.refl name.source)) (and_is _ _ (le_tested c.0 name.seq c.3) (le_tested name.seq c.1 c.4)))
+        (and_from _ _ (and_from _ _ (page_tested name.page) (nat_eq_equiv.refl name.source)) (and_from _ _ (le_tested c.0 name.seq c.3) (le_tested name.seq c.1 c.4)))
 
 apart_as : (f g : ℕ → Option ℕ) → ((j : ℕ) → g j ≡ f j) → AreApart f → AreApart g
 apart_as f g is a = grind (arith, common_steps, nat_tests)
@@ -103,7 +91,7 @@ module _ (m n : BTreeMap Start ℕ) (page : PageId) (source x s e : ℕ) (low : 
   elsewhere p t unlike j = others (start p t j) (λ f. unlike (sym (ap (λ (k : Start). k.page) f), sym (ap (λ (k : Start). k.source) f))) (λ f. unlike (sym (ap (λ (k : Start). k.page) f), sym (ap (λ (k : Start). k.source) f)))
 
   place : (p : PageId) (t : ℕ) → ((p ≡ page) × (t ≡ source)) ⊎ ((p ≡ page) × (t ≡ source) → ⊥)
-  place p t = grind (arith, common_steps, nat_tests, and_is, page_tested, eqb-true, nat_eq_equiv, and_both, same_page-is)
+  place p t = grind (arith, common_steps, nat_tests, and_from, page_tested, eqb-true, nat_eq_equiv, and_both, same_page-is)
 
   apart_after : (p : PageId) (t : ℕ) → AreApart (last_at n.entries p t)
   apart_after p t = ⊎_elim
@@ -124,7 +112,7 @@ module _ (m n : BTreeMap Start ℕ) (page : PageId) (source x s e : ℕ) (low : 
   name_as o f g = name_parts o.source source o.page page o.seq o.seq g f refl
 
   name_tested : same_name name name ≡ true
-  name_tested = and_is _ _ (and_is _ _ (nat_eq_equiv.refl source) (page_tested page)) (nat_eq_equiv.refl x)
+  name_tested = and_from _ _ (and_from _ _ (nat_eq_equiv.refl source) (page_tested page)) (nat_eq_equiv.refl x)
 
   pub holds_too : IsOrdered start_cmp m → IsOrdered start_cmp n → HoldsToo (ranges_of m.entries) name (ranges_of n.entries)
   holds_too om on o = or_bits (holds (ranges_of n.entries) o) (same_name name o) (holds (ranges_of m.entries) o)

@@ -1,7 +1,7 @@
 -- What the marks of two ascending lists are, taken together.
 use Rattle.std.proofs.Common.{◌≡◌, ℕ, suc, ◌+◌, ◌<◌, ◌≤◌, Bool, true, cond, max, List, [], ◌∷◌, length, refl, ap, ◌∙◌, sym, subst, arith, ⊎_elim}
 use Rattle.std.specs.Prelude.{◌≢◌, filter, nat_eq, nat_lt}
-use Rattle.std.proofs.lemmas.Bool.{cases_lt}
+use Rattle.std.proofs.lemmas.Bool.{cases_eq, cases_lt}
 use Rattle.std.proofs.lemmas.Bool.Decides.{nat_tests}
 use Rattle.std.proofs.lemmas.List.Elements.{All-cons, All-head, All-tail}
 use Rattle.std.proofs.lemmas.List.Sums.{length-filter, count_by-le-length}
@@ -13,7 +13,6 @@ use Rattle.wb_names.specs.Marks.{mark_of, IsMerge}
 use Rattle.wb_names.proofs.MarkLists.{Above, Rises, Positive, rest_above, rest_rises, here, there, none_above, above_less}
 use Rattle.wb_gaps.specs.Merging.{source_count}
 use Rattle.wb_gaps.specs.Joining.{greater, joined, joined_at}
-use Rattle.wb_gaps.proofs.GreatestNumbers.{same_or_not}
 
 -- the marks of a list whose sources another list lacks
 abbrev lacking : List MarkValue → List MarkValue → ℕ
@@ -83,7 +82,7 @@ merges_first m n ms ns marks lt um un j = record {
       let b = there m ms s other in
       let c = j.highs s in
       omega arith)
-      (same_or_not m.source s);
+      (cases_eq m.source s);
   above = λ b p q. All-cons (λ (k : MarkValue). b < k.source) m marks (All-head (λ (k : MarkValue). b < k.source) m ms p) (j.above b (All-tail (λ (k : MarkValue). b < k.source) m ms p) q);
   rises = AllPairs-cons (λ (k l : MarkValue). k.source < l.source) m marks (j.above m.source (rest_above m ms um) (below m n ns lt un)) j.rises;
   positive = λ pm pn. All-cons (λ (k : MarkValue). 1 ≤ k.high) m marks (All-head (λ (k : MarkValue). 1 ≤ k.high) m ms pm) (j.positive (All-tail (λ (k : MarkValue). 1 ≤ k.high) m ms pm) pn);
@@ -118,7 +117,7 @@ joins_both m n ms ns marks same um un pos j =
           let c = there n ns s (λ (e : n.source ≡ s). other (same ∙ e)) in
           let d = j.highs s in
           omega arith)
-          (same_or_not m.source s);
+          (cases_eq m.source s);
       above = λ b p q. All-cons (λ (k : MarkValue). b < k.source) (greater m n) marks (All-head (λ (k : MarkValue). b < k.source) m ms p) (j.above b (All-tail (λ (k : MarkValue). b < k.source) m ms p) (All-tail (λ (k : MarkValue). b < k.source) n ns q));
       rises = AllPairs-cons (λ (k l : MarkValue). k.source < l.source) (greater m n) marks (j.above m.source (rest_above m ms um) low) j.rises;
       positive = λ pm pn. All-cons (λ (k : MarkValue). 1 ≤ k.high) (greater m n) marks (omega arith) (j.positive (All-tail (λ (k : MarkValue). 1 ≤ k.high) m ms pm) (All-tail (λ (k : MarkValue). 1 ≤ k.high) n ns pn));

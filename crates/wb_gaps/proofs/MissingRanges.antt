@@ -20,7 +20,7 @@ use Rattle.wb_gaps.specs.Answers.{sources_of, onto_gaps, missing_before, missing
 use Rattle.wb_gaps.specs.Gaps.{Covers, IsApart}
 use Rattle.wb_gaps.specs.Laws.{GapsOfPage, OnlyGaps}
 use Rattle.wb_gaps.proofs.HeldNames.{held-from, held-not}
-use Rattle.wb_gaps.proofs.OneGaps.{one_gaps}
+use Rattle.wb_gaps.proofs.OneGaps.{apart_tail, covers_later, one_gaps}
 use Rattle.wb_gaps.proofs.Reports.{greatest_held}
 use Rattle.wb_gaps.proofs.PageAnswers.{has_source}
 use Rattle.wb_gaps.proofs.Sorting.{sorted_rises, Contains-sorted}
@@ -42,17 +42,8 @@ record Ranges (P : ℕ → ℕ → Type 0) (gaps : List Gap) : Type 0 where
 in_first : (g : Gap) (gaps : List Gap) (s m : ℕ) → Within g s m → Covers (g ∷ gaps) s m
 in_first g gaps s m w = (g, Contains-here g gaps, w.0, w.1, w.2)
 
-in_later : (g : Gap) (gaps : List Gap) (s m : ℕ) → Covers gaps s m → Covers (g ∷ gaps) s m
-in_later g gaps s m c = (c.0, Contains-there g c.0 gaps c.1, c.2, c.3, c.4)
-
 in_cases : (g : Gap) (gaps : List Gap) (s m : ℕ) → Covers (g ∷ gaps) s m → Within g s m ⊎ Covers gaps s m
 in_cases g gaps s m c = grind (arith, common_steps, Contains-cases)
-
-in_none : (s m : ℕ) → Covers [] s m → ⊥
-in_none s m c = Contains-none c.0 c.1
-
-apart_tail : (g : Gap) (gaps : List Gap) → AllPairs IsApart (g ∷ gaps) → AllPairs IsApart gaps
-apart_tail g gaps a i j d ij h = a (suc i) (suc j) d (omega arith) (omega arith)
 
 apart_head : (g : Gap) (gaps : List Gap) → AllPairs IsApart (g ∷ gaps) → All (IsApart g) gaps
 apart_head g gaps a k d h = a 0 (suc k) d (omega arith) (omega arith)
@@ -77,7 +68,7 @@ alone_at source n s m e = let a = e.1 in (sym e.0, omega arith, omega arith)
 
 -- a range by itself, before others
 alone_ranges : (P : ℕ → ℕ → Type 0) (source n : ℕ) (gaps : List Gap) → Ranges P gaps → All (IsApart (alone source n)) gaps → Ranges (With source n P) (alone source n ∷ gaps)
-alone_ranges P source n gaps r a = grind (arith, common_steps, in_first, in_later, in_cases, at_alone, alone_at, All-cons, AllPairs-cons)
+alone_ranges P source n gaps r a = grind (arith, common_steps, in_first, covers_later, in_cases, at_alone, alone_at, All-cons, AllPairs-cons)
 
 -- a range that begins one number earlier
 grown_apart : (source n : ℕ) (g h : Gap) → g.source ≡ source → IsApart g h → IsApart (grown source n g) h
@@ -101,11 +92,11 @@ grown_ranges P source n g gaps r e f =
       covers = λ s m. (
         λ c. ⊎_elim
             (λ (w : Within (grown source n g) s m). ⊎_elim (λ (new : (s ≡ source) × (m ≡ n)). inl new) (λ (old : Within g s m). inr ((r.covers s m).0 (in_first g gaps s m old))) (from_grown source n g s m e f w))
-            (λ (d : Covers gaps s m). inr ((r.covers s m).0 (in_later g gaps s m d)))
+            (λ (d : Covers gaps s m). inr ((r.covers s m).0 (covers_later g gaps s m d)))
             (in_cases (grown source n g) gaps s m c),
         λ w. ⊎_elim
             (λ (new : (s ≡ source) × (m ≡ n)). in_first (grown source n g) gaps s m (grown_new source n g s m f fills new))
-            (λ (p : P s m). ⊎_elim (λ (old : Within g s m). in_first (grown source n g) gaps s m (grown_at source n g s m e f old)) (λ (d : Covers gaps s m). in_later (grown source n g) gaps s m d) (in_cases g gaps s m ((r.covers s m).1 p)))
+            (λ (p : P s m). ⊎_elim (λ (old : Within g s m). in_first (grown source n g) gaps s m (grown_at source n g s m e f old)) (λ (d : Covers gaps s m). covers_later (grown source n g) gaps s m d) (in_cases g gaps s m ((r.covers s m).1 p)))
             w,
       );
     }
@@ -227,7 +218,7 @@ module _ (held : ℕ → ℕ → Bool) (top : ℕ → ℕ) where
   sources_ranges [] rising = record {
     filled = λ k d lt. absurd (omega arith);
     apart = λ i j d ij lt. absurd (omega arith);
-    covers = λ s m. (λ c. absurd (in_none s m c), λ l. absurd (Contains-none s l.0));
+    covers = λ s m. (λ c. absurd (Contains-none c.0 c.1), λ l. absurd (Contains-none s l.0));
   }
   sources_ranges (source ∷ sources) rising =
       let rest = sources_ranges sources (sorted_tail nat_cmp source sources rising) in

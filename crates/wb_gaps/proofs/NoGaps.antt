@@ -5,7 +5,6 @@ use Rattle.wb_names.specs.Values.{NameValue, DrawopValue}
 use Rattle.wb_names.specs.History.{IsHeld, name_of, is_of}
 use Rattle.wb_names.specs.declared.name.PageId.{PageId}
 use Rattle.wb_names.proofs.Listings.{Contains-none}
-use Rattle.wb_gaps.specs.Gaps.{Covers}
 use Rattle.wb_gaps.specs.Laws.{HoldsUpToReport, HoldTheSame}
 use Rattle.wb_gaps.proofs.Reports.{held_here, held_there, held_cases, is_of-here, greatest_held}
 
@@ -20,16 +19,12 @@ held_or_not : (history : List DrawopValue) (page : PageId) (source n : ℕ) → 
 held_or_not [] page source n = inr (λ h. let less : h.0 < 0 = h.2 in omega arith)
 held_or_not (d ∷ history) page source n = held_step d history page source n (is_of page source d) (nat_eq d.name.seq n) refl refl (held_or_not history page source n)
 
--- no range covers anything where there is none
-covers_none : (source n : ℕ) → Covers [] source n → ⊥
-covers_none source n c = Contains-none c.0 c.1
-
 pub holds_up_to_report : HoldsUpToReport
 holds_up_to_report history page marks report gaps source n pos =
     let top = report.1 source in (
       λ held. let bound = (greatest_held history page source).bound n held in omega arith,
       λ within. ⊎_elim (λ (h : IsHeld history page source n). h)
-          (λ (absent : IsHeld history page source n → ⊥). absurd (covers_none source n ((gaps.missing source n).1 (record { counted = pos; below = omega arith; not_held = absent }))))
+          (λ (absent : IsHeld history page source n → ⊥). let c = (gaps.missing source n).1 (record { counted = pos; below = omega arith; not_held = absent }) in absurd (Contains-none c.0 c.1))
           (held_or_not history page source n),
     )
 

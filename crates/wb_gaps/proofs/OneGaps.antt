@@ -20,7 +20,7 @@ record At (x : Gap) (s n : ℕ) : Type 0 where
 record Behind (x : Gap) (s n : ℕ) : Type 0 where
   behind : (x.source < s) ⊎ ((x.source ≡ s) × (x.last + 1 < n))
 
-apart_tail : (x : Gap) (xs : List Gap) → AllPairs IsApart (x ∷ xs) → AllPairs IsApart xs
+pub apart_tail : (x : Gap) (xs : List Gap) → AllPairs IsApart (x ∷ xs) → AllPairs IsApart xs
 apart_tail x xs a i j d ij h = a (suc i) (suc j) d (omega arith) (omega arith)
 
 apart_head : (x : Gap) (xs : List Gap) (g : Gap) → AllPairs IsApart (x ∷ xs) → Contains xs g → IsApart x g
@@ -32,7 +32,7 @@ move_on x g s n a e low = ⊎_elim (λ (p : x.source < g.source). record { behin
 covers_first : (x : Gap) (xs : List Gap) (s n : ℕ) → At x s n → Covers (x ∷ xs) s n
 covers_first x xs s n h = (x, Contains-here x xs, h.source_is, h.low, h.high)
 
-covers_later : (x : Gap) (xs : List Gap) (s n : ℕ) → Covers xs s n → Covers (x ∷ xs) s n
+pub covers_later : (x : Gap) (xs : List Gap) (s n : ℕ) → Covers xs s n → Covers (x ∷ xs) s n
 covers_later x xs s n c = (c.0, Contains-there x c.0 xs c.1, c.2, c.3, c.4)
 
 covers_cases : (x : Gap) (xs : List Gap) (s n : ℕ) → Covers (x ∷ xs) s n → At x s n ⊎ Covers xs s n

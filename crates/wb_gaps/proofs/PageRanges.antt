@@ -1,5 +1,5 @@
 -- The ranges that are kept, page by page: as runs they hold what the page holds, and their pages are those of the drawops.
-use Rattle.std.proofs.Common.{◌≡◌, ℕ, suc, ◌<◌, ◌≤◌, Bool, true, false, cond, List, [], ◌∷◌, get_or, length, refl, ap, ◌∙◌, sym, subst, arith, inl, inr, ⊎_elim, Some}
+use Rattle.std.proofs.Common.{◌≡◌, ℕ, ◌<◌, ◌≤◌, Bool, true, false, cond, List, [], ◌∷◌, get_or, length, refl, ap, ◌∙◌, sym, subst, arith, inl, inr, ⊎_elim, Some}
 use Rattle.std.specs.Prelude.{All, AllPairs, Any, Contains, filter, map, not, ◌&&◌}
 use Rattle.std.specs.BTreeMap.{BTreeMap, IsOrdered, get}
 use Rattle.std.specs.BTreeMap.Range.{entries_between, range_contains}
@@ -12,6 +12,7 @@ use Rattle.std.specs.declared.ops.Bound.TheVariants.{Included}
 use Rattle.std.proofs.lemmas.Bool.Decides.{nat_tests}
 use Rattle.std.proofs.lemmas.List.{length-map}
 use Rattle.std.proofs.lemmas.List.Elements.{All-nil, All-cons, All-head, All-tail, All-map, All-contains, All-from_recursion, Contains-get_or}
+use Rattle.std.proofs.lemmas.List.Sums.{count_by-le-length, length-filter}
 use Rattle.std.proofs.lemmas.List.Kept.{AllPairs-cons}
 use Rattle.std.proofs.lemmas.Map.Keys.{sorted_head, sorted_tail}
 use Rattle.std.proofs.lemmas.Map.Views.{All-found, Contains-from_lookup}
@@ -34,17 +35,11 @@ use Rattle.wb_gaps.proofs.HeldRanges.{covers_name, name_covered}
 use Rattle.wb_gaps.proofs.LessPairs.{less_parts}
 use Rattle.wb_gaps.proofs.Starts.{page_itself, start_is, start_total}
 
-pub few_in : {X : Type 0} (p : X → Bool) (xs : List X) → length (filter p xs) ≤ length xs
-few_in {X} p [] = omega arith
-few_in {X} p (x ∷ xs) = let rest = few_in p xs in elim (p x) as (λ b. length (cond b (x ∷ filter p xs) (filter p xs)) ≤ suc (length xs)) [
-  | true ↦ omega arith
-  | false ↦ omega arith
-]
-
 -- there are no more runs of a page than ranges
 pub few_runs : (page : PageId) (es : List (Start × ℕ)) → length (runs_on page es) ≤ length (ranges_of es)
 few_runs page es =
-    let on = few_in (is_on page) es in
+    let on = length-filter (is_on page) es in
+    let few = count_by-le-length (is_on page) es in
     let runs = length-map (filter (is_on page) es) run_of in
     let all = length-map es range_of in
     omega arith

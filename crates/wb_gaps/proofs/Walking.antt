@@ -2,7 +2,7 @@
 use Rattle.std.proofs.Common.{◌≡◌, ℕ, ◌+◌, ◌-◌, ◌<◌, ◌≤◌, true, false, cond, List, [], ◌∷◌, ◌++◌, refl, ap, ◌∙◌, sym, subst, arith, ◌⊎◌, inl, inr, ⊎_elim}
 use Rattle.std.specs.Prelude.{◌≢◌, ◌↔◌, All, AllPairs, Contains, nat_lt}
 use Rattle.std.specs.List.{flat_map}
-use Rattle.std.proofs.lemmas.Bool.{cases_lt}
+use Rattle.std.proofs.lemmas.Bool.{cases_eq, cases_lt}
 use Rattle.std.proofs.lemmas.Bool.Decides.{nat_tests}
 use Rattle.std.proofs.lemmas.List.Elements.{All-nil, All-cons, All-head, All-tail, All-weaker, All-contains}
 use Rattle.std.proofs.lemmas.List.Kept.{AllPairs-cons}
@@ -19,7 +19,7 @@ use Rattle.wb_gaps.specs.Runs.{AreRuns, AreRunsOf, InRuns, IsBelow}
 use Rattle.wb_gaps.specs.Walk.{gap_of, spans, spans_at, done_of, walk_of}
 use Rattle.wb_gaps.specs.declared.run.Run.{Run}
 use Rattle.wb_gaps.specs.declared.walk.Span.{Span}
-use Rattle.wb_gaps.proofs.GreatestNumbers.{first_counted, first_filled, later_all, later_runs, number_cases, number_here, number_none, number_there, same_or_not}
+use Rattle.wb_gaps.proofs.GreatestNumbers.{first_counted, first_filled, later_all, later_runs, number_cases, number_here, number_none, number_there}
 use Rattle.wb_names.proofs.MarkLists.{Above, Rises, rest_above, rest_rises, here, there, none_above}
 use Rattle.wb_gaps.proofs.Rearranged.{known_is_reached}
 
@@ -122,7 +122,7 @@ done_below at done s first pos beyond = grind (arith, common_steps, nat_tests, d
 
 -- after what is done
 done_next : (at done s : ℕ) → at ≤ s → IsBeyond at done s (done_of at done s + 1)
-done_next at done s le = grind (arith, common_steps, nat_tests, done_here, same_or_not)
+done_next at done s le = grind (arith, common_steps, nat_tests, done_here, cases_eq)
 
 -- runs after the first of a source
 above_first : (s : ℕ) (x : Run) (xs : List Run) → AreRuns (x ∷ xs) → x.source ≡ s → (n : ℕ) → InRuns xs s n → x.last < n
@@ -198,8 +198,8 @@ module _ (at done : ℕ) (x : Run) (xs : List Run) (marks : List MarkValue) (com
       let none : mark_of marks s ≡ 0 = none_from s x.source marks from before in
       absurd (⊎_elim (λ (le : n ≤ mark_of marks s). let w : ⊥ = omega arith in w) (λ (r : Reached xs s n). none_before s x xs runs before r.0 r.2) l.known))
       (λ (e : at ≢ s). let b = done_there at done s e in omega arith)
-      (same_or_not at s))
-      (same_or_not x.source s)
+      (cases_eq at s))
+      (cases_eq x.source s)
 
   lacks_after : (s n : ℕ) → Lacks x.source x.last marks xs s n → Lacks at done marks (x ∷ xs) s n
   lacks_after s n l = record {
@@ -251,7 +251,7 @@ module _ (at done : ℕ) (x : Run) (xs : List Run) (marks : List MarkValue) (com
 
   run_splits : (s n : ℕ) → Lacks at done marks (x ∷ xs) s n ↔ (InSpan x.source (done_of at done x.source) (x.first - 1) s n ⊎ Lacks x.source x.last marks xs s n)
   run_splits s n = (
-    λ l. ⊎_elim (λ (own : x.source ≡ s). run_own s n own l) (λ (other : x.source ≢ s). inr (run_other s n other l)) (same_or_not x.source s),
+    λ l. ⊎_elim (λ (own : x.source ≡ s). run_own s n own l) (λ (other : x.source ≢ s). inr (run_other s n other l)) (cases_eq x.source s),
     λ e. ⊎_elim (λ (i : InSpan x.source (done_of at done x.source) (x.first - 1) s n). lacks_before s n i) (λ (l : Lacks x.source x.last marks xs s n). lacks_after s n l) e,
   )
 
@@ -300,7 +300,7 @@ module _ (at done : ℕ) (m : MarkValue) (ms : List MarkValue) (xs : List Run) (
         let low = l.not_done in
         absurd (omega arith))
         (λ (other : m.source ≢ s). inl (subst (λ (k : ℕ). n ≤ k) (sym (there m ms s other)) le))
-        (same_or_not m.source s))
+        (cases_eq m.source s))
         (λ (r : Reached xs s n). inr r)
         l.known;
     free = l.free;
@@ -322,7 +322,7 @@ module _ (at done : ℕ) (m : MarkValue) (ms : List MarkValue) (xs : List Run) (
           known = ⊎_elim (λ (le : n ≤ mark_of (m ∷ ms) s). inl (subst (λ (k : ℕ). n ≤ k) (there m ms s other) le)) (λ (r : Reached xs s n). inr r) l.known;
           free = l.free;
         }))
-        (same_or_not m.source s),
+        (cases_eq m.source s),
     λ e. ⊎_elim (λ (i : InSpan m.source (done_of at done m.source) m.high s n). lacks_up_to s n i) (λ (l : Lacks at done ms xs s n). lacks_beside s n l) e,
   )
 
@@ -409,10 +409,10 @@ are_gaps history page runs marks of lawful =
       );
     } where
       nothing_done : (s : ℕ) → done_of 0 0 s ≡ 0
-      nothing_done s = ⊎_elim (λ (e : 0 ≡ s). done_here 0 0 s e) (λ (e : 0 ≢ s). done_there 0 0 s e) (same_or_not 0 s)
+      nothing_done s = ⊎_elim (λ (e : 0 ≡ s). done_here 0 0 s e) (λ (e : 0 ≢ s). done_there 0 0 s e) (cases_eq 0 s)
 
       begins : (r : Run) → 1 ≤ r.first → IsBeyond 0 0 r.source r.first
-      begins r low = ⊎_elim (λ (e : 0 ≡ r.source). inr (e, omega arith)) (λ (e : 0 ≢ r.source). inl (omega arith)) (same_or_not 0 r.source)
+      begins r low = ⊎_elim (λ (e : 0 ≡ r.source). inr (e, omega arith)) (λ (e : 0 ≢ r.source). inl (omega arith)) (cases_eq 0 r.source)
 
 -- the same, of what was read
 pub are_gaps_read : (history : List DrawopValue) (page : PageId) (runs read : List Run) (marks heard : List MarkValue) (gaps : List Gap) → AreRunsOf history page runs → AreMarks marks → read ≡ runs → heard ≡ marks → gaps ≡ walk_of read heard → AreGaps history page marks gaps

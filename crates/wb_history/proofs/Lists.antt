@@ -1,6 +1,6 @@
 -- Lists read by `get_elem?`.
 use Rattle.std.proofs.lemmas.Grind.{common_steps}
-use Rattle.std.proofs.Common.{◌≡◌, ◌⊎◌, ℕ, zero, suc, ◌+◌, ◌<◌, ◌≤◌, List, [], ◌∷◌, ◌++◌, map, length, get_or, take, drop, refl, sym, ap, ◌∙◌, inl, inr, ⊎_elim, arith, length-append}
+use Rattle.std.proofs.Common.{◌≡◌, ◌⊎◌, ℕ, zero, suc, ◌+◌, ◌<◌, ◌≤◌, List, [], ◌∷◌, ◌++◌, map, length, get_or, take, drop, refl, sym, ap, ◌∙◌, inl, inr, ⊎_elim, arith, append_assoc, length-append}
 use mathlib.Core.Option.{some, some-injective, some-ne-none}
 use lib.ListN.{get_elem?}
 use Rattle.indexmap.proofs.IndexTableLemmas.Probe.{pigeonhole}
@@ -82,11 +82,7 @@ module _ {A : Type 0} where
   starts-le whole start b = omega (arith, length-append start b.0, ap length b.1)
 
   pub starts_more : (whole start more : List A) → IsPrefix start whole → IsPrefix start (whole ++ more)
-  starts_more whole start more b = (b.0 ++ more, sym (app start b.0 more) ∙ ap (λ l. l ++ more) b.1)
-    where
-      app : (xs ys zs : List A) → (xs ++ ys) ++ zs ≡ xs ++ (ys ++ zs)
-      app [] ys zs = refl
-      app (x ∷ xs) ys zs = λ i. x ∷ app xs ys zs i
+  starts_more whole start more b = (b.0 ++ more, sym (append_assoc start b.0 more) ∙ ap (λ l. l ++ more) b.1)
 
   pub next_member : (whole start : List A) (x : A) → IsPrefix start whole → get_elem? whole (length start) ≡ some x → IsPrefix (start ++ x ∷ []) whole
   next_member whole [] x b e = next whole b.0 (sym b.1) e
@@ -96,18 +92,7 @@ module _ {A : Type 0} where
       next (y ∷ ys) r same e = (ys, λ i. sym (some-injective y x e) i ∷ ys)
   next_member [] (y ∷ ys) x b e = absurd (some-ne-none x (sym e))
   next_member (z ∷ zs) (y ∷ ys) x b e =
-      let t = next_member zs ys x (b.0, tail_same (ys ++ b.0) zs y z b.1) e in
-      (t.0, λ i. head_same y z (ys ++ b.0) zs b.1 i ∷ t.1 i)
-    where
-      tails : List A → List A
-      tails [] = []
-      tails (x ∷ xs) = xs
-
-      tail_same : (xs ys : List A) (x y : A) → x ∷ xs ≡ y ∷ ys → xs ≡ ys
-      tail_same xs ys x y e = cc
-
-      head_same : (x y : A) (xs ys : List A) → x ∷ xs ≡ y ∷ ys → x ≡ y
-      head_same x y xs ys e = cc
+      let t = next_member zs ys x (b.0, cc (b.1)) e in (t.0, cc (b.1, t.1))
 
   pub starts_whole : (whole start : List A) → IsPrefix start whole → length whole ≤ length start → whole ≡ start
   starts_whole whole start b few = grind (arith, common_steps)
@@ -128,11 +113,4 @@ both_start whole xs [] b c h = (xs, refl)
 both_start whole [] (y ∷ ys) b c h = absurd (omega arith)
 both_start [] (x ∷ xs) (y ∷ ys) b c h = let l = starts-le [] (x ∷ xs) b in absurd (omega arith)
 both_start (w ∷ ws) (x ∷ xs) (y ∷ ys) b c h =
-    let t = both_start ws xs ys (b.0, tail_same (xs ++ b.0) ws x w b.1) (c.0, tail_same (ys ++ c.0) ws y w c.1) (omega arith) in
-    (t.0, λ i. (head_same y w (ys ++ c.0) ws c.1 ∙ sym (head_same x w (xs ++ b.0) ws b.1)) i ∷ t.1 i)
-  where
-    tail_same : {A : Type 0} (xs ys : List A) (x y : A) → x ∷ xs ≡ y ∷ ys → xs ≡ ys
-    tail_same xs ys x y e = cc
-
-    head_same : {A : Type 0} (x y : A) (xs ys : List A) → x ∷ xs ≡ y ∷ ys → x ≡ y
-    head_same x y xs ys e = cc
+    let t = both_start ws xs ys (b.0, cc (b.1)) (c.0, cc (c.1)) (omega arith) in (t.0, cc (b.1, c.1, t.1))

@@ -3,7 +3,7 @@ use Rattle.std.proofs.lemmas.Grind.{common_steps}
 use Rattle.std.proofs.Common.{◌≡◌, ℕ, ◌<◌, ◌≤◌, Bool, true, false, List, [], ◌∷◌, ◌++◌, map, length, get_or, refl, sym, ap, ◌∙◌, subst, arith, Option}
 use Rattle.std.specs.Prelude.{MatchOption, nat_eq, ◌&&◌, if◌then◌else◌}
 use Rattle.std.specs.List.{position, position_or_len, list_any}
-use Rattle.std.proofs.lemmas.Bool.{cases_lt, cond_below, cond_above}
+use Rattle.std.proofs.lemmas.Bool.{false_from_ne_true, cases_lt, cond_below, cond_above}
 use Rattle.std.proofs.lemmas.Bool.Decides.{nat_tests}
 use Rattle.std.proofs.lemmas.List.{map-append, length-map}
 use Rattle.std.proofs.lemmas.List.Sums.{passes_at_first, fails_before_first}
@@ -77,12 +77,8 @@ put_name l l' d keys keys' absent indexed put inserted =
     inserted ∙ (ap (λ (ks : List NameValue). insert_key alike ks d.name) indexed
     ∙ (ap (λ (b : Bool). if b then names l else (names l ++ d.name ∷ [])) none ∙ (sym (map-append (λ (e : DrawopValue). e.name) l (d ∷ [])) ∙ sym (ap names put))))
   where
-    test : (b : Bool) → (b ≡ true → ⊥) → b ≡ false
-    test true h = absurd (h refl)
-    test false h = refl
-
     differs : (k : ℕ) (e : NameValue) → k < length (names l) → alike d.name (get_or (names l) k e) ≡ false
-    differs k e h = test (alike d.name (get_or (names l) k e)) (λ same.
+    differs k e h = false_from_ne_true (alike d.name (get_or (names l) k e)) (λ same.
         let long = length-map l (λ e. e.name) in
         let m = at_some l k (omega arith) in
         let there = at_map (λ (f : DrawopValue). f.name) l k m.0 m.1 in

@@ -1,6 +1,6 @@
 -- What stands at a place of a list, in the words of this crate's rule and in those of its public clauses.
 use Rattle.std.proofs.lemmas.Grind.{common_steps}
-use Rattle.std.proofs.Common.{◌≡◌, ◌≢◌, ℕ, zero, suc, List, [], ◌∷◌, get_or, sym, ap, ◌∙◌, arith, Some, Bool, false, IsTrue, subst, ⊎_elim, ◌<◌, ◌≤◌}
+use Rattle.std.proofs.Common.{◌≡◌, ◌≢◌, ℕ, zero, suc, List, [], ◌∷◌, get_or, sym, ap, ◌∙◌, arith, Some, subst, ⊎_elim, ◌<◌, ◌≤◌}
 use Rattle.std.proofs.lemmas.Bool.{cases_lt}
 use Rattle.std.specs.Prelude.{All, AllPairs, Contains, slice_get, take}
 use mathlib.Core.Option.{some, some-injective, some-ne-none}
@@ -9,10 +9,6 @@ use Rattle.wb_names.specs.Values.{NameValue, DrawopValue}
 use Rattle.wb_names.specs.History.{IsHistory, HoldsName}
 use Rattle.wb_history.specs.Lists.{Once}
 use Rattle.wb_history.proofs.Lists.{at-lt, at_read, at_take}
-
--- a test that failed, of what would pass it
-pub not_so : {P : Type 0} (b : Bool) → b ≡ false → (P → IsTrue b) → P → ⊥
-not_so b e f p = grind (arith, common_steps)
 
 module _ {A : Type 0} where
   pub get_is : (l : List A) (i : ℕ) (a : A) → get_elem? l i ≡ some a → slice_get l i ≡ Some a

@@ -204,12 +204,7 @@ impl History {
     /// Both passes have then seen the same list, the longer of their two: the shorter grows where it
     /// lies, by its own allocator. A refused call changes nothing.
     #[tactic(auto, using(crate::proofs::Shows::sound_pass, crate::proofs::Shows::sound_heard))]
-    pub fn meet(
-        &self,
-        _alloc: Global,
-        first: &mut Pass,
-        second: &mut Pass,
-    ) -> Result<(), AllocError>
+    pub fn meet(&self, first: &mut Pass, second: &mut Pass) -> Result<(), AllocError>
         requires passes { IsPassOf self.now first.old × IsPassOf self.now second.old }
         ensures sound { IsSound first.new × IsSound second.new }
         ensures first { HearsMore first.old first.new }

@@ -1,5 +1,6 @@
 -- What a keeper stands for, once it has accepted a call.
 use Rattle.std.proofs.Common.{◌≡◌, ℕ, ◌+◌, ◌<◌, Bool, true, false, cond, Option, Some, None, List, [], ◌∷◌, ◌++◌, length, get_or, take, refl, ap, ◌∙◌, sym, subst, arith, true≢false, suc, ⊎_elim, add-one, append-nil, Result, Ok, Err}
+use Rattle.std.proofs.lemmas.Bool.{or_right}
 use Rattle.std.specs.Prelude.{max, map, filter, zip, nat_eq, unwrap_or, Contains, MatchOption, OnOk, is_some, ◌||◌}
 use Rattle.std.specs.List.{list_any}
 use Rattle.std.specs.Option.{option_or}
@@ -111,11 +112,8 @@ pub holds_from : (history : List DrawopValue) (name : NameValue) (d : DrawopValu
 holds_from [] name d c is = absurd (Contains-none d c)
 holds_from (x ∷ history) name d c is = ⊎_elim
     (λ (e : x ≡ d). ap (λ (b : Bool). b || holds history name) (same_here x.name name (ap (λ (w : DrawopValue). w.name) e ∙ is)))
-    (λ (g : Contains history d). or_true (same_name x.name name) (holds history name) (holds_from history name d g is))
-    (Contains-cases x d history c) where
-      or_true : (a b : Bool) → b ≡ true → (a || b) ≡ true
-      or_true true b e = refl
-      or_true false b e = e
+    (λ (g : Contains history d). or_right (same_name x.name name) (holds history name) (holds_from history name d g is))
+    (Contains-cases x d history c)
 
 holds_name : (history : List DrawopValue) (name : NameValue) → holds history name ≡ true → HoldsName history name
 holds_name [] name h = absurd (true≢false (sym h))

@@ -64,14 +64,6 @@ up_to list layers page s at whole found = record {
   held = at.held ∙ ap (held_after page) (ap (λ (n : ℕ). take n list) whole ∙ take-length list);
 }
 
--- a layer that has taken in nothing
-pub at_first : (list : List DrawopValue) (page : PageId) (s : PageLayer) → s.layer ≡ record { page = page; held = [] } → s.taken ≡ 0 → HasTakenIn list page s
-at_first list page s empty none = record {
-  page_is = ap (λ (l : LayerValue). l.page) empty;
-  held = ap (λ (l : LayerValue). l.held) empty ∙ ap (λ (n : ℕ). held_after page (take n list)) (sym none);
-  within = omega arith;
-}
-
 -- what the layer shows, once it has taken in the whole list, is what the page shows
 pub shows_all : (list : List DrawopValue) (page : PageId) (layers : List (PageId × PageLayer)) (shown : List DrawopValue) → IsHistory list → IsUpTo list page layers → ((s : PageLayer) → layer_of layers page ≡ Some s → IsView s.layer.held s.layer.page shown) → IsView list page shown
 shows_all list page layers shown once up told =

@@ -1,5 +1,6 @@
 -- What a tick asks for, and what it answers with.
 use Rattle.std.proofs.Common.{◌≡◌, ℕ, Bool, true, false, cond, List, [], ◌∷◌, ◌++◌, Option, Some, None, refl, ap, ◌∙◌, sym, subst, true≢false, ⊎_elim}
+use Rattle.std.proofs.lemmas.Bool.{and_from, false_from_ne_true}
 use Rattle.std.specs.Prelude.{Contains, map, not, ◌||◌, ◌&&◌, is_some, is_none, unwrap_or}
 use Rattle.std.specs.BTreeMap.{is_at}
 use Rattle.std.specs.List.{list_any, filter_map, cons_option}
@@ -125,16 +126,9 @@ due_stands : (now : ℕ) (o : Option AskTimer) → is_ask_due now o ≡ true →
 due_stands now None e = cc
 due_stands now (Some ask) e = refl
 
-both_true : (a b : Bool) → a ≡ true → b ≡ true → (a && b) ≡ true
-both_true a b e f = ap (λ (c : Bool). c && b) e ∙ f
-
 not_true : (b : Bool) → not b ≡ true → b ≡ false
 not_true true e = cc
 not_true false e = refl
-
-is_false : (b : Bool) → (b ≡ true → ⊥) → b ≡ false
-is_false true f = absurd (f refl)
-is_false false f = refl
 
 -- ---- a tick
 module _ (me : ℕ) (t : Tuning) (calls : List KeeperCall) (value : KeeperValue) (now : ℕ) (history : List DrawopValue) (s : StandsFor me t calls value) where
@@ -171,14 +165,14 @@ module _ (me : ℕ) (t : Tuning) (calls : List KeeperCall) (value : KeeperValue)
       let due = ((listed_of (λ (r : Timers). is_ask_due now r.ask) refl t after).members name).0 c in
       let both = and_both (not (stopped history value.recovery name)) (is_ask_due now (timers_in value.recovery name).ask) (sym (ask_then name) ∙ due) in (
         ap (λ (k : Timers). is_ask_due now k.ask) (sym (s.recovery.timers name)) ∙ both.1,
-        is_false (holds history name) (λ h. true≢false (sym (held_stopped history value.recovery name h (due_stands now (timers_in value.recovery name).ask both.1)) ∙ not_true (stopped history value.recovery name) both.0)),
+        false_from_ne_true (holds history name) (λ h. true≢false (sym (held_stopped history value.recovery name h (due_stands now (timers_in value.recovery name).ask both.1)) ∙ not_true (stopped history value.recovery name) both.0)),
       )
 
   asks_back : (name : NameValue) → is_ask_due now (timers_of t events name).ask ≡ true → holds history name ≡ false → Contains asks name
   asks_back name due h =
-      let none = is_false (stopped history value.recovery name) (λ e. true≢false (sym (stopped_held history value.recovery name e).0 ∙ h)) in
+      let none = false_from_ne_true (stopped history value.recovery name) (λ e. true≢false (sym (stopped_held history value.recovery name e).0 ∙ h)) in
       ((listed_of (λ (r : Timers). is_ask_due now r.ask) refl t after).members name).1
-      (ask_then name ∙ both_true _ _ (ap not none) (ap (λ (k : Timers). is_ask_due now k.ask) (s.recovery.timers name) ∙ due))
+      (ask_then name ∙ and_from _ _ (ap not none) (ap (λ (k : Timers). is_ask_due now k.ask) (s.recovery.timers name) ∙ due))
 
   answers_forth : (name : NameValue) → holds history name ≡ true → Contains answers name → (is_answer_due now (timers_of t events name).answer ≡ true) × (is_none (timers_of t events name).ask ≡ true)
   answers_forth name held c =
@@ -195,9 +189,9 @@ module _ (me : ℕ) (t : Tuning) (calls : List KeeperCall) (value : KeeperValue)
   answers_back : (name : NameValue) → is_answer_due now (timers_of t events name).answer ≡ true → is_none (timers_of t events name).ask ≡ true → Contains answers name
   answers_back name due none =
       let no_ask = ap (λ (k : Timers). is_none k.ask) (s.recovery.timers name) ∙ none in
-      let free = is_false (stopped history value.recovery name) (λ e. both_not (timers_in value.recovery name).ask (stopped_held history value.recovery name e).1 no_ask) in
+      let free = false_from_ne_true (stopped history value.recovery name) (λ e. both_not (timers_in value.recovery name).ask (stopped_held history value.recovery name e).1 no_ask) in
       ((listed_of (λ (r : Timers). is_answer_due now r.answer) refl t after).members name).1
-      (answer_then name ∙ both_true _ _ (ap not free) (ap (λ (k : Timers). is_answer_due now k.answer) (s.recovery.timers name) ∙ due)) where
+      (answer_then name ∙ and_from _ _ (ap not free) (ap (λ (k : Timers). is_answer_due now k.answer) (s.recovery.timers name) ∙ due)) where
         both_not : (o : Option AskTimer) → is_some o ≡ true → is_none o ≡ true → ⊥
         both_not None e f = true≢false (sym e)
         both_not (Some a) e f = true≢false (sym f)

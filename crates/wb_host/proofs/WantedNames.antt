@@ -93,10 +93,6 @@ module _ (p : NameValue → Bool) (room : ℕ) (page : PageId) where
   pub none_left : (names all : List NameValue) → length names ≤ room → take room (names ++ []) ≡ all → names ≡ all
   none_left names all few is = sym (take_all room names few) ∙ sym (ap (take room) (append-nil names)) ∙ is
 
-  -- or no more room
-  pub none_fits : (names rest all : List NameValue) → length names ≤ room → room ≤ length names → take room (names ++ rest) ≡ all → names ≡ all
-  none_fits names rest all few full is = sym (take_all room names few) ∙ sym (take-append-le room names rest full) ∙ is
-
 pub few_taken : (room : ℕ) (all names : List NameValue) → names ≡ take room all → length names ≤ room
 few_taken room all names is = omega (arith, ap length is, length-take room all)
 

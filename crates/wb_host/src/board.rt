@@ -79,7 +79,7 @@ impl Board {
 
     /// Both desks have then seen the same list, the longer of their two. Only memory can be refused, and
     /// both are then as before.
-    pub fn meet(&self, alloc: Global, first: &mut Desk, second: &mut Desk) -> Result<(), AllocError>
+    pub fn meet(&self, first: &mut Desk, second: &mut Desk) -> Result<(), AllocError>
         requires desks { IsPassOf self.now first.old × IsPassOf self.now second.old }
         ensures sound { IsSound first.new × IsSound second.new }
         ensures first { HearsMore first.old first.new }
@@ -87,7 +87,7 @@ impl Board {
         ensures met { OnOk result ((first.new.seen ≡ second.new.seen) × (second.new.seen ≡ longer second.old.seen first.old.seen)) }
         ensures refused { OnErr result ((first.new ≡ first.old) × (second.new ≡ second.old)) }
     {
-        self.history.meet(alloc, &mut first.pass, &mut second.pass)
+        self.history.meet(&mut first.pass, &mut second.pass)
     }
 
     /// Accepts a drawop: it becomes the next member, unless a member has its name. Then the reply

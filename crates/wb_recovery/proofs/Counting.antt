@@ -1,5 +1,6 @@
 -- How many names have a timer, and which timer is due next.
 use Rattle.std.proofs.Common.{◌≡◌, ℕ, ◌≤◌, Bool, true, false, refl, ap, ◌∙◌, sym, Option, Some, None, ◌⊎◌, inl, inr, ⊎_elim, arith, length}
+use Rattle.std.proofs.lemmas.Bool.{or_left, or_right}
 use Rattle.std.specs.Prelude.{is_some, ◌||◌}
 use Rattle.std.specs.List.Sorted.{IsStrictlySortedBy}
 use Rattle.wb_names.specs.Values.{NameValue}
@@ -38,14 +39,6 @@ module _ (value : RecoveryValue) (rises : IsStrictlySortedBy name_cmp (names_in 
 
   pub count_due : (now k : ℕ) → CountsUntil now (λ n. ask_due (timers_in value n)) k → k ≡ length (due_asks (names_in value) (timers_in value) now)
   count_due now k counts = counts _ (list_due_asks now)
-
-or_left : (a b : Bool) → a ≡ true → (a || b) ≡ true
-or_left true b e = refl
-or_left false b e = cc
-
-or_right : (a b : Bool) → b ≡ true → (a || b) ≡ true
-or_right true b e = refl
-or_right false b e = e
 
 or_cases : (a b : Bool) → (a || b) ≡ true → (a ≡ true) ⊎ (b ≡ true)
 or_cases true b e = inl refl

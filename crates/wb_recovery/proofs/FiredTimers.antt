@@ -1,5 +1,6 @@
 -- What firing does to the timers of one name.
 use Rattle.std.proofs.Common.{◌≡◌, ℕ, ◌+◌, ◌*◌, Bool, true, false, cond, refl, ap, sym, Option, Some, None, true≢false}
+use Rattle.std.proofs.lemmas.Bool.{or_right}
 use Rattle.std.specs.Prelude.{is_some, ◌||◌}
 use Rattle.wb_recovery.specs.Timing.{ask_due, ask_moment, is_standing, is_ask_due, is_answer_due, fired_ask, fired_answer, quiet_after, backed_off}
 use Rattle.wb_recovery.specs.declared.tuning.Tuning.{Tuning}
@@ -9,10 +10,6 @@ use Rattle.wb_recovery.specs.declared.timers.Timers.{Timers}
 
 pub due_answer_stands : (now : ℕ) (s : Timers) → is_answer_due now s.answer ≡ true → is_standing s ≡ true
 due_answer_stands now s h = or_right (is_some s.ask) (is_some s.answer) (from s.answer h) where
-  or_right : (a b : Bool) → b ≡ true → (a || b) ≡ true
-  or_right true b e = refl
-  or_right false b e = e
-
   from : (o : Option AnswerTimer) → is_answer_due now o ≡ true → is_some o ≡ true
   from None e = absurd (true≢false (sym e))
   from (Some a) e = refl

@@ -1,5 +1,6 @@
 -- A rising list of names, taken one after another.
 use Rattle.std.proofs.Common.{◌≡◌, ℕ, zero, suc, ◌+◌, ◌<◌, Bool, true, false, cond, List, [], ◌∷◌, length, get_or, take, refl, ap, ◌∙◌, sym, subst, true≢false, arith}
+use Rattle.std.proofs.lemmas.List.Elements.{Contains-get_or}
 use Rattle.std.specs.Prelude.{◌||◌, filter, Contains}
 use Rattle.std.specs.Cmp.{eq_by_cmp_equiv}
 use Rattle.std.specs.List.Sorted.{IsStrictlySortedBy}
@@ -18,15 +19,8 @@ use Rattle.wb_recovery.specs.Alarms.{among}
 use Rattle.wb_recovery.specs.declared.timers.Timers.{Timers}
 use Rattle.wb_recovery.proofs.NameOrder.{name_ties}
 
-contains_at : (xs : List NameValue) (i : ℕ) (d : NameValue) → i < length xs → Contains xs (get_or xs i d)
-contains_at [] i d h = absurd (omega arith)
-contains_at (x ∷ xs) zero d h = (0, omega arith, refl)
-contains_at (x ∷ xs) (suc i) d h = there (contains_at xs i d (omega arith)) where
-  there : Contains xs (get_or xs i d) → Contains (x ∷ xs) (get_or xs i d)
-  there (k, l, e) = (suc k, omega arith, e)
-
 first_less : (x : NameValue) (xs : List NameValue) (i : ℕ) (d : NameValue) → IsStrictlySortedBy name_cmp (x ∷ xs) → i < length xs → name_cmp x (get_or xs i d) ≡ Less
-first_less x xs i d s h = below_all name_total x (get_or xs i d) xs s (contains_at xs i d h)
+first_less x xs i d s h = below_all name_total x (get_or xs i d) xs s (Contains-get_or xs i d h)
 
 -- none of the names before a place is the name there
 pub not_before : (xs : List NameValue) (i : ℕ) (d : NameValue) → IsStrictlySortedBy name_cmp xs → i < length xs → among (take i xs) (get_or xs i d) ≡ false
@@ -75,7 +69,7 @@ module _ (xs : List NameValue) (i : ℕ) (a : NameValue) (s : IsStrictlySortedBy
       ∙ ap (λ (b : Bool). among (take i xs) n || b) ((eq_by_cmp_equiv name_total).symm n a ∙ sym (name_ties a n))
 
   pub contains_here : Contains xs a
-  contains_here = subst (λ (n : NameValue). Contains xs n) (sym is) (contains_at xs i a lt)
+  contains_here = subst (λ (n : NameValue). Contains xs n) (sym is) (Contains-get_or xs i a lt)
 
   pub smaller_here : smaller xs a ≡ i
   smaller_here = ap (smaller xs) is ∙ smaller_at xs i a s lt

@@ -1,10 +1,11 @@
 -- Names that have come: what becomes of their timers, and what then fires.
 use Rattle.std.proofs.Common.{◌≡◌, ℕ, ◌+◌, ◌*◌, ◌<◌, ◌≤◌, Bool, true, false, cond, Option, Some, None, List, [], ◌∷◌, length, get_or, take, refl, ap, ◌∙◌, sym, arith, true≢false}
+use Rattle.std.proofs.lemmas.Bool.{and_from}
 use Rattle.std.specs.Prelude.{◌||◌, ◌&&◌, not, filter, is_some}
 use Rattle.std.specs.List.Sorted.{IsStrictlySortedBy}
 use Rattle.std.specs.Ordering.{is_eq}
 use Rattle.std.proofs.lemmas.List.Folds.{list_any_more}
-use Rattle.std.proofs.lemmas.List.Sums.{fold_more}
+use Rattle.std.proofs.lemmas.List.Sums.{fold_more, count_by-le-length, length-filter}
 use Rattle.std.proofs.lemmas.List.Kept.{IsStrictlySortedBy-filter}
 use Rattle.wb_names.specs.Values.{NameValue}
 use Rattle.wb_names.specs.Orders.{same_name, name_cmp}
@@ -127,10 +128,8 @@ names_receipts now events (c ∷ received) = names_receipts now (Got c.name now 
 pub listed_those : (q p : NameValue → Bool) (names : List NameValue) → Lists name_cmp (λ n. p n ≡ true) names → Lists name_cmp (λ n. (q n && p n) ≡ true) (filter q names)
 listed_those q p names l = record {
   rising = IsStrictlySortedBy-filter name_cmp _ names l.rising;
-  members = λ n. ((λ h. let g = Contains-from_filter q names n h in both _ _ g.1 ((l.members n).0 g.0)), (λ h. let g = and_both _ _ h in Contains-filter q names n ((l.members n).1 g.1) g.0));
-} where
-  both : (a b : Bool) → a ≡ true → b ≡ true → (a && b) ≡ true
-  both a b e f = ap (λ (c : Bool). c && b) e ∙ f
+  members = λ n. ((λ h. let g = Contains-from_filter q names n h in and_from _ _ g.1 ((l.members n).0 g.0)), (λ h. let g = and_both _ _ h in Contains-filter q names n ((l.members n).1 g.1) g.0));
+}
 
 module _ (t : Tuning) (now : ℕ) (received : List Received) (events : List Event) (value : RecoveryValue) (s : StandsFor t events value) where
   pub timers_then : (n : NameValue) → timers_of t (receipts now events received) n ≡ got_each now n (timers_in value n) received
@@ -192,11 +191,7 @@ module _ (t : Tuning) (now : ℕ) (words : List ℕ) (received : List Received) 
         ∙ ap (ticked t now (word_for words asking n)) (sym (not_received now n (f n) received e))
 
 pub fewer_those : (q : NameValue → Bool) (names : List NameValue) → length (filter q names) ≤ length names
-fewer_those q [] = omega arith
-fewer_those q (n ∷ names) = from (fewer_those q names) (q n) where
-  from : length (filter q names) ≤ length names → (b : Bool) → length (cond b (n ∷ filter q names) (filter q names)) ≤ length (n ∷ names)
-  from rest true = omega arith
-  from rest false = omega arith
+fewer_those q names = omega (arith, length-filter q names, count_by-le-length q names)
 
 -- what a recovery stands for once names have come and what is due has fired
 pub stops_and_ticks : (now : ℕ) (words : List ℕ) (received : List Received) (asking answering : List NameValue) (old mid end new : RecoveryValue)

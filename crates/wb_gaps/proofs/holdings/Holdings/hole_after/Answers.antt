@@ -1,12 +1,13 @@
 use Rattle.std.proofs.Common.{◌≡◌, ◌+◌, ◌∙◌, List, Option, ap, drop, get_or, sym}
 use Rattle.std.specs.List.{find, flat_map}
 use Rattle.std.specs.Prelude.{is_some}
+use Rattle.std.proofs.lemmas.List.{drop_all}
 use Rattle.wb_names.specs.declared.name.PageId.{PageId}
 use Rattle.wb_gaps.specs.Answers.{pages_of}
 use Rattle.wb_gaps.specs.Holes.{begins_after, holes_on}
 use Rattle.wb_gaps.specs.Starts.{start}
 use Rattle.wb_gaps.specs.declared.holes.Hole.{Hole}
-use Rattle.wb_gaps.proofs.FirstHoles.{found_after, found_on, page_next, past_all}
+use Rattle.wb_gaps.proofs.FirstHoles.{found_after, found_on, page_next}
 use Rattle.wb_gaps.proofs.PageAnswers.{only_pages}
 use Rattle.wb_gaps.proofs.holdings.Holdings.hole_after.Goals as goal
 
@@ -40,4 +41,4 @@ returns c = λ history held.
     let pages = c.deref-on-items.result.now in
     let first : List PageId → Option Hole = λ ps. find p (flat_map (holes_on history) ps) in
     let all : pages ≡ pages_of history = c.deref-on-items.ensures.value ∙ only_pages history c.in_ok-pages.pages.items (c.in_ok-pages.ensures history held) in
-    sym (ap first (past_all pages c.loop-on.on-index c.loop-on-test.false)) ∙ sym (c.loop-on.invariant history held) ∙ ap first all
+    sym (ap first (drop_all c.loop-on.on-index pages c.loop-on-test.false)) ∙ sym (c.loop-on.invariant history held) ∙ ap first all
