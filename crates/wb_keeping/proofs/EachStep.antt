@@ -53,7 +53,7 @@ pub record HoldsOfSteps (R : Keeping → List Line → Keeping → Type 0) : Typ
   pub answered : (d : DrawopValue) (k : Keeping) → holds (view_of k.host) d.name ≡ false → is_asked (view_of k.host) d.name ≡ true → R k (Arrives d ∷ []) (with_policy (after_came k.policy) (having (Arrives d) k))
   pub hears : (v : Datagram) (k : Keeping) → R k (Hears v ∷ []) (having (Hears v) k)
   pub stops : (name : NameValue) (k : Keeping) → R k (Stops name ∷ []) (having (Stops name) k)
-  pub sets : (source micros : ℕ) (k : Keeping) → R k (SetsDistance source micros ∷ []) (having (SetsDistance source micros) k)
+  pub sets : (source micros : ℕ) (k : Keeping) → R k (SetsDistance source (bounded micros) ∷ []) (having (SetsDistance source (bounded micros)) k)
   pub wants : (name : NameValue) (anew : Bool) (k : Keeping) → R k (want name anew (sees k.host) k.policy).lines (after_doing (want name anew) k)
   pub draws : (d : DrawopValue) (k : Keeping) → R k (Says (Draw d) ∷ []) (having (Says (Draw d)) k)
   pub turned : (t : Turns) (k : Keeping) → R k [] (with_policy (record k.policy { turns = t }) k)
@@ -218,7 +218,7 @@ module _ (R : Keeping → List Line → Keeping → Type 0) (is : HoldsOfSteps R
 
     by : (b : Bool) → HoldsOf k (doing p (cond b [] (SetsDistance sender (bounded micros) ∷ [])))
     by true = is.measured micros k
-    by false = from_policy p k (doing p (SetsDistance sender (bounded micros) ∷ [])) (is.measured micros k) (is.sets sender (bounded micros) (with_policy p k))
+    by false = from_policy p k (doing p (SetsDistance sender (bounded micros) ∷ [])) (is.measured micros k) (is.sets sender micros (with_policy p k))
 
   session_holds : (sender sent : ℕ) (page : PageId) (marks : List MarkValue) (echoes : List Echo) → Holds (hears_session sender sent page marks echoes)
   session_holds sender sent page marks echoes k =

@@ -1,0 +1,9 @@
+//! Laws of progress of hosts that keep themselves. Each function does nothing: its contract is a law, for proofs to cite.
+
+ghost use Rattle.wb_kept_progress.specs.Repairs.{AskedCanCome};
+
+/// Whatever came in before, a drawop that one host asks for, and that another holds, comes by six more lines of the
+/// two. None of them is refused, and none hands in what was not sent.
+pub fn what_is_asked_for_can_come()
+    ensures asked { AskedCanCome }
+{}
