@@ -105,8 +105,8 @@ drawop_held now d k lost room =
 
 -- ---- no line is refused
 
-in_time : (k : Keeping) (now : ℕ) → present k.host ≤ now → fault_of (Ticked now) k ≡ None
-in_time k now le = ap (λ (b : Bool). first_of (fault_unless b (Host BackInTime) ∷ [])) (le_true (present k.host) now le)
+pub tick_in_time : (k : Keeping) (now : ℕ) → present k.host ≤ now → fault_of (Ticked now) k ≡ None
+tick_in_time k now le = ap (λ (b : Bool). first_of (fault_unless b (Host BackInTime) ∷ [])) (le_true (present k.host) now le)
 
 request_in_time : (k : Keeping) (now asker : ℕ) (n : NameValue) → present k.host ≤ now → fault_of (Came now (Request asker n)) k ≡ None
 request_in_time k now asker n le = ap (λ (b : Bool). first_of (fault_unless b (Host BackInTime) ∷ fault_unless true Ours ∷ [])) (le_true (present k.host) now le)
@@ -256,7 +256,7 @@ module _ (o : Keeping) (fine : IsFine o) (d : DrawopValue) (held : Contains o.ho
   r1 = tick_rests first o
 
   pub none_1 : fault_of (Ticked first) o ≡ None
-  none_1 = in_time o first (up (present o.host) answering_wait)
+  none_1 = tick_in_time o first (up (present o.host) answering_wait)
 
   fine_1 : IsFine o1
   fine_1 = fine_next (Ticked first) o none_1 fine
@@ -275,7 +275,7 @@ module _ (o : Keeping) (fine : IsFine o) (d : DrawopValue) (held : Contains o.ho
   r2 = tick_rests second o1
 
   pub none_2 : fault_of (Ticked second) o1 ≡ None
-  none_2 = in_time o1 second (subst (λ (x : ℕ). x ≤ second) (sym r1.now) (up first quiet_wait))
+  none_2 = tick_in_time o1 second (subst (λ (x : ℕ). x ≤ second) (sym r1.now) (up first quiet_wait))
 
   fine_2 : IsFine o2
   fine_2 = fine_next (Ticked second) o1 none_2 fine_1
@@ -363,10 +363,14 @@ module _ (o : Keeping) (fine : IsFine o) (d : DrawopValue) (held : Contains o.ho
       ap (λ (s : Timers). is_answer_due third s.answer) timers_3 ∙ le_true answer.due third (omega (arith, le, now))
 
   pub none_4 : fault_of (Ticked third) o3 ≡ None
-  none_4 = in_time o3 third (subst (λ (x : ℕ). x ≤ third) (sym r3.now) (up second answering_wait))
+  none_4 = tick_in_time o3 third (subst (λ (x : ℕ). x ≤ third) (sym r3.now) (up second answering_wait))
 
   pub sends_it : Contains (sent_by_doing (ticks third) o3) (Draw d)
   sends_it = tick_sends third o3 (Draw d) (ticks_answer o3.host.is.number o3.host.is.constants o3.host.is.calls o3.host.is.held third d fine_3.once held_3 (ap (λ (s : Timers). s.ask) timers_3) due_3)
+
+-- one that holds a drawop is not the one that lacks it
+pub places_differ : (hosts : ℕ → Opening) (older : List LineAt) (i j : ℕ) (d : DrawopValue) → IsLost hosts older i j d → i ≡ j → ⊥
+places_differ hosts older i j d lost e = true≢false (sym (holds_from (host_at hosts older j).is.held d.name d lost.held refl) ∙ ap (λ (p : ℕ). holds (host_at hosts older p).is.held d.name) (sym e) ∙ lost.lost)
 
 -- ---- the six lines
 
@@ -383,8 +387,8 @@ module _ (hosts : ℕ → Opening) (older : List LineAt) (i j : ℕ) (d : Drawop
   abbrev asking : ℕ
   asking = present k.host + asking_wait
 
-  pub apart : i ≡ j → ⊥
-  apart e = true≢false (sym (holds_from o.host.is.held d.name d lost.held refl) ∙ ap (λ (p : ℕ). holds (host_at hosts older p).is.held d.name) (sym e) ∙ lost.lost)
+  apart : i ≡ j → ⊥
+  apart = places_differ hosts older i j d lost
 
   numbers : me ≡ o.host.is.number → ⊥
   numbers e = apart (are.distinct i j (sym (of_opening hosts older i).number ∙ e ∙ (of_opening hosts older j).number))
@@ -447,7 +451,7 @@ module _ (hosts : ℕ → Opening) (older : List LineAt) (i j : ℕ) (d : Drawop
   stage_0 = record { taken = taken; unforged = λ unforged. unforged; here = refl; there = refl }
 
   stage_1 : Stage hosts older l1 i j k1 o
-  stage_1 = first_next hosts older older i j apart k o stage_0 (Ticked asking) tt (in_time k asking (up_to (present k.host) asking_wait))
+  stage_1 = first_next hosts older older i j apart k o stage_0 (Ticked asking) tt (tick_in_time k asking (up_to (present k.host) asking_wait))
 
   sent_1 : Contains (sent hosts l1) (Request me d.name)
   sent_1 = did_send hosts older i (Ticked asking) k (Request me d.name) refl requests

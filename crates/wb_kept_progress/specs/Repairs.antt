@@ -1,7 +1,8 @@
 -- Lines that bring a drawop from a host that holds it to one that lacks it, where each keeps itself.
-use Rattle.std.specs.Prelude.{◌≡◌, ℕ, ◌+◌, true, false, List, [], ◌∷◌, ◌++◌, Contains}
-use Rattle.wb_names.specs.Values.{DrawopValue}
+use Rattle.std.specs.Prelude.{◌≡◌, ◌<◌, ℕ, ◌+◌, true, false, List, [], ◌∷◌, ◌++◌, Contains}
+use Rattle.wb_names.specs.Values.{DrawopValue, NameValue}
 use Rattle.wb_codec.specs.declared.datagram.Datagram.TheVariants.{Draw, Request}
+use Rattle.wb_gaps.specs.Gaps.{IsMissing}
 use Rattle.wb_progress.specs.Repairs.{asking_wait, answering_wait, quiet_wait}
 use Rattle.wb_member.specs.Judged.{holds, is_full}
 use Rattle.wb_member.specs.Opened.{Opened, asks_for, present}
@@ -46,3 +47,27 @@ repair i j host other d =
 abbrev pub AskedCanCome : Type 0
 AskedCanCome = (hosts : ℕ → Opening) (older : List LineAt) (i j : ℕ) (d : DrawopValue) → AreHosts hosts → AreTaken hosts older → IsLost hosts older i j d → asks_for d.name (host_at hosts older i) ≡ true
     → IsBrought hosts (repair i j (host_at hosts older i) (host_at hosts older j) d) older i d
+
+-- ---- a name below a top
+
+-- lines by which a host is told the time alone
+abbrev pub AreTicks : ℕ → List LineAt → Type 0
+AreTicks i [] = Unit {0}
+AreTicks i (e ∷ lines) = ((e.place ≡ i) × (now : ℕ) × (e.line ≡ Ticked now)) × AreTicks i lines
+
+-- By some ticks, of which none is refused, the request timer of a name comes to stand, and what the host holds stays.
+pub record ComesToAsk (hosts : ℕ → Opening) (newer older : List LineAt) (i : ℕ) (n : NameValue) : Type 0 where
+  pub ticks : AreTicks i newer
+  pub taken : AreTaken hosts (newer ++ older)
+  pub same : (host_at hosts (newer ++ older) i).is.held ≡ (host_at hosts older i).is.held
+  pub asked : asks_for n (host_at hosts (newer ++ older) i) ≡ true
+
+-- A number of a source that is missing below the greatest that a host holds of it comes to be asked for, where the board has a free cell.
+abbrev pub MissingIsAsked : Type 0
+MissingIsAsked = (hosts : ℕ → Opening) (older : List LineAt) (i : ℕ) (n : NameValue) → AreHosts hosts → AreTaken hosts older → IsMissing (host_at hosts older i).is.held n.page [] n.source n.seq → n.seq < 2147483648 → is_full (host_at hosts older i) ≡ false
+    → (newer : List LineAt) × ComesToAsk hosts newer older i n
+
+-- So it can come from one that holds it.
+abbrev pub MissingCanCome : Type 0
+MissingCanCome = (hosts : ℕ → Opening) (older : List LineAt) (i j : ℕ) (d : DrawopValue) → AreHosts hosts → AreTaken hosts older → IsLost hosts older i j d → IsMissing (host_at hosts older i).is.held d.name.page [] d.name.source d.name.seq → d.name.seq < 2147483648
+    → (newer : List LineAt) × IsBrought hosts newer older i d
