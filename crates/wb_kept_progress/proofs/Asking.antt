@@ -49,7 +49,7 @@ AreQuiet (Stops name ∷ lines) = AreQuiet lines
 AreQuiet (SetsDistance source micros ∷ lines) = AreQuiet lines
 AreQuiet (line ∷ lines) = ⊥
 
-none_new : None ≡ Some 0 → ⊥
+pub none_new : None ≡ Some 0 → ⊥
 none_new e = true≢false (sym (ap is_some e))
 
 -- a timer that is stopped is not new; any other is as it was

@@ -1,7 +1,8 @@
 -- At each host that keeps itself time goes on, and delays are in range.
 use Rattle.std.proofs.Common.{◌≡◌, ℕ, ◌≤◌, Bool, true, false, cond, List, [], ◌∷◌, ◌++◌, ◌∙◌, Option, Some, None, ap, arith, map, refl, subst, sym, true≢false, eqb-true}
-use Rattle.std.specs.Prelude.{IfSome, length, nat_eq, nat_le, nat_lt, take, min, max, ◌*◌, ◌/◌, ◌+◌}
+use Rattle.std.specs.Prelude.{IfSome, filter, length, nat_eq, nat_le, nat_lt, take, min, max, ◌*◌, ◌/◌, ◌+◌}
 use Rattle.std.proofs.lemmas.Bool.{leb-true}
+use Rattle.wb_names.specs.History.{highest}
 use Rattle.wb_names.specs.Values.{DrawopValue, MarkValue, NameValue}
 use Rattle.wb_names.specs.declared.name.PageId.{PageId}
 use Rattle.wb_codec.specs.declared.datagram.Datagram.{Datagram}
@@ -15,7 +16,7 @@ use Rattle.wb_member.specs.Opened.{Opened, doing, has_room_for, heard, may_ask, 
 use Rattle.wb_member.specs.Random.{word_of}
 use Rattle.wb_progress.specs.Keepers.{AreOrderly, farthest}
 use Rattle.wb_keeping.specs.Distances.{bounded, usual_with}
-use Rattle.wb_keeping.specs.Kept.{Arrives, Asks, Doing, Hears, Line, Says, SetsDistance, Stops, Ticks, Transition, and_then, answers, asks_pages, performs, reports, reports_due, reports_page, reports_rest, room_lines, state_of, still, stops_oldest, timed, turn, turn_to, usual_lines, want}
+use Rattle.wb_keeping.specs.Kept.{Arrives, Asks, Doing, Hears, Line, Says, SetsDistance, Stops, Ticks, Transition, and_then, answers, asks_pages, end, is_begun, is_unasked, learned, near_names, paid_for, performs, reports, reports_due, reports_page, reports_rest, room_lines, state_of, still, stops_oldest, timed, turn, turn_to, usual_lines, want, want_near}
 use Rattle.wb_keeping.specs.Laws.{KeptLine, doing_of, fault_of}
 use Rattle.wb_keeping.specs.Performing.{Keeping, after_doing, after_line, after_lines, sees, view_of}
 use Rattle.wb_keeping.specs.Policy.{Policy, View, after_answer, after_question, after_turn, after_wanting, holds, in_next_round, is_asked, is_full, level}
@@ -81,6 +82,27 @@ turn_to_small None None see p = tt
 
 pub turn_small : SaysLittle turn
 turn_small see p = turn_to_small (hole_after (see []).held p.turns.page p.turns.source p.turns.number) (hole_after (see []).held nowhere 0 0) see p
+
+want_near_small : (names : List NameValue) → SaysLittle (want_near names)
+want_near_small [] see p = tt
+want_near_small (name ∷ names) see p =
+    choose (is_unasked (see []) name) (cond (is_begun (want name false see p)) (and_then (want name false) (want_near names) see p) (still see p)) (want_near names see p)
+    (choose (is_begun (want name false see p)) (and_then (want name false) (want_near names) see p) (still see p) (both (want name false) (want_near names) (want_small name false) (want_near_small names) see p) tt)
+    (want_near_small names see p)
+
+stops_small : (asked : List AskedName) → AreSmall (map (λ (a : AskedName). Stops a.name) asked)
+stops_small [] = tt
+stops_small (a ∷ asked) = (tt, stops_small asked)
+
+pub learned_small : (name : NameValue) (was : Bool) → SaysLittle (learned name was)
+learned_small name was see p =
+    let v = see [] in
+    let near = near_names name (highest name.page name.source v.held) in
+    let next = paid_for was p in
+    let left = cond was (turn see next) (still see p) in
+    let rest = cond (nat_lt 0 (length (filter (is_unasked v) near))) (want_near near see next) left in
+    choose (is_full v) (end see p) rest (stops_small v.asked)
+    (choose (nat_lt 0 (length (filter (is_unasked v) near))) (want_near near see next) left (want_near_small near see next) (choose was (turn see next) (still see p) (turn_small see next) tt))
 
 states_small : (v : View) (pages : List PageId) → AreSmall (map (λ (page : PageId). Says (state_of v page)) pages)
 states_small v [] = tt

@@ -39,7 +39,7 @@ use Rattle.wb_keeping.proofs.EachStep.{having}
 use Rattle.wb_keeping.proofs.Performed.{then_after, then_sent}
 use Rattle.wb_kept_progress.specs.Repairs.{AskedCanCome, IsBrought, IsLost, host_at, repair}
 use Rattle.wb_kept_progress.specs.Sessions.{AreHosts, AreTaken, LineAt, NothingIsForged, Opening, WasSent, at, kept_at, opened_host, sent}
-use Rattle.wb_kept_progress.proofs.Going.{Goes, kept_goes, line_goes, timed_small}
+use Rattle.wb_kept_progress.proofs.Going.{Goes, kept_goes, learned_small, line_goes, timed_small}
 use Rattle.wb_kept_progress.proofs.Lines.{IsOf, Rests, is_false, lines_grow, lines_of, lines_rest}
 
 -- ---- one line of a host that keeps itself
@@ -55,7 +55,7 @@ tick_sends now k v c =
     subst (λ (s : List Datagram). Contains s v) (sym (then_sent (performs (Ticks now)) timed k))
     (Contains-append_left (sent_by now k.host ++ []) (sent_by_doing timed m) v (Contains-append_left (sent_by now k.host) [] v c))
 
-came_after : (now : ℕ) (v : Datagram) (k : Keeping) → after_doing (came now v) k ≡ after_doing timed (after_doing (hears v) (having (Ticks now) k))
+pub came_after : (now : ℕ) (v : Datagram) (k : Keeping) → after_doing (came now v) k ≡ after_doing timed (after_doing (hears v) (having (Ticks now) k))
 came_after now v k = then_after (performs (Ticks now)) (and_then (hears v) timed) k ∙ then_after (hears v) timed (having (Ticks now) k)
 
 -- it hears a request of another
@@ -81,16 +81,13 @@ fresh cells k (x ∷ h) d lost room = from (fresh cells (k + 1) h d) (same_name 
   from rest true e = absurd (true≢false e)
   from rest false e = rest e (omega (arith, room))
 
-taken_in : (host : Opened) (d : DrawopValue) → holds host.is.held d.name ≡ false → is_full host ≡ false → Contains (after_line (Arrives d) host).is.held d
+taken_in : (host : Opened) (d : DrawopValue) → holds host.is.held d.name ≡ false → is_full host ≡ false → (after_line (Arrives d) host).is.held ≡ host.is.held ++ d ∷ []
 taken_in host d lost room =
     let lt = leb-false host.is.cells (length host.is.held) room in
     let f = fresh host.is.cells 0 host.is.held d lost (omega (arith, lt)) in
-    subst (λ (o : Outcome). Contains (history_with host.is.held d o) d) (sym f.1) (Contains-append_right host.is.held (d ∷ []) d (Contains-here d []))
+    ap (history_with host.is.held d) f.1
 
-grown : (does : Transition) (k : Keeping) (d : DrawopValue) → Contains k.host.is.held d → Contains (after_doing does k).host.is.held d
-grown does k d c = (lines_grow (does (sees k.host) k.policy).lines k.host).kept d c
-
-pub drawop_held : (now : ℕ) (d : DrawopValue) (k : Keeping) → holds k.host.is.held d.name ≡ false → is_full k.host ≡ false → Contains (after_doing (came now (Draw d)) k).host.is.held d
+pub drawop_held : (now : ℕ) (d : DrawopValue) (k : Keeping) → holds k.host.is.held d.name ≡ false → is_full k.host ≡ false → (after_doing (came now (Draw d)) k).host.is.held ≡ k.host.is.held ++ d ∷ []
 drawop_held now d k lost room =
     let m = having (Ticks now) k in
     let asked = is_asked (view_of m.host) d.name in
@@ -101,7 +98,10 @@ drawop_held now d k lost room =
     ∙ ap (λ (b : Bool). done m (cond b (performs (Arrives d) (sees m.host) m.policy) (new (sees m.host) m.policy))) room in
     let there : after_doing (came now (Draw d)) k ≡ after_doing timed (after_doing second (having (Arrives d) m)) = came_after now (Draw d) k ∙ ap (after_doing timed) (taken_so ∙ then_after (performs (Arrives d)) second m) in
     let g = having (Arrives d) m in
-    subst (λ (x : Keeping). Contains x.host.is.held d) (sym there) (grown timed (after_doing second g) d (grown second g d (taken_in m.host d lost room)))
+    let h = after_doing second g in
+    let one = lines_rest (second (sees g.host) g.policy).lines g.host (learned_small d.name asked (sees g.host) g.policy) in
+    let two = lines_rest (timed (sees h.host) h.policy).lines h.host (timed_small (sees h.host) h.policy) in
+    ap (λ (x : Keeping). x.host.is.held) there ∙ two.held ∙ one.held ∙ taken_in m.host d lost room
 
 -- ---- no line is refused
 
@@ -365,6 +365,9 @@ module _ (o : Keeping) (fine : IsFine o) (d : DrawopValue) (held : Contains o.ho
   pub none_4 : fault_of (Ticked third) o3 ≡ None
   none_4 = tick_in_time o3 third (subst (λ (x : ℕ). x ≤ third) (sym r3.now) (up second answering_wait))
 
+  pub kept_4 : (after_doing (ticks third) o3).host.is.held ≡ o.host.is.held
+  kept_4 = (tick_rests third o3).held ∙ r3.held ∙ r2.held ∙ r1.held
+
   pub sends_it : Contains (sent_by_doing (ticks third) o3) (Draw d)
   sends_it = tick_sends third o3 (Draw d) (ticks_answer o3.host.is.number o3.host.is.constants o3.host.is.calls o3.host.is.held third d fine_3.once held_3 (ap (λ (s : Timers). s.ask) timers_3) due_3)
 
@@ -499,11 +502,12 @@ module _ (hosts : ℕ → Opening) (older : List LineAt) (i j : ℕ) (d : Drawop
     le_itself : (a : ℕ) → a ≤ a
     le_itself a = omega arith
 
-  pub brought : IsBrought hosts (repair i j (host_at hosts older i) (host_at hosts older j) d) older i d
+  pub brought : IsBrought hosts (repair i j (host_at hosts older i) (host_at hosts older j) d) older i j d
   brought = record {
     taken = stage_6.taken;
     unforged = stage_6.unforged;
-    held = subst (λ (m : Keeping). Contains m.host.is.held d) (sym stage_6.here) (drawop_held asking d k1 lost_1 room_1);
+    held = ap (λ (m : Keeping). m.host.is.held) stage_6.here ∙ drawop_held asking d k1 lost_1 room_1 ∙ ap (λ (h : List DrawopValue). h ++ d ∷ []) rests.held;
+    kept = ap (λ (m : Keeping). m.host.is.held) stage_6.there ∙ kept_4 o fine_o d lost.held me numbers;
   }
 
 pub asked_can_come : AskedCanCome

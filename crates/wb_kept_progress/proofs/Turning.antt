@@ -364,13 +364,15 @@ not_ours n host small = by (nat_eq n.source host.is.number) where
   by false = refl
 
 -- what lines bring that follow others, all of them bring
-pub brought_behind : (hosts : ℕ → Opening) (newer more older : List LineAt) (i : ℕ) (d : DrawopValue) → (NothingIsForged hosts older → NothingIsForged hosts (more ++ older)) → IsBrought hosts newer (more ++ older) i d → IsBrought hosts (newer ++ more) older i d
-brought_behind hosts newer more older i d unforged b =
-    let e = sym (append_assoc newer more older) in
+pub brought_behind : (hosts : ℕ → Opening) (newer more older : List LineAt) (i j : ℕ) (d : DrawopValue) → (NothingIsForged hosts older → NothingIsForged hosts (more ++ older))
+    → (host_at hosts (more ++ older) i).is.held ≡ (host_at hosts older i).is.held → (host_at hosts (more ++ older) j).is.held ≡ (host_at hosts older j).is.held → IsBrought hosts newer (more ++ older) i j d → IsBrought hosts (newer ++ more) older i j d
+brought_behind hosts newer more older i j d unforged same_i same_j b =
+    let e = append_assoc newer more older in
     record {
-      taken = subst (AreTaken hosts) e b.taken;
-      unforged = λ none. subst (NothingIsForged hosts) e (b.unforged (unforged none));
-      held = subst (λ (lines : List LineAt). Contains (host_at hosts lines i).is.held d) e b.held;
+      taken = subst (AreTaken hosts) (sym e) b.taken;
+      unforged = λ none. subst (NothingIsForged hosts) (sym e) (b.unforged (unforged none));
+      held = ap (λ (lines : List LineAt). (host_at hosts lines i).is.held) e ∙ b.held ∙ ap (λ (h : List DrawopValue). h ++ d ∷ []) same_i;
+      kept = ap (λ (lines : List LineAt). (host_at hosts lines j).is.held) e ∙ b.kept ∙ same_j;
     }
 
 module _ (hosts : ℕ → Opening) (older : List LineAt) (i j : ℕ) (d : DrawopValue) (are : AreHosts hosts) (taken : AreTaken hosts older) (lost : IsLost hosts older i j d) where
@@ -385,7 +387,7 @@ module _ (hosts : ℕ → Opening) (older : List LineAt) (i j : ℕ) (d : Drawop
         known = not_ours d.name (host_at hosts lines i) small;
       }
 
-  pub by_turn : IsMissing (host_at hosts older i).is.held d.name.page [] d.name.source d.name.seq → d.name.seq < 2147483648 → (newer : List LineAt) × IsBrought hosts newer older i d
+  pub by_turn : IsMissing (host_at hosts older i).is.held d.name.page [] d.name.source d.name.seq → d.name.seq < 2147483648 → (newer : List LineAt) × IsBrought hosts newer older i j d
   by_turn missing small =
       let k = kept_at hosts older i in
       let turn = has_a_turn k.host.is.held k.policy.turns d.name missing small in
@@ -393,7 +395,7 @@ module _ (hosts : ℕ → Opening) (older : List LineAt) (i j : ℕ) (d : Drawop
       let asks = comes_to_ask hosts older i d.name turn.0 taken lost.lost lost.room turn.1 in
       let lines = more ++ older in (
         repair i j (host_at hosts lines i) (host_at hosts lines j) d ++ more,
-        brought_behind hosts (repair i j (host_at hosts lines i) (host_at hosts lines j) d) more older i d (ticks_unforged hosts older i (suc turn.0)) (asked_can_come hosts lines i j d are asks.taken (still_lost (suc turn.0) small) asks.asked),
+        brought_behind hosts (repair i j (host_at hosts lines i) (host_at hosts lines j) d) more older i j d (ticks_unforged hosts older i (suc turn.0)) (ticks_hold hosts older i (suc turn.0)) (ap (λ (x : Keeping). x.host.is.held) (others_stay hosts older i (suc turn.0) j (places_differ hosts older i j d lost))) (asked_can_come hosts lines i j d are asks.taken (still_lost (suc turn.0) small) asks.asked),
       )
 
 pub missing_can_come : MissingCanCome

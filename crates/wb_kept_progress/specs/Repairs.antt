@@ -20,11 +20,13 @@ pub record IsLost (hosts : ℕ → Opening) (older : List LineAt) (i j : ℕ) (d
   pub room : is_full (host_at hosts older i) ≡ false
   pub known : is_unknown d.name (host_at hosts older i) ≡ false
 
--- No line more is refused, and none brings what was not sent. After them the host holds the drawop.
-pub record IsBrought (hosts : ℕ → Opening) (newer older : List LineAt) (i : ℕ) (d : DrawopValue) : Type 0 where
+-- No line more is refused, and none brings what was not sent. After them the one holds the drawop beside what it held, and the other
+-- what it held.
+pub record IsBrought (hosts : ℕ → Opening) (newer older : List LineAt) (i j : ℕ) (d : DrawopValue) : Type 0 where
   pub taken : AreTaken hosts (newer ++ older)
   pub unforged : NothingIsForged hosts older → NothingIsForged hosts (newer ++ older)
-  pub held : Contains (host_at hosts (newer ++ older) i).is.held d
+  pub held : (host_at hosts (newer ++ older) i).is.held ≡ (host_at hosts older i).is.held ++ d ∷ []
+  pub kept : (host_at hosts (newer ++ older) j).is.held ≡ (host_at hosts older j).is.held
 
 -- ---- a name that is asked for
 
@@ -46,7 +48,7 @@ repair i j host other d =
 -- Whatever came in before: where its request timer stands, these lines bring it.
 abbrev pub AskedCanCome : Type 0
 AskedCanCome = (hosts : ℕ → Opening) (older : List LineAt) (i j : ℕ) (d : DrawopValue) → AreHosts hosts → AreTaken hosts older → IsLost hosts older i j d → asks_for d.name (host_at hosts older i) ≡ true
-    → IsBrought hosts (repair i j (host_at hosts older i) (host_at hosts older j) d) older i d
+    → IsBrought hosts (repair i j (host_at hosts older i) (host_at hosts older j) d) older i j d
 
 -- ---- a name below a top
 
@@ -70,4 +72,4 @@ MissingIsAsked = (hosts : ℕ → Opening) (older : List LineAt) (i : ℕ) (n : 
 -- So it can come from one that holds it.
 abbrev pub MissingCanCome : Type 0
 MissingCanCome = (hosts : ℕ → Opening) (older : List LineAt) (i j : ℕ) (d : DrawopValue) → AreHosts hosts → AreTaken hosts older → IsLost hosts older i j d → IsMissing (host_at hosts older i).is.held d.name.page [] d.name.source d.name.seq → d.name.seq < 2147483648
-    → (newer : List LineAt) × IsBrought hosts newer older i d
+    → (newer : List LineAt) × IsBrought hosts newer older i j d
