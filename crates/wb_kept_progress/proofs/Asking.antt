@@ -8,7 +8,7 @@ use Rattle.wb_names.specs.Values.{DrawopValue, NameValue}
 use Rattle.wb_names.proofs.Listings.{Contains-cases, Contains-here, Contains-none, Contains-there}
 use Rattle.wb_names.proofs.Orders.{same_name-is}
 use Rattle.wb_recovery.specs.Events.{asking, names_of, timers_of}
-use Rattle.wb_recovery.specs.Timing.{new_ask, noticed}
+use Rattle.wb_recovery.specs.Timing.{got, new_ask, noticed}
 use Rattle.wb_recovery.specs.declared.timers.AskTimer.{AskTimer}
 use Rattle.wb_recovery.specs.declared.timers.Timers.{Timers}
 use Rattle.wb_recovery.specs.declared.tuning.Tuning.{Tuning}
@@ -57,7 +57,7 @@ stop_leaves : (name n : NameValue) (host : Opened) → same_name name n ≡ fals
 stop_leaves name n host other = by (asks_for name host) where
   by : (b : Bool) → level_in (timers_of host.is.constants (given_up (present host) name b (events host)) n).ask ≡ level host n
   by false = refl
-  by true = ap (λ (b : Bool). level_in (cond b (timers_of host.is.constants (given_up (present host) name true (events host)) name) (timers_of host.is.constants (events host) n)).ask) other
+  by true = ap (λ (b : Bool). level_in (cond b (got (present host) 0 (timers_of host.is.constants (events host) n)) (timers_of host.is.constants (events host) n)).ask) other
 
 stop_ends : (name : NameValue) (host : Opened) → level (after_line (Stops name) host) name ≡ None
 stop_ends name host = by (asks_for name host) refl where
@@ -114,7 +114,7 @@ asks_leaves name n host other = by (may_ask name host) where
 
   by : (b : Bool) → level (cond b asking_host host) n ≡ level host n
   by false = refl
-  by true = ap (λ (b : Bool). level_in (cond b (timers_of host.is.constants (events asking_host) name) (timers_of host.is.constants (events host) n)).ask) other
+  by true = ap (λ (b : Bool). level_in (cond b (noticed host.is.constants (present host) (delay_to host.is.number host.is.calls name.source) (word_of host.random) (timers_of host.is.constants (events host) n)) (timers_of host.is.constants (events host) n)).ask) other
 
 asks_new : (name n : NameValue) (host : Opened) → IsNew (after_line (Asks name) host) n → (name ≡ n) ⊎ IsNew host n
 asks_new name n host new = by (same_name name n) refl where

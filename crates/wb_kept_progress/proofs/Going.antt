@@ -273,9 +273,9 @@ pub kept_goes : (hosts : ℕ → Opening) → AreHosts hosts → (lines : List L
 kept_goes hosts are [] taken i =
     let o = hosts i in
     record { orderly = opening_goes o.moments (opened_with o.constants o.number o.cells o.seed) 0 refl (are.moments i) tt; near = tt }
-kept_goes hosts are (e ∷ older) taken i = by (nat_eq e.place i) refl where
-  by : (b : Bool) → nat_eq e.place i ≡ b → Goes (cond b (after_doing (doing_of e.line) (kept_at hosts older i)) (kept_at hosts older i))
-  by false other = kept_goes hosts are older taken.1 i
-  by true same =
+kept_goes hosts are (e ∷ older) taken i = by (kept_goes hosts are older taken.1 i) (nat_eq e.place i) refl where
+  by : Goes (kept_at hosts older i) → (b : Bool) → nat_eq e.place i ≡ b → Goes (cond b (after_doing (doing_of e.line) (kept_at hosts older i)) (kept_at hosts older i))
+  by goes false other = goes
+  by goes true same =
       let at_i = eqb-true e.place i same in
-      line_goes e.line (kept_at hosts older i) (subst (λ (k : ℕ). fault_of e.line (kept_at hosts older k) ≡ None) at_i taken.0) (kept_goes hosts are older taken.1 i)
+      line_goes e.line (kept_at hosts older i) (subst (λ (k : ℕ). fault_of e.line (kept_at hosts older k) ≡ None) at_i taken.0) goes

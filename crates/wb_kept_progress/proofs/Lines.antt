@@ -14,10 +14,11 @@ use Rattle.wb_names.proofs.Orders.{same_name-is}
 use Rattle.wb_codec.specs.declared.datagram.Datagram.{Datagram}
 use Rattle.wb_codec.specs.declared.datagram.Datagram.TheVariants.{Draw, Session, Request, AskPages, PageState}
 use Rattle.wb_recovery.specs.Events.{timers_of}
+use Rattle.wb_recovery.specs.Timing.{got, noticed}
 use Rattle.wb_recovery.specs.declared.timers.AskTimer.{AskTimer}
 use Rattle.wb_recovery.specs.declared.timers.Timers.{Timers}
 use Rattle.wb_host.specs.GivingUp.{is_asked}
-use Rattle.wb_host.specs.Keeper.{given_up, holds}
+use Rattle.wb_host.specs.Keeper.{delay_to, given_up, holds}
 use Rattle.wb_host.proofs.KeptCalls.{same_here}
 use Rattle.wb_member.specs.Members.{Misses}
 use Rattle.wb_member.specs.Opened.{Opened, accepted, asks_for, doing, events, has_room_for, heard, may_ask, present}
@@ -193,7 +194,7 @@ asks_rest name host = by (may_ask name host) refl where
   by true may = record {
     held = refl;
     now = refl;
-    timers = λ n held none. ap (λ (b : Bool). cond b (timers_of asking.is.constants (events asking) name) (timers_of host.is.constants (events host) n)) (another host name n may held);
+    timers = λ n held none. ap (λ (b : Bool). cond b (noticed host.is.constants (present host) (delay_to host.is.number host.is.calls name.source) (word_of host.random) (timers_of host.is.constants (events host) n)) (timers_of host.is.constants (events host) n)) (another host name n may held);
   }
   by false may = rest host
 
@@ -201,7 +202,7 @@ stops_rest : (name : NameValue) (host : Opened) → Rests host (after_line (Stop
 stops_rest name host = record { held = refl; now = refl; timers = λ n held none. by n none (asks_for name host) refl } where
   by : (n : NameValue) → (timers_of host.is.constants (events host) n).ask ≡ None → (b : Bool) → asks_for name host ≡ b → timers_of host.is.constants (given_up (present host) name b (events host)) n ≡ timers_of host.is.constants (events host) n
   by n none false e = refl
-  by n none true e = ap (λ (b : Bool). cond b (timers_of host.is.constants (given_up (present host) name true (events host)) name) (timers_of host.is.constants (events host) n)) (is_false (same_name name n) (λ same.
+  by n none true e = ap (λ (b : Bool). cond b (got (present host) 0 (timers_of host.is.constants (events host) n)) (timers_of host.is.constants (events host) n)) (is_false (same_name name n) (λ same.
       let asked : is_some (timers_of host.is.constants (events host) n).ask ≡ true = subst (λ (m : NameValue). asks_for m host ≡ true) (same_name-is name n same) e in
       true≢false (sym asked ∙ ap is_some none)))
 

@@ -1,5 +1,5 @@
 -- The lines of a repair, one after another.
-use Rattle.std.proofs.Common.{◌≡◌, ℕ, ◌+◌, ◌<◌, ◌≤◌, Bool, true, false, cond, List, [], ◌∷◌, ◌++◌, ◌∙◌, Option, Some, None, ap, arith, eqb-true, length, refl, subst, sym, true≢false}
+use Rattle.std.proofs.Common.{◌≡◌, ℕ, ◌+◌, ◌<◌, ◌≤◌, Bool, true, false, cond, List, [], ◌∷◌, ◌++◌, ◌∙◌, Option, Some, None, ap, arith, eqb-true, length, map, refl, subst, sym, true≢false}
 use Rattle.std.specs.Prelude.{Contains, IfSome, is_none, is_some, nat_eq, nat_le, nat_lt, not, ◌||◌}
 use Rattle.std.proofs.lemmas.Bool.{leb-false}
 use Rattle.std.proofs.lemmas.Bool.Decides.{nat_tests}
@@ -134,30 +134,29 @@ fine_next line k none f =
 
 module _ (hosts : ℕ → Opening) where
   pub of_opening : (lines : List LineAt) (i : ℕ) → IsOf (opened_with (hosts i).constants (hosts i).number (hosts i).cells (hosts i).seed) (host_at hosts lines i)
-  of_opening [] i = lines_of _ _
-  of_opening (e ∷ older) i = by (nat_eq e.place i) where
+  of_opening [] i = lines_of (map Ticks (hosts i).moments) (opened_with (hosts i).constants (hosts i).number (hosts i).cells (hosts i).seed)
+  of_opening (e ∷ older) i = by (of_opening older i) (nat_eq e.place i) where
     start : Opened
     start = opened_with (hosts i).constants (hosts i).number (hosts i).cells (hosts i).seed
 
     k : Keeping
     k = kept_at hosts older i
 
-    by : (b : Bool) → IsOf start (cond b (after_doing (doing_of e.line) k) k).host
-    by false = of_opening older i
-    by true =
+    by : IsOf start k.host → (b : Bool) → IsOf start (cond b (after_doing (doing_of e.line) k) k).host
+    by rest false = rest
+    by rest true =
         let one = lines_of (doing_of e.line (sees k.host) k.policy).lines k.host in
-        let rest = of_opening older i in
         record { number = one.number ∙ rest.number; cells = one.cells ∙ rest.cells; constants = one.constants ∙ rest.constants }
 
   pub held_once : (lines : List LineAt) (i : ℕ) → IsHistory (host_at hosts lines i).is.held
-  held_once [] i = (lines_grow _ (opened_with (hosts i).constants (hosts i).number (hosts i).cells (hosts i).seed)).once (λ j k d jk lt. absurd (omega arith))
-  held_once (e ∷ older) i = by (nat_eq e.place i) where
+  held_once [] i = (lines_grow (map Ticks (hosts i).moments) (opened_with (hosts i).constants (hosts i).number (hosts i).cells (hosts i).seed)).once (λ j k d jk lt. absurd (omega arith))
+  held_once (e ∷ older) i = by (held_once older i) (nat_eq e.place i) where
     k : Keeping
     k = kept_at hosts older i
 
-    by : (b : Bool) → IsHistory (cond b (after_doing (doing_of e.line) k) k).host.is.held
-    by false = held_once older i
-    by true = (lines_grow (doing_of e.line (sees k.host) k.policy).lines k.host).once (held_once older i)
+    by : IsHistory k.host.is.held → (b : Bool) → IsHistory (cond b (after_doing (doing_of e.line) k) k).host.is.held
+    by once false = once
+    by once true = (lines_grow (doing_of e.line (sees k.host) k.policy).lines k.host).once once
 
   pub fine_at : AreHosts hosts → (lines : List LineAt) → AreTaken hosts lines → (i : ℕ) → IsFine (kept_at hosts lines i)
   fine_at are lines taken i = record {

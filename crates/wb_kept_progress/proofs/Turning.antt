@@ -52,14 +52,14 @@ pub answers_on : (does : Transition) (k : Keeping) → AnswersWhatIsHeld k.host 
 answers_on does k old name = lines_answer_held name (does (sees k.host) k.policy).lines k.host (old name)
 
 pub answers_at : (hosts : ℕ → Opening) (lines : List LineAt) (i : ℕ) → AnswersWhatIsHeld (host_at hosts lines i)
-answers_at hosts [] i name = lines_answer_held name (map Ticks (hosts i).moments) (opened_with (hosts i).constants (hosts i).number (hosts i).cells (hosts i).seed) (λ e. absurd (true≢false (sym e)))
-answers_at hosts (e ∷ older) i = by (nat_eq e.place i) where
+answers_at hosts [] i = λ name. lines_answer_held name (map Ticks (hosts i).moments) (opened_with (hosts i).constants (hosts i).number (hosts i).cells (hosts i).seed) (λ e. absurd (true≢false (sym e)))
+answers_at hosts (e ∷ older) i = by (answers_at hosts older i) (nat_eq e.place i) where
   k : Keeping
   k = kept_at hosts older i
 
-  by : (b : Bool) → AnswersWhatIsHeld (cond b (after_doing (doing_of e.line) k) k).host
-  by true = answers_on (doing_of e.line) k (answers_at hosts older i)
-  by false = answers_at hosts older i
+  by : AnswersWhatIsHeld k.host → (b : Bool) → AnswersWhatIsHeld (cond b (after_doing (doing_of e.line) k) k).host
+  by rest true = answers_on (doing_of e.line) k rest
+  by rest false = rest
 
 -- ---- one tick
 
@@ -296,12 +296,21 @@ module _ (hosts : ℕ → Opening) (older : List LineAt) (i : ℕ) where
 
 -- ---- a number below a top
 
-in_flat : {X Y : Type 0} (f : X → List Y) (xs : List X) (x : X) (y : Y) → Contains xs x → Contains (f x) y → Contains (flat_map f xs) y
-in_flat f [] x y among there = absurd (Contains-none x among)
-in_flat f (z ∷ xs) x y among there = ⊎_elim
-    (λ (e : z ≡ x). Contains-append_left (f z) (flat_map f xs) y (subst (λ (w : X). Contains (f w) y) (sym e) there))
-    (λ (c : Contains xs x). Contains-append_right (f z) (flat_map f xs) y (in_flat f xs x y c there))
-    (Contains-cases z x xs among)
+module _ {X Y : Type 0} (f : X → List Y) where
+  in_flat : (xs : List X) (x : X) (y : Y) → Contains xs x → Contains (f x) y → Contains (flat_map f xs) y
+  in_flat [] x y among in_it = absurd (Contains-none x among)
+  in_flat (z ∷ xs) x y among in_it = ⊎_elim
+      (λ (e : z ≡ x). Contains-append_left (f z) (flat_map f xs) y (subst (λ (w : X). Contains (f w) y) (sym e) in_it))
+      (λ (c : Contains xs x). Contains-append_right (f z) (flat_map f xs) y (in_flat xs x y c in_it))
+      (Contains-cases z x xs among)
+
+module _ {X Y : Type 0} (f : X → Y) where
+  pub in_map : (xs : List X) (x : X) → Contains xs x → Contains (map f xs) (f x)
+  in_map [] x c = absurd (Contains-none x c)
+  in_map (z ∷ xs) x c = ⊎_elim
+      (λ (e : z ≡ x). subst (λ (w : X). Contains (f z ∷ map f xs) (f w)) e (Contains-here (f z) (map f xs)))
+      (λ (c : Contains xs x). Contains-there (f z) (f x) (map f xs) (in_map xs x c))
+      (Contains-cases z x xs c)
 
 pub missing_is_lacked : (held : List DrawopValue) (n : NameValue) → IsMissing held n.page [] n.source n.seq → holds held n ≡ false
 missing_is_lacked held n missing = holds_not held n missing.not_held
@@ -313,13 +322,6 @@ record IsInHole (held : List DrawopValue) (n : NameValue) : Type 0 where
   source : gap.source ≡ n.source
   first : gap.first ≤ n.seq
   last : n.seq ≤ gap.last
-
-in_map : {X Y : Type 0} (f : X → Y) (xs : List X) (x : X) → Contains xs x → Contains (map f xs) (f x)
-in_map f [] x c = absurd (Contains-none x c)
-in_map f (z ∷ xs) x c = ⊎_elim
-    (λ (e : z ≡ x). subst (λ (w : _). Contains (f z ∷ map f xs) (f w)) e (Contains-here (f z) (map f xs)))
-    (λ (c : Contains xs x). Contains-there (f z) (f x) (map f xs) (in_map f xs x c))
-    (Contains-cases z x xs c)
 
 -- its page has drawops
 on_page : (held : List DrawopValue) (n : NameValue) → IsMissing held n.page [] n.source n.seq → Contains (pages_of held) n.page
