@@ -49,7 +49,7 @@ AreQuiet (Stops name ∷ lines) = AreQuiet lines
 AreQuiet (SetsDistance source micros ∷ lines) = AreQuiet lines
 AreQuiet (line ∷ lines) = ⊥
 
-pub none_new : None ≡ Some 0 → ⊥
+pub none_new : ◌≡◌ {A = Option ℕ} None (Some 0) → ⊥
 none_new e = true≢false (sym (ap is_some e))
 
 -- a timer that is stopped is not new; any other is as it was
@@ -81,13 +81,10 @@ stop_ends name host = by (asks_for name host) refl where
 
 quiet_leave : (lines : List Line) (n : NameValue) (host : Opened) → AreQuiet lines → IsNew (after_lines lines host) n → IsNew host n
 quiet_leave [] n host quiet new = new
-quiet_leave (Stops name ∷ lines) n host quiet new = by (same_name name n) refl where
-  there : IsNew (after_line (Stops name) host) n
-  there = quiet_leave lines n (after_line (Stops name) host) quiet new
-
-  by : (b : Bool) → same_name name n ≡ b → IsNew host n
-  by false other = sym (stop_leaves name n host other) ∙ there
-  by true same = absurd (none_new (sym (subst (λ (m : NameValue). level (after_line (Stops name) host) m ≡ None) (same_name-is name n same) (stop_ends name host)) ∙ there))
+quiet_leave (Stops name ∷ lines) n host quiet new = by (quiet_leave lines n (after_line (Stops name) host) quiet new) (same_name name n) refl where
+  by : IsNew (after_line (Stops name) host) n → (b : Bool) → same_name name n ≡ b → IsNew host n
+  by there false other = sym (stop_leaves name n host other) ∙ there
+  by there true same = absurd (none_new (sym (subst (λ (m : NameValue). level (after_line (Stops name) host) m ≡ None) (same_name-is name n same) (stop_ends name host)) ∙ there))
 quiet_leave (SetsDistance source micros ∷ lines) n host quiet new = quiet_leave lines n (after_line (SetsDistance source micros) host) quiet new
 quiet_leave (Asks name ∷ lines) n host quiet new = absurd quiet
 quiet_leave (line ∷ lines) n host quiet new = absurd quiet
@@ -201,14 +198,14 @@ oldest_is_one a (x ∷ later) =
 -- each is told with the level of its timer
 told_level : (timers : NameValue → Timers) (names : List NameValue) (b : AskedName) → Contains (asked_with timers names) b → level_in (timers b.name).ask ≡ Some b.level
 told_level timers [] b c = absurd (Contains-none b c)
-told_level timers (n ∷ names) b c = by (timers n).ask refl c where
-  by : (o : Option AskTimer) → (timers n).ask ≡ o → Contains (cons_option (asked_name n o) (asked_with timers names)) b → level_in (timers b.name).ask ≡ Some b.level
-  by None e c = told_level timers names b c
-  by (Some a) e c =
+told_level timers (n ∷ names) b c = by (told_level timers names b) (timers n).ask refl c where
+  by : (Contains (asked_with timers names) b → level_in (timers b.name).ask ≡ Some b.level) → (o : Option AskTimer) → (timers n).ask ≡ o → Contains (cons_option (asked_name n o) (asked_with timers names)) b → level_in (timers b.name).ask ≡ Some b.level
+  by later None e c = later c
+  by later (Some a) e c =
       let first : AskedName = record { name = n; level = a.level } in
       ⊎_elim
       (λ (same : first ≡ b). subst (λ (x : AskedName). level_in (timers x.name).ask ≡ Some x.level) same (ap level_in e))
-      (λ (c : Contains (asked_with timers names) b). told_level timers names b c)
+      later
       (Contains-cases first b (asked_with timers names) c)
 
 level_told : (host : Opened) (b : AskedName) → Contains (view_of host).asked b → level host b.name ≡ Some b.level
@@ -493,14 +490,14 @@ stay_asked (name ∷ names) k n is =
 -- of at most 64 names that are told each is asked for
 pub told_is_asked : (names : List NameValue) (k : Keeping) (n : NameValue) (used : ℕ) → Contains names n → used + length names ≤ 64 → MayBeAsked k n used → IsAskedAnew (after_doing (want_told names) k) n
 told_is_asked [] k n used among few may = absurd (Contains-none n among)
-told_is_asked (name ∷ names) k n used among few may = subst (λ (x : Keeping). IsAskedAnew x n) (sym (then_after (want name true) (want_told names) k)) (by (same_name name n) refl) where
+told_is_asked (name ∷ names) k n used among few may = subst (λ (x : Keeping). IsAskedAnew x n) (sym (then_after (want name true) (want_told names) k)) (by (told_is_asked names (after_doing (want name true) k) n (suc used)) (same_name name n) refl) where
   m : Keeping
   m = after_doing (want name true) k
 
-  by : (b : Bool) → same_name name n ≡ b → IsAskedAnew (after_doing (want_told names) m) n
-  by true same =
+  by : (Contains names n → suc used + length names ≤ 64 → MayBeAsked m n (suc used) → IsAskedAnew (after_doing (want_told names) m) n) → (b : Bool) → same_name name n ≡ b → IsAskedAnew (after_doing (want_told names) m) n
+  by later true same =
       let taken = is_taken k n used (omega (arith, few)) may in
       stay_asked names m n (subst (λ (x : NameValue). IsAskedAnew (after_doing (want x true) k) n) (sym (same_name-is name n same)) taken)
-  by false other =
+  by later false other =
       let rest = ⊎_elim (λ (e : name ≡ n). absurd (true≢false (sym (same_here name n e) ∙ other))) (λ (c : Contains names n). c) (Contains-cases name n names among) in
-      told_is_asked names m n (suc used) rest (omega (arith, few)) (passes name k n used other may)
+      later rest (omega (arith, few)) (passes name k n used other may)

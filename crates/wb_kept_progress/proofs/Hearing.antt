@@ -3,6 +3,7 @@ use Rattle.std.proofs.Common.{◌≡◌, ℕ, suc, ◌+◌, ◌*◌, ◌^◌, �
 use Rattle.std.specs.Prelude.{◌&&◌, ◌||◌, Contains, IfSome, filter, is_some, max, min, nat_eq, nat_le, nat_lt, not, take, unwrap_or}
 use Rattle.std.proofs.Math.Nat.{mul-le-mul, pow-le-pow_right}
 use Rattle.std.proofs.lemmas.List.Sums.{count_by-le-length, length-filter}
+use Rattle.wb_names.specs.History.{name_of}
 use Rattle.wb_names.specs.Values.{DrawopValue, MarkValue, NameValue}
 use Rattle.wb_names.specs.declared.echo.Echo.{Echo}
 use Rattle.wb_names.specs.declared.name.PageId.{PageId}
@@ -236,7 +237,7 @@ at_most_all me page marks =
     let few = count_by-le-length p marks in
     let same = mapped (filter p marks) in
     omega (arith, counts, few, same) where
-      mapped : (marks : List MarkValue) → length (map (λ (m : MarkValue). record { source = m.source; page = page; seq = m.high }) marks) ≡ length marks
+      mapped : (marks : List MarkValue) → length (map (λ (m : MarkValue). name_of page m.source m.high) marks) ≡ length marks
       mapped [] = refl
       mapped (m ∷ marks) = ap suc (mapped marks)
 
