@@ -16,7 +16,7 @@ use Rattle.wb_member.specs.Opened.{Opened, doing, has_room_for, heard, may_ask, 
 use Rattle.wb_member.specs.Random.{word_of}
 use Rattle.wb_progress.specs.Keepers.{AreOrderly, farthest}
 use Rattle.wb_keeping.specs.Distances.{bounded, usual_with}
-use Rattle.wb_keeping.specs.Kept.{Arrives, Asks, Doing, Hears, Line, Says, SetsDistance, Stops, Ticks, Transition, and_then, answers, asks_pages, end, is_begun, is_unasked, learned, near_names, paid_for, performs, reports, reports_due, reports_page, reports_rest, room_lines, state_of, still, stops_oldest, timed, turn, turn_to, usual_lines, want, want_near}
+use Rattle.wb_keeping.specs.Kept.{Arrives, Asks, Doing, Hears, Line, Says, SetsDistance, Stops, Ticks, Transition, and_then, answers, asks_pages, end, is_begun, is_unasked, learned, measures, near_names, paid_for, performs, reports, reports_due, reports_page, reports_rest, room_lines, state_of, still, stops_oldest, timed, turn, turn_to, usual_lines, want, want_near, want_told}
 use Rattle.wb_keeping.specs.Laws.{KeptLine, doing_of, fault_of}
 use Rattle.wb_keeping.specs.Performing.{Keeping, after_doing, after_line, after_lines, sees, view_of}
 use Rattle.wb_keeping.specs.Policy.{Policy, View, after_answer, after_question, after_turn, after_wanting, holds, in_next_round, is_asked, is_full, level}
@@ -89,6 +89,17 @@ want_near_small (name ∷ names) see p =
     choose (is_unasked (see []) name) (cond (is_begun (want name false see p)) (and_then (want name false) (want_near names) see p) (still see p)) (want_near names see p)
     (choose (is_begun (want name false see p)) (and_then (want name false) (want_near names) see p) (still see p) (both (want name false) (want_near names) (want_small name false) (want_near_small names) see p) tt)
     (want_near_small names see p)
+
+pub want_told_small : (names : List NameValue) → SaysLittle (want_told names)
+want_told_small [] see p = tt
+want_told_small (name ∷ names) see p = both (want name true) (want_told names) (want_small name true) (want_told_small names) see p
+
+pub measures_small : (sender : ℕ) (distance : Option ℕ) → SaysLittle (measures sender distance)
+measures_small sender None see p = tt
+measures_small sender (Some micros) see p = by (nat_eq (bounded micros) micros) where
+  by : (b : Bool) → AreSmall (cond b [] (SetsDistance sender (bounded micros) ∷ []))
+  by true = tt
+  by false = (tt, tt)
 
 stops_small : (asked : List AskedName) → AreSmall (map (λ (a : AskedName). Stops a.name) asked)
 stops_small [] = tt

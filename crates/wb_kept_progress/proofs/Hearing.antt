@@ -46,7 +46,8 @@ use Rattle.wb_keeping.proofs.Performed.{then_after}
 use Rattle.wb_keeping.proofs.StandingTimers.{keeps}
 use Rattle.wb_keeping.proofs.WantedNames.{lines_answer_held}
 use Rattle.wb_kept_progress.proofs.Asking.{AreNew, HasNone, IsAskedAnew, IsNew, MayBeAsked, none_new, stays_asked, told_is_asked}
-use Rattle.wb_kept_progress.proofs.Lines.{is_false}
+use Rattle.wb_kept_progress.proofs.Going.{measures_small, timed_small, want_told_small}
+use Rattle.wb_kept_progress.proofs.Lines.{is_false, lines_rest}
 use Rattle.wb_kept_progress.proofs.Repairs.{IsFine, came_after}
 
 -- ---- behind a long wait no timer is new
@@ -293,6 +294,20 @@ module _ (k : Keeping) (fine : IsFine k) (answering : AnswersWhatIsHeld k.host) 
       ∙ then_after first (and_then second third) m
       ∙ then_after second third one
 
+  pub report_so : after_doing (came now (Session sender sent page marks echoes)) k ≡ after_doing timed three
+  report_so = came_after now (Session sender sent page marks echoes) k ∙ ap (after_doing timed) heard_so
+
+  -- what it holds stays
+  pub report_holds : (after_doing (came now (Session sender sent page marks echoes)) k).host.is.held ≡ k.host.is.held
+  report_holds =
+      let a = lines_rest (second (sees one.host) one.policy).lines one.host (measures_small sender (distance_in now echo) (sees one.host) one.policy) in
+      let b = lines_rest (third (sees two.host) two.policy).lines two.host (want_told_small (told_names k.host.is.number page marks) (sees two.host) two.policy) in
+      let c = lines_rest (timed (sees three.host) three.policy).lines three.host (timed_small (sees three.host) three.policy) in
+      ap (λ (x : Keeping). x.host.is.held) report_so ∙ c.held ∙ b.held ∙ a.held ∙ by (has_room_for (Session sender sent page own echo) m.host) where
+        by : (b : Bool) → (cond b (heard (Session sender sent page own echo) m.host) m.host).is.held ≡ k.host.is.held
+        by true = refl
+        by false = refl
+
   asked_three : IsAskedAnew three n
   asked_three =
       let le = at_most_all k.host.is.number page marks in
@@ -302,4 +317,4 @@ module _ (k : Keeping) (fine : IsFine k) (answering : AnswersWhatIsHeld k.host) 
   report_asks =
       let last = after_doing timed three in
       let is = timed_asked three n asked_three in
-      subst (λ (x : Keeping). asks_for n x.host ≡ true) (sym (came_after now (Session sender sent page marks echoes) k ∙ ap (after_doing timed) heard_so)) (some_level (timers_of last.host.is.constants (events last.host) n).ask is.new)
+      subst (λ (x : Keeping). asks_for n x.host ≡ true) (sym report_so) (some_level (timers_of last.host.is.constants (events last.host) n).ask is.new)

@@ -4,3 +4,4 @@ pub mod Repairs
 pub mod Turning
 pub mod Asking
 pub mod Hearing
+pub mod Coming

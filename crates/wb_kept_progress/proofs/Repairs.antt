@@ -9,10 +9,12 @@ use Rattle.wb_names.specs.Faults.{fault_unless, first_of}
 use Rattle.wb_names.specs.History.{IsHistory}
 use Rattle.wb_names.specs.Orders.{same_name}
 use Rattle.wb_names.specs.Same.{same_drawop}
-use Rattle.wb_names.specs.Values.{DrawopValue, NameValue}
+use Rattle.wb_names.specs.Values.{DrawopValue, MarkValue, NameValue}
+use Rattle.wb_names.specs.declared.echo.Echo.{Echo}
+use Rattle.wb_names.specs.declared.name.PageId.{PageId}
 use Rattle.wb_names.proofs.Listings.{Contains-here}
 use Rattle.wb_codec.specs.declared.datagram.Datagram.{Datagram}
-use Rattle.wb_codec.specs.declared.datagram.Datagram.TheVariants.{Draw, Request}
+use Rattle.wb_codec.specs.declared.datagram.Datagram.TheVariants.{Draw, Request, Session}
 use Rattle.wb_recovery.specs.Events.{timers_of}
 use Rattle.wb_recovery.specs.Timing.{are_constants, is_answer_due, new_answer}
 use Rattle.wb_recovery.specs.declared.tuning.Tuning.{Tuning}
@@ -111,6 +113,9 @@ tick_in_time k now le = ap (λ (b : Bool). first_of (fault_unless b (Host BackIn
 request_in_time : (k : Keeping) (now asker : ℕ) (n : NameValue) → present k.host ≤ now → fault_of (Came now (Request asker n)) k ≡ None
 request_in_time k now asker n le = ap (λ (b : Bool). first_of (fault_unless b (Host BackInTime) ∷ fault_unless true Ours ∷ [])) (le_true (present k.host) now le)
 
+pub session_in_time : (k : Keeping) (now sender sent : ℕ) (page : PageId) (marks : List MarkValue) (echoes : List Echo) → present k.host ≤ now → fault_of (Came now (Session sender sent page marks echoes)) k ≡ None
+session_in_time k now sender sent page marks echoes le = ap (λ (b : Bool). first_of (fault_unless b (Host BackInTime) ∷ fault_unless true Ours ∷ [])) (le_true (present k.host) now le)
+
 drawop_in_time : (k : Keeping) (now : ℕ) (d : DrawopValue) → present k.host ≤ now → is_unknown d.name k.host ≡ false → fault_of (Came now (Draw d)) k ≡ None
 drawop_in_time k now d le known =
     ap (λ (b : Bool). first_of (fault_unless b (Host BackInTime) ∷ fault_unless (not (is_unknown d.name k.host)) Ours ∷ [])) (le_true (present k.host) now le)
@@ -178,10 +183,10 @@ pub record Stage (hosts : ℕ → Opening) (start lines : List LineAt) (i j : �
   pub there : kept_at hosts lines j ≡ other
 
 module _ (hosts : ℕ → Opening) (older : List LineAt) where
-  idle : (e : LineAt) (k : ℕ) → (e.place ≡ k → ⊥) → kept_at hosts (e ∷ older) k ≡ kept_at hosts older k
+  pub idle : (e : LineAt) (k : ℕ) → (e.place ≡ k → ⊥) → kept_at hosts (e ∷ older) k ≡ kept_at hosts older k
   idle e k other = ap (λ (b : Bool). cond b (after_doing (doing_of e.line) (kept_at hosts older k)) (kept_at hosts older k)) (is_false (nat_eq e.place k) (λ h. other (eqb-true e.place k h)))
 
-  moved : (i : ℕ) (line : KeptLine) → kept_at hosts (at i line ∷ older) i ≡ after_doing (doing_of line) (kept_at hosts older i)
+  pub moved : (i : ℕ) (line : KeptLine) → kept_at hosts (at i line ∷ older) i ≡ after_doing (doing_of line) (kept_at hosts older i)
   moved i line = ap (λ (b : Bool). cond b (after_doing (doing_of line) (kept_at hosts older i)) (kept_at hosts older i)) (is_itself i)
 
   pub did_send : (i : ℕ) (line : KeptLine) (k : Keeping) (v : Datagram) → kept_at hosts older i ≡ k → Contains (sent_by_doing (doing_of line) k) v → Contains (sent hosts (at i line ∷ older)) v

@@ -8,10 +8,12 @@ use Rattle.std.proofs.lemmas.List.Elements.{Contains-append_left, Contains-appen
 use Rattle.wb_names.specs.History.{IsHeld, highest, name_of}
 use Rattle.wb_names.specs.Marks.{known}
 use Rattle.wb_names.specs.Values.{DrawopValue, MarkValue, NameValue}
+use Rattle.wb_names.specs.declared.echo.Echo.{Echo}
 use Rattle.wb_names.specs.declared.gap.Gap.{Gap}
 use Rattle.wb_names.specs.declared.name.PageId.{PageId}
 use Rattle.wb_names.proofs.Listings.{Contains-cases, Contains-here, Contains-none, Contains-there}
-use Rattle.wb_codec.specs.declared.datagram.Datagram.TheVariants.{AskPages}
+use Rattle.wb_codec.specs.declared.datagram.Datagram.{Datagram}
+use Rattle.wb_codec.specs.declared.datagram.Datagram.TheVariants.{AskPages, Session}
 use Rattle.wb_gaps.specs.Answers.{gaps_of, pages_of, report_of}
 use Rattle.wb_gaps.specs.Gaps.{Covers, IsMissing}
 use Rattle.wb_gaps.specs.Holes.{hole_after, hole_on, holes_of, holes_on}
@@ -24,27 +26,30 @@ use Rattle.wb_host.proofs.KeptCalls.{holds_not}
 use Rattle.wb_member.specs.Judged.{is_full}
 use Rattle.wb_member.specs.Opened.{Opened, asks_for, opened_with, present, ticked}
 use Rattle.wb_keeping.specs.Credit.{cost, has_credit}
-use Rattle.wb_keeping.specs.Fairness.{AnswersWhatIsHeld, after_turn, after_turns, hole_in_turn, is_answering, led_to, name_in_turn}
-use Rattle.wb_keeping.specs.Kept.{Doing, Line, Says, Ticks, Transition, and_then, answers, asks_pages, performs, reports, reports_due, reports_rest, state_of, still, ticks, timed, turn, turn_to, want}
+use Rattle.wb_keeping.specs.Fairness.{AnswersWhatIsHeld, Told, after_telling, after_tellings, after_turn, after_turns, hole_in_turn, is_answering, led_to, marks_in_turn, name_in_turn, page_in_turn, where_left}
+use Rattle.wb_keeping.specs.Kept.{Doing, Line, Says, Ticks, Transition, and_then, answers, asks_pages, last_heard, performs, reports, reports_due, reports_rest, state_of, still, ticks, timed, turn, turn_to, want}
 use Rattle.wb_keeping.specs.Laws.{KeptLine, Ticked, doing_of, fault_of}
-use Rattle.wb_keeping.specs.Performing.{Keeping, after_doing, after_line, after_lines, sees, view_of}
-use Rattle.wb_keeping.specs.Policy.{Policy, View, after_answer, after_question, after_turn as policy_after, in_next_round, is_asked}
+use Rattle.wb_keeping.specs.Performing.{Keeping, after_doing, after_line, after_lines, sees, sent_by_doing, sent_by_lines, view_of}
+use Rattle.wb_keeping.specs.Policy.{Policy, View, after_answer, after_question, after_turn as policy_after, after_wanting, in_next_round, is_asked}
 use Rattle.wb_keeping.specs.Questions.{is_due}
-use Rattle.wb_keeping.specs.Reports.{slice_after}
+use Rattle.wb_keeping.specs.Reports.{page_after, slice_after}
 use Rattle.wb_keeping.specs.Turns.{name_in, nowhere}
 use Rattle.wb_keeping.specs.declared.turns.Turns.{Turns}
 use Rattle.wb_keeping.specs.Refusing.{is_unknown}
 use Rattle.wb_keeping.proofs.EachStep.{having, with_policy}
 use Rattle.wb_keeping.proofs.FairTurns.{a_number_has_its_turn, turns_are_taken}
-use Rattle.wb_keeping.proofs.Performed.{then_after}
+use Rattle.wb_keeping.proofs.KeptLines.{slices_are_short}
+use Rattle.wb_keeping.proofs.Performed.{then_after, then_sent}
 use Rattle.wb_keeping.proofs.StandingTimers.{stands_asked}
+use Rattle.wb_keeping.proofs.ToldMarks.{each_mark_is_told, reports_tell}
+use Rattle.wb_keeping.proofs.Wanted.{is_wanted_here, lines_wanted}
 use Rattle.wb_keeping.proofs.WantedNames.{lines_answer_held, wanted_is_asked}
 use Rattle.wb_progress.proofs.OneCall.{le_true}
-use Rattle.wb_kept_progress.specs.Repairs.{AreTicks, ComesToAsk, IsBrought, IsLost, MissingCanCome, MissingIsAsked, host_at, repair}
-use Rattle.wb_kept_progress.specs.Sessions.{AreHosts, AreTaken, LineAt, NothingIsForged, Opening, at, kept_at}
+use Rattle.wb_kept_progress.specs.Repairs.{AreTicks, ComesToAsk, ComesToTell, IsBrought, IsLost, MissingCanCome, MissingIsAsked, host_at, repair}
+use Rattle.wb_kept_progress.specs.Sessions.{AreHosts, AreTaken, LineAt, NothingIsForged, Opening, at, kept_at, sent}
 use Rattle.wb_kept_progress.proofs.Going.{answers_small, asks_pages_small, reports_small, turn_small}
 use Rattle.wb_kept_progress.proofs.Lines.{AreSmall, IsOf, Rests, is_false, lines_of, lines_rest}
-use Rattle.wb_kept_progress.proofs.Repairs.{asked_can_come, is_itself, places_differ, tick_in_time}
+use Rattle.wb_kept_progress.proofs.Repairs.{asked_can_come, did_send, is_itself, places_differ, tick_in_time}
 
 -- ---- one who answers for what it holds alone
 
@@ -63,11 +68,16 @@ answers_at hosts (e ∷ older) i = by (answers_at hosts older i) (nat_eq e.place
 
 -- ---- one tick
 
+-- what a policy told last
+abbrev pub told_of : Policy → Told
+told_of p = record { page = p.told_page; last = p.told }
+
 -- What a policy has due before it reports leaves its turns, its reports and what it owes.
 record Leaves (p q : Policy) : Type 0 where
   turns : q.turns ≡ p.turns
   owed : q.owed ≡ p.owed
   due : q.reports.due ≡ p.reports.due
+  told : told_of q ≡ told_of p
 
 either : (p : Policy) (b : Bool) (x y : Doing) → Leaves p x.policy → Leaves p y.policy → Leaves p (cond b x y).policy
 either p true x y l m = l
@@ -77,13 +87,13 @@ answers_leave : (see : List Line → View) (p : Policy) → Leaves p (answers se
 answers_leave see p =
     let v = see [] in
     either p (is_due v.now p.questions.answer) (record { policy = after_answer v.now p; lines = map (λ (page : PageId). Says (state_of v page)) (take 64 (pages_of v.held)) }) (still see p)
-    (record { turns = refl; owed = refl; due = refl }) (record { turns = refl; owed = refl; due = refl })
+    (record { turns = refl; owed = refl; due = refl; told = refl }) (record { turns = refl; owed = refl; due = refl; told = refl })
 
 asks_leave : (see : List Line → View) (p : Policy) → Leaves p (asks_pages see p).policy
 asks_leave see p =
     let v = see [] in
     either p (is_due v.now p.questions.ask) (record { policy = after_question v.now p; lines = Says (AskPages v.me) ∷ [] }) (still see p)
-    (record { turns = refl; owed = refl; due = refl }) (record { turns = refl; owed = refl; due = refl })
+    (record { turns = refl; owed = refl; due = refl; told = refl }) (record { turns = refl; owed = refl; due = refl; told = refl })
 
 rest_leaves : (marks : List MarkValue) (see : List Line → View) (p : Policy) → ((reports_rest marks see p).policy.turns ≡ p.turns) × ((reports_rest marks see p).policy.owed ≡ p.owed)
 rest_leaves [] see p = (refl, refl)
@@ -115,6 +125,21 @@ module _ (n : NameValue) (r : Keeping) (answers_held : AnswersWhatIsHeld r.host)
 
   turn_asks : name_in_turn r.host.is.held r.policy.turns ≡ Some n → asks_for n (after_doing turn r).host ≡ true
   turn_asks e = to_it (hole_after r.host.is.held r.policy.turns.page r.policy.turns.source r.policy.turns.number) (hole_after r.host.is.held nowhere 0 0) e
+
+-- a turn tells nothing
+want_told_same : (name : NameValue) (see : List Line → View) (p : Policy) → told_of (want name true see p).policy ≡ told_of p
+want_told_same name see p = by (is_wanted_here name true see p) where
+  by : (b : Bool) → told_of (let d : Doing = cond b (record { policy = after_wanting (see []).now p; lines = lines_wanted name true see p }) (still see p) in d.policy) ≡ told_of p
+  by true = refl
+  by false = refl
+
+turn_to_told : (next first : Option Hole) (see : List Line → View) (p : Policy) → told_of (turn_to next first see p).policy ≡ told_of p
+turn_to_told (Some h) first see p = want_told_same (name_in p.turns.round h) see (policy_after h p)
+turn_to_told None (Some h) see p = want_told_same (name_in (in_next_round p).turns.round h) see (policy_after h (in_next_round p))
+turn_to_told None None see p = refl
+
+turn_told : (see : List Line → View) (p : Policy) → told_of (turn see p).policy ≡ told_of p
+turn_told see p = turn_to_told (hole_after (see []).held p.turns.page p.turns.source p.turns.number) (hole_after (see []).held nowhere 0 0) see p
 
 -- by a tick at which a report is due, and all names are paid for
 module _ (k : Keeping) (now : ℕ) (late : k.policy.reports.due ≤ now) (paid : k.policy.owed ≤ now) where
@@ -194,6 +219,54 @@ module _ (k : Keeping) (now : ℕ) (late : k.policy.reports.due ≤ now) (paid :
       ap (λ (x : Keeping). x.policy.turns) there ∙ turns_are_taken (sees r.host) r.policy
       ∙ ap (λ (h : List DrawopValue). after_turn h r.policy.turns) held_r ∙ ap (after_turn k.host.is.held) turns_r
 
+  told_q : told_of q.policy ≡ told_of k.policy
+  told_q = leaves_q.told ∙ leaves_a.told
+
+  held_q : q.host.is.held ≡ k.host.is.held
+  held_q = rests_q.held ∙ rests_a.held
+
+  of_q : q.host.is.number ≡ k.host.is.number
+  of_q = (lines_of (asks_pages (sees a.host) a.policy).lines a.host).number ∙ (lines_of (answers (sees m.host) m.policy).lines m.host).number
+
+  -- it reports what is told next
+  pub tick_tells : told_of (after_doing (ticks now) k).policy ≡ after_telling k.host.is.held (told_of k.policy)
+  tick_tells =
+      let tells = reports_tell (sees q.host) q.policy in
+      let t = told_of q.policy in
+      let then : told_of r.policy ≡ after_telling q.host.is.held t =
+      ap (λ (page : PageId). let u : Told = record { page = page; last = r.policy.told } in u) tells.1
+      ∙ ap (λ (last : Option ℕ). let u : Told = record { page = (after_telling q.host.is.held t).page; last = last } in u) tells.2 in
+      ap (λ (x : Keeping). told_of x.policy) there ∙ turn_told (sees r.host) r.policy ∙ then
+      ∙ ap (λ (h : List DrawopValue). after_telling h t) held_q ∙ ap (after_telling k.host.is.held) told_q
+
+  abbrev report : Datagram
+  report = Session q.host.is.number (present q.host) (page_in_turn q.host.is.held (told_of q.policy)) (marks_in_turn q.host.is.held (told_of q.policy)) (last_heard (view_of q.host).echoes)
+
+  report_sent : Contains (sent_by_doing reports q) report
+  report_sent =
+      let tells = reports_tell (sees q.host) q.policy in
+      subst (λ (lines : List Line). Contains (sent_by_lines lines q.host) report) (sym tells.0) (Contains-here report [])
+
+  all_sent : Contains (sent_by_doing (ticks now) k) report
+  all_sent =
+      let due : Contains (sent_by_doing reports_due q) report =
+      subst (λ (b : Bool). Contains (sent_by_lines (cond b (and_then reports turn (sees q.host) q.policy) (still (sees q.host) q.policy)).lines q.host) report) (sym is_due_now)
+      (subst (λ (s : List Datagram). Contains s report) (sym (then_sent reports turn q)) (Contains-append_left (sent_by_doing reports q) (sent_by_doing turn r) report report_sent)) in
+      let two : Contains (sent_by_doing (and_then asks_pages reports_due) a) report = subst (λ (s : List Datagram). Contains s report) (sym (then_sent asks_pages reports_due a)) (Contains-append_right (sent_by_doing asks_pages a) (sent_by_doing reports_due q) report due) in
+      let three : Contains (sent_by_doing timed m) report = subst (λ (s : List Datagram). Contains s report) (sym (then_sent answers (and_then asks_pages reports_due) m)) (Contains-append_right (sent_by_doing answers m) (sent_by_doing (and_then asks_pages reports_due) a) report two) in
+      subst (λ (s : List Datagram). Contains s report) (sym (then_sent (performs (Ticks now)) timed k)) (Contains-append_right (sent_by_doing (performs (Ticks now)) k) (sent_by_doing timed m) report three)
+
+  pub tick_reports : (moment : ℕ) × (echoes : List Echo) × Contains (sent_by_doing (ticks now) k) (Session k.host.is.number moment (page_in_turn k.host.is.held (told_of k.policy)) (marks_in_turn k.host.is.held (told_of k.policy)) echoes)
+  tick_reports = (present q.host, last_heard (view_of q.host).echoes, subst (λ (v : Datagram). Contains (sent_by_doing (ticks now) k) v) same all_sent) where
+    echoes : List Echo
+    echoes = last_heard (view_of q.host).echoes
+
+    same : report ≡ Session k.host.is.number (present q.host) (page_in_turn k.host.is.held (told_of k.policy)) (marks_in_turn k.host.is.held (told_of k.policy)) echoes
+    same =
+        ap (λ (me : ℕ). Session me (present q.host) (page_in_turn q.host.is.held (told_of q.policy)) (marks_in_turn q.host.is.held (told_of q.policy)) echoes) of_q
+        ∙ ap (λ (h : List DrawopValue). Session k.host.is.number (present q.host) (page_in_turn h (told_of q.policy)) (marks_in_turn h (told_of q.policy)) echoes) held_q
+        ∙ ap (λ (t : Told). Session k.host.is.number (present q.host) (page_in_turn k.host.is.held t) (marks_in_turn k.host.is.held t) echoes) told_q
+
   pub tick_asks : (n : NameValue) → AnswersWhatIsHeld k.host → holds k.host.is.held n ≡ false → is_full k.host ≡ false → name_in_turn k.host.is.held k.policy.turns ≡ Some n → asks_for n (after_doing (ticks now) k).host ≡ true
   tick_asks n answers_held lacks room in_turn =
       let old : AnswersWhatIsHeld m.host = λ name. lines_answer_held name (Ticks now ∷ []) k.host (answers_held name) in
@@ -202,6 +275,19 @@ module _ (k : Keeping) (now : ℕ) (late : k.policy.reports.due ≤ now) (paid :
       let room_r : is_full r.host ≡ false = ap (λ (h : List DrawopValue). nat_le r.host.is.cells (length h)) held_r ∙ ap (λ (c : ℕ). nat_le c (length k.host.is.held)) of_r.cells ∙ room in
       let turn_r : name_in_turn r.host.is.held r.policy.turns ≡ Some n = ap (λ (h : List DrawopValue). name_in_turn h r.policy.turns) held_r ∙ ap (name_in_turn k.host.is.held) turns_r ∙ in_turn in
       subst (λ (x : Keeping). asks_for n x.host ≡ true) (sym there) (turn_asks n r answering lacks_r room_r owed_r turn_r)
+
+-- a report has few marks
+few_in_turn : (held : List DrawopValue) (t : Told) → length (marks_in_turn held t) ≤ 64
+few_in_turn held t = by rest (slices_are_short None (report_of held (page_after t.page (pages_of held)))) (slices_are_short t.last (report_of held t.page)) where
+  rest : List MarkValue
+  rest = slice_after t.last (report_of held t.page)
+
+  other : List MarkValue
+  other = slice_after None (report_of held (page_after t.page (pages_of held)))
+
+  by : (marks : List MarkValue) → length other ≤ 64 → length rest ≤ 64 → length (where_left marks other rest) ≤ 64
+  by [] a b = a
+  by (m ∷ marks) a b = b
 
 -- ---- ticks, one after the other
 
@@ -278,6 +364,13 @@ module _ (hosts : ℕ → Opening) (older : List LineAt) (i : ℕ) where
       ap (λ (x : Keeping). x.policy.turns) (behind_next count) ∙ tick_turns k (moment_for k) (due_for k) (paid_for k)
       ∙ ap (λ (h : List DrawopValue). after_turn h k.policy.turns) (ticks_hold count) ∙ ap (after_turn (host_at hosts older i).is.held) (ticks_turn count)
 
+  ticks_tell : (count : ℕ) → told_of (behind count).policy ≡ after_tellings (host_at hosts older i).is.held count (told_of (kept_at hosts older i).policy)
+  ticks_tell zero = refl
+  ticks_tell (suc count) =
+      let k = behind count in
+      ap (λ (x : Keeping). told_of x.policy) (behind_next count) ∙ tick_tells k (moment_for k) (due_for k) (paid_for k)
+      ∙ ap (λ (h : List DrawopValue). after_telling h (told_of k.policy)) (ticks_hold count) ∙ ap (after_telling (host_at hosts older i).is.held) (ticks_tell count)
+
   pub room_behind : (count : ℕ) → is_full (host_at hosts older i) ≡ false → is_full (behind count).host ≡ false
   room_behind count room = ap (λ (h : List DrawopValue). nat_le (behind count).host.is.cells (length h)) (ticks_hold count) ∙ ap (λ (c : ℕ). nat_le c (length (host_at hosts older i).is.held)) (ticks_of count).cells ∙ room
 
@@ -292,6 +385,35 @@ module _ (hosts : ℕ → Opening) (older : List LineAt) (i : ℕ) where
         taken = ticks_taken (suc count) taken;
         same = ticks_hold (suc count);
         asked = subst (λ (x : Keeping). asks_for n x.host ≡ true) (sym (behind_next count)) (tick_asks k (moment_for k) (due_for k) (paid_for k) n (answers_at hosts (some_ticks count ++ older) i) lacks_k (room_behind count room) turn_k);
+      }
+
+  -- behind so many reports, the next one tells what has its turn
+  pub comes_to_tell : (page : PageId) (mark : MarkValue) (count : ℕ) → AreTaken hosts older
+      → page_in_turn (host_at hosts older i).is.held (after_tellings (host_at hosts older i).is.held count (told_of (kept_at hosts older i).policy)) ≡ page
+      → Contains (marks_in_turn (host_at hosts older i).is.held (after_tellings (host_at hosts older i).is.held count (told_of (kept_at hosts older i).policy))) mark
+      → ComesToTell hosts (some_ticks (suc count)) older i page mark
+  comes_to_tell page mark count taken page_is among =
+      let k = behind count in
+      let held = (host_at hosts older i).is.held in
+      let t = after_tellings held count (told_of (kept_at hosts older i).policy) in
+      let said = tick_reports k (moment_for k) (due_for k) (paid_for k) in
+      let there : Contains (sent hosts (some_ticks (suc count) ++ older)) (Session k.host.is.number said.0 (page_in_turn k.host.is.held (told_of k.policy)) (marks_in_turn k.host.is.held (told_of k.policy)) said.1) =
+      did_send hosts (some_ticks count ++ older) i (Ticked (moment_for k)) k _ refl said.2 in
+      record {
+        ticks = are_ticks (suc count);
+        taken = ticks_taken (suc count) taken;
+        same = ticks_hold (suc count);
+        moment = said.0;
+        marks = marks_in_turn held t;
+        echoes = said.1;
+        sent = subst (λ (v : Datagram). Contains (sent hosts (some_ticks (suc count) ++ older)) v)
+            (ap (λ (me : ℕ). Session me said.0 (page_in_turn k.host.is.held (told_of k.policy)) (marks_in_turn k.host.is.held (told_of k.policy)) said.1) (ticks_of count).number
+            ∙ ap (λ (h : List DrawopValue). Session (host_at hosts older i).is.number said.0 (page_in_turn h (told_of k.policy)) (marks_in_turn h (told_of k.policy)) said.1) (ticks_hold count)
+            ∙ ap (λ (u : Told). Session (host_at hosts older i).is.number said.0 (page_in_turn held u) (marks_in_turn held u) said.1) (ticks_tell count)
+            ∙ ap (λ (p : PageId). Session (host_at hosts older i).is.number said.0 p (marks_in_turn held t) said.1) page_is)
+            there;
+        among = among;
+        few = few_in_turn held t;
       }
 
 -- ---- a number below a top

@@ -1,14 +1,18 @@
 -- Lines that bring a drawop from a host that holds it to one that lacks it, where each keeps itself.
-use Rattle.std.specs.Prelude.{◌≡◌, ◌<◌, ℕ, ◌+◌, true, false, List, [], ◌∷◌, ◌++◌, Contains}
-use Rattle.wb_names.specs.Values.{DrawopValue, NameValue}
-use Rattle.wb_codec.specs.declared.datagram.Datagram.TheVariants.{Draw, Request}
+use Rattle.std.specs.Prelude.{◌≡◌, ◌<◌, ◌≤◌, ℕ, ◌+◌, true, false, List, [], ◌∷◌, ◌++◌, Contains, length}
+use Rattle.wb_names.specs.History.{highest}
+use Rattle.wb_names.specs.Values.{DrawopValue, MarkValue, NameValue}
+use Rattle.wb_names.specs.declared.echo.Echo.{Echo}
+use Rattle.wb_names.specs.declared.name.PageId.{PageId}
+use Rattle.wb_codec.specs.declared.datagram.Datagram.TheVariants.{Draw, Request, Session}
+use Rattle.wb_gaps.specs.Answers.{pages_of, report_of}
 use Rattle.wb_gaps.specs.Gaps.{IsMissing}
 use Rattle.wb_progress.specs.Repairs.{asking_wait, answering_wait, quiet_wait}
 use Rattle.wb_member.specs.Judged.{holds, is_full}
 use Rattle.wb_member.specs.Opened.{Opened, asks_for, present}
 use Rattle.wb_keeping.specs.Laws.{Came, Ticked}
 use Rattle.wb_keeping.specs.Refusing.{is_unknown}
-use Rattle.wb_kept_progress.specs.Sessions.{AreHosts, AreTaken, LineAt, NothingIsForged, Opening, at, kept_at}
+use Rattle.wb_kept_progress.specs.Sessions.{AreHosts, AreTaken, LineAt, NothingIsForged, Opening, at, kept_at, sent}
 
 abbrev pub host_at : (ℕ → Opening) → List LineAt → ℕ → Opened
 host_at hosts lines i = (kept_at hosts lines i).host
@@ -73,3 +77,34 @@ MissingIsAsked = (hosts : ℕ → Opening) (older : List LineAt) (i : ℕ) (n : 
 abbrev pub MissingCanCome : Type 0
 MissingCanCome = (hosts : ℕ → Opening) (older : List LineAt) (i j : ℕ) (d : DrawopValue) → AreHosts hosts → AreTaken hosts older → IsLost hosts older i j d → IsMissing (host_at hosts older i).is.held d.name.page [] d.name.source d.name.seq → d.name.seq < 2147483648
     → (newer : List LineAt) × IsBrought hosts newer older i j d
+
+-- ---- any number that is told
+
+-- No line more is refused, and none brings what was not sent. After them the host holds the drawop.
+pub record HasCome (hosts : ℕ → Opening) (newer older : List LineAt) (i : ℕ) (d : DrawopValue) : Type 0 where
+  pub taken : AreTaken hosts (newer ++ older)
+  pub unforged : NothingIsForged hosts older → NothingIsForged hosts (newer ++ older)
+  pub held : Contains (host_at hosts (newer ++ older) i).is.held d
+
+-- A mark of a board comes to be told: by some ticks of its host a report is sent that has it.
+pub record ComesToTell (hosts : ℕ → Opening) (newer older : List LineAt) (j : ℕ) (page : PageId) (m : MarkValue) : Type 0 where
+  pub ticks : AreTicks j newer
+  pub taken : AreTaken hosts (newer ++ older)
+  pub same : (host_at hosts (newer ++ older) j).is.held ≡ (host_at hosts older j).is.held
+  pub moment : ℕ
+  pub marks : List MarkValue
+  pub echoes : List Echo
+  pub sent : Contains (sent hosts (newer ++ older)) (Session (host_at hosts older j).is.number moment page marks echoes)
+  pub among : Contains marks m
+  pub few : length marks ≤ 64
+
+abbrev pub MarksComeToBeTold : Type 0
+MarksComeToBeTold = (hosts : ℕ → Opening) (older : List LineAt) (j : ℕ) (page : PageId) (m : MarkValue) → AreTaken hosts older → Contains (pages_of (host_at hosts older j).is.held) page → Contains (report_of (host_at hosts older j).is.held page) m
+    → (newer : List LineAt) × ComesToTell hosts newer older j page m
+
+-- No loss is for ever. Whatever came in before, a drawop that one host lacks and another holds can come, where the one has two free cells and
+-- the other holds no number of its source on its page that is 2^31 or more.
+abbrev pub LostCanCome : Type 0
+LostCanCome = (hosts : ℕ → Opening) (older : List LineAt) (i j : ℕ) (d : DrawopValue) → AreHosts hosts → AreTaken hosts older → 1 ≤ d.name.seq → Contains (host_at hosts older j).is.held d → holds (host_at hosts older i) d.name ≡ false
+    → length (host_at hosts older i).is.held + 2 ≤ (host_at hosts older i).is.cells → highest d.name.page d.name.source (host_at hosts older j).is.held < 2147483648
+    → (newer : List LineAt) × HasCome hosts newer older i d

@@ -1,6 +1,6 @@
 //! Laws of progress of hosts that keep themselves. Each function does nothing: its contract is a law, for proofs to cite.
 
-ghost use Rattle.wb_kept_progress.specs.Repairs.{AskedCanCome, MissingCanCome, MissingIsAsked};
+ghost use Rattle.wb_kept_progress.specs.Repairs.{AskedCanCome, LostCanCome, MarksComeToBeTold, MissingCanCome, MissingIsAsked};
 
 /// Whatever came in before, a drawop that one host asks for, and that another holds, comes by six more lines of the
 /// two. None of them is refused, and none hands in what was not sent.
@@ -13,4 +13,12 @@ pub fn what_is_asked_for_can_come()
 pub fn what_is_missing_can_come()
     ensures asked { MissingIsAsked }
     ensures comes { MissingCanCome }
+{}
+
+/// No loss is for ever. Each mark of a board comes to be told, by ticks of its host alone. So, whatever came in before, a
+/// drawop that one host lacks and another holds can come, by lines of the two of which none is refused, and none hands in
+/// what was not sent.
+pub fn what_is_lost_can_come()
+    ensures told { MarksComeToBeTold }
+    ensures comes { LostCanCome }
 {}
