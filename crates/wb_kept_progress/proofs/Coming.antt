@@ -33,7 +33,7 @@ use Rattle.wb_kept_progress.specs.Sessions.{AreHosts, AreTaken, LineAt, NothingI
 use Rattle.wb_kept_progress.proofs.Hearing.{report_asks, report_holds}
 use Rattle.wb_kept_progress.proofs.Lines.{IsOf, is_false}
 use Rattle.wb_kept_progress.proofs.Repairs.{asked_can_come, fine_at, idle, is_itself, moved, of_opening, places_differ, session_in_time}
-use Rattle.wb_kept_progress.proofs.Turning.{answers_at, brought_behind, by_turn, comes_to_tell, in_map, not_ours, others_stay, some_ticks, ticks_hold, ticks_of, ticks_taken, ticks_unforged, told_of}
+use Rattle.wb_kept_progress.proofs.Turning.{answers_at, brought_behind, by_turn, comes_to_tell, count_of, in_map, not_ours, others_stay, some_ticks, ticks_hold, ticks_of, ticks_taken, ticks_unforged, told_of}
 
 -- ---- marks
 
@@ -41,7 +41,11 @@ pub marks_come_to_be_told : MarksComeToBeTold
 marks_come_to_be_told hosts older j page m taken among there =
     let k = kept_at hosts older j in
     let told = each_mark_is_told k.host.is.held (told_of k.policy) page m among there in
-    (some_ticks hosts older j (suc told.0), comes_to_tell hosts older j page m told.0 taken told.2 told.3)
+    let less = told.1 in
+    let many = count_of hosts older j (suc told.0) in
+    (some_ticks hosts older j (suc told.0), comes_to_tell hosts older j page m told.0 taken told.2 told.3, under (length (some_ticks hosts older j (suc told.0))) told.0 _ many less) where
+      under : (a b c : ℕ) → a ≡ suc b → b < c → a ≤ c
+      under a b c e lt = omega (arith, e, lt)
 
 -- the greatest number of a source on a page stands in the report of the page
 module _ (held : List DrawopValue) (d : DrawopValue) (there : Contains held d) (counted : 1 ≤ d.name.seq) where

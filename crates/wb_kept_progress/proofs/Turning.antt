@@ -1,10 +1,10 @@
 -- A number below a top has its turn, and is asked for.
 use Rattle.std.proofs.Common.{◌≡◌, ℕ, zero, suc, ◌+◌, ◌-◌, ◌*◌, ◌<◌, ◌≤◌, Bool, true, false, cond, List, [], ◌∷◌, ◌++◌, ◌∙◌, Option, Some, None, ap, arith, append_assoc, eqb-true, inl, inr, length, map, refl, subst, sym, true≢false, ⊎_elim}
-use Rattle.std.specs.Prelude.{◌⊎◌, ◌&&◌, Contains, is_some, max, nat_eq, nat_le, not, take, unwrap_or}
+use Rattle.std.specs.Prelude.{◌⊎◌, ◌&&◌, ◌/◌, ◌%◌, Contains, is_some, max, min, nat_eq, nat_le, not, take, unwrap_or}
 use Rattle.std.specs.List.{flat_map}
 use Rattle.std.specs.Option.{option_map, option_or}
 use Rattle.std.proofs.lemmas.Bool.{leb-true}
-use Rattle.std.proofs.lemmas.List.Elements.{Contains-append_left, Contains-append_right}
+use Rattle.std.proofs.lemmas.List.Elements.{Contains-append_cases, Contains-append_left, Contains-append_right}
 use Rattle.wb_names.specs.History.{IsHeld, highest, name_of}
 use Rattle.wb_names.specs.Marks.{known}
 use Rattle.wb_names.specs.Values.{DrawopValue, MarkValue, NameValue}
@@ -32,12 +32,13 @@ use Rattle.wb_keeping.specs.Laws.{KeptLine, Ticked, doing_of, fault_of}
 use Rattle.wb_keeping.specs.Performing.{Keeping, after_doing, after_line, after_lines, sees, sent_by_doing, sent_by_lines, view_of}
 use Rattle.wb_keeping.specs.Policy.{Policy, View, after_answer, after_question, after_turn as policy_after, after_wanting, in_next_round, is_asked}
 use Rattle.wb_keeping.specs.Questions.{is_due}
-use Rattle.wb_keeping.specs.Reports.{page_after, slice_after}
+use Rattle.wb_keeping.specs.Reports.{next_report, page_after, slice_after}
 use Rattle.wb_keeping.specs.Turns.{name_in, nowhere}
+use Rattle.wb_keeping.specs.Words.{word_of}
 use Rattle.wb_keeping.specs.declared.turns.Turns.{Turns}
 use Rattle.wb_keeping.specs.Refusing.{is_unknown}
 use Rattle.wb_keeping.proofs.EachStep.{having, with_policy}
-use Rattle.wb_keeping.proofs.FairTurns.{a_number_has_its_turn, turns_are_taken}
+use Rattle.wb_keeping.proofs.FairTurns.{a_number_has_its_turn, each_number_has_its_turn, turns_are_taken}
 use Rattle.wb_keeping.proofs.KeptLines.{slices_are_short}
 use Rattle.wb_keeping.proofs.Performed.{then_after, then_sent}
 use Rattle.wb_keeping.proofs.StandingTimers.{stands_asked}
@@ -45,11 +46,11 @@ use Rattle.wb_keeping.proofs.ToldMarks.{each_mark_is_told, reports_tell}
 use Rattle.wb_keeping.proofs.Wanted.{is_wanted_here, lines_wanted}
 use Rattle.wb_keeping.proofs.WantedNames.{lines_answer_held, wanted_is_asked}
 use Rattle.wb_progress.proofs.OneCall.{le_true}
-use Rattle.wb_kept_progress.specs.Repairs.{AreTicks, ComesToAsk, ComesToTell, IsBrought, IsLost, MissingCanCome, MissingIsAsked, host_at, repair}
+use Rattle.wb_kept_progress.specs.Repairs.{AreTicks, ComesToAsk, ComesToTell, IsBrought, IsLost, MissingCanCome, MissingIsAsked, MissingIsAskedSoon, host_at, ready_at, repair}
 use Rattle.wb_kept_progress.specs.Sessions.{AreHosts, AreTaken, LineAt, NothingIsForged, Opening, at, kept_at, sent}
 use Rattle.wb_kept_progress.proofs.Going.{answers_small, asks_pages_small, reports_small, turn_small}
 use Rattle.wb_kept_progress.proofs.Lines.{AreSmall, IsOf, Rests, is_false, lines_of, lines_rest}
-use Rattle.wb_kept_progress.proofs.Repairs.{asked_can_come, did_send, is_itself, places_differ, tick_in_time}
+use Rattle.wb_kept_progress.proofs.Repairs.{asked_can_come, did_send, is_itself, places_differ, tick_in_time, tick_rests}
 
 -- ---- one who answers for what it holds alone
 
@@ -95,6 +96,14 @@ asks_leave see p =
     either p (is_due v.now p.questions.ask) (record { policy = after_question v.now p; lines = Says (AskPages v.me) ∷ [] }) (still see p)
     (record { turns = refl; owed = refl; due = refl; told = refl }) (record { turns = refl; owed = refl; due = refl; told = refl })
 
+next_soon : (now sum word : ℕ) → next_report now (min (max sum 2000000) 64000000) (word % (min (max sum 2000000) 64000000 + 1)) ≤ now + 96000000
+next_soon now sum word = by (min (max sum 2000000) 64000000) (omega arith) where
+  under : (a b : ℕ) → a % (b + 1) ≤ b
+  under a b = omega arith
+
+  by : (mean : ℕ) → mean ≤ 64000000 → next_report now mean (word % (mean + 1)) ≤ now + 96000000
+  by mean le = let few = under word mean in omega (arith, le, few)
+
 rest_leaves : (marks : List MarkValue) (see : List Line → View) (p : Policy) → ((reports_rest marks see p).policy.turns ≡ p.turns) × ((reports_rest marks see p).policy.owed ≡ p.owed)
 rest_leaves [] see p = (refl, refl)
 rest_leaves (m ∷ marks) see p = (refl, refl)
@@ -125,6 +134,52 @@ module _ (n : NameValue) (r : Keeping) (answers_held : AnswersWhatIsHeld r.host)
 
   turn_asks : name_in_turn r.host.is.held r.policy.turns ≡ Some n → asks_for n (after_doing turn r).host ≡ true
   turn_asks e = to_it (hole_after r.host.is.held r.policy.turns.page r.policy.turns.source r.policy.turns.number) (hole_after r.host.is.held nowhere 0 0) e
+
+-- a report is followed by the next within 96 seconds
+rest_soon : (marks : List MarkValue) (see : List Line → View) (p : Policy) → (reports_rest marks see p).policy.reports.due ≤ (see []).now + 96000000
+rest_soon [] see p = next_soon (see []).now _ (word_of p.words)
+rest_soon (m ∷ marks) see p = next_soon (see []).now _ (word_of p.words)
+
+-- a turn asks for one name at most, and reports nothing
+module _ (name : NameValue) (see : List Line → View) (p : Policy) where
+  abbrev wanted_so : Bool → Policy
+  wanted_so b = let d : Doing = cond b (record { policy = after_wanting (see []).now p; lines = lines_wanted name true see p }) (still see p) in d.policy
+
+  want_due : (want name true see p).policy.reports.due ≡ p.reports.due
+  want_due = by (is_wanted_here name true see p) where
+    by : (b : Bool) → (wanted_so b).reports.due ≡ p.reports.due
+    by true = refl
+    by false = refl
+
+  want_owed : p.owed ≤ (see []).now → (want name true see p).policy.owed ≤ (see []).now + 250000
+  want_owed le = by (is_wanted_here name true see p) where
+    one_more : (owed now : ℕ) → owed ≤ now → max owed now + 250000 ≤ now + 250000
+    one_more owed now le = omega (arith, le)
+
+    none_more : (owed now : ℕ) → owed ≤ now → owed ≤ now + 250000
+    none_more owed now le = omega (arith, le)
+
+    by : (b : Bool) → (wanted_so b).owed ≤ (see []).now + 250000
+    by true = one_more p.owed (see []).now le
+    by false = none_more p.owed (see []).now le
+
+turn_to_due : (next first : Option Hole) (see : List Line → View) (p : Policy) → (turn_to next first see p).policy.reports.due ≡ p.reports.due
+turn_to_due (Some h) first see p = want_due (name_in p.turns.round h) see (policy_after h p)
+turn_to_due None (Some h) see p = want_due (name_in (in_next_round p).turns.round h) see (policy_after h (in_next_round p))
+turn_to_due None None see p = refl
+
+turn_due : (see : List Line → View) (p : Policy) → (turn see p).policy.reports.due ≡ p.reports.due
+turn_due see p = turn_to_due (hole_after (see []).held p.turns.page p.turns.source p.turns.number) (hole_after (see []).held nowhere 0 0) see p
+
+turn_to_owed : (next first : Option Hole) (see : List Line → View) (p : Policy) → p.owed ≤ (see []).now → (turn_to next first see p).policy.owed ≤ (see []).now + 250000
+turn_to_owed (Some h) first see p le = want_owed (name_in p.turns.round h) see (policy_after h p) le
+turn_to_owed None (Some h) see p le = want_owed (name_in (in_next_round p).turns.round h) see (policy_after h (in_next_round p)) le
+turn_to_owed None None see p le = none_more p.owed (see []).now le where
+  none_more : (owed now : ℕ) → owed ≤ now → owed ≤ now + 250000
+  none_more owed now le = omega (arith, le)
+
+turn_owed : (see : List Line → View) (p : Policy) → p.owed ≤ (see []).now → (turn see p).policy.owed ≤ (see []).now + 250000
+turn_owed see p le = turn_to_owed (hole_after (see []).held p.turns.page p.turns.source p.turns.number) (hole_after (see []).held nowhere 0 0) see p le
 
 -- a turn tells nothing
 want_told_same : (name : NameValue) (see : List Line → View) (p : Policy) → told_of (want name true see p).policy ≡ told_of p
@@ -267,6 +322,28 @@ module _ (k : Keeping) (now : ℕ) (late : k.policy.reports.due ≤ now) (paid :
         ∙ ap (λ (h : List DrawopValue). Session k.host.is.number (present q.host) (page_in_turn h (told_of q.policy)) (marks_in_turn h (told_of q.policy)) echoes) held_q
         ∙ ap (λ (t : Told). Session k.host.is.number (present q.host) (page_in_turn k.host.is.held t) (marks_in_turn k.host.is.held t) echoes) told_q
 
+  due_r : r.policy.reports.due ≤ now + 96000000
+  due_r =
+      let soon = rest_soon (slice_after q.policy.told (report_of q.host.is.held q.policy.told_page)) (sees q.host) q.policy in
+      let at_now = now_q in
+      omega (arith, soon, at_now)
+
+  due_turn : (turn (sees r.host) r.policy).policy.reports.due ≡ r.policy.reports.due
+  due_turn = turn_due (sees r.host) r.policy
+
+  owed_turn : (turn (sees r.host) r.policy).policy.owed ≤ present r.host + 250000
+  owed_turn = turn_owed (sees r.host) r.policy owed_r
+
+  -- it may do so again 96 seconds later at most
+  pub tick_soon : (present (after_doing (ticks now) k).host ≡ now) × (ready_at (after_doing (ticks now) k) ≤ now + 96000000)
+  tick_soon =
+      let present_is = (tick_rests now k).now in
+      let due : (after_doing (ticks now) k).policy.reports.due ≤ now + 96000000 = subst (λ (x : Keeping). x.policy.reports.due ≤ now + 96000000) (sym there) (subst (λ (d : ℕ). d ≤ now + 96000000) (sym due_turn) due_r) in
+      let owed : (after_doing (ticks now) k).policy.owed ≤ now + 250000 = subst (λ (x : Keeping). x.policy.owed ≤ now + 250000) (sym there) (let le = owed_turn in let at_now = rests_r.now ∙ now_q in omega (arith, le, at_now)) in
+      (present_is, later (present (after_doing (ticks now) k).host) (after_doing (ticks now) k).policy.reports.due (after_doing (ticks now) k).policy.owed now present_is due owed) where
+        later : (a b c now : ℕ) → a ≡ now → b ≤ now + 96000000 → c ≤ now + 250000 → max a (max b c) ≤ now + 96000000
+        later a b c now e f g = omega (arith, e, f, g)
+
   pub tick_asks : (n : NameValue) → AnswersWhatIsHeld k.host → holds k.host.is.held n ≡ false → is_full k.host ≡ false → name_in_turn k.host.is.held k.policy.turns ≡ Some n → asks_for n (after_doing (ticks now) k).host ≡ true
   tick_asks n answers_held lacks room in_turn =
       let old : AnswersWhatIsHeld m.host = λ name. lines_answer_held name (Ticks now ∷ []) k.host (answers_held name) in
@@ -291,24 +368,20 @@ few_in_turn held t = by rest (slices_are_short None (report_of held (page_after 
 
 -- ---- ticks, one after the other
 
--- when a report is due, and all names are paid for
-abbrev pub moment_for : Keeping → ℕ
-moment_for k = max (present k.host) (max k.policy.reports.due k.policy.owed)
-
 module _ (hosts : ℕ → Opening) (older : List LineAt) (i : ℕ) where
   abbrev pub some_ticks : ℕ → List LineAt
   some_ticks zero = []
-  some_ticks (suc count) = at i (Ticked (moment_for (kept_at hosts (some_ticks count ++ older) i))) ∷ some_ticks count
+  some_ticks (suc count) = at i (Ticked (ready_at (kept_at hosts (some_ticks count ++ older) i))) ∷ some_ticks count
 
   abbrev pub behind : ℕ → Keeping
   behind count = kept_at hosts (some_ticks count ++ older) i
 
-  pub behind_next : (count : ℕ) → behind (suc count) ≡ after_doing (ticks (moment_for (behind count))) (behind count)
-  behind_next count = ap (λ (b : Bool). cond b (after_doing (ticks (moment_for (behind count))) (behind count)) (behind count)) (is_itself i)
+  pub behind_next : (count : ℕ) → behind (suc count) ≡ after_doing (ticks (ready_at (behind count))) (behind count)
+  behind_next count = ap (λ (b : Bool). cond b (after_doing (ticks (ready_at (behind count))) (behind count)) (behind count)) (is_itself i)
 
   pub are_ticks : (count : ℕ) → AreTicks i (some_ticks count)
   are_ticks zero = tt
-  are_ticks (suc count) = ((refl, moment_for (behind count), refl), are_ticks count)
+  are_ticks (suc count) = ((refl, ready_at (behind count), refl), are_ticks count)
 
   first_of_three : (a b c : ℕ) → a ≤ max a (max b c)
   first_of_three a b c = omega arith
@@ -319,17 +392,17 @@ module _ (hosts : ℕ → Opening) (older : List LineAt) (i : ℕ) where
   third_of_three : (a b c : ℕ) → c ≤ max a (max b c)
   third_of_three a b c = omega arith
 
-  pub due_for : (k : Keeping) → k.policy.reports.due ≤ moment_for k
+  pub due_for : (k : Keeping) → k.policy.reports.due ≤ ready_at k
   due_for k = second_of_three (present k.host) k.policy.reports.due k.policy.owed
 
-  pub paid_for : (k : Keeping) → k.policy.owed ≤ moment_for k
+  pub paid_for : (k : Keeping) → k.policy.owed ≤ ready_at k
   paid_for k = third_of_three (present k.host) k.policy.reports.due k.policy.owed
 
   pub ticks_taken : (count : ℕ) → AreTaken hosts older → AreTaken hosts (some_ticks count ++ older)
   ticks_taken zero taken = taken
   ticks_taken (suc count) taken =
       let k = behind count in
-      (tick_in_time k (moment_for k) (first_of_three (present k.host) k.policy.reports.due k.policy.owed), ticks_taken count taken)
+      (tick_in_time k (ready_at k) (first_of_three (present k.host) k.policy.reports.due k.policy.owed), ticks_taken count taken)
 
   pub ticks_unforged : (count : ℕ) → NothingIsForged hosts older → NothingIsForged hosts (some_ticks count ++ older)
   ticks_unforged zero unforged = unforged
@@ -338,7 +411,7 @@ module _ (hosts : ℕ → Opening) (older : List LineAt) (i : ℕ) where
   pub others_stay : (count j : ℕ) → (i ≡ j → ⊥) → kept_at hosts (some_ticks count ++ older) j ≡ kept_at hosts older j
   others_stay zero j differ = refl
   others_stay (suc count) j differ =
-      ap (λ (b : Bool). cond b (after_doing (ticks (moment_for (behind count))) (kept_at hosts (some_ticks count ++ older) j)) (kept_at hosts (some_ticks count ++ older) j)) (is_false (nat_eq i j) (λ e. differ (nat_is i j e)))
+      ap (λ (b : Bool). cond b (after_doing (ticks (ready_at (behind count))) (kept_at hosts (some_ticks count ++ older) j)) (kept_at hosts (some_ticks count ++ older) j)) (is_false (nat_eq i j) (λ e. differ (nat_is i j e)))
       ∙ others_stay count j differ where
         nat_is : (a b : ℕ) → nat_eq a b ≡ true → a ≡ b
         nat_is a b e = eqb-true a b e
@@ -347,13 +420,13 @@ module _ (hosts : ℕ → Opening) (older : List LineAt) (i : ℕ) where
   ticks_hold zero = refl
   ticks_hold (suc count) =
       let k = behind count in
-      ap (λ (x : Keeping). x.host.is.held) (behind_next count) ∙ tick_holds k (moment_for k) (due_for k) (paid_for k) ∙ ticks_hold count
+      ap (λ (x : Keeping). x.host.is.held) (behind_next count) ∙ tick_holds k (ready_at k) (due_for k) (paid_for k) ∙ ticks_hold count
 
   pub ticks_of : (count : ℕ) → IsOf (host_at hosts older i) (behind count).host
   ticks_of zero = record { number = refl; cells = refl; constants = refl }
   ticks_of (suc count) =
       let k = behind count in
-      let one = lines_of (ticks (moment_for k) (sees k.host) k.policy).lines k.host in
+      let one = lines_of (ticks (ready_at k) (sees k.host) k.policy).lines k.host in
       let rest = ticks_of count in
       subst (λ (x : Keeping). IsOf (host_at hosts older i) x.host) (sym (behind_next count)) (record { number = one.number ∙ rest.number; cells = one.cells ∙ rest.cells; constants = one.constants ∙ rest.constants })
 
@@ -361,15 +434,44 @@ module _ (hosts : ℕ → Opening) (older : List LineAt) (i : ℕ) where
   ticks_turn zero = refl
   ticks_turn (suc count) =
       let k = behind count in
-      ap (λ (x : Keeping). x.policy.turns) (behind_next count) ∙ tick_turns k (moment_for k) (due_for k) (paid_for k)
+      ap (λ (x : Keeping). x.policy.turns) (behind_next count) ∙ tick_turns k (ready_at k) (due_for k) (paid_for k)
       ∙ ap (λ (h : List DrawopValue). after_turn h k.policy.turns) (ticks_hold count) ∙ ap (after_turn (host_at hosts older i).is.held) (ticks_turn count)
 
   ticks_tell : (count : ℕ) → told_of (behind count).policy ≡ after_tellings (host_at hosts older i).is.held count (told_of (kept_at hosts older i).policy)
   ticks_tell zero = refl
   ticks_tell (suc count) =
       let k = behind count in
-      ap (λ (x : Keeping). told_of x.policy) (behind_next count) ∙ tick_tells k (moment_for k) (due_for k) (paid_for k)
+      ap (λ (x : Keeping). told_of x.policy) (behind_next count) ∙ tick_tells k (ready_at k) (due_for k) (paid_for k)
       ∙ ap (λ (h : List DrawopValue). after_telling h (told_of k.policy)) (ticks_hold count) ∙ ap (after_telling (host_at hosts older i).is.held) (ticks_tell count)
+
+  length_is : (count : ℕ) → length (some_ticks count) ≡ count
+  length_is zero = refl
+  length_is (suc count) = ap suc (length_is count)
+
+  -- the next tick comes 96 seconds later at most
+  ready_soon : (count : ℕ) → ready_at (behind count) ≤ ready_at (kept_at hosts older i) + count * 96000000
+  ready_soon zero = omega arith
+  ready_soon (suc count) =
+      let k = behind count in
+      let rest = ready_soon count in
+      let one = (tick_soon k (ready_at k) (due_for k) (paid_for k)).1 in
+      let e = ap ready_at (behind_next count) in
+      next (ready_at (behind (suc count))) (ready_at (after_doing (ticks (ready_at k)) k)) (ready_at k) (ready_at (kept_at hosts older i)) count e one rest where
+        next : (a b c start count : ℕ) → a ≡ b → b ≤ c + 96000000 → c ≤ start + count * 96000000 → a ≤ start + suc count * 96000000
+        next a b c start count e f g = omega (arith, e, f, g)
+
+  pub ticks_soon : (count : ℕ) → present (behind (suc count)).host + 96000000 ≤ ready_at (kept_at hosts older i) + length (some_ticks (suc count)) * 96000000
+  ticks_soon count =
+      let k = behind count in
+      let rest = ready_soon count in
+      let now = ap (λ (x : Keeping). present x.host) (behind_next count) ∙ (tick_soon k (ready_at k) (due_for k) (paid_for k)).0 in
+      let many = length_is count in
+      fits (present (behind (suc count)).host) (ready_at k) (ready_at (kept_at hosts older i)) (length (some_ticks count)) count now rest many where
+        fits : (a b start many count : ℕ) → a ≡ b → b ≤ start + count * 96000000 → many ≡ count → a + 96000000 ≤ start + suc many * 96000000
+        fits a b start many count e f g = omega (arith, e, f, g)
+
+  pub count_of : (count : ℕ) → length (some_ticks count) ≡ count
+  count_of count = length_is count
 
   pub room_behind : (count : ℕ) → is_full (host_at hosts older i) ≡ false → is_full (behind count).host ≡ false
   room_behind count room = ap (λ (h : List DrawopValue). nat_le (behind count).host.is.cells (length h)) (ticks_hold count) ∙ ap (λ (c : ℕ). nat_le c (length (host_at hosts older i).is.held)) (ticks_of count).cells ∙ room
@@ -383,8 +485,9 @@ module _ (hosts : ℕ → Opening) (older : List LineAt) (i : ℕ) where
       record {
         ticks = are_ticks (suc count);
         taken = ticks_taken (suc count) taken;
+        soon = ticks_soon count;
         same = ticks_hold (suc count);
-        asked = subst (λ (x : Keeping). asks_for n x.host ≡ true) (sym (behind_next count)) (tick_asks k (moment_for k) (due_for k) (paid_for k) n (answers_at hosts (some_ticks count ++ older) i) lacks_k (room_behind count room) turn_k);
+        asked = subst (λ (x : Keeping). asks_for n x.host ≡ true) (sym (behind_next count)) (tick_asks k (ready_at k) (due_for k) (paid_for k) n (answers_at hosts (some_ticks count ++ older) i) lacks_k (room_behind count room) turn_k);
       }
 
   -- behind so many reports, the next one tells what has its turn
@@ -396,12 +499,13 @@ module _ (hosts : ℕ → Opening) (older : List LineAt) (i : ℕ) where
       let k = behind count in
       let held = (host_at hosts older i).is.held in
       let t = after_tellings held count (told_of (kept_at hosts older i).policy) in
-      let said = tick_reports k (moment_for k) (due_for k) (paid_for k) in
+      let said = tick_reports k (ready_at k) (due_for k) (paid_for k) in
       let there : Contains (sent hosts (some_ticks (suc count) ++ older)) (Session k.host.is.number said.0 (page_in_turn k.host.is.held (told_of k.policy)) (marks_in_turn k.host.is.held (told_of k.policy)) said.1) =
-      did_send hosts (some_ticks count ++ older) i (Ticked (moment_for k)) k _ refl said.2 in
+      did_send hosts (some_ticks count ++ older) i (Ticked (ready_at k)) k _ refl said.2 in
       record {
         ticks = are_ticks (suc count);
         taken = ticks_taken (suc count) taken;
+        soon = ticks_soon count;
         same = ticks_hold (suc count);
         moment = said.0;
         marks = marks_in_turn held t;
@@ -469,6 +573,41 @@ has_a_turn held t n missing small =
     let first = h.first in
     let turn = a_number_has_its_turn held t (hole_on n.page h.gap) n.seq h.there first h.last (omega (arith, small, first)) in
     (turn.0, turn.1 ∙ ap (λ (s : ℕ). Some (name_of n.page s n.seq)) h.source)
+
+-- a hole is of what is not held
+module _ {X Y : Type 0} (f : X → List Y) where
+  from_flat : (xs : List X) (y : Y) → Contains (flat_map f xs) y → (x : X) × Contains (f x) y
+  from_flat [] y c = absurd (Contains-none y c)
+  from_flat (x ∷ xs) y c = ⊎_elim
+      (λ (h : Contains (f x) y). (x, h))
+      (λ (h : Contains (flat_map f xs) y). from_flat xs y h)
+      (Contains-append_cases (f x) (flat_map f xs) y c)
+
+module _ {X Y : Type 0} (f : X → Y) where
+  from_map : (xs : List X) (y : Y) → Contains (map f xs) y → (x : X) × Contains xs x × (f x ≡ y)
+  from_map [] y c = absurd (Contains-none y c)
+  from_map (x ∷ xs) y c = ⊎_elim
+      (λ (e : f x ≡ y). (x, Contains-here x xs, e))
+      (λ (h : Contains (map f xs) y). let rest = from_map xs y h in (rest.0, Contains-there x rest.0 xs rest.1, rest.2))
+      (Contains-cases (f x) y (map f xs) c)
+
+hole_is_lacked : (held : List DrawopValue) (hole : Hole) (number : ℕ) → Contains (holes_of held) hole → hole.gap.first ≤ number → number ≤ hole.gap.last → holds held (name_of hole.page hole.gap.source number) ≡ false
+hole_is_lacked held hole number there low high =
+    let p = from_flat (holes_on held) (pages_of held) hole there in
+    let g = from_map (hole_on p.0) (gaps_of held p.0 []) hole p.1 in
+    subst (λ (h : Hole). h.gap.first ≤ number → number ≤ h.gap.last → holds held (name_of h.page h.gap.source number) ≡ false) g.2
+    (λ low high. missing_is_lacked held (name_of p.0 g.0.source number) (((gaps_of_page held p.0 []).missing g.0.source number).0 (g.0, g.1, refl, low, high))) low high
+
+pub missing_is_asked_soon : MissingIsAskedSoon
+missing_is_asked_soon hosts older i hole number are taken there low high room few =
+    let k = kept_at hosts older i in
+    let turn = each_number_has_its_turn k.host.is.held k.policy.turns hole number there low high few in
+    let less = turn.1 in
+    let many = count_of hosts older i (suc turn.0) in
+    (some_ticks hosts older i (suc turn.0), comes_to_ask hosts older i (name_of hole.page hole.gap.source number) turn.0 taken (hole_is_lacked k.host.is.held hole number there low high) room turn.2,
+    under (length (some_ticks hosts older i (suc turn.0))) turn.0 _ many less) where
+      under : (a b c : ℕ) → a ≡ suc b → b < c → a ≤ c
+      under a b c e lt = omega (arith, e, lt)
 
 pub missing_is_asked : MissingIsAsked
 missing_is_asked hosts older i n are taken missing small room =

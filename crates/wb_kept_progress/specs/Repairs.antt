@@ -1,16 +1,20 @@
 -- Lines that bring a drawop from a host that holds it to one that lacks it, where each keeps itself.
-use Rattle.std.specs.Prelude.{◌≡◌, ◌<◌, ◌≤◌, ℕ, ◌+◌, true, false, List, [], ◌∷◌, ◌++◌, Contains, length}
-use Rattle.wb_names.specs.History.{highest}
+use Rattle.std.specs.Prelude.{◌≡◌, ◌<◌, ◌≤◌, ℕ, ◌+◌, ◌-◌, ◌*◌, ◌^◌, true, false, List, [], ◌∷◌, ◌++◌, Contains, length, max}
+use Rattle.wb_names.specs.History.{highest, name_of}
 use Rattle.wb_names.specs.Values.{DrawopValue, MarkValue, NameValue}
 use Rattle.wb_names.specs.declared.echo.Echo.{Echo}
 use Rattle.wb_names.specs.declared.name.PageId.{PageId}
 use Rattle.wb_codec.specs.declared.datagram.Datagram.TheVariants.{Draw, Request, Session}
 use Rattle.wb_gaps.specs.Answers.{pages_of, report_of}
 use Rattle.wb_gaps.specs.Gaps.{IsMissing}
+use Rattle.wb_gaps.specs.Holes.{holes_of}
+use Rattle.wb_gaps.specs.declared.holes.Hole.{Hole}
 use Rattle.wb_progress.specs.Repairs.{asking_wait, answering_wait, quiet_wait}
 use Rattle.wb_member.specs.Judged.{holds, is_full}
 use Rattle.wb_member.specs.Opened.{Opened, asks_for, present}
+use Rattle.wb_keeping.specs.Fairness.{slices_of, slices_on}
 use Rattle.wb_keeping.specs.Laws.{Came, Ticked}
+use Rattle.wb_keeping.specs.Performing.{Keeping}
 use Rattle.wb_keeping.specs.Refusing.{is_unknown}
 use Rattle.wb_kept_progress.specs.Sessions.{AreHosts, AreTaken, LineAt, NothingIsForged, Opening, at, kept_at, sent}
 
@@ -61,10 +65,16 @@ abbrev pub AreTicks : ℕ → List LineAt → Type 0
 AreTicks i [] = Unit {0}
 AreTicks i (e ∷ lines) = ((e.place ≡ i) × (now : ℕ) × (e.line ≡ Ticked now)) × AreTicks i lines
 
--- By some ticks, of which none is refused, the request timer of a name comes to stand, and what the host holds stays.
+-- from when on the next report is due, and all names that were asked for are paid for
+abbrev pub ready_at : Keeping → ℕ
+ready_at k = max (present k.host) (max k.policy.reports.due k.policy.owed)
+
+-- By some ticks, of which none is refused, the request timer of a name comes to stand, and what the host holds stays. At each a report
+-- is due, so that two of them are 96 seconds apart at most.
 pub record ComesToAsk (hosts : ℕ → Opening) (newer older : List LineAt) (i : ℕ) (n : NameValue) : Type 0 where
   pub ticks : AreTicks i newer
   pub taken : AreTaken hosts (newer ++ older)
+  pub soon : present (host_at hosts (newer ++ older) i) + 96000000 ≤ ready_at (kept_at hosts older i) + length newer * 96000000
   pub same : (host_at hosts (newer ++ older) i).is.held ≡ (host_at hosts older i).is.held
   pub asked : asks_for n (host_at hosts (newer ++ older) i) ≡ true
 
@@ -72,6 +82,13 @@ pub record ComesToAsk (hosts : ℕ → Opening) (newer older : List LineAt) (i :
 abbrev pub MissingIsAsked : Type 0
 MissingIsAsked = (hosts : ℕ → Opening) (older : List LineAt) (i : ℕ) (n : NameValue) → AreHosts hosts → AreTaken hosts older → IsMissing (host_at hosts older i).is.held n.page [] n.source n.seq → n.seq < 2147483648 → is_full (host_at hosts older i) ≡ false
     → (newer : List LineAt) × ComesToAsk hosts newer older i n
+
+-- While rounds are below 2^32, of R holes each of the n numbers of one is asked for by 2 R n ticks at most.
+abbrev pub MissingIsAskedSoon : Type 0
+MissingIsAskedSoon = (hosts : ℕ → Opening) (older : List LineAt) (i : ℕ) (hole : Hole) (number : ℕ) → AreHosts hosts → AreTaken hosts older → Contains (holes_of (host_at hosts older i).is.held) hole → hole.gap.first ≤ number → number ≤ hole.gap.last → is_full (host_at hosts older i) ≡ false
+    → let numbers : ℕ = hole.gap.last + 1 - hole.gap.first in
+    (kept_at hosts older i).policy.turns.round + 2 * numbers < 2 ^ 32
+    → (newer : List LineAt) × ComesToAsk hosts newer older i (name_of hole.page hole.gap.source number) × (length newer ≤ 2 * numbers * length (holes_of (host_at hosts older i).is.held))
 
 -- So it can come from one that holds it.
 abbrev pub MissingCanCome : Type 0
@@ -86,10 +103,12 @@ pub record HasCome (hosts : ℕ → Opening) (newer older : List LineAt) (i : �
   pub unforged : NothingIsForged hosts older → NothingIsForged hosts (newer ++ older)
   pub held : Contains (host_at hosts (newer ++ older) i).is.held d
 
--- A mark of a board comes to be told: by some ticks of its host a report is sent that has it.
+-- A mark of a board of S slices comes to be told: by at most S ticks of its host, and as many more as the page has slices that was told
+-- last, a report is sent that has it.
 pub record ComesToTell (hosts : ℕ → Opening) (newer older : List LineAt) (j : ℕ) (page : PageId) (m : MarkValue) : Type 0 where
   pub ticks : AreTicks j newer
   pub taken : AreTaken hosts (newer ++ older)
+  pub soon : present (host_at hosts (newer ++ older) j) + 96000000 ≤ ready_at (kept_at hosts older j) + length newer * 96000000
   pub same : (host_at hosts (newer ++ older) j).is.held ≡ (host_at hosts older j).is.held
   pub moment : ℕ
   pub marks : List MarkValue
@@ -100,7 +119,7 @@ pub record ComesToTell (hosts : ℕ → Opening) (newer older : List LineAt) (j 
 
 abbrev pub MarksComeToBeTold : Type 0
 MarksComeToBeTold = (hosts : ℕ → Opening) (older : List LineAt) (j : ℕ) (page : PageId) (m : MarkValue) → AreTaken hosts older → Contains (pages_of (host_at hosts older j).is.held) page → Contains (report_of (host_at hosts older j).is.held page) m
-    → (newer : List LineAt) × ComesToTell hosts newer older j page m
+    → (newer : List LineAt) × ComesToTell hosts newer older j page m × (length newer ≤ slices_of (host_at hosts older j).is.held + slices_on (host_at hosts older j).is.held (kept_at hosts older j).policy.told_page)
 
 -- No loss is for ever. Whatever came in before, a drawop that one host lacks and another holds can come, where the one has two free cells and
 -- the other holds no number of its source on its page that is 2^31 or more.

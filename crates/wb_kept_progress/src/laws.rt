@@ -1,6 +1,6 @@
 //! Laws of progress of hosts that keep themselves. Each function does nothing: its contract is a law, for proofs to cite.
 
-ghost use Rattle.wb_kept_progress.specs.Repairs.{AskedCanCome, LostCanCome, MarksComeToBeTold, MissingCanCome, MissingIsAsked};
+ghost use Rattle.wb_kept_progress.specs.Repairs.{AskedCanCome, LostCanCome, MarksComeToBeTold, MissingCanCome, MissingIsAsked, MissingIsAskedSoon};
 
 /// Whatever came in before, a drawop that one host asks for, and that another holds, comes by six more lines of the
 /// two. None of them is refused, and none hands in what was not sent.
@@ -12,6 +12,7 @@ pub fn what_is_asked_for_can_come()
 /// board has a free cell. So a drawop of such a number can come from one that holds it.
 pub fn what_is_missing_can_come()
     ensures asked { MissingIsAsked }
+    ensures soon { MissingIsAskedSoon }
     ensures comes { MissingCanCome }
 {}
 
