@@ -14,7 +14,7 @@ use Rattle.wb_member.specs.Members.{Misses}
 use Rattle.wb_member.specs.Opened.{Opened, doing, has_room_for, heard, last_number, may_ask, next_number, present, sent_by, ticked}
 use Rattle.wb_member.specs.Random.{word_of}
 use Rattle.wb_keeping.specs.Kept.{Arrives, Asks, Hears, Line, Says, SetsDistance, Tunes, Stops, Ticks, Transition, drawing}
-use Rattle.wb_keeping.specs.Laws.{Added, Came as CameIn, KeptLine, Ticked, Tuned, doing_of, fault_of}
+use Rattle.wb_keeping.specs.Laws.{Added, Came as CameIn, KeptLine, Ticked, doing_of, fault_of}
 use Rattle.wb_keeping.specs.Performing.{Keeping, after_line, after_lines, sees, view_of}
 use Rattle.wb_keeping.specs.declared.kept_fault.KeptFault.{KeptFault}
 use Rattle.wb_keeping.specs.declared.kept_fault.KeptFault.TheVariants as kept_faults
@@ -82,7 +82,7 @@ shows_count k (refuses e) counts = counts
 
 kept_counts : (line : DriverLine) (k : Keeping) → MayCount k.host → Counts (host_after (Some (Kept k)) (kept_reply line k))
 kept_counts (Script (lines.Tick now)) k counts = does_count (Ticked now) [] k _ refl counts
-kept_counts (Script (lines.Tune constants)) k counts = does_count (Tuned constants) [] k _ refl counts
+kept_counts (Script (lines.Tune constants)) k counts = λ few. bounded_line (Tunes constants) k.host (counts few) tt
 kept_counts (Came now v) k counts = does_count (CameIn now v) _ k _ refl counts
 kept_counts (Add a) k counts = does_count (Added a.moment a.page a.time a.op) _ k _ refl counts
 kept_counts (Script lines.Skip) k counts = counts

@@ -12,9 +12,10 @@ use Rattle.wb_codec.specs.declared.datagram.Datagram.TheVariants.{Draw, Session,
 use Rattle.wb_gaps.specs.Answers.{pages_of, report_of}
 use Rattle.wb_gaps.specs.Holes.{hole_after}
 use Rattle.wb_gaps.specs.declared.holes.Hole.{Hole}
-use Rattle.wb_host.specs.declared.keep_fault.KeepFault.TheVariants.{BackInTime}
+use Rattle.wb_host.specs.declared.keep_fault.KeepFault.TheVariants.{BackInTime, Range}
 use Rattle.wb_member.specs.Opened.{Opened, present}
 use Rattle.wb_keeping.specs.Distances.{bounded}
+use Rattle.wb_recovery.specs.Timing.{are_constants}
 use Rattle.wb_recovery.specs.declared.tuning.Tuning.{Tuning}
 use Rattle.wb_keeping.specs.Kept.{Arrives, Doing, Hears, Line, Says, SetsDistance, Tunes, Stops, Ticks, Transition, and_then, answers, asks_pages, came, distance_in, draws_it, drawing, end, ends_full, hears, hears_session, hears_some, hears_state, is_begun, is_unasked, learned, measures, own_echo, own_marks, paid_for, performs, reports, reports_due, reports_page, reports_rest, state_of, still, takes, takes_question, timed, told_names, turn, turn_to, want, want_near, want_told}
 use Rattle.wb_keeping.specs.Laws.{Added, AreTaken, Came, KeptLine, Ticked, Tuned, after_kept, doing_of, expand, fault_of}
@@ -54,8 +55,8 @@ pub record HoldsOfSteps (R : Keeping → List Line → Keeping → Type 0) : Typ
   pub answered : (d : DrawopValue) (k : Keeping) → holds (view_of k.host) d.name ≡ false → is_asked (view_of k.host) d.name ≡ true → R k (Arrives d ∷ []) (with_policy (after_came k.policy) (having (Arrives d) k))
   pub hears : (v : Datagram) (k : Keeping) → R k (Hears v ∷ []) (having (Hears v) k)
   pub stops : (name : NameValue) (k : Keeping) → R k (Stops name ∷ []) (having (Stops name) k)
-  pub sets : (source micros : ℕ) (k : Keeping) → R k (SetsDistance source micros ∷ []) (having (SetsDistance source micros) k)
-  pub tunes : (constants : Tuning) (k : Keeping) → R k (Tunes constants ∷ []) (having (Tunes constants) k)
+  pub sets : (source micros : ℕ) (k : Keeping) → R k (SetsDistance source (bounded micros) ∷ []) (having (SetsDistance source (bounded micros)) k)
+  pub tunes : (constants : Tuning) (k : Keeping) → are_constants constants ≡ true → R k (Tunes constants ∷ []) (having (Tunes constants) k)
   pub wants : (name : NameValue) (anew : Bool) (k : Keeping) → R k (want name anew (sees k.host) k.policy).lines (after_doing (want name anew) k)
   pub draws : (d : DrawopValue) (k : Keeping) → R k (Says (Draw d) ∷ []) (having (Says (Draw d)) k)
   pub turned : (t : Turns) (k : Keeping) → R k [] (with_policy (record k.policy { turns = t }) k)
@@ -220,7 +221,7 @@ module _ (R : Keeping → List Line → Keeping → Type 0) (is : HoldsOfSteps R
 
     by : (b : Bool) → HoldsOf k (doing p (cond b [] (SetsDistance sender (bounded micros) ∷ [])))
     by true = is.measured micros k
-    by false = from_policy p k (doing p (SetsDistance sender (bounded micros) ∷ [])) (is.measured micros k) (is.sets sender (bounded micros) (with_policy p k))
+    by false = from_policy p k (doing p (SetsDistance sender (bounded micros) ∷ [])) (is.measured micros k) (is.sets sender micros (with_policy p k))
 
   session_holds : (sender sent : ℕ) (page : PageId) (marks : List MarkValue) (echoes : List Echo) → Holds (hears_session sender sent page marks echoes)
   session_holds sender sent page marks echoes k =
@@ -271,6 +272,10 @@ module _ (R : Keeping → List Line → Keeping → Type 0) (is : HoldsOfSteps R
   first_none None others e = refl
   first_none (Some f) others e = absurd cc
 
+  in_range : (may : Bool) → fault_unless may (Host Range) ≡ None → may ≡ true
+  in_range true e = refl
+  in_range false e = absurd cc
+
   pub line_holds : (line : KeptLine) (k : Keeping) → fault_of line k ≡ None → HoldsAt (doing_of line) k
   line_holds (Came now v) k none =
       let first = performs (Ticks now) in
@@ -285,7 +290,7 @@ module _ (R : Keeping → List Line → Keeping → Type 0) (is : HoldsOfSteps R
       let later = leb-true _ _ (on_time (nat_le (present k.host) now) _ (first_none _ _ none)) in
       then_at first (and_then second (and_then ends_full timed)) k (is.ticks now k later)
       (then_holds second (and_then ends_full timed) (λ k. is.draws (drawing (view_of k.host) page time op) k) (then_holds ends_full timed ends_hold timed_holds) (after_doing first k))
-  line_holds (Tuned constants) k none = is.tunes constants k
+  line_holds (Tuned constants) k none = is.tunes constants k (in_range (are_constants constants) none)
 
   -- all that a kept host does
   pub all_hold : (lines : List KeptLine) (k : Keeping) → AreTaken lines k → R k (expand lines k) (after_kept lines k)

@@ -304,3 +304,49 @@ each_number_has_its_turn held t hole number (i, lt, e) low high few =
 
       number_of : Hole → ℕ → ℕ
       number_of h q = h.gap.first + q % (h.gap.last + 1 - h.gap.first)
+
+-- ---- whatever the round is
+
+module _ (held : List DrawopValue) (d : Hole) (t : Turns) where
+  -- rounds are counted with 32 bits, so that they begin again
+  begins_again : (more count round : ℕ) → round + suc more ≡ 4294967296 → Visits held d t count round 0 → (later : ℕ) × Visits held d t later 0 0
+  begins_again zero count round is v =
+      let next = to_first held d t count round 0 v in
+      let none : (round + 1) % 4294967296 ≡ 0 = omega (arith, is) in
+      (length (holes_of held) - 0 + count, subst (λ (r : ℕ). Visits held d t (length (holes_of held) - 0 + count) r 0) none next)
+  begins_again (suc more) count round is v =
+      let next = to_first held d t count round 0 v in
+      let same : (round + 1) % 4294967296 ≡ round + 1 = omega (arith, is) in
+      begins_again more (length (holes_of held) - 0 + count) (round + 1) (omega (arith, is)) (subst (λ (r : ℕ). Visits held d t (length (holes_of held) - 0 + count) r 0) same next)
+
+  first_round : 0 < length (holes_of held) → (later : ℕ) × Visits held d t later 0 0
+  first_round some =
+      let b = begins held d t some in
+      let next = to_first held d t 0 b.round b.i b.visits in
+      let lt : (b.round + 1) % 4294967296 < 4294967296 = under (b.round + 1) in
+      begins_again (4294967295 - (b.round + 1) % 4294967296) (length (holes_of held) - b.i + 0) ((b.round + 1) % 4294967296) (omega (arith, lt)) next where
+        under : (n : ℕ) → n % 4294967296 < 4294967296
+        under n = omega arith
+
+-- Each number of a hole that is less than 2^31 behind its first has its turn again and again.
+pub a_number_has_its_turn : (held : List DrawopValue) (t : Turns) (hole : Hole) (number : ℕ) → Contains (holes_of held) hole → hole.gap.first ≤ number → number ≤ hole.gap.last → number < hole.gap.first + 2147483648
+    → (count : ℕ) × (name_in_turn held (after_turns held count t) ≡ Some (name_of hole.page hole.gap.source number))
+a_number_has_its_turn held t hole number (i, lt, e) low high few =
+    let numbers = hole.gap.last + 1 - hole.gap.first in
+    let q = number - hole.gap.first in
+    let start = first_round held hole t (omega (arith, lt)) in
+    let there = onwards held hole t start.0 0 0 i start.1 (omega (arith, lt)) in
+    let more = 2 * q + 1 in
+    let last = agains held hole t (i + start.0) 0 (i + 0) more (omega (arith, few, low)) there in
+    let round : more + 0 ≡ 2 * q + 1 = omega arith in
+    let place : i + 0 ≡ i = omega arith in
+    let within : q < numbers = omega (arith, low, high) in
+    let this : hole.gap.first + q % numbers ≡ number = ap (λ (n : ℕ). hole.gap.first + n) (mod-eq_of_lt within) ∙ omega (arith, low) in (
+      more * length (holes_of held) + (i + start.0),
+      named held hole t (more * length (holes_of held) + (i + start.0)) (more + 0) (i + 0) last
+          ∙ ap (λ (r : ℕ). Some (name_in r (get_or (holes_of held) (i + 0) hole))) round
+          ∙ ap (λ (k : ℕ). Some (name_in (2 * q + 1) (get_or (holes_of held) k hole))) place
+          ∙ ap (λ (h : Hole). Some (name_in (2 * q + 1) h)) e
+          ∙ ap Some (chosen held hole hole q)
+          ∙ ap (λ (n : ℕ). Some (name_of hole.page hole.gap.source n)) this,
+    )

@@ -156,7 +156,7 @@ steps_keep_few = record {
   hears = λ v k. quietly k _ k.policy (refl, tt);
   stops = λ name k. quietly k _ k.policy (refl, tt);
   sets = λ source micros k. quietly k _ k.policy (refl, tt);
-  tunes = λ constants k. quietly k _ k.policy (refl, tt);
+  tunes = λ constants k within. quietly k _ k.policy (refl, tt);
   wants = λ name anew k. record { at = refl; few = wanted_few name anew k };
   draws = λ d k. quietly k _ k.policy (refl, tt);
   turned = λ t k. quietly k [] _ tt;

@@ -15,6 +15,7 @@ use Rattle.wb_member.specs.Opened.{Opened, doing as doing_act, has_room_for, hea
 use Rattle.wb_member.specs.Random.{word_of}
 use Rattle.wb_keeping.specs.Bounds.{FewNamesAreAsked, IsRarelySaid, LittleIsSaid, answer_count, ask_count, is_answer, is_ask, is_question, is_report, is_state}
 use Rattle.wb_keeping.specs.Credit.{has_credit}
+use Rattle.wb_keeping.specs.Distances.{bounded}
 use Rattle.wb_keeping.specs.Kept.{Arrives, Asks, Doing, Hears, Line, Says, SetsDistance, Tunes, Stops, Ticks, Transition, last_heard, performs, reports_page, room_lines, state_of, still, stops_oldest, usual_lines, want}
 use Rattle.wb_keeping.specs.Laws.{AreTaken, KeptLine, after_kept, expand}
 use Rattle.wb_keeping.specs.Performing.{Keeping, after_doing, after_line, after_lines, sees, view_of}
@@ -558,8 +559,8 @@ steps_keep = record {
   answered = answered_keep;
   hears = λ v k. plainly k (Hears v ∷ []) (tt, tt);
   stops = λ name k. plainly k (Stops name ∷ []) (tt, tt);
-  sets = λ source micros k. plainly k (SetsDistance source micros ∷ []) (tt, tt);
-  tunes = λ constants k. plainly k (Tunes constants ∷ []) (tt, tt);
+  sets = λ source micros k. plainly k (SetsDistance source (bounded micros) ∷ []) (tt, tt);
+  tunes = λ constants k within. plainly k (Tunes constants ∷ []) (tt, tt);
   wants = wants_keep;
   draws = draws_keep;
   turned = λ t k. quietly k [] _ (plain_nothing [] k.host tt) refl refl refl refl;

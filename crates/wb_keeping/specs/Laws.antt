@@ -2,17 +2,21 @@
 use Rattle.std.specs.Prelude.{◌≡◌, ◌⊎◌, ℕ, ◌+◌, ◌-◌, ◌*◌, ◌≤◌, ◌<◌, Bool, false, List, [], ◌∷◌, ◌++◌, IsTrue, Option, None, length, map, nat_le}
 use Rattle.wb_names.specs.Ascending.{AreEchoes}
 use Rattle.wb_names.specs.Drawing.{op_fault}
+use Rattle.wb_names.specs.Faults.{fault_unless}
 use Rattle.wb_names.specs.Values.{MarkValue, NameValue}
 use Rattle.wb_names.specs.declared.echo.Echo.{Echo}
 use Rattle.wb_names.specs.declared.name.PageId.{PageId}
 use Rattle.wb_names.specs.declared.parts.Op.{Op}
 use Rattle.wb_codec.specs.declared.datagram.Datagram.{Datagram}
+use Rattle.wb_recovery.specs.Timing.{are_constants}
 use Rattle.wb_recovery.specs.declared.tuning.Tuning.{Tuning}
 use Rattle.wb_member.specs.Opened.{last_number, opened_with, present}
 use Rattle.wb_keeping.specs.Kept.{Line, Ticks, Tunes, Transition, adds, came, drawing, last_heard, performs, still, ticks, want}
 use Rattle.wb_keeping.specs.Performing.{Keeping, after_doing, after_lines, sees, sent_by_doing, sent_by_lines, view_of}
 use Rattle.wb_keeping.specs.Refusing.{add_fault, came_fault, tick_fault}
+use Rattle.wb_host.specs.declared.keep_fault.KeepFault.TheVariants.{Range}
 use Rattle.wb_keeping.specs.declared.kept_fault.KeptFault.{KeptFault}
+use Rattle.wb_keeping.specs.declared.kept_fault.KeptFault.TheVariants.{Host}
 use Rattle.wb_keeping.specs.Policy.{Policy, View, after_wanting, holds}
 use Rattle.wb_keeping.specs.Questions.{is_due}
 use Rattle.wb_keeping.specs.Reports.{slice_after}
@@ -90,7 +94,7 @@ abbrev pub fault_of : KeptLine → Keeping → Option KeptFault
 fault_of (Came now v) k = came_fault now v k
 fault_of (Ticked now) k = tick_fault now k
 fault_of (Added now page time op) k = add_fault now page time op k
-fault_of (Tuned constants) k = None
+fault_of (Tuned constants) k = fault_unless (are_constants constants) (Host Range)
 
 -- each of these lines is taken, and none is refused
 abbrev pub AreTaken : List KeptLine → Keeping → Type 0

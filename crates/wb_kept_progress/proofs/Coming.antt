@@ -1,0 +1,353 @@
+-- Any number that one host holds and another lacks comes: its top is told and comes, and then it has its turn.
+use Rattle.std.proofs.Common.{◌≡◌, ℕ, suc, ◌+◌, ◌<◌, ◌≤◌, Bool, true, false, cond, List, [], ◌∷◌, ◌++◌, ◌∙◌, Option, Some, None, ap, append_assoc, arith, eqb-true, inl, inr, leb-true, length, map, max, refl, subst, sym, true≢false, ⊎_elim}
+use Rattle.std.specs.Prelude.{◌⊎◌, ◌&&◌, ◌||◌, Contains, filter, nat_eq, nat_le, nat_lt, not}
+use Rattle.std.proofs.lemmas.Bool.Decides.{nat_tests}
+use Rattle.std.proofs.lemmas.List.Elements.{Contains-append_left, Contains-append_right}
+use Rattle.wb_names.specs.History.{HoldsName, IsHeld, highest, name_of}
+use Rattle.wb_names.specs.Orders.{same_name}
+use Rattle.wb_names.specs.Values.{DrawopValue, MarkValue, NameValue}
+use Rattle.wb_names.specs.declared.echo.Echo.{Echo}
+use Rattle.wb_names.specs.declared.name.PageId.{PageId}
+use Rattle.wb_names.proofs.Listings.{Contains-filter, Contains-here}
+use Rattle.wb_names.proofs.Orders.{same_name-is}
+use Rattle.wb_codec.specs.declared.datagram.Datagram.{Datagram}
+use Rattle.wb_codec.specs.declared.datagram.Datagram.TheVariants.{Session}
+use Rattle.wb_gaps.specs.Answers.{pages_of, report_of, sources_of, top_mark}
+use Rattle.wb_gaps.specs.Gaps.{IsMissing}
+use Rattle.wb_gaps.proofs.HeldNames.{held-by, held-from}
+use Rattle.wb_gaps.proofs.PageAnswers.{has_source, pages_of_history}
+use Rattle.wb_gaps.proofs.Reports.{greatest_held}
+use Rattle.wb_host.specs.Keeper.{holds}
+use Rattle.wb_host.proofs.KeptCalls.{holds_from, same_here}
+use Rattle.wb_progress.specs.Repairs.{asking_wait}
+use Rattle.wb_member.specs.Judged.{is_full}
+use Rattle.wb_member.specs.Opened.{Opened, asks_for, present, ticked}
+use Rattle.wb_keeping.specs.Fairness.{after_tellings, marks_in_turn, page_in_turn}
+use Rattle.wb_keeping.specs.Kept.{Hears, Ticks, Transition, came, hears, performs, timed, told_names}
+use Rattle.wb_keeping.specs.Laws.{Came, KeptLine, doing_of, fault_of}
+use Rattle.wb_keeping.specs.Performing.{Keeping, after_doing}
+use Rattle.wb_keeping.proofs.EachStep.{having}
+use Rattle.wb_keeping.proofs.ToldMarks.{each_mark_is_told}
+use Rattle.wb_kept_progress.specs.Repairs.{ComesToTell, HasCome, IsBrought, IsLost, LostCanCome, MarksComeToBeTold, host_at, repair}
+use Rattle.wb_kept_progress.specs.Sessions.{AreHosts, AreTaken, LineAt, NothingIsForged, Opening, at, kept_at, sent}
+use Rattle.wb_kept_progress.proofs.Hearing.{report_asks, report_holds}
+use Rattle.wb_kept_progress.proofs.Lines.{IsOf, is_false}
+use Rattle.wb_kept_progress.proofs.Repairs.{asked_can_come, fine_at, idle, is_itself, moved, of_opening, places_differ, session_in_time}
+use Rattle.wb_kept_progress.proofs.Turning.{answers_at, brought_behind, by_turn, comes_to_tell, count_of, in_map, not_ours, others_stay, some_ticks, ticks_hold, ticks_of, ticks_taken, ticks_unforged, told_of}
+
+-- ---- marks
+
+pub marks_come_to_be_told : MarksComeToBeTold
+marks_come_to_be_told hosts older j page m taken among there =
+    let k = kept_at hosts older j in
+    let told = each_mark_is_told k.host.is.held (told_of k.policy) page m among there in
+    let less = told.1 in
+    let many = count_of hosts older j (suc told.0) in
+    (some_ticks hosts older j (suc told.0), comes_to_tell hosts older j page m told.0 taken told.2 told.3, under (length (some_ticks hosts older j (suc told.0))) told.0 _ many less) where
+      under : (a b c : ℕ) → a ≡ suc b → b < c → a ≤ c
+      under a b c e lt = omega (arith, e, lt)
+
+-- the greatest number of a source on a page stands in the report of the page
+module _ (held : List DrawopValue) (d : DrawopValue) (there : Contains held d) (counted : 1 ≤ d.name.seq) where
+  abbrev on_page : PageId
+  on_page = d.name.page
+
+  abbrev by_source : ℕ
+  by_source = d.name.source
+
+  abbrev greatest : ℕ
+  greatest = highest on_page by_source held
+
+  is_held : IsHeld held on_page by_source d.name.seq
+  is_held = (there.0, d, there.1, there.2, refl)
+
+  pub below_top : d.name.seq ≤ greatest
+  below_top = (greatest_held held on_page by_source).bound d.name.seq is_held
+
+  pub top_held : IsHeld held on_page by_source greatest
+  top_held = by (greatest_held held on_page by_source).reached where
+    by : (greatest ≡ 0) ⊎ IsHeld held on_page by_source greatest → IsHeld held on_page by_source greatest
+    by (inl none) = let le = below_top in absurd (omega (arith, none, le, counted))
+    by (inr h) = h
+
+  pub page_there : Contains (pages_of held) on_page
+  page_there = ((pages_of_history held).members on_page).1 (there.0, d, there.1, there.2, refl)
+
+  pub top_told : Contains (report_of held on_page) (top_mark held on_page by_source)
+  unfolding report_of
+  top_told =
+      let le = below_top in
+      Contains-filter (λ (m : MarkValue). nat_lt 0 m.high) (map (top_mark held on_page) (sources_of held on_page)) (top_mark held on_page by_source)
+      (in_map (top_mark held on_page) (sources_of held on_page) by_source (has_source held on_page by_source d.name.seq is_held)) (above greatest (omega (arith, le, counted))) where
+        above : (n : ℕ) → 0 < n → nat_lt 0 n ≡ true
+        above n lt = grind (arith, nat_tests)
+
+-- ---- what is missing
+
+pub is_lacked : (held : List DrawopValue) (n : NameValue) → holds held n ≡ false → IsHeld held n.page n.source n.seq → ⊥
+is_lacked held n lacks h = true≢false (sym (held-from held n.page n.source n.seq h) ∙ lacks)
+
+-- a number below one that is held
+pub missing_below : (held : List DrawopValue) (n : NameValue) (high : ℕ) → 1 ≤ n.seq → n.seq ≤ high → holds held n ≡ false → IsHeld held n.page n.source high → IsMissing held n.page [] n.source n.seq
+missing_below held n high counted le lacks h =
+    let most = (greatest_held held n.page n.source).bound high h in
+    record { counted = counted; below = under n.seq high (highest n.page n.source held) le most; not_held = is_lacked held n lacks } where
+      under : (a b c : ℕ) → a ≤ b → b ≤ c → a ≤ max c 0
+      under a b c p q = omega (arith, p, q)
+
+-- ---- the top of a source
+
+holds_one_more : (held : List DrawopValue) (d : DrawopValue) (n : NameValue) → holds (held ++ d ∷ []) n ≡ (holds held n || same_name d.name n)
+holds_one_more [] d n = by (same_name d.name n) where
+  by : (b : Bool) → (b || false) ≡ b
+  by true = refl
+  by false = refl
+holds_one_more (x ∷ held) d n = by (same_name x.name n) (holds_one_more held d n) where
+  by : (b : Bool) → holds (held ++ d ∷ []) n ≡ (holds held n || same_name d.name n) → (b || holds (held ++ d ∷ []) n) ≡ ((b || holds held n) || same_name d.name n)
+  by true e = refl
+  by false e = e
+
+pub has_room : (host : Opened) → length host.is.held < host.is.cells → is_full host ≡ false
+has_room host lt = is_false (nat_le host.is.cells (length host.is.held)) (λ e. let le = leb-true host.is.cells (length host.is.held) e in omega (arith, le, lt))
+
+module _ (hosts : ℕ → Opening) (are : AreHosts hosts) where
+  -- the board of a host has as many cells as ever
+  pub same_cells : (lines others : List LineAt) (i : ℕ) → (host_at hosts lines i).is.cells ≡ (host_at hosts others i).is.cells
+  same_cells lines others i = (of_opening hosts lines i).cells ∙ sym (of_opening hosts others i).cells
+
+  pub same_room : (lines others : List LineAt) (i : ℕ) → (host_at hosts lines i).is.held ≡ (host_at hosts others i).is.held → is_full (host_at hosts lines i) ≡ is_full (host_at hosts others i)
+  same_room lines others i e = ap (λ (h : List DrawopValue). nat_le (host_at hosts lines i).is.cells (length h)) e ∙ ap (λ (c : ℕ). nat_le c (length (host_at hosts others i).is.held)) (same_cells lines others i)
+
+  -- A drawop that is lost comes, where it is the top of its source at the one that holds it.
+  module _ (older : List LineAt) (i j : ℕ) (d : DrawopValue) (taken : AreTaken hosts older) (lost : IsLost hosts older i j d) (counted : 1 ≤ d.name.seq) (small : d.name.seq < 2147483648) (is_top : d.name.seq ≡ highest d.name.page d.name.source (host_at hosts older j).is.held) where
+    abbrev k : Keeping
+    k = kept_at hosts older i
+
+    abbrev held_j : List DrawopValue
+    held_j = (host_at hosts older j).is.held
+
+    abbrev n : NameValue
+    n = d.name
+
+    abbrev mark : MarkValue
+    mark = top_mark held_j n.page n.source
+
+    differ : i ≡ j → ⊥
+    differ = places_differ hosts older i j d lost
+
+    abbrev count : ℕ
+    count = suc (each_mark_is_told held_j (told_of (kept_at hosts older j).policy) n.page mark (page_there held_j d lost.held counted) (top_told held_j d lost.held counted)).0
+
+    abbrev ticks_j : List LineAt
+    ticks_j = some_ticks hosts older j count
+
+    told : ComesToTell hosts ticks_j older j n.page mark
+    told =
+        let t = each_mark_is_told held_j (told_of (kept_at hosts older j).policy) n.page mark (page_there held_j d lost.held counted) (top_told held_j d lost.held counted) in
+        comes_to_tell hosts older j n.page mark t.0 taken t.2 t.3
+
+    abbrev l1 : List LineAt
+    l1 = ticks_j ++ older
+
+    here_1 : kept_at hosts l1 i ≡ k
+    here_1 = others_stay hosts older j count i (λ e. differ (sym e))
+
+    abbrev now : ℕ
+    now = max (present k.host + asking_wait) k.policy.owed
+
+    abbrev v : Datagram
+    v = Session (host_at hosts older j).is.number told.moment n.page told.marks told.echoes
+
+    abbrev l2 : List LineAt
+    l2 = at i (Came now v) ∷ l1
+
+    late : present k.host + asking_wait ≤ now
+    late = omega arith
+
+    paid : k.policy.owed ≤ now
+    paid = omega arith
+
+    in_time : fault_of (Came now v) k ≡ None
+    in_time = session_in_time k now (host_at hosts older j).is.number told.moment n.page told.marks told.echoes (before (present k.host) k.policy.owed) where
+      before : (a b : ℕ) → a ≤ max (a + asking_wait) b
+      before a b = omega arith
+
+    taken_2 : AreTaken hosts l2
+    taken_2 = (subst (λ (x : Keeping). fault_of (Came now v) x ≡ None) (sym here_1) in_time, told.taken)
+
+    here_2 : kept_at hosts l2 i ≡ after_doing (came now v) k
+    here_2 = moved hosts l1 i (Came now v) ∙ ap (after_doing (came now v)) here_1
+
+    there_2 : (host_at hosts l2 j).is.held ≡ held_j
+    there_2 = ap (λ (x : Keeping). x.host.is.held) (idle hosts l1 (at i (Came now v)) j differ) ∙ told.same
+
+    other : (host_at hosts older j).is.number ≡ k.host.is.number → ⊥
+    other e = differ (are.distinct i j (sym (of_opening hosts older i).number ∙ sym e ∙ (of_opening hosts older j).number))
+
+    among : Contains (told_names k.host.is.number n.page told.marks) n
+    among =
+        let p : MarkValue → Bool = λ m. not (nat_eq m.source k.host.is.number && nat_le 2147483648 m.high) in
+        let low : nat_le 2147483648 mark.high ≡ false = is_false (nat_le 2147483648 mark.high) (λ e. let le = leb-true 2147483648 mark.high e in omega (arith, le, small, is_top)) in
+        let passes : p mark ≡ true = ap (λ (b : Bool). not (nat_eq n.source k.host.is.number && b)) low ∙ never (nat_eq n.source k.host.is.number) in
+        let there = in_map (λ (m : MarkValue). name_of n.page m.source m.high) (filter p told.marks) mark (Contains-filter p told.marks mark told.among passes) in
+        subst (λ (s : ℕ). Contains (told_names k.host.is.number n.page told.marks) (name_of n.page n.source s)) (sym is_top) there where
+          never : (b : Bool) → not (b && false) ≡ true
+          never true = refl
+          never false = refl
+
+    module _ (none : asks_for n k.host ≡ false) where
+      same_2 : (host_at hosts l2 i).is.held ≡ k.host.is.held
+      same_2 = ap (λ (x : Keeping). x.host.is.held) here_2
+          ∙ report_holds k (fine_at hosts are older taken i) (answers_at hosts older i) now late paid (host_at hosts older j).is.number told.moment n.page told.marks told.echoes other told.few n among lost.lost lost.room none
+
+      asked_2 : asks_for n (host_at hosts l2 i) ≡ true
+      asked_2 = ap (λ (x : Keeping). asks_for n x.host) here_2
+          ∙ report_asks k (fine_at hosts are older taken i) (answers_at hosts older i) now late paid (host_at hosts older j).is.number told.moment n.page told.marks told.echoes other told.few n among lost.lost lost.room none
+
+      lost_2 : IsLost hosts l2 i j d
+      lost_2 = record {
+        held = subst (λ (h : List DrawopValue). Contains h d) (sym there_2) lost.held;
+        lost = ap (λ (h : List DrawopValue). holds h n) same_2 ∙ lost.lost;
+        room = same_room l2 older i same_2 ∙ lost.room;
+        known = not_ours n (host_at hosts l2 i) small;
+      }
+
+      unforged_2 : NothingIsForged hosts older → NothingIsForged hosts l2
+      unforged_2 unforged = (told.sent, ticks_unforged hosts older j count unforged)
+
+      by_report : (newer : List LineAt) × IsBrought hosts newer older i j d
+      by_report = (
+        repair i j (host_at hosts l2 i) (host_at hosts l2 j) d ++ (at i (Came now v) ∷ ticks_j),
+        brought_behind hosts (repair i j (host_at hosts l2 i) (host_at hosts l2 j) d) (at i (Came now v) ∷ ticks_j) older i j d unforged_2 same_2 there_2 (asked_can_come hosts l2 i j d are taken_2 lost_2 asked_2),
+      )
+
+    pub top_comes : (newer : List LineAt) × IsBrought hosts newer older i j d
+    top_comes = by (asks_for n k.host) refl where
+      by : (b : Bool) → asks_for n k.host ≡ b → (newer : List LineAt) × IsBrought hosts newer older i j d
+      by true asked = (repair i j (host_at hosts older i) (host_at hosts older j) d, asked_can_come hosts older i j d are taken lost asked)
+      by false none = by_report none
+
+  -- ---- any of them
+
+  has_come : (newer older : List LineAt) (i j : ℕ) (d : DrawopValue) → IsBrought hosts newer older i j d → HasCome hosts newer older i d
+  has_come newer older i j d b = record {
+    taken = b.taken;
+    unforged = b.unforged;
+    held = subst (λ (h : List DrawopValue). Contains h d) (sym b.held) (Contains-append_right (host_at hosts older i).is.held (d ∷ []) d (Contains-here d []));
+  }
+
+  come_behind : (newer more older : List LineAt) (i : ℕ) (d : DrawopValue) → (NothingIsForged hosts older → NothingIsForged hosts (more ++ older)) → HasCome hosts newer (more ++ older) i d → HasCome hosts (newer ++ more) older i d
+  come_behind newer more older i d unforged c =
+      let e = sym (append_assoc newer more older) in
+      record {
+        taken = subst (AreTaken hosts) e c.taken;
+        unforged = λ none. subst (NothingIsForged hosts) e (c.unforged (unforged none));
+        held = subst (λ (lines : List LineAt). Contains (host_at hosts lines i).is.held d) e c.held;
+      }
+
+  module _ (older : List LineAt) (i j : ℕ) (d : DrawopValue) (taken : AreTaken hosts older) (counted : 1 ≤ d.name.seq) (held : Contains (host_at hosts older j).is.held d) (lacks : holds (host_at hosts older i).is.held d.name ≡ false) (room : length (host_at hosts older i).is.held + 2 ≤ (host_at hosts older i).is.cells)
+      (small : highest d.name.page d.name.source (host_at hosts older j).is.held < 2147483648) where
+    abbrev page : PageId
+    page = d.name.page
+
+    abbrev source : ℕ
+    source = d.name.source
+
+    abbrev top : ℕ
+    top = highest page source (host_at hosts older j).is.held
+
+    abbrev held_i : List DrawopValue
+    held_i = (host_at hosts older i).is.held
+
+    under : d.name.seq ≤ top
+    under = below_top (host_at hosts older j).is.held d held counted
+
+    d_small : d.name.seq < 2147483648
+    d_small = let le = under in omega (arith, le, small)
+
+    lost : IsLost hosts older i j d
+    lost = record { held = held; lost = lacks; room = has_room (host_at hosts older i) (omega (arith, room)); known = not_ours d.name (host_at hosts older i) d_small }
+
+    -- the drawop of the greatest number
+    abbrev its_top : IsHeld (host_at hosts older j).is.held page source top
+    its_top = top_held (host_at hosts older j).is.held d held counted
+
+    abbrev t : DrawopValue
+    t = its_top.1
+
+    t_name : t.name ≡ name_of page source top
+    t_name = its_top.4
+
+    t_held : Contains (host_at hosts older j).is.held t
+    t_held = (its_top.0, its_top.2, its_top.3)
+
+    seq_of : t.name.seq ≡ top
+    seq_of = ap (λ (n : NameValue). n.seq) t_name
+
+    t_counted : 1 ≤ t.name.seq
+    t_counted = let le = under in let e = seq_of in omega (arith, le, e, counted)
+
+    t_small : t.name.seq < 2147483648
+    t_small = let e = seq_of in omega (arith, e, small)
+
+    t_top : t.name.seq ≡ highest t.name.page t.name.source (host_at hosts older j).is.held
+    t_top = subst (λ (n : NameValue). n.seq ≡ highest n.page n.source (host_at hosts older j).is.held) (sym t_name) refl
+
+    -- once the top is held, it has its turn
+    by_its_turn : (lines : List LineAt) → AreTaken hosts lines → IsLost hosts lines i j d → IsHeld (host_at hosts lines i).is.held page source top → (newer : List LineAt) × HasCome hosts newer lines i d
+    by_its_turn lines taken_then lost_then top_then =
+        let b = by_turn hosts lines i j d are taken_then lost_then (missing_below (host_at hosts lines i).is.held d.name top counted under lost_then.lost top_then) d_small in
+        (b.0, has_come b.0 lines i j d b.1)
+
+    module _ (t_lacks : holds held_i t.name ≡ false) (differ : d.name.seq ≡ top → ⊥) where
+      t_lost : IsLost hosts older i j t
+      t_lost = record { held = t_held; lost = t_lacks; room = lost.room; known = not_ours t.name (host_at hosts older i) t_small }
+
+      abbrev first : (newer : List LineAt) × IsBrought hosts newer older i j t
+      first = top_comes older i j t taken t_lost t_counted t_small t_top
+
+      abbrev more : List LineAt
+      more = first.0
+
+      b : IsBrought hosts more older i j t
+      b = first.1
+
+      other_name : same_name t.name d.name ≡ false
+      other_name = is_false (same_name t.name d.name) (λ same. differ (sym (ap (λ (n : NameValue). n.seq) (same_name-is t.name d.name same)) ∙ seq_of))
+
+      lost_then : IsLost hosts (more ++ older) i j d
+      lost_then = record {
+        held = subst (λ (h : List DrawopValue). Contains h d) (sym b.kept) held;
+        lost = ap (λ (h : List DrawopValue). holds h d.name) b.held ∙ holds_one_more held_i t d.name ∙ ap (λ (x : Bool). x || same_name t.name d.name) lacks ∙ other_name;
+        room = has_room (host_at hosts (more ++ older) i) (fits (length held_i) (length (host_at hosts (more ++ older) i).is.held) (host_at hosts older i).is.cells (host_at hosts (more ++ older) i).is.cells (ap (λ (h : List DrawopValue). length h) b.held ∙ one_longer held_i) (same_cells (more ++ older) older i) room);
+        known = not_ours d.name (host_at hosts (more ++ older) i) d_small;
+      } where
+        one_longer : (h : List DrawopValue) → length (h ++ t ∷ []) ≡ length h + 1
+        one_longer [] = omega arith
+        one_longer (x ∷ h) = let e = one_longer h in omega (arith, e)
+
+        fits : (a b c e : ℕ) → b ≡ a + 1 → e ≡ c → a + 2 ≤ c → b < e
+        fits a b c e p q r = omega (arith, p, q, r)
+
+      top_then : IsHeld (host_at hosts (more ++ older) i).is.held page source top
+      top_then =
+          let there : Contains (host_at hosts (more ++ older) i).is.held t = subst (λ (h : List DrawopValue). Contains h t) (sym b.held) (Contains-append_right held_i (t ∷ []) t (Contains-here t [])) in
+          (there.0, t, there.1, there.2, t_name)
+
+      by_top : (newer : List LineAt) × HasCome hosts newer older i d
+      by_top =
+          let rest = by_its_turn (more ++ older) b.taken lost_then top_then in
+          (rest.0 ++ more, come_behind rest.0 more older i d b.unforged rest.1)
+
+    pub comes : (newer : List LineAt) × HasCome hosts newer older i d
+    comes = by (nat_eq d.name.seq top) refl (holds held_i t.name) refl where
+      same : d.name.seq ≡ top → (newer : List LineAt) × HasCome hosts newer older i d
+      same e = let b = top_comes older i j d taken lost counted d_small e in (b.0, has_come b.0 older i j d b.1)
+
+      by : (b : Bool) → nat_eq d.name.seq top ≡ b → (h : Bool) → holds held_i t.name ≡ h → (newer : List LineAt) × HasCome hosts newer older i d
+      by true e h f = same (eqb-true d.name.seq top e)
+      by false e true f = by_its_turn older taken lost (held-by held_i page source top (ap (holds held_i) (sym t_name) ∙ f))
+      by false e false f = by_top f (λ same. true≢false (sym (ap (nat_eq d.name.seq) (sym same) ∙ is_itself d.name.seq) ∙ e))
+
+pub lost_can_come : LostCanCome
+lost_can_come hosts older i j d are taken counted held lacks room small = comes hosts are older i j d taken counted held lacks room small

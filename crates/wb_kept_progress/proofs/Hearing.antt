@@ -1,0 +1,320 @@
+-- Who hears a report of a number that it lacks asks for it.
+use Rattle.std.proofs.Common.{◌≡◌, ℕ, suc, ◌+◌, ◌*◌, ◌^◌, ◌<◌, ◌≤◌, Bool, true, false, cond, List, [], ◌∷◌, ◌++◌, ◌∙◌, Option, Some, None, ap, arith, eqb-true, leb-true, length, map, refl, subst, sym, true≢false}
+use Rattle.std.specs.Prelude.{◌&&◌, ◌||◌, Contains, IfSome, filter, is_some, max, min, nat_eq, nat_le, nat_lt, not, take, unwrap_or}
+use Rattle.std.proofs.Math.Nat.{mul-le-mul, pow-le-pow_right}
+use Rattle.std.proofs.lemmas.List.Sums.{count_by-le-length, length-filter}
+use Rattle.wb_names.specs.History.{name_of}
+use Rattle.wb_names.specs.Values.{DrawopValue, MarkValue, NameValue}
+use Rattle.wb_names.specs.declared.echo.Echo.{Echo}
+use Rattle.wb_names.specs.declared.name.PageId.{PageId}
+use Rattle.wb_names.proofs.Orders.{and_both}
+use Rattle.wb_codec.specs.declared.datagram.Datagram.{Datagram}
+use Rattle.wb_codec.specs.declared.datagram.Datagram.TheVariants.{Draw, Session, Request, AskPages, PageState}
+use Rattle.wb_gaps.specs.Answers.{pages_of, report_of}
+use Rattle.wb_gaps.specs.Holes.{hole_after}
+use Rattle.wb_gaps.specs.declared.holes.Hole.{Hole}
+use Rattle.wb_recovery.specs.Events.{Event, due_asks, names_of, timers_of, word_for}
+use Rattle.wb_recovery.specs.Stopping.{got_each, is_received, receipts}
+use Rattle.wb_recovery.specs.Timing.{are_constants, backed_off, fired_ask, is_constant, is_standing}
+use Rattle.wb_recovery.specs.declared.missed.Received.{Received}
+use Rattle.wb_recovery.specs.declared.timers.AskTimer.{AskTimer}
+use Rattle.wb_recovery.specs.declared.timers.Timers.{Timers}
+use Rattle.wb_recovery.specs.declared.tuning.Tuning.{Tuning}
+use Rattle.wb_recovery.proofs.StoppedNames.{not_received, received_stops, timers_receipts}
+use Rattle.wb_host.specs.GivingUp.{level as level_in}
+use Rattle.wb_host.specs.Keeper.{delay_to, received_of}
+use Rattle.wb_host.specs.Ticks.{stopped_after}
+use Rattle.wb_progress.specs.Bounds.{IsAskNear}
+use Rattle.wb_progress.specs.Keepers.{farthest}
+use Rattle.wb_progress.specs.Repairs.{asking_wait}
+use Rattle.wb_progress.proofs.KeeperBounds.{keepers_are_bounded}
+use Rattle.wb_progress.proofs.OneCall.{le_true, not_standing}
+use Rattle.wb_member.specs.Judged.{is_full, level}
+use Rattle.wb_member.specs.Opened.{Opened, asks_for, due_count, events, has_room_for, heard, present, ticked}
+use Rattle.wb_member.specs.Random.{words_of}
+use Rattle.wb_keeping.specs.Credit.{cost}
+use Rattle.wb_keeping.specs.Distances.{bounded}
+use Rattle.wb_keeping.specs.Fairness.{AnswersWhatIsHeld}
+use Rattle.wb_keeping.specs.Kept.{Doing, Hears, Line, Says, SetsDistance, Ticks, Transition, and_then, answers, asks_pages, came, distance_in, hears, hears_session, measures, own_echo, own_marks, performs, reports, reports_due, reports_rest, state_of, still, timed, told_names, turn, turn_to, want_told}
+use Rattle.wb_keeping.specs.Performing.{Keeping, after_doing, after_line, after_lines, sees, view_of}
+use Rattle.wb_keeping.specs.Policy.{Policy, View, after_answer, after_question, after_turn, holds, in_next_round, with_distance}
+use Rattle.wb_keeping.specs.Questions.{is_due}
+use Rattle.wb_keeping.specs.Reports.{slice_after}
+use Rattle.wb_keeping.specs.Turns.{name_in, nowhere}
+use Rattle.wb_keeping.proofs.EachStep.{having, with_policy}
+use Rattle.wb_keeping.proofs.Performed.{then_after}
+use Rattle.wb_keeping.proofs.StandingTimers.{keeps}
+use Rattle.wb_keeping.proofs.WantedNames.{lines_answer_held}
+use Rattle.wb_kept_progress.proofs.Asking.{AreNew, HasNone, IsAskedAnew, IsNew, MayBeAsked, none_new, stays_asked, told_is_asked}
+use Rattle.wb_kept_progress.proofs.Going.{measures_small, timed_small, want_told_small}
+use Rattle.wb_kept_progress.proofs.Lines.{is_false, lines_rest}
+use Rattle.wb_kept_progress.proofs.Repairs.{IsFine, came_after}
+
+-- ---- behind a long wait no timer is new
+
+record AreFew (t : Tuning) : Type 0 where
+  c1 : t.c1 ≤ 16
+  c2 : t.c2 ≤ 16
+
+most : (n : ℕ) → is_constant n ≡ true → n ≤ 16
+most n e = leb-true n 16 (and_both (nat_le 1 n) (nat_le n 16) e).1
+
+few : (t : Tuning) → are_constants t ≡ true → AreFew t
+few t e =
+    let a = and_both _ (is_constant t.d2) e in
+    let b = and_both _ (is_constant t.d1) a.0 in
+    let c = and_both (is_constant t.c1) (is_constant t.c2) b.0 in
+    record { c1 = most t.c1 c.0; c2 = most t.c2 c.1 }
+
+longest : (level c delay : ℕ) → level ≤ 16 → c ≤ 32 → delay ≤ farthest → 2 ^ level * c * delay ≤ 2 ^ 45
+longest level c delay l x d =
+    let two : 0 < 2 = omega arith in
+    let p : 2 ^ level ≤ 2 ^ 16 = pow-le-pow_right two l in
+    let q : 2 ^ level * c ≤ 2 ^ 16 * 32 = mul-le-mul p x in
+    let r : delay ≤ 2 ^ 24 = omega arith in
+    mul-le-mul q r
+
+-- a timer that fired was backed off
+fired_is_old : (t : Tuning) (now word : ℕ) (o : Option AskTimer) → IfSome o (λ a. a.due ≤ now) → level_in (fired_ask t now word o) ≡ Some 0 → ⊥
+fired_is_old t now word None due new = none_new new
+fired_is_old t now word (Some a) due new = by (nat_le a.due now) (le_true a.due now due) new where
+  zero_of : (n : ℕ) → Some n ≡ Some 0 → n ≡ 0
+  zero_of n e = ap (λ (o : Option ℕ). unwrap_or o 0) e
+
+  some_left : (n : ℕ) → min (n + 1) 16 ≡ 0 → ⊥
+  some_left n e = absurd (omega (arith, e))
+
+  by : (b : Bool) → b ≡ true → level_in (Some (cond b (backed_off t a now a.delay word) a)) ≡ Some 0 → ⊥
+  by true e new = some_left a.level (zero_of (min (a.level + 1) 16) new)
+  by false e new = true≢false (sym e)
+
+module _ (k : Keeping) (fine : IsFine k) (now : ℕ) (late : present k.host + asking_wait ≤ now) where
+  all_due : (n : NameValue) → IfSome (timers_of k.host.is.constants (events k.host) n).ask (λ a. a.due ≤ now)
+  all_due n = from (timers_of k.host.is.constants (events k.host) n).ask (keepers_are_bounded k.host.is.number k.host.is.constants k.host.is.calls fine.goes.orderly n).ask where
+    from : (o : Option AskTimer) → IfSome o (IsAskNear k.host.is.constants farthest (present k.host)) → IfSome o (λ a. a.due ≤ now)
+    from None near = tt
+    from (Some a) near =
+        let s = few k.host.is.constants fine.constants in
+        let c1 = s.c1 in
+        let c2 = s.c2 in
+        let sum : k.host.is.constants.c1 + k.host.is.constants.c2 ≤ 32 = omega arith in
+        let b = longest a.level (k.host.is.constants.c1 + k.host.is.constants.c2) a.delay near.level sum near.delay in
+        let due = near.due in
+        omega (arith, b, due, late)
+
+  none_is_new : (n : NameValue) → IsNew (ticked now k.host) n → ⊥
+  none_is_new n new = by (is_received received n) refl where
+    t : Tuning
+    t = k.host.is.constants
+
+    s : Timers
+    s = timers_of t (events k.host) n
+
+    received : List Received
+    received = received_of (delay_to k.host.is.number k.host.is.calls) (stopped_after k.host.is.number t k.host.is.calls k.host.is.held)
+
+    after : List Event
+    after = receipts now (events k.host) received
+
+    word : ℕ
+    word = word_for (words_of k.host.random (due_count now k.host)) (due_asks (names_of after) (λ m. timers_of t after m) now) n
+
+    then : timers_of t after n ≡ got_each now n s received
+    then = timers_receipts t now (events k.host) received n
+
+    fired : level_in (fired_ask t now word (got_each now n s received).ask) ≡ Some 0
+    fired = ap (λ (s : Timers). level_in (fired_ask t now word s.ask)) (sym then) ∙ new
+
+    by : (b : Bool) → is_received received n ≡ b → ⊥
+    by true e = none_new (sym (ap (λ (o : Option AskTimer). level_in (fired_ask t now word o)) (not_standing (got_each now n s received) (received_stops now n s received e)).ask) ∙ fired)
+    by false e = fired_is_old t now word s.ask (all_due n) (ap (λ (s : Timers). level_in (fired_ask t now word s.ask)) (sym (not_received now n s received e)) ∙ fired)
+
+no_level : (o : Option AskTimer) → is_some o ≡ false → level_in o ≡ None
+no_level None e = refl
+no_level (Some a) e = absurd (true≢false e)
+
+some_level : (o : Option AskTimer) → level_in o ≡ Some 0 → is_some o ≡ true
+some_level None e = absurd (none_new e)
+some_level (Some a) e = refl
+
+-- ---- it hears who reports, and how far away that is
+
+hearing_may : (sender sent : ℕ) (page : PageId) (marks : List MarkValue) (echoes : List Echo) (k : Keeping) (n : NameValue) (used : ℕ) → MayBeAsked k n used → MayBeAsked (having (Hears (Session sender sent page marks echoes)) k) n used
+hearing_may sender sent page marks echoes k n used may = by (has_room_for v k.host) where
+  v : Datagram
+  v = Session sender sent page marks echoes
+
+  by : (b : Bool) → MayBeAsked (record { host = cond b (heard v k.host) k.host; policy = k.policy }) n used
+  by true = record { names = may.names; are = record { all = may.are.all; paid = may.are.paid }; none = may.none; lacks = may.lacks; room = may.room; answers = may.answers; paid = may.paid }
+  by false = may
+
+measures_may : (sender : ℕ) (distance : Option ℕ) (k : Keeping) (n : NameValue) (used : ℕ) → MayBeAsked k n used → MayBeAsked (after_doing (measures sender distance) k) n used
+measures_may sender None k n used may = may
+measures_may sender (Some micros) k n used may = by (nat_eq (bounded micros) micros) where
+  p : Policy
+  p = with_distance micros k.policy
+
+  by : (b : Bool) → MayBeAsked (record { host = after_lines (cond b [] (SetsDistance sender (bounded micros) ∷ [])) k.host; policy = p }) n used
+  by true = record { names = may.names; are = record { all = may.are.all; paid = may.are.paid }; none = may.none; lacks = may.lacks; room = may.room; answers = may.answers; paid = may.paid }
+  by false = record { names = may.names; are = record { all = may.are.all; paid = may.are.paid }; none = may.none; lacks = may.lacks; room = may.room; answers = may.answers; paid = may.paid }
+
+-- ---- what is due behind that
+
+asked_as : (k m : Keeping) (n : NameValue) → m.host ≡ k.host → m.policy.owed ≡ k.policy.owed → IsAskedAnew k n → IsAskedAnew m n
+asked_as k m n same owed is = record {
+  names = is.names;
+  are = record {
+    all = λ x new. is.are.all x (subst (λ (h : Opened). IsNew h x) same new);
+    paid =
+        let p = is.are.paid in
+        let now = ap present same in
+        at_most (present k.host) (present m.host) k.policy.owed m.policy.owed (length is.names) p now owed;
+  };
+  new = subst (λ (h : Opened). IsNew h n) (sym same) is.new;
+} where
+  at_most : (now later owed owes names : ℕ) → now + names * cost ≤ max owed now → later ≡ now → owes ≡ owed → later + names * cost ≤ max owes later
+  at_most now later owed owes names p e f = omega (arith, p, e, f)
+
+states_said : (v : View) (pages : List PageId) (host : Opened) → after_lines (map (λ (page : PageId). Says (state_of v page)) pages) host ≡ host
+states_said v [] host = refl
+states_said v (page ∷ pages) host = states_said v pages host
+
+abbrev done : Keeping → Doing → Keeping
+done k d = record { host = after_lines d.lines k.host; policy = d.policy }
+
+either : (k : Keeping) (n : NameValue) (b : Bool) (x y : Doing) → IsAskedAnew (done k x) n → IsAskedAnew (done k y) n → IsAskedAnew (done k (cond b x y)) n
+either k n true x y p q = p
+either k n false x y p q = q
+
+answers_asked : (k : Keeping) (n : NameValue) → IsAskedAnew k n → IsAskedAnew (after_doing answers k) n
+answers_asked k n is =
+    let v = view_of k.host in
+    let lines = map (λ (page : PageId). Says (state_of v page)) (take 64 (pages_of v.held)) in
+    let d : Doing = record { policy = after_answer v.now k.policy; lines = lines } in
+    either k n (is_due v.now k.policy.questions.answer) d (still (sees k.host) k.policy) (asked_as k (done k d) n (states_said v (take 64 (pages_of v.held)) k.host) refl is) is
+
+asks_asked : (k : Keeping) (n : NameValue) → IsAskedAnew k n → IsAskedAnew (after_doing asks_pages k) n
+asks_asked k n is =
+    let v = view_of k.host in
+    let d : Doing = record { policy = after_question v.now k.policy; lines = Says (AskPages v.me) ∷ [] } in
+    either k n (is_due v.now k.policy.questions.ask) d (still (sees k.host) k.policy) (asked_as k (done k d) n refl refl is) is
+
+rest_asked : (marks : List MarkValue) (k : Keeping) (n : NameValue) → IsAskedAnew k n → IsAskedAnew (done k (reports_rest marks (sees k.host) k.policy)) n
+rest_asked [] k n is = asked_as k (done k (reports_rest [] (sees k.host) k.policy)) n refl refl is
+rest_asked (m ∷ marks) k n is = asked_as k (done k (reports_rest (m ∷ marks) (sees k.host) k.policy)) n refl refl is
+
+turn_to_asked : (next first : Option Hole) (k : Keeping) (n : NameValue) → IsAskedAnew k n → IsAskedAnew (done k (turn_to next first (sees k.host) k.policy)) n
+turn_to_asked (Some h) first k n is =
+    let m = with_policy (after_turn h k.policy) k in
+    stays_asked (name_in k.policy.turns.round h) true m n (asked_as k m n refl refl is)
+turn_to_asked None (Some h) k n is =
+    let q = in_next_round k.policy in
+    let m = with_policy (after_turn h q) k in
+    stays_asked (name_in q.turns.round h) true m n (asked_as k m n refl refl is)
+turn_to_asked None None k n is = asked_as k (with_policy (in_next_round k.policy) k) n refl refl is
+
+turn_asked : (k : Keeping) (n : NameValue) → IsAskedAnew k n → IsAskedAnew (after_doing turn k) n
+turn_asked k n is = turn_to_asked (hole_after k.host.is.held k.policy.turns.page k.policy.turns.source k.policy.turns.number) (hole_after k.host.is.held nowhere 0 0) k n is
+
+due_asked : (k : Keeping) (n : NameValue) → IsAskedAnew k n → IsAskedAnew (after_doing reports_due k) n
+due_asked k n is =
+    let m = after_doing reports k in
+    let reported = rest_asked (slice_after k.policy.told (report_of k.host.is.held k.policy.told_page)) k n is in
+    either k n (nat_le k.policy.reports.due (present k.host)) (and_then reports turn (sees k.host) k.policy) (still (sees k.host) k.policy)
+    (subst (λ (x : Keeping). IsAskedAnew x n) (sym (then_after reports turn k)) (turn_asked m n reported)) is
+
+timed_asked : (k : Keeping) (n : NameValue) → IsAskedAnew k n → IsAskedAnew (after_doing timed k) n
+timed_asked k n is =
+    let a = after_doing answers k in
+    let q = after_doing asks_pages a in
+    subst (λ (x : Keeping). IsAskedAnew x n) (sym (then_after answers (and_then asks_pages reports_due) k ∙ then_after asks_pages reports_due a)) (due_asked q n (asks_asked a n (answers_asked k n is)))
+
+-- ---- a report comes
+
+at_most_all : (me : ℕ) (page : PageId) (marks : List MarkValue) → length (told_names me page marks) ≤ length marks
+at_most_all me page marks =
+    let p : MarkValue → Bool = λ m. not (nat_eq m.source me && nat_le 2147483648 m.high) in
+    let counts = length-filter p marks in
+    let few = count_by-le-length p marks in
+    let same = mapped (filter p marks) in
+    omega (arith, counts, few, same) where
+      mapped : (marks : List MarkValue) → length (map (λ (m : MarkValue). name_of page m.source m.high) marks) ≡ length marks
+      mapped [] = refl
+      mapped (m ∷ marks) = ap suc (mapped marks)
+
+-- Behind a wait above each wait of a timer, and where all names are paid for, it asks for each that is told and that it lacks.
+module _ (k : Keeping) (fine : IsFine k) (answering : AnswersWhatIsHeld k.host) (now : ℕ) (late : present k.host + asking_wait ≤ now) (owed : k.policy.owed ≤ now) (sender sent : ℕ) (page : PageId) (marks : List MarkValue) (echoes : List Echo) (other : sender ≡ k.host.is.number → ⊥) (small : length marks ≤ 64) (n : NameValue)
+    (told : Contains (told_names k.host.is.number page marks) n) (lacks : holds (view_of k.host) n ≡ false) (room : is_full k.host ≡ false) (none : asks_for n k.host ≡ false) where
+  abbrev m : Keeping
+  m = having (Ticks now) k
+
+  abbrev own : List MarkValue
+  own = own_marks k.host.is.number (nat_lt now k.policy.ready) marks
+
+  abbrev echo : List Echo
+  echo = own_echo k.host.is.number echoes
+
+  abbrev first : Transition
+  first = performs (Hears (Session sender sent page own echo))
+
+  abbrev second : Transition
+  second = measures sender (distance_in now echo)
+
+  abbrev third : Transition
+  third = want_told (told_names k.host.is.number page marks)
+
+  may : MayBeAsked m n 0
+  may = record {
+    names = [];
+    are = record { all = λ x new. absurd (none_is_new k fine now late x new); paid = nothing now k.policy.owed };
+    none = no_level (timers_of m.host.is.constants (events m.host) n).ask (is_false (is_some (timers_of m.host.is.constants (events m.host) n).ask) (λ stands. true≢false (sym (keeps (Ticks now) k.host refl n stands) ∙ none)));
+    lacks = lacks;
+    room = room;
+    answers = λ x. lines_answer_held x (Ticks now ∷ []) k.host (answering x);
+    paid = upto now k.policy.owed owed;
+  } where
+    nothing : (now owed : ℕ) → now + 0 * cost ≤ max owed now
+    nothing now owed = omega arith
+
+    upto : (now owed : ℕ) → owed ≤ now → owed ≤ now + 0 * cost
+    upto now owed le = omega (arith, le)
+
+  abbrev one : Keeping
+  one = after_doing first m
+
+  abbrev two : Keeping
+  two = after_doing second one
+
+  abbrev three : Keeping
+  three = after_doing third two
+
+  heard_so : after_doing (hears (Session sender sent page marks echoes)) m ≡ three
+  heard_so =
+      ap (λ (b : Bool). done m (cond b (still (sees m.host) m.policy) (hears_session sender sent page marks echoes (sees m.host) m.policy))) (is_false (nat_eq sender k.host.is.number) (λ same. other (eqb-true sender k.host.is.number same)))
+      ∙ then_after first (and_then second third) m
+      ∙ then_after second third one
+
+  pub report_so : after_doing (came now (Session sender sent page marks echoes)) k ≡ after_doing timed three
+  report_so = came_after now (Session sender sent page marks echoes) k ∙ ap (after_doing timed) heard_so
+
+  -- what it holds stays
+  pub report_holds : (after_doing (came now (Session sender sent page marks echoes)) k).host.is.held ≡ k.host.is.held
+  report_holds =
+      let a = lines_rest (second (sees one.host) one.policy).lines one.host (measures_small sender (distance_in now echo) (sees one.host) one.policy) in
+      let b = lines_rest (third (sees two.host) two.policy).lines two.host (want_told_small (told_names k.host.is.number page marks) (sees two.host) two.policy) in
+      let c = lines_rest (timed (sees three.host) three.policy).lines three.host (timed_small (sees three.host) three.policy) in
+      ap (λ (x : Keeping). x.host.is.held) report_so ∙ c.held ∙ b.held ∙ a.held ∙ by (has_room_for (Session sender sent page own echo) m.host) where
+        by : (b : Bool) → (cond b (heard (Session sender sent page own echo) m.host) m.host).is.held ≡ k.host.is.held
+        by true = refl
+        by false = refl
+
+  asked_three : IsAskedAnew three n
+  asked_three =
+      let le = at_most_all k.host.is.number page marks in
+      told_is_asked (told_names k.host.is.number page marks) two n 0 told (omega (arith, le, small)) (measures_may sender (distance_in now echo) one n 0 (hearing_may sender sent page own echo m n 0 may))
+
+  pub report_asks : asks_for n (after_doing (came now (Session sender sent page marks echoes)) k).host ≡ true
+  report_asks =
+      let last = after_doing timed three in
+      let is = timed_asked three n asked_three in
+      subst (λ (x : Keeping). asks_for n x.host ≡ true) (sym report_so) (some_level (timers_of last.host.is.constants (events last.host) n).ask is.new)

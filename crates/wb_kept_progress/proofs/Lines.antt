@@ -1,0 +1,234 @@
+-- What lines make of a host: of what it holds, and of the timers of a name.
+use Rattle.std.proofs.Common.{◌≡◌, ℕ, ◌+◌, Bool, true, false, cond, List, [], ◌∷◌, ◌++◌, ◌∙◌, Option, Some, None, ap, arith, map, refl, subst, sym, true≢false, ⊎_elim}
+use Rattle.std.specs.Prelude.{◌≢◌, ◌||◌, Contains, get_or, is_some, nat_eq, nat_le, not, take}
+use Rattle.std.proofs.lemmas.List.Elements.{Contains-append_left, Contains-append_right, Contains-get_or}
+use Rattle.std.proofs.lemmas.List.Quantifiers.{all_pairs_push}
+use Rattle.wb_names.specs.Arrivals.{Outcome, Fresh, Known, Clashed, Left, history_with, outcome_from, outcome_of}
+use Rattle.wb_names.specs.History.{IsHistory}
+use Rattle.wb_names.specs.Orders.{same_name}
+use Rattle.wb_names.specs.Same.{same_drawop}
+use Rattle.wb_names.specs.Values.{DrawopValue, NameValue}
+use Rattle.wb_names.specs.declared.name.PageId.{PageId}
+use Rattle.wb_names.proofs.Listings.{Contains-cases, Contains-none}
+use Rattle.wb_names.proofs.Orders.{same_name-is}
+use Rattle.wb_codec.specs.declared.datagram.Datagram.{Datagram}
+use Rattle.wb_codec.specs.declared.datagram.Datagram.TheVariants.{Draw, Session, Request, AskPages, PageState}
+use Rattle.wb_recovery.specs.Events.{timers_of}
+use Rattle.wb_recovery.specs.Timing.{got, noticed}
+use Rattle.wb_recovery.specs.declared.timers.AskTimer.{AskTimer}
+use Rattle.wb_recovery.specs.declared.timers.Timers.{Timers}
+use Rattle.wb_host.specs.GivingUp.{is_asked}
+use Rattle.wb_host.specs.Keeper.{delay_to, given_up, holds}
+use Rattle.wb_host.proofs.KeptCalls.{same_here}
+use Rattle.wb_member.specs.Members.{Misses}
+use Rattle.wb_member.specs.Opened.{Opened, accepted, asks_for, doing, events, has_room_for, heard, may_ask, present}
+use Rattle.wb_member.specs.Random.{word_of}
+use Rattle.wb_keeping.specs.Kept.{Arrives, Asks, Hears, Line, Says, SetsDistance, Stops, Ticks}
+use Rattle.wb_keeping.specs.Performing.{after_line, after_lines}
+
+pub is_false : (b : Bool) → (b ≡ true → ⊥) → b ≡ false
+is_false true f = absurd (f refl)
+is_false false f = refl
+
+-- ---- any lines
+
+-- the member stays whose it is
+pub record IsOf (host next : Opened) : Type 0 where
+  pub number : next.is.number ≡ host.is.number
+  pub cells : next.is.cells ≡ host.is.cells
+  pub constants : next.is.constants ≡ host.is.constants
+
+pub same_member : (host : Opened) → IsOf host host
+same_member host = record { number = refl; cells = refl; constants = refl }
+
+pub line_of : (line : Line) (host : Opened) → IsOf host (after_line line host)
+line_of (Ticks now) host = record { number = refl; cells = refl; constants = refl }
+line_of (Arrives d) host = record { number = refl; cells = refl; constants = refl }
+line_of (Hears v) host = by (has_room_for v host) where
+  by : (b : Bool) → IsOf host (cond b (heard v host) host)
+  by true = record { number = refl; cells = refl; constants = refl }
+  by false = same_member host
+line_of (Asks name) host = by (may_ask name host) where
+  by : (b : Bool) → IsOf host (cond b (doing (Misses (present host) (name ∷ []) (word_of host.random ∷ [])) 1 host) host)
+  by true = record { number = refl; cells = refl; constants = refl }
+  by false = same_member host
+line_of (Stops name) host = record { number = refl; cells = refl; constants = refl }
+line_of (SetsDistance source micros) host = record { number = refl; cells = refl; constants = refl }
+line_of (Says (Draw d)) host = record { number = refl; cells = refl; constants = refl }
+line_of (Says (Session sender sent page marks echoes)) host = same_member host
+line_of (Says (Request asker name)) host = same_member host
+line_of (Says (AskPages asker)) host = same_member host
+line_of (Says (PageState sender page marks)) host = same_member host
+
+pub lines_of : (lines : List Line) (host : Opened) → IsOf host (after_lines lines host)
+lines_of [] host = same_member host
+lines_of (line ∷ lines) host =
+    let one = line_of line host in
+    let rest = lines_of lines (after_line line host) in
+    record { number = rest.number ∙ one.number; cells = rest.cells ∙ one.cells; constants = rest.constants ∙ one.constants }
+
+-- ---- what is held
+
+with_grows : (h : List DrawopValue) (d : DrawopValue) (o : Outcome) (x : DrawopValue) → Contains h x → Contains (history_with h d o) x
+with_grows h d (Fresh i) x c = Contains-append_left h (d ∷ []) x c
+with_grows h d (Known i) x c = c
+with_grows h d (Clashed i) x c = c
+with_grows h d Left x c = c
+
+same_name-here : (m n : NameValue) → m ≡ n → same_name m n ≡ true
+same_name-here m n e = same_here m n e
+
+-- where a drawop is new, none that is held has its name
+fresh_name : (cells i : ℕ) (h : List DrawopValue) (d : DrawopValue) (k : ℕ) → outcome_from cells i h d ≡ Fresh k → (x : DrawopValue) → Contains h x → x.name ≢ d.name
+fresh_name cells i [] d k e x c same = Contains-none x c
+fresh_name cells i (y ∷ h) d k e x c same = from (fresh_name cells (i + 1) h d k) (same_name y.name d.name) refl e where
+  none : (b : Bool) → cond b (Known i) (Clashed i) ≡ Fresh k → ⊥
+  none true f = cc
+  none false f = cc
+
+  from : (outcome_from cells (i + 1) h d ≡ Fresh k → (x : DrawopValue) → Contains h x → x.name ≢ d.name) → (b : Bool) → same_name y.name d.name ≡ b → cond b (cond (same_drawop y d) (Known i) (Clashed i)) (outcome_from cells (i + 1) h d) ≡ Fresh k → ⊥
+  from rest true f g = none (same_drawop y d) g
+  from rest false f g = ⊎_elim
+      (λ (one : y ≡ x). true≢false (sym (same_name-here y.name d.name (ap (λ (w : DrawopValue). w.name) one ∙ same)) ∙ f))
+      (λ (more : Contains h x). rest g x more same)
+      (Contains-cases y x h c)
+
+with_once : (cells : ℕ) (h : List DrawopValue) (d : DrawopValue) (o : Outcome) → outcome_of cells h d ≡ o → IsHistory h → IsHistory (history_with h d o)
+with_once cells h d (Fresh i) e once = all_pairs_push (λ (a b : DrawopValue). a.name ≢ b.name) h d once (λ k x lt. fresh_name cells 0 h d i e (get_or h k x) (Contains-get_or h k x lt))
+with_once cells h d (Known i) e once = once
+with_once cells h d (Clashed i) e once = once
+with_once cells h d Left e once = once
+
+-- What is held stays, and no name comes to stand twice.
+pub record Grows (host next : Opened) : Type 0 where
+  pub kept : (x : DrawopValue) → Contains host.is.held x → Contains next.is.held x
+  pub once : IsHistory host.is.held → IsHistory next.is.held
+
+stays : (host next : Opened) → next.is.held ≡ host.is.held → Grows host next
+stays host next e = record {
+  kept = λ x c. subst (λ (h : List DrawopValue). Contains h x) (sym e) c;
+  once = λ once. subst IsHistory (sym e) once;
+}
+
+accepts : (d : DrawopValue) (host : Opened) → Grows host (accepted d host)
+accepts d host = record {
+  kept = λ x c. with_grows host.is.held d (outcome_of host.is.cells host.is.held d) x c;
+  once = λ once. with_once host.is.cells host.is.held d (outcome_of host.is.cells host.is.held d) refl once;
+}
+
+pub line_grows : (line : Line) (host : Opened) → Grows host (after_line line host)
+line_grows (Ticks now) host = stays host (after_line (Ticks now) host) refl
+line_grows (Arrives d) host = accepts d host
+line_grows (Hears v) host = by (has_room_for v host) where
+  by : (b : Bool) → Grows host (cond b (heard v host) host)
+  by true = stays host (heard v host) refl
+  by false = stays host host refl
+line_grows (Asks name) host = by (may_ask name host) where
+  asking : Opened
+  asking = doing (Misses (present host) (name ∷ []) (word_of host.random ∷ [])) 1 host
+
+  by : (b : Bool) → Grows host (cond b asking host)
+  by true = stays host asking refl
+  by false = stays host host refl
+line_grows (Stops name) host = stays host (after_line (Stops name) host) refl
+line_grows (SetsDistance source micros) host = stays host (after_line (SetsDistance source micros) host) refl
+line_grows (Says (Draw d)) host = accepts d host
+line_grows (Says (Session sender sent page marks echoes)) host = stays host host refl
+line_grows (Says (Request asker name)) host = stays host host refl
+line_grows (Says (AskPages asker)) host = stays host host refl
+line_grows (Says (PageState sender page marks)) host = stays host host refl
+
+pub lines_grow : (lines : List Line) (host : Opened) → Grows host (after_lines lines host)
+lines_grow [] host = stays host host refl
+lines_grow (line ∷ lines) host =
+    let one = line_grows line host in
+    let rest = lines_grow lines (after_line line host) in
+    record { kept = λ x c. rest.kept x (one.kept x c); once = λ once. rest.once (one.once once) }
+
+-- ---- lines by which time stands still and nothing comes
+
+abbrev pub IsSmall : Line → Type 0
+IsSmall (Ticks now) = ⊥
+IsSmall (Arrives d) = ⊥
+IsSmall (Hears v) = ⊥
+IsSmall (Asks name) = Unit {0}
+IsSmall (Stops name) = Unit {0}
+IsSmall (SetsDistance source micros) = Unit {0}
+IsSmall (Says (Draw d)) = ⊥
+IsSmall (Says (Session sender sent page marks echoes)) = Unit {0}
+IsSmall (Says (Request asker name)) = Unit {0}
+IsSmall (Says (AskPages asker)) = Unit {0}
+IsSmall (Says (PageState sender page marks)) = Unit {0}
+
+abbrev pub AreSmall : List Line → Type 0
+AreSmall [] = Unit {0}
+AreSmall (line ∷ lines) = IsSmall line × AreSmall lines
+
+pub small_both : (one other : List Line) → AreSmall one → AreSmall other → AreSmall (one ++ other)
+small_both [] other a b = b
+small_both (line ∷ one) other a b = (a.0, small_both one other a.1 b)
+
+-- What is held stays, and the moment; and so do the timers of a name that is held and is not asked for.
+pub record Rests (host next : Opened) : Type 0 where
+  pub held : next.is.held ≡ host.is.held
+  pub now : present next ≡ present host
+  pub timers : (n : NameValue) → holds host.is.held n ≡ true → (timers_of host.is.constants (events host) n).ask ≡ None → timers_of next.is.constants (events next) n ≡ timers_of host.is.constants (events host) n
+
+rest : (host : Opened) → Rests host host
+rest host = record { held = refl; now = refl; timers = λ n held none. refl }
+
+-- another name than one that is held
+another : (host : Opened) (name n : NameValue) → may_ask name host ≡ true → holds host.is.held n ≡ true → same_name name n ≡ false
+another host name n may held = is_false (same_name name n) (λ same.
+    let e : holds host.is.held name ≡ true = subst (λ (m : NameValue). holds host.is.held m ≡ true) (sym (same_name-is name n same)) held in
+    true≢false (sym may ∙ ap (λ (b : Bool). not (b || timed host name)) e)) where
+      timed : Opened → NameValue → Bool
+      timed host name = is_some (timers_of host.is.constants (events host) name).ask || is_some (timers_of host.is.constants (events host) name).answer
+
+asks_rest : (name : NameValue) (host : Opened) → Rests host (after_line (Asks name) host)
+asks_rest name host = by (may_ask name host) refl where
+  asking : Opened
+  asking = doing (Misses (present host) (name ∷ []) (word_of host.random ∷ [])) 1 host
+
+  by : (b : Bool) → may_ask name host ≡ b → Rests host (cond b asking host)
+  by true may = record {
+    held = refl;
+    now = refl;
+    timers = λ n held none. ap (λ (b : Bool). cond b (noticed host.is.constants (present host) (delay_to host.is.number host.is.calls name.source) (word_of host.random) (timers_of host.is.constants (events host) n)) (timers_of host.is.constants (events host) n)) (another host name n may held);
+  }
+  by false may = rest host
+
+stops_rest : (name : NameValue) (host : Opened) → Rests host (after_line (Stops name) host)
+stops_rest name host = record { held = refl; now = refl; timers = λ n held none. by n none (asks_for name host) refl } where
+  by : (n : NameValue) → (timers_of host.is.constants (events host) n).ask ≡ None → (b : Bool) → asks_for name host ≡ b → timers_of host.is.constants (given_up (present host) name b (events host)) n ≡ timers_of host.is.constants (events host) n
+  by n none false e = refl
+  by n none true e = ap (λ (b : Bool). cond b (got (present host) 0 (timers_of host.is.constants (events host) n)) (timers_of host.is.constants (events host) n)) (is_false (same_name name n) (λ same.
+      let asked : is_some (timers_of host.is.constants (events host) n).ask ≡ true = subst (λ (m : NameValue). asks_for m host ≡ true) (same_name-is name n same) e in
+      true≢false (sym asked ∙ ap is_some none)))
+
+pub line_rests : (line : Line) (host : Opened) → IsSmall line → Rests host (after_line line host)
+line_rests (Ticks now) host small = absurd small
+line_rests (Arrives d) host small = absurd small
+line_rests (Hears v) host small = absurd small
+line_rests (Asks name) host small = asks_rest name host
+line_rests (Stops name) host small = stops_rest name host
+line_rests (SetsDistance source micros) host small = record { held = refl; now = refl; timers = λ n held none. refl }
+line_rests (Says (Draw d)) host small = absurd small
+line_rests (Says (Session sender sent page marks echoes)) host small = rest host
+line_rests (Says (Request asker name)) host small = rest host
+line_rests (Says (AskPages asker)) host small = rest host
+line_rests (Says (PageState sender page marks)) host small = rest host
+
+pub lines_rest : (lines : List Line) (host : Opened) → AreSmall lines → Rests host (after_lines lines host)
+lines_rest [] host small = rest host
+lines_rest (line ∷ lines) host small =
+    let next = after_line line host in
+    let one = line_rests line host small.0 in
+    let more = lines_rest lines next small.1 in
+    record {
+      held = more.held ∙ one.held;
+      now = more.now ∙ one.now;
+      timers = λ n held none.
+          let e = one.timers n held none in
+          more.timers n (ap (λ (h : List DrawopValue). holds h n) one.held ∙ held) (ap (λ (s : Timers). s.ask) e ∙ none) ∙ e;
+    }

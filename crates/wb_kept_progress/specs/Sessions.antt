@@ -1,0 +1,75 @@
+-- Sessions of hosts that keep themselves. What one sends may be lost, and may be handed in to any of them, at any later point, any
+-- number of times.
+use Rattle.std.specs.Prelude.{◌≡◌, ◌≤◌, ℕ, true, List, [], ◌∷◌, ◌++◌, Contains, None, map, nat_eq, if◌then◌else◌}
+use Rattle.wb_codec.specs.declared.datagram.Datagram.{Datagram}
+use Rattle.wb_recovery.specs.Timing.{are_constants}
+use Rattle.wb_recovery.specs.declared.tuning.Tuning.{Tuning}
+use Rattle.wb_member.specs.Opened.{Opened, opened_with, present}
+use Rattle.wb_keeping.specs.Kept.{Ticks}
+use Rattle.wb_keeping.specs.Laws.{KeptLine, Came, Ticked, Added, doing_of, fault_of}
+use Rattle.wb_keeping.specs.Performing.{Keeping, after_doing, after_lines, sent_by_doing}
+use Rattle.wb_keeping.specs.Policy.{begun}
+
+-- ---- hosts and their lines
+
+-- How a host begins to keep itself: it was opened so, was told these moments, and has a rate for reports and a time to listen.
+pub record Opening : Type 0 where
+  pub constants : Tuning
+  pub number : ℕ
+  pub cells : ℕ
+  pub seed : ℕ
+  pub moments : List ℕ
+  pub rate : ℕ
+  pub listen : ℕ
+
+abbrev pub opened_host : Opening → Opened
+opened_host o = after_lines (map Ticks o.moments) (opened_with o.constants o.number o.cells o.seed)
+
+abbrev pub opened : Opening → Keeping
+opened o = record { host = opened_host o; policy = begun (present (opened_host o)) o.rate o.listen o.seed }
+
+-- the host at a place is handed a line
+pub record LineAt : Type 0 where
+  pub place : ℕ
+  pub line : KeptLine
+
+abbrev pub at : ℕ → KeptLine → LineAt
+at place line = record { place = place; line = line }
+
+-- the host at a place after lines, of which the newest is the first
+abbrev pub kept_at : (ℕ → Opening) → List LineAt → ℕ → Keeping
+kept_at hosts [] i = opened (hosts i)
+kept_at hosts (e ∷ older) i = if nat_eq e.place i then after_doing (doing_of e.line) (kept_at hosts older i) else kept_at hosts older i
+
+-- all that anyone sent
+abbrev pub sent : (ℕ → Opening) → List LineAt → List Datagram
+sent hosts [] = []
+sent hosts (e ∷ older) = sent_by_doing (doing_of e.line) (kept_at hosts older e.place) ++ sent hosts older
+
+-- ---- what they keep to
+
+-- moments that do not go back, from one on
+abbrev pub DoNotGoBack : ℕ → List ℕ → Type 0
+DoNotGoBack now [] = Unit {0}
+DoNotGoBack now (moment ∷ moments) = (now ≤ moment) × DoNotGoBack moment moments
+
+-- No two hosts have one number, time went on at each before it kept itself, and the constants of timers are 1 to 16.
+pub record AreHosts (hosts : ℕ → Opening) : Type 0 where
+  pub distinct : (i j : ℕ) → (hosts i).number ≡ (hosts j).number → i ≡ j
+  pub moments : (i : ℕ) → DoNotGoBack 0 (hosts i).moments
+  pub in_range : (i : ℕ) → are_constants (hosts i).constants ≡ true
+
+-- No line is refused.
+abbrev pub AreTaken : (ℕ → Opening) → List LineAt → Type 0
+AreTaken hosts [] = Unit {0}
+AreTaken hosts (e ∷ older) = (fault_of e.line (kept_at hosts older e.place) ≡ None) × AreTaken hosts older
+
+-- What comes was sent before by one of them.
+abbrev pub WasSent : List Datagram → KeptLine → Type 0
+WasSent before (Came now v) = Contains before v
+WasSent before (Ticked now) = Unit {0}
+WasSent before (Added now page time op) = Unit {0}
+
+abbrev pub NothingIsForged : (ℕ → Opening) → List LineAt → Type 0
+NothingIsForged hosts [] = Unit {0}
+NothingIsForged hosts (e ∷ older) = WasSent (sent hosts older) e.line × NothingIsForged hosts older

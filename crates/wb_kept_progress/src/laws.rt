@@ -1,0 +1,25 @@
+//! Laws of progress of hosts that keep themselves. Each function does nothing: its contract is a law, for proofs to cite.
+
+ghost use Rattle.wb_kept_progress.specs.Repairs.{AskedCanCome, LostCanCome, MarksComeToBeTold, MissingCanCome, MissingIsAsked, MissingIsAskedSoon};
+
+/// Whatever came in before, a drawop that one host asks for, and that another holds, comes by six more lines of the
+/// two. None of them is refused, and none hands in what was not sent.
+pub fn what_is_asked_for_can_come()
+    ensures asked { AskedCanCome }
+{}
+
+/// A number that is missing below the greatest that a host holds of its source comes to be asked for, by ticks alone, where the
+/// board has a free cell. So a drawop of such a number can come from one that holds it.
+pub fn what_is_missing_can_come()
+    ensures asked { MissingIsAsked }
+    ensures soon { MissingIsAskedSoon }
+    ensures comes { MissingCanCome }
+{}
+
+/// No loss is for ever. Each mark of a board comes to be told, by ticks of its host alone. So, whatever came in before, a
+/// drawop that one host lacks and another holds can come, by lines of the two of which none is refused, and none hands in
+/// what was not sent.
+pub fn what_is_lost_can_come()
+    ensures told { MarksComeToBeTold }
+    ensures comes { LostCanCome }
+{}
