@@ -1,4 +1,5 @@
 -- A name that is asked for in a call is still asked for behind it: where another needs its timer, one that was backed off gives way.
+use Rattle.wb_progress.specs.Keepers.{constants_at}
 use Rattle.std.proofs.Common.{◌≡◌, ℕ, zero, suc, ◌+◌, ◌-◌, ◌*◌, ◌<◌, ◌≤◌, Bool, true, false, cond, List, [], ◌∷◌, ◌++◌, ◌∙◌, Option, Some, None, ap, arith, inl, inr, length, map, refl, subst, sym, true≢false, ⊎_elim}
 use Rattle.std.specs.Prelude.{◌⊎◌, ◌&&◌, ◌||◌, Contains, is_none, is_some, max, nat_eq, nat_le, nat_lt, not, unwrap_or}
 use Rattle.std.specs.List.{cons_option, fold}
@@ -22,7 +23,7 @@ use Rattle.wb_member.specs.Opened.{Opened, asks_for, doing, events, may_ask, pre
 use Rattle.wb_member.specs.Random.{word_of}
 use Rattle.wb_keeping.specs.Credit.{cost, has_credit}
 use Rattle.wb_keeping.specs.Fairness.{AnswersWhatIsHeld}
-use Rattle.wb_keeping.specs.Kept.{Asks, Doing, Line, SetsDistance, Stops, room_lines, still, stops_oldest, usual_lines, want, want_told}
+use Rattle.wb_keeping.specs.Kept.{Asks, Doing, Line, SetsDistance, Tunes, Stops, room_lines, still, stops_oldest, usual_lines, want, want_told}
 use Rattle.wb_keeping.specs.Performing.{Keeping, after_doing, after_line, after_lines, asked_name, asked_with, sees, view_of}
 use Rattle.wb_keeping.specs.Policy.{Policy, View, after_wanting, holds, is_asked, is_full, level as level_by}
 use Rattle.wb_keeping.specs.Wanting.{goes_on, is_wanted, older, oldest}
@@ -47,6 +48,7 @@ abbrev AreQuiet : List Line → Type 0
 AreQuiet [] = Unit {0}
 AreQuiet (Stops name ∷ lines) = AreQuiet lines
 AreQuiet (SetsDistance source micros ∷ lines) = AreQuiet lines
+AreQuiet (Tunes constants ∷ lines) = AreQuiet lines
 AreQuiet (line ∷ lines) = ⊥
 
 pub none_new : ◌≡◌ {A = Option ℕ} None (Some 0) → ⊥
@@ -86,6 +88,7 @@ quiet_leave (Stops name ∷ lines) n host quiet new = by (quiet_leave lines n (a
   by there false other = sym (stop_leaves name n host other) ∙ there
   by there true same = absurd (none_new (sym (subst (λ (m : NameValue). level (after_line (Stops name) host) m ≡ None) (same_name-is name n same) (stop_ends name host)) ∙ there))
 quiet_leave (SetsDistance source micros ∷ lines) n host quiet new = quiet_leave lines n (after_line (SetsDistance source micros) host) quiet new
+quiet_leave (Tunes constants ∷ lines) n host quiet new = quiet_leave lines n (after_line (Tunes constants) host) quiet new
 quiet_leave (Asks name ∷ lines) n host quiet new = absurd quiet
 quiet_leave (line ∷ lines) n host quiet new = absurd quiet
 
@@ -100,6 +103,7 @@ quiet_none (Stops name ∷ lines) n host quiet none = quiet_none lines n (after_
   by false other = stop_leaves name n host other ∙ none
   by true same = subst (λ (m : NameValue). HasNone (after_line (Stops name) host) m) (same_name-is name n same) (stop_ends name host)
 quiet_none (SetsDistance source micros ∷ lines) n host quiet none = quiet_none lines n (after_line (SetsDistance source micros) host) quiet none
+quiet_none (Tunes constants ∷ lines) n host quiet none = quiet_none lines n (after_line (Tunes constants) host) quiet none
 quiet_none (Asks name ∷ lines) n host quiet none = absurd quiet
 quiet_none (line ∷ lines) n host quiet none = absurd quiet
 
@@ -111,7 +115,7 @@ asks_leaves name n host other = by (may_ask name host) where
 
   by : (b : Bool) → level (cond b asking_host host) n ≡ level host n
   by false = refl
-  by true = ap (λ (b : Bool). level_in (cond b (noticed host.is.constants (present host) (delay_to host.is.number host.is.calls name.source) (word_of host.random) (timers_of host.is.constants (events host) n)) (timers_of host.is.constants (events host) n)).ask) other
+  by true = ap (λ (b : Bool). level_in (cond b (noticed (constants_at host.is.number host.is.constants host.is.calls) (present host) (delay_to host.is.number host.is.calls name.source) (word_of host.random) (timers_of host.is.constants (events host) n)) (timers_of host.is.constants (events host) n)).ask) other
 
 asks_new : (name n : NameValue) (host : Opened) → IsNew (after_line (Asks name) host) n → (name ≡ n) ⊎ IsNew host n
 asks_new name n host new = by (same_name name n) refl where
@@ -123,7 +127,7 @@ asks_new name n host new = by (same_name name n) refl where
 asks_sets : (name : NameValue) (host : Opened) → may_ask name host ≡ true → IsNew (after_line (Asks name) host) name
 asks_sets name host may =
     ap (λ (b : Bool). level (cond b asking_host host) name) may
-    ∙ ap (λ (b : Bool). level_in (cond b (noticed host.is.constants now delay word s) s).ask) (same_here name name refl)
+    ∙ ap (λ (b : Bool). level_in (cond b (noticed (constants_at host.is.number host.is.constants host.is.calls) now delay word s) s).ask) (same_here name name refl)
     ∙ set s.ask (no_ask may) where
       asking_host : Opened
       asking_host = doing (Misses (present host) (name ∷ []) (word_of host.random ∷ [])) 1 host
@@ -140,7 +144,7 @@ asks_sets name host may =
       word : ℕ
       word = word_of host.random
 
-      set : (o : Option AskTimer) → is_none o ≡ true → level_in (cond (is_none o) (record s { ask = Some (new_ask host.is.constants now delay word) }) (record s { ask = o })).ask ≡ Some 0
+      set : (o : Option AskTimer) → is_none o ≡ true → level_in (cond (is_none o) (record s { ask = Some (new_ask (constants_at host.is.number host.is.constants host.is.calls) now delay word) }) (record s { ask = o })).ask ≡ Some 0
       set None e = refl
       set (Some a) e = absurd (true≢false (sym e))
 
@@ -278,6 +282,7 @@ quiet_time : (lines : List Line) (host : Opened) → AreQuiet lines → present 
 quiet_time [] host quiet = refl
 quiet_time (Stops name ∷ lines) host quiet = quiet_time lines (after_line (Stops name) host) quiet
 quiet_time (SetsDistance source micros ∷ lines) host quiet = quiet_time lines (after_line (SetsDistance source micros) host) quiet
+quiet_time (Tunes constants ∷ lines) host quiet = quiet_time lines (after_line (Tunes constants) host) quiet
 quiet_time (Asks name ∷ lines) host quiet = absurd quiet
 quiet_time (line ∷ lines) host quiet = absurd quiet
 

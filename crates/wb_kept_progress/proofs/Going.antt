@@ -1,4 +1,5 @@
 -- At each host that keeps itself time goes on, and delays are in range.
+use Rattle.wb_recovery.specs.Timing.{are_constants}
 use Rattle.std.proofs.Common.{◌≡◌, ℕ, ◌≤◌, Bool, true, false, cond, List, [], ◌∷◌, ◌++◌, ◌∙◌, Option, Some, None, ap, arith, map, refl, subst, sym, true≢false, eqb-true}
 use Rattle.std.specs.Prelude.{IfSome, filter, length, nat_eq, nat_le, nat_lt, take, min, max, ◌*◌, ◌/◌, ◌+◌}
 use Rattle.std.proofs.lemmas.Bool.{leb-true}
@@ -16,7 +17,7 @@ use Rattle.wb_member.specs.Opened.{Opened, doing, has_room_for, heard, may_ask, 
 use Rattle.wb_member.specs.Random.{word_of}
 use Rattle.wb_progress.specs.Keepers.{AreOrderly, farthest}
 use Rattle.wb_keeping.specs.Distances.{bounded, usual_with}
-use Rattle.wb_keeping.specs.Kept.{Arrives, Asks, Doing, Hears, Line, Says, SetsDistance, Stops, Ticks, Transition, and_then, answers, asks_pages, end, is_begun, is_unasked, learned, measures, near_names, paid_for, performs, reports, reports_due, reports_page, reports_rest, room_lines, state_of, still, stops_oldest, timed, turn, turn_to, usual_lines, want, want_near, want_told}
+use Rattle.wb_keeping.specs.Kept.{Arrives, Asks, Doing, Hears, Line, Says, SetsDistance, Tunes, Stops, Ticks, Transition, and_then, answers, asks_pages, end, is_begun, is_unasked, learned, measures, near_names, paid_for, performs, reports, reports_due, reports_page, reports_rest, room_lines, state_of, still, stops_oldest, timed, turn, turn_to, usual_lines, want, want_near, want_told}
 use Rattle.wb_keeping.specs.Laws.{KeptLine, doing_of, fault_of}
 use Rattle.wb_keeping.specs.Performing.{Keeping, after_doing, after_line, after_lines, sees, view_of}
 use Rattle.wb_keeping.specs.Policy.{Policy, View, after_answer, after_question, after_turn, after_wanting, holds, in_next_round, is_asked, is_full, level}
@@ -153,6 +154,7 @@ IsNear p = IfSome p.usual (λ u. u ≤ 1000000)
 abbrev pub AreFit : List Line → Type 0
 AreFit [] = Unit {0}
 AreFit (SetsDistance source micros ∷ lines) = (micros ≤ farthest) × AreFit lines
+AreFit (Tunes constants ∷ lines) = (are_constants constants ≡ true) × AreFit lines
 AreFit (line ∷ lines) = IsSmall line × AreFit lines
 
 itself : (n : ℕ) → n ≤ n
@@ -172,6 +174,7 @@ fit_orderly (Hears v ∷ lines) host fit is = absurd fit.0
 fit_orderly (Asks name ∷ lines) host fit is = fit_orderly lines (after_line (Asks name) host) fit.1 (asks_orderly name host is)
 fit_orderly (Stops name ∷ lines) host fit is = fit_orderly lines (after_line (Stops name) host) fit.1 (itself (present host), tt, is)
 fit_orderly (SetsDistance source micros ∷ lines) host fit is = fit_orderly lines (after_line (SetsDistance source micros) host) fit.1 (itself (present host), fit.0, is)
+fit_orderly (Tunes constants ∷ lines) host fit is = fit_orderly lines (after_line (Tunes constants) host) fit.1 (itself (present host), fit.0, is)
 fit_orderly (Says (Draw d) ∷ lines) host fit is = absurd fit.0
 fit_orderly (Says (Session sender sent page marks echoes) ∷ lines) host fit is = fit_orderly lines host fit.1 is
 fit_orderly (Says (Request asker name) ∷ lines) host fit is = fit_orderly lines host fit.1 is
@@ -186,6 +189,7 @@ fit_both (Hears v ∷ one) other a b = absurd a.0
 fit_both (Asks name ∷ one) other a b = (tt, fit_both one other a.1 b)
 fit_both (Stops name ∷ one) other a b = (tt, fit_both one other a.1 b)
 fit_both (SetsDistance source micros ∷ one) other a b = (a.0, fit_both one other a.1 b)
+fit_both (Tunes constants ∷ one) other a b = (a.0, fit_both one other a.1 b)
 fit_both (Says v ∷ one) other a b = (a.0, fit_both one other a.1 b)
 
 room_fit : (name : NameValue) (v : View) → AreFit (room_lines name v)
@@ -259,6 +263,7 @@ steps_go_on = record {
   answered = λ d k lacks asked. record { at = refl; goes = λ g. record { orderly = (itself (present k.host), tt, g.orderly); near = g.near } };
   hears = λ v k. record { at = refl; goes = λ g. record { orderly = hears_orderly v k.host g.orderly; near = g.near } };
   stops = λ name k. record { at = refl; goes = λ g. record { orderly = (itself (present k.host), tt, g.orderly); near = g.near } };
+  tunes = λ constants k within. record { at = refl; goes = λ g. record { orderly = (itself (present k.host), within, g.orderly); near = g.near } };
   sets = λ source micros k. record { at = refl; goes = λ g. record { orderly = (itself (present k.host), bounded_fits micros, g.orderly); near = g.near } };
   wants = wants_on;
   draws = λ d k. record { at = refl; goes = λ g. record { orderly = (itself (present k.host), tt, g.orderly); near = g.near } };

@@ -13,7 +13,7 @@ use Rattle.wb_codec.specs.declared.datagram.Datagram.TheVariants.{Draw, Session,
 use Rattle.wb_gaps.specs.Answers.{pages_of, report_of}
 use Rattle.wb_gaps.specs.Holes.{hole_after}
 use Rattle.wb_gaps.specs.declared.holes.Hole.{Hole}
-use Rattle.wb_recovery.specs.Events.{Event, due_asks, names_of, timers_of, word_for}
+use Rattle.wb_recovery.specs.Events.{Event, due_asks, names_of, timers_of, word_for, constants_after}
 use Rattle.wb_recovery.specs.Stopping.{got_each, is_received, receipts}
 use Rattle.wb_recovery.specs.Timing.{are_constants, backed_off, fired_ask, is_constant, is_standing}
 use Rattle.wb_recovery.specs.declared.missed.Received.{Received}
@@ -25,7 +25,7 @@ use Rattle.wb_host.specs.GivingUp.{level as level_in}
 use Rattle.wb_host.specs.Keeper.{delay_to, received_of}
 use Rattle.wb_host.specs.Ticks.{stopped_after}
 use Rattle.wb_progress.specs.Bounds.{IsAskNear}
-use Rattle.wb_progress.specs.Keepers.{farthest}
+use Rattle.wb_progress.specs.Keepers.{farthest, greatest_constants}
 use Rattle.wb_progress.specs.Repairs.{asking_wait}
 use Rattle.wb_progress.proofs.KeeperBounds.{keepers_are_bounded}
 use Rattle.wb_progress.proofs.OneCall.{le_true, not_standing}
@@ -35,7 +35,7 @@ use Rattle.wb_member.specs.Random.{words_of}
 use Rattle.wb_keeping.specs.Credit.{cost}
 use Rattle.wb_keeping.specs.Distances.{bounded}
 use Rattle.wb_keeping.specs.Fairness.{AnswersWhatIsHeld}
-use Rattle.wb_keeping.specs.Kept.{Doing, Hears, Line, Says, SetsDistance, Ticks, Transition, and_then, answers, asks_pages, came, distance_in, hears, hears_session, measures, own_echo, own_marks, performs, reports, reports_due, reports_rest, state_of, still, timed, told_names, turn, turn_to, want_told}
+use Rattle.wb_keeping.specs.Kept.{Doing, Hears, Line, Says, SetsDistance, Tunes, Ticks, Transition, and_then, answers, asks_pages, came, distance_in, hears, hears_session, measures, own_echo, own_marks, performs, reports, reports_due, reports_rest, state_of, still, timed, told_names, turn, turn_to, want_told}
 use Rattle.wb_keeping.specs.Performing.{Keeping, after_doing, after_line, after_lines, sees, view_of}
 use Rattle.wb_keeping.specs.Policy.{Policy, View, after_answer, after_question, after_turn, holds, in_next_round, with_distance}
 use Rattle.wb_keeping.specs.Questions.{is_due}
@@ -52,19 +52,8 @@ use Rattle.wb_kept_progress.proofs.Repairs.{IsFine, came_after}
 
 -- ---- behind a long wait no timer is new
 
-record AreFew (t : Tuning) : Type 0 where
-  c1 : t.c1 ≤ 16
-  c2 : t.c2 ≤ 16
-
-most : (n : ℕ) → is_constant n ≡ true → n ≤ 16
-most n e = leb-true n 16 (and_both (nat_le 1 n) (nat_le n 16) e).1
-
-few : (t : Tuning) → are_constants t ≡ true → AreFew t
-few t e =
-    let a = and_both _ (is_constant t.d2) e in
-    let b = and_both _ (is_constant t.d1) a.0 in
-    let c = and_both (is_constant t.c1) (is_constant t.c2) b.0 in
-    record { c1 = most t.c1 c.0; c2 = most t.c2 c.1 }
+itself : (n : ℕ) → n ≤ n
+itself n = omega arith
 
 longest : (level c delay : ℕ) → level ≤ 16 → c ≤ 32 → delay ≤ farthest → 2 ^ level * c * delay ≤ 2 ^ 45
 longest level c delay l x d =
@@ -75,7 +64,7 @@ longest level c delay l x d =
     mul-le-mul q r
 
 -- a timer that fired was backed off
-fired_is_old : (t : Tuning) (now word : ℕ) (o : Option AskTimer) → IfSome o (λ a. a.due ≤ now) → level_in (fired_ask t now word o) ≡ Some 0 → ⊥
+fired_is_old : (t : Tuning) (now word : ℕ) (o : Option AskTimer) → IfSome o (λ a. a.due ≤ now) → level_in (fired_ask c now word o) ≡ Some 0 → ⊥
 fired_is_old t now word None due new = none_new new
 fired_is_old t now word (Some a) due new = by (nat_le a.due now) (le_true a.due now due) new where
   zero_of : (n : ℕ) → Some n ≡ Some 0 → n ≡ 0
@@ -90,15 +79,11 @@ fired_is_old t now word (Some a) due new = by (nat_le a.due now) (le_true a.due 
 
 module _ (k : Keeping) (fine : IsFine k) (now : ℕ) (late : present k.host + asking_wait ≤ now) where
   all_due : (n : NameValue) → IfSome (timers_of k.host.is.constants (events k.host) n).ask (λ a. a.due ≤ now)
-  all_due n = from (timers_of k.host.is.constants (events k.host) n).ask (keepers_are_bounded k.host.is.number k.host.is.constants k.host.is.calls fine.goes.orderly n).ask where
-    from : (o : Option AskTimer) → IfSome o (IsAskNear k.host.is.constants farthest (present k.host)) → IfSome o (λ a. a.due ≤ now)
+  all_due n = from (timers_of k.host.is.constants (events k.host) n).ask (keepers_are_bounded k.host.is.number k.host.is.constants k.host.is.calls fine.constants fine.goes.orderly n).ask where
+    from : (o : Option AskTimer) → IfSome o (IsAskNear greatest_constants farthest (present k.host)) → IfSome o (λ a. a.due ≤ now)
     from None near = tt
     from (Some a) near =
-        let s = few k.host.is.constants fine.constants in
-        let c1 = s.c1 in
-        let c2 = s.c2 in
-        let sum : k.host.is.constants.c1 + k.host.is.constants.c2 ≤ 32 = omega arith in
-        let b = longest a.level (k.host.is.constants.c1 + k.host.is.constants.c2) a.delay near.level sum near.delay in
+        let b = longest a.level 32 a.delay near.level (itself 32) near.delay in
         let due = near.due in
         omega (arith, b, due, late)
 
@@ -119,15 +104,18 @@ module _ (k : Keeping) (fine : IsFine k) (now : ℕ) (late : present k.host + as
     word : ℕ
     word = word_for (words_of k.host.random (due_count now k.host)) (due_asks (names_of after) (λ m. timers_of t after m) now) n
 
+    c : Tuning
+    c = constants_after t after
+
     then : timers_of t after n ≡ got_each now n s received
     then = timers_receipts t now (events k.host) received n
 
-    fired : level_in (fired_ask t now word (got_each now n s received).ask) ≡ Some 0
-    fired = ap (λ (s : Timers). level_in (fired_ask t now word s.ask)) (sym then) ∙ new
+    fired : level_in (fired_ask c now word (got_each now n s received).ask) ≡ Some 0
+    fired = ap (λ (s : Timers). level_in (fired_ask c now word s.ask)) (sym then) ∙ new
 
     by : (b : Bool) → is_received received n ≡ b → ⊥
-    by true e = none_new (sym (ap (λ (o : Option AskTimer). level_in (fired_ask t now word o)) (not_standing (got_each now n s received) (received_stops now n s received e)).ask) ∙ fired)
-    by false e = fired_is_old t now word s.ask (all_due n) (ap (λ (s : Timers). level_in (fired_ask t now word s.ask)) (sym (not_received now n s received e)) ∙ fired)
+    by true e = none_new (sym (ap (λ (o : Option AskTimer). level_in (fired_ask c now word o)) (not_standing (got_each now n s received) (received_stops now n s received e)).ask) ∙ fired)
+    by false e = fired_is_old c now word s.ask (all_due n) (ap (λ (s : Timers). level_in (fired_ask c now word s.ask)) (sym (not_received now n s received e)) ∙ fired)
 
 no_level : (o : Option AskTimer) → is_some o ≡ false → level_in o ≡ None
 no_level None e = refl

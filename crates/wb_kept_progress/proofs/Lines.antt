@@ -1,4 +1,5 @@
 -- What lines make of a host: of what it holds, and of the timers of a name.
+use Rattle.wb_progress.specs.Keepers.{constants_at}
 use Rattle.std.proofs.Common.{◌≡◌, ℕ, ◌+◌, Bool, true, false, cond, List, [], ◌∷◌, ◌++◌, ◌∙◌, Option, Some, None, ap, arith, map, refl, subst, sym, true≢false, ⊎_elim}
 use Rattle.std.specs.Prelude.{◌≢◌, ◌||◌, Contains, get_or, is_some, nat_eq, nat_le, not, take}
 use Rattle.std.proofs.lemmas.List.Elements.{Contains-append_left, Contains-append_right, Contains-get_or}
@@ -23,7 +24,7 @@ use Rattle.wb_host.proofs.KeptCalls.{same_here}
 use Rattle.wb_member.specs.Members.{Misses}
 use Rattle.wb_member.specs.Opened.{Opened, accepted, asks_for, doing, events, has_room_for, heard, may_ask, present}
 use Rattle.wb_member.specs.Random.{word_of}
-use Rattle.wb_keeping.specs.Kept.{Arrives, Asks, Hears, Line, Says, SetsDistance, Stops, Ticks}
+use Rattle.wb_keeping.specs.Kept.{Arrives, Asks, Hears, Line, Says, SetsDistance, Tunes, Stops, Ticks}
 use Rattle.wb_keeping.specs.Performing.{after_line, after_lines}
 
 pub is_false : (b : Bool) → (b ≡ true → ⊥) → b ≡ false
@@ -54,6 +55,7 @@ line_of (Asks name) host = by (may_ask name host) where
   by false = same_member host
 line_of (Stops name) host = record { number = refl; cells = refl; constants = refl }
 line_of (SetsDistance source micros) host = record { number = refl; cells = refl; constants = refl }
+line_of (Tunes constants) host = record { number = refl; cells = refl; constants = refl }
 line_of (Says (Draw d)) host = record { number = refl; cells = refl; constants = refl }
 line_of (Says (Session sender sent page marks echoes)) host = same_member host
 line_of (Says (Request asker name)) host = same_member host
@@ -132,6 +134,7 @@ line_grows (Asks name) host = by (may_ask name host) where
   by false = stays host host refl
 line_grows (Stops name) host = stays host (after_line (Stops name) host) refl
 line_grows (SetsDistance source micros) host = stays host (after_line (SetsDistance source micros) host) refl
+line_grows (Tunes constants) host = stays host (after_line (Tunes constants) host) refl
 line_grows (Says (Draw d)) host = accepts d host
 line_grows (Says (Session sender sent page marks echoes)) host = stays host host refl
 line_grows (Says (Request asker name)) host = stays host host refl
@@ -154,6 +157,7 @@ IsSmall (Hears v) = ⊥
 IsSmall (Asks name) = Unit {0}
 IsSmall (Stops name) = Unit {0}
 IsSmall (SetsDistance source micros) = Unit {0}
+IsSmall (Tunes constants) = Unit {0}
 IsSmall (Says (Draw d)) = ⊥
 IsSmall (Says (Session sender sent page marks echoes)) = Unit {0}
 IsSmall (Says (Request asker name)) = Unit {0}
@@ -194,7 +198,7 @@ asks_rest name host = by (may_ask name host) refl where
   by true may = record {
     held = refl;
     now = refl;
-    timers = λ n held none. ap (λ (b : Bool). cond b (noticed host.is.constants (present host) (delay_to host.is.number host.is.calls name.source) (word_of host.random) (timers_of host.is.constants (events host) n)) (timers_of host.is.constants (events host) n)) (another host name n may held);
+    timers = λ n held none. ap (λ (b : Bool). cond b (noticed (constants_at host.is.number host.is.constants host.is.calls) (present host) (delay_to host.is.number host.is.calls name.source) (word_of host.random) (timers_of host.is.constants (events host) n)) (timers_of host.is.constants (events host) n)) (another host name n may held);
   }
   by false may = rest host
 
@@ -213,6 +217,7 @@ line_rests (Hears v) host small = absurd small
 line_rests (Asks name) host small = asks_rest name host
 line_rests (Stops name) host small = stops_rest name host
 line_rests (SetsDistance source micros) host small = record { held = refl; now = refl; timers = λ n held none. refl }
+line_rests (Tunes constants) host small = record { held = refl; now = refl; timers = λ n held none. refl }
 line_rests (Says (Draw d)) host small = absurd small
 line_rests (Says (Session sender sent page marks echoes)) host small = rest host
 line_rests (Says (Request asker name)) host small = rest host

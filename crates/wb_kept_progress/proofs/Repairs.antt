@@ -1,4 +1,5 @@
 -- The lines of a repair, one after another.
+use Rattle.wb_progress.specs.Keepers.{constants_at}
 use Rattle.std.proofs.Common.{◌≡◌, ℕ, ◌+◌, ◌<◌, ◌≤◌, Bool, true, false, cond, List, [], ◌∷◌, ◌++◌, ◌∙◌, Option, Some, None, ap, arith, eqb-true, length, map, refl, subst, sym, true≢false}
 use Rattle.std.specs.Prelude.{Contains, IfSome, is_none, is_some, nat_eq, nat_le, nat_lt, not, ◌||◌}
 use Rattle.std.proofs.lemmas.Bool.{leb-false}
@@ -295,7 +296,7 @@ module _ (o : Keeping) (fine : IsFine o) (d : DrawopValue) (held : Contains o.ho
 
   quiet_2 : (timers o2.host).quiet ≤ second
   quiet_2 =
-      let le = (keepers_are_bounded o1.host.is.number o1.host.is.constants o1.host.is.calls fine_1.goes.orderly n).quiet in
+      let le = (keepers_are_bounded o1.host.is.number o1.host.is.constants o1.host.is.calls fine_1.constants fine_1.goes.orderly n).quiet in
       let now : present o1.host ≡ first = r1.now in
       let e : (timers o2.host).quiet ≡ (timers o1.host).quiet = ap (λ (s : Timers). s.quiet) same_2 in
       omega (arith, le, now, e)
@@ -338,7 +339,7 @@ module _ (o : Keeping) (fine : IsFine o) (d : DrawopValue) (held : Contains o.ho
       omega (arith, le, e)
 
   abbrev answer : AnswerTimer
-  answer = new_answer h3.is.constants second (delay_to h3.is.number h3.is.calls asker) (word_at (Request asker n) h3.random)
+  answer = new_answer (constants_at h3.is.number h3.is.constants h3.is.calls) second (delay_to h3.is.number h3.is.calls asker) (word_at (Request asker n) h3.random)
 
   set_f3 : timers f3 ≡ record { ask = None; answer = Some answer; quiet = (timers h3).quiet }
   set_f3 = ap (λ (b : Bool). timers_of h3.is.constants (events_of h3.is.number (Hear second (Request asker n) (word_at (Request asker n) h3.random) b ∷ h3.is.calls)) n) (has o2.host held_2)

@@ -6,7 +6,7 @@ use Rattle.wb_recovery.specs.Timing.{are_constants}
 use Rattle.wb_recovery.specs.declared.tuning.Tuning.{Tuning}
 use Rattle.wb_member.specs.Opened.{Opened, opened_with, present}
 use Rattle.wb_keeping.specs.Kept.{Ticks}
-use Rattle.wb_keeping.specs.Laws.{KeptLine, Came, Ticked, Added, doing_of, fault_of}
+use Rattle.wb_keeping.specs.Laws.{KeptLine, Came, Ticked, Added, Tuned, doing_of, fault_of}
 use Rattle.wb_keeping.specs.Performing.{Keeping, after_doing, after_lines, sent_by_doing}
 use Rattle.wb_keeping.specs.Policy.{begun}
 
@@ -69,6 +69,7 @@ abbrev pub WasSent : List Datagram → KeptLine → Type 0
 WasSent before (Came now v) = Contains before v
 WasSent before (Ticked now) = Unit {0}
 WasSent before (Added now page time op) = Unit {0}
+WasSent before (Tuned constants) = Unit {0}
 
 abbrev pub NothingIsForged : (ℕ → Opening) → List LineAt → Type 0
 NothingIsForged hosts [] = Unit {0}
