@@ -5,7 +5,7 @@ ghost use Rattle.wb_kept_progress.specs.Repairs.{AskedCanCome, LostCanCome, Mark
 /// Whatever came in before, a drawop that one host asks for, and that another holds, comes by six more lines of the
 /// two. None of them is refused, and none hands in what was not sent.
 pub fn what_is_asked_for_can_come()
-    ensures asked { AskedCanCome }
+    ensures { AskedCanCome }
 {}
 
 /// A number that is missing below the greatest that a host holds of its source comes to be asked for, by ticks alone, where the

@@ -1,21 +1,21 @@
 -- A request that is sent late enough brings its drawop to all live places.
-use Rattle.std.proofs.Common.{◌≡◌, ℕ, ◌+◌, ◌*◌, ◌<◌, ◌≤◌, Bool, true, false, List, [], ◌∷◌, ◌++◌, Some, sym, ap, ◌∙◌, subst, arith, ◌⊎◌, inl, inr, ⊎_elim, append_assoc, true≢false}
-use Rattle.std.specs.Prelude.{Contains, IfSome}
+use Rattle.std.proofs.Common.{◌≡◌, ℕ, ◌+◌, ◌*◌, ◌<◌, ◌≤◌, Bool, true, false, List, [], ◌∷◌, ◌++◌, Some, sym, ap, ◌∙◌, subst, arith, ◌⊎◌, inl, inr, ⊎_elim, append_assoc, true≢false, refl}
+use Rattle.std.specs.Prelude.{◌≢◌, Contains, IfSome}
 use Rattle.std.proofs.Math.Nat.{mul-le-mul_right}
 use Rattle.wb_names.specs.Values.{NameValue}
 use Rattle.wb_codec.specs.declared.datagram.Datagram.TheVariants.{Request}
 use Rattle.wb_recovery.specs.declared.timers.AnswerTimer.{AnswerTimer}
 use Rattle.wb_host.specs.Keeper.{KeeperCall, Hear}
 use Rattle.wb_progress.specs.Calls.{Brings, Fires, Answers}
-use Rattle.wb_progress.specs.InTime.{answering_by, RequestIsAnswered}
+use Rattle.wb_progress.specs.InTime.{answering_by, RequestIsAnswered, RequestIsAnsweredBut}
 use Rattle.wb_progress.specs.Keepers.{AreWithin}
 use Rattle.wb_progress.specs.Repairs.{timers_at}
-use Rattle.wb_progress.specs.Turns.{longest, Terms, settled_by, Turn, Places, desk_at, has, timers_there, time_of, AreInOrder, IsAnswerable, AllHoldBehind, IsTurn, IsHeardAt, KeepTime}
+use Rattle.wb_progress.specs.Turns.{longest, Terms, settled_by, Turn, Places, desk_at, has, timers_there, time_of, AreInOrder, IsAnswerable, AllHoldBehind, IsTurn, IsHeardAt, KeepTimeBut}
 use Rattle.wb_progress.proofs.Calls.{answer_goes_on, requests_are_heard}
 use Rattle.wb_progress.proofs.Giving.{desk_here, Called, changes, keeps, held_before, Gave, why_quiet, brought, answered, copy_comes}
 use Rattle.wb_progress.proofs.Parts.{before_end, order_of, in_past, joined}
 
-module _ (places : Places) (terms : Terms) (turns : List Turn) (is : KeepTime places terms turns) where
+module _ {MayStop : NameValue → Type 0} (places : Places) (terms : Terms) (turns : List Turn) (is : KeepTimeBut MayStop places terms turns) where
   -- what is sent behind one time comes behind each later one
   pub sooner : (a b : ℕ) (n : NameValue) → a ≤ b → AllHoldBehind terms turns a n → AllHoldBehind terms turns b n
   sooner a b n le all newer later i split lt live = all newer later i split (omega (arith, le, lt)) live
@@ -26,7 +26,7 @@ module _ (places : Places) (terms : Terms) (turns : List Turn) (is : KeepTime pl
 
   -- ---- an answer timer
 
-  module _ (j : ℕ) (n : NameValue) (answer : AnswerTimer) (live : Contains terms.live j) (limit : ℕ) (soon : answer.due + terms.late ≤ limit + terms.offset j) where
+  module _ (j : ℕ) (n : NameValue) (answer : AnswerTimer) (live : Contains terms.live j) (limit : ℕ) (soon : answer.due + terms.late ≤ limit + terms.offset j) (stays : MayStop n → ⊥) where
     -- it stands as it was set, at a part that ends by the limit; or it ended by then
     abbrev Ends : List Turn → Type 0
     Ends part = (((timers_there places part j n).answer ≡ Some answer) × (time_of part ≤ limit)) ⊎ CopyBy n limit
@@ -35,7 +35,7 @@ module _ (places : Places) (terms : Terms) (turns : List Turn) (is : KeepTime pl
     one_turn newer older e split late held stands = by_time (subst (λ o. IfSome o (λ (a : AnswerTimer). e.time + terms.offset j ≤ a.due + terms.late)) stands (is.soon newer older e j n split live).answer) where
       came : e.time ≤ limit → (c : Called places terms turns is older e j) → Brings n c.call ⊎ Fires answer.due c.call → Ends (e ∷ older)
       came le c gives = ⊎_elim
-          (λ (b : Brings n c.call). inr (sooner (e.time + terms.delivery) (limit + terms.delivery) n (omega (arith, le)) (copy_comes places terms turns is n e.time late (brought places terms turns is newer older e j n split live late c b))))
+          (λ (b : Brings n c.call). inr (sooner (e.time + terms.delivery) (limit + terms.delivery) n (omega (arith, le)) (copy_comes places terms turns is n e.time late (brought places terms turns is newer older e j n split live late c b stays))))
           (λ (f : Fires answer.due c.call). inr (sooner (e.time + terms.delivery) (limit + terms.delivery) n (omega (arith, le)) (copy_comes places terms turns is n e.time late (answered places terms turns is newer older e j n answer split live held stands c f))))
           gives
 
@@ -68,7 +68,7 @@ module _ (places : Places) (terms : Terms) (turns : List Turn) (is : KeepTime pl
 
   -- ---- a request that is heard
 
-  module _ (newer older : List Turn) (e : Turn) (asker : ℕ) (n : NameValue) (split : turns ≡ newer ++ e ∷ older) (late : settled_by terms < e.time) (later_yet : settled_by terms + 3 * terms.far ≤ e.time) (sent : Contains e.sent (Request asker n)) (a : IsAnswerable terms turns n) where
+  module _ (newer older : List Turn) (e : Turn) (asker : ℕ) (n : NameValue) (split : turns ≡ newer ++ e ∷ older) (late : settled_by terms < e.time) (later_yet : settled_by terms + 3 * terms.far ≤ e.time) (sent : Contains e.sent (Request asker n)) (a : IsAnswerable terms turns n) (stays : MayStop n → ⊥) where
     abbrev j : ℕ
     j = a.0
 
@@ -151,7 +151,7 @@ module _ (places : Places) (terms : Terms) (turns : List Turn) (is : KeepTime pl
                 let soon = h.soon in
                 let reach : g.e.time + terms.delivery ≤ end = omega (arith, past, soon) in
                 ⊎_elim
-                (λ (b : Brings n g.called.call). sooner (g.e.time + terms.delivery) end n reach (copy_comes places terms turns is n g.e.time recent (brought places terms turns is ((h.later ++ x ∷ []) ++ g.newer) g.older g.e j n at a.1 recent g.called b)))
+                (λ (b : Brings n g.called.call). sooner (g.e.time + terms.delivery) end n reach (copy_comes places terms turns is n g.e.time recent (brought places terms turns is ((h.later ++ x ∷ []) ++ g.newer) g.older g.e j n at a.1 recent g.called b stays)))
                 (λ (f : Answers (places.me j) (places.constants j) (desk_at g.older j).calls n g.called.call). sooner (g.e.time + terms.delivery) end n reach (copy_comes places terms turns is n g.e.time recent
                 (answered places terms turns is ((h.later ++ x ∷ []) ++ g.newer) g.older g.e j n f.0 at a.1 (held_before places terms turns is ((h.later ++ x ∷ []) ++ g.newer) g.older g.e n at recent a) f.1 g.called f.2)))
                 g.gives
@@ -173,7 +173,7 @@ module _ (places : Places) (terms : Terms) (turns : List Turn) (is : KeepTime pl
           ⊎_elim
           (λ (s : ((timers_there places (p.0 ++ (x ∷ before)) j n).answer ≡ Some answer) × (time_of (p.0 ++ (x ∷ before)) ≤ limit)). let le = s.1 in absurd (omega (arith, lt, le, top_is)))
           (λ (c : CopyBy n limit). c newest later i is_part (omega (arith, lt)) live)
-          (ends j n answer a.1 limit (omega (arith, due, wait, m, soon)) newest p.0 (x ∷ before) split_at (omega (arith, late, not_sooner)) has_it stands' (omega (arith, soon)))
+          (ends j n answer a.1 limit (omega (arith, due, wait, m, soon)) stays newest p.0 (x ∷ before) split_at (omega (arith, late, not_sooner)) has_it stands' (omega (arith, soon)))
 
       pub all_hold : AllHoldBehind terms turns end n
       all_hold = ⊎_elim
@@ -187,5 +187,12 @@ module _ (places : Places) (terms : Terms) (turns : List Turn) (is : KeepTime pl
         let same : time_of turns ≡ time_of (newest ++ later) = ap time_of is_part in
         all_hold (is.delivered.requests newer older e asker n j split quiet_time sent a.1 differ (omega (arith, lt, end, same))) newest later i is_part lt live
 
+pub request_is_answered_but : (MayStop : NameValue → Type 0) (places : Places) (terms : Terms) (turns newer older : List Turn) (e : Turn) (asker : ℕ) (n : NameValue) → KeepTimeBut MayStop places terms turns → (MayStop n → ⊥) → turns ≡ newer ++ e ∷ older
+    → settled_by terms < e.time → settled_by terms + 3 * terms.far ≤ e.time → Contains e.sent (Request asker n) → IsAnswerable terms turns n → AllHoldBehind terms turns (e.time + answering_by terms) n
+request_is_answered_but MayStop places terms turns newer older e asker n is stays split late later_yet sent a = answered_to_all places terms turns is newer older e asker n split late later_yet sent a stays
+
 pub request_is_answered : RequestIsAnswered
-request_is_answered places terms turns newer older e asker n is split late later_yet sent a = answered_to_all places terms turns is newer older e asker n split late later_yet sent a
+request_is_answered places terms turns newer older e asker n is split late later_yet sent a = request_is_answered_but (λ n. ⊥) places terms turns newer older e asker n is (λ none. none) split late later_yet sent a
+
+pub request_is_answered_other : RequestIsAnsweredBut
+request_is_answered_other places terms turns newer older e asker n is split late later_yet sent a = request_is_answered_but (λ m. m ≢ n) places terms turns newer older e asker n is (λ other. other refl) split late later_yet sent a

@@ -15,7 +15,7 @@ use Rattle.wb_host.specs.Keeper.{KeeperCall, SetDelay, SetConstants, Hear, Arriv
 use Rattle.wb_progress.specs.Calls.{Brings, Fires, Answers}
 use Rattle.wb_progress.specs.Keepers.{AreWithin}
 use Rattle.wb_progress.specs.Repairs.{timers_at}
-use Rattle.wb_progress.specs.Turns.{longest, Terms, settled_by, Turn, Places, desk_at, has, timers_there, time_of, AreInOrder, until, IsAnswerable, AllHoldBehind, Accepts, WasSent, KeepTime}
+use Rattle.wb_progress.specs.Turns.{longest, Terms, settled_by, Turn, Places, desk_at, has, timers_there, time_of, AreInOrder, until, IsAnswerable, AllHoldBehind, Accepts, WasSent, KeepTimeBut}
 use Rattle.wb_progress.proofs.Calls.{quiet_begins}
 use Rattle.wb_progress.proofs.OneCall.{le_true, ticks_answer}
 use Rattle.wb_progress.proofs.Parts.{before_end, order_of, goes_on, joined}
@@ -31,7 +31,7 @@ held_as (x ∷ h) n e = from (held_as h n) (same_name x.name n) refl e where
 pub desk_here : (older : List Turn) (e : Turn) (i : ℕ) → e.place ≡ i → desk_at (e ∷ older) i ≡ e.desk
 desk_here older e i here = ap (λ (b : Bool). cond b e.desk (desk_at older i)) (eq-eqb e.place i here)
 
-module _ (places : Places) (terms : Terms) (turns : List Turn) (is : KeepTime places terms turns) where
+module _ {MayStop : NameValue → Type 0} (places : Places) (terms : Terms) (turns : List Turn) (is : KeepTimeBut MayStop places terms turns) where
   abbrev Live : ℕ → Type 0
   Live i = Contains terms.live i
 
@@ -175,8 +175,8 @@ module _ (places : Places) (terms : Terms) (turns : List Turn) (is : KeepTime pl
     other e = cc
 
   -- it came
-  pub brought : (newer older : List Turn) (e : Turn) (i : ℕ) (n : NameValue) → turns ≡ newer ++ e ∷ older → Live i → settled_by terms < e.time → (c : Called older e i) → Brings n c.call → Copy n e.time
-  brought newer older e i n split live late c brings = by c.call c.accepts brings where
+  pub brought : (newer older : List Turn) (e : Turn) (i : ℕ) (n : NameValue) → turns ≡ newer ++ e ∷ older → Live i → settled_by terms < e.time → (c : Called older e i) → Brings n c.call → (MayStop n → ⊥) → Copy n e.time
+  brought newer older e i n split live late c brings stays = by c.call c.accepts brings where
     quiet : terms.quiet < e.time
     quiet = omega (arith, late)
 
@@ -191,7 +191,7 @@ module _ (places : Places) (terms : Terms) (turns : List Turn) (is : KeepTime pl
         let both = Contains-from_filter (holds (desk_at older e.place).held) (asking (names_of (events_of me calls)) (timers_of (places.constants e.place) (events_of me calls))) n (subst (λ (names : List NameValue). Contains names n) stops named) in
         let asks = Contains-from_filter (λ m. is_some (timers_of (places.constants e.place) (events_of me calls) m).ask) (names_of (events_of me calls)) n both.0 in
         absurd (none_some (timers_there places older e.place n).ask (is.are.lacking (newer ++ e ∷ []) older e.place n (split ∙ sym (append_assoc newer (e ∷ []) older)) live' both.1) asks.1)
-    by (GiveUp now name asked) accepts named = absurd ((is.quiet newer older e split quiet).goes_on now name asked accepts)
+    by (GiveUp now name asked) accepts named = absurd (stays (subst MayStop named ((is.quiet newer older e split quiet).goes_on now name asked accepts)))
     by (SetDelay source micros) accepts named = absurd named
     by (SetConstants constants) accepts named = absurd named
     by (Hear now v word held) accepts named = absurd named

@@ -1,6 +1,6 @@
 -- A request timer that stands late enough leads to where all hold its name.
 use Rattle.std.proofs.Common.{◌≡◌, ℕ, ◌+◌, ◌*◌, ◌<◌, ◌≤◌, Bool, true, false, List, [], ◌∷◌, ◌++◌, Option, Some, None, refl, sym, ap, ◌∙◌, subst, arith, ◌⊎◌, inl, inr, ⊎_elim, append_assoc, max}
-use Rattle.std.specs.Prelude.{Contains, IfSome}
+use Rattle.std.specs.Prelude.{◌≢◌, Contains, IfSome}
 use Rattle.std.proofs.lemmas.List.{append_cancel_right}
 use Rattle.wb_names.specs.Values.{NameValue}
 use Rattle.wb_codec.specs.declared.datagram.Datagram.TheVariants.{Request}
@@ -9,11 +9,11 @@ use Rattle.wb_recovery.specs.declared.timers.AskTimer.{AskTimer}
 use Rattle.wb_host.specs.Keeper.{KeeperCall}
 use Rattle.wb_host.specs.Ticks.{sent_by_tick}
 use Rattle.wb_progress.specs.Calls.{Brings, Fires, Requests}
-use Rattle.wb_progress.specs.InTime.{answering_by, repairing, known_from, TimerLeads}
+use Rattle.wb_progress.specs.InTime.{answering_by, repairing, known_from, TimerLeads, TimerLeadsBut}
 use Rattle.wb_progress.specs.Keepers.{AreWithin}
 use Rattle.wb_progress.specs.Repairs.{timers_at}
-use Rattle.wb_progress.specs.Turns.{longest, Terms, settled_by, Turn, Places, desk_at, has, timers_there, time_of, AreInOrder, IsAnswerable, AllHoldBehind, WasSent, KeepTime}
-use Rattle.wb_progress.proofs.Answering.{sooner, request_is_answered}
+use Rattle.wb_progress.specs.Turns.{longest, Terms, settled_by, Turn, Places, desk_at, has, timers_there, time_of, AreInOrder, IsAnswerable, AllHoldBehind, WasSent, KeepTimeBut}
+use Rattle.wb_progress.proofs.Answering.{sooner, request_is_answered_but}
 use Rattle.wb_progress.proofs.Calls.{ask_goes_on}
 use Rattle.wb_progress.proofs.Giving.{Called, changes, brought, copy_comes}
 use Rattle.wb_progress.proofs.OneCall.{le_true, ticks_ask}
@@ -22,7 +22,7 @@ use Rattle.wb_progress.proofs.Parts.{before_end, order_of, in_past, joined, AreF
 itself : (n : ℕ) → n ≤ n
 itself n = omega arith
 
-module _ (places : Places) (terms : Terms) (turns : List Turn) (is : KeepTime places terms turns) (i : ℕ) (live : Contains terms.live i) (n : NameValue) (a : IsAnswerable terms turns n) (ask : AskTimer) (limit : ℕ) (soon : ask.due + terms.late ≤ limit + terms.offset i) where
+module _ {MayStop : NameValue → Type 0} (places : Places) (terms : Terms) (turns : List Turn) (is : KeepTimeBut MayStop places terms turns) (i : ℕ) (live : Contains terms.live i) (n : NameValue) (a : IsAnswerable terms turns n) (stays : MayStop n → ⊥) (ask : AskTimer) (limit : ℕ) (soon : ask.due + terms.late ≤ limit + terms.offset i) where
   -- it stands as it was set, at a part that ends by the limit; or all come to hold the name
   abbrev Ends : List Turn → Type 0
   Ends part = (((timers_there places part i n).ask ≡ Some ask) × (time_of part ≤ limit)) ⊎ AllHoldBehind terms turns (limit + answering_by terms) n
@@ -35,7 +35,7 @@ module _ (places : Places) (terms : Terms) (turns : List Turn) (is : KeepTime pl
       let one = most.0 in
       let three = most.1 in
       sooner places terms turns is (e.time + answering_by terms) (limit + answering_by terms) n (omega (arith, le))
-      (request_is_answered places terms turns newer older e asker n is split (omega (arith, late, within, some, one)) (omega (arith, late, within, three)) sent a)
+      (request_is_answered_but MayStop places terms turns newer older e asker n is stays split (omega (arith, late, within, some, one)) (omega (arith, late, within, three)) sent a)
 
   one_turn : (newer older : List Turn) (e : Turn) → turns ≡ newer ++ e ∷ older → known_from terms ≤ e.time → (timers_there places older i n).ask ≡ Some ask → Ends (e ∷ older)
   one_turn newer older e split late stands = by_time (subst (λ o. IfSome o (λ (k : AskTimer). e.time + terms.offset i ≤ k.due + terms.late)) stands (is.soon newer older e i n split live).ask) where
@@ -72,7 +72,7 @@ module _ (places : Places) (terms : Terms) (turns : List Turn) (is : KeepTime pl
         asked_for (newer ++ w.newer) w.older w.e r.asker e.time (joined newer w.newer w.older w.e turns (e ∷ older) split w.split) late w.soon (omega (arith, end, top, le)) w.sent
 
     came : e.time ≤ limit → (c : Called places terms turns is older e i) → Brings n c.call → AllHoldBehind terms turns (limit + answering_by terms) n
-    came le c b = sooner places terms turns is (e.time + terms.delivery) (limit + answering_by terms) n (omega (arith, le)) (copy_comes places terms turns is n e.time settled (brought places terms turns is newer older e i n split live settled c b))
+    came le c b = sooner places terms turns is (e.time + terms.delivery) (limit + answering_by terms) n (omega (arith, le)) (copy_comes places terms turns is n e.time settled (brought places terms turns is newer older e i n split live settled c b stays))
 
     by_time : e.time + terms.offset i ≤ ask.due + terms.late → Ends (e ∷ older)
     by_time not_over =
@@ -116,11 +116,18 @@ module _ (places : Places) (terms : Terms) (turns : List Turn) (is : KeepTime pl
           same_front : (x y base : List Turn) → x ++ base ≡ y ++ base → x ≡ y
           same_front x y base e = append_cancel_right x y base e
 
-pub timer_leads : TimerLeads
-timer_leads places terms turns newer older i n ask due is split live late stands by a =
+pub timer_leads_but : (MayStop : NameValue → Type 0) (places : Places) (terms : Terms) (turns newer older : List Turn) (i : ℕ) (n : NameValue) (ask : AskTimer) (due : ℕ) → KeepTimeBut MayStop places terms turns → (MayStop n → ⊥) → turns ≡ newer ++ older → Contains terms.live i → known_from terms ≤ time_of older
+    → (timers_there places older i n).ask ≡ Some ask → ask.due ≤ due + terms.offset i → IsAnswerable terms turns n → AllHoldBehind terms turns (max (time_of older) due + repairing terms) n
+timer_leads_but MayStop places terms turns newer older i n ask due is stays split live late stands by a =
     let order = subst AreInOrder split is.order in
     let limit : ℕ = max (time_of older) due + terms.late in
     let first : time_of older ≤ max (time_of older) due = omega arith in
     let second : due ≤ max (time_of older) due = omega arith in
     sooner places terms turns is (limit + answering_by terms) (max (time_of older) due + repairing terms) n (omega arith)
-    (leads_from places terms turns is i live n a ask limit (omega (arith, by, second)) newer older split (from_at (known_from terms) newer older order late) stands (omega (arith, first)))
+    (leads_from places terms turns is i live n a stays ask limit (omega (arith, by, second)) newer older split (from_at (known_from terms) newer older order late) stands (omega (arith, first)))
+
+pub timer_leads : TimerLeads
+timer_leads places terms turns newer older i n ask due is split live late stands by a = timer_leads_but (λ n. ⊥) places terms turns newer older i n ask due is (λ none. none) split live late stands by a
+
+pub timer_leads_other : TimerLeadsBut
+timer_leads_other places terms turns newer older i n ask due is split live late stands by a = timer_leads_but (λ m. m ≢ n) places terms turns newer older i n ask due is (λ other. other refl) split live late stands by a

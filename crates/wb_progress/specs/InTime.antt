@@ -1,9 +1,9 @@
 -- By when what is lost comes, where keepers keep to stated times.
-use Rattle.std.specs.Prelude.{◌≡◌, ℕ, ◌+◌, ◌-◌, ◌*◌, ◌/◌, ◌<◌, ◌≤◌, false, max, List, [], ◌∷◌, ◌++◌, length, Contains, Some}
+use Rattle.std.specs.Prelude.{◌≡◌, ◌≢◌, ℕ, ◌+◌, ◌-◌, ◌*◌, ◌/◌, ◌<◌, ◌≤◌, false, max, List, [], ◌∷◌, ◌++◌, length, Contains, Some}
 use Rattle.wb_names.specs.Values.{NameValue}
 use Rattle.wb_codec.specs.declared.datagram.Datagram.TheVariants.{Request}
 use Rattle.wb_recovery.specs.declared.timers.AskTimer.{AskTimer}
-use Rattle.wb_progress.specs.Turns.{Terms, settled_by, Turn, Places, has, timers_there, time_of, until, IsAnswerable, AllHoldBehind, KeepTime, KeepLooking}
+use Rattle.wb_progress.specs.Turns.{Terms, settled_by, Turn, Places, has, timers_there, time_of, until, IsAnswerable, AllHoldBehind, KeepTime, KeepTimeBut, KeepLooking}
 
 -- ---- spans, in microseconds
 
@@ -29,6 +29,15 @@ RequestIsAnswered = (places : Places) (terms : Terms) (turns newer older : List 
 -- A request timer that stands when each knows of all leads to such a request.
 abbrev pub TimerLeads : Type 0
 TimerLeads = (places : Places) (terms : Terms) (turns newer older : List Turn) (i : ℕ) (n : NameValue) (ask : AskTimer) (due : ℕ) → KeepTime places terms turns → turns ≡ newer ++ older → Contains terms.live i → known_from terms ≤ time_of older
+    → (timers_there places older i n).ask ≡ Some ask → ask.due ≤ due + terms.offset i → IsAnswerable terms turns n → AllHoldBehind terms turns (max (time_of older) due + repairing terms) n
+
+-- The same of a name that is not given up, where others may be.
+abbrev pub RequestIsAnsweredBut : Type 0
+RequestIsAnsweredBut = (places : Places) (terms : Terms) (turns newer older : List Turn) (e : Turn) (asker : ℕ) (n : NameValue) → KeepTimeBut (λ m. m ≢ n) places terms turns → turns ≡ newer ++ e ∷ older
+    → settled_by terms < e.time → settled_by terms + 3 * terms.far ≤ e.time → Contains e.sent (Request asker n) → IsAnswerable terms turns n → AllHoldBehind terms turns (e.time + answering_by terms) n
+
+abbrev pub TimerLeadsBut : Type 0
+TimerLeadsBut = (places : Places) (terms : Terms) (turns newer older : List Turn) (i : ℕ) (n : NameValue) (ask : AskTimer) (due : ℕ) → KeepTimeBut (λ m. m ≢ n) places terms turns → turns ≡ newer ++ older → Contains terms.live i → known_from terms ≤ time_of older
     → (timers_there places older i n).ask ≡ Some ask → ask.due ≤ due + terms.offset i → IsAnswerable terms turns n → AllHoldBehind terms turns (max (time_of older) due + repairing terms) n
 
 -- ---- one round

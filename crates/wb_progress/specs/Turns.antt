@@ -116,11 +116,15 @@ pub record IsTurn (places : Places) (terms : Terms) (older : List Turn) (e : Tur
   pub sends : (now : ℕ) (words : List ℕ) (stopped : List NameValue) → Accepts older e (GoOn now words stopped)
       → (v : Datagram) → Contains (sent_by_tick (places.me e.place) (places.constants e.place) (desk_at older e.place).calls (desk_at older e.place).held now) v → Contains e.sent v
 
--- From `quiet` on no name is given up; what is sent is held, and what is asked for is not.
-pub record IsQuietTurn (places : Places) (older : List Turn) (e : Turn) : Type 0 where
-  pub goes_on : (now : ℕ) (n : NameValue) (asked : Bool) → Accepts older e (GiveUp now n asked) → ⊥
+-- From `quiet` on only some names are given up; what is sent is held, and what is asked for is not.
+pub record IsQuietBut (MayStop : NameValue → Type 0) (places : Places) (older : List Turn) (e : Turn) : Type 0 where
+  pub goes_on : (now : ℕ) (n : NameValue) (asked : Bool) → Accepts older e (GiveUp now n asked) → MayStop n
   pub held : (d : DrawopValue) → Contains e.sent (Draw d) → has older e.place d.name ≡ true
   pub asked : (asker : ℕ) (n : NameValue) → Contains e.sent (Request asker n) → (asker ≡ places.me e.place) × (has older e.place n ≡ false)
+
+-- where it is none
+abbrev pub IsQuietTurn : Places → List Turn → Turn → Type 0
+IsQuietTurn places older e = IsQuietBut (λ n. ⊥) places older e
 
 -- ---- the network
 
@@ -192,17 +196,21 @@ pub record AreTurns (places : Places) (terms : Terms) (turns : List Turn) : Type
   pub history : (newer older : List Turn) (i : ℕ) → turns ≡ newer ++ older → Contains terms.live i → IsHistory (desk_at older i).held
   pub lacking : (newer older : List Turn) (i : ℕ) (n : NameValue) → turns ≡ newer ++ older → Contains terms.live i → has older i n ≡ true → (timers_there places older i n).ask ≡ None
 
--- They keep to the terms.
-pub record KeepTime (places : Places) (terms : Terms) (turns : List Turn) : Type 0 where
+-- They keep to the terms, and give up only some names.
+pub record KeepTimeBut (MayStop : NameValue → Type 0) (places : Places) (terms : Terms) (turns : List Turn) : Type 0 where
   pub order : AreInOrder turns
   pub reported : 1 ≤ terms.reporting
   pub are : AreTurns places terms turns
   pub alone : (newer older : List Turn) (e : Turn) → turns ≡ newer ++ e ∷ older → terms.quiet < e.time → Contains terms.live e.place
-  pub quiet : (newer older : List Turn) (e : Turn) → turns ≡ newer ++ e ∷ older → terms.quiet < e.time → IsQuietTurn places older e
+  pub quiet : (newer older : List Turn) (e : Turn) → turns ≡ newer ++ e ∷ older → terms.quiet < e.time → IsQuietBut MayStop places older e
   pub delivered : IsDelivered terms turns
   pub fresh : IsFresh terms turns
   -- a tick comes once a timer is due: until a turn comes, no timer that stands is overdue
   pub soon : (newer older : List Turn) (e : Turn) (i : ℕ) (n : NameValue) → turns ≡ newer ++ e ∷ older → Contains terms.live i → AreNotOverdue (timers_there places older i n) (e.time + terms.offset i) terms.late
+
+-- They give up none.
+abbrev pub KeepTime : Places → Terms → List Turn → Type 0
+KeepTime places terms turns = KeepTimeBut (λ n. ⊥) places terms turns
 
 -- They look at the page as often as the terms say, at no other, and know what they lack.
 pub record KeepLooking (places : Places) (terms : Terms) (turns : List Turn) : Type 0 where

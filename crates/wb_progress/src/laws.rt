@@ -2,7 +2,7 @@
 
 ghost use Rattle.wb_progress.specs.Bounds.{TimersAreBounded};
 ghost use Rattle.wb_progress.specs.Calls.{AnswersGoOn, QuietBegins, RequestsAreHeard, RequestsBegin, RequestsGoOn};
-ghost use Rattle.wb_progress.specs.InTime.{AllComes, RequestIsAnswered, RoundsEnd, TimerLeads};
+ghost use Rattle.wb_progress.specs.InTime.{AllComes, RequestIsAnswered, RequestIsAnsweredBut, RoundsEnd, TimerLeads, TimerLeadsBut};
 ghost use Rattle.wb_progress.specs.Standing.{AnswersAreKept, QuietHasCause, RequestsAreKept, RequestsAreTaken, RequestsLeadOn};
 ghost use Rattle.wb_progress.specs.Keepers.{DelaysFit, KeepersAreBounded};
 ghost use Rattle.wb_progress.specs.Repairs.{AnswersAreSoon, AskedAnewIsSoon, AskerAsks, GivenUpIsIdle, HolderAnswers, MissesStand, RequestsSet, TicksAnswer, TicksAsk, TicksClear, TicksEnd, TicksLeave};
@@ -67,4 +67,10 @@ pub fn all_comes_in_time()
     ensures leads { TimerLeads }
     ensures round { RoundsEnd }
     ensures all { AllComes }
+{}
+
+/// Of a name that is not given up the first two hold whatever other names are.
+pub fn what_is_not_given_up_comes()
+    ensures answered { RequestIsAnsweredBut }
+    ensures leads { TimerLeadsBut }
 {}
