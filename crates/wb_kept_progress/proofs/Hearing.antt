@@ -64,7 +64,7 @@ longest level c delay l x d =
     mul-le-mul q r
 
 -- a timer that fired was backed off
-fired_is_old : (t : Tuning) (now word : ℕ) (o : Option AskTimer) → IfSome o (λ a. a.due ≤ now) → level_in (fired_ask c now word o) ≡ Some 0 → ⊥
+fired_is_old : (t : Tuning) (now word : ℕ) (o : Option AskTimer) → IfSome o (λ a. a.due ≤ now) → level_in (fired_ask t now word o) ≡ Some 0 → ⊥
 fired_is_old t now word None due new = none_new new
 fired_is_old t now word (Some a) due new = by (nat_le a.due now) (le_true a.due now due) new where
   zero_of : (n : ℕ) → Some n ≡ Some 0 → n ≡ 0
