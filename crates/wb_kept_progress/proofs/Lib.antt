@@ -5,3 +5,6 @@ pub mod Turning
 pub mod Asking
 pub mod Hearing
 pub mod Coming
+pub mod Lining
+pub mod PerLine
+pub mod Timely

@@ -83,7 +83,7 @@ fresh cells k (x ∷ h) d lost room = from (fresh cells (k + 1) h d) (same_name 
   from rest true e = absurd (true≢false e)
   from rest false e = rest e (omega (arith, room))
 
-taken_in : (host : Opened) (d : DrawopValue) → holds host.is.held d.name ≡ false → is_full host ≡ false → (after_line (Arrives d) host).is.held ≡ host.is.held ++ d ∷ []
+pub taken_in : (host : Opened) (d : DrawopValue) → holds host.is.held d.name ≡ false → is_full host ≡ false → (after_line (Arrives d) host).is.held ≡ host.is.held ++ d ∷ []
 taken_in host d lost room =
     let lt = leb-false host.is.cells (length host.is.held) room in
     let f = fresh host.is.cells 0 host.is.held d lost (omega (arith, lt)) in
