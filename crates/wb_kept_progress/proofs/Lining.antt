@@ -1,10 +1,10 @@
 -- A trace of lines that hosts perform as turns of keepers.
-use Rattle.std.proofs.Common.{◌≡◌, ℕ, ◌+◌, ◌<◌, ◌≤◌, Bool, true, false, cond, List, [], ◌∷◌, ◌++◌, ◌∙◌, ap, append_assoc, eqb-true, refl, subst, sym}
+use Rattle.std.proofs.Common.{◌≡◌, ℕ, ◌≤◌, Bool, true, false, cond, List, [], ◌∷◌, ◌++◌, ◌∙◌, ap, append_assoc, eqb-true, refl, subst, sym}
 use Rattle.std.specs.Prelude.{nat_eq, nat_le}
 use Rattle.wb_progress.specs.Turns.{Desk, Turn}
 use Rattle.wb_progress.specs.Turns as turning
 use Rattle.wb_member.specs.Opened.{Opened}
-use Rattle.wb_keeping.specs.Performing.{after_line, sent_by_line}
+use Rattle.wb_keeping.specs.Performing.{after_line}
 use Rattle.wb_kept_progress.specs.Timed.{AreInOrder, Performed, Start, host_after, sends, time_of, until}
 
 abbrev pub desk_of : Opened → Desk

@@ -1,6 +1,6 @@
 -- What one line makes of a keeper, and what it sends.
-use Rattle.std.proofs.Common.{◌≡◌, ℕ, ◌+◌, ◌<◌, ◌≤◌, Bool, true, false, cond, List, [], ◌∷◌, ◌++◌, ◌∙◌, Option, Some, None, ap, arith, inl, inr, length, map, refl, subst, sym, true≢false, ⊎_elim}
-use Rattle.std.specs.Prelude.{◌⊎◌, ◌||◌, Contains, filter, is_some, not, take}
+use Rattle.std.proofs.Common.{◌≡◌, ℕ, Bool, true, false, cond, List, [], ◌∷◌, ◌++◌, ◌∙◌, Option, Some, None, ap, arith, inl, inr, length, map, refl, subst, sym, true≢false, ⊎_elim}
+use Rattle.std.specs.Prelude.{◌⊎◌, ◌||◌, Contains, filter, is_some, not}
 use Rattle.std.specs.Option.{option_map}
 use Rattle.std.proofs.lemmas.List.Elements.{All-cons, All-nil, Contains-append_cases}
 use Rattle.wb_names.specs.Arrivals.{Outcome, Fresh, Known, Clashed, Left}
@@ -25,14 +25,13 @@ use Rattle.wb_host.specs.Ticks.{drawop_of, sent_by_tick, sent_for, stopped_after
 use Rattle.wb_host.proofs.TickSends.{sent_from}
 use Rattle.wb_progress.proofs.OneCall.{not_standing}
 use Rattle.wb_progress.specs.Repairs.{timers_at}
-use Rattle.wb_member.specs.Members.{Member, Hears as Hearing, Misses, SetsDelay, Takes, Ticks as Ticking, GivesUp, after}
-use Rattle.wb_member.specs.Opened.{Opened, accepted, asks_for, becomes, doing, due_count, events, has_room_for, heard, may_ask, present, ticked, word_at}
+use Rattle.wb_member.specs.Members.{Hears as Hearing, Misses, SetsDelay, Takes, Ticks as Ticking, GivesUp}
+use Rattle.wb_member.specs.Opened.{Opened, accepted, asks_for, becomes, doing, due_count, events, has_room_for, heard, may_ask, present, word_at}
 use Rattle.wb_member.specs.Random.{word_of, words_of}
 use Rattle.wb_session.proofs.Holding.{HeldNone, none_after}
 use Rattle.wb_session.proofs.Members.{IsDrawing, draws_sent}
 use Rattle.wb_keeping.specs.Kept.{Line, Arrives, Asks, Hears, Says, SetsDistance, Stops, Ticks}
 use Rattle.wb_keeping.specs.Performing.{after_line, said_where, sent_by_line}
-use Rattle.wb_kept_progress.proofs.Lines.{is_false}
 
 -- ---- the call of a line
 
@@ -94,9 +93,9 @@ pub line_moment : (line : Line) (host : Opened) → (present (after_line line ho
 line_moment line host = ⊎_elim
     (λ (same : (after_line line host).is.calls ≡ host.is.calls). inl (ap moment_at same))
     (λ (c : (call : KeeperCall) × ((after_line line host).is.calls ≡ call ∷ host.is.calls) × IsMade host line call). ⊎_elim
-        (λ (e : moment_at (c.0 ∷ host.is.calls) ≡ present host). inl (ap moment_at c.1 ∙ e))
-        (λ (t : (now : ℕ) × (line ≡ Ticks now) × (moment_at (c.0 ∷ host.is.calls) ≡ now)). inr (t.0, t.1, ap moment_at c.1 ∙ t.2))
-        (call_moment host line c.0 c.2))
+    (λ (e : moment_at (c.0 ∷ host.is.calls) ≡ present host). inl (ap moment_at c.1 ∙ e))
+    (λ (t : (now : ℕ) × (line ≡ Ticks now) × (moment_at (c.0 ∷ host.is.calls) ≡ now)). inr (t.0, t.1, ap moment_at c.1 ∙ t.2))
+    (call_moment host line c.0 c.2))
     (line_did line host)
 
 -- ---- no request timer stands for what is held

@@ -1,14 +1,12 @@
 -- Hosts that keep to stated times are keepers that take turns in time.
-use Rattle.std.proofs.Common.{◌≡◌, ℕ, ◌+◌, ◌*◌, ◌<◌, ◌≤◌, Bool, true, false, cond, List, [], ◌∷◌, ◌++◌, ◌∙◌, Option, Some, None, ap, append_assoc, arith, eqb-true, eq-eqb, inl, inr, length, max, refl, subst, sym, true≢false, ⊎_elim}
-use Rattle.std.specs.Prelude.{◌⊎◌, ◌≢◌, ◌||◌, Contains, filter, nat_eq, nat_le}
+use Rattle.std.proofs.Common.{◌≡◌, ℕ, ◌+◌, ◌<◌, ◌≤◌, Bool, true, false, cond, List, [], ◌∷◌, ◌++◌, ◌∙◌, None, ap, append_assoc, arith, eqb-true, eq-eqb, inl, inr, max, refl, subst, sym, true≢false, ⊎_elim}
+use Rattle.std.specs.Prelude.{◌⊎◌, ◌≢◌, ◌||◌, Contains, nat_eq}
 use Rattle.std.proofs.lemmas.List.Elements.{Contains-append_right}
 use Rattle.wb_names.specs.History.{IsHistory}
 use Rattle.wb_names.specs.Values.{DrawopValue, NameValue}
 use Rattle.wb_names.proofs.Listings.{Contains-cases, Contains-from_filter, Contains-here, Contains-none}
 use Rattle.wb_codec.specs.declared.datagram.Datagram.{Datagram}
 use Rattle.wb_codec.specs.declared.datagram.Datagram.TheVariants.{Draw, Request}
-use Rattle.wb_recovery.specs.Events.{timers_of}
-use Rattle.wb_recovery.specs.declared.timers.AskTimer.{AskTimer}
 use Rattle.wb_recovery.specs.declared.timers.Timers.{Timers}
 use Rattle.wb_recovery.specs.declared.tuning.Tuning.{Tuning}
 use Rattle.wb_host.specs.Keeper.{KeeperCall, Arrive, GiveUp, GoOn, Hear, delay_to, holds, is_own, moment_at}
@@ -24,12 +22,12 @@ use Rattle.wb_progress.proofs.Giving.{held_as}
 use Rattle.wb_progress.proofs.Leading.{timer_leads_other}
 use Rattle.wb_session.proofs.Holding.{HeldNone}
 use Rattle.wb_member.specs.Judged.{is_full}
-use Rattle.wb_member.specs.Opened.{Opened, accepted, events, heard, opened_with, present}
+use Rattle.wb_member.specs.Opened.{Opened, accepted, heard, opened_with, present}
 use Rattle.wb_member.specs.Random.{word_of}
 use Rattle.wb_keeping.specs.Kept.{Line, Arrives, Hears, Says, Stops, Ticks}
 use Rattle.wb_keeping.specs.Performing.{after_line, sent_by_line}
-use Rattle.wb_kept_progress.specs.Timed.{AllHoldBehind, AreInOrder, ComesTo, IsAnswerable, IsTimely, Performed, RequestIsAnswered, Start, TimerLeads, WasSent, host_after, sends, time_of, timers_after, until}
-use Rattle.wb_kept_progress.proofs.Lines.{IsOf, is_false, line_grows, line_of, same_member}
+use Rattle.wb_kept_progress.specs.Timed.{AllHoldBehind, AreInOrder, ComesTo, IsAnswerable, IsTimely, Performed, RequestIsAnswered, Start, TimerLeads, WasSent, host_after, time_of, timers_after, until}
+use Rattle.wb_kept_progress.proofs.Lines.{IsOf, line_grows, line_of, same_member}
 use Rattle.wb_kept_progress.proofs.Lining.{by_line, by_part, desk_is, desk_of, order_is, over_join, time_is, turn_of, turns_join, turns_of, turns_over, until_is}
 use Rattle.wb_kept_progress.proofs.PerLine.{IsMade, asks, draws, is_made, line_did, line_moment, line_none}
 use Rattle.wb_kept_progress.proofs.Repairs.{taken_in}
