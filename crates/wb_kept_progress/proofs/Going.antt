@@ -99,7 +99,7 @@ measures_small sender (Some micros) see p = by (nat_eq (bounded micros) micros) 
   by true = tt
   by false = (tt, tt)
 
-stops_small : (asked : List AskedName) → AreSmall (map (λ (a : AskedName). Stops a.name) asked)
+pub stops_small : (asked : List AskedName) → AreSmall (map (λ (a : AskedName). Stops a.name) asked)
 stops_small [] = tt
 stops_small (a ∷ asked) = (tt, stops_small asked)
 

@@ -8,3 +8,4 @@ pub mod Coming
 pub mod Lining
 pub mod PerLine
 pub mod Timely
+pub mod Performed

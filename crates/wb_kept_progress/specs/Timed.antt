@@ -1,5 +1,5 @@
 -- Hosts in real time, by the lines of today that they perform. A host that keeps itself performs such lines, one after the other.
-use Rattle.std.specs.Prelude.{◌≡◌, ◌≢◌, ◌⊎◌, ℕ, ◌+◌, ◌*◌, ◌<◌, ◌≤◌, true, false, max, List, [], ◌∷◌, ◌++◌, Contains, IfSome, Some, nat_eq, nat_le, if◌then◌else◌}
+use Rattle.std.specs.Prelude.{◌≡◌, ◌≢◌, ◌⊎◌, ℕ, ◌+◌, ◌*◌, ◌<◌, ◌≤◌, true, false, map, max, List, [], ◌∷◌, ◌++◌, Contains, IfSome, Some, nat_eq, nat_le, if◌then◌else◌}
 use Rattle.wb_names.specs.Values.{DrawopValue, NameValue}
 use Rattle.wb_codec.specs.declared.datagram.Datagram.{Datagram}
 use Rattle.wb_codec.specs.declared.datagram.Datagram.TheVariants.{Draw, Request}
@@ -13,7 +13,9 @@ use Rattle.wb_progress.specs.Turns.{Terms, settled_by}
 use Rattle.wb_member.specs.Judged.{delay, holds, is_full}
 use Rattle.wb_member.specs.Opened.{Opened, events, opened_with, present}
 use Rattle.wb_keeping.specs.Kept.{Line, Arrives, Hears, Says, Stops, Ticks}
-use Rattle.wb_keeping.specs.Performing.{after_line, sent_by_line}
+use Rattle.wb_keeping.specs.Laws.{KeptLine, Came, Ticked, Added, doing_of}
+use Rattle.wb_keeping.specs.Performing.{after_line, sees, sent_by_line}
+use Rattle.wb_kept_progress.specs.Sessions.{LineAt, Opening, kept_at}
 
 -- ---- a trace
 
@@ -128,3 +130,51 @@ RequestIsAnswered = (hosts : ℕ → Start) (terms : Terms) (trace newer older :
 abbrev pub TimerLeads : Type 0
 TimerLeads = (hosts : ℕ → Start) (terms : Terms) (trace newer older : List Performed) (i : ℕ) (n : NameValue) (ask : AskTimer) (due : ℕ) → IsTimely hosts terms trace n → trace ≡ newer ++ older → Contains terms.live i → known_from terms ≤ time_of older
     → (timers_after hosts older i n).ask ≡ Some ask → ask.due ≤ due + terms.offset i → IsAnswerable hosts terms trace n → AllHoldBehind hosts terms trace (max (time_of older) due + repairing terms) n
+
+-- ---- hosts that keep themselves
+
+-- a host is handed a line at a time
+pub record TimedLine : Type 0 where
+  pub time : ℕ
+  pub at : LineAt
+
+abbrev pub lines_of : List TimedLine → List LineAt
+lines_of trace = map (λ e. e.at) trace
+
+-- its lines, one after the other
+abbrev pub performed_then : ℕ → ℕ → List Line → List Performed → List Performed
+performed_then time place [] older = older
+performed_then time place (line ∷ lines) older = performed_then time place lines (record { time = time; place = place; line = line } ∷ older)
+
+-- what hosts that keep themselves perform: each the lines of its policy, at the time of the line that it was handed
+abbrev pub performed : (ℕ → Opening) → List TimedLine → List Performed
+performed hosts [] = []
+performed hosts (e ∷ older) = let k = kept_at hosts (lines_of older) e.at.place in performed_then e.time e.at.place (doing_of e.at.line (sees k.host) k.policy).lines (performed hosts older)
+
+abbrev pub start_of : Opening → Start
+start_of o = record { constants = o.constants; number = o.number; cells = o.cells; seed = o.seed }
+
+-- the moment that a line tells
+abbrev pub moment_in : KeptLine → ℕ
+moment_in (Came now v) = now
+moment_in (Ticked now) = now
+moment_in (Added now page time op) = now
+
+-- So each of them, where it keeps itself from its opening on, is the host that performed these lines. Where each line tells the moment of its
+-- time, so does each tick that is performed, and each datagram is heard at such a moment.
+pub record IsPerformed (hosts : ℕ → Opening) (trace : List TimedLine) : Type 0 where
+  pub same : (i : ℕ) → host_after (λ j. start_of (hosts j)) (performed hosts trace) i ≡ (kept_at hosts (lines_of trace) i).host
+
+pub record KeepsMoments (hosts : ℕ → Opening) (terms : Terms) (trace : List TimedLine) : Type 0 where
+  pub times : (newer older : List Performed) (e : Performed) (now : ℕ) → performed hosts trace ≡ newer ++ e ∷ older → e.line ≡ Ticks now → now ≡ e.time + terms.offset e.place
+  pub behind : (newer older : List Performed) (e : Performed) (v : Datagram) → performed hosts trace ≡ newer ++ e ∷ older → e.line ≡ Hears v → present (host_after (λ j. start_of (hosts j)) older e.place) ≡ e.time + terms.offset e.place
+
+abbrev pub TellTimes : Terms → List TimedLine → Type 0
+TellTimes terms [] = Unit {0}
+TellTimes terms (e ∷ older) = (moment_in e.at.line ≡ e.time + terms.offset e.at.place) × TellTimes terms older
+
+abbrev pub KeptIsPerformed : Type 0
+KeptIsPerformed = (hosts : ℕ → Opening) (trace : List TimedLine) → ((i : ℕ) → (hosts i).moments ≡ []) → IsPerformed hosts trace
+
+abbrev pub KeptKeepsMoments : Type 0
+KeptKeepsMoments = (hosts : ℕ → Opening) (terms : Terms) (trace : List TimedLine) → TellTimes terms trace → KeepsMoments hosts terms trace
