@@ -1,18 +1,17 @@
 -- A name that is asked for in a call is still asked for behind it: where another needs its timer, one that was backed off gives way.
 use Rattle.wb_progress.specs.Keepers.{constants_at}
-use Rattle.std.proofs.Common.{◌≡◌, ℕ, zero, suc, ◌+◌, ◌-◌, ◌*◌, ◌<◌, ◌≤◌, Bool, true, false, cond, List, [], ◌∷◌, ◌++◌, ◌∙◌, Option, Some, None, ap, arith, inl, inr, length, map, refl, subst, sym, true≢false, ⊎_elim}
-use Rattle.std.specs.Prelude.{◌⊎◌, ◌&&◌, ◌||◌, Contains, is_none, is_some, max, nat_eq, nat_le, nat_lt, not, unwrap_or}
+use Rattle.std.proofs.Common.{◌≡◌, ℕ, suc, ◌+◌, ◌-◌, ◌*◌, ◌≤◌, Bool, true, false, cond, List, [], ◌∷◌, ◌++◌, ◌∙◌, Option, Some, None, ap, arith, inl, inr, length, map, refl, subst, sym, true≢false, ⊎_elim}
+use Rattle.std.specs.Prelude.{◌⊎◌, ◌||◌, Contains, is_none, is_some, max, nat_eq, nat_le, nat_lt, not, unwrap_or}
 use Rattle.std.specs.List.{cons_option, fold}
 use Rattle.std.proofs.lemmas.Bool.{and_parts, leb-true, ltb-false, ltb-true}
 use Rattle.wb_names.specs.Orders.{same_name}
 use Rattle.wb_names.specs.Values.{DrawopValue, NameValue}
 use Rattle.wb_names.proofs.Listings.{Contains-cases, Contains-here, Contains-none, Contains-there}
 use Rattle.wb_names.proofs.Orders.{same_name-is}
-use Rattle.wb_recovery.specs.Events.{asking, names_of, timers_of}
+use Rattle.wb_recovery.specs.Events.{names_of, timers_of}
 use Rattle.wb_recovery.specs.Timing.{got, new_ask, noticed}
 use Rattle.wb_recovery.specs.declared.timers.AskTimer.{AskTimer}
 use Rattle.wb_recovery.specs.declared.timers.Timers.{Timers}
-use Rattle.wb_recovery.specs.declared.tuning.Tuning.{Tuning}
 use Rattle.wb_recovery.proofs.NameLists.{listed_of}
 use Rattle.wb_host.specs.GivingUp.{level as level_in}
 use Rattle.wb_host.specs.Keeper.{delay_to, given_up, holds as holds_in}
@@ -25,7 +24,7 @@ use Rattle.wb_keeping.specs.Credit.{cost, has_credit}
 use Rattle.wb_keeping.specs.Fairness.{AnswersWhatIsHeld}
 use Rattle.wb_keeping.specs.Kept.{Asks, Doing, Line, SetsDistance, Tunes, Stops, room_lines, still, stops_oldest, usual_lines, want, want_told}
 use Rattle.wb_keeping.specs.Performing.{Keeping, after_doing, after_line, after_lines, asked_name, asked_with, sees, view_of}
-use Rattle.wb_keeping.specs.Policy.{Policy, View, after_wanting, holds, is_asked, is_full, level as level_by}
+use Rattle.wb_keeping.specs.Policy.{View, after_wanting, holds, is_asked, is_full, level as level_by}
 use Rattle.wb_keeping.specs.Wanting.{goes_on, is_wanted, older, oldest}
 use Rattle.wb_keeping.specs.declared.wanting.AskedName.{AskedName}
 use Rattle.wb_keeping.proofs.AskedTimers.{level_seen, named}
@@ -172,9 +171,9 @@ oldest_most a (x ∷ later) b c =
     ⊎_elim
     (λ (e : a ≡ b). let le = one a x in subst (λ (y : AskedName). y.level ≤ (fold older (older a x) later).level) e (omega (arith, first, le)))
     (λ (rest : Contains (x ∷ later) b). ⊎_elim
-        (λ (e : x ≡ b). let le = other a x in subst (λ (y : AskedName). y.level ≤ (fold older (older a x) later).level) e (omega (arith, first, le)))
-        (λ (more : Contains later b). oldest_most (older a x) later b (Contains-there (older a x) b later more))
-        (Contains-cases x b later rest))
+    (λ (e : x ≡ b). let le = other a x in subst (λ (y : AskedName). y.level ≤ (fold older (older a x) later).level) e (omega (arith, first, le)))
+    (λ (more : Contains later b). oldest_most (older a x) later b (Contains-there (older a x) b later more))
+    (Contains-cases x b later rest))
     (Contains-cases a b (x ∷ later) c) where
       one : (a x : AskedName) → a.level ≤ (older a x).level
       one a x = by (nat_lt a.level x.level) refl where
@@ -235,10 +234,10 @@ oldest_is_old host names all few a later e many new =
     let names_are : map (λ (b : AskedName). b.name) (a ∷ later) ≡ asked_names host = ap (map (λ (b : AskedName). b.name)) (sym e) ∙ named (timers_of host.is.constants (events host)) (names_of (events host)) in
     let count : length (a ∷ later) ≡ length (asked_names host) = sym (mapped (a ∷ later)) ∙ ap (λ (ns : List NameValue). length ns) names_are in
     let le = as_many (asked_names host) names (listed_of (λ (s : Timers). is_some s.ask) refl host.is.constants (events host)).rising (λ z c.
-        let b = from_names (a ∷ later) z (subst (λ (ns : List NameValue). Contains ns z) (sym names_are) c) in
-        let most = oldest_most a later b.0 b.1 in
-        let none : b.0.level ≡ 0 = least b.0.level o.level most zero_level in
-        subst (λ (n : NameValue). Contains names n) b.2 (all b.0.name (level_told host b.0 (among_asked b.0 b.1) ∙ ap Some none))) in
+    let b = from_names (a ∷ later) z (subst (λ (ns : List NameValue). Contains ns z) (sym names_are) c) in
+    let most = oldest_most a later b.0 b.1 in
+    let none : b.0.level ≡ 0 = least b.0.level o.level most zero_level in
+    subst (λ (n : NameValue). Contains names n) b.2 (all b.0.name (level_told host b.0 (among_asked b.0 b.1) ∙ ap Some none))) in
     omega (arith, many, count, le, few) where
       least : (a b : ℕ) → a ≤ b → b ≡ 0 → a ≡ 0
       least a b le e = omega (arith, le, e)

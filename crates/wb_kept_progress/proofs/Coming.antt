@@ -1,12 +1,11 @@
 -- Any number that one host holds and another lacks comes: its top is told and comes, and then it has its turn.
-use Rattle.std.proofs.Common.{◌≡◌, ℕ, suc, ◌+◌, ◌<◌, ◌≤◌, Bool, true, false, cond, List, [], ◌∷◌, ◌++◌, ◌∙◌, Option, Some, None, ap, append_assoc, arith, eqb-true, inl, inr, leb-true, length, map, max, refl, subst, sym, true≢false, ⊎_elim}
+use Rattle.std.proofs.Common.{◌≡◌, ℕ, suc, ◌+◌, ◌<◌, ◌≤◌, Bool, true, false, List, [], ◌∷◌, ◌++◌, ◌∙◌, None, ap, append_assoc, arith, eqb-true, inl, inr, leb-true, length, map, max, refl, subst, sym, true≢false}
 use Rattle.std.specs.Prelude.{◌⊎◌, ◌&&◌, ◌||◌, Contains, filter, nat_eq, nat_le, nat_lt, not}
 use Rattle.std.proofs.lemmas.Bool.Decides.{nat_tests}
-use Rattle.std.proofs.lemmas.List.Elements.{Contains-append_left, Contains-append_right}
-use Rattle.wb_names.specs.History.{HoldsName, IsHeld, highest, name_of}
+use Rattle.std.proofs.lemmas.List.Elements.{Contains-append_right}
+use Rattle.wb_names.specs.History.{IsHeld, highest, name_of}
 use Rattle.wb_names.specs.Orders.{same_name}
 use Rattle.wb_names.specs.Values.{DrawopValue, MarkValue, NameValue}
-use Rattle.wb_names.specs.declared.echo.Echo.{Echo}
 use Rattle.wb_names.specs.declared.name.PageId.{PageId}
 use Rattle.wb_names.proofs.Listings.{Contains-filter, Contains-here}
 use Rattle.wb_names.proofs.Orders.{same_name-is}
@@ -18,22 +17,19 @@ use Rattle.wb_gaps.proofs.HeldNames.{held-by, held-from}
 use Rattle.wb_gaps.proofs.PageAnswers.{has_source, pages_of_history}
 use Rattle.wb_gaps.proofs.Reports.{greatest_held}
 use Rattle.wb_host.specs.Keeper.{holds}
-use Rattle.wb_host.proofs.KeptCalls.{holds_from, same_here}
 use Rattle.wb_progress.specs.Repairs.{asking_wait}
 use Rattle.wb_member.specs.Judged.{is_full}
-use Rattle.wb_member.specs.Opened.{Opened, asks_for, present, ticked}
-use Rattle.wb_keeping.specs.Fairness.{after_tellings, marks_in_turn, page_in_turn}
-use Rattle.wb_keeping.specs.Kept.{Hears, Ticks, Transition, came, hears, performs, timed, told_names}
-use Rattle.wb_keeping.specs.Laws.{Came, KeptLine, doing_of, fault_of}
+use Rattle.wb_member.specs.Opened.{Opened, asks_for, present}
+use Rattle.wb_keeping.specs.Kept.{came, told_names}
+use Rattle.wb_keeping.specs.Laws.{Came, fault_of}
 use Rattle.wb_keeping.specs.Performing.{Keeping, after_doing}
-use Rattle.wb_keeping.proofs.EachStep.{having}
 use Rattle.wb_keeping.proofs.ToldMarks.{each_mark_is_told}
 use Rattle.wb_kept_progress.specs.Repairs.{ComesToTell, HasCome, IsBrought, IsLost, LostCanCome, MarksComeToBeTold, host_at, repair}
-use Rattle.wb_kept_progress.specs.Sessions.{AreHosts, AreTaken, LineAt, NothingIsForged, Opening, at, kept_at, sent}
+use Rattle.wb_kept_progress.specs.Sessions.{AreHosts, AreTaken, LineAt, NothingIsForged, Opening, at, kept_at}
 use Rattle.wb_kept_progress.proofs.Hearing.{report_asks, report_holds}
-use Rattle.wb_kept_progress.proofs.Lines.{IsOf, is_false}
+use Rattle.wb_kept_progress.proofs.Lines.{is_false}
 use Rattle.wb_kept_progress.proofs.Repairs.{asked_can_come, fine_at, idle, is_itself, moved, of_opening, places_differ, session_in_time}
-use Rattle.wb_kept_progress.proofs.Turning.{answers_at, brought_behind, by_turn, comes_to_tell, count_of, in_map, not_ours, others_stay, some_ticks, ticks_hold, ticks_of, ticks_taken, ticks_unforged, told_of}
+use Rattle.wb_kept_progress.proofs.Turning.{answers_at, brought_behind, by_turn, comes_to_tell, count_of, in_map, not_ours, others_stay, some_ticks, ticks_unforged, told_of}
 
 -- ---- marks
 

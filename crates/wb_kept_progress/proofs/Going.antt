@@ -1,35 +1,33 @@
 -- At each host that keeps itself time goes on, and delays are in range.
 use Rattle.wb_recovery.specs.Timing.{are_constants}
-use Rattle.std.proofs.Common.{◌≡◌, ℕ, ◌≤◌, Bool, true, false, cond, List, [], ◌∷◌, ◌++◌, ◌∙◌, Option, Some, None, ap, arith, map, refl, subst, sym, true≢false, eqb-true}
-use Rattle.std.specs.Prelude.{IfSome, filter, length, nat_eq, nat_le, nat_lt, take, min, max, ◌*◌, ◌/◌, ◌+◌}
-use Rattle.std.proofs.lemmas.Bool.{leb-true}
+use Rattle.std.proofs.Common.{◌≡◌, ℕ, ◌≤◌, Bool, true, false, cond, List, [], ◌∷◌, ◌++◌, ◌∙◌, Option, Some, None, ap, arith, map, refl, subst, sym, eqb-true}
+use Rattle.std.specs.Prelude.{IfSome, filter, length, nat_eq, nat_le, nat_lt, take, ◌*◌, ◌/◌, ◌+◌}
 use Rattle.wb_names.specs.History.{highest}
-use Rattle.wb_names.specs.Values.{DrawopValue, MarkValue, NameValue}
+use Rattle.wb_names.specs.Values.{MarkValue, NameValue}
 use Rattle.wb_names.specs.declared.name.PageId.{PageId}
 use Rattle.wb_codec.specs.declared.datagram.Datagram.{Datagram}
 use Rattle.wb_codec.specs.declared.datagram.Datagram.TheVariants.{Draw, Session, Request, AskPages, PageState}
 use Rattle.wb_gaps.specs.Answers.{pages_of, report_of}
 use Rattle.wb_gaps.specs.Holes.{hole_after}
 use Rattle.wb_gaps.specs.declared.holes.Hole.{Hole}
-use Rattle.wb_host.specs.Keeper.{moment_at}
 use Rattle.wb_member.specs.Members.{Misses}
 use Rattle.wb_member.specs.Opened.{Opened, doing, has_room_for, heard, may_ask, opened_with, present}
 use Rattle.wb_member.specs.Random.{word_of}
 use Rattle.wb_progress.specs.Keepers.{AreOrderly, farthest}
 use Rattle.wb_keeping.specs.Distances.{bounded, usual_with}
-use Rattle.wb_keeping.specs.Kept.{Arrives, Asks, Doing, Hears, Line, Says, SetsDistance, Tunes, Stops, Ticks, Transition, and_then, answers, asks_pages, end, is_begun, is_unasked, learned, measures, near_names, paid_for, performs, reports, reports_due, reports_page, reports_rest, room_lines, state_of, still, stops_oldest, timed, turn, turn_to, usual_lines, want, want_near, want_told}
+use Rattle.wb_keeping.specs.Kept.{Arrives, Asks, Doing, Hears, Line, Says, SetsDistance, Tunes, Stops, Ticks, Transition, and_then, answers, asks_pages, end, is_begun, is_unasked, learned, measures, near_names, paid_for, reports, reports_due, reports_rest, room_lines, state_of, still, stops_oldest, timed, turn, turn_to, usual_lines, want, want_near, want_told}
 use Rattle.wb_keeping.specs.Laws.{KeptLine, doing_of, fault_of}
 use Rattle.wb_keeping.specs.Performing.{Keeping, after_doing, after_line, after_lines, sees, view_of}
 use Rattle.wb_keeping.specs.Policy.{Policy, View, after_answer, after_question, after_turn, after_wanting, holds, in_next_round, is_asked, is_full, level}
 use Rattle.wb_keeping.specs.Questions.{is_due}
-use Rattle.wb_keeping.specs.Reports.{page_after, slice_after}
+use Rattle.wb_keeping.specs.Reports.{slice_after}
 use Rattle.wb_keeping.specs.Turns.{name_in, nowhere}
 use Rattle.wb_keeping.specs.Wanting.{is_wanted, oldest}
 use Rattle.wb_keeping.specs.declared.wanting.AskedName.{AskedName}
 use Rattle.wb_keeping.proofs.EachStep.{HoldsOfSteps, line_holds}
 use Rattle.wb_keeping.proofs.Performed.{after_both}
 use Rattle.wb_keeping.proofs.Wanted.{lines_wanted}
-use Rattle.wb_kept_progress.specs.Sessions.{AreHosts, AreTaken, DoNotGoBack, LineAt, Opening, kept_at, opened}
+use Rattle.wb_kept_progress.specs.Sessions.{AreHosts, AreTaken, DoNotGoBack, LineAt, Opening, kept_at}
 use Rattle.wb_kept_progress.proofs.Lines.{AreSmall, IsSmall, small_both}
 
 -- ---- small lines
@@ -102,7 +100,7 @@ measures_small sender (Some micros) see p = by (nat_eq (bounded micros) micros) 
   by true = tt
   by false = (tt, tt)
 
-stops_small : (asked : List AskedName) → AreSmall (map (λ (a : AskedName). Stops a.name) asked)
+pub stops_small : (asked : List AskedName) → AreSmall (map (λ (a : AskedName). Stops a.name) asked)
 stops_small [] = tt
 stops_small (a ∷ asked) = (tt, stops_small asked)
 

@@ -5,3 +5,7 @@ pub mod Turning
 pub mod Asking
 pub mod Hearing
 pub mod Coming
+pub mod Lining
+pub mod PerLine
+pub mod Timely
+pub mod Performed

@@ -1,24 +1,20 @@
 -- What lines make of a host: of what it holds, and of the timers of a name.
 use Rattle.wb_progress.specs.Keepers.{constants_at}
-use Rattle.std.proofs.Common.{◌≡◌, ℕ, ◌+◌, Bool, true, false, cond, List, [], ◌∷◌, ◌++◌, ◌∙◌, Option, Some, None, ap, arith, map, refl, subst, sym, true≢false, ⊎_elim}
-use Rattle.std.specs.Prelude.{◌≢◌, ◌||◌, Contains, get_or, is_some, nat_eq, nat_le, not, take}
-use Rattle.std.proofs.lemmas.List.Elements.{Contains-append_left, Contains-append_right, Contains-get_or}
+use Rattle.std.proofs.Common.{◌≡◌, ℕ, ◌+◌, Bool, true, false, cond, List, [], ◌∷◌, ◌++◌, ◌∙◌, None, ap, refl, subst, sym, true≢false, ⊎_elim}
+use Rattle.std.specs.Prelude.{◌≢◌, ◌||◌, Contains, get_or, is_some, not}
+use Rattle.std.proofs.lemmas.List.Elements.{Contains-append_left, Contains-get_or}
 use Rattle.std.proofs.lemmas.List.Quantifiers.{all_pairs_push}
 use Rattle.wb_names.specs.Arrivals.{Outcome, Fresh, Known, Clashed, Left, history_with, outcome_from, outcome_of}
 use Rattle.wb_names.specs.History.{IsHistory}
 use Rattle.wb_names.specs.Orders.{same_name}
 use Rattle.wb_names.specs.Same.{same_drawop}
 use Rattle.wb_names.specs.Values.{DrawopValue, NameValue}
-use Rattle.wb_names.specs.declared.name.PageId.{PageId}
 use Rattle.wb_names.proofs.Listings.{Contains-cases, Contains-none}
 use Rattle.wb_names.proofs.Orders.{same_name-is}
-use Rattle.wb_codec.specs.declared.datagram.Datagram.{Datagram}
 use Rattle.wb_codec.specs.declared.datagram.Datagram.TheVariants.{Draw, Session, Request, AskPages, PageState}
 use Rattle.wb_recovery.specs.Events.{timers_of}
 use Rattle.wb_recovery.specs.Timing.{got, noticed}
-use Rattle.wb_recovery.specs.declared.timers.AskTimer.{AskTimer}
 use Rattle.wb_recovery.specs.declared.timers.Timers.{Timers}
-use Rattle.wb_host.specs.GivingUp.{is_asked}
 use Rattle.wb_host.specs.Keeper.{delay_to, given_up, holds}
 use Rattle.wb_host.proofs.KeptCalls.{same_here}
 use Rattle.wb_member.specs.Members.{Misses}

@@ -1,11 +1,11 @@
 -- The lines of a repair, one after another.
 use Rattle.wb_progress.specs.Keepers.{constants_at}
 use Rattle.std.proofs.Common.{◌≡◌, ℕ, ◌+◌, ◌<◌, ◌≤◌, Bool, true, false, cond, List, [], ◌∷◌, ◌++◌, ◌∙◌, Option, Some, None, ap, arith, eqb-true, length, map, refl, subst, sym, true≢false}
-use Rattle.std.specs.Prelude.{Contains, IfSome, is_none, is_some, nat_eq, nat_le, nat_lt, not, ◌||◌}
+use Rattle.std.specs.Prelude.{Contains, IfSome, nat_eq, nat_le, nat_lt, not, ◌||◌}
 use Rattle.std.proofs.lemmas.Bool.{leb-false}
 use Rattle.std.proofs.lemmas.Bool.Decides.{nat_tests}
 use Rattle.std.proofs.lemmas.List.Elements.{Contains-append_left, Contains-append_right}
-use Rattle.wb_names.specs.Arrivals.{Outcome, Fresh, Known, Clashed, Left, history_with, outcome_from, outcome_of}
+use Rattle.wb_names.specs.Arrivals.{Fresh, Known, Clashed, Left, history_with, outcome_from}
 use Rattle.wb_names.specs.Faults.{fault_unless, first_of}
 use Rattle.wb_names.specs.History.{IsHistory}
 use Rattle.wb_names.specs.Orders.{same_name}
@@ -13,7 +13,6 @@ use Rattle.wb_names.specs.Same.{same_drawop}
 use Rattle.wb_names.specs.Values.{DrawopValue, MarkValue, NameValue}
 use Rattle.wb_names.specs.declared.echo.Echo.{Echo}
 use Rattle.wb_names.specs.declared.name.PageId.{PageId}
-use Rattle.wb_names.proofs.Listings.{Contains-here}
 use Rattle.wb_codec.specs.declared.datagram.Datagram.{Datagram}
 use Rattle.wb_codec.specs.declared.datagram.Datagram.TheVariants.{Draw, Request, Session}
 use Rattle.wb_recovery.specs.Events.{timers_of}
@@ -24,24 +23,23 @@ use Rattle.wb_recovery.specs.declared.timers.Timers.{Timers}
 use Rattle.wb_host.specs.Keeper.{Hear, delay_to, events_of, holds, is_own}
 use Rattle.wb_host.specs.declared.keep_fault.KeepFault.TheVariants.{BackInTime}
 use Rattle.wb_host.proofs.KeptCalls.{holds_from}
-use Rattle.wb_progress.specs.Repairs.{IsIdle, answering_wait, asking_wait, quiet_wait, timers_at}
+use Rattle.wb_progress.specs.Repairs.{IsIdle, answering_wait, asking_wait, quiet_wait}
 use Rattle.wb_progress.proofs.KeeperBounds.{keepers_are_bounded}
 use Rattle.wb_progress.proofs.OneCall.{le_true, requests_set, ticks_answer, ticks_clear, ticks_leave}
 use Rattle.wb_progress.proofs.Repairs.{answers_are_soon, asker_asks}
 use Rattle.wb_member.specs.Judged.{is_full}
-use Rattle.wb_member.specs.Opened.{Opened, asks_for, due_count, events, has_room_for, heard, opened_with, present, sent_by, ticked, word_at}
+use Rattle.wb_member.specs.Opened.{Opened, asks_for, due_count, events, heard, opened_with, present, sent_by, ticked, word_at}
 use Rattle.wb_member.specs.Random.{words_of}
-use Rattle.wb_keeping.specs.Kept.{Arrives, Doing, Hears, Line, Ticks, Transition, and_then, came, hears, learned, performs, still, takes, ticks, timed}
+use Rattle.wb_keeping.specs.Kept.{Arrives, Doing, Hears, Ticks, and_then, came, hears, learned, performs, still, takes, ticks, timed}
 use Rattle.wb_keeping.specs.Laws.{Came, KeptLine, Ticked, doing_of, fault_of}
 use Rattle.wb_keeping.specs.Performing.{Keeping, after_doing, after_line, after_lines, sees, sent_by_doing, view_of}
-use Rattle.wb_keeping.specs.Policy.{View, is_asked}
+use Rattle.wb_keeping.specs.Policy.{is_asked}
 use Rattle.wb_keeping.specs.Refusing.{is_unknown}
-use Rattle.wb_keeping.specs.declared.kept_fault.KeptFault.{KeptFault}
 use Rattle.wb_keeping.specs.declared.kept_fault.KeptFault.TheVariants.{Host, Ours}
 use Rattle.wb_keeping.proofs.EachStep.{having}
 use Rattle.wb_keeping.proofs.Performed.{then_after, then_sent}
 use Rattle.wb_kept_progress.specs.Repairs.{AskedCanCome, IsBrought, IsLost, host_at, repair}
-use Rattle.wb_kept_progress.specs.Sessions.{AreHosts, AreTaken, LineAt, NothingIsForged, Opening, WasSent, at, kept_at, opened_host, sent}
+use Rattle.wb_kept_progress.specs.Sessions.{AreHosts, AreTaken, LineAt, NothingIsForged, Opening, WasSent, at, kept_at, sent}
 use Rattle.wb_kept_progress.proofs.Going.{Goes, kept_goes, learned_small, line_goes, timed_small}
 use Rattle.wb_kept_progress.proofs.Lines.{IsOf, Rests, is_false, lines_grow, lines_of, lines_rest}
 
@@ -84,7 +82,7 @@ fresh cells k (x ∷ h) d lost room = from (fresh cells (k + 1) h d) (same_name 
   from rest true e = absurd (true≢false e)
   from rest false e = rest e (omega (arith, room))
 
-taken_in : (host : Opened) (d : DrawopValue) → holds host.is.held d.name ≡ false → is_full host ≡ false → (after_line (Arrives d) host).is.held ≡ host.is.held ++ d ∷ []
+pub taken_in : (host : Opened) (d : DrawopValue) → holds host.is.held d.name ≡ false → is_full host ≡ false → (after_line (Arrives d) host).is.held ≡ host.is.held ++ d ∷ []
 taken_in host d lost room =
     let lt = leb-false host.is.cells (length host.is.held) room in
     let f = fresh host.is.cells 0 host.is.held d lost (omega (arith, lt)) in

@@ -1,12 +1,11 @@
 -- A number below a top has its turn, and is asked for.
 use Rattle.std.proofs.Common.{◌≡◌, ℕ, zero, suc, ◌+◌, ◌-◌, ◌*◌, ◌<◌, ◌≤◌, Bool, true, false, cond, List, [], ◌∷◌, ◌++◌, ◌∙◌, Option, Some, None, ap, arith, append_assoc, eqb-true, inl, inr, length, map, refl, subst, sym, true≢false, ⊎_elim}
-use Rattle.std.specs.Prelude.{◌⊎◌, ◌&&◌, ◌/◌, ◌%◌, Contains, is_some, max, min, nat_eq, nat_le, not, take, unwrap_or}
+use Rattle.std.specs.Prelude.{◌⊎◌, ◌&&◌, ◌%◌, Contains, is_some, max, min, nat_eq, nat_le, not, take, unwrap_or}
 use Rattle.std.specs.List.{flat_map}
 use Rattle.std.specs.Option.{option_map, option_or}
 use Rattle.std.proofs.lemmas.Bool.{leb-true}
 use Rattle.std.proofs.lemmas.List.Elements.{Contains-append_cases, Contains-append_left, Contains-append_right}
 use Rattle.wb_names.specs.History.{IsHeld, highest, name_of}
-use Rattle.wb_names.specs.Marks.{known}
 use Rattle.wb_names.specs.Values.{DrawopValue, MarkValue, NameValue}
 use Rattle.wb_names.specs.declared.echo.Echo.{Echo}
 use Rattle.wb_names.specs.declared.gap.Gap.{Gap}
@@ -15,7 +14,7 @@ use Rattle.wb_names.proofs.Listings.{Contains-cases, Contains-here, Contains-non
 use Rattle.wb_codec.specs.declared.datagram.Datagram.{Datagram}
 use Rattle.wb_codec.specs.declared.datagram.Datagram.TheVariants.{AskPages, Session}
 use Rattle.wb_gaps.specs.Answers.{gaps_of, pages_of, report_of}
-use Rattle.wb_gaps.specs.Gaps.{Covers, IsMissing}
+use Rattle.wb_gaps.specs.Gaps.{IsMissing}
 use Rattle.wb_gaps.specs.Holes.{hole_after, hole_on, holes_of, holes_on}
 use Rattle.wb_gaps.specs.declared.holes.Hole.{Hole}
 use Rattle.wb_gaps.proofs.MissingRanges.{gaps_of_page}
@@ -24,13 +23,13 @@ use Rattle.wb_gaps.proofs.Reports.{greatest_held}
 use Rattle.wb_host.specs.Keeper.{holds}
 use Rattle.wb_host.proofs.KeptCalls.{holds_not}
 use Rattle.wb_member.specs.Judged.{is_full}
-use Rattle.wb_member.specs.Opened.{Opened, asks_for, opened_with, present, ticked}
+use Rattle.wb_member.specs.Opened.{Opened, asks_for, opened_with, present}
 use Rattle.wb_keeping.specs.Credit.{cost, has_credit}
-use Rattle.wb_keeping.specs.Fairness.{AnswersWhatIsHeld, Told, after_telling, after_tellings, after_turn, after_turns, hole_in_turn, is_answering, led_to, marks_in_turn, name_in_turn, page_in_turn, where_left}
+use Rattle.wb_keeping.specs.Fairness.{AnswersWhatIsHeld, Told, after_telling, after_tellings, after_turn, after_turns, led_to, marks_in_turn, name_in_turn, page_in_turn, where_left}
 use Rattle.wb_keeping.specs.Kept.{Doing, Line, Says, Ticks, Transition, and_then, answers, asks_pages, last_heard, performs, reports, reports_due, reports_rest, state_of, still, ticks, timed, turn, turn_to, want}
-use Rattle.wb_keeping.specs.Laws.{KeptLine, Ticked, doing_of, fault_of}
-use Rattle.wb_keeping.specs.Performing.{Keeping, after_doing, after_line, after_lines, sees, sent_by_doing, sent_by_lines, view_of}
-use Rattle.wb_keeping.specs.Policy.{Policy, View, after_answer, after_question, after_turn as policy_after, after_wanting, in_next_round, is_asked}
+use Rattle.wb_keeping.specs.Laws.{Ticked, doing_of}
+use Rattle.wb_keeping.specs.Performing.{Keeping, after_doing, after_lines, sees, sent_by_doing, sent_by_lines, view_of}
+use Rattle.wb_keeping.specs.Policy.{Policy, View, after_answer, after_question, after_turn as policy_after, after_wanting, in_next_round}
 use Rattle.wb_keeping.specs.Questions.{is_due}
 use Rattle.wb_keeping.specs.Reports.{next_report, page_after, slice_after}
 use Rattle.wb_keeping.specs.Turns.{name_in, nowhere}
@@ -42,14 +41,14 @@ use Rattle.wb_keeping.proofs.FairTurns.{a_number_has_its_turn, each_number_has_i
 use Rattle.wb_keeping.proofs.KeptLines.{slices_are_short}
 use Rattle.wb_keeping.proofs.Performed.{then_after, then_sent}
 use Rattle.wb_keeping.proofs.StandingTimers.{stands_asked}
-use Rattle.wb_keeping.proofs.ToldMarks.{each_mark_is_told, reports_tell}
+use Rattle.wb_keeping.proofs.ToldMarks.{reports_tell}
 use Rattle.wb_keeping.proofs.Wanted.{is_wanted_here, lines_wanted}
 use Rattle.wb_keeping.proofs.WantedNames.{lines_answer_held, wanted_is_asked}
 use Rattle.wb_progress.proofs.OneCall.{le_true}
 use Rattle.wb_kept_progress.specs.Repairs.{AreTicks, ComesToAsk, ComesToTell, IsBrought, IsLost, MissingCanCome, MissingIsAsked, MissingIsAskedSoon, host_at, ready_at, repair}
 use Rattle.wb_kept_progress.specs.Sessions.{AreHosts, AreTaken, LineAt, NothingIsForged, Opening, at, kept_at, sent}
 use Rattle.wb_kept_progress.proofs.Going.{answers_small, asks_pages_small, reports_small, turn_small}
-use Rattle.wb_kept_progress.proofs.Lines.{AreSmall, IsOf, Rests, is_false, lines_of, lines_rest}
+use Rattle.wb_kept_progress.proofs.Lines.{IsOf, Rests, is_false, lines_of, lines_rest}
 use Rattle.wb_kept_progress.proofs.Repairs.{asked_can_come, did_send, is_itself, places_differ, tick_in_time, tick_rests}
 
 -- ---- one who answers for what it holds alone
@@ -603,9 +602,11 @@ missing_is_asked_soon hosts older i hole number are taken there low high room fe
     let k = kept_at hosts older i in
     let turn = each_number_has_its_turn k.host.is.held k.policy.turns hole number there low high few in
     let less = turn.1 in
-    let many = count_of hosts older i (suc turn.0) in
-    (some_ticks hosts older i (suc turn.0), comes_to_ask hosts older i (name_of hole.page hole.gap.source number) turn.0 taken (hole_is_lacked k.host.is.held hole number there low high) room turn.2,
-    under (length (some_ticks hosts older i (suc turn.0))) turn.0 _ many less) where
+    let many = count_of hosts older i (suc turn.0) in (
+      some_ticks hosts older i (suc turn.0),
+      comes_to_ask hosts older i (name_of hole.page hole.gap.source number) turn.0 taken (hole_is_lacked k.host.is.held hole number there low high) room turn.2,
+      under (length (some_ticks hosts older i (suc turn.0))) turn.0 _ many less,
+    ) where
       under : (a b c : ℕ) → a ≡ suc b → b < c → a ≤ c
       under a b c e lt = omega (arith, e, lt)
 

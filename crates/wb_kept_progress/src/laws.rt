@@ -1,6 +1,7 @@
 //! Laws of progress of hosts that keep themselves. Each function does nothing: its contract is a law, for proofs to cite.
 
 ghost use Rattle.wb_kept_progress.specs.Repairs.{AskedCanCome, LostCanCome, MarksComeToBeTold, MissingCanCome, MissingIsAsked, MissingIsAskedSoon};
+ghost use Rattle.wb_kept_progress.specs.Timed.{KeptIsPerformed, KeptKeepsMoments, RequestIsAnswered, TimerLeads};
 
 /// Whatever came in before, a drawop that one host asks for, and that another holds, comes by six more lines of the
 /// two. None of them is refused, and none hands in what was not sent.
@@ -22,4 +23,18 @@ pub fn what_is_missing_can_come()
 pub fn what_is_lost_can_come()
     ensures told { MarksComeToBeTold }
     ensures comes { LostCanCome }
+{}
+
+/// Where hosts, drivers and the network keep to stated times: a request for what a live host held is answered to all of them, and
+/// a request timer leads to one, whatever else hosts ask for, give up and report. So it is with hosts that keep themselves.
+pub fn what_is_asked_for_comes_in_time()
+    ensures answered { RequestIsAnswered }
+    ensures leads { TimerLeads }
+{}
+
+/// A host that keeps itself from its opening on is the host that performed the lines of its policy, each call at a time. Where each
+/// call tells the moment of its time, a tick to that moment stands before all else that is performed in it.
+pub fn kept_hosts_perform_lines()
+    ensures same { KeptIsPerformed }
+    ensures moments { KeptKeepsMoments }
 {}

@@ -1,0 +1,224 @@
+-- Hosts that keep themselves perform lines, and each call of theirs begins with a tick.
+use Rattle.std.proofs.Common.{◌≡◌, ℕ, ◌+◌, Bool, true, false, cond, List, [], ◌∷◌, ◌++◌, ◌∙◌, Option, Some, None, ap, eqb-true, eq-eqb, map, refl, subst, sym, ⊎_elim}
+use Rattle.std.specs.Prelude.{◌⊎◌, ◌||◌, length, nat_eq, nat_lt}
+use Rattle.wb_names.specs.Values.{DrawopValue, MarkValue}
+use Rattle.wb_names.specs.declared.echo.Echo.{Echo}
+use Rattle.wb_names.specs.declared.name.PageId.{PageId}
+use Rattle.wb_names.specs.declared.parts.Op.{Op}
+use Rattle.wb_codec.specs.declared.datagram.Datagram.{Datagram}
+use Rattle.wb_codec.specs.declared.datagram.Datagram.TheVariants.{Draw, Session, Request, AskPages, PageState}
+use Rattle.wb_progress.specs.Turns.{Terms}
+use Rattle.wb_member.specs.Opened.{Opened, opened_with, present}
+use Rattle.wb_keeping.specs.Kept.{Line, Arrives, Asks, Doing, Hears, Says, SetsDistance, Tunes, Stops, Ticks, Transition, adds, and_then, came, distance_in, draws_it, drawing, end, ends_full, hears, hears_session, hears_some, hears_state, learned, measures, of_other, own_echo, own_marks, performs, still, takes, takes_question, ticks, timed, told_names, want_told}
+use Rattle.wb_keeping.specs.Laws.{KeptLine, Came, Ticked, Added, Tuned, doing_of}
+use Rattle.wb_keeping.specs.Performing.{Keeping, after_doing, after_line, after_lines, sees}
+use Rattle.wb_keeping.specs.Policy.{Policy, View, after_state, after_taking_up, holds, is_asked, is_full}
+use Rattle.wb_keeping.specs.Questions.{is_to_answer}
+use Rattle.wb_kept_progress.specs.Sessions.{LineAt, Opening, kept_at}
+use Rattle.wb_kept_progress.specs.Timed.{IsPerformed, KeepsMoments, KeptIsPerformed, KeptKeepsMoments, Performed, Start, TellTimes, TimedLine, IsTold, host_after, lines_of, performed, performed_then, start_of}
+use Rattle.wb_kept_progress.proofs.Going.{learned_small, measures_small, stops_small, timed_small, want_told_small}
+use Rattle.wb_kept_progress.proofs.Lines.{AreSmall, IsSmall}
+use Rattle.wb_kept_progress.proofs.PerLine.{line_moment}
+
+module _ (hosts : ℕ → Start) where
+  -- the host at a place behind lines that one performed
+  pub after_all : (time place : ℕ) (lines : List Line) (older : List Performed) (i : ℕ) (b : Bool) → nat_eq place i ≡ b → host_after hosts (performed_then time place lines older) i ≡ cond b (after_lines lines (host_after hosts older i)) (host_after hosts older i)
+  after_all time place [] older i true e = refl
+  after_all time place [] older i false e = refl
+  after_all time place (line ∷ lines) older i true e =
+      after_all time place lines (record { time = time; place = place; line = line } ∷ older) i true e
+      ∙ ap (λ (b : Bool). after_lines lines (cond b (after_line line (host_after hosts older i)) (host_after hosts older i))) e
+  after_all time place (line ∷ lines) older i false e =
+      after_all time place lines (record { time = time; place = place; line = line } ∷ older) i false e
+      ∙ ap (λ (b : Bool). cond b (after_line line (host_after hosts older i)) (host_after hosts older i)) e
+
+pub kept_is_performed : KeptIsPerformed
+kept_is_performed hosts trace none = record { same = by trace } where
+  starts : ℕ → Start
+  starts j = start_of (hosts j)
+
+  by : (trace : List TimedLine) (i : ℕ) → host_after (λ j. start_of (hosts j)) (performed hosts trace) i ≡ (kept_at hosts (lines_of trace) i).host
+  by [] i = sym (ap (λ (moments : List ℕ). after_lines (map Ticks moments) (opened_with (hosts i).constants (hosts i).number (hosts i).cells (hosts i).seed)) (none i))
+  by (e ∷ older) i = from (nat_eq e.at.place i) refl (by older i) where
+    k : Keeping
+    k = kept_at hosts (lines_of older) e.at.place
+
+    does : List Line
+    does = (doing_of e.at.line (sees k.host) k.policy).lines
+
+    from : (b : Bool) → nat_eq e.at.place i ≡ b → host_after (λ j. start_of (hosts j)) (performed hosts older) i ≡ (kept_at hosts (lines_of older) i).host
+        → host_after (λ j. start_of (hosts j)) (performed_then e.time e.at.place does (performed hosts older)) i ≡ (cond b (after_doing (doing_of e.at.line) (kept_at hosts (lines_of older) i)) (kept_at hosts (lines_of older) i)).host
+    from true same rest =
+        after_all (λ j. start_of (hosts j)) e.time e.at.place does (performed hosts older) i true same
+        ∙ ap (after_lines does) rest
+        ∙ ap (λ (p : ℕ). let m = kept_at hosts (lines_of older) p in after_lines (doing_of e.at.line (sees m.host) m.policy).lines (kept_at hosts (lines_of older) i).host) (eqb-true e.at.place i same)
+    from false same rest = after_all (λ j. start_of (hosts j)) e.time e.at.place does (performed hosts older) i false same ∙ rest
+
+-- ---- no ticks but the first
+
+abbrev IsNoTick : Line → Type 0
+IsNoTick (Ticks now) = ⊥
+IsNoTick line = Unit {0}
+
+abbrev AreNoTicks : List Line → Type 0
+AreNoTicks [] = Unit {0}
+AreNoTicks (line ∷ lines) = IsNoTick line × AreNoTicks lines
+
+join : (one other : List Line) → AreNoTicks one → AreNoTicks other → AreNoTicks (one ++ other)
+join [] other a b = b
+join (line ∷ one) other a b = (a.0, join one other a.1 b)
+
+from_small : (lines : List Line) → AreSmall lines → AreNoTicks lines
+from_small [] small = tt
+from_small (Ticks now ∷ lines) small = absurd small.0
+from_small (Arrives d ∷ lines) small = absurd small.0
+from_small (Hears v ∷ lines) small = absurd small.0
+from_small (Asks name ∷ lines) small = (tt, from_small lines small.1)
+from_small (Stops name ∷ lines) small = (tt, from_small lines small.1)
+from_small (SetsDistance source micros ∷ lines) small = (tt, from_small lines small.1)
+from_small (Tunes constants ∷ lines) small = (tt, from_small lines small.1)
+from_small (Says v ∷ lines) small = (tt, from_small lines small.1)
+
+abbrev HasNoTick : Transition → Type 0
+HasNoTick does = (see : List Line → View) (p : Policy) → AreNoTicks (does see p).lines
+
+both : (first second : Transition) → HasNoTick first → HasNoTick second → HasNoTick (and_then first second)
+both first second f s see p = join (first see p).lines _ (f see p) (s (λ (lines : List Line). see ((first see p).lines ++ lines)) (first see p).policy)
+
+choose : (b : Bool) (x y : Doing) → AreNoTicks x.lines → AreNoTicks y.lines → AreNoTicks (cond b x y).lines
+choose true x y p q = p
+choose false x y p q = q
+
+timed_none : HasNoTick timed
+timed_none see p = from_small (timed see p).lines (timed_small see p)
+
+told_none : (page : PageId) (me : ℕ) (marks : List MarkValue) → HasNoTick (want_told (told_names me page marks))
+told_none page me marks see p = from_small _ (want_told_small (told_names me page marks) see p)
+
+takes_none : (d : DrawopValue) → HasNoTick (takes d)
+takes_none d see p =
+    let v = see [] in
+    let new = and_then (performs (Arrives d)) (learned d.name (is_asked v d.name)) in
+    by (holds v d.name) (is_full v) (new see p) ((tt, from_small _ (learned_small d.name (is_asked v d.name) (λ (lines : List Line). see (Arrives d ∷ lines)) p))) where
+      by : (a b : Bool) (new : Doing) → AreNoTicks new.lines → AreNoTicks (cond (a || b) (performs (Arrives d) see p) new).lines
+      by true b new none = (tt, tt)
+      by false true new none = (tt, tt)
+      by false false new none = none
+
+some_none : (sender : ℕ) (page : PageId) (marks : List MarkValue) → HasNoTick (hears_some sender page marks)
+some_none sender page [] see p = tt
+some_none sender page (m ∷ marks) see p = (tt, tt)
+
+session_none : (sender sent : ℕ) (page : PageId) (marks : List MarkValue) (echoes : List Echo) → HasNoTick (hears_session sender sent page marks echoes)
+session_none sender sent page marks echoes see p =
+    let v = see [] in
+    both (performs (Hears (Session sender sent page (own_marks v.me (nat_lt v.now p.ready) marks) (own_echo v.me echoes)))) (and_then (measures sender (distance_in v.now (own_echo v.me echoes))) (want_told (told_names v.me page marks)))
+    (λ see p. (tt, tt)) (both (measures sender (distance_in v.now (own_echo v.me echoes))) (want_told (told_names v.me page marks)) (λ see p. from_small _ (measures_small sender (distance_in v.now (own_echo v.me echoes)) see p)) (told_none page v.me marks)) see p
+
+state_none : (sender : ℕ) (page : PageId) (marks : List MarkValue) → HasNoTick (hears_state sender page marks)
+state_none sender page marks see p =
+    let v = see [] in
+    both (hears_some sender page (own_marks v.me (nat_lt v.now p.ready) marks)) (want_told (told_names v.me page marks)) (some_none sender page (own_marks v.me (nat_lt v.now p.ready) marks)) (told_none page v.me marks) see (after_state v.now p)
+
+other_none : (sender : ℕ) (does : Transition) → HasNoTick does → HasNoTick (of_other sender does)
+other_none sender does none see p = choose (nat_eq sender (see []).me) (still see p) (does see p) tt (none see p)
+
+question_none : HasNoTick takes_question
+question_none see p = choose (is_to_answer (see []).now (nat_lt 0 (length (see []).held)) p.questions) (still see (after_taking_up (see []).now p)) (still see p) tt tt
+
+hears_none : (v : Datagram) → HasNoTick (hears v)
+hears_none (Draw d) = takes_none d
+hears_none (Session sender sent page marks echoes) = other_none sender (hears_session sender sent page marks echoes) (session_none sender sent page marks echoes)
+hears_none (PageState sender page marks) = other_none sender (hears_state sender page marks) (state_none sender page marks)
+hears_none (Request asker name) = other_none asker (performs (Hears (Request asker name))) (λ see p. (tt, tt))
+hears_none (AskPages asker) = other_none asker takes_question question_none
+
+ends_none : HasNoTick ends_full
+ends_none see p = choose (is_full (see [])) (end see p) (still see p) (from_small _ (stops_small (see []).asked)) tt
+
+-- a call is a tick to its moment, and lines that are none
+record Begins (now : ℕ) (d : Doing) : Type 0 where
+  rest : List Line
+  is : d.lines ≡ Ticks now ∷ rest
+  none : AreNoTicks rest
+
+came_begins : (now : ℕ) (v : Datagram) (see : List Line → View) (p : Policy) → Begins now (came now v see p)
+came_begins now v see p = record { rest = _; is = refl; none = both (hears v) timed (hears_none v) timed_none (λ (lines : List Line). see (Ticks now ∷ lines)) p }
+
+ticks_begin : (now : ℕ) (see : List Line → View) (p : Policy) → Begins now (ticks now see p)
+ticks_begin now see p = record { rest = _; is = refl; none = timed_none (λ (lines : List Line). see (Ticks now ∷ lines)) p }
+
+adds_begin : (now : ℕ) (page : PageId) (time : ℕ) (op : Op) (see : List Line → View) (p : Policy) → Begins now (adds now page time op see p)
+adds_begin now page time op see p = record {
+  rest = _;
+  is = refl;
+  none = both (draws_it page time op) (and_then ends_full timed) (λ see p. (tt, tt)) (both ends_full timed ends_none timed_none) (λ (lines : List Line). see (Ticks now ∷ lines)) p;
+}
+
+-- ---- moments
+
+module _ (hosts : ℕ → Start) (terms : Terms) where
+  record IsInTime (e : Performed) (older : List Performed) : Type 0 where
+    ticks : (now : ℕ) → e.line ≡ Ticks now → now ≡ e.time + terms.offset e.place
+    hears : (v : Datagram) → e.line ≡ Hears v → present (host_after hosts older e.place) ≡ e.time + terms.offset e.place
+
+  abbrev AreInTime : List Performed → Type 0
+  AreInTime [] = Unit {0}
+  AreInTime (e ∷ older) = IsInTime e older × AreInTime older
+
+  one_in : (newer older : List Performed) (e : Performed) → AreInTime (newer ++ e ∷ older) → IsInTime e older
+  one_in [] older e all = all.0
+  one_in (x ∷ newer) older e all = one_in newer older e all.1
+
+  abbrev at_place : ℕ → ℕ → Line → Performed
+  at_place time place line = record { time = time; place = place; line = line }
+
+  here : (time place : ℕ) (line : Line) (older : List Performed) → host_after hosts (at_place time place line ∷ older) place ≡ after_line line (host_after hosts older place)
+  here time place line older = ap (λ (b : Bool). cond b (after_line line (host_after hosts older place)) (host_after hosts older place)) (eq-eqb place place refl)
+
+  no_tick : (line : Line) (now : ℕ) → IsNoTick line → line ≡ Ticks now → ⊥
+  no_tick line now none e = subst IsNoTick e none
+
+  then_in : (time place : ℕ) (lines : List Line) (older : List Performed) → AreNoTicks lines → AreInTime older → present (host_after hosts older place) ≡ time + terms.offset place → AreInTime (performed_then time place lines older)
+  then_in time place [] older none all now = all
+  then_in time place (line ∷ lines) older none all now =
+      then_in time place lines (at_place time place line ∷ older) none.1
+      (record { ticks = λ moment e. absurd (no_tick line moment none.0 e); hears = λ v e. now }, all)
+      (ap present (here time place line older) ∙ ⊎_elim
+          (λ (same : present (after_line line (host_after hosts older place)) ≡ present (host_after hosts older place)). same ∙ now)
+          (λ (t : (moment : ℕ) × (line ≡ Ticks moment) × (present (after_line line (host_after hosts older place)) ≡ moment)). absurd (no_tick line t.0 none.0 t.1))
+          (line_moment line (host_after hosts older place)))
+
+  call_in : (time place now : ℕ) (rest : List Line) (older : List Performed) → AreNoTicks rest → AreInTime older → now ≡ time + terms.offset place → AreInTime (performed_then time place (Ticks now ∷ rest) older)
+  call_in time place now rest older none all told =
+      then_in time place rest (at_place time place (Ticks now) ∷ older) none
+      (record { ticks = λ moment e. sym (same moment e) ∙ told; hears = λ v e. absurd (other v e) }, all)
+      (ap present (here time place (Ticks now) older) ∙ told) where
+        same : (moment : ℕ) → Ticks now ≡ Ticks moment → now ≡ moment
+        same moment e = cc
+
+        other : (v : Datagram) → Ticks now ≡ Hears v → ⊥
+        other v e = cc
+
+  begun_in : (time place now : ℕ) (d : Doing) (older : List Performed) → Begins now d → AreInTime older → now ≡ time + terms.offset place → AreInTime (performed_then time place d.lines older)
+  begun_in time place now d older b all told = subst (λ (lines : List Line). AreInTime (performed_then time place lines older)) (sym b.is) (call_in time place now b.rest older b.none all told)
+
+  line_in : (line : KeptLine) (time place : ℕ) (see : List Line → View) (p : Policy) (older : List Performed) → IsTold (time + terms.offset place) line → AreInTime older → AreInTime (performed_then time place (doing_of line see p).lines older)
+  line_in (Came now v) time place see p older told all = begun_in time place now (came now v see p) older (came_begins now v see p) all told
+  line_in (Ticked now) time place see p older told all = begun_in time place now (ticks now see p) older (ticks_begin now see p) all told
+  line_in (Added now page t op) time place see p older told all = begun_in time place now (adds now page t op see p) older (adds_begin now page t op see p) all told
+  line_in (Tuned constants) time place see p older told all = (record { ticks = λ moment e. absurd (no_tick (Tunes constants) moment tt e); hears = λ v e. absurd (unheard v e) }, all) where
+    unheard : (v : Datagram) → Tunes constants ≡ Hears v → ⊥
+    unheard v e = cc
+
+all_in : (hosts : ℕ → Opening) (terms : Terms) (trace : List TimedLine) → TellTimes terms trace → AreInTime (λ j. start_of (hosts j)) terms (performed hosts trace)
+all_in hosts terms [] tells = tt
+all_in hosts terms (e ∷ older) tells =
+    let k = kept_at hosts (lines_of older) e.at.place in
+    line_in (λ j. start_of (hosts j)) terms e.at.line e.time e.at.place (sees k.host) k.policy (performed hosts older) tells.0 (all_in hosts terms older tells.1)
+
+pub kept_keeps_moments : KeptKeepsMoments
+kept_keeps_moments hosts terms trace tells = record {
+  times = λ newer older e now split is. (one_in (λ j. start_of (hosts j)) terms newer older e (subst (AreInTime (λ j. start_of (hosts j)) terms) split (all_in hosts terms trace tells))).ticks now is;
+  behind = λ newer older e v split is. (one_in (λ j. start_of (hosts j)) terms newer older e (subst (AreInTime (λ j. start_of (hosts j)) terms) split (all_in hosts terms trace tells))).hears v is;
+}

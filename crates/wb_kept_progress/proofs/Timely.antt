@@ -1,0 +1,432 @@
+-- Hosts that keep to stated times are keepers that take turns in time.
+use Rattle.std.proofs.Common.{◌≡◌, ℕ, ◌+◌, ◌<◌, ◌≤◌, Bool, true, false, cond, List, [], ◌∷◌, ◌++◌, ◌∙◌, None, ap, append_assoc, arith, eqb-true, eq-eqb, inl, inr, max, refl, subst, sym, true≢false, ⊎_elim}
+use Rattle.std.specs.Prelude.{◌⊎◌, ◌≢◌, ◌||◌, Contains, nat_eq}
+use Rattle.std.proofs.lemmas.List.Elements.{Contains-append_right}
+use Rattle.wb_names.specs.History.{IsHistory}
+use Rattle.wb_names.specs.Values.{DrawopValue, NameValue}
+use Rattle.wb_names.proofs.Listings.{Contains-cases, Contains-from_filter, Contains-here, Contains-none}
+use Rattle.wb_codec.specs.declared.datagram.Datagram.{Datagram}
+use Rattle.wb_codec.specs.declared.datagram.Datagram.TheVariants.{Draw, Request}
+use Rattle.wb_recovery.specs.declared.timers.Timers.{Timers}
+use Rattle.wb_recovery.specs.declared.tuning.Tuning.{Tuning}
+use Rattle.wb_host.specs.Keeper.{KeeperCall, Arrive, GiveUp, GoOn, Hear, delay_to, holds, is_own, moment_at}
+use Rattle.wb_host.specs.Ticks.{sent_by_tick, stopped_after}
+use Rattle.wb_host.proofs.KeptCalls.{holds_from}
+use Rattle.wb_progress.specs.InTime as keepers
+use Rattle.wb_progress.specs.Bounds.{IsUnder}
+use Rattle.wb_progress.specs.Keepers.{AreWithin, constants_at}
+use Rattle.wb_progress.specs.Repairs.{timers_at}
+use Rattle.wb_progress.specs.Turns.{Accepts, AreTurns, Desk, IsHeardAt, IsQuietBut, IsTurn, KeepTimeBut, Places, Terms, Turn, longest, settled_by}
+use Rattle.wb_progress.specs.Turns as turning
+use Rattle.wb_progress.proofs.Answering.{request_is_answered_other}
+use Rattle.wb_progress.proofs.Giving.{held_as}
+use Rattle.wb_progress.proofs.Leading.{timer_leads_other}
+use Rattle.wb_session.proofs.Holding.{HeldNone}
+use Rattle.wb_member.specs.Judged.{is_full}
+use Rattle.wb_member.specs.Opened.{Opened, accepted, heard, opened_with, present}
+use Rattle.wb_member.specs.Random.{word_of}
+use Rattle.wb_keeping.specs.Kept.{Line, Arrives, Hears, Says, Stops, Ticks}
+use Rattle.wb_keeping.specs.Performing.{after_line, sent_by_line}
+use Rattle.wb_kept_progress.specs.Timed.{AllHoldBehind, AreInOrder, ComesTo, IsAnswerable, IsTimely, Performed, RequestIsAnswered, Start, TimerLeads, WasSent, host_after, time_of, timers_after, until}
+use Rattle.wb_kept_progress.proofs.Lines.{IsOf, line_grows, line_of, same_member}
+use Rattle.wb_kept_progress.proofs.Lining.{by_line, by_part, desk_is, desk_of, order_is, over_join, time_is, turn_of, turns_join, turns_of, turns_over, until_is}
+use Rattle.wb_kept_progress.proofs.PerLine.{IsMade, asks, draws, is_made, line_did, line_moment, line_none}
+use Rattle.wb_kept_progress.proofs.Repairs.{taken_in}
+
+module _ (hosts : ℕ → Start) where
+  abbrev pub places : Places
+  places = record { me = λ i. (hosts i).number; constants = λ i. (hosts i).constants }
+
+  abbrev start : ℕ → Opened
+  start i = opened_with (hosts i).constants (hosts i).number (hosts i).cells (hosts i).seed
+
+  -- what each line keeps, and what the opening has, each host has
+  at_each : (P : ℕ → Opened → Type 0) → ((i : ℕ) → P i (start i)) → ((i : ℕ) (line : Line) (host : Opened) → P i host → P i (after_line line host)) → (trace : List Performed) (i : ℕ) → P i (host_after hosts trace i)
+  at_each P first one [] i = first i
+  at_each P first one (e ∷ older) i = from (nat_eq e.place i) (at_each P first one older i) where
+    from : (b : Bool) → P i (host_after hosts older i) → P i (cond b (after_line e.line (host_after hosts older i)) (host_after hosts older i))
+    from true rest = one i e.line (host_after hosts older i) rest
+    from false rest = rest
+
+  pub of_start : (trace : List Performed) (i : ℕ) → IsOf (start i) (host_after hosts trace i)
+  of_start = at_each (λ i host. IsOf (start i) host) (λ i. same_member (start i)) (λ i line host rest.
+      let o = line_of line host in record { number = o.number ∙ rest.number; cells = o.cells ∙ rest.cells; constants = o.constants ∙ rest.constants })
+
+  history : (trace : List Performed) (i : ℕ) → IsHistory (host_after hosts trace i).is.held
+  history = at_each (λ i host. IsHistory host.is.held) (λ i. λ j k d jk lt. absurd (omega arith)) (λ i line host rest. (line_grows line host).once rest)
+
+  none_held : (trace : List Performed) (i : ℕ) → HeldNone (host_after hosts trace i).is
+  none_held = at_each (λ i host. HeldNone host.is) (λ i. λ n h. refl) (λ i line host rest. line_none line host rest)
+
+  pub timers_here : (trace : List Performed) (i : ℕ) (n : NameValue) → turning.timers_there places (turns_of hosts trace) i n ≡ timers_after hosts trace i n
+  timers_here trace i n =
+      let h = host_after hosts trace i in
+      ap (λ (d : Desk). timers_at (hosts i).number (hosts i).constants d.calls n) (desk_is hosts trace i)
+      ∙ ap (λ (k : ℕ). timers_at k (hosts i).constants h.is.calls n) (sym (of_start trace i).number)
+      ∙ ap (λ (t : Tuning). timers_at h.is.number t h.is.calls n) (sym (of_start trace i).constants)
+
+  pub has_here : (trace : List Performed) (i : ℕ) (n : NameValue) → turning.has (turns_of hosts trace) i n ≡ holds (host_after hosts trace i).is.held n
+  has_here trace i n = ap (λ (d : Desk). holds d.held n) (desk_is hosts trace i)
+
+  -- what is held stays
+  held_on : (line : Line) (host : Opened) (n : NameValue) → holds host.is.held n ≡ true → holds (after_line line host).is.held n ≡ true
+  held_on line host n h = let d = held_as host.is.held n h in holds_from (after_line line host).is.held n d.0 ((line_grows line host).kept d.0 d.1) d.2
+
+  pub held_later : (middle part : List Performed) (i : ℕ) (n : NameValue) → holds (host_after hosts part i).is.held n ≡ true → holds (host_after hosts (middle ++ part) i).is.held n ≡ true
+  held_later [] part i n h = h
+  held_later (e ∷ middle) part i n h = from (nat_eq e.place i) (held_later middle part i n h) where
+    from : (b : Bool) → holds (host_after hosts (middle ++ part) i).is.held n ≡ true → holds (cond b (after_line e.line (host_after hosts (middle ++ part) i)) (host_after hosts (middle ++ part) i)).is.held n ≡ true
+    from true rest = held_on e.line (host_after hosts (middle ++ part) i) n rest
+    from false rest = rest
+
+  pub here_after : (older : List Performed) (e : Performed) → host_after hosts (e ∷ older) e.place ≡ after_line e.line (host_after hosts older e.place)
+  here_after older e = ap (λ (b : Bool). cond b (after_line e.line (host_after hosts older e.place)) (host_after hosts older e.place)) (eq-eqb e.place e.place refl)
+
+  -- the call of a turn is that of its line
+  pub made : (older : List Performed) (e : Performed) (call : KeeperCall) → Accepts (turns_of hosts older) (turn_of hosts older e) call → IsMade (host_after hosts older e.place) e.line call
+  made older e call accepts = is_made e.line (host_after hosts older e.place) call (accepts ∙ ap (λ (d : Desk). call ∷ d.calls) (desk_is hosts older e.place))
+
+-- ---- parts of a trace
+
+before_end : (newer older : List Performed) → AreInOrder (newer ++ older) → time_of older ≤ time_of (newer ++ older)
+before_end [] older order = omega arith
+before_end (e ∷ newer) older order = let rest = before_end newer older order.1 in let o = order.0 in omega (arith, rest, o)
+
+order_of : (newer older : List Performed) → AreInOrder (newer ++ older) → AreInOrder older
+order_of [] older order = order
+order_of (e ∷ newer) older order = order_of newer older order.1
+
+tails : (a b : Performed) (x y : List Performed) → a ∷ x ≡ b ∷ y → x ≡ y
+tails a b x y same = cc
+
+-- a part that ends earlier than another is within it
+in_past : (newer later front base : List Performed) → newer ++ later ≡ front ++ base → AreInOrder (newer ++ later) → time_of base < time_of later → (middle : List Performed) × (later ≡ middle ++ base)
+in_past [] later front base same order lt = (front, same)
+in_past (e ∷ newer) later [] base same order lt =
+    let le : time_of later ≤ time_of (newer ++ later) = before_end newer later order.1 in
+    let o = order.0 in
+    let is : e.time ≡ time_of base = ap time_of same in
+    absurd (omega (arith, le, o, is, lt))
+in_past (e ∷ newer) later (y ∷ front) base same order lt = in_past newer later front base (tails e y (newer ++ later) (front ++ base) same) order.1 lt
+
+-- ---- a timely trace
+
+module _ (hosts : ℕ → Start) (terms : Terms) (trace : List Performed) (n : NameValue) (timely : IsTimely hosts terms trace n) where
+  abbrev at : Places
+  at = places hosts
+
+  abbrev all : List Turn
+  all = turns_of hosts trace
+
+  split_part : (front part : List Performed) (e : Performed) → trace ≡ front ++ e ∷ part → trace ≡ (front ++ e ∷ []) ++ part
+  split_part front part e split = split ∙ sym (append_assoc front (e ∷ []) part)
+
+  -- ---- its moment
+
+  clock : (front part : List Performed) (i : ℕ) → trace ≡ front ++ part → present (host_after hosts part i) ≤ time_of part + terms.offset i
+  clock front [] i split = omega arith
+  clock front (e ∷ older) i split = from (nat_eq e.place i) refl (clock (front ++ e ∷ []) older i (split_part front older e split)) where
+    order : AreInOrder (e ∷ older)
+    order = order_of front (e ∷ older) (subst AreInOrder split timely.order)
+
+    later : (m : ℕ) → m ≤ time_of older + terms.offset i → m ≤ e.time + terms.offset i
+    later m le = let o = order.0 in omega (arith, le, o)
+
+    from : (b : Bool) → nat_eq e.place i ≡ b → present (host_after hosts older i) ≤ time_of older + terms.offset i → present (cond b (after_line e.line (host_after hosts older i)) (host_after hosts older i)) ≤ e.time + terms.offset i
+    from false other rest = later (present (host_after hosts older i)) rest
+    from true same rest = ⊎_elim
+        (λ (s : present (after_line e.line (host_after hosts older i)) ≡ present (host_after hosts older i)). subst (λ (m : ℕ). m ≤ e.time + terms.offset i) (sym s) (later (present (host_after hosts older i)) rest))
+        (λ (t : (now : ℕ) × (e.line ≡ Ticks now) × (present (after_line e.line (host_after hosts older i)) ≡ now)).
+        let told = timely.times front older e t.0 split t.1 in
+        let here = ap (λ (k : ℕ). e.time + terms.offset k) (eqb-true e.place i same) in
+        subst (λ (m : ℕ). m ≤ e.time + terms.offset i) (sym (t.2 ∙ told ∙ here)) (itself (e.time + terms.offset i)))
+        (line_moment e.line (host_after hosts older i)) where
+          itself : (n : ℕ) → n ≤ n
+          itself n = omega arith
+
+  within : (front part : List Performed) (i : ℕ) → trace ≡ front ++ part → Contains terms.live i → AreWithin terms.far (longest terms) (hosts i).number (hosts i).constants (host_after hosts part i).is.calls
+  within front [] i split live = timely.waits i
+  within front (e ∷ older) i split live = from (nat_eq e.place i) refl (within (front ++ e ∷ []) older i part live) where
+    part : trace ≡ (front ++ e ∷ []) ++ older
+    part = split_part front older e split
+
+    h : Opened
+    h = host_after hosts older i
+
+    delays : (source : ℕ) → delay_to (hosts i).number h.is.calls source ≤ terms.far
+    delays source = subst (λ (k : ℕ). delay_to k h.is.calls source ≤ terms.far) (of_start hosts older i).number (timely.delays (front ++ e ∷ []) older i source part live)
+
+    under : nat_eq e.place i ≡ true → (call : KeeperCall) → (after_line e.line h).is.calls ≡ call ∷ h.is.calls → IsUnder (longest terms) (constants_at (hosts i).number (hosts i).constants (call ∷ h.is.calls))
+    under same call calls =
+        let next : host_after hosts (e ∷ older) i ≡ after_line e.line h = ap (λ (b : Bool). cond b (after_line e.line h) h) same in
+        subst (λ (cs : List KeeperCall). IsUnder (longest terms) (constants_at (hosts i).number (hosts i).constants cs)) (ap (λ (o : Opened). o.is.calls) next ∙ calls)
+        (subst (λ (k : ℕ). IsUnder (longest terms) (constants_at k (hosts i).constants (host_after hosts (e ∷ older) i).is.calls)) (of_start hosts (e ∷ older) i).number
+        (subst (λ (t : Tuning). IsUnder (longest terms) (constants_at (host_after hosts (e ∷ older) i).is.number t (host_after hosts (e ∷ older) i).is.calls)) (of_start hosts (e ∷ older) i).constants
+        (timely.tuned front (e ∷ older) i split live)))
+
+    order : AreInOrder (e ∷ older)
+    order = order_of front (e ∷ older) (subst AreInOrder split timely.order)
+
+    not_before : (now : ℕ) → now ≡ e.time + terms.offset i → present h ≤ now
+    not_before now is =
+        let c = clock (front ++ e ∷ []) older i part in
+        let o = order.0 in
+        omega (arith, is, c, o)
+
+    goes : e.place ≡ i → present h ≤ present (after_line e.line h)
+    goes here = ⊎_elim
+        (λ (s : present (after_line e.line h) ≡ present h). subst (λ (m : ℕ). present h ≤ m) (sym s) (itself (present h)))
+        (λ (t : (now : ℕ) × (e.line ≡ Ticks now) × (present (after_line e.line h) ≡ now)).
+        subst (λ (m : ℕ). present h ≤ m) (sym t.2) (not_before t.0 (timely.times front older e t.0 split t.1 ∙ ap (λ (k : ℕ). e.time + terms.offset k) here)))
+        (line_moment e.line h) where
+          itself : (n : ℕ) → n ≤ n
+          itself n = omega arith
+
+    from : (b : Bool) → nat_eq e.place i ≡ b → AreWithin terms.far (longest terms) (hosts i).number (hosts i).constants h.is.calls → AreWithin terms.far (longest terms) (hosts i).number (hosts i).constants (cond b (after_line e.line h) h).is.calls
+    from false other rest = rest
+    from true same rest = ⊎_elim
+        (λ (s : (after_line e.line h).is.calls ≡ h.is.calls). subst (AreWithin terms.far (longest terms) (hosts i).number (hosts i).constants) (sym s) rest)
+        (λ (c : (call : KeeperCall) × ((after_line e.line h).is.calls ≡ call ∷ h.is.calls) × IsMade h e.line call). subst (AreWithin terms.far (longest terms) (hosts i).number (hosts i).constants) (sym c.1) (subst (λ (m : ℕ). present h ≤ m) (ap moment_at c.1) (goes (eqb-true e.place i same)), delays, under same c.0 c.1, rest))
+        (line_did e.line h)
+
+  -- ---- one turn
+
+  module _ (front back : List Performed) (e : Performed) (split : trace ≡ front ++ e ∷ back) where
+    abbrev q : ℕ
+    q = e.place
+
+    abbrev h : Opened
+    h = host_after hosts back q
+
+    abbrev x : Turn
+    x = turn_of hosts back e
+
+    was : turning.desk_at (turns_of hosts back) q ≡ desk_of h
+    was = desk_is hosts back q
+
+    called : (x.desk.calls ≡ (turning.desk_at (turns_of hosts back) q).calls) ⊎ ((call : KeeperCall) × Accepts (turns_of hosts back) x call)
+    called = ⊎_elim
+        (λ (s : (after_line e.line h).is.calls ≡ h.is.calls). inl (s ∙ sym (ap (λ (d : Desk). d.calls) was)))
+        (λ (c : (call : KeeperCall) × ((after_line e.line h).is.calls ≡ call ∷ h.is.calls) × IsMade h e.line call). inr (c.0, c.1 ∙ ap (λ (d : Desk). c.0 ∷ d.calls) (sym was)))
+        (line_did e.line h)
+
+    stops : (now : ℕ) (words : List ℕ) (stopped : List NameValue) → Accepts (turns_of hosts back) x (GoOn now words stopped) → stopped ≡ stopped_after (hosts q).number (hosts q).constants (turning.desk_at (turns_of hosts back) q).calls (turning.desk_at (turns_of hosts back) q).held
+    stops now words stopped accepts =
+        let m = made hosts back e (GoOn now words stopped) accepts in
+        m.1
+        ∙ ap (λ (k : ℕ). stopped_after k h.is.constants h.is.calls h.is.held) (of_start hosts back q).number
+        ∙ ap (λ (t : Tuning). stopped_after (hosts q).number t h.is.calls h.is.held) (of_start hosts back q).constants
+        ∙ ap (λ (d : Desk). stopped_after (hosts q).number (hosts q).constants d.calls d.held) (sym was)
+
+    sends_due : (now : ℕ) (words : List ℕ) (stopped : List NameValue) → Accepts (turns_of hosts back) x (GoOn now words stopped)
+        → (v : Datagram) → Contains (sent_by_tick (hosts q).number (hosts q).constants (turning.desk_at (turns_of hosts back) q).calls (turning.desk_at (turns_of hosts back) q).held now) v → Contains x.sent v
+    sends_due now words stopped accepts v c =
+        let m = made hosts back e (GoOn now words stopped) accepts in
+        let same : sent_by_tick (hosts q).number (hosts q).constants (turning.desk_at (turns_of hosts back) q).calls (turning.desk_at (turns_of hosts back) q).held now ≡ sent_by_tick h.is.number h.is.constants h.is.calls h.is.held now =
+        ap (λ (d : Desk). sent_by_tick (hosts q).number (hosts q).constants d.calls d.held now) was
+        ∙ ap (λ (k : ℕ). sent_by_tick k (hosts q).constants h.is.calls h.is.held now) (sym (of_start hosts back q).number)
+        ∙ ap (λ (t : Tuning). sent_by_tick h.is.number t h.is.calls h.is.held now) (sym (of_start hosts back q).constants) in
+        subst (λ (line : Line). Contains (sent_by_line line h) v) (sym m.0) (subst (λ (ds : List Datagram). Contains ds v) same c)
+
+    is_turn : IsTurn at terms (turns_of hosts back) x
+    is_turn = record {
+      called = called;
+      kept = λ m held. held_on hosts e.line h m (sym (has_here hosts back q m) ∙ held);
+      heard = λ now asker word m held accepts.
+          let made_it = made hosts back e (Hear now (Request asker m) word held) accepts in
+          (made_it.1 ∙ timely.behind front back e (Request asker m) split made_it.0, made_it.2 ∙ sym (has_here hosts back q m));
+      stops = stops;
+      sends = sends_due;
+    }
+
+    module _ (late : terms.quiet < e.time) where
+      held : (d : DrawopValue) → Contains x.sent (Draw d) → turning.has (turns_of hosts back) q d.name ≡ true
+      held d c = has_here hosts back q d.name ∙ ⊎_elim
+          (λ (k : Contains h.is.held d). holds_from h.is.held d.name d k refl)
+          (λ (s : (y : DrawopValue) × (e.line ≡ Says (Draw y))). absurd ((timely.quiet front back e split late).drawn s.0 s.1))
+          (draws e.line h d c)
+
+      asked : (asker : ℕ) (m : NameValue) → Contains x.sent (Request asker m) → (asker ≡ (hosts q).number) × (turning.has (turns_of hosts back) q m ≡ false)
+      asked asker m c = ⊎_elim
+          (λ (g : (asker ≡ h.is.number) × (holds h.is.held m ≡ false)). (g.0 ∙ (of_start hosts back q).number, has_here hosts back q m ∙ g.1))
+          (λ (s : (a : ℕ) × (k : NameValue) × (e.line ≡ Says (Request a k))). absurd ((timely.quiet front back e split late).said s.0 s.1 s.2))
+          (asks h (none_held hosts back q) asker m e.line c)
+
+      is_quiet : IsQuietBut (λ m. m ≢ n) at (turns_of hosts back) x
+      is_quiet = record {
+        goes_on = λ now m asked accepts same.
+            let made_it = made hosts back e (GiveUp now m asked) accepts in
+            (timely.quiet front back e split late).stopped (made_it.0 ∙ ap Stops same);
+        held = held;
+        asked = asked;
+      }
+
+      -- ---- what it sends comes
+
+      comes : (newest later : List Performed) (i : ℕ) (d : DrawopValue) → trace ≡ newest ++ later → Contains terms.live i → Contains x.sent (Draw d) → e.time + terms.delivery < time_of later → holds (host_after hosts later i).is.held d.name ≡ true
+      comes newest later i d is_part live sent lt = from (nat_eq q i) refl where
+        whole : AreInOrder (newest ++ later)
+        whole = subst AreInOrder is_part timely.order
+
+        end_is : time_of later ≤ time_of trace
+        end_is = subst (λ (t : List Performed). time_of later ≤ time_of t) (sym is_part) (before_end newest later whole)
+
+        own : q ≡ i → holds (host_after hosts later i).is.held d.name ≡ true
+        own same =
+            let p = in_past newest later front (e ∷ back) (sym is_part ∙ split) whole (omega (arith, lt)) in
+            let there : holds (host_after hosts back q).is.held d.name ≡ true = sym (has_here hosts back q d.name) ∙ held d sent in
+            let here : holds (host_after hosts (e ∷ back) q).is.held d.name ≡ true = held_later hosts (e ∷ []) back q d.name there in
+            subst (λ (t : List Performed). holds (host_after hosts t i).is.held d.name ≡ true) (sym p.1) (held_later hosts p.0 (e ∷ back) i d.name (subst (λ (k : ℕ). holds (host_after hosts (e ∷ back) k).is.held d.name ≡ true) same here))
+
+        came : ComesTo front i (e.time + terms.delivery) (Arrives d) → holds (host_after hosts later i).is.held d.name ≡ true
+        came c =
+            let base : List Performed = c.between ++ e ∷ back in
+            let there : trace ≡ c.later ++ c.arrival ∷ base = split ∙ ap (λ (t : List Performed). t ++ e ∷ back) c.split ∙ append_assoc c.later (c.arrival ∷ c.between) (e ∷ back) in
+            let order = order_of c.later (c.arrival ∷ base) (subst AreInOrder there timely.order) in
+            let b = before_end c.between (e ∷ back) order.1 in
+            let o = order.0 in
+            let soon = c.soon in
+            let g = host_after hosts base c.arrival.place in
+            let room = timely.room c.later base c.arrival d there (omega (arith, late, b, o)) c.is in
+            let has : holds (after_line (Arrives d) g).is.held d.name ≡ true = arrives g d room in
+            let here : holds (host_after hosts (c.arrival ∷ base) c.arrival.place).is.held d.name ≡ true =
+            ap (λ (k : Opened). holds k.is.held d.name) (here_after hosts base c.arrival) ∙ ap (λ (line : Line). holds (after_line line g).is.held d.name) c.is ∙ has in
+            let p = in_past newest later c.later (c.arrival ∷ base) (sym is_part ∙ there) whole (omega (arith, soon, lt)) in
+            subst (λ (t : List Performed). holds (host_after hosts t i).is.held d.name ≡ true) (sym p.1) (held_later hosts p.0 (c.arrival ∷ base) i d.name (subst (λ (k : ℕ). holds (host_after hosts (c.arrival ∷ base) k).is.held d.name ≡ true) c.place here)) where
+              arrives : (g : Opened) (d : DrawopValue) → (holds g.is.held d.name ≡ true) ⊎ (is_full g ≡ false) → holds (after_line (Arrives d) g).is.held d.name ≡ true
+              arrives g d room = by (holds g.is.held d.name) refl room where
+                by : (b : Bool) → holds g.is.held d.name ≡ b → (holds g.is.held d.name ≡ true) ⊎ (is_full g ≡ false) → holds (after_line (Arrives d) g).is.held d.name ≡ true
+                by true k r = held_on hosts (Arrives d) g d.name k
+                by false k (inl r) = absurd (true≢false (sym r ∙ k))
+                by false k (inr r) = holds_from (after_line (Arrives d) g).is.held d.name d (subst (λ (held : List DrawopValue). Contains held d) (sym (taken_in g d k r)) (last g.is.held)) refl where
+                  last : (held : List DrawopValue) → Contains (held ++ d ∷ []) d
+                  last held = Contains-append_right held (d ∷ []) d (Contains-here d [])
+
+        from : (b : Bool) → nat_eq q i ≡ b → holds (host_after hosts later i).is.held d.name ≡ true
+        from true same = own (eqb-true q i same)
+        from false other = came (timely.drawops front back e i d split live (λ same. true≢false (sym (eq-eqb q i same) ∙ other)) late sent (let k = end_is in omega (arith, lt, k)))
+
+      is_heard : (asker : ℕ) (m : NameValue) (j : ℕ) → ComesTo front j (e.time + terms.delivery) (Hears (Request asker m)) → IsHeardAt (turns_over hosts front (e ∷ back)) x (turns_of hosts back) j terms.delivery asker m
+      is_heard asker m j c =
+          let base : List Performed = c.between ++ e ∷ back in
+          let g = host_after hosts base c.arrival.place in
+          let call = Hear (present g) (Request asker m) (word_of g.random) (holds g.is.held m) in
+          let takes : (after_line c.arrival.line g).is.calls ≡ call ∷ g.is.calls = ap (λ (line : Line). (after_line line g).is.calls) c.is ∙ hears_it g asker m in
+          let accepts : Accepts (turns_of hosts base) (turn_of hosts base c.arrival) call = takes ∙ ap (λ (d : Desk). call ∷ d.calls) (sym (desk_is hosts base c.arrival.place)) in
+          record {
+            later = turns_over hosts c.later (c.arrival ∷ base);
+            arrival = turn_of hosts base c.arrival;
+            between = turns_over hosts c.between (e ∷ back);
+            split = ap (λ (t : List Performed). turns_over hosts t (e ∷ back)) c.split ∙ over_join hosts c.later (c.arrival ∷ c.between) (e ∷ back);
+            place = c.place;
+            soon = c.soon;
+            now = present g;
+            word = word_of g.random;
+            held = holds g.is.held m;
+            heard = subst (λ (t : List Turn). Accepts t (turn_of hosts base c.arrival) call) (turns_join hosts c.between (e ∷ back)) accepts;
+          } where
+            hears_it : (g : Opened) (asker : ℕ) (m : NameValue) → (after_line (Hears (Request asker m)) g).is.calls ≡ Hear (present g) (Request asker m) (word_of g.random) (holds g.is.held m) ∷ g.is.calls
+            hears_it g asker m = ap (λ (b : Bool). (cond b (heard (Request asker m) g) g).is.calls) (room (is_own g.is.number (Request asker m))) where
+              room : (b : Bool) → (b || true) ≡ true
+              room true = refl
+              room false = refl
+
+    -- ---- what comes was sent
+
+    module _ (late : settled_by terms < e.time) where
+      was_sent : (v : Datagram) → WasSent hosts back e.time terms.delivery v → turning.WasSent (x ∷ turns_of hosts back) e.time terms.delivery v
+      was_sent v p = record {
+        newer = x ∷ turns_over hosts p.newer (p.e ∷ p.before);
+        e = turn_of hosts p.before p.e;
+        older = turns_of hosts p.before;
+        split = ap (λ (t : List Turn). x ∷ t) (ap (turns_of hosts) p.split ∙ turns_join hosts p.newer (p.e ∷ p.before));
+        soon = p.soon;
+        sent = p.sent;
+      }
+
+      request_sent : (now asker word : ℕ) (held : Bool) (m : NameValue) → Accepts (turns_of hosts back) x (Hear now (Request asker m) word held) → turning.WasSent (x ∷ turns_of hosts back) e.time terms.delivery (Request asker m)
+      request_sent now asker word held m accepts = was_sent (Request asker m) (timely.fresh_requests front back e asker m split late (made hosts back e (Hear now (Request asker m) word held) accepts).0)
+
+      drawop_sent : (now : ℕ) (names : List NameValue) (m : NameValue) → Accepts (turns_of hosts back) x (Arrive now names) → Contains names m → (d : DrawopValue) × (d.name ≡ m) × turning.WasSent (x ∷ turns_of hosts back) e.time terms.delivery (Draw d)
+      drawop_sent now names m accepts c =
+          let made_it = made hosts back e (Arrive now names) accepts in
+          let d : DrawopValue = made_it.0 in
+          let all_names = Contains-from_filter (holds (accepted d h).is.held) (d.name ∷ []) m (subst (λ (l : List NameValue). Contains l m) made_it.3 c) in
+          let named : d.name ≡ m = ⊎_elim (λ (same : d.name ≡ m). same) (λ (none : Contains [] m). absurd (Contains-none m none)) (Contains-cases d.name m [] all_names.0) in (
+            d,
+            named,
+            ⊎_elim
+                (λ (is : e.line ≡ Arrives d). was_sent (Draw d) (timely.fresh_drawops front back e d split late is))
+                (λ (is : e.line ≡ Says (Draw d)). absurd ((timely.quiet front back e split (omega (arith, late))).drawn d is))
+                made_it.1,
+          )
+
+  -- ---- all turns
+
+  time_of_lines : (part : List Performed) (t : ℕ) → t < turning.time_of (turns_of hosts part) → t < time_of part
+  time_of_lines part t lt = subst (λ (k : ℕ). t < k) (time_is hosts part) lt
+
+  are : AreTurns at terms all
+  are = record {
+    apart = λ i j live_i live_j same. timely.distinct i j same;
+    turn = λ newer older x same live. by_line hosts trace (λ newer x older. IsTurn at terms older x) (λ front back e split. is_turn front back e split) newer older x same;
+    within = λ newer older i same live. by_part hosts trace (λ newer older. AreWithin terms.far (longest terms) (at.me i) (at.constants i) (turning.desk_at older i).calls) (λ front back split. subst (λ (d : Desk). AreWithin terms.far (longest terms) (at.me i) (at.constants i) d.calls) (sym (desk_is hosts back i)) (within front back i split live)) newer older same;
+    clock = λ newer older i same live. by_part hosts trace (λ newer older. moment_at (turning.desk_at older i).calls ≤ turning.time_of older + terms.offset i)
+        (λ front back split. subst (λ (k : ℕ). moment_at (turning.desk_at (turns_of hosts back) i).calls ≤ k + terms.offset i) (sym (time_is hosts back)) (subst (λ (d : Desk). moment_at d.calls ≤ time_of back + terms.offset i) (sym (desk_is hosts back i)) (clock front back i split))) newer older same;
+    history = λ newer older i same live. by_part hosts trace (λ newer older. IsHistory (turning.desk_at older i).held) (λ front back split. subst (λ (d : Desk). IsHistory d.held) (sym (desk_is hosts back i)) (history hosts back i)) newer older same;
+    lacking = λ newer older i m same live. by_part hosts trace (λ newer older. turning.has older i m ≡ true → (turning.timers_there at older i m).ask ≡ None)
+        (λ front back split held. ap (λ (s : Timers). s.ask) (timers_here hosts back i m) ∙ none_held hosts back i m (sym (has_here hosts back i m) ∙ held)) newer older same;
+  }
+
+  keep_time : KeepTimeBut (λ m. m ≢ n) at terms all
+  keep_time = record {
+    order = order_is hosts trace timely.order;
+    reported = timely.reported;
+    are = are;
+    alone = λ newer older x same. by_line hosts trace (λ newer x older. terms.quiet < x.time → Contains terms.live x.place) timely.alone newer older x same;
+    quiet = λ newer older x same. by_line hosts trace (λ newer x older. terms.quiet < x.time → IsQuietBut (λ m. m ≢ n) at older x) (λ front back e split late. is_quiet front back e split late) newer older x same;
+    delivered = record {
+      drawops = λ newer older x d same. by_line hosts trace (λ newer x older. terms.quiet < x.time → Contains x.sent (Draw d) → turning.AllHoldBehind terms all (x.time + terms.delivery) d.name)
+          (λ front back e split late sent. λ newest later i part lt live.
+          by_part hosts trace (λ newest later. e.time + terms.delivery < turning.time_of later → turning.has later i d.name ≡ true)
+          (λ newest later is lt. has_here hosts later i d.name ∙ comes front back e split late newest later i d is live sent (time_of_lines later (e.time + terms.delivery) lt)) newest later part lt) newer older x same;
+      requests = λ newer older x asker m j same. by_line hosts trace
+          (λ newer x older. terms.quiet < x.time → Contains x.sent (Request asker m) → Contains terms.live j → x.place ≢ j → x.time + terms.delivery < turning.time_of all → IsHeardAt newer x older j terms.delivery asker m)
+          (λ front back e split late sent live other soon. is_heard front back e split late asker m j (timely.requests front back e j asker m split live other late sent (time_of_lines trace (e.time + terms.delivery) soon))) newer older x same;
+    };
+    fresh = record {
+      drawops = λ newer older x now names m same late accepts c.
+          by_line hosts trace (λ newer x older. settled_by terms < x.time → Accepts older x (Arrive now names) → (d : DrawopValue) × (d.name ≡ m) × turning.WasSent (x ∷ older) x.time terms.delivery (Draw d))
+          (λ front back e split late accepts. drawop_sent front back e split late now names m accepts c) newer older x same late accepts;
+      requests = λ newer older x now asker word held m same late accepts.
+          by_line hosts trace (λ newer x older. settled_by terms < x.time → Accepts older x (Hear now (Request asker m) word held) → turning.WasSent (x ∷ older) x.time terms.delivery (Request asker m))
+          (λ front back e split late accepts. request_sent front back e split late now asker word held m accepts) newer older x same late accepts;
+    };
+    soon = λ newer older x i m same live. by_line hosts trace (λ newer x older. turning.AreNotOverdue (turning.timers_there at older i m) (x.time + terms.offset i) terms.late)
+        (λ front back e split. let soon = timely.soon front back e i m split live in subst (λ (s : Timers). turning.AreNotOverdue s (e.time + terms.offset i) terms.late) (sym (timers_here hosts back i m)) (record { ask = soon.ask; answer = soon.answer })) newer older x same;
+  }
+
+  -- ---- what follows
+
+  answerable : IsAnswerable hosts terms trace n → turning.IsAnswerable terms all n
+  answerable a = (a.0, a.1, ap (λ (t : List Turn). turning.has t a.0 n) (until_is hosts (settled_by terms) trace) ∙ has_here hosts (until (settled_by terms) trace) a.0 n ∙ a.2)
+
+  holding : (time : ℕ) → turning.AllHoldBehind terms all time n → AllHoldBehind hosts terms trace time n
+  holding time h newer later i split lt live =
+      sym (has_here hosts later i n) ∙ h (turns_over hosts newer later) (turns_of hosts later) i (ap (turns_of hosts) split ∙ turns_join hosts newer later) (subst (λ (k : ℕ). time < k) (sym (time_is hosts later)) lt) live
+
+  joined : (newer older : List Performed) → trace ≡ newer ++ older → all ≡ turns_over hosts newer older ++ turns_of hosts older
+  joined newer older split = ap (turns_of hosts) split ∙ turns_join hosts newer older
+
+pub request_is_answered : RequestIsAnswered
+request_is_answered hosts terms trace newer older e asker n timely split late later sent a =
+    holding hosts terms trace n timely _
+    (request_is_answered_other (places hosts) terms (turns_of hosts trace) (turns_over hosts newer (e ∷ older)) (turns_of hosts older) (turn_of hosts older e) asker n (keep_time hosts terms trace n timely) (joined hosts terms trace n timely newer (e ∷ older) split) late later sent (answerable hosts terms trace n timely a))
+
+pub timer_leads : TimerLeads
+timer_leads hosts terms trace newer older i n ask due timely split live from stands by a =
+    let time = time_is hosts older in
+    holding hosts terms trace n timely (max (time_of older) due + keepers.repairing terms)
+    (subst (λ (t : ℕ). turning.AllHoldBehind terms (turns_of hosts trace) (max t due + keepers.repairing terms) n) time
+    (timer_leads_other (places hosts) terms (turns_of hosts trace) (turns_over hosts newer older) (turns_of hosts older) i n ask due (keep_time hosts terms trace n timely) (joined hosts terms trace n timely newer older split) live
+    (subst (λ (t : ℕ). keepers.known_from terms ≤ t) (sym time) from) (ap (λ (s : Timers). s.ask) (timers_here hosts older i n) ∙ stands) by (answerable hosts terms trace n timely a)))

@@ -1,0 +1,183 @@
+-- Hosts in real time, by the lines of today that they perform. A host that keeps itself performs such lines, one after the other.
+use Rattle.std.specs.Prelude.{◌≡◌, ◌≢◌, ◌⊎◌, ℕ, ◌+◌, ◌*◌, ◌<◌, ◌≤◌, true, false, map, max, List, [], ◌∷◌, ◌++◌, Contains, IfSome, Some, nat_eq, nat_le, if◌then◌else◌}
+use Rattle.wb_names.specs.Values.{DrawopValue, NameValue}
+use Rattle.wb_codec.specs.declared.datagram.Datagram.{Datagram}
+use Rattle.wb_codec.specs.declared.datagram.Datagram.TheVariants.{Draw, Request}
+use Rattle.wb_recovery.specs.Events.{constants_after, timers_of}
+use Rattle.wb_recovery.specs.declared.timers.AnswerTimer.{AnswerTimer}
+use Rattle.wb_recovery.specs.declared.timers.AskTimer.{AskTimer}
+use Rattle.wb_recovery.specs.declared.timers.Timers.{Timers}
+use Rattle.wb_recovery.specs.declared.tuning.Tuning.{Tuning}
+use Rattle.wb_progress.specs.InTime.{answering_by, known_from, repairing}
+use Rattle.wb_progress.specs.Bounds.{IsUnder}
+use Rattle.wb_progress.specs.Turns.{Terms, longest, settled_by}
+use Rattle.wb_member.specs.Judged.{delay, holds, is_full}
+use Rattle.wb_member.specs.Opened.{Opened, events, opened_with, present}
+use Rattle.wb_keeping.specs.Kept.{Line, Arrives, Hears, Says, Stops, Ticks}
+use Rattle.wb_keeping.specs.Laws.{KeptLine, Came, Ticked, Added, Tuned, doing_of}
+use Rattle.wb_keeping.specs.Performing.{after_line, sees, sent_by_line}
+use Rattle.wb_kept_progress.specs.Sessions.{LineAt, Opening, kept_at}
+
+-- ---- a trace
+
+-- the host at a place performs a line at a time, in microseconds
+pub record Performed : Type 0 where
+  pub time : ℕ
+  pub place : ℕ
+  pub line : Line
+
+-- how the host at a place is opened
+pub record Start : Type 0 where
+  pub constants : Tuning
+  pub number : ℕ
+  pub cells : ℕ
+  pub seed : ℕ
+
+-- the host at a place after lines, of which the newest is the first
+abbrev pub host_after : (ℕ → Start) → List Performed → ℕ → Opened
+host_after hosts [] i = opened_with (hosts i).constants (hosts i).number (hosts i).cells (hosts i).seed
+host_after hosts (e ∷ older) i = if nat_eq e.place i then after_line e.line (host_after hosts older i) else host_after hosts older i
+
+abbrev pub timers_after : (ℕ → Start) → List Performed → ℕ → NameValue → Timers
+timers_after hosts trace i n = let host = host_after hosts trace i in timers_of host.is.constants (events host) n
+
+-- what a line sends that comes behind the older ones
+abbrev pub sends : (ℕ → Start) → List Performed → Performed → List Datagram
+sends hosts older e = sent_by_line e.line (host_after hosts older e.place)
+
+-- the time of the newest line, at first 0; times do not go back; the part of a trace up to a time
+abbrev pub time_of : List Performed → ℕ
+time_of [] = 0
+time_of (e ∷ older) = e.time
+
+abbrev pub AreInOrder : List Performed → Type 0
+AreInOrder [] = Unit {0}
+AreInOrder (e ∷ older) = (time_of older ≤ e.time) × AreInOrder older
+
+abbrev pub until : ℕ → List Performed → List Performed
+until s [] = []
+until s (e ∷ older) = if nat_le e.time s then e ∷ older else until s older
+
+-- ---- what drivers and the network keep to, of one name
+
+-- from `quiet` on nothing is drawn, no request is said, and the name is not given up
+pub record IsQuiet (n : NameValue) (line : Line) : Type 0 where
+  pub drawn : (d : DrawopValue) → line ≢ Says (Draw d)
+  pub said : (asker : ℕ) (m : NameValue) → line ≢ Says (Request asker m)
+  pub stopped : line ≢ Stops n
+
+-- no timer is overdue by more than this
+pub record AreNotOverdue (s : Timers) (now late : ℕ) : Type 0 where
+  pub ask : IfSome s.ask (λ (ask : AskTimer). now ≤ ask.due + late)
+  pub answer : IfSome s.answer (λ (answer : AnswerTimer). now ≤ answer.due + late)
+
+-- one of the newer lines is this one, at a place and soon enough
+pub record ComesTo (newer : List Performed) (j by : ℕ) (line : Line) : Type 0 where
+  pub later : List Performed
+  pub arrival : Performed
+  pub between : List Performed
+  pub split : newer ≡ later ++ arrival ∷ between
+  pub place : arrival.place ≡ j
+  pub soon : arrival.time ≤ by
+  pub is : arrival.line ≡ line
+
+-- a datagram was sent by one of these lines so shortly before a time
+pub record WasSent (hosts : ℕ → Start) (older : List Performed) (time within : ℕ) (v : Datagram) : Type 0 where
+  pub newer : List Performed
+  pub e : Performed
+  pub before : List Performed
+  pub split : older ≡ newer ++ e ∷ before
+  pub soon : time ≤ e.time + within
+  pub sent : Contains (sends hosts before e) v
+
+-- The terms are those of wb_progress, without pages: nothing is asked of looks and of reports.
+pub record IsTimely (hosts : ℕ → Start) (terms : Terms) (trace : List Performed) (n : NameValue) : Type 0 where
+  pub distinct : (i j : ℕ) → (hosts i).number ≡ (hosts j).number → i ≡ j
+  pub waits : (i : ℕ) → IsUnder (longest terms) (hosts i).constants
+  pub tuned : (newer older : List Performed) (i : ℕ) → trace ≡ newer ++ older → Contains terms.live i → let host = host_after hosts older i in IsUnder (longest terms) (constants_after host.is.constants (events host))
+  pub order : AreInOrder trace
+  pub reported : 1 ≤ terms.reporting
+  -- a tick makes the moment the time and the offset of its place, and a datagram is heard behind such a tick
+  pub times : (newer older : List Performed) (e : Performed) (now : ℕ) → trace ≡ newer ++ e ∷ older → e.line ≡ Ticks now → now ≡ e.time + terms.offset e.place
+  pub behind : (newer older : List Performed) (e : Performed) (v : Datagram) → trace ≡ newer ++ e ∷ older → e.line ≡ Hears v → present (host_after hosts older e.place) ≡ e.time + terms.offset e.place
+  -- a tick comes once a timer is due: until a line comes, no timer that stands at a live place is overdue
+  pub soon : (newer older : List Performed) (e : Performed) (i : ℕ) (m : NameValue) → trace ≡ newer ++ e ∷ older → Contains terms.live i → AreNotOverdue (timers_after hosts older i m) (e.time + terms.offset i) terms.late
+  pub delays : (newer older : List Performed) (i source : ℕ) → trace ≡ newer ++ older → Contains terms.live i → delay (host_after hosts older i) source ≤ terms.far
+  -- from `quiet` on
+  pub alone : (newer older : List Performed) (e : Performed) → trace ≡ newer ++ e ∷ older → terms.quiet < e.time → Contains terms.live e.place
+  pub quiet : (newer older : List Performed) (e : Performed) → trace ≡ newer ++ e ∷ older → terms.quiet < e.time → IsQuiet n e.line
+  pub room : (newer older : List Performed) (e : Performed) (d : DrawopValue) → trace ≡ newer ++ e ∷ older → terms.quiet < e.time → e.line ≡ Arrives d → (holds (host_after hosts older e.place) d.name ≡ true) ⊎ (is_full (host_after hosts older e.place) ≡ false)
+  -- what a live place sends comes to each other one in time, and what comes was sent shortly before
+  pub drawops : (newer older : List Performed) (e : Performed) (j : ℕ) (d : DrawopValue) → trace ≡ newer ++ e ∷ older → Contains terms.live j → e.place ≢ j → terms.quiet < e.time → Contains (sends hosts older e) (Draw d) → e.time + terms.delivery < time_of trace → ComesTo newer j (e.time + terms.delivery) (Arrives d)
+  pub requests : (newer older : List Performed) (e : Performed) (j asker : ℕ) (m : NameValue) → trace ≡ newer ++ e ∷ older → Contains terms.live j → e.place ≢ j → terms.quiet < e.time → Contains (sends hosts older e) (Request asker m) → e.time + terms.delivery < time_of trace → ComesTo newer j (e.time + terms.delivery) (Hears (Request asker m))
+  pub fresh_drawops : (newer older : List Performed) (e : Performed) (d : DrawopValue) → trace ≡ newer ++ e ∷ older → settled_by terms < e.time → e.line ≡ Arrives d → WasSent hosts older e.time terms.delivery (Draw d)
+  pub fresh_requests : (newer older : List Performed) (e : Performed) (asker : ℕ) (m : NameValue) → trace ≡ newer ++ e ∷ older → settled_by terms < e.time → e.line ≡ Hears (Request asker m) → WasSent hosts older e.time terms.delivery (Request asker m)
+
+-- ---- by when it comes
+
+-- a live place held the name once what was on its way had arrived
+abbrev pub IsAnswerable : (ℕ → Start) → Terms → List Performed → NameValue → Type 0
+IsAnswerable hosts terms trace n = (j : ℕ) × Contains terms.live j × (holds (host_after hosts (until (settled_by terms) trace) j) n ≡ true)
+
+-- each live place has it once the trace has gone on behind a time
+abbrev pub AllHoldBehind : (ℕ → Start) → Terms → List Performed → ℕ → NameValue → Type 0
+AllHoldBehind hosts terms trace time n = (newer later : List Performed) (i : ℕ) → trace ≡ newer ++ later → time < time_of later → Contains terms.live i → holds (host_after hosts later i) n ≡ true
+
+-- A request for what a live place held, once it is sent late enough, brings it to all, whatever other names are given up or asked for.
+abbrev pub RequestIsAnswered : Type 0
+RequestIsAnswered = (hosts : ℕ → Start) (terms : Terms) (trace newer older : List Performed) (e : Performed) (asker : ℕ) (n : NameValue) → IsTimely hosts terms trace n → trace ≡ newer ++ e ∷ older → settled_by terms < e.time → settled_by terms + 3 * terms.far ≤ e.time
+    → Contains (sends hosts older e) (Request asker n) → IsAnswerable hosts terms trace n → AllHoldBehind hosts terms trace (e.time + answering_by terms) n
+
+-- A request timer of the name that stands late enough leads to such a request.
+abbrev pub TimerLeads : Type 0
+TimerLeads = (hosts : ℕ → Start) (terms : Terms) (trace newer older : List Performed) (i : ℕ) (n : NameValue) (ask : AskTimer) (due : ℕ) → IsTimely hosts terms trace n → trace ≡ newer ++ older → Contains terms.live i → known_from terms ≤ time_of older
+    → (timers_after hosts older i n).ask ≡ Some ask → ask.due ≤ due + terms.offset i → IsAnswerable hosts terms trace n → AllHoldBehind hosts terms trace (max (time_of older) due + repairing terms) n
+
+-- ---- hosts that keep themselves
+
+-- a host is handed a line at a time
+pub record TimedLine : Type 0 where
+  pub time : ℕ
+  pub at : LineAt
+
+abbrev pub lines_of : List TimedLine → List LineAt
+lines_of trace = map (λ e. e.at) trace
+
+-- its lines, one after the other
+abbrev pub performed_then : ℕ → ℕ → List Line → List Performed → List Performed
+performed_then time place [] older = older
+performed_then time place (line ∷ lines) older = performed_then time place lines (record { time = time; place = place; line = line } ∷ older)
+
+-- what hosts that keep themselves perform: each the lines of its policy, at the time of the line that it was handed
+abbrev pub performed : (ℕ → Opening) → List TimedLine → List Performed
+performed hosts [] = []
+performed hosts (e ∷ older) = let k = kept_at hosts (lines_of older) e.at.place in performed_then e.time e.at.place (doing_of e.at.line (sees k.host) k.policy).lines (performed hosts older)
+
+abbrev pub start_of : Opening → Start
+start_of o = record { constants = o.constants; number = o.number; cells = o.cells; seed = o.seed }
+
+-- a line tells this moment, where it tells one
+abbrev pub IsTold : ℕ → KeptLine → Type 0
+IsTold moment (Came now v) = now ≡ moment
+IsTold moment (Ticked now) = now ≡ moment
+IsTold moment (Added now page time op) = now ≡ moment
+IsTold moment (Tuned constants) = Unit {0}
+
+-- So each of them, where it keeps itself from its opening on, is the host that performed these lines. Where each line tells the moment of its
+-- time, so does each tick that is performed, and each datagram is heard at such a moment.
+pub record IsPerformed (hosts : ℕ → Opening) (trace : List TimedLine) : Type 0 where
+  pub same : (i : ℕ) → host_after (λ j. start_of (hosts j)) (performed hosts trace) i ≡ (kept_at hosts (lines_of trace) i).host
+
+pub record KeepsMoments (hosts : ℕ → Opening) (terms : Terms) (trace : List TimedLine) : Type 0 where
+  pub times : (newer older : List Performed) (e : Performed) (now : ℕ) → performed hosts trace ≡ newer ++ e ∷ older → e.line ≡ Ticks now → now ≡ e.time + terms.offset e.place
+  pub behind : (newer older : List Performed) (e : Performed) (v : Datagram) → performed hosts trace ≡ newer ++ e ∷ older → e.line ≡ Hears v → present (host_after (λ j. start_of (hosts j)) older e.place) ≡ e.time + terms.offset e.place
+
+abbrev pub TellTimes : Terms → List TimedLine → Type 0
+TellTimes terms [] = Unit {0}
+TellTimes terms (e ∷ older) = IsTold (e.time + terms.offset e.at.place) e.at.line × TellTimes terms older
+
+abbrev pub KeptIsPerformed : Type 0
+KeptIsPerformed = (hosts : ℕ → Opening) (trace : List TimedLine) → ((i : ℕ) → (hosts i).moments ≡ []) → IsPerformed hosts trace
+
+abbrev pub KeptKeepsMoments : Type 0
+KeptKeepsMoments = (hosts : ℕ → Opening) (terms : Terms) (trace : List TimedLine) → TellTimes terms trace → KeepsMoments hosts terms trace
