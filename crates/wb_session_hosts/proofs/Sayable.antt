@@ -16,7 +16,7 @@ use Rattle.wb_codec.specs.declared.datagram.Datagram.{Datagram}
 use Rattle.wb_lines.specs.Handling.{whole, too_long}
 use Rattle.wb_lines.specs.Taking.{met}
 use Rattle.wb_lines.specs.Words.{words, words_after, is_digit, number_after}
-use Rattle.wb_commands.specs.Parsing.{number, tick, command, line_of_words, line_of as script_line_of}
+use Rattle.wb_commands.specs.Parsing.{number, tick, handed_in, command, line_of_words, line_of as script_line_of}
 use Rattle.wb_commands.specs.SentLines.{digits_of}
 use Rattle.wb_commands.specs.declared.command.Command.TheVariants as lines
 use Rattle.wb_words.specs.Reading.{is_kind}
