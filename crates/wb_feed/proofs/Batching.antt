@@ -1,5 +1,6 @@
 -- What the workers accepted and what was taken again, as one batch.
 use Rattle.std.proofs.Common.{◌≡◌, ℕ, ◌+◌, ◌≤◌, ◌<◌, List, [], ◌∷◌, ◌++◌, length, map, get_or, refl, ap, sym, subst, ◌∙◌, inl, inr, arith, append_assoc, Option}
+use Rattle.std.proofs.lemmas.List.{map-append}
 use Rattle.std.specs.Prelude.{All}
 use Rattle.std.proofs.lemmas.Bool.Decides.{nat_tests}
 use Rattle.std.proofs.lemmas.List.Elements.{All-nil, All-cons, filter-append}
@@ -21,7 +22,7 @@ use Rattle.wb_feed.specs.Channel.{once_below, IsComplete, AreRight, spots}
 use Rattle.wb_feed.specs.Marks.{unmarked, Marks, told_at, told_outcomes, AreOnce, filled, filed_outcomes, Files, Settles}
 use Rattle.wb_feed.specs.Served.{Spot, is_left, entries, accepted_at, offered, told_of, OffersRight, times_offered, Serves}
 use Rattle.wb_host.proofs.InOrder.{one_run}
-use Rattle.wb_feed.proofs.Log.{is_taken, chosen, taken_or_left, drawops-append, tally-append, left_many, AreAnswered, Gathers, gathers_none, gathers_run, runs_empty, runs_sound}
+use Rattle.wb_feed.proofs.Log.{is_taken, chosen, taken_or_left, tally-append, left_many, AreAnswered, Gathers, gathers_none, gathers_run, runs_empty, runs_sound}
 use Rattle.wb_feed.proofs.Members.{nothing, at_named}
 use Rattle.wb_feed.proofs.Numbers.{times}
 use Rattle.wb_feed.proofs.OneThread.{counted_as, same_counts}
@@ -145,7 +146,7 @@ module _ (n : ℕ) (p q r : PassValue) (g h : ChannelView) (told : List (ℕ × 
       let rest : IsPermutation (unmarked (filled filed) arrived) (retaken ++ lefts) = subst (λ l. IsPermutation l (retaken ++ lefts)) m.all (taken_or_left more) in
       let both : IsPermutation arrived ((taken ++ retaken) ++ lefts) = subst (λ l. IsPermutation arrived l) (sym (append_assoc taken retaken lefts))
       (IsPermutation-trans arrived (taken ++ unmarked (filled filed) arrived) (taken ++ (retaken ++ lefts)) moved (IsPermutation-append_right taken (unmarked (filled filed) arrived) (retaken ++ lefts) rest)) in
-      let in_all : drawops (chosen is_taken all) ≡ taken ++ retaken = ap drawops (filter-append (λ (e : Entry). is_taken e.1) log more) ∙ drawops-append (chosen is_taken log) (chosen is_taken more) in
+      let in_all : drawops (chosen is_taken all) ≡ taken ++ retaken = ap drawops (filter-append (λ (e : Entry). is_taken e.1) log more) ∙ map-append (λ (e : Entry). e.0) (chosen is_taken log) (chosen is_taken more) in
       let named : IsPermutation arrived (drawops (chosen is_taken all) ++ lefts) = subst (λ l. IsPermutation arrived (l ++ lefts)) (sym in_all) both in
       let full : 0 < length lefts → r.free ≡ 0 = λ some. runs_empty q r more m.runs (omega (arith, left_many more)) in
       let sq = work_sound n p q c.log c.gots sp c.did in

@@ -1,19 +1,19 @@
 -- What was told, filed by its place, and the drawops for which nothing is filed.
 use Rattle.std.proofs.Common.{◌≡◌, ◌≢◌, ℕ, zero, suc, ◌+◌, ◌≤◌, ◌<◌, ◌==◌, ◌||◌, Bool, true, false, cond, List, [], ◌∷◌, ◌++◌, length, take, get_or, set, refl, ap, ap₂, sym, subst, ◌∙◌, arith, length-take, length-set, get_or-set_same, get_or-set_other, Option, Some, None, ⊎_elim}
 use Rattle.std.proofs.lemmas.Bool.{cases_lt}
-use Rattle.std.proofs.lemmas.List.{append-nil, length-replicate, take_more}
-use Rattle.std.specs.Prelude.{replicate}
+use Rattle.std.proofs.lemmas.List.{append-nil, length-replicate, take_more, length-map, map-append, map-set}
+use Rattle.std.specs.Prelude.{replicate, is_some}
 use Rattle.wb_names.specs.Values.{DrawopValue}
 use Rattle.wb_names.specs.Arrivals.{Outcome, Counts, counts, counts_of}
 use Rattle.wb_host.specs.Desks.{PassValue}
 use Rattle.wb_host.specs.Replies.{outcome}
 use Rattle.wb_host.specs.declared.reply.Reply.{Reply}
-use Rattle.wb_feed.specs.Accepts.{LosesAtMost, Accepts}
+use Rattle.wb_feed.specs.Accepts.{LosesAtMost, Accepts, Entry}
 use Rattle.wb_feed.specs.declared.batch.Batch.{Batch}
 use Rattle.std.proofs.lemmas.Bool.{cases_eq}
 use Rattle.wb_feed.proofs.Numbers.{test_apart, test_same, times-append, has_false, once_past, once_under}
 use Rattle.wb_feed.proofs.OneThread.{plus, same_counts, counts_of-append}
-use Rattle.wb_feed.proofs.Log.{one_kind, runs_more, runs_leave, leaves_lose, drawops-append, tally-append}
+use Rattle.wb_feed.proofs.Log.{one_kind, runs_more, runs_leave, leaves_lose, tally-append}
 use Rattle.wb_feed.specs.Marks.{has, unmarked, Marks, CountsOne, told_at, told_outcomes, times, AreOnce, filled, filed_outcomes, Files, IsPut, Settles}
 
 has-append : (p : ℕ) (xs ys : List ℕ) → has p (xs ++ ys) ≡ (has p xs || has p ys)
@@ -30,27 +30,17 @@ unmarked-append (m ∷ ms) ns (d ∷ ds) es e =
 
 -- ---- what is filed at the first places
 
-filled-append : (xs ys : List (Option Reply)) → filled (xs ++ ys) ≡ filled xs ++ filled ys
-filled-append [] ys = refl
-filled-append (None ∷ xs) ys = ap (λ l. false ∷ l) (filled-append xs ys)
-filled-append (Some r ∷ xs) ys = ap (λ l. true ∷ l) (filled-append xs ys)
-
 filed-append : (xs ys : List (Option Reply)) → filed_outcomes (xs ++ ys) ≡ filed_outcomes xs ++ filed_outcomes ys
 filed-append [] ys = refl
 filed-append (None ∷ xs) ys = filed-append xs ys
 filed-append (Some r ∷ xs) ys = ap (λ l. outcome r ∷ l) (filed-append xs ys)
 
-pub length-filled : (fs : List (Option Reply)) → length (filled fs) ≡ length fs
-length-filled [] = refl
-length-filled (None ∷ fs) = ap suc (length-filled fs)
-length-filled (Some r ∷ fs) = ap suc (length-filled fs)
-
 -- the drawops for which nothing is filed, with one place more
 unfiled_more : (fs : List (Option Reply)) (ds : List DrawopValue) (i : ℕ) (z : DrawopValue) (f : Option Reply) → i < length ds → length fs ≡ length ds → get_or fs i None ≡ f
     → unmarked (filled (take (i + 1) fs)) (take (i + 1) ds) ≡ unmarked (filled (take i fs)) (take i ds) ++ unmarked (filled (f ∷ [])) (get_or ds i z ∷ [])
 unfiled_more fs ds i z f lt e is =
-    let same : length (filled (take i fs)) ≡ length (take i ds) = length-filled (take i fs) ∙ omega (arith, length-take i fs, length-take i ds, e) in
-    ap₂ unmarked (ap filled (take_more fs i None (omega (arith, lt, e)) ∙ ap (λ x. take i fs ++ x ∷ []) is) ∙ filled-append (take i fs) (f ∷ [])) (take_more ds i z lt)
+    let same : length (filled (take i fs)) ≡ length (take i ds) = length-map (take i fs) is_some ∙ omega (arith, length-take i fs, length-take i ds, e) in
+    ap₂ unmarked (ap filled (take_more fs i None (omega (arith, lt, e)) ∙ ap (λ x. take i fs ++ x ∷ []) is) ∙ map-append is_some (take i fs) (f ∷ [])) (take_more ds i z lt)
     ∙ unmarked-append (filled (take i fs)) (filled (f ∷ [])) (take i ds) (get_or ds i z ∷ []) same
 
 filed_more : (fs : List (Option Reply)) (i : ℕ) (f : Option Reply) → i < length fs → get_or fs i None ≡ f → counts_of (filed_outcomes (take (i + 1) fs)) ≡ plus (counts_of (filed_outcomes (take i fs))) (counts_of (filed_outcomes (f ∷ [])))
@@ -97,7 +87,7 @@ rest_more p q r fs ds i b c d lt e free is h one =
       settled = record {
         log = k.log ++ (d, o) ∷ [];
         runs = runs_more p q r k.log d o k.runs one.1;
-        all = drawops-append k.log ((d, o) ∷ []) ∙ (ap₂ (λ l x. l ++ x ∷ []) k.all is ∙ sym (unfiled_more fs ds i d None lt e free));
+        all = map-append (λ (e : Entry). e.0) k.log ((d, o) ∷ []) ∙ (ap₂ (λ l x. l ++ x ∷ []) k.all is ∙ sym (unfiled_more fs ds i d None lt e free));
         total = record {
           fresh = omega (arith, one.2.fresh, k.total.fresh, sum.fresh, ap (λ n. n.fresh) same);
           again = omega (arith, one.2.again, k.total.again, sum.again, ap (λ n. n.again) same);
@@ -144,17 +134,6 @@ marks_more ps q n ms small h =
           ∙ sym (has-append p ps (q ∷ []) ∙ (ap (λ b. has p ps || (b || false)) (test_apart q p (λ e. d (sym e))) ∙ or_false (has p ps))))) (cases_eq p q);
     }
 
-told-append : (xs ys : List (ℕ × Reply)) → (told_at (xs ++ ys) ≡ told_at xs ++ told_at ys) × (told_outcomes (xs ++ ys) ≡ told_outcomes xs ++ told_outcomes ys)
-told-append [] ys = (refl, refl)
-told-append (x ∷ xs) ys = let r = told-append xs ys in (ap (λ l. x.0 ∷ l) r.0, ap (λ l. outcome x.1 ∷ l) r.1)
-
-filled-set : (fs : List (Option Reply)) (q : ℕ) (r : Reply) → filled (set fs q (Some r)) ≡ set (filled fs) q true
-filled-set [] q r = refl
-filled-set (None ∷ fs) zero r = refl
-filled-set (Some s ∷ fs) zero r = refl
-filled-set (None ∷ fs) (suc q) r = ap (λ l. false ∷ l) (filled-set fs q r)
-filled-set (Some s ∷ fs) (suc q) r = ap (λ l. true ∷ l) (filled-set fs q r)
-
 not_filled : (fs : List (Option Reply)) (q : ℕ) → get_or (filled fs) q false ≡ false → get_or fs q None ≡ None
 not_filled [] q e = refl
 not_filled (None ∷ fs) zero e = refl
@@ -187,7 +166,7 @@ filed-set (Some s ∷ fs) (suc q) r lt e =
 
 files_front : (n : ℕ) (xs : List (ℕ × Reply)) (x : ℕ × Reply) → AreOnce n (told_at (xs ++ x ∷ [])) → AreOnce n (told_at xs) × (times x.0 (told_at xs) ≡ 0) × (x.0 < n)
 files_front n xs x once =
-    let split : (p : ℕ) → times p (told_at (xs ++ x ∷ [])) ≡ times p (told_at xs) + times p (x.0 ∷ []) = λ p. ap (times p) (told-append xs (x ∷ [])).0 ∙ times-append p (told_at xs) (x.0 ∷ []) in
+    let split : (p : ℕ) → times p (told_at (xs ++ x ∷ [])) ≡ times p (told_at xs) + times p (x.0 ∷ []) = λ p. ap (times p) (map-append (λ (t : ℕ × Reply). t.0) xs (x ∷ [])) ∙ times-append p (told_at xs) (x.0 ∷ []) in
     let here : times x.0 (x.0 ∷ []) ≡ 1 = ap (λ b. cond b 1 0 + 0) (test_same x.0 x.0 refl) in
     let low : x.0 < n = ⊎_elim (λ (h : x.0 < n). h) (λ (h : n ≤ x.0). absurd (omega (arith, once x.0, split x.0, here, once_past x.0 n h))) (cases_lt x.0 n) in
     (λ p. omega (arith, once p, split p), omega (arith, once x.0, split x.0, here, once_under x.0 n low), low)
@@ -218,7 +197,7 @@ module _ (told : List (ℕ × Reply)) (i n : ℕ) (fs : List (Option Reply)) (e 
   next = take_more told i e lt
 
   places : told_at (take (i + 1) told) ≡ told_at (take i told) ++ x.0 ∷ []
-  places = ap told_at next ∙ (told-append (take i told) (x ∷ [])).0
+  places = ap told_at next ∙ map-append (λ (t : ℕ × Reply). t.0) (take i told) (x ∷ [])
 
   -- a place past the end
   files_past : n ≤ x.0 → Files (take (i + 1) told) n fs
@@ -233,13 +212,13 @@ module _ (told : List (ℕ × Reply)) (i n : ℕ) (fs : List (Option Reply)) (e 
       let marked = marks_more (told_at (take i told)) x.0 n (filled fs) low h.marks in
       record {
         long = length-set fs x.0 (Some x.1) ∙ h.long;
-        marks = subst (λ (k : List ℕ × List Bool). Marks k.0 n k.1) (λ j. (sym places j, sym (filled-set fs x.0 x.1) j)) marked;
+        marks = subst (λ (k : List ℕ × List Bool). Marks k.0 n k.1) (λ j. (sym places j, sym (map-set is_some fs x.0 (Some x.1)) j)) marked;
         counted = λ once.
             let f = files_front n (take i told) x (subst (λ l. AreOnce n (told_at l)) next once) in
             let free : get_or fs x.0 None ≡ None = not_filled fs x.0 (h.marks.each x.0 low ∙ has_false x.0 (told_at (take i told)) f.1) in
             let rest = counts_of-append (told_outcomes (take i told)) (outcome x.1 ∷ []) in
             filed-set fs x.0 x.1 (omega (arith, low, h.long)) free ∙ (ap (plus (counts_of (outcome x.1 ∷ []))) (h.counted f.0)
-            ∙ (plus_turned (counts_of (outcome x.1 ∷ [])) (counts_of (told_outcomes (take i told))) ∙ (sym rest ∙ ap counts_of (sym (ap told_outcomes next ∙ (told-append (take i told) (x ∷ [])).1)))));
+            ∙ (plus_turned (counts_of (outcome x.1 ∷ [])) (counts_of (told_outcomes (take i told))) ∙ (sym rest ∙ ap counts_of (sym (ap told_outcomes next ∙ map-append (λ (t : ℕ × Reply). outcome t.1) (take i told) (x ∷ []))))));
       }
 
   pub files_more : (gs : List (Option Reply)) → IsPut fs x.0 x.1 gs → Files (take (i + 1) told) n gs

@@ -1,6 +1,6 @@
 -- What a log tells of the desks that made it.
 use Rattle.std.proofs.Common.{◌≡◌, ℕ, ◌+◌, ◌≤◌, ◌<◌, Bool, true, false, not, sum_by, filter, map, List, [], ◌∷◌, ◌++◌, length, refl, ap, sym, subst, ◌∙◌, arith, append_assoc, length-append}
-use Rattle.std.proofs.lemmas.List.{append-nil}
+use Rattle.std.proofs.lemmas.List.{append-nil, map-append}
 use Rattle.std.specs.List.Sorted.{IsPermutation}
 use Rattle.std.proofs.lemmas.List.Sums.{sum_by-cons}
 use Rattle.std.proofs.lemmas.List.Sorted.{IsPermutation-map, IsPermutation-filter_both, sum_by-IsPermutation}
@@ -85,10 +85,6 @@ one_kind (Known i) = omega arith
 one_kind (Clashed i) = omega arith
 one_kind Left = omega arith
 
-pub drawops-append : (xs ys : List Entry) → drawops (xs ++ ys) ≡ drawops xs ++ drawops ys
-drawops-append [] ys = refl
-drawops-append (x ∷ xs) ys = ap (λ l. x.0 ∷ l) (drawops-append xs ys)
-
 drawops-map : (es : List Entry) → map (λ e. e.0) es ≡ drawops es
 drawops-map [] = refl
 drawops-map (e ∷ es) = ap (λ l. e.0 ∷ l) (drawops-map es)
@@ -100,7 +96,7 @@ moved_drawops xs ys moved = subst (λ (l : List DrawopValue × List DrawopValue)
 pub taken_or_left : (log : List Entry) → IsPermutation (drawops log) (drawops (chosen is_taken log) ++ drawops (chosen is_left log))
 taken_or_left log =
     let parts = IsPermutation-filter_both (λ (e : Entry). is_taken e.1) (λ (e : Entry). is_left e.1) (λ e. back (is_left e.1)) log in
-    subst (λ l. IsPermutation (drawops log) l) (drawops-append (chosen is_taken log) (chosen is_left log)) (moved_drawops log (chosen is_taken log ++ chosen is_left log) parts)
+    subst (λ l. IsPermutation (drawops log) l) (map-append (λ (e : Entry). e.0) (chosen is_taken log) (chosen is_left log)) (moved_drawops log (chosen is_taken log ++ chosen is_left log) parts)
   where
     back : (b : Bool) → b ≡ not (not b)
     back true = refl

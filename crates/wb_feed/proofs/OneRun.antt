@@ -31,7 +31,6 @@ use Rattle.wb_feed.proofs.Numbers.{times, times-append, once_under, once_past}
 use Rattle.wb_feed.proofs.OneThread.{Lacks, takes_none, both_batches, counted_as, same_counts, plus}
 use Rattle.wb_feed.proofs.Placing.{workers_gather}
 use Rattle.wb_feed.proofs.Prefixes.{prefix_self, prefix_trans, prefix_length, prefix_get, prefix_take}
-use Rattle.wb_feed.proofs.Serving.{entries-append}
 use Rattle.wb_feed.proofs.WholeDesks.{whole_mine, stays_whole}
 
 -- ---- each reply is the answer at its point
@@ -180,7 +179,7 @@ workers_answer : {rows n : ℕ} {p q : PassValue} {log : List Spot} {gots : List
 workers_answer nobody = record { many = λ i. refl; taken = refl }
 workers_answer (worker {n = n} {desk = desk} {done = done} log others got gots split serves w b) =
     let mine = answered_by n desk (entries log) done serves.runs in
-    subst (λ es. Answers es (mine ++ answered_workers w)) (sym (entries-append log others)) (answers_append (entries log) (entries others) mine (answered_workers w) (desk_answers n desk (entries log) done serves.runs) (workers_answer w))
+    subst (λ es. Answers es (mine ++ answered_workers w)) (sym (map-append (λ (s : Spot). s.1) log others)) (answers_append (entries log) (entries others) mine (answered_workers w) (desk_answers n desk (entries log) done serves.runs) (workers_answer w))
 
 -- ---- the workers, and the batch
 

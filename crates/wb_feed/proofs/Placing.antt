@@ -23,7 +23,6 @@ use Rattle.wb_feed.specs.Channel.{spots, once_below, AreRight}
 use Rattle.wb_feed.specs.Served.{Spot, entries, accepted_at, takes, offered, OffersRight, times_offered, Serves}
 use Rattle.wb_feed.specs.Marks.{has, unmarked, Marks}
 use Rattle.wb_feed.specs.Workers.{Workers, nobody, worker}
-use Rattle.wb_feed.proofs.Serving.{entries-append, offered-append}
 use Rattle.wb_feed.proofs.Rules.{spots-append}
 
 abbrev free_places : ℕ → List Bool → List ℕ
@@ -128,7 +127,7 @@ pub workers_offer : {rows n : ℕ} {v w : PassValue} {log : List Spot} {gots : L
 workers_offer sent ds p r nobody = tt
 workers_offer sent ds p r (worker es others got gots _ s c _) =
     let h = right_front sent gots got r in
-    subst (λ l. OffersRight ds l) (sym (offered-append es others)) (offers_append ds (offered es) (offered others) (serves_offer sent ds p h.1 s) (workers_offer sent ds p h.0 c))
+    subst (λ l. OffersRight ds l) (sym (map-append (λ (s : Spot). (s.0, s.1.0)) es others)) (offers_append ds (offered es) (offered others) (serves_offer sent ds p h.1 s) (workers_offer sent ds p h.0 c))
 
 offered_append : (p : ℕ) (xs ys : List (ℕ × DrawopValue)) → times_offered p (xs ++ ys) ≡ times_offered p xs + times_offered p ys
 offered_append p [] ys = omega arith
@@ -153,12 +152,12 @@ serves_offered {gots = gots} p s = ap (times_offered p) s.offered ∙ takes_spot
 pub workers_offered : {rows n : ℕ} {v w : PassValue} {log : List Spot} {gots : List Message} → (p : ℕ) → Workers rows n v log gots w → times_offered p (offered log) ≡ spots p gots
 workers_offered p nobody = refl
 workers_offered p (worker es others got gots _ s c _) =
-    omega (arith, ap (times_offered p) (offered-append es others), offered_append p (offered es) (offered others), serves_offered p s, workers_offered p c, spots-append p gots got)
+    omega (arith, ap (times_offered p) (map-append (λ (s : Spot). (s.0, s.1.0)) es others), offered_append p (offered es) (offered others), serves_offered p s, workers_offered p c, spots-append p gots got)
 
 pub workers_gather : {rows n : ℕ} {v w : PassValue} {log : List Spot} {gots : List Message} → Workers rows n v log gots w → Gathers v (entries log) w
 workers_gather {v = v} nobody = gathers_none v
 workers_gather {rows = rows} (worker {p = v} {rest = x} {back = y} {q = w} {desk = u₀} {done = u} es others got gots p s c b) =
-    subst (λ l. Gathers v l w) (sym (entries-append es others)) (gathers_level v x y w u₀ u rows (entries es) (entries others) p s.runs (workers_gather c) b)
+    subst (λ l. Gathers v l w) (sym (map-append (λ (s : Spot). s.1) es others)) (gathers_level v x y w u₀ u rows (entries es) (entries others) p s.runs (workers_gather c) b)
 
 pub taken_at : (ds : List DrawopValue) (log : List Spot) → OffersRight ds (offered log) → drawops (chosen is_taken (entries log)) ≡ map (λ i. get_or ds i nothing) (accepted_at log)
 taken_at ds [] o = refl

@@ -1,6 +1,7 @@
 -- A worker's loop over the messages.
 use Rattle.std.proofs.Common.{◌≡◌, ℕ, ◌+◌, ◌≤◌, Bool, true, false, true≢false, List, [], ◌∷◌, ◌++◌, refl, ap, sym, subst, ◌∙◌, arith, append_assoc, ◌⊎◌, ⊎_elim}
-use Rattle.std.proofs.lemmas.List.{append-nil}
+use Rattle.std.proofs.lemmas.Grind.{flat_map-append}
+use Rattle.std.proofs.lemmas.List.{append-nil, map-append}
 use Rattle.wb_names.specs.Values.{DrawopValue}
 use Rattle.wb_names.specs.Arrivals.{Outcome}
 use Rattle.wb_host.specs.Desks.{PassValue}
@@ -19,18 +20,6 @@ pub takes-append : (xs ys : List Message) → takes (xs ++ ys) ≡ takes xs ++ t
 takes-append [] ys = refl
 takes-append (Take p d ∷ xs) ys = ap (λ l. (p, d) ∷ l) (takes-append xs ys)
 takes-append (End ∷ xs) ys = takes-append xs ys
-
-pub entries-append : (xs ys : List Spot) → entries (xs ++ ys) ≡ entries xs ++ entries ys
-entries-append [] ys = refl
-entries-append (x ∷ xs) ys = ap (λ l. x.1 ∷ l) (entries-append xs ys)
-
-pub offered-append : (xs ys : List Spot) → offered (xs ++ ys) ≡ offered xs ++ offered ys
-offered-append [] ys = refl
-offered-append (x ∷ xs) ys = ap (λ l. (x.0, x.1.0) ∷ l) (offered-append xs ys)
-
-pub told-append : (xs ys : List Spot) → told_of (xs ++ ys) ≡ told_of xs ++ told_of ys
-told-append [] ys = refl
-told-append (x ∷ xs) ys = let f = noted x.0 x.1.1 in ap (λ l. f ++ l) (told-append xs ys) ∙ sym (append_assoc f (told_of xs) (told_of ys))
 
 pub noted_is : (p : ℕ) (r : Reply) → noted p (outcome r) ≡ (p, r) ∷ []
 noted_is p (New i) = refl
@@ -95,7 +84,7 @@ serves_more v w u h i p d a b s n f k one =
     let t = s.took refl in
     let o = one.0 in
     let x : Spot = (p, (d, o)) in
-    let more : entries (t.log ++ x ∷ []) ≡ entries t.log ++ (d, o) ∷ [] = entries-append t.log (x ∷ []) in
+    let more : entries (t.log ++ x ∷ []) ≡ entries t.log ++ (d, o) ∷ [] = map-append (λ (s : Spot). s.1) t.log (x ∷ []) in
     record {
       kept = loses_trans 0 0 0 v w u (omega arith) s.kept k;
       one_part = one_part_next h i (Take p d) s.one_part n;
@@ -104,10 +93,10 @@ serves_more v w u h i p d a b s n f k one =
         log = t.log ++ x ∷ [];
         serves = record {
           runs = rw more (runs_more v w u (entries t.log) d o t.serves.runs one.1);
-          offered = offered-append t.log (x ∷ []) ∙ (ap (λ l. l ++ (p, d) ∷ []) t.serves.offered ∙ sym (ap takes g ∙ takes-append h.got (Take p d ∷ [])));
+          offered = map-append (λ (s : Spot). (s.0, s.1.0)) t.log (x ∷ []) ∙ (ap (λ l. l ++ (p, d) ∷ []) t.serves.offered ∙ sym (ap takes g ∙ takes-append h.got (Take p d ∷ [])));
           rises = rises_next h i (Take p d) n f s.rises;
         };
-        tells = one.2 ∙ (ap (λ l. l ++ noted p o) t.tells ∙ sym (told-append t.log (x ∷ []) ∙ ap (λ l. told_of t.log ++ l) (append-nil (noted p o))));
+        tells = one.2 ∙ (ap (λ l. l ++ noted p o) t.tells ∙ sym (flat_map-append (λ (s : Spot). noted s.0 s.1.1) t.log (x ∷ []) ∙ ap (λ l. told_of t.log ++ l) (append-nil (noted p o))));
       };
     }
 

@@ -1,5 +1,6 @@
 -- What several workers did, put together.
 use Rattle.std.proofs.Common.{◌≡◌, ℕ, suc, ◌+◌, ◌-◌, ◌*◌, ◌≤◌, ◌<◌, Bool, true, List, [], ◌++◌, length, Result, Ok, Err, ap, ap₂, sym, subst, ◌∙◌, arith, append_assoc, length-append, ⊎_elim}
+use Rattle.std.proofs.lemmas.Grind.{flat_map-append}
 use Rattle.std.specs.Prelude.{IfOk, OnOk}
 use Rattle.std.proofs.lemmas.List.{append-nil}
 use Rattle.crossbeam_channel.specs.Claims.{view}
@@ -14,14 +15,13 @@ use Rattle.wb_feed.specs.declared.worker.Done.{Done}
 use Rattle.wb_feed.specs.declared.workers.WorkFault.{WorkFault}
 use Rattle.wb_feed.specs.declared.workers.WorkFault.TheVariants.{Start, Memory}
 use Rattle.wb_feed.specs.Channel.{channel_view}
-use Rattle.wb_feed.specs.Served.{Served}
+use Rattle.wb_feed.specs.Served.{Served, Spot, noted}
 use Rattle.wb_feed.specs.Sent.{HasArrived}
 use Rattle.wb_feed.specs.Feeding.{IsWith, IsMerged, HasFed}
 use Rattle.wb_feed.specs.Workers.{IsBack, Workers, nobody, worker, Worked, most_lost, TakesBack, ComesBack}
 use Rattle.wb_feed.proofs.Log.{loses_more, loses_trans, split_keeps, split_mine, keeps_trans}
 use Rattle.wb_feed.proofs.Prefixes.{prefix_is, prefix_trans}
 use Rattle.wb_feed.proofs.Sending.{arrived_none}
-use Rattle.wb_feed.proofs.Serving.{told-append}
 
 -- ---- the rows
 
@@ -123,7 +123,7 @@ several_worked rows n m p rest back q desk d f f' g' g others (Ok all) next some
       did = subst (λ (x : ℕ). Workers rows x p (k.log ++ o.log) (o.gots ++ got) q) (sym next) (worker k.log o.log got o.gots s k.serves o.did t.1);
       got = ap (λ (z : ChannelView). z.got) merged.view ∙ (ap (λ l. l ++ got) (o.got ∙ ap (λ (z : ChannelView). z.got ++ o.gots) cut.view) ∙ append_assoc (view f.pass).got o.gots got);
       parts = omega (arith, ap (λ (z : ChannelView). z.parts) merged.view, o.parts, ap (λ (z : ChannelView). z.parts) cut.view, ap (λ (z : ChannelView). z.parts) served.one_part, some);
-      tells = t.4 ∙ (ap₂ (λ a b. a ++ b) k.tells o.tells ∙ sym (told-append k.log o.log));
+      tells = t.4 ∙ (ap₂ (λ a b. a ++ b) k.tells o.tells ∙ sym (flat_map-append (λ (s : Spot). noted s.0 s.1.1) k.log o.log));
     }
 
 pub one_kept : (p q : PassValue) (d : Done) (j : ChannelView) (fed r : Result Told WorkFault) → Served p d.desk j d.told.replies.items d.failed → ComesBack d fed q r → LosesAtMost 0 p q

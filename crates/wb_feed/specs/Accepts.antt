@@ -1,5 +1,5 @@
 -- What accepts leave of a desk: p is the desk before them, q the desk after them.
-use Rattle.std.specs.Prelude.{◌≡◌, ℕ, ◌+◌, ◌≤◌, List, [], ◌∷◌, length}
+use Rattle.std.specs.Prelude.{◌≡◌, ℕ, ◌+◌, ◌≤◌, List, [], ◌∷◌, length, map}
 use mathlib.Core.List.{IsPrefix}
 use Rattle.wb_names.specs.Values.{DrawopValue}
 use Rattle.wb_names.specs.Arrivals.{Outcome, Counts, counts_of}
@@ -28,12 +28,10 @@ abbrev pub Entry : Type 0
 Entry = DrawopValue × Outcome
 
 abbrev pub drawops : List Entry → List DrawopValue
-drawops [] = []
-drawops (e ∷ es) = e.0 ∷ drawops es
+drawops es = map (λ e. e.0) es
 
 abbrev pub outcomes : List Entry → List Outcome
-outcomes [] = []
-outcomes (e ∷ es) = e.1 ∷ outcomes es
+outcomes es = map (λ e. e.1) es
 
 -- how many entries have each outcome
 abbrev pub tally : List Entry → Counts

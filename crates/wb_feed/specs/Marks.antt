@@ -1,5 +1,5 @@
 -- Which of the drawops arrived were accepted, with which replies, and what is taken again of the others.
-use Rattle.std.specs.Prelude.{◌≡◌, ℕ, ◌+◌, ◌<◌, ◌≤◌, ◌==◌, ◌||◌, Bool, true, false, cond, List, [], ◌∷◌, length, set, slice_index_or, Option, Some, None}
+use Rattle.std.specs.Prelude.{◌≡◌, ℕ, ◌+◌, ◌<◌, ◌≤◌, ◌==◌, ◌||◌, Bool, true, false, cond, List, [], ◌∷◌, length, set, slice_index_or, Option, Some, None, map, is_some}
 use Rattle.wb_names.specs.Values.{DrawopValue}
 use Rattle.wb_names.specs.Arrivals.{Counts, counts_of, Outcome}
 use Rattle.wb_host.specs.Desks.{PassValue}
@@ -33,12 +33,10 @@ pub record CountsOne (b : Batch) (o : Outcome) (c : Batch) : Type 0 where
 
 -- where something was told, and with which outcomes
 abbrev pub told_at : List (ℕ × Reply) → List ℕ
-told_at [] = []
-told_at (t ∷ ts) = t.0 ∷ told_at ts
+told_at ts = map (λ t. t.0) ts
 
 abbrev pub told_outcomes : List (ℕ × Reply) → List Outcome
-told_outcomes [] = []
-told_outcomes (t ∷ ts) = outcome t.1 ∷ told_outcomes ts
+told_outcomes ts = map (λ t. outcome t.1) ts
 
 -- how often the number stands in the list
 abbrev pub times : ℕ → List ℕ → ℕ
@@ -51,9 +49,7 @@ AreOnce n places = (p : ℕ) → times p places ≤ once_below p n
 
 -- where a reply is filed, and the outcomes that are filed
 abbrev pub filled : List (Option Reply) → List Bool
-filled [] = []
-filled (None ∷ fs) = false ∷ filled fs
-filled (Some r ∷ fs) = true ∷ filled fs
+filled fs = map is_some fs
 
 abbrev pub filed_outcomes : List (Option Reply) → List Outcome
 filed_outcomes [] = []

@@ -1,5 +1,6 @@
 -- What a worker does with the messages that it receives.
-use Rattle.std.specs.Prelude.{◌≡◌, ℕ, ◌+◌, ◌≤◌, ◌==◌, Bool, true, false, cond, List, [], ◌∷◌, ◌++◌, slice_get, Some}
+use Rattle.std.specs.Prelude.{◌≡◌, ℕ, ◌+◌, ◌≤◌, ◌==◌, Bool, true, false, cond, List, [], ◌∷◌, ◌++◌, slice_get, Some, map}
+use Rattle.std.specs.List.{flat_map}
 use Rattle.wb_names.specs.Values.{DrawopValue}
 use Rattle.wb_names.specs.Arrivals.{Outcome, Fresh, Known, Clashed, Left}
 use Rattle.wb_host.specs.Desks.{PassValue}
@@ -22,8 +23,7 @@ abbrev pub Spot : Type 0
 Spot = ℕ × Entry
 
 abbrev pub entries : List Spot → List Entry
-entries [] = []
-entries (s ∷ ss) = s.1 ∷ entries ss
+entries ss = map (λ s. s.1) ss
 
 -- the positions that were accepted
 abbrev pub accepted_at : List Spot → List ℕ
@@ -37,8 +37,7 @@ takes (Take p d ∷ ms) = (p, d) ∷ takes ms
 takes (End ∷ ms) = takes ms
 
 abbrev pub offered : List Spot → List (ℕ × DrawopValue)
-offered [] = []
-offered (s ∷ ss) = (s.0, s.1.0) ∷ offered ss
+offered ss = map (λ s. (s.0, s.1.0)) ss
 
 -- each of these has at its position just what came there
 abbrev pub OffersRight : List DrawopValue → List (ℕ × DrawopValue) → Type 0
@@ -68,8 +67,7 @@ NotesOne p position d q before after = (o : Outcome) × Accepts p d o q × (afte
 
 -- the replies of a log, each with its position
 abbrev pub told_of : List Spot → List (ℕ × Reply)
-told_of [] = []
-told_of (s ∷ ss) = noted s.0 s.1.1 ++ told_of ss
+told_of ss = flat_map (λ s. noted s.0 s.1.1) ss
 
 -- from the desk p to the desk q, one after another, the arrivals that were received
 pub record Serves (p : PassValue) (log : List Spot) (got : List Message) (q : PassValue) : Type 0 where

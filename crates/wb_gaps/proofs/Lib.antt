@@ -1,6 +1,5 @@
 pub mod HeldNumbers
 pub mod GreatestNumbers
-pub mod LessPairs
 pub mod Reports
 pub mod MarkFaults
 pub mod JoinedMarks

@@ -30,19 +30,19 @@ abbrev Later : ℕ → ℕ → Gap → Type 0
 Later s n g = (s < g.source) ⊎ ((g.source ≡ s) × (n ≤ g.first))
 
 -- the number of the source lies in this range
-abbrev Within : Gap → ℕ → ℕ → Type 0
+abbrev pub Within : Gap → ℕ → ℕ → Type 0
 Within g s m = (g.source ≡ s) × (g.first ≤ m) × (m ≤ g.last)
 
 -- ranges that ascend, are filled and apart, and hold exactly the numbers that P holds of
-record Ranges (P : ℕ → ℕ → Type 0) (gaps : List Gap) : Type 0 where
-  filled : All (λ g. g.first ≤ g.last) gaps
-  apart : AllPairs IsApart gaps
-  covers : (s m : ℕ) → Covers gaps s m ↔ P s m
+pub record Ranges (P : ℕ → ℕ → Type 0) (gaps : List Gap) : Type 0 where
+  pub filled : All (λ g. g.first ≤ g.last) gaps
+  pub apart : AllPairs IsApart gaps
+  pub covers : (s m : ℕ) → Covers gaps s m ↔ P s m
 
-in_first : (g : Gap) (gaps : List Gap) (s m : ℕ) → Within g s m → Covers (g ∷ gaps) s m
+pub in_first : (g : Gap) (gaps : List Gap) (s m : ℕ) → Within g s m → Covers (g ∷ gaps) s m
 in_first g gaps s m w = (g, Contains-here g gaps, w.0, w.1, w.2)
 
-in_cases : (g : Gap) (gaps : List Gap) (s m : ℕ) → Covers (g ∷ gaps) s m → Within g s m ⊎ Covers gaps s m
+pub in_cases : (g : Gap) (gaps : List Gap) (s m : ℕ) → Covers (g ∷ gaps) s m → Within g s m ⊎ Covers gaps s m
 in_cases g gaps s m c = grind (arith, common_steps, Contains-cases)
 
 apart_head : (g : Gap) (gaps : List Gap) → AllPairs IsApart (g ∷ gaps) → All (IsApart g) gaps
@@ -165,29 +165,26 @@ here_cases held source n count s m h = grind (arith, common_steps, cases_lt)
 here_new : (held : ℕ → Bool) (source n count s m : ℕ) → held n ≡ false → (s ≡ source) × (m ≡ n) → Here held source n (suc count) s m
 here_new held source n count s m e h = let at = h.1 in (h.0, omega arith, omega arith, ap held h.1 ∙ e)
 
+among_held : (held : ℕ → Bool) (P : ℕ → ℕ → Type 0) (source count n s m : ℕ) → held n ≡ true → Among held source (n + 1) count P s m ↔ Among held source n (suc count) P s m
+among_held held P source count n s m e = grind (arith, common_steps, here_later, here_cases)
+
+among_new : (held : ℕ → Bool) (P : ℕ → ℕ → Type 0) (source count n s m : ℕ) → held n ≡ false → With source n (Among held source (n + 1) count P) s m ↔ Among held source n (suc count) P s m
+among_new held P source count n s m e = grind (arith, common_steps, here_later, here_cases, here_new)
+
 before_front : (held : ℕ → Bool) (P : ℕ → ℕ → Type 0) (source count n : ℕ) (later : List Gap) → Ranges P later → All (λ g. source < g.source) later → Front (Among held source n count P) source n (missing_before held source n count later)
 before_front held P source zero n later r behind = grind (arith, common_steps, same_ranges, All-weaker)
 before_front held P source (suc count) n later r behind = at (held n) refl (before_front held P source count (n + 1) later r behind) where
-  at : (b : Bool) → held n ≡ b → Front (Among held source (n + 1) count P) source (n + 1) (missing_before held source (n + 1) count later)
-      → Front (Among held source n (suc count) P) source n (cond b (missing_before held source (n + 1) count later) (onto_gaps source n (missing_before held source (n + 1) count later)))
+  gaps : List Gap
+  gaps = missing_before held source (n + 1) count later
+
+  at : (b : Bool) → held n ≡ b → Front (Among held source (n + 1) count P) source (n + 1) gaps → Front (Among held source n (suc count) P) source n (cond b gaps (onto_gaps source n gaps))
   at true e f = record {
-    ranges = same_ranges (Among held source (n + 1) count P) (Among held source n (suc count) P) (missing_before held source (n + 1) count later)
-        (λ s m a. ⊎_elim (λ (h : Here held source (n + 1) count s m). inl (here_later held source n count s m h)) (λ (p : P s m). inr p) a)
-        (λ s m a. ⊎_elim
-        (λ (h : Here held source n (suc count) s m). ⊎_elim (λ (new : (s ≡ source) × (m ≡ n)). absurd (true≢false (sym e ∙ ap held (sym new.1) ∙ h.3))) (λ (old : Here held source (n + 1) count s m). inl old) (here_cases held source n count s m h))
-        (λ (p : P s m). inr p) a)
-        f.ranges;
-    later = All-weaker (Later source (n + 1)) (Later source n) (later_less source n) (missing_before held source (n + 1) count later) f.later;
+    ranges = same_ranges _ _ gaps (λ s m. (among_held held P source count n s m e).0) (λ s m. (among_held held P source count n s m e).1) f.ranges;
+    later = All-weaker (Later source (n + 1)) (Later source n) (later_less source n) gaps f.later;
   }
   at false e f = record {
-    ranges = same_ranges (With source n (Among held source (n + 1) count P)) (Among held source n (suc count) P) (onto_gaps source n (missing_before held source (n + 1) count later))
-        (λ s m a. ⊎_elim (λ (new : (s ≡ source) × (m ≡ n)). inl (here_new held source n count s m e new))
-        (λ (b : Among held source (n + 1) count P s m). ⊎_elim (λ (h : Here held source (n + 1) count s m). inl (here_later held source n count s m h)) (λ (p : P s m). inr p) b) a)
-        (λ s m a. ⊎_elim
-        (λ (h : Here held source n (suc count) s m). ⊎_elim (λ (new : (s ≡ source) × (m ≡ n)). inl new) (λ (old : Here held source (n + 1) count s m). inr (inl old)) (here_cases held source n count s m h))
-        (λ (p : P s m). inr (inr p)) a)
-        (onto_ranges (Among held source (n + 1) count P) source n (missing_before held source (n + 1) count later) f.ranges f.later);
-    later = onto_later source n (missing_before held source (n + 1) count later) f.later;
+    ranges = same_ranges _ _ (onto_gaps source n gaps) (λ s m. (among_new held P source count n s m e).0) (λ s m. (among_new held P source count n s m e).1) (onto_ranges (Among held source (n + 1) count P) source n gaps f.ranges f.later);
+    later = onto_later source n gaps f.later;
   }
 
 -- ---- the sources

@@ -1,23 +1,19 @@
 -- What a list holds that has no gaps below its report.
-use Rattle.std.proofs.Common.{◌≡◌, ℕ, ◌<◌, Bool, true, false, List, [], ◌∷◌, refl, ap, ◌∙◌, sym, subst, arith, ◌⊎◌, inl, inr, ⊎_elim, eqb-true, eq-eqb, true≢false}
-use Rattle.std.specs.Prelude.{nat_eq}
-use Rattle.wb_names.specs.Values.{NameValue, DrawopValue}
-use Rattle.wb_names.specs.History.{IsHeld, name_of, is_of}
+use Rattle.std.proofs.Common.{◌≡◌, ℕ, Bool, true, false, List, [], refl, ◌∙◌, sym, arith, ◌⊎◌, inl, inr, ⊎_elim, true≢false}
+use Rattle.wb_names.specs.Values.{DrawopValue}
+use Rattle.wb_names.specs.History.{IsHeld}
 use Rattle.wb_names.specs.declared.name.PageId.{PageId}
 use Rattle.wb_names.proofs.Listings.{Contains-none}
+use Rattle.wb_gaps.specs.Answers.{is_held}
 use Rattle.wb_gaps.specs.Laws.{HoldsUpToReport, HoldTheSame}
-use Rattle.wb_gaps.proofs.Reports.{held_here, held_there, held_cases, is_of-here, greatest_held}
-
--- a number is held, or it is not
-held_step : (d : DrawopValue) (history : List DrawopValue) (page : PageId) (source n : ℕ) (b c : Bool) → is_of page source d ≡ b → nat_eq d.name.seq n ≡ c → IsHeld history page source n ⊎ (IsHeld history page source n → ⊥) → IsHeld (d ∷ history) page source n ⊎ (IsHeld (d ∷ history) page source n → ⊥)
-held_step d history page source n true true e f later = inl (subst (IsHeld (d ∷ history) page source) (eqb-true d.name.seq n f) (held_here d history page source e))
-held_step d history page source n b c e f (inl h) = inl (held_there d history page source n h)
-held_step d history page source n false c e f (inr absent) = inr (λ h. ⊎_elim (λ (same : d.name ≡ name_of page source n). true≢false (sym (is_of-here d page source n same) ∙ e)) absent (held_cases d history page source n h))
-held_step d history page source n true false e f (inr absent) = inr (λ h. ⊎_elim (λ (same : d.name ≡ name_of page source n). true≢false (sym (eq-eqb d.name.seq n (ap (λ (v : NameValue). v.seq) same)) ∙ f)) absent (held_cases d history page source n h))
+use Rattle.wb_gaps.proofs.HeldNames.{held-by, held-from}
+use Rattle.wb_gaps.proofs.Reports.{greatest_held}
 
 held_or_not : (history : List DrawopValue) (page : PageId) (source n : ℕ) → IsHeld history page source n ⊎ (IsHeld history page source n → ⊥)
-held_or_not [] page source n = inr (λ h. let less : h.0 < 0 = h.2 in omega arith)
-held_or_not (d ∷ history) page source n = held_step d history page source n (is_of page source d) (nat_eq d.name.seq n) refl refl (held_or_not history page source n)
+held_or_not history page source n = at (is_held history page source n) refl where
+  at : (b : Bool) → is_held history page source n ≡ b → IsHeld history page source n ⊎ (IsHeld history page source n → ⊥)
+  at true e = inl (held-by history page source n e)
+  at false e = inr (λ h. true≢false (sym (held-from history page source n h) ∙ e))
 
 pub holds_up_to_report : HoldsUpToReport
 holds_up_to_report history page marks report gaps source n pos =

@@ -1,5 +1,5 @@
 -- The ranges that are kept, page by page: as runs they hold what the page holds, and their pages are those of the drawops.
-use Rattle.std.proofs.Common.{◌≡◌, ℕ, ◌<◌, ◌≤◌, Bool, true, false, cond, List, [], ◌∷◌, get_or, length, refl, ap, ◌∙◌, sym, subst, arith, inl, inr, ⊎_elim, Some}
+use Rattle.std.proofs.Common.{◌≡◌, ℕ, ◌<◌, ◌≤◌, Bool, true, false, cond, List, [], ◌∷◌, get_or, length, refl, ap, ◌∙◌, sym, subst, arith, ◌⊎◌, inl, inr, ⊎_elim, Some}
 use Rattle.std.specs.Prelude.{All, AllPairs, Any, Contains, filter, map, not, ◌&&◌}
 use Rattle.std.specs.BTreeMap.{BTreeMap, IsOrdered, get}
 use Rattle.std.specs.BTreeMap.Range.{entries_between, range_contains}
@@ -9,6 +9,7 @@ use Rattle.std.specs.Ordering.{is_eq, is_le, is_lt, nat_cmp, ordering_then}
 use Rattle.std.specs.declared.cmp.Ordering.{Ordering}
 use Rattle.std.specs.declared.cmp.Ordering.TheVariants.{Less, Equal, Greater}
 use Rattle.std.specs.declared.ops.Bound.TheVariants.{Included}
+use Rattle.std.proofs.lemmas.Bool.{cases_lt}
 use Rattle.std.proofs.lemmas.Bool.Decides.{nat_tests}
 use Rattle.std.proofs.lemmas.List.{length-map}
 use Rattle.std.proofs.lemmas.List.Elements.{All-nil, All-cons, All-head, All-tail, All-map, All-contains, All-from_recursion, Contains-get_or}
@@ -32,7 +33,6 @@ use Rattle.wb_gaps.specs.declared.run.Run.{Run}
 use Rattle.wb_gaps.proofs.HeldNames.{held-by, held-from}
 use Rattle.wb_gaps.proofs.HeldNumbers.{same_page-here}
 use Rattle.wb_gaps.proofs.HeldRanges.{covers_name, name_covered}
-use Rattle.wb_gaps.proofs.LessPairs.{less_parts}
 use Rattle.wb_gaps.proofs.Starts.{page_itself, start_is, start_total}
 
 -- there are no more runs of a page than ranges
@@ -104,6 +104,9 @@ module _ (m : BTreeMap Start ℕ) (ordered : IsOrdered start_cmp m) (ranges : Ar
       (λ k d lt. lies_kept page (get_or m.entries k d) (all_kept k d lt))
 
   -- ---- ranges of a page ascend
+
+  less_parts : (a b c d : ℕ) → ordering_then (nat_cmp a b) (nat_cmp c d) ≡ Less → (a < b) ⊎ ((a ≡ b) × (c < d))
+  less_parts a b c d e = grind (arith, nat_tests, cases_lt)
 
   run_below : (page : PageId) (e f : Start × ℕ) → Kept e → Kept f → start_cmp e.0 f.0 ≡ Less → is_on page e ≡ true → is_on page f ≡ true → IsBelow (run_of e) (run_of f)
   run_below page e f h g before on_e on_f =

@@ -13,14 +13,16 @@ use Rattle.wb_names.specs.Marks.{mark_of}
 use Rattle.wb_names.specs.Ascending.{AreMarks}
 use Rattle.wb_names.specs.declared.gap.Gap.{Gap}
 use Rattle.wb_names.specs.declared.name.PageId.{PageId}
-use Rattle.wb_names.proofs.Listings.{Contains-here, Contains-there, Contains-cases, Contains-none}
-use Rattle.wb_gaps.specs.Gaps.{Covers, IsApart, AreGaps}
+use Rattle.wb_names.proofs.Listings.{Contains-none}
+use Rattle.wb_gaps.specs.Gaps.{AreGaps}
 use Rattle.wb_gaps.specs.Runs.{AreRuns, AreRunsOf, InRuns, IsBelow}
 use Rattle.wb_gaps.specs.Walk.{gap_of, spans, spans_at, done_of, walk_of}
 use Rattle.wb_gaps.specs.declared.run.Run.{Run}
 use Rattle.wb_gaps.specs.declared.walk.Span.{Span}
 use Rattle.wb_gaps.proofs.GreatestNumbers.{first_counted, first_filled, later_all, later_runs, number_cases, number_here, number_none, number_there}
 use Rattle.wb_names.proofs.MarkLists.{Above, Rises, rest_above, rest_rises, here, there, none_above}
+use Rattle.wb_gaps.proofs.MissingRanges.{Ranges, Within, in_cases, in_first}
+use Rattle.wb_gaps.proofs.OneGaps.{covers_later}
 use Rattle.wb_gaps.proofs.Rearranged.{known_is_reached}
 
 -- ---- one span more
@@ -29,12 +31,6 @@ use Rattle.wb_gaps.proofs.Rearranged.{known_is_reached}
 abbrev InSpan : ℕ → ℕ → ℕ → ℕ → ℕ → Type 0
 InSpan source done last s n = (s ≡ source) × (done < n) × (n ≤ last)
 
--- gaps that ascend, are filled and apart, and hold exactly the numbers that P holds of
-record Hold (P : ℕ → ℕ → Type 0) (gaps : List Gap) : Type 0 where
-  filled : All (λ g. g.first ≤ g.last) gaps
-  apart : AllPairs IsApart gaps
-  covers : (s n : ℕ) → Covers gaps s n ↔ P s n
-
 abbrev gap : ℕ → ℕ → ℕ → Gap
 gap source done last = record { source = source; first = done + 1; last = last }
 
@@ -42,38 +38,23 @@ gap source done last = record { source = source; first = done + 1; last = last }
 abbrev IsAfter : ℕ → ℕ → Gap → Type 0
 IsAfter source last g = (source < g.source) ⊎ ((source ≡ g.source) × (last + 1 < g.first))
 
-in_gap : (source done last s n : ℕ) (g : Gap) → gap source done last ≡ g → g.source ≡ s → g.first ≤ n → n ≤ g.last → InSpan source done last s n
-in_gap source done last s n g e own low high = grind (arith, common_steps, nat_tests)
+at_gap : (source done last s n : ℕ) → Within (gap source done last) s n ↔ InSpan source done last s n
+at_gap source done last s n = grind (arith, common_steps)
 
 -- a span's gap, and gaps after it
-hold_gap : (source done last : ℕ) (gaps : List Gap) (P Q : ℕ → ℕ → Type 0) → done < last → Hold Q gaps → All (IsAfter source last) gaps → ((s n : ℕ) → P s n ↔ (InSpan source done last s n ⊎ Q s n)) → Hold P (gap source done last ∷ gaps)
-hold_gap source done last gaps P Q lt rest after split =
-    let g : Gap = gap source done last in
-    record {
-      filled = All-cons (λ (h : Gap). h.first ≤ h.last) g gaps (omega arith) rest.filled;
-      apart = AllPairs-cons IsApart g gaps after rest.apart;
-      covers = λ s n. (
-        λ c. (split s n).1 (⊎_elim
-            (λ (e : g ≡ c.0). inl (in_gap source done last s n c.0 e c.2 c.3 c.4))
-            (λ (d : Contains gaps c.0). inr ((rest.covers s n).0 (c.0, d, c.2, c.3, c.4)))
-            (Contains-cases g c.0 gaps c.1)),
-        λ p. ⊎_elim
-            (λ (i : InSpan source done last s n). let low = i.1 in (g, Contains-here g gaps, sym i.0, omega arith, i.2))
-            (λ (q : Q s n). let c = (rest.covers s n).1 q in (c.0, Contains-there g c.0 gaps c.1, c.2, c.3, c.4))
-            ((split s n).0 p),
-      );
-    }
+hold_gap : (source done last : ℕ) (gaps : List Gap) (P Q : ℕ → ℕ → Type 0) → done < last → Ranges Q gaps → All (IsAfter source last) gaps → ((s n : ℕ) → P s n ↔ (InSpan source done last s n ⊎ Q s n)) → Ranges P (gap source done last ∷ gaps)
+hold_gap source done last gaps P Q lt rest after split = grind (arith, common_steps, in_first, covers_later, in_cases, at_gap, All-cons, AllPairs-cons)
 
 -- a span of no numbers
-hold_none : (source done last : ℕ) (gaps : List Gap) (P Q : ℕ → ℕ → Type 0) → last ≤ done → Hold Q gaps → ((s n : ℕ) → P s n ↔ (InSpan source done last s n ⊎ Q s n)) → Hold P gaps
+hold_none : (source done last : ℕ) (gaps : List Gap) (P Q : ℕ → ℕ → Type 0) → last ≤ done → Ranges Q gaps → ((s n : ℕ) → P s n ↔ (InSpan source done last s n ⊎ Q s n)) → Ranges P gaps
 hold_none source done last gaps P Q le rest split = grind (arith, common_steps, nat_tests)
 
 abbrev span : ℕ → ℕ → ℕ → Span
 span source done last = record { source = source; done = done; last = last }
 
-hold_span : (source done last : ℕ) (gaps : List Gap) (P Q : ℕ → ℕ → Type 0) → Hold Q gaps → All (IsAfter source last) gaps → ((s n : ℕ) → P s n ↔ (InSpan source done last s n ⊎ Q s n)) → Hold P (gap_of (span source done last) ++ gaps)
+hold_span : (source done last : ℕ) (gaps : List Gap) (P Q : ℕ → ℕ → Type 0) → Ranges Q gaps → All (IsAfter source last) gaps → ((s n : ℕ) → P s n ↔ (InSpan source done last s n ⊎ Q s n)) → Ranges P (gap_of (span source done last) ++ gaps)
 hold_span source done last gaps P Q rest after split =
-    elim (nat_lt done last) as (λ b. nat_lt done last ≡ b → Hold P (cond b (gap source done last ∷ []) [] ++ gaps)) [
+    elim (nat_lt done last) as (λ b. nat_lt done last ≡ b → Ranges P (cond b (gap source done last ∷ []) [] ++ gaps)) [
       | true ↦ λ e. let lt : done < last = grind (arith, nat_tests) in hold_gap source done last gaps P Q lt rest after split
       | false ↦ λ e. let le : last ≤ done = grind (arith, nat_tests) in hold_none source done last gaps P Q le rest split
     ] refl
@@ -106,7 +87,7 @@ record Comes (at done : ℕ) (marks : List MarkValue) (runs : List Run) : Type 0
   runs_come : All (λ r. IsBeyond at done r.source r.first) runs
 
 record Finds (at done : ℕ) (marks : List MarkValue) (runs : List Run) (gaps : List Gap) : Type 0 where
-  hold : Hold (Lacks at done marks runs) gaps
+  hold : Ranges (Lacks at done marks runs) gaps
   beyond : All (λ g. IsBeyond at done g.source g.first) gaps
   later : (b : ℕ) → Above b marks → All (λ r. b < r.source) runs → All (λ g. b < g.source) gaps
 
