@@ -31,7 +31,7 @@ use Rattle.wb_script.specs.Inside.Parts.{EndsBatchAt, is_arrival, by_batches}
 use Rattle.wb_script.specs.Inside.Steps.{HostValue, IsAt, with_more, as_step, MayDo, MayTakeBatch, may_take_at, may_take, MayDoStep, faulted}
 use Rattle.wb_script.specs.Inside.Taking.{TakesAll, TakesLines, Prints, TakesBatch}
 use Rattle.wb_script.proofs.Telling.{settles}
-use Rattle.wb_script.specs.Inside.SomeSteps.{some_step}
+use Rattle.wb_script.proofs.SomeSteps.{some_step}
 use Rattle.wb_script.proofs.Outcomes.{as_it_came}
 
 -- ---- what follows the end of a batch

@@ -8,7 +8,7 @@ use Rattle.wb_script.proofs.running.run.Goals as goal
 pub ended_by-requires : goal.ended_by-requires
 ended_by-requires g c =
     let l = rw (c.from-most_lines.ensures, c.new-host.ensures) at c.in-Err.ensures.lines in
-    run_counted c.drive_groups.new.handler (start c.args.workers) (g.R.Source.has_failed c.drive_groups.new.source) l.0 l.1 c.in-Err.fault (l.4 (start c.args.workers) (record { member = tt; workers = refl; waiting = refl }))
+    run_counted c.take_lines.new.handler (start c.args.workers) (g.R.Source.has_failed c.take_lines.new.source) l.0 l.1 c.in-Err.fault (l.4 (start c.args.workers) (record { member = tt; workers = refl; waiting = refl }))
 
 pub returns-in-Ok-clause-script : goal.returns-in-Ok-clause-script
 returns-in-Ok-clause-script g c =
@@ -17,7 +17,7 @@ returns-in-Ok-clause-script g c =
       l.1,
       l.2,
       l.3,
-      runs_ok c.drive_groups.new.handler c.args.workers (g.R.Source.has_failed c.drive_groups.new.source) l.0 l.1 c.in-Ok.lines c.held.result (l.4 (start c.args.workers) (record { member = tt; workers = refl; waiting = refl })) c.held.ensures,
+      runs_ok c.take_lines.new.handler c.args.workers (g.R.Source.has_failed c.take_lines.new.source) l.0 l.1 c.in-Ok.lines c.held.result (l.4 (start c.args.workers) (record { member = tt; workers = refl; waiting = refl })) c.held.ensures,
     )
 
 pub returns-in-Err-clause-script : goal.returns-in-Err-clause-script
@@ -27,7 +27,7 @@ returns-in-Err-clause-script g c =
       l.1,
       l.2,
       l.3,
-      rw c.ended_by.ensures (runs_err c.drive_groups.new.handler c.args.workers (g.R.Source.has_failed c.drive_groups.new.source) l.0 l.1 c.in-Err.fault c.is_refused.result (l.4 (start c.args.workers) (record { member = tt; workers = refl; waiting = refl }))),
+      rw c.ended_by.ensures (runs_err c.take_lines.new.handler c.args.workers (g.R.Source.has_failed c.take_lines.new.source) l.0 l.1 c.in-Err.fault c.is_refused.result (l.4 (start c.args.workers) (record { member = tt; workers = refl; waiting = refl }))),
     )
 
 pub returns-in-Err-clause-read : goal.returns-in-Err-clause-read

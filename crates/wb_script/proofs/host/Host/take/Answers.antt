@@ -4,7 +4,7 @@ use Rattle.wb_lines.proofs.Moments.{Reads-none, Reads-prints}
 use Rattle.wb_script.specs.Script.{Nothing, Faulty, End, part_of}
 use Rattle.wb_script.specs.Inside.Parts.{by_batches}
 use Rattle.wb_script.proofs.Steps.{lone, skips, refuses, ends_apart}
-use Rattle.wb_script.proofs.host.HostGroupHandler.take.Goals as goal
+use Rattle.wb_script.proofs.host.Host.take.Goals as goal
 
 pub arrive-requires-clause-part : goal.arrive-requires-clause-part
 arrive-requires-clause-part g c = ap part_of (sym c.requires.said.0) ∙ rw c.in-Arrival.is at c.part.ensures
