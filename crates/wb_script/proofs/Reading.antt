@@ -95,7 +95,7 @@ gathers_then a b c first first' first'' ds es p q = (
   p.0 ++ q.0,
   Reads-then by_batches a b c [] [] p.0 q.0 p.1 q.1,
   ap (λ (l : List DrawopValue). listed first ++ l) (arrivals_join p.0 q.0) ∙ sym (append_assoc (listed first) (arrivals_of p.0) (arrivals_of q.0)) ∙ ap (λ (l : List DrawopValue). l ++ arrivals_of q.0) p.2
-  ∙ append_assoc ds (listed first') (arrivals_of q.0) ∙ ap (λ (l : List DrawopValue). ds ++ l) q.2 ∙ sym (append_assoc ds es (listed first'')),
+      ∙ append_assoc ds (listed first') (arrivals_of q.0) ∙ ap (λ (l : List DrawopValue). ds ++ l) q.2 ∙ sym (append_assoc ds es (listed first'')),
 )
 
 pub arrived_on : (old new : BatchReading) (d : DrawopValue) → new.over ≡ false → ArrivesTo old.at old.first new.at new.first (Some d) → Gives old (d ∷ []) new

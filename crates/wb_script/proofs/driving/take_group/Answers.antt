@@ -16,7 +16,7 @@ returns-then-is_too_long-clause-text g c =
     let seen : c.look.new.self.seen ≡ seens.TooLong = search rules in
     let long = c.take_too_long.ensures in
     let x = after_long {a = moment c.look.new.self c.look.new.output (g.R.Source.left c.look.new.source) (g.R.Source.has_failed c.look.new.source) (g.W.Sink.taken c.look.new.sink) (g.W.Sink.has_failed c.look.new.sink)} {b = moment c.take_too_long.new.self c.look.new.output (g.R.Source.left c.look.new.source) (g.R.Source.has_failed c.look.new.source) (g.W.Sink.taken c.look.new.sink) (g.W.Sink.has_failed c.look.new.sink)} by_batches may_take at_host at_host [] (Err faults.Endless) seen long.line refl refl refl refl (sym (append-nil c.look.new.output)) (Moves-none _)
-        (λ s at. long_stopped by_batches may_take at_host c.look.new.self c.take_too_long.new.self s _ [] stops.Endless some_step seen long.long.0 long.long.1 refl) in
+    (λ s at. long_stopped by_batches may_take at_host c.look.new.self c.take_too_long.new.self s _ [] stops.Endless some_step seen long.long.0 long.long.1 refl) in
     after_look by_batches may_take at_host at_host x.0 (Err faults.Endless) c.look.ensures.reads x.1 x.2
 
 pub returns-in-Some-clause-text : goal.returns-in-Some-clause-text
