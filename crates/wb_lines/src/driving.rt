@@ -19,7 +19,7 @@ use std::alloc::Global;
 use wb_names::{Sink, Source};
 
 /// Why the driver stops where its handler does, at the line of this number.
-fn fault_of<F>(number: u64, stop: Stop<F>) -> DriveFault<F>
+pub fn fault_of<F>(number: u64, stop: Stop<F>) -> DriveFault<F>
     ensures fault { result ≡ fault_of number stop }
     ensures other { (result ≢ DriveFault.Read) × (result ≢ DriveFault.Write) }
 {
@@ -149,7 +149,7 @@ fn is_stop<F>(fault: &DriveFault<F>) -> bool
 }
 
 /// Writes what waits, and ends.
-fn close<F: Drop, W: Sink>(
+pub fn close<F: Drop, W: Sink>(
     ending: Result<u64, DriveFault<F>>,
     output: &mut Output,
     sink: &mut W,

@@ -22,7 +22,7 @@ mod saying;
 mod words;
 
 pub use content::{without_carriage_return, without_end};
-pub use driving::{drive, drive_groups};
+pub use driving::{close, drive, drive_groups, fault_of};
 pub use fault::DriveFault;
 pub use handler::{GroupHandler, Handler, Stop};
 pub use hexadecimal::unhex;

@@ -69,7 +69,7 @@ impl<S: Saying> Model for Lines<S> {
 }
 
 impl<S: Saying> Lines<S> {
-    pub(crate) fn new(alloc: Global, most: u64) -> Result<Self, AllocError>
+    pub fn new(alloc: Global, most: u64) -> Result<Self, AllocError>
         requires { most ≤ S.at_most }
         ensures { IfOk result (λ l. l ≡ at_start most) }
     {
@@ -201,7 +201,7 @@ impl<S: Saying> Lines<S> {
     }
 
     /// Looks at what stands behind the lines that were taken, unless it was looked at.
-    pub(crate) fn look<R: Source, W: Sink>(
+    pub fn look<R: Source, W: Sink>(
         &mut self,
         alloc: Global,
         source: &mut R,
@@ -222,7 +222,7 @@ impl<S: Saying> Lines<S> {
     }
 
     /// Takes the line that was looked at, if it is one that is not too long. Answers what it says.
-    pub(crate) fn take_line(&mut self) -> Option<S>
+    pub fn take_line(&mut self) -> Option<S>
         ensures taken { TakesLine S.says self.old self.new result }
         ensures few { IfSome result (λ said. self.new.done ≤ S.at_most) }
     {
@@ -239,7 +239,7 @@ impl<S: Saying> Lines<S> {
     }
 
     /// Takes the line that was looked at, which is too long. The rest of it is not read.
-    pub(crate) fn take_too_long(&mut self)
+    pub fn take_too_long(&mut self)
         requires { self.old.seen ≡ seens.TooLong }
         ensures line { self.new ≡ with_one self.old }
         ensures long { (self.old.done < self.old.most) × StartsLong self.old.line.bytes }
@@ -259,14 +259,14 @@ impl<S: Saying> Lines<S> {
     }
 
     /// Whether a line was looked at that is too long.
-    pub(crate) fn is_too_long(&self) -> bool
+    pub fn is_too_long(&self) -> bool
         ensures { IsTrue result ↔ (self.now.seen ≡ seens.TooLong) }
     {
         matches!(&self.seen, Seen::TooLong)
     }
 
     /// How a driver ends by what was found, which is no line: at the end of the input, or with a fault.
-    pub(crate) fn end<F>(&self) -> Result<bool, DriveFault<F>>
+    pub fn end<F>(&self) -> Result<bool, DriveFault<F>>
         ensures end { EndsBy self.now.seen result }
         ensures faults { (result ≡ Err DriveFault.Read → self.now.seen ≡ seens.Failed) × (result ≡ Err DriveFault.Write → self.now.seen ≡ seens.Unwritten) }
     {

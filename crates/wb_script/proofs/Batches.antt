@@ -262,7 +262,7 @@ begins_line cut n line lines s o t ih none of = at s.host (part_in line) refl re
     may.0,
     may.1,
     subst (λ (x : Part). Proceeds (n + 1) Rest (shown o t) (part_step s may.0 x)) (sym is)
-    (proceeds (n + 1) (λ next. Of rest next) Rest (part_step s may.0 part) o t (settles_part s may.0 part none closed_host) on (subst (λ (x : LineStep State LineFault). StepProceeds (n + 1) x (λ next. Of rest next) o t) may.2 p)),
+        (proceeds (n + 1) (λ next. Of rest next) Rest (part_step s may.0 part) o t (settles_part s may.0 part none closed_host) on (subst (λ (x : LineStep State LineFault). StepProceeds (n + 1) x (λ next. Of rest next) o t) may.2 p)),
   )
 
   -- it is alone
@@ -290,8 +290,8 @@ begins_line cut n line lines s o t ih none of = at s.host (part_in line) refl re
         may.0,
         may.1,
         subst (λ (x : Part). Proceeds (n + 1) Rest (shown o t) (part_step s may.0 x)) (sym is)
-        (subst (λ (x : Step). Proceeds (n + 1) Rest (shown o t) x) (sym step)
-        (proceeds (n + 1) (λ next u v. ⊥) Rest (refused s [] faults.NoBoard) o t (text_none s none) (λ u p v w h. absurd h) p)),
+            (subst (λ (x : Step). Proceeds (n + 1) Rest (shown o t) x) (sym step)
+            (proceeds (n + 1) (λ next u v. ⊥) Rest (refused s [] faults.NoBoard) o t (text_none s none) (λ u p v w h. absurd h) p)),
       )
 
   -- a batch begins
@@ -303,7 +303,7 @@ begins_line cut n line lines s o t ih none of = at s.host (part_in line) refl re
         s.waiting,
         as_it_came s.workers s.waiting,
         subst (λ (x : Part). Proceeds (n + 1) Rest (shown o t) (part_step s s.waiting x)) (sym is)
-        (subst (λ (x : Step). Proceeds (n + 1) Rest (shown o t) x) (sym step) (shown o t, on, sym (before-nil (shown o t)))),
+            (subst (λ (x : Step). Proceeds (n + 1) Rest (shown o t) x) (sym step) (shown o t, on, sym (before-nil (shown o t)))),
       )
 
   at : (host : Option Opened) (part : Part) → s.host ≡ host → part_in line ≡ part → Continues None (n + 1) s (content line) Rest (shown o t)
@@ -384,7 +384,7 @@ begun_line cut line lines ih n s g d o t none opened first of = at (entry most_l
     m.waiting,
     as_it_came m.workers m.waiting,
     subst (λ (x : Part). Proceeds (n + 1) Rest (shown o t) (part_step m m.waiting x)) (sym is)
-    (subst (λ (x : Step). Proceeds (n + 1) Rest (shown o t) x) (sym step) (shown o t, on, sym (before-nil (shown o t)))),
+        (subst (λ (x : Step). Proceeds (n + 1) Rest (shown o t) x) (sym step) (shown o t, on, sym (before-nil (shown o t)))),
   )
 
   arrives : (d' : DrawopValue) (host : Option Opened) → s.host ≡ host → IsOpen host → part_step m m.waiting (Arrival d') ≡ goes (with_more m (d' ∷ [])) []

@@ -2,6 +2,7 @@ pub mod Outcomes
 pub mod Batches
 pub mod Reading
 pub mod FreeArrivals
+pub mod SomeSteps
 pub mod Steps
 pub mod Ending
 pub mod WholeBatches

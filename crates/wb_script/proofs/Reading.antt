@@ -3,7 +3,7 @@ use Rattle.std.proofs.Common.{◌≡◌, ◌≤◌, ◌<◌, ℕ, List, [], ◌�
 use Rattle.std.proofs.lemmas.Bool.{false≢true}
 use Rattle.wb_names.specs.Values.{DrawopValue}
 use Rattle.wb_lines.specs.Input.{InputLine}
-use Rattle.wb_lines.specs.Moments.{Moment, Reads, IsBehind}
+use Rattle.wb_lines.specs.Moments.{Moment, Reads, IsBehind, TakesJoined}
 use Rattle.wb_lines.proofs.Moments.{Reads-none, Reads-then, Reads-prints}
 use Rattle.wb_script.specs.declared.part.Part.{Part as ReadPart}
 use Rattle.wb_script.specs.declared.part.Part.TheVariants as parts
@@ -45,6 +45,11 @@ arrives_one a b c line d p q is = reads_one a b c line (d ∷ []) p q (ap arrive
 -- and no more
 pub skips_then : (a b c : Moment Said) → Skips a b → Reads by_batches b c [] [] → Skips a c
 skips_then a b c p q = (p.0 ++ [], Reads-then by_batches a b c [] [] p.0 [] p.1 q, ap arrivals_of (append-nil p.0) ∙ p.2)
+
+-- Where no line joins, the batch is at its end.
+pub none_joins : (says : InputLine → Said → Type 0) (a b : Moment Said) (result : Option Said) → ((said : Said) → result ≡ Some said → ⊥) → TakesJoined says by_batches a b result → Reads by_batches a b [] [] × IsBehind by_batches b.lines.line b.lines.seen
+none_joins says a b (Some said) other t = absurd (other said refl)
+none_joins says a b None other t = t
 
 -- a text was printed behind them
 pub printed_then : {a b c : Moment Said} (text : List ℕ) (joined : List InputLine) → Reads by_batches a b [] joined → c.lines ≡ b.lines → c.left ≡ b.left → c.failed ≡ b.failed → c.taken ≡ b.taken → c.stuck ≡ b.stuck → c.output ≡ b.output ++ text → Reads by_batches a c text joined
@@ -90,7 +95,7 @@ gathers_then a b c first first' first'' ds es p q = (
   p.0 ++ q.0,
   Reads-then by_batches a b c [] [] p.0 q.0 p.1 q.1,
   ap (λ (l : List DrawopValue). listed first ++ l) (arrivals_join p.0 q.0) ∙ sym (append_assoc (listed first) (arrivals_of p.0) (arrivals_of q.0)) ∙ ap (λ (l : List DrawopValue). l ++ arrivals_of q.0) p.2
-  ∙ append_assoc ds (listed first') (arrivals_of q.0) ∙ ap (λ (l : List DrawopValue). ds ++ l) q.2 ∙ sym (append_assoc ds es (listed first'')),
+      ∙ append_assoc ds (listed first') (arrivals_of q.0) ∙ ap (λ (l : List DrawopValue). ds ++ l) q.2 ∙ sym (append_assoc ds es (listed first'')),
 )
 
 pub arrived_on : (old new : BatchReading) (d : DrawopValue) → new.over ≡ false → ArrivesTo old.at old.first new.at new.first (Some d) → Gives old (d ∷ []) new

@@ -31,7 +31,7 @@ use Rattle.wb_script.specs.Inside.Parts.{EndsBatchAt, is_arrival, by_batches}
 use Rattle.wb_script.specs.Inside.Steps.{HostValue, IsAt, with_more, as_step, MayDo, MayTakeBatch, may_take_at, may_take, MayDoStep, faulted}
 use Rattle.wb_script.specs.Inside.Taking.{TakesAll, TakesLines, Prints, TakesBatch}
 use Rattle.wb_script.proofs.Telling.{settles}
-use Rattle.wb_script.specs.Inside.SomeSteps.{some_step}
+use Rattle.wb_script.proofs.SomeSteps.{some_step}
 use Rattle.wb_script.proofs.Outcomes.{as_it_came}
 
 -- ---- what follows the end of a batch
@@ -188,9 +188,9 @@ pub lone : (s : State) (number : ℕ) (part : Part) (first : InputLine) (v : Lin
     → MayDoStep s new printed result (λ order. part_step s order part) → DoesGroup by_batches (IsAt new) printed (may_take s number (whole first)) first [] v result
 lone s number part first v new printed result seen is apart did =
     group_of first v (IsAt new) printed (may_take s number (whole first)) result seen (ap is_arrival is ∙ apart) (λ joined.
-        subst (λ (x : Part). DoesOne (IsAt new) printed (may_take_at s s.host x joined) result) (sym is)
-        (does_more (MayDo s part) (may_take_at s s.host part joined) (IsAt new) printed result (λ step may. at_host s s.host part joined step apart may)
-        (one_of (MayDo s part) (IsAt new) printed (as_step (part_step s did.0 part)) result (did.0, did.1, refl) did.2)))
+    subst (λ (x : Part). DoesOne (IsAt new) printed (may_take_at s s.host x joined) result) (sym is)
+    (does_more (MayDo s part) (may_take_at s s.host part joined) (IsAt new) printed result (λ step may. at_host s s.host part joined step apart may)
+    (one_of (MayDo s part) (IsAt new) printed (as_step (part_step s did.0 part)) result (did.0, did.1, refl) did.2)))
 
 -- ---- a batch
 

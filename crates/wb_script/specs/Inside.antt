@@ -1,7 +1,6 @@
 -- Words of the functions inside `run`. They stand here since contracts cite definitions of specs/ alone; no promise of the crate names them.
 pub mod Parts
 pub mod Steps
-pub mod SomeSteps
 pub mod Reading
 pub mod Taking
 pub mod Ending

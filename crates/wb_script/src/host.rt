@@ -1,12 +1,13 @@
 //! The host of a script, and what its lines do to it.
 ghost use Rattle.std.specs.Prelude.{◌≡◌, ◌<◌, List, [], ℕ, ◌≤◌, ◌++◌, Ok, None, false};
+ghost use Rattle.wb_lines.specs.declared.lines.Seen.TheVariants as seens;
 ghost use Rattle.wb_lines.specs.Input.{InputLine};
 ghost use Rattle.wb_lines.specs.Handling.{whole};
 ghost use Rattle.wb_lines.specs.Moments.{moment, Reads};
 ghost use Rattle.wb_lines.specs.Steps.{DoesGroup};
 ghost use Rattle.wb_commands.specs.Parsing.{IsWithin};
 ghost use Rattle.wb_script.specs.Script.{State, IsAlone, Acts, Arrival, End, part_in, part_of, held_count, part_step, said_step};
-ghost use Rattle.wb_script.specs.Inside.Parts.{by_batches, EndsBatchAt};
+ghost use Rattle.wb_script.specs.Inside.Parts.{by_batches, EndsBatchAt, Says};
 ghost use Rattle.wb_script.specs.Inside.Steps.{IsAt, MayDoStep, may_take, faulted};
 
 use crate::part::Part;
@@ -19,7 +20,7 @@ use std::sync::Wait;
 use std::thread::Threads;
 use wb_commands::{Command, LineFault, MAX_WORKERS, Untaken, act};
 use wb_feed::Gate;
-use wb_lines::{GroupHandler, Output, Progress, Stop};
+use wb_lines::{Output, Progress, Stop};
 use wb_member::Member;
 use wb_names::{Drawop, Sink, Source};
 use wb_recovery::Tuning;
@@ -44,51 +45,6 @@ impl<'a, T, G> Model for Host<'a, T, G> {
     ghost Value = { HostValue };
 
     ghost view = { λ h. record { member = h.member; workers = h.workers } };
-}
-
-impl<T: Threads + Wait + Sync, G: Gate + Sync> GroupHandler for Host<'_, T, G> {
-    type Fault = LineFault;
-
-    type Said = Said;
-
-    ghost use Rattle.wb_script.specs.Script.{State};
-    ghost use Rattle.wb_script.specs.Inside.Steps.{IsAt, may_take};
-    ghost use Rattle.wb_script.specs.Inside.SomeSteps.{some_step};
-
-    ghost State = { State };
-
-    ghost is_at = { IsAt };
-
-    ghost step = { may_take };
-
-    fn take<R: Source, W: Sink>(
-        &mut self,
-        alloc: Global,
-        said: Said,
-        progress: &mut Progress<Said>,
-        source: &mut R,
-        sink: &mut W,
-    ) -> Result<(), Stop<LineFault>> {
-        match said.part() {
-            Part::Arrival(drawop) => self.arrive(drawop, progress, source, sink),
-            Part::Skipped => Ok(()),
-            Part::Other => match &said.said {
-                Ok(command) => self.take_line(alloc, command, &mut progress.output),
-                Err(fault) => Err(Stop::Fault(*fault)),
-            },
-        }
-    }
-
-    fn take_too_long(
-        &mut self,
-        _alloc: Global,
-        _number: u64,
-        _output: &mut Output,
-    ) -> Result<(), Stop<LineFault>> {
-        Err(Stop::Endless)
-    }
-
-    ghost some_step = { some_step };
 }
 
 /// What became of a line, for who hands it in.
@@ -189,6 +145,34 @@ impl<'a, T, G> Host<'a, T, G> {
 }
 
 impl<T: Threads + Wait + Sync, G: Gate + Sync> Host<'_, T, G> {
+    /// Takes a line, which was counted, and the lines that join it.
+    pub fn take<R: Source, W: Sink>(
+        &mut self,
+        alloc: Global,
+        said: Said,
+        progress: &mut Progress<Said>,
+        source: &mut R,
+        sink: &mut W,
+    ) -> Result<(), Stop<LineFault>>
+        requires said { Says progress.old.lines.line said }
+        requires taken { progress.old.lines.seen ≡ seens.Nothing }
+        ensures { (printed : List ℕ) × (joined : List InputLine)
+            × Reads by_batches
+            (moment progress.old.lines progress.old.output (R.left source.old) (R.has_failed source.old) (W.taken sink.old) (W.has_failed sink.old))
+            (moment progress.new.lines progress.new.output (R.left source.new) (R.has_failed source.new) (W.taken sink.new) (W.has_failed sink.new)) printed joined
+            × ((s : State) → IsAt self.old s
+            → DoesGroup by_batches (IsAt self.new) printed (may_take s progress.old.lines.done (whole progress.old.lines.line)) progress.old.lines.line joined progress.new.lines result) }
+    {
+        match said.part() {
+            Part::Arrival(drawop) => self.arrive(drawop, progress, source, sink),
+            Part::Skipped => Ok(()),
+            Part::Other => match &said.said {
+                Ok(command) => self.take_line(alloc, command, &mut progress.output),
+                Err(fault) => Err(Stop::Fault(*fault)),
+            },
+        }
+    }
+
     /// Takes the batch that begins with the line that was taken last and hands in this drawop: the script is read on
     /// to its end.
     fn arrive<R: Source, W: Sink>(

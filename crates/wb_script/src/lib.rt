@@ -8,6 +8,7 @@
 
 mod arriving;
 mod checking;
+mod driving;
 mod fault;
 mod host;
 pub mod laws;

@@ -6,6 +6,7 @@ ghost use Rattle.wb_script.specs.Checking.{IsCounted};
 ghost use Rattle.wb_script.specs.Inside.Ending.{ended_by};
 ghost use Rattle.wb_script.specs.Runs.{Runs};
 
+use crate::driving::take_lines;
 use crate::fault::RunFault;
 use crate::host::Host;
 use crate::place::Place;
@@ -15,7 +16,7 @@ use std::sync::Wait;
 use std::thread::Threads;
 use wb_commands::LineFault;
 use wb_feed::Gate;
-use wb_lines::{DriveFault, drive_groups};
+use wb_lines::DriveFault;
 use wb_names::{Sink, Source};
 
 /// How far a script went.
@@ -67,7 +68,7 @@ pub fn run<T: Threads + Wait + Sync, R: Source, W: Sink, G: Gate + Sync>(
 {
     let mut host = Host::new(Place { rt, alloc, gate }, workers);
     let most_lines = u64::from(MAX_LINES);
-    match drive_groups(alloc, most_lines, &mut host, source, sink) {
+    match take_lines(alloc, most_lines, &mut host, source, sink) {
         Ok(lines) => Ok(Summary {
             lines: lines as u32,
             held: host.held(),

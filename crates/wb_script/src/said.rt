@@ -17,13 +17,10 @@ pub struct Said {
 }
 
 impl Saying for Said {
-    ghost use Rattle.std.specs.Prelude.{◌≡◌, IfOk};
-    ghost use Rattle.wb_lines.specs.Input.{content};
-    ghost use Rattle.wb_commands.specs.Parsing.{line_of, IsWithin};
     ghost use Rattle.wb_script.specs.Script.{most_lines};
-    ghost use Rattle.wb_script.specs.Inside.Parts.{by_batches};
+    ghost use Rattle.wb_script.specs.Inside.Parts.{Says, by_batches};
 
-    ghost says = { λ line said. (said.said ≡ line_of (content line)) × IfOk said.said IsWithin };
+    ghost says = { Says };
 
     ghost by = { by_batches };
 

@@ -1,8 +1,11 @@
 -- What a line is to a batch, for the code that reads it.
-use Rattle.std.specs.Prelude.{◌≡◌, Bool, true, false}
+use Rattle.std.specs.Prelude.{◌≡◌, Bool, true, false, IfOk}
 use Rattle.wb_script.specs.declared.part.Part.{Part as ReadPart}
 use Rattle.wb_script.specs.declared.part.Part.TheVariants as parts
+use Rattle.wb_script.specs.declared.said.Said.{Said}
+use Rattle.wb_lines.specs.Input.{InputLine, content}
 use Rattle.wb_lines.specs.Items.{Grouping}
+use Rattle.wb_commands.specs.Parsing.{line_of, IsWithin}
 use Rattle.wb_script.specs.Script.{Part, Arrival, Nothing, End, part_in}
 
 -- It is neither skipped nor an arrival.
@@ -31,3 +34,7 @@ joins_batch part = true
 -- A batch begins with an arrival. Arrivals join it, and what is skipped between them.
 abbrev pub by_batches : Grouping
 by_batches = record { gathers = λ line. is_arrival (part_in line); joins = λ line. joins_batch (part_in line) }
+
+-- A line says this, with its numbers in range.
+abbrev pub Says : InputLine → Said → Type 0
+Says line said = (said.said ≡ line_of (content line)) × IfOk said.said IsWithin

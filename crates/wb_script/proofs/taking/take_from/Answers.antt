@@ -11,5 +11,4 @@ returns-in_err-member-clause-reads g c =
 
 pub returns-clause-reads : goal.returns-clause-reads
 returns-clause-reads g c =
-    let d = c.in_ok-member.field-0 in
-    (d.2.items, c.in_ok-member.ensures.given.3 _ [] (starts _ c.requires.start), (c.in_ok-member.ensures.taken, c.in_ok-member.ensures.ended))
+    (c.in_ok-member._drawops.items, c.in_ok-member.ensures.given.3 _ [] (starts _ c.requires.start), (c.in_ok-member.ensures.taken, c.in_ok-member.ensures.ended))

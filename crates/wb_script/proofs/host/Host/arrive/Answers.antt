@@ -9,7 +9,7 @@ pub returns-in_default : goal.returns-in_default
 returns-in_default g c =
     let new : HostValue = record { member = c.take.new.self; workers = c.self.inside.workers } in
     let closed : c.args.self.now.member ≡ None = ap (λ (h : HostValue). h.member) (sym c.self.view_is) ∙ sym c.take.ensures.value ∙ c.in_default.is in
-    ([], [], Reads-none by_batches _, λ s at. arrives_nowhere s c.args.progress.now.lines.done c.args.self.now new c.args.drawop c.args.progress.now.lines.line c.args.progress.now.lines at closed c.requires)
+    ([], [], Reads-none by_batches _, λ s at. arrives_nowhere s c.args.progress.now.lines.done c.args.self.now new c.args.drawop c.args.progress.now.lines.line c.args.progress.now.lines at closed c.requires.part)
 
 pub returns-in-Ok : goal.returns-in-Ok
 returns-in-Ok g c =
@@ -21,11 +21,11 @@ returns-in-Ok g c =
       t.2,
       λ s at.
           arrives_open s c.args.progress.now.lines.done c.args.self.now c.in-Some.member c.in-Ok.member c.self.inside.workers c.worker_count-workers.result c.args.drawop c.args.progress.now.lines.line t.1 c.take_batch.new.progress.lines t.3.0 t.0
-          at stood same c.worker_count-workers.ensures.alone c.requires t.3.1 t.3.2,
+          at stood same c.worker_count-workers.ensures.alone c.requires.part t.3.1 t.3.2,
     )
 
-pub returns-in-Err : goal.returns-in-Err
-returns-in-Err g c =
+pub returns-after-matches : goal.returns-after-matches
+returns-after-matches g c =
     let new : HostValue = record { member = c.take.new.self; workers = c.self.inside.workers } in
     let t = c.in-Err.ensures in
     (t.0, t.1, t.2, λ s at. arrives_refused s c.args.progress.now.lines.done new c.args.progress.now.lines.line t.1 c.take_batch.new.progress.lines t.0 t.3)

@@ -1,17 +1,13 @@
--- Something can always be done with a line, and with a batch: a handler of groups says so.
-use Rattle.std.specs.Prelude.{◌≡◌, ℕ, List, [], ◌∷◌, refl, Option, Some, None}
-use Rattle.std.proofs.lemmas.List.Sorted.{IsPermutation-refl}
-use Rattle.wb_names.specs.Values.{DrawopValue}
+-- Something can always be done with a line, and with a batch.
+use Rattle.std.proofs.Common.{◌≡◌, ℕ, List, [], ◌∷◌, refl, Option, Some, None}
 use Rattle.wb_lines.specs.Input.{InputLine}
 use Rattle.wb_lines.specs.Handling.{Met, whole, too_long, Step as LineStep, goes as goes_on, ends}
 use Rattle.wb_commands.specs.declared.fault.LineFault.{LineFault}
 use Rattle.wb_member.specs.Opened.{Opened}
-use Rattle.wb_script.specs.Script.{State, MayBeTaken, closing_text, after_batch, Part, Arrival, Nothing, End, part_in, part_step}
+use Rattle.wb_script.specs.Script.{State, closing_text, after_batch, Part, Arrival, Nothing, End, part_in, part_step}
 use Rattle.wb_script.specs.Shows.{arrivals_of}
+use Rattle.wb_script.proofs.Outcomes.{as_it_came}
 use Rattle.wb_script.specs.Inside.Steps.{with_more, as_step, MayDo, may_take_at, may_take}
-
-as_it_came : (workers : Option ℕ) (batch : List DrawopValue) → MayBeTaken workers batch batch
-as_it_came workers batch = record { moved = IsPermutation-refl batch; alone = λ a. refl }
 
 pub some_step : (s : State) (number : ℕ) (met : Met) (joined : List InputLine) → (one : LineStep State LineFault) × may_take s number met joined one
 some_step s number too_long joined = (ends [], refl)
