@@ -23,8 +23,11 @@ ADAPT = {"members": "members", "adapting": "published", "adapting live": "publis
 GO, COME = "half go", "half come"
 PARTS = 4  # of a run, with as many losses each; the group changes between the second and the third
 RUNS = 10
-HEADS = ("Network", "Members", "Constants", "Requests, where many lack it", "Repairs, where one does", "Seconds, of all losses", "Datagrams of a loss",
-         f"Datagrams beside fixed, {LIVE}", "Seconds beside these")
+COLUMNS = {
+    "source_requests": "Requests, where many lack it", "member_repairs": "Repairs, where one does", "seconds": "Seconds, of all losses",
+    "datagrams": "Datagrams of a loss", "more_datagrams": f"Datagrams beside fixed, {LIVE}", "more_seconds": "Seconds beside these",
+}
+PLOTS = {"kept-adapting": ("datagrams", "requests and repairs for a loss"), "kept-adapting-wait": ("seconds", "seconds until the last has it")}
 
 
 class Group(NamedTuple):
@@ -80,18 +83,18 @@ def kept_adapting(scale: Scale) -> Figure:
 
     def plots(records: list[Record]) -> dict[str, Plot]:
         title = "Members that keep themselves, of whom half go or come half-way"
-        return {name: Plot(title, [panel_of(group, column, up, records) for group in groups])
-                for name, column, up in (("kept-adapting", "datagrams", "requests and repairs for a loss"), ("kept-adapting-wait", "seconds", "seconds until the last has it"))}
+        return {name: Plot(title, [panel_of(group, column, up, records) for group in groups]) for name, (column, up) in PLOTS.items()}
 
     def section(records: list[Record]) -> str:
         settled = [r for r in records if r["part"] in (PARTS // 2, PARTS)]
-        text = [picture("kept-adapting", "Constants that follow the session: datagrams", f"""Beside the fixed constants {LIVE}, in the {draws // PARTS // 2} losses before
-                    the group changes and in the last ones, by intervals of {min(RUNS, scale.runs)} runs that leave out 0:"""),
-                "\n".join(f"- {words[0].upper()}{words[1:]}: {' '.join(told(policy, settled).split())}." for policy, words in POLICIES.items() if policy != "live"),
-                picture("kept-adapting-wait", "Constants that follow the session: seconds", begun(groups, records, draws))]
-        cells = table_of(HEADS, settled, lambda r: [PLACES[r["network"]].words, members_told(r), POLICIES[r["policy"]], *(sure(r, c) for c in (
-            "source_requests", "member_repairs", "seconds", "datagrams", "more_datagrams", "more_seconds"))])
-        return "\n\n".join([*text, cells])
+        beside = f"""Beside the fixed constants {LIVE}, in the {draws // PARTS // 2} losses before the group changes and in as many at the end, by
+            intervals of {min(RUNS, scale.runs)} runs that leave out 0:"""
+        found = [f"- {words[0].upper()}{words[1:]}: {told(policy, settled)}." for policy, words in POLICIES.items() if policy != "live"]
+        cells = table_of(("Network", "Members", "Constants", *COLUMNS.values()), settled, lambda r: [
+            PLACES[r["network"]].words, members_told(r), POLICIES[r["policy"]], *(sure(r, column) for column in COLUMNS)])
+        return "\n\n".join([
+            picture("kept-adapting", "Constants that follow the session: datagrams", beside), "\n".join(found),
+            picture("kept-adapting-wait", "Constants that follow the session: seconds", begun(groups, records, draws)), cells])
 
     cases = {name_of(group, policy): Case(settings(group, policy), min(RUNS, scale.runs)) for group, policy in keys}
     return Figure("kept-adapting", cases, table, plots, section)
@@ -128,9 +131,9 @@ def is_of(record: Record, group: Group) -> bool:
 
 
 def members_told(record: Record) -> str:
-    if record["change"] == COME:
-        return f"{record['members']}, come" if record["part"] == PARTS else f"{record['members']} before"
-    return f"{record['members']}, left" if record["part"] == PARTS else str(record["members"])
+    if record["part"] <= PARTS // 2:
+        return str(record["members"])
+    return f"{record['members']}, {'left' if record['change'] == GO else 'come'}"
 
 
 def told(policy: str, records: list[Record]) -> str:
@@ -147,13 +150,15 @@ def told(policy: str, records: list[Record]) -> str:
     def above(value: float, half: float) -> bool:
         return value - half > 0
 
-    return f"""fewer datagrams: {where('more_datagrams', below)}; more: {where('more_datagrams', above)}; sooner: {where('more_seconds', below)};
-        later: {where('more_seconds', above)}"""
+    parts = [f"{words}: {where(column, is_so)}" for words, column, is_so in (
+        ("fewer datagrams", "more_datagrams", below), ("more", "more_datagrams", above),
+        ("sooner", "more_seconds", below), ("later", "more_seconds", above))]
+    return "; ".join(parts)
 
 
 def begun(groups: list[Group], records: list[Record], draws: int) -> str:
     """What the first losses take, where all are at one distance."""
     group = next(group for group in reversed(groups) if group.change == GO and group.place == "broker")
     of = {r["policy"]: r for r in records if is_of(r, group) and r["part"] == 1}
-    parts = [f"{words} takes {sure(of[policy], 'source_requests')} requests and {sure(of[policy], 'member_repairs')} repairs" for policy, words in POLICIES.items()]
-    return f"In the first {draws // PARTS // 2} losses of {group.members} members at a broker, {'; '.join(parts)}."
+    parts = [f"{words}: {sure(of[policy], 'source_requests')} and {sure(of[policy], 'member_repairs')}" for policy, words in POLICIES.items()]
+    return f"""The requests and repairs of the first {draws // PARTS // 2} losses of {group.members} members at a broker are, {'; '.join(parts)}."""
