@@ -75,14 +75,14 @@ def timers_send_what_hosts_send() -> None:
 
 
 def timers_that_adapt_send_what_hosts_send() -> None:
-    """The same, with a `tuning` line for each change of the policy's constants: by the number of members, of whom some leave, come late or go
-    and come, and as published, also where one report tells of many losses at once."""
+    """The same, with a `tuning` line for each change of the policy's constants: by the number of members, of whom some leave, and as
+    published, also where requests and repairs are lost and said again."""
     for settings in (
         Settings(members=16, leaving=8, draws=40, loss="same"),
         Settings(members=12, draws=40, loss="link:0-1,0-12", tuning="2,4,1,3"),
         Settings(shape="random", members=17, draws=30, delay=(0.005, 0.05), seed=3, tuning="1,2,3,4", leaving=2),
         Settings(shape="tree", members=10, nodes=60, draws=30, loss="share:0.05", seed=7, tuning="2,16,1,16"),
-        Settings(members=9, draws=24, every=0.5, loss="burst:1-8:0.4", leaving=2),
+        Settings(members=9, draws=48, every=0.5, loss="burst:1-20:0.4", leaving=2),
     ):
         fixed = sends_of(replace(settings, who="timers"))
         for adapt in ("members", "published"):
