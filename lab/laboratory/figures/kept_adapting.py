@@ -63,8 +63,7 @@ class Group(NamedTuple):
 def groups_of(scale: Scale) -> list[Group]:
     if len(scale.constants) <= 2:
         return [Group("broker", 6), Group("broker", 6, COME)]
-    some = [Group(place, 24) for place in ("lan", "radio", "broker", "star", "domains", "tree")]
-    return [*some, Group("broker", 50), Group("broker", 24, COME)]
+    return [*(Group(place, 16) for place in ("radio", "broker", "star", "domains")), Group("broker", 16, COME)]
 
 
 def kept_adapting(scale: Scale) -> Figure:
