@@ -118,12 +118,13 @@ class HostMember:
             self.read_given()
 
     def give_made(self) -> None:
+        if not self.made:
+            return
         given = [(moment, line.encode()) for moment, line in self.made]
         self.made = []
         self.given += given
         self.lines += [line for _, line in given]
-        if given:
-            self.moment = given[-1][0]
+        self.moment = given[-1][0]
         try:
             self.host.give([line for _, line in given])
         except HostEnded as error:

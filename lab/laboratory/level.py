@@ -30,7 +30,7 @@ class OneLoss:
         self.repairs: list[int] = []
         for member in members:
             if member.number in lacking:
-                member.notice(0, [self.name])
+                member.notice(0, self.name)
             else:
                 member.held.add(self.name)
         self.dues: list[tuple[int, int]] = []

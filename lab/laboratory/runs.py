@@ -36,8 +36,9 @@ class Settings:
     `who` is what the members are: `hosts`, or `timers` that are reckoned here. Their constants are those of `tuning` and `fixed`, or `adapt`
     from these on: by the number of `members`, or as `published`. `judge` says who judges for hosts: the members themselves (`keep`, whose
     reports have `rate` bytes a second together), or the laboratory by today's lines (`looks`). The first drawing is at `start`. `late`
-    members come at `join`, or when half is drawn; `leaving` members go then; `coming` members go and come, for `gone` seconds at a time. `fast` lets each member's clock gain or lose up to so many microseconds in a million. Links
-    carry `bandwidth` bytes a second, where it is not 0, and queue `queue` bytes. The run goes on to `lasts`, also if all is well.
+    members come at `join`, or when half is drawn; `leaving` members go then; `coming` members go and come, for `gone` seconds at a time.
+    `fast` lets each member's clock gain or lose up to so many microseconds in a million. Links carry `bandwidth` bytes a second, where it
+    is not 0, and queue `queue` bytes. The run goes on to `lasts`, also if all is well.
     """
 
     shape: str = "star"
@@ -191,8 +192,8 @@ def present_in(settings: Settings, plan: Plan) -> Callable[[int], int]:
 
 def start_timers(settings: Settings, network: Network, plan: Plan) -> dict[int, Member]:
     """Timers for each member, with the words that its host would have."""
-    present = present_in(settings, plan)
-    return {number: TimerMember(number, Words(seed), make_policy(settings, present), network.distance) for number, seed in board_words(settings).items()}
+    present, words = present_in(settings, plan), board_words(settings)
+    return {number: TimerMember(number, Words(seed), make_policy(settings, present), network.distance) for number, seed in words.items()}
 
 
 def constants_in(tuning: str) -> Constants:

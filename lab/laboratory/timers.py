@@ -99,7 +99,8 @@ class TimerMember:
                     self.hear(moment, datagram.author, datagram.name)
                 elif datagram.name:
                     self.arrives(moment, datagram.name)
-                self.notice(moment, missed)
+                for name in missed:
+                    self.notice(moment, name)
 
     def send(self, moment: int, kind: str, name: Name) -> None:
         is_drawop = kind == "drawop"
@@ -136,15 +137,14 @@ class TimerMember:
         for name in repaired:
             self.policy.sees_repair(name, moment, True)
 
-    def notice(self, moment: int, names: Sequence[Name]) -> None:
-        """Drawops are missed. Their timers go by the same constants, as those of one look do."""
-        new = [name for name in names if name not in self.held and name not in self.asks]
-        for name in new:
-            self.policy.begins_to_ask(name, moment, self.distance(name[0]))
+    def notice(self, moment: int, name: Name) -> None:
+        """A drawop is missed."""
+        if name in self.held or name in self.asks:
+            return
+        distance = self.distance(name[0])
+        self.policy.begins_to_ask(name, moment, distance)
         lead, spread, _, _ = self.policy.now(moment)
-        for name in new:
-            distance = self.distance(name[0])
-            self.asks[name] = Ask(0, self.expiry(moment, 0, lead, spread, distance), 0, distance)
+        self.asks[name] = Ask(0, self.expiry(moment, 0, lead, spread, distance), 0, distance)
 
     def hear(self, moment: int, asker: int, name: Name) -> None:
         """Another member asks."""
