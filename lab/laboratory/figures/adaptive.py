@@ -10,7 +10,8 @@ from laboratory.measures import Row
 from laboratory.plots import Panel, Plot
 from laboratory.runs import Settings
 
-POLICIES = {"fixed": "fixed 2,2,1,1", "members": "by members", "published": "adapting"}
+POLICIES = {"fixed": "fixed 2,2,1,1", "members": "by members", "adapting": "adapting"}
+ADAPT = {"adapting": "published"}
 NETWORKS = {
     "level": ("one distance of 40 ms", Settings(delay=(0.02, 0.02))),
     "star": ("star, links of 5 to 50 ms", Settings(delay=(0.005, 0.05))),
@@ -30,8 +31,8 @@ def adaptive(scale: Scale) -> Figure:
 
     def settings(regime: str, network: str, policy: str) -> Settings:
         nodes = scale.tree_nodes if network == "tree" else 0
-        return replace(NETWORKS[network][1], members=scale.group, nodes=nodes, loss=regime, draws=2 * scale.rounds, every=2.0, who="timers", adapt=policy,
-                       leaving=scale.group // 2)
+        return replace(NETWORKS[network][1], members=scale.group, nodes=nodes, loss=regime, draws=2 * scale.rounds, every=2.0, who="timers",
+                       adapt=ADAPT.get(policy, policy), leaving=scale.group // 2)
 
     def is_in(place: int, row: Row) -> bool:
         return row.number // 2 // width == place
@@ -70,7 +71,7 @@ def adaptive(scale: Scale) -> Figure:
         for regime, alt in (("same", "One link loses in all rounds"), ("each", "Another link in each round")):
             own = [r for r in records if r["regime"] == regime and r["round"] in (half, last)]
             steady = [r for r in own if r["round"] == half]
-            fewer = sorted(NETWORKS[r["network"]][0] for r in steady if r["policy"] == "published" and r["more_datagrams"] is not None
+            fewer = sorted(NETWORKS[r["network"]][0] for r in steady if r["policy"] == "adapting" and r["more_datagrams"] is not None
                            and r["more_datagrams"] + r["more_datagrams_95"] < 0)
             text = f"""By rounds {half - width + 1} to {half} adapting timers send fewer datagrams than fixed 2,2,1,1, by an interval that leaves out 0,
                 on these: {'; '.join(fewer) or 'none'}. The table has these rounds, and the last ones, when half of the group is gone."""
