@@ -135,12 +135,12 @@ ends_none : HasNoTick ends_full
 ends_none see p = choose (is_full (see [])) (end see p) (still see p) (from_small _ (stops_small (see []).asked)) tt
 
 -- a call is a tick to its moment, and lines that are none
-record Begins (line : KeptLine) (d : Doing) : Type 0 where
-  rest : List Line
-  is : d.lines ≡ Ticks (moment_in line) ∷ rest
+pub record Begins (line : KeptLine) (d : Doing) : Type 0 where
+  pub rest : List Line
+  pub is : d.lines ≡ Ticks (moment_in line) ∷ rest
   none : AreNoTicks rest
 
-begins : (line : KeptLine) (see : List Line → View) (p : Policy) → Begins line (doing_of line see p)
+pub begins : (line : KeptLine) (see : List Line → View) (p : Policy) → Begins line (doing_of line see p)
 begins (Came now v) see p = record { rest = _; is = refl; none = both (hears v) timed (hears_none v) timed_none (λ (lines : List Line). see (Ticks now ∷ lines)) p }
 begins (Ticked now) see p = record { rest = _; is = refl; none = timed_none (λ (lines : List Line). see (Ticks now ∷ lines)) p }
 begins (Added now page time op) see p = record {
