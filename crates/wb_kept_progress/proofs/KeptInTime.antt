@@ -1,5 +1,5 @@
 -- By when what is asked for comes to hosts that keep themselves: as to the hosts that perform their lines.
-use Rattle.std.proofs.Common.{◌≡◌, ℕ, ◌+◌, ◌<◌, ◌≤◌, Bool, true, false, List, [], ◌∷◌, ◌++◌, ◌∙◌, Option, Some, ap, append_assoc, max, refl, subst, sym, ⊎_elim}
+use Rattle.std.proofs.Common.{◌≡◌, ℕ, ◌+◌, ◌<◌, ◌≤◌, true, List, [], ◌∷◌, ◌++◌, ◌∙◌, ap, append_assoc, max, refl, subst, sym, ⊎_elim}
 use Rattle.std.specs.Prelude.{Contains, nat_eq}
 use Rattle.std.proofs.lemmas.List.Elements.{Contains-append_cases}
 use Rattle.wb_names.specs.Values.{NameValue}
@@ -7,16 +7,15 @@ use Rattle.wb_names.proofs.Listings.{Contains-none}
 use Rattle.wb_codec.specs.declared.datagram.Datagram.{Datagram}
 use Rattle.wb_codec.specs.declared.datagram.Datagram.TheVariants.{Request}
 use Rattle.wb_recovery.specs.Events.{timers_of}
-use Rattle.wb_recovery.specs.declared.timers.AskTimer.{AskTimer}
 use Rattle.wb_progress.specs.InTime.{answering_by, known_from, repairing}
 use Rattle.wb_progress.specs.Turns.{Terms}
 use Rattle.wb_member.specs.Judged.{holds}
 use Rattle.wb_member.specs.Opened.{Opened, events}
 use Rattle.wb_keeping.specs.Kept.{Line, Ticks}
 use Rattle.wb_keeping.specs.Laws.{doing_of}
-use Rattle.wb_keeping.specs.Performing.{Keeping, after_line, after_lines, sees, sent_by_line, sent_by_lines}
+use Rattle.wb_keeping.specs.Performing.{after_line, after_lines, sees, sent_by_line, sent_by_lines}
 use Rattle.wb_kept_progress.specs.Sessions.{Opening, kept_at}
-use Rattle.wb_kept_progress.specs.Timed.{AllHoldBehind, AllKeptHoldBehind, IsKeptTimely, KeptRequestIsAnswered, KeptTimerLeads, Performed, Start, TimedLine, called_at, host_after, lines_of, moment_in, performed, performed_then, sends, start_of, time_of}
+use Rattle.wb_kept_progress.specs.Timed.{AllHoldBehind, AllKeptHoldBehind, IsKeptTimely, KeptRequestIsAnswered, KeptTimerLeads, Performed, Start, TimedLine, called_at, host_after, lines_of, moment_in, performed, performed_then, start_of, time_of}
 use Rattle.wb_kept_progress.proofs.Performed.{after_all, begins, kept_is_performed}
 use Rattle.wb_kept_progress.proofs.Repairs.{is_itself}
 use Rattle.wb_kept_progress.proofs.Timely.{request_is_answered, timer_leads}
