@@ -1,5 +1,5 @@
 -- Who hears a report of a number that it lacks asks for it.
-use Rattle.std.proofs.Common.{◌≡◌, ℕ, suc, ◌+◌, ◌*◌, ◌^◌, ◌<◌, ◌≤◌, Bool, true, false, cond, List, [], ◌∷◌, ◌∙◌, Option, Some, None, ap, arith, eqb-true, leb-true, length, map, refl, subst, sym, true≢false}
+use Rattle.std.proofs.Common.{◌≡◌, ℕ, suc, ◌+◌, ◌*◌, ◌^◌, ◌<◌, ◌≤◌, Bool, true, false, cond, List, [], ◌∷◌, ◌∙◌, Option, Some, None, ap, arith, eqb-true, length, map, refl, subst, sym, true≢false}
 use Rattle.std.specs.Prelude.{◌&&◌, Contains, IfSome, filter, is_some, max, min, nat_eq, nat_le, nat_lt, not, take, unwrap_or}
 use Rattle.std.proofs.Math.Nat.{mul-le-mul, pow-le-pow_right}
 use Rattle.std.proofs.lemmas.List.Sums.{count_by-le-length, length-filter}
@@ -7,7 +7,6 @@ use Rattle.wb_names.specs.History.{name_of}
 use Rattle.wb_names.specs.Values.{MarkValue, NameValue}
 use Rattle.wb_names.specs.declared.echo.Echo.{Echo}
 use Rattle.wb_names.specs.declared.name.PageId.{PageId}
-use Rattle.wb_names.proofs.Orders.{and_both}
 use Rattle.wb_codec.specs.declared.datagram.Datagram.{Datagram}
 use Rattle.wb_codec.specs.declared.datagram.Datagram.TheVariants.{Session, AskPages}
 use Rattle.wb_gaps.specs.Answers.{pages_of, report_of}
@@ -15,7 +14,7 @@ use Rattle.wb_gaps.specs.Holes.{hole_after}
 use Rattle.wb_gaps.specs.declared.holes.Hole.{Hole}
 use Rattle.wb_recovery.specs.Events.{Event, due_asks, names_of, timers_of, word_for, constants_after}
 use Rattle.wb_recovery.specs.Stopping.{got_each, is_received, receipts}
-use Rattle.wb_recovery.specs.Timing.{are_constants, backed_off, fired_ask, is_constant}
+use Rattle.wb_recovery.specs.Timing.{backed_off, fired_ask}
 use Rattle.wb_recovery.specs.declared.missed.Received.{Received}
 use Rattle.wb_recovery.specs.declared.timers.AskTimer.{AskTimer}
 use Rattle.wb_recovery.specs.declared.timers.Timers.{Timers}
@@ -35,7 +34,7 @@ use Rattle.wb_member.specs.Random.{words_of}
 use Rattle.wb_keeping.specs.Credit.{cost}
 use Rattle.wb_keeping.specs.Distances.{bounded}
 use Rattle.wb_keeping.specs.Fairness.{AnswersWhatIsHeld}
-use Rattle.wb_keeping.specs.Kept.{Doing, Hears, Says, SetsDistance, Tunes, Ticks, Transition, and_then, answers, asks_pages, came, distance_in, hears, hears_session, measures, own_echo, own_marks, performs, reports, reports_due, reports_rest, state_of, still, timed, told_names, turn, turn_to, want_told}
+use Rattle.wb_keeping.specs.Kept.{Doing, Hears, Says, SetsDistance, Ticks, Transition, and_then, answers, asks_pages, came, distance_in, hears, hears_session, measures, own_echo, own_marks, performs, reports, reports_due, reports_rest, state_of, still, timed, told_names, turn, turn_to, want_told}
 use Rattle.wb_keeping.specs.Performing.{Keeping, after_doing, after_lines, sees, view_of}
 use Rattle.wb_keeping.specs.Policy.{Policy, View, after_answer, after_question, after_turn, holds, in_next_round, with_distance}
 use Rattle.wb_keeping.specs.Questions.{is_due}

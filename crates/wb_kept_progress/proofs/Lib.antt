@@ -9,3 +9,4 @@ pub mod Lining
 pub mod PerLine
 pub mod Timely
 pub mod Performed
+pub mod KeptInTime

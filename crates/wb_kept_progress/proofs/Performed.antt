@@ -1,6 +1,6 @@
 -- Hosts that keep themselves perform lines, and each call of theirs begins with a tick.
-use Rattle.std.proofs.Common.{◌≡◌, ℕ, ◌+◌, Bool, true, false, cond, List, [], ◌∷◌, ◌++◌, ◌∙◌, Option, Some, None, ap, eqb-true, eq-eqb, map, refl, subst, sym, ⊎_elim}
-use Rattle.std.specs.Prelude.{◌⊎◌, ◌||◌, length, nat_eq, nat_lt}
+use Rattle.std.proofs.Common.{◌≡◌, ℕ, ◌+◌, Bool, true, false, cond, List, [], ◌∷◌, ◌++◌, ◌∙◌, ap, eqb-true, eq-eqb, map, refl, subst, sym, ⊎_elim}
+use Rattle.std.specs.Prelude.{◌||◌, length, nat_eq, nat_lt}
 use Rattle.wb_names.specs.Values.{DrawopValue, MarkValue}
 use Rattle.wb_names.specs.declared.echo.Echo.{Echo}
 use Rattle.wb_names.specs.declared.name.PageId.{PageId}
@@ -8,16 +8,16 @@ use Rattle.wb_names.specs.declared.parts.Op.{Op}
 use Rattle.wb_codec.specs.declared.datagram.Datagram.{Datagram}
 use Rattle.wb_codec.specs.declared.datagram.Datagram.TheVariants.{Draw, Session, Request, AskPages, PageState}
 use Rattle.wb_progress.specs.Turns.{Terms}
-use Rattle.wb_member.specs.Opened.{Opened, opened_with, present}
-use Rattle.wb_keeping.specs.Kept.{Line, Arrives, Asks, Doing, Hears, Says, SetsDistance, Tunes, Stops, Ticks, Transition, adds, and_then, came, distance_in, draws_it, drawing, end, ends_full, hears, hears_session, hears_some, hears_state, learned, measures, of_other, own_echo, own_marks, performs, still, takes, takes_question, ticks, timed, told_names, want_told}
+use Rattle.wb_member.specs.Opened.{opened_with, present}
+use Rattle.wb_keeping.specs.Kept.{Line, Arrives, Asks, Doing, Hears, Says, SetsDistance, Tunes, Stops, Ticks, Transition, adds, and_then, came, distance_in, draws_it, end, ends_full, hears, hears_session, hears_some, hears_state, learned, measures, of_other, own_echo, own_marks, performs, still, takes, takes_question, ticks, timed, told_names, want_told}
 use Rattle.wb_keeping.specs.Laws.{KeptLine, Came, Ticked, Added, Tuned, doing_of}
 use Rattle.wb_keeping.specs.Performing.{Keeping, after_doing, after_line, after_lines, sees}
 use Rattle.wb_keeping.specs.Policy.{Policy, View, after_state, after_taking_up, holds, is_asked, is_full}
 use Rattle.wb_keeping.specs.Questions.{is_to_answer}
-use Rattle.wb_kept_progress.specs.Sessions.{LineAt, Opening, kept_at}
-use Rattle.wb_kept_progress.specs.Timed.{IsPerformed, KeepsMoments, KeptIsPerformed, KeptKeepsMoments, Performed, Start, TellTimes, TimedLine, IsTold, host_after, lines_of, performed, performed_then, start_of}
+use Rattle.wb_kept_progress.specs.Sessions.{Opening, kept_at}
+use Rattle.wb_kept_progress.specs.Timed.{IsTold, KeptIsPerformed, KeptKeepsMoments, Performed, Start, TellTimes, TimedLine, host_after, lines_of, performed, performed_then, start_of}
 use Rattle.wb_kept_progress.proofs.Going.{learned_small, measures_small, stops_small, timed_small, want_told_small}
-use Rattle.wb_kept_progress.proofs.Lines.{AreSmall, IsSmall}
+use Rattle.wb_kept_progress.proofs.Lines.{AreSmall}
 use Rattle.wb_kept_progress.proofs.PerLine.{line_moment}
 
 module _ (hosts : ℕ → Start) where
@@ -185,9 +185,9 @@ module _ (hosts : ℕ → Start) (terms : Terms) where
       then_in time place lines (at_place time place line ∷ older) none.1
       (record { ticks = λ moment e. absurd (no_tick line moment none.0 e); hears = λ v e. now }, all)
       (ap present (here time place line older) ∙ ⊎_elim
-          (λ (same : present (after_line line (host_after hosts older place)) ≡ present (host_after hosts older place)). same ∙ now)
-          (λ (t : (moment : ℕ) × (line ≡ Ticks moment) × (present (after_line line (host_after hosts older place)) ≡ moment)). absurd (no_tick line t.0 none.0 t.1))
-          (line_moment line (host_after hosts older place)))
+      (λ (same : present (after_line line (host_after hosts older place)) ≡ present (host_after hosts older place)). same ∙ now)
+      (λ (t : (moment : ℕ) × (line ≡ Ticks moment) × (present (after_line line (host_after hosts older place)) ≡ moment)). absurd (no_tick line t.0 none.0 t.1))
+      (line_moment line (host_after hosts older place)))
 
   call_in : (time place now : ℕ) (rest : List Line) (older : List Performed) → AreNoTicks rest → AreInTime older → now ≡ time + terms.offset place → AreInTime (performed_then time place (Ticks now ∷ rest) older)
   call_in time place now rest older none all told =

@@ -15,7 +15,7 @@ use Rattle.wb_member.specs.Judged.{delay, holds, is_full}
 use Rattle.wb_member.specs.Opened.{Opened, events, opened_with, present}
 use Rattle.wb_keeping.specs.Kept.{Line, Arrives, Hears, Says, Stops, Ticks}
 use Rattle.wb_keeping.specs.Laws.{KeptLine, Came, Ticked, Added, Tuned, doing_of}
-use Rattle.wb_keeping.specs.Performing.{after_line, sees, sent_by_line}
+use Rattle.wb_keeping.specs.Performing.{after_line, sees, sent_by_doing, sent_by_line}
 use Rattle.wb_kept_progress.specs.Sessions.{LineAt, Opening, kept_at}
 
 -- ---- a trace
@@ -181,3 +181,30 @@ KeptIsPerformed = (hosts : ℕ → Opening) (trace : List TimedLine) → ((i : �
 
 abbrev pub KeptKeepsMoments : Type 0
 KeptKeepsMoments = (hosts : ℕ → Opening) (terms : Terms) (trace : List TimedLine) → TellTimes terms trace → KeepsMoments hosts terms trace
+
+-- ---- by when it comes to hosts that keep themselves
+
+-- the time of the newest call, at first 0
+abbrev pub called_at : List TimedLine → ℕ
+called_at [] = 0
+called_at (e ∷ older) = e.time
+
+-- What they perform keeps to the terms, and a live one held the name once what was on its way had arrived.
+pub record IsKeptTimely (hosts : ℕ → Opening) (terms : Terms) (trace : List TimedLine) (n : NameValue) : Type 0 where
+  pub opened : (i : ℕ) → (hosts i).moments ≡ []
+  pub timely : IsTimely (λ j. start_of (hosts j)) terms (performed hosts trace) n
+  pub answerable : IsAnswerable (λ j. start_of (hosts j)) terms (performed hosts trace) n
+
+-- each live host has it once the calls have gone on behind a time
+abbrev pub AllKeptHoldBehind : (ℕ → Opening) → Terms → List TimedLine → ℕ → NameValue → Type 0
+AllKeptHoldBehind hosts terms trace time n = (newer later : List TimedLine) (i : ℕ) → trace ≡ newer ++ later → time < called_at later → Contains terms.live i → holds (kept_at hosts (lines_of later) i).host n ≡ true
+
+-- A request that a call sends late enough brings the name to all.
+abbrev pub KeptRequestIsAnswered : Type 0
+KeptRequestIsAnswered = (hosts : ℕ → Opening) (terms : Terms) (trace newer older : List TimedLine) (e : TimedLine) (asker : ℕ) (n : NameValue) → IsKeptTimely hosts terms trace n → trace ≡ newer ++ e ∷ older → settled_by terms < e.time → settled_by terms + 3 * terms.far ≤ e.time
+    → Contains (sent_by_doing (doing_of e.at.line) (kept_at hosts (lines_of older) e.at.place)) (Request asker n) → AllKeptHoldBehind hosts terms trace (e.time + answering_by terms) n
+
+-- A request timer that stands behind a call late enough does so.
+abbrev pub KeptTimerLeads : Type 0
+KeptTimerLeads = (hosts : ℕ → Opening) (terms : Terms) (trace newer older : List TimedLine) (i : ℕ) (n : NameValue) (ask : AskTimer) (due : ℕ) → IsKeptTimely hosts terms trace n → trace ≡ newer ++ older → Contains terms.live i → known_from terms ≤ called_at older
+    → (let host = (kept_at hosts (lines_of older) i).host in (timers_of host.is.constants (events host) n).ask) ≡ Some ask → ask.due ≤ due + terms.offset i → AllKeptHoldBehind hosts terms trace (max (called_at older) due + repairing terms) n

@@ -1,7 +1,7 @@
 //! Laws of progress of hosts that keep themselves. Each function does nothing: its contract is a law, for proofs to cite.
 
 ghost use Rattle.wb_kept_progress.specs.Repairs.{AskedCanCome, LostCanCome, MarksComeToBeTold, MissingCanCome, MissingIsAsked, MissingIsAskedSoon};
-ghost use Rattle.wb_kept_progress.specs.Timed.{KeptIsPerformed, KeptKeepsMoments, RequestIsAnswered, TimerLeads};
+ghost use Rattle.wb_kept_progress.specs.Timed.{KeptIsPerformed, KeptKeepsMoments, KeptRequestIsAnswered, KeptTimerLeads, RequestIsAnswered, TimerLeads};
 
 /// Whatever came in before, a drawop that one host asks for, and that another holds, comes by six more lines of the
 /// two. None of them is refused, and none hands in what was not sent.
@@ -30,6 +30,8 @@ pub fn what_is_lost_can_come()
 pub fn what_is_asked_for_comes_in_time()
     ensures answered { RequestIsAnswered }
     ensures leads { TimerLeads }
+    ensures kept_answered { KeptRequestIsAnswered }
+    ensures kept_leads { KeptTimerLeads }
 {}
 
 /// A host that keeps itself from its opening on is the host that performed the lines of its policy, each call at a time. Where each
