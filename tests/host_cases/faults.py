@@ -141,7 +141,7 @@ def no_datagrams() -> dict[str, str]:
 def wrong_words() -> dict[str, str]:
     """Datagrams in words of which a word is wrong, with the place of the first such word, as docs/WORDS.md has them."""
     table = {
-        "draw": "word 2: missing",
+        "draw": "unknown",
         "draw ": "word 2: number",
         "draw  7 7/1 1 10 line 0 1 4 1 *": "word 2: number",
         "draw 07 7/1 1 10 line 0 1 4 1 *": "word 2: number",

@@ -98,9 +98,17 @@ record AreOther (rest : List ℕ) : Type 0 where
   pub hear : begins_datagram (codes "hear " ++ rest) ≡ false
   pub bytes : begins_datagram (codes "datagram " ++ rest) ≡ false
 
+no_kind_first : (word : List ℕ) (ws : List (List ℕ)) → is_kind word ≡ false → first_is_kind (word ∷ ws) ≡ false
+no_kind_first word [] other = refl
+no_kind_first word (next ∷ ws) other = other
+
 others : (rest : List ℕ) → AreOther rest
 unfolding is_kind
-others rest = record { arrive = refl; hear = refl; bytes = refl }
+others rest = record {
+  arrive = no_kind_first (codes "arrive") _ refl;
+  hear = no_kind_first (codes "hear") _ refl;
+  bytes = no_kind_first (codes "datagram") _ refl;
+}
 
 -- a line that is none in words is told by its first word
 told : (line : List ℕ) (ws : List (List ℕ)) → begins_datagram line ≡ false → words line ≡ ws → line_of line ≡ line_of_words ws

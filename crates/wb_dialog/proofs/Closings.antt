@@ -1,5 +1,5 @@
 -- A block is the text of a reply, and the line that closes it.
-use Rattle.std.proofs.Common.{◌≡◌, ℕ, List, [], ◌++◌, Option, Result, Ok, Err, refl, sym, ap, subst, ◌∙◌, append_assoc}
+use Rattle.std.proofs.Common.{ℕ, List, [], ◌++◌, Option, Result, Ok, Err, sym, ap, subst}
 use Rattle.wb_lines.specs.Input.{BeginsWith}
 use Rattle.wb_dialog.proofs.Fronts.{begins_within, begins_behind}
 use Rattle.wb_dialog.specs.declared.fault.Refusal.{Refusal}

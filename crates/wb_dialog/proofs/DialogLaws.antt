@@ -1,18 +1,17 @@
 -- Laws of transcripts.
-use Rattle.std.proofs.Common.{◌≡◌, ◌≤◌, ◌<◌, ◌⊎◌, ℕ, suc, ◌+◌, Bool, true, false, List, [], ◌∷◌, ◌++◌, length, Option, Some, None, inl, inr, refl, sym, ap, subst, ◌∙◌, cond, arith, length-append}
-use Rattle.std.specs.Prelude.{nat_eq, nat_le, not, ◌||◌, All, if◌then◌else◌}
+use Rattle.std.proofs.Common.{◌≡◌, ◌⊎◌, ℕ, suc, ◌+◌, Bool, true, false, List, [], ◌∷◌, ◌++◌, length, inl, inr, refl, sym, ap, subst, ◌∙◌, arith, length-append}
+use Rattle.std.specs.Prelude.{nat_eq, not, ◌||◌, if◌then◌else◌}
 use Rattle.std.specs.List.{concat}
 use Rattle.std.proofs.lemmas.Bool.Decides.{nat_tests}
 use Rattle.std.proofs.lemmas.List.Elements.{All-nil, All-cons}
-use Rattle.wb_recovery.specs.declared.tuning.Tuning.{Tuning}
-use Rattle.wb_lines.specs.Input.{InputLine, onto_first, input_lines, BeginsWith, most_bytes}
+use Rattle.wb_lines.specs.Input.{InputLine, onto_first, input_lines, BeginsWith}
 use Rattle.wb_lines.specs.Handling.{Met, whole, too_long}
 use Rattle.wb_lines.specs.Taking.{met, is_taken, is_short}
 use Rattle.wb_dialog.specs.declared.fault.Refusal.{Refusal}
 use Rattle.wb_dialog.specs.Dialog.{answered_lines, ok_line, refused_line}
-use Rattle.wb_dialog.specs.Hosting.{Hosting, Reply, prints, denies, reply_of, block_of, blocks_from, hosting_after, hosting_from, due_at, unopened, transcript}
+use Rattle.wb_dialog.specs.Hosting.{Hosting, Reply, prints, denies, reply_of, block_of, blocks_from, hosting_after, hosting_from, due_at, unopened}
 use Rattle.wb_dialog.specs.Laws.{RefusedStays, IsBlock, EachIsAnswered, FrontsAreFronts, is_given, accepted_lines, accepted_blocks, AcceptedAlone}
-use Rattle.wb_dialog.proofs.Fronts.{begins_all, begins_empty, begins_behind}
+use Rattle.wb_dialog.proofs.Fronts.{begins_empty, begins_behind}
 
 -- ---- a refused line
 

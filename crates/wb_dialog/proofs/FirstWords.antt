@@ -83,12 +83,16 @@ kind_is_first (b ∷ front) word more arguments kind e =
     let begins : (b ∷ front) ∷ more ≡ word ∷ arguments = ap (λ (t : Bool). if t then more else (b ∷ front) ∷ more) (sym some) ∙ e in
     subst (λ (w : List ℕ). is_kind w ≡ true) (same_first (b ∷ front) word more arguments begins) kind
 
+kind_of_first : (word : List ℕ) (ws : List (List ℕ)) → first_is_kind (word ∷ ws) ≡ true → is_kind word ≡ true
+kind_of_first word [] kind = absurd cc
+kind_of_first word (next ∷ ws) kind = kind
+
 kind_first : (line word : List ℕ) (arguments : List (List ℕ)) → begins_datagram line ≡ true → words line ≡ word ∷ arguments → is_kind word ≡ true
 kind_first line word arguments begins first = at (split_once 32 line) refl where
   at : (parts : Option (List ℕ × List ℕ)) → split_once 32 line ≡ parts → is_kind word ≡ true
-  at None is = kind_is_first line word [] arguments (sym (ap first_is_kind (words_whole line is)) ∙ begins) (sym (words_none [] line is) ∙ first)
+  at None is = kind_is_first line word [] arguments (kind_of_first line [] (sym (ap first_is_kind (words_whole line is)) ∙ begins)) (sym (words_none [] line is) ∙ first)
   at (Some (front, rest)) is =
-      kind_is_first front word (words rest) arguments (sym (ap first_is_kind (words_split_once line front rest is)) ∙ begins) (sym (words_split [] line front rest is) ∙ first)
+      kind_is_first front word (words rest) arguments (kind_of_first front _ (sym (ap first_is_kind (words_split_once line front rest is)) ∙ begins)) (sym (words_split [] line front rest is) ∙ first)
 
 -- a line that a script takes has no such word in front
 not_taken : (opener line : List ℕ) (arguments : List (List ℕ)) (l : Command) → IsUnknown opener → words line ≡ opener ∷ arguments → line_of line ≡ Ok l → ⊥

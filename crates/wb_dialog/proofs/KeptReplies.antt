@@ -1,8 +1,7 @@
 -- What a host that keeps itself does for a line, by what its member did.
-use Rattle.std.proofs.Common.{◌≡◌, ℕ, List, [], ◌∷◌, ◌++◌, Option, Some, None, Result, Ok, Err, refl, sym, ap, subst, ◌∙◌}
+use Rattle.std.proofs.Common.{◌≡◌, ℕ, List, [], ◌++◌, Option, Some, None, Result, Ok, Err, refl, sym, ap, subst, ◌∙◌}
 use Rattle.std.specs.Prelude.{IsTrue, is_some}
 use Rattle.wb_codec.specs.declared.datagram.Datagram.{Datagram}
-use Rattle.wb_host.specs.declared.keep_fault.KeepFault.{KeepFault}
 use Rattle.wb_host.specs.declared.keep_fault.KeepFault.TheVariants as keep_faults
 use Rattle.wb_member.specs.Holding.{IsOpenAt, MemberValue}
 use Rattle.wb_member.specs.Opened.{Opened, next_due, present}
@@ -12,7 +11,6 @@ use Rattle.wb_keeping.specs.Policy.{begun}
 use Rattle.wb_keeping.specs.Refusing.{IsRefusedBy}
 use Rattle.wb_keeping.specs.declared.kept_fault.KeptFault.{KeptFault}
 use Rattle.wb_keeping.specs.declared.kept_fault.KeptFault.TheVariants as kept_faults
-use Rattle.wb_lines.specs.Input.{BeginsWith}
 use Rattle.wb_commands.specs.SentLines.{sends_text}
 use Rattle.wb_dialog.proofs.Fronts.{begins_empty}
 use Rattle.wb_dialog.specs.declared.fault.Refusal.TheVariants as refusals

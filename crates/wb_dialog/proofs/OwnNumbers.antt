@@ -1,7 +1,7 @@
 -- The next number on a page is a new one.
 use Rattle.std.proofs.Common.{◌≡◌, ◌≤◌, ◌<◌, ℕ, ◌+◌, Bool, true, false, Option, Some, None, ap, cond, arith}
 use Rattle.std.specs.Prelude.{nat_lt, max, unwrap_or}
-use Rattle.wb_names.specs.History.{IsHeld, highest}
+use Rattle.wb_names.specs.History.{highest}
 use Rattle.wb_names.specs.Marks.{mark_of}
 use Rattle.wb_gaps.proofs.Reports.{greatest_held}
 use Rattle.wb_host.specs.Hearing.{marks_heard}

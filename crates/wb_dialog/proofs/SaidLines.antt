@@ -1,7 +1,6 @@
 -- The line of a datagram that is sent, behind the word of a line.
 use Rattle.std.proofs.Common.{◌≡◌, ℕ, List, ◌++◌, refl, ap, ◌∙◌}
 use Rattle.std.specs.Prelude.{codes}
-use Rattle.wb_lines.specs.Words.{words}
 use Rattle.wb_dialog.specs.declared.line.DriverLine.TheVariants.{Script}
 use Rattle.wb_dialog.specs.Lines.{by_words, command, line_of}
 use Rattle.wb_dialog.specs.Laws.{SaidIsRead}

@@ -14,7 +14,7 @@ use Rattle.wb_recovery.specs.declared.tuning.Tuning.{Tuning}
 use Rattle.wb_dialog.specs.declared.fault.HostFault.{HostFault}
 use Rattle.wb_dialog.specs.declared.fault.HostFault.TheVariants as host_faults
 use Rattle.wb_names.proofs.Listings.{Contains-here, Contains-there}
-use Rattle.wb_dialog.proofs.Fronts.{begins_all, begins_empty, begins_within, begins_behind, begins_front}
+use Rattle.wb_dialog.proofs.Fronts.{begins_all, begins_empty, begins_behind, begins_front}
 use Rattle.wb_dialog.specs.Dialog.{answered_lines}
 use Rattle.wb_dialog.specs.Hosting.{Hosting, step, unopened, transcript, block_of, reply_of, hosting_after, blocks_from, IsEndless}
 use Rattle.wb_dialog.specs.Doing.{fault_of, Writes}

@@ -1,7 +1,7 @@
 -- What a host answers to the lines of a driver that judges for it. What a host does that keeps itself is said in Hosting.antt, over this.
-use Rattle.std.specs.Prelude.{◌≡◌, ℕ, List, [], ◌∷◌, ◌++◌, length, Bool, true, false, nat_eq, Option, Some, None, Result, Ok, Err, if◌then◌else◌, codes, decimal}
-use Rattle.std.specs.List.{flat_map, concat}
-use Rattle.wb_names.specs.Values.{NameValue, DrawopValue}
+use Rattle.std.specs.Prelude.{ℕ, List, [], ◌∷◌, ◌++◌, Bool, nat_eq, Option, Some, None, Result, Ok, Err, if◌then◌else◌, codes, decimal}
+use Rattle.std.specs.List.{concat}
+use Rattle.wb_names.specs.Values.{DrawopValue}
 use Rattle.wb_names.specs.Arrivals.{Outcome, Fresh, Known as KnownDrawop, Clashed, Left, counts_of}
 use Rattle.wb_names.specs.declared.name.PageId.{PageId}
 use Rattle.wb_recovery.specs.declared.tuning.Tuning.{Tuning}

@@ -11,6 +11,7 @@ use Rattle.wb_names.proofs.Orders.{name_total, same_name-is}
 use Rattle.wb_gaps.specs.Sorting.{sorted}
 use Rattle.wb_gaps.proofs.Sorting.{Contains-from_sorted, Contains-sorted}
 use Rattle.wb_recovery.proofs.NameOrder.{name_ties}
+use Rattle.wb_recovery.proofs.StoppedNames.{constants_receipts}
 use Rattle.wb_recovery.specs.Events.{Event, Got, moment_of}
 use Rattle.wb_recovery.specs.Stopping.{receipts}
 use Rattle.wb_recovery.specs.declared.tuning.Tuning.{Tuning}
@@ -72,7 +73,8 @@ stands_alike me t calls value now names other up down s = record {
   me_is = s.me_is;
   moment = s.moment;
   recovery = record {
-    tuning = s.recovery.tuning;
+    tuning = s.recovery.tuning ∙ constants_receipts t now (events_of me calls) (received_of (delay_to me calls) names)
+        ∙ sym (constants_receipts t now (events_of me calls) (received_of (delay_to me calls) other));
     moment = s.recovery.moment ∙ moment_alike (delay_to me calls) now (events_of me calls) names other up down;
     timers = λ n. s.recovery.timers n ∙ timers_alike t (delay_to me calls) now (events_of me calls) names other (comes_alike names other up down) n;
     rising = s.recovery.rising;

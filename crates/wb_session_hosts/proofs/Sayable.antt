@@ -16,10 +16,10 @@ use Rattle.wb_codec.specs.declared.datagram.Datagram.{Datagram}
 use Rattle.wb_lines.specs.Handling.{whole, too_long}
 use Rattle.wb_lines.specs.Taking.{met}
 use Rattle.wb_lines.specs.Words.{words, words_after, is_digit, number_after}
-use Rattle.wb_commands.specs.Parsing.{number, tick, handed_in, command, line_of_words, line_of as script_line_of}
+use Rattle.wb_commands.specs.Parsing.{number, tick, handed_in, command, in_words, line_of_words, line_of as script_line_of}
 use Rattle.wb_commands.specs.SentLines.{digits_of}
 use Rattle.wb_commands.specs.declared.command.Command.TheVariants as lines
-use Rattle.wb_words.specs.Reading.{is_kind}
+use Rattle.wb_words.specs.Reading.{is_kind, first_is_kind, reading as reading_words}
 use Rattle.wb_dialog.specs.Dialog.{says_line}
 use Rattle.wb_dialog.specs.Lines.{name, by_words, line_of, command as driver_command}
 use Rattle.wb_dialog.specs.declared.line.DriverLine.TheVariants.{Script, Ask, Stop}
@@ -99,9 +99,16 @@ driver_tick : (line : List ℕ) (ws : List (List ℕ)) → driver_command line (
 unfolding driver_command
 driver_tick line ws = refl
 
+-- It is none in words.
+no_kind_first : (word : List ℕ) (ws : List (List ℕ)) → is_kind word ≡ false → first_is_kind (word ∷ ws) ≡ false
+no_kind_first word [] other = refl
+no_kind_first word (next ∷ ws) other = other
+
 told_tick : (rest : List ℕ) → script_line_of (codes "tick " ++ rest) ≡ line_of_words (codes "tick" ∷ words rest)
 unfolding is_kind
-told_tick rest = refl
+told_tick rest =
+    let line = codes "tick " ++ rest in
+    ap (λ (b : Bool). cond b (in_words (reading_words line)) (line_of_words (words line))) (no_kind_first (codes "tick") _ refl)
 
 script_tick : (ws : List (List ℕ)) → command (codes "tick") ws ≡ tick ws
 unfolding command

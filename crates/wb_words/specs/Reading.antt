@@ -244,11 +244,13 @@ is_kind word =
     || (bytes_eq word (codes "ask-pages")
     || bytes_eq word (codes "page-state"))))
 
+-- The first word tells the kind of a datagram. Each kind has more words, so one alone is none.
 abbrev pub first_is_kind : List (List ℕ) → Bool
 first_is_kind [] = false
-first_is_kind (word ∷ ws) = is_kind word
+first_is_kind (word ∷ []) = false
+first_is_kind (word ∷ next ∷ ws) = is_kind word
 
--- Its first word tells the kind of a datagram.
+-- Its first word tells the kind of a datagram, and others follow.
 abbrev pub begins_datagram : List ℕ → Bool
 begins_datagram line = first_is_kind (words line)
 

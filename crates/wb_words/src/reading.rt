@@ -10,7 +10,7 @@ use crate::drawing::drawop_of;
 use crate::entries::{after_marks, entries_of};
 use crate::fault::{WordFault, WordsFault, WrongWord};
 use crate::fields::{name_of, named, page_of, u32_of, u64_of};
-use crate::rest::{Rest, first_word, no_word};
+use crate::rest::{Rest, first_word, next_word, no_word};
 use std::alloc::Global;
 use wb_codec::Datagram;
 use wb_names::Marks;
@@ -91,12 +91,12 @@ fn is_kind(word: &[u8]) -> bool
         || word == b"page-state".as_slice()
 }
 
-/// Whether the first word of a line tells the kind of a datagram: the line is meant as one in words.
+/// Whether the first word of a line tells the kind of a datagram and others follow: the line is meant as one in words.
 pub fn begins_datagram(line: &[u8]) -> bool
     ensures { result ≡ begins_datagram line.now }
 {
-    let (word, _rest) = first_word(line);
-    is_kind(word)
+    let (word, rest) = first_word(line);
+    next_word(2, rest).is_ok() && is_kind(word)
 }
 
 /// The datagram of the kind that the first word tells.

@@ -1,12 +1,11 @@
-use Rattle.std.proofs.Common.{◌≡◌, Result, Ok, Err, refl, sym, ap, subst, ◌∙◌, rules}
-use Rattle.std.specs.Prelude.{Option}
+use Rattle.std.proofs.Common.{Ok, Err, refl, sym, ap, subst, ◌∙◌}
 use Rattle.std.specs.declared.convert.Infallible.{Infallible}
 use Rattle.wb_lines.specs.declared.fault.DriveFault.{DriveFault}
 use Rattle.wb_lines.specs.Driving.{rules_of, outcome, Meets}
 use Rattle.wb_dialog.specs.Hosting.{step, unopened}
-use Rattle.wb_dialog.specs.Doing.{DialogValue, IsAt, fault_of}
+use Rattle.wb_dialog.specs.Doing.{DialogValue, IsAt}
 use Rattle.wb_dialog.specs.declared.fault.HostFault.TheVariants as host_faults
-use Rattle.wb_dialog.proofs.Transcripts.{Hosts, hosts_transcript, host_endless, same_fault, fault_reads, fault_writes, fault_ends}
+use Rattle.wb_dialog.proofs.Transcripts.{hosts_transcript, host_endless, same_fault, fault_reads, fault_writes, fault_ends}
 use Rattle.wb_dialog.proofs.hosting.host.Goals as goal
 
 pub returns-in-Ok-clause-text : goal.returns-in-Ok-clause-text

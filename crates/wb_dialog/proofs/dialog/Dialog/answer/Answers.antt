@@ -1,4 +1,4 @@
-use Rattle.std.proofs.Common.{◌≡◌, ℕ, List, ◌++◌, ap, ◌∙◌, append_assoc}
+use Rattle.std.proofs.Common.{ℕ, List, ◌++◌, ap, ◌∙◌, append_assoc}
 use Rattle.wb_dialog.specs.Hosting.{reply}
 use Rattle.wb_dialog.specs.Lines.{line_of}
 use Rattle.wb_dialog.proofs.Closings.{Blocks-closed, Blocks-refused, block_begins}
