@@ -1,5 +1,5 @@
 -- A batch that two hosts take in two orders: where no arrivals clash and there are cells for all, they hold the same then, and print the same.
-use Rattle.std.proofs.Common.{◌≡◌, ℕ, Bool, List, [], ◌∷◌, length, refl, sym, ap, subst, ◌∙◌, arith, IsPermutation, filter}
+use Rattle.std.proofs.Common.{◌≡◌, ℕ, Bool, List, [], ◌∷◌, refl, sym, ap, subst, ◌∙◌, arith, IsPermutation, filter}
 use Rattle.std.proofs.lemmas.List.Sorted.{length_permutation}
 use Rattle.wb_names.specs.Values.{NameValue, DrawopValue}
 use Rattle.wb_names.specs.Arrivals.{counts_of, outcomes_of, history_after}

@@ -3,9 +3,9 @@ use Rattle.std.proofs.Common.{◌≡◌, ℕ, Bool, List, [], Option, refl, sym,
 use Rattle.std.specs.Cmp.{nat_cmp_total}
 use Rattle.std.specs.declared.cmp.Ordering.TheVariants.{Equal}
 use Rattle.std.proofs.Math.Path.{fun_ext}
-use Rattle.std.proofs.lemmas.List.Sorted.{Contains-permutation, IsPermutation-sym, IsPermutation-map, list_any-IsPermutation}
+use Rattle.std.proofs.lemmas.List.Sorted.{Contains-permutation, IsPermutation-sym, list_any-IsPermutation}
 use Rattle.wb_names.specs.Values.{NameValue, DrawopValue, MarkValue}
-use Rattle.wb_names.specs.Orders.{same_name, same_page, page_cmp}
+use Rattle.wb_names.specs.Orders.{same_name, same_page}
 use Rattle.wb_names.specs.Arrivals.{history_after}
 use Rattle.wb_names.specs.History.{IsHeld, HoldsName, highest}
 use Rattle.wb_names.specs.declared.name.PageId.{PageId}

@@ -1,14 +1,14 @@
 -- The outcomes of a script, from what is done with its lines in batches.
-use Rattle.std.proofs.Common.{◌≡◌, ℕ, ◌+◌, Bool, true, false, List, [], ◌∷◌, ◌++◌, length, Result, Ok, Err, inl, inr, refl, sym, ap, subst, ◌∙◌, append_assoc, append-nil, Option, Some, None, nat_lt, ◌&&◌, ◌||◌, not, if◌then◌else◌}
+use Rattle.std.proofs.Common.{◌≡◌, ℕ, ◌+◌, Bool, true, false, List, [], ◌∷◌, ◌++◌, Result, Ok, Err, refl, sym, ap, subst, ◌∙◌, append_assoc, append-nil, Option, Some, None, nat_lt, ◌&&◌, ◌||◌, not, if◌then◌else◌}
 use Rattle.std.proofs.lemmas.List.Sorted.{length_permutation}
 use Rattle.std.proofs.lemmas.Bool.{false≢true, true≢false}
 use Rattle.wb_names.specs.Values.{DrawopValue}
 use Rattle.wb_lines.specs.declared.fault.DriveFault.{DriveFault}
 use Rattle.wb_lines.specs.declared.fault.DriveFault.TheVariants as drive_faults
 use Rattle.wb_lines.specs.Input.{InputLine, content}
-use Rattle.wb_lines.specs.Handling.{Met, whole, too_long, Step as LineStep, goes as goes_on, stops as stops_at}
+use Rattle.wb_lines.specs.Handling.{whole, Step as LineStep}
 use Rattle.wb_lines.specs.Taking.{is_short, is_passed}
-use Rattle.wb_lines.specs.Items.{InputEnd, finished, unreadable, endless, Items, over, group, Begun, begin, grown, closed, Entry, short, long, none as ends_as, entry, by_entry, items_from}
+use Rattle.wb_lines.specs.Items.{finished, unreadable, endless, Items, over, group, Begun, begin, grown, closed, Entry, short, long, none as ends_as, entry, by_entry, items_from}
 use Rattle.wb_lines.specs.Driving.{Outcome as LinesOutcome, writes, before as text_before, stop}
 use Rattle.wb_lines.specs.Groups.{Proceeds as StepProceeds, IsOutcomeOf}
 use Rattle.wb_lines.proofs.GroupedLines.{parted, first_parts, any_group}
@@ -20,7 +20,7 @@ use Rattle.wb_member.specs.Opened.{Opened, board_of, by_host}
 use Rattle.wb_script.specs.declared.fault.RunFault.{RunFault}
 use Rattle.wb_script.specs.declared.fault.RunFault.TheVariants as run_faults
 use Rattle.wb_script.specs.Hosts.{taken, batch_text}
-use Rattle.wb_script.specs.Script.{State, MayBeTaken, closing_text, after_batch, Closing, Opens, Acts, Faulty, Part, Arrival, Nothing, End, part_of, part_in, Step, goes, refused, step_by, closing_step, part_step, step_of, Outcome, prints, before, answer, finish, most_lines, fault_at, Finishes, Proceeds, Continues, IsOutcomeFrom}
+use Rattle.wb_script.specs.Script.{State, MayBeTaken, closing_text, after_batch, Closing, Opens, Acts, Faulty, Part, Arrival, Nothing, End, part_of, part_in, Step, goes, refused, step_by, closing_step, part_step, Outcome, prints, before, answer, finish, most_lines, fault_at, Finishes, Proceeds, Continues, IsOutcomeFrom}
 use Rattle.wb_script.specs.Shows.{arrived_by, arrivals_of}
 use Rattle.wb_script.specs.Inside.Parts.{is_arrival, joins_batch, by_batches}
 use Rattle.wb_script.specs.Inside.Steps.{with_more, as_step, MayDo, MayTakeBatch, may_take_at, may_take}

@@ -1,15 +1,15 @@
 -- From the outcome of the driver to that of a run.
-use Rattle.std.proofs.Common.{◌≡◌, ◌≢◌, ℕ, ◌+◌, ◌≤◌, Bool, true, false, List, [], ◌∷◌, ◌++◌, Result, Ok, Err, inl, inr, refl, sym, ap, subst, ◌∙◌, append-nil, arith, nat_lt, if◌then◌else◌, ◌||◌, not, Option, Some, None, ◌&&◌}
+use Rattle.std.proofs.Common.{◌≡◌, ℕ, ◌+◌, ◌≤◌, Bool, true, false, List, [], ◌∷◌, Result, Ok, Err, inl, inr, refl, sym, ap, subst, ◌∙◌, append-nil, arith, nat_lt, if◌then◌else◌, ◌||◌, not, Option, Some, None, ◌&&◌}
 use Rattle.std.proofs.lemmas.Bool.Decides.{nat_tests}
 use Rattle.wb_lines.specs.declared.fault.DriveFault.{DriveFault}
 use Rattle.wb_lines.specs.declared.fault.DriveFault.TheVariants as faults
 use Rattle.wb_lines.specs.Input.{InputLine, input_lines, BeginsWith}
-use Rattle.wb_lines.specs.Handling.{Met, whole, too_long, Step as LineStep, goes as goes_on, stops as stops_at, ends}
+use Rattle.wb_lines.specs.Handling.{too_long, Step as LineStep, goes as goes_on, stops as stops_at, ends}
 use Rattle.wb_lines.specs.Taking.{is_short, is_passed}
-use Rattle.wb_lines.specs.Items.{InputEnd, finished, unreadable, endless, Items, over, group, Begun, begin, grown, closed, Entry, short, long, none as ends_as, entry, by_entry, items_from}
-use Rattle.wb_lines.specs.Driving.{Outcome as LinesOutcome, writes, before as text_before, stop, Meets as LinesMeets, IsStopped as IsStoppedDrive}
+use Rattle.wb_lines.specs.Items.{finished, unreadable, endless, Items, over, group, Begun, begin, grown, closed, short, long, none as ends_as, by_entry, items_from}
+use Rattle.wb_lines.specs.Driving.{Outcome as LinesOutcome, writes, before as text_before, Meets as LinesMeets, IsStopped as IsStoppedDrive}
 use Rattle.wb_lines.specs.Groups.{group_rules, Proceeds as StepProceeds, IsOutcomeOf, IsOutcome as IsLinesOutcome}
-use Rattle.wb_lines.specs.Steps.{IsLeftAt, MeetsOne}
+use Rattle.wb_lines.specs.Steps.{MeetsOne}
 use Rattle.wb_commands.specs.declared.fault.LineFault.{LineFault}
 use Rattle.wb_script.specs.declared.fault.RunFault.{RunFault}
 use Rattle.wb_script.specs.declared.fault.RunFault.TheVariants as run_faults

@@ -1,5 +1,5 @@
 -- A batch that is read from its script, arrival by arrival.
-use Rattle.std.proofs.Common.{◌≡◌, ◌≤◌, ◌<◌, ℕ, List, [], ◌∷◌, ◌++◌, length, Bool, true, false, refl, sym, ap, subst, ◌∙◌, arith, Option, Some, None, Result, Ok, Err, append-nil, append_assoc}
+use Rattle.std.proofs.Common.{◌≡◌, ℕ, List, [], ◌∷◌, ◌++◌, true, false, refl, sym, ap, subst, ◌∙◌, arith, Option, Some, None, Result, Ok, Err, append-nil, append_assoc}
 use Rattle.std.proofs.lemmas.Bool.{false≢true}
 use Rattle.wb_names.specs.Values.{DrawopValue}
 use Rattle.wb_lines.specs.Input.{InputLine}
@@ -13,10 +13,10 @@ use Rattle.wb_feed.specs.declared.batch.Batch.{Batch}
 use Rattle.wb_feed.specs.Batches.{counts_in}
 use Rattle.wb_member.specs.Holding.{MemberValue}
 use Rattle.wb_script.specs.Inside.Taking.{TakesAll, TakesFrom, TakesArrivals}
-use Rattle.wb_script.specs.Script.{Part, Arrival, Nothing, End, part_in, most_lines}
+use Rattle.wb_script.specs.Script.{Part, Arrival, Nothing, End, part_in}
 use Rattle.wb_script.specs.Shows.{arrived_by, arrivals_of}
 use Rattle.wb_script.specs.Inside.Parts.{IsPart, joins, joins_batch, by_batches}
-use Rattle.wb_script.specs.Inside.Reading.{ReadsTo, listed, most_of, Gathers, ArrivesTo, BatchReading, ReadsOn, Gives}
+use Rattle.wb_script.specs.Inside.Reading.{ReadsTo, listed, Gathers, ArrivesTo, BatchReading, ReadsOn, Gives}
 
 -- ---- the arrivals of lines
 

@@ -1,5 +1,5 @@
 -- Something can always be done with a line, and with a batch.
-use Rattle.std.proofs.Common.{◌≡◌, ℕ, List, [], ◌∷◌, refl, Option, Some, None}
+use Rattle.std.proofs.Common.{ℕ, List, [], ◌∷◌, refl, Option, Some, None}
 use Rattle.wb_lines.specs.Input.{InputLine}
 use Rattle.wb_lines.specs.Handling.{Met, whole, too_long, Step as LineStep, goes as goes_on, ends}
 use Rattle.wb_commands.specs.declared.fault.LineFault.{LineFault}

@@ -1,5 +1,5 @@
 -- What a line does, from what its parts do.
-use Rattle.std.proofs.Common.{◌≡◌, ℕ, Bool, true, false, List, [], ◌∷◌, ◌++◌, Result, Ok, Err, refl, sym, ap, subst, ◌∙◌, append_assoc, arith, ◌≤◌, Option, Some, None, IsPermutation, unwrap_or, append-nil, ◌&&◌, is_some}
+use Rattle.std.proofs.Common.{◌≡◌, ℕ, Bool, true, false, List, [], ◌∷◌, ◌++◌, Result, Ok, Err, refl, sym, ap, subst, ◌∙◌, append_assoc, arith, ◌≤◌, Option, Some, None, IsPermutation, unwrap_or, append-nil, is_some}
 use Rattle.std.proofs.lemmas.Bool.{false≢true, true≢false}
 use Rattle.std.proofs.lemmas.List.Sorted.{length_permutation}
 use Rattle.wb_names.specs.Values.{DrawopValue}
@@ -23,13 +23,12 @@ use Rattle.wb_member.specs.Board.{Held}
 use Rattle.wb_member.specs.Opened.{Opened, batched, board_of, by_host}
 use Rattle.wb_member.specs.Holding.{MemberValue, IsOpenAt, MayBeOpenAt}
 use Rattle.wb_script.specs.declared.said.Said.{Said}
-use Rattle.wb_script.specs.declared.taking.Untaken.{Untaken as UntakenBatch}
 use Rattle.wb_script.specs.Hosts.{opened, taken as order_taken, batch_text}
 use Rattle.wb_script.specs.Shows.{arrivals_of}
 use Rattle.wb_script.specs.Script.{State, IsAlone, MayBeTaken, InSomeOrder, Opens, Acts, Faulty, Part, Arrival, Nothing, End, part_in, goes, refused, closing_text, after_batch, step_by, closing_step, part_step, Step}
 use Rattle.wb_script.specs.Inside.Parts.{EndsBatchAt, is_arrival, by_batches}
-use Rattle.wb_script.specs.Inside.Steps.{HostValue, IsAt, with_more, as_step, MayDo, MayTakeBatch, may_take_at, may_take, MayDoStep, faulted}
-use Rattle.wb_script.specs.Inside.Taking.{TakesAll, TakesLines, Prints, TakesBatch}
+use Rattle.wb_script.specs.Inside.Steps.{HostValue, IsAt, with_more, as_step, MayDo, may_take_at, may_take, MayDoStep, faulted}
+use Rattle.wb_script.specs.Inside.Taking.{TakesLines, Prints}
 use Rattle.wb_script.proofs.Telling.{settles}
 use Rattle.wb_script.proofs.SomeSteps.{some_step}
 use Rattle.wb_script.proofs.Outcomes.{as_it_came}

@@ -1,5 +1,5 @@
 -- At which state of a script a host is inside a run, and what it may do there with a line, or with a batch.
-use Rattle.std.specs.Prelude.{◌≡◌, ◌++◌, [], ◌∷◌, ℕ, List, Option, Some, None, Result, Ok, Err}
+use Rattle.std.specs.Prelude.{◌≡◌, ◌++◌, [], ◌∷◌, ℕ, List, Option, Some, Result, Ok, Err}
 use Rattle.wb_names.specs.Values.{DrawopValue}
 use Rattle.wb_lines.specs.declared.handler.Stop.{Stop}
 use Rattle.wb_lines.specs.declared.handler.Stop.TheVariants as stops

@@ -1,4 +1,4 @@
-use Rattle.std.proofs.Common.{◌≡◌, ℕ, true, false, refl, sym, ap, ◌∙◌}
+use Rattle.std.proofs.Common.{◌≡◌, ℕ, true, false, sym, ap, ◌∙◌}
 use Rattle.wb_lines.specs.Handling.{whole}
 use Rattle.wb_lines.specs.Moments.{is_broken}
 use Rattle.wb_lines.specs.Steps.{fault_of}

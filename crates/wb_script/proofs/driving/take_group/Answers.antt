@@ -1,4 +1,4 @@
-use Rattle.std.proofs.Common.{rules, ◌≡◌, true, false, Ok, Err, refl, sym, ap, ◌∙◌, [], append-nil}
+use Rattle.std.proofs.Common.{rules, ◌≡◌, Err, refl, sym, [], append-nil}
 use Rattle.wb_lines.specs.declared.fault.DriveFault.TheVariants as faults
 use Rattle.wb_lines.specs.declared.handler.Stop.TheVariants as stops
 use Rattle.wb_lines.specs.declared.lines.Seen.TheVariants as seens

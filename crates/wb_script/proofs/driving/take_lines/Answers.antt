@@ -1,4 +1,4 @@
-use Rattle.std.proofs.Common.{◌≡◌, [], ◌++◌, refl}
+use Rattle.std.proofs.Common.{[], ◌++◌, refl}
 use Rattle.std.proofs.lemmas.Result.{err_from_is_err_and}
 use Rattle.wb_lines.proofs.KnownBytes.{Appends-none, Sends-then}
 use Rattle.wb_lines.proofs.Endings.{input_from, input_none, all_met, memory_met}

@@ -1,4 +1,4 @@
-use Rattle.std.proofs.Common.{refl, sym, ap, ◌∙◌, Ok, Err}
+use Rattle.std.proofs.Common.{refl, sym, ap, ◌∙◌, Err}
 use Rattle.wb_script.specs.declared.fault.RunFault.TheVariants as run_faults
 use Rattle.wb_script.specs.Script.{start}
 use Rattle.wb_script.proofs.CheckEnds.{same_fault}

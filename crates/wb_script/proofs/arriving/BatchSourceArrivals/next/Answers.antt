@@ -1,5 +1,5 @@
-use Rattle.std.proofs.Common.{rules, ◌≡◌, true, false, refl, sym, ◌∙◌}
-use Rattle.wb_script.proofs.Reading.{arrived_on, ended_on, stays_on}
+use Rattle.std.proofs.Common.{refl}
+use Rattle.wb_script.proofs.Reading.{arrived_on, ended_on}
 use Rattle.wb_script.proofs.arriving.BatchSourceArrivals.next.Goals as goal
 
 pub returns-in-Some-clause-first : goal.returns-in-Some-clause-first

@@ -1,4 +1,4 @@
-use Rattle.std.proofs.Common.{◌≡◌, [], refl, sym, ap, ◌∙◌, Some, None}
+use Rattle.std.proofs.Common.{◌≡◌, [], sym, ap, ◌∙◌, Some, None}
 use Rattle.wb_lines.proofs.Moments.{Reads-none}
 use Rattle.wb_script.specs.Inside.Parts.{by_batches}
 use Rattle.wb_script.specs.Inside.Steps.{HostValue}

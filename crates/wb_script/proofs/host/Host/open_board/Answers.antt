@@ -1,4 +1,4 @@
-use Rattle.std.proofs.Common.{rules, ◌≡◌, None, Some, refl, sym, ap, ◌∙◌, unwrap_or, true, is_some, Ok, Option, ℕ}
+use Rattle.std.proofs.Common.{rules, ◌≡◌, None, Some, refl, sym, ap, ◌∙◌, unwrap_or, Ok}
 use Rattle.std.proofs.lemmas.Result.{err_from_is_err_and}
 use Rattle.wb_commands.specs.declared.command.Command.TheVariants.{Board}
 use Rattle.wb_script.specs.Hosts.{opened}
@@ -6,7 +6,7 @@ use Rattle.wb_script.specs.Script.{said_step}
 use Rattle.wb_script.specs.Inside.Steps.{HostValue}
 use Rattle.wb_member.specs.Holding.{IsOpenAt}
 use Rattle.wb_script.proofs.Outcomes.{as_it_came}
-use Rattle.wb_script.proofs.Steps.{ends_empty, opens, opens_again, stopped}
+use Rattle.wb_script.proofs.Steps.{ends_empty, opens, stopped}
 use Rattle.wb_script.proofs.host.Host.open_board.Goals as goal
 
 pub returns : goal.returns
