@@ -1,13 +1,14 @@
 """Members that keep themselves, with constants that follow the session, beside fixed ones: before and after half of the group goes or comes."""
 from __future__ import annotations
 
+import textwrap
 from collections.abc import Callable
 from dataclasses import replace
 from typing import NamedTuple
 
 from laboratory.figures.cases import Case, Figure, Measured, Record, Scale, compared, of_many, of_one, series
 from laboratory.figures.kept import PLACES
-from laboratory.figures.words import picture, sure
+from laboratory.figures.words import WIDTH, picture, sure
 from laboratory.figures.words import table as table_of
 from laboratory.measures import Row
 from laboratory.plots import Panel, Plot
@@ -88,7 +89,7 @@ def kept_adapting(scale: Scale) -> Figure:
         settled = [r for r in records if r["part"] in (PARTS // 2, PARTS)]
         beside = f"""Beside the fixed constants {LIVE}, in the {draws // PARTS // 2} losses before the group changes and in as many at the end, by
             intervals of {min(RUNS, scale.runs)} runs that leave out 0:"""
-        found = [f"- {words[0].upper()}{words[1:]}: {told(policy, settled)}." for policy, words in POLICIES.items() if policy != "live"]
+        found = [bullet(f"{words[0].upper()}{words[1:]}: {told(policy, settled)}.") for policy, words in POLICIES.items() if policy != "live"]
         cells = table_of(("Network", "Members", "Constants", *COLUMNS.values()), settled, lambda r: [
             PLACES[r["network"]].words, members_told(r), POLICIES[r["policy"]], *(sure(r, column) for column in COLUMNS)])
         return "\n\n".join([
@@ -141,7 +142,7 @@ def told(policy: str, records: list[Record]) -> str:
 
     def where(column: str, is_so: Callable[[float, float], bool]) -> str:
         found = [f"{PLACES[r['network']].words} ({members_told(r)})" for r in own if r[column] is not None and is_so(r[column], r[f"{column}_95"])]
-        return ", ".join(found) or "nowhere"
+        return "everywhere" if len(found) == len(own) else ", ".join(found) or "nowhere"
 
     def below(value: float, half: float) -> bool:
         return value + half < 0
@@ -153,6 +154,10 @@ def told(policy: str, records: list[Record]) -> str:
         ("fewer datagrams", "more_datagrams", below), ("more", "more_datagrams", above),
         ("sooner", "more_seconds", below), ("later", "more_seconds", above))]
     return "; ".join(parts)
+
+
+def bullet(text: str) -> str:
+    return textwrap.fill(f"- {text}", WIDTH, subsequent_indent="  ", break_on_hyphens=False)
 
 
 def begun(groups: list[Group], records: list[Record], draws: int) -> str:
