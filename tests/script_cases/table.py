@@ -395,7 +395,7 @@ NOT_WORDED = [
     refused(f"datagram {of_version(3, STARS)}", "datagram 3"),
     refused("datagrams 57", "unknown"),
     refused("Datagram 57", "unknown"),
-    refused("draw", "word 2: missing"),
+    refused("draw", "unknown"),
     refused("draw ", "word 2: number"),
     refused("draw 07 7/1 1 10 line 0 1 4 1 *", "word 2: number"),
     refused("draw 7 7 1 10 line 0 1 4 1 *", "word 3: page"),
