@@ -141,7 +141,6 @@ def no_datagrams() -> dict[str, str]:
 def wrong_words() -> dict[str, str]:
     """Datagrams in words of which a word is wrong, with the place of the first such word, as docs/WORDS.md has them."""
     table = {
-        "draw": "unknown",
         "draw ": "word 2: number",
         "draw  7 7/1 1 10 line 0 1 4 1 *": "word 2: number",
         "draw 07 7/1 1 10 line 0 1 4 1 *": "word 2: number",
@@ -159,11 +158,13 @@ def wrong_words() -> dict[str, str]:
         "session-message 9 5 7/1 7=1 8@0": "word 6: echo",
         "page-state 9 7/1 7=1 7=2": "word 5: order",
         "request 9 7 7/1 0": "word 5: sequence number 0",
-        "ask-pages": "word 2: missing",
+        "request 9": "word 3: missing",
     }
-    said = {f"say {line}": fault for line, fault in table.items()}
+    said = {f"say {line}": fault for line, fault in table.items()} | {f"say {kind}": "word 2: missing" for kind in ("draw", "ask-pages")}
     others = ["say hello", "say  ask-pages 1", "say say ask-pages 1", "say tick 5", "say board 1 16 1 42", "say "]
-    return table | said | dict.fromkeys(others, "word 1: unknown")
+    # each kind has more words
+    alone = dict.fromkeys(["draw", "session-message", "request", "ask-pages", "page-state"], "unknown")
+    return table | alone | said | dict.fromkeys(others, "word 1: unknown")
 
 
 def full_of_marks(sources: int) -> str:
