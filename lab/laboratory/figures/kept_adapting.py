@@ -23,7 +23,7 @@ POLICIES = {
 ADAPT = {"members": "members", "adapting": "published", "adapting live": "published"}
 GO, COME = "half go", "half come"
 PARTS = 4  # of a run, with as many losses each; the group changes between the second and the third
-RUNS = 10
+RUNS = 20
 COLUMNS = {
     "source_requests": "Requests, where many lack it", "member_repairs": "Repairs, where one does", "seconds": "Seconds, of all losses",
     "datagrams": "Datagrams of a loss", "more_datagrams": f"Datagrams beside fixed, {LIVE}", "more_seconds": "Seconds beside these",
