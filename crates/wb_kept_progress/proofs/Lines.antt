@@ -1,27 +1,24 @@
 -- What lines make of a host: of what it holds, and of the timers of a name.
 use Rattle.wb_progress.specs.Keepers.{constants_at}
-use Rattle.std.proofs.Common.{◌≡◌, ℕ, ◌+◌, Bool, true, false, cond, List, [], ◌∷◌, ◌++◌, ◌∙◌, None, ap, refl, subst, sym, true≢false, ⊎_elim}
-use Rattle.std.specs.Prelude.{◌≢◌, ◌||◌, Contains, get_or, is_some, not}
-use Rattle.std.proofs.lemmas.List.Elements.{Contains-append_left, Contains-get_or}
-use Rattle.std.proofs.lemmas.List.Quantifiers.{all_pairs_push}
-use Rattle.wb_names.specs.Arrivals.{Outcome, Fresh, Known, Clashed, Left, history_with, outcome_from, outcome_of}
+use Rattle.std.proofs.Common.{◌≡◌, Bool, true, false, cond, List, [], ◌∷◌, ◌++◌, ◌∙◌, None, ap, refl, subst, sym, true≢false}
+use Rattle.std.specs.Prelude.{◌||◌, Contains, is_some, not}
+use Rattle.std.proofs.lemmas.List.Elements.{Contains-append_left}
+use Rattle.wb_names.specs.Arrivals.{Outcome, Fresh, Known, Clashed, Left, history_with, outcome_of}
 use Rattle.wb_names.specs.History.{IsHistory}
 use Rattle.wb_names.specs.Orders.{same_name}
-use Rattle.wb_names.specs.Same.{same_drawop}
 use Rattle.wb_names.specs.Values.{DrawopValue, NameValue}
-use Rattle.wb_names.proofs.Listings.{Contains-cases, Contains-none}
 use Rattle.wb_names.proofs.Orders.{same_name-is}
 use Rattle.wb_codec.specs.declared.datagram.Datagram.TheVariants.{Draw, Session, Request, AskPages, PageState}
 use Rattle.wb_recovery.specs.Events.{timers_of}
 use Rattle.wb_recovery.specs.Timing.{got, noticed}
 use Rattle.wb_recovery.specs.declared.timers.Timers.{Timers}
 use Rattle.wb_host.specs.Keeper.{delay_to, given_up, holds}
-use Rattle.wb_host.proofs.KeptCalls.{same_here}
 use Rattle.wb_member.specs.Members.{Misses}
 use Rattle.wb_member.specs.Opened.{Opened, accepted, asks_for, doing, events, has_room_for, heard, may_ask, present}
 use Rattle.wb_member.specs.Random.{word_of}
 use Rattle.wb_keeping.specs.Kept.{Arrives, Asks, Hears, Line, Says, SetsDistance, Tunes, Stops, Ticks}
 use Rattle.wb_keeping.specs.Performing.{after_line, after_lines}
+use Rattle.wb_session.proofs.Names.{with_once}
 
 pub is_false : (b : Bool) → (b ≡ true → ⊥) → b ≡ false
 is_false true f = absurd (f refl)
@@ -72,30 +69,6 @@ with_grows h d (Fresh i) x c = Contains-append_left h (d ∷ []) x c
 with_grows h d (Known i) x c = c
 with_grows h d (Clashed i) x c = c
 with_grows h d Left x c = c
-
-same_name-here : (m n : NameValue) → m ≡ n → same_name m n ≡ true
-same_name-here m n e = same_here m n e
-
--- where a drawop is new, none that is held has its name
-fresh_name : (cells i : ℕ) (h : List DrawopValue) (d : DrawopValue) (k : ℕ) → outcome_from cells i h d ≡ Fresh k → (x : DrawopValue) → Contains h x → x.name ≢ d.name
-fresh_name cells i [] d k e x c same = Contains-none x c
-fresh_name cells i (y ∷ h) d k e x c same = from (fresh_name cells (i + 1) h d k) (same_name y.name d.name) refl e where
-  none : (b : Bool) → cond b (Known i) (Clashed i) ≡ Fresh k → ⊥
-  none true f = cc
-  none false f = cc
-
-  from : (outcome_from cells (i + 1) h d ≡ Fresh k → (x : DrawopValue) → Contains h x → x.name ≢ d.name) → (b : Bool) → same_name y.name d.name ≡ b → cond b (cond (same_drawop y d) (Known i) (Clashed i)) (outcome_from cells (i + 1) h d) ≡ Fresh k → ⊥
-  from rest true f g = none (same_drawop y d) g
-  from rest false f g = ⊎_elim
-      (λ (one : y ≡ x). true≢false (sym (same_name-here y.name d.name (ap (λ (w : DrawopValue). w.name) one ∙ same)) ∙ f))
-      (λ (more : Contains h x). rest g x more same)
-      (Contains-cases y x h c)
-
-with_once : (cells : ℕ) (h : List DrawopValue) (d : DrawopValue) (o : Outcome) → outcome_of cells h d ≡ o → IsHistory h → IsHistory (history_with h d o)
-with_once cells h d (Fresh i) e once = all_pairs_push (λ (a b : DrawopValue). a.name ≢ b.name) h d once (λ k x lt. fresh_name cells 0 h d i e (get_or h k x) (Contains-get_or h k x lt))
-with_once cells h d (Known i) e once = once
-with_once cells h d (Clashed i) e once = once
-with_once cells h d Left e once = once
 
 -- What is held stays, and no name comes to stand twice.
 pub record Grows (host next : Opened) : Type 0 where

@@ -33,7 +33,7 @@ fresh_name cells i (y ∷ h) d k e x c same = from (fresh_name cells (i + 1) h d
       (λ (more : Contains h x). rest g x more same)
       (Contains-cases y x h c)
 
-with_once : (cells : ℕ) (h : List DrawopValue) (d : DrawopValue) (o : Outcome) → outcome_of cells h d ≡ o → IsHistory h → IsHistory (history_with h d o)
+pub with_once : (cells : ℕ) (h : List DrawopValue) (d : DrawopValue) (o : Outcome) → outcome_of cells h d ≡ o → IsHistory h → IsHistory (history_with h d o)
 with_once cells h d (Fresh i) e once = all_pairs_push (λ (a b : DrawopValue). a.name ≢ b.name) h d once (λ k x lt. fresh_name cells 0 h d i e (get_or h k x) (Contains-get_or h k x lt))
 with_once cells h d (Known i) e once = once
 with_once cells h d (Clashed i) e once = once
