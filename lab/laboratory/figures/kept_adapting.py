@@ -18,7 +18,7 @@ from live.options import TUNING
 LIVE = "of wb-live"
 POLICIES = {
     "base": f"fixed {TUNING}", "live": f"fixed, {LIVE}", "members": "by members", "adapting": f"adapting from {TUNING}",
-    "adapting live": f"adapting from those {LIVE}",
+    "adapting live": "adapting, wb-live's",
 }
 ADAPT = {"members": "members", "adapting": "published", "adapting live": "published"}
 GO, COME = "half go", "half come"
