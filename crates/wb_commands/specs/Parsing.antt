@@ -1,5 +1,7 @@
 -- What a line of a script says, or its first fault.
 use Rattle.std.specs.Prelude.{◌≡◌, ◌<◌, ◌≤◌, IfErr, MatchResult, ℕ, ◌-◌, ◌^◌, List, [], ◌∷◌, Bool, true, false, nat_eq, Option, Some, None, Result, Ok, Err, if◌then◌else◌, codes, bytes_eq}
+use Rattle.wb_names.specs.Moments.{IsMoment}
+use Rattle.wb_names.specs.declared.moment.TheConstants.{MAX_MOMENT}
 use Rattle.wb_names.specs.declared.name.PageId.{PageId}
 use Rattle.wb_codec.specs.Reading.{reading}
 use Rattle.wb_codec.specs.declared.datagram.Datagram.{Datagram}
@@ -12,7 +14,13 @@ use Rattle.wb_commands.specs.declared.fault.LineFault.TheVariants as faults
 use Rattle.wb_commands.specs.declared.fault.Untaken.{Untaken}
 use Rattle.wb_commands.specs.declared.fault.Untaken.TheVariants as untaken
 use Rattle.wb_display.specs.Canvas.{is_canvas_size}
+use Rattle.wb_display.specs.declared.canvas.TheConstants.Canvas.{MAX_WIDTH, MAX_HEIGHT}
+use Rattle.wb_recovery.specs.Delays.{IsDelay}
 use Rattle.wb_recovery.specs.Timing.{are_constants}
+use Rattle.wb_recovery.specs.declared.fault.TheConstants.{MAX_DELAY}
+use Rattle.wb_recovery.specs.declared.tuning.TheConstants.{MAX_CONSTANT}
+use Rattle.wb_host.specs.Counts.{IsCellCount, MAX_CELLS}
+use Rattle.wb_host.specs.declared.board.TheConstants.{MAX_WORKERS}
 use Rattle.wb_commands.specs.Faults.{line_code}
 use Rattle.wb_commands.specs.declared.command.Command.{Command}
 use Rattle.wb_commands.specs.declared.command.Command.TheVariants.{Skip, Board, Arrive, Hear, Distance, Tune, Tick, Look, Session, Show, Gaps, Report, Pages}
@@ -53,8 +61,8 @@ unfoldable pub board : List (List ℕ) → Result Command LineFault
 board arguments = do
   words' ← or_fault faults.Words (four_of arguments)
   member ← number 0 (2 ^ 32 - 1) words'.0
-  cells ← number 1 65535 words'.1
-  workers ← number 1 8 words'.2
+  cells ← number 1 MAX_CELLS words'.1
+  workers ← number 1 MAX_WORKERS words'.2
   seed ← number 0 (2 ^ 64 - 1) words'.3
   Ok (Board member cells workers seed)
 
@@ -64,33 +72,33 @@ show arguments = do
   words' ← or_fault faults.Words (four_of arguments)
   creator ← number 0 (2 ^ 32 - 1) words'.0
   number' ← number 0 (2 ^ 32 - 1) words'.1
-  width ← number 1 200 words'.2
-  height ← number 1 100 words'.3
+  width ← number 1 MAX_WIDTH words'.2
+  height ← number 1 MAX_HEIGHT words'.3
   Ok (Show (record { creator = creator; number = number' }) width height)
 
--- a source, and a delay below 2^24 microseconds
+-- a source, and a delay in microseconds
 unfoldable pub distance : List (List ℕ) → Result Command LineFault
 distance arguments = do
   words' ← or_fault faults.Words (two_of arguments)
   source ← number 0 (2 ^ 32 - 1) words'.0
-  micros ← number 0 (2 ^ 24 - 1) words'.1
+  micros ← number 0 MAX_DELAY words'.1
   Ok (Distance source micros)
 
--- four constants from 1 to 16
+-- four constants
 unfoldable pub tuning : List (List ℕ) → Result Command LineFault
 tuning arguments = do
   words' ← or_fault faults.Words (four_of arguments)
-  c1 ← number 1 16 words'.0
-  c2 ← number 1 16 words'.1
-  d1 ← number 1 16 words'.2
-  d2 ← number 1 16 words'.3
+  c1 ← number 1 MAX_CONSTANT words'.0
+  c2 ← number 1 MAX_CONSTANT words'.1
+  d1 ← number 1 MAX_CONSTANT words'.2
+  d2 ← number 1 MAX_CONSTANT words'.3
   Ok (Tune (record { c1 = c1; c2 = c2; d1 = d1; d2 = d2 }))
 
--- a moment below 2^48 microseconds
+-- a moment in microseconds
 unfoldable pub tick : List (List ℕ) → Result Command LineFault
 tick arguments = do
   word ← or_fault faults.Words (one_of arguments)
-  moment ← number 0 (2 ^ 48 - 1) word
+  moment ← number 0 MAX_MOMENT word
   Ok (Tick moment)
 
 -- a page, by its creator and its number
@@ -180,14 +188,13 @@ in_words (Err wrong) = Err (faults.Word wrong)
 abbrev pub line_of : List ℕ → Result Command LineFault
 line_of bytes = if begins_datagram bytes then in_words (reading_words bytes) else line_of_words (words bytes)
 
--- What a line carries is in its range: a board has 1 to 65,535 cells, a canvas is not too large, constants are 1 to 16, moments
--- are microseconds below 2^48, and delays below 2^24.
+-- What a line carries is in its range: the cells of a board, the size of a canvas, constants, moments and delays.
 abbrev pub IsWithin : Command → Type 0
-IsWithin (Board member cells workers seed) = (0 < cells) × (cells ≤ 65535)
+IsWithin (Board member cells workers seed) = IsCellCount cells
 IsWithin (Show page width height) = is_canvas_size width height ≡ true
-IsWithin (Distance source micros) = micros < 2 ^ 24
+IsWithin (Distance source micros) = IsDelay micros
 IsWithin (Tune constants) = are_constants constants ≡ true
-IsWithin (Tick moment) = moment < 2 ^ 48
+IsWithin (Tick moment) = IsMoment moment
 IsWithin line = Unit {0}
 
 -- A line that carries a datagram, for which memory is taken.

@@ -1,5 +1,7 @@
 //! What lines do to a member, and what they print.
 ghost use Rattle.std.specs.Prelude.{◌≡◌, ◌<◌, ◌^◌, [], true};
+ghost use Rattle.wb_names.specs.Moments.{IsMoment};
+ghost use Rattle.wb_recovery.specs.Delays.{IsDelay};
 ghost use Rattle.wb_recovery.specs.Timing.{are_constants};
 ghost use Rattle.wb_member.specs.Holding.{IsOpenAt};
 ghost use Rattle.wb_member.specs.Opened.{Opened};
@@ -48,7 +50,7 @@ fn answer(
 
 /// Sets the delay to a source, in microseconds.
 fn set_delay(member: &mut Member, source: u32, micros: u64) -> Result<(), Untaken>
-    requires { micros < 2 ^ 24 }
+    requires { IsDelay micros }
     ensures act { (host : Opened) → IsOpenAt member.old host →
         DoesAct host member.new [] result (act (Command.Distance source micros) host) }
 {
@@ -73,7 +75,7 @@ fn tune(member: &mut Member, constants: Tuning) -> Result<(), Untaken>
 
 /// Time goes on to a moment: what is sent is printed.
 fn tick(alloc: Global, member: &mut Member, now: u64, output: &mut Output) -> Result<(), Untaken>
-    requires { now < 2 ^ 48 }
+    requires { IsMoment now }
     ensures text { DoesAt member.old member.new output.old output.new result
         (act (Command.Tick now)) }
 {

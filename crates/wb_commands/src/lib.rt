@@ -22,8 +22,8 @@ pub use command::Command;
 pub use fault::{LineFault, Untaken};
 pub use listing::{Listed, list_text, pair_line};
 pub use parsing::{
-    MAX_MOMENT, MAX_WORKERS, datagram, four_words, no_words, number_word, one_word, page,
-    parse_line, two_words, u32_word,
+    datagram, four_words, no_words, number_word, one_word, page, parse_line, two_words, u32_word,
 };
 pub use query::Query;
 pub use sent_lines::{print_sends, send_line};
+pub use wb_host::MAX_WORKERS;

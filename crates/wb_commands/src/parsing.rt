@@ -8,28 +8,12 @@ use crate::command::Command;
 use crate::fault::{LineFault, Untaken};
 use std::alloc::Global;
 use wb_codec::{Datagram, ReadFault, read};
+use wb_display::Canvas;
+use wb_host::{MAX_CELLS, MAX_WORKERS};
 use wb_lines::{next_word, number, unhex};
-use wb_names::PageId;
-use wb_recovery::{DELAY_LIMIT, MOMENT_LIMIT, Tuning};
+use wb_names::{MAX_MOMENT, PageId};
+use wb_recovery::{MAX_CONSTANT, MAX_DELAY, Tuning};
 use wb_words::{WordsFault, begins_datagram, read_words};
-
-const MAX_CELLS: u32 = 65_535;
-
-/// At most so many workers take a batch.
-pub const MAX_WORKERS: u32 = 8;
-
-const MAX_WIDTH: u32 = 200;
-
-const MAX_HEIGHT: u32 = 100;
-
-/// The greatest constant of the timers.
-const MAX_CONSTANT: u32 = 16;
-
-/// The greatest delay, in microseconds.
-const MAX_DELAY: u64 = DELAY_LIMIT - 1;
-
-/// The greatest moment that a line can tell, in microseconds.
-pub const MAX_MOMENT: u64 = MOMENT_LIMIT - 1;
 
 /// That there are no words.
 pub fn no_words(rest: &[u8]) -> Option<()>
@@ -118,8 +102,8 @@ fn show(rest: &[u8]) -> Result<Command, LineFault>
     let (creator, number, width, height) = four_words(rest).ok_or(LineFault::Words)?;
     let creator = u32_word(creator, 0, u32::MAX)?;
     let number = u32_word(number, 0, u32::MAX)?;
-    let width = u32_word(width, 1, MAX_WIDTH)?;
-    let height = u32_word(height, 1, MAX_HEIGHT)?;
+    let width = u32_word(width, 1, Canvas::MAX_WIDTH)?;
+    let height = u32_word(height, 1, Canvas::MAX_HEIGHT)?;
     let page = PageId { creator, number };
     Ok(Command::Show {
         page,

@@ -4,6 +4,7 @@ use Rattle.std.specs.List.{concat}
 use Rattle.std.specs.declared.convert.Infallible.{Infallible}
 use Rattle.wb_names.specs.Arrivals.{Outcome, Fresh, Known as KnownDrawop, Clashed, Left}
 use Rattle.wb_names.specs.declared.fault.FieldFault.{FieldFault}
+use Rattle.wb_names.specs.declared.moment.TheConstants.{MOMENT_LIMIT}
 use Rattle.wb_names.specs.declared.name.PageId.{PageId}
 use Rattle.wb_names.specs.declared.parts.Op.{Op}
 use Rattle.wb_codec.specs.declared.datagram.Datagram.{Datagram as DatagramValue}
@@ -176,7 +177,7 @@ reply tuning s (Err e) = denies e
 
 -- a moment that a line can tell
 abbrev pub in_time : ℕ → Option ℕ
-in_time moment = if nat_lt moment 281474976710656 then Some moment else None
+in_time moment = if nat_lt moment MOMENT_LIMIT then Some moment else None
 
 -- the next moment at which it has something to do
 abbrev pub due_at : Option Host → Option ℕ

@@ -4,6 +4,7 @@ use Rattle.wb_names.specs.declared.name.PageId.{PageId}
 use Rattle.wb_names.specs.declared.parts.Op.{Op}
 use Rattle.wb_codec.specs.declared.datagram.Datagram.{Datagram}
 use Rattle.wb_codec.specs.declared.datagram.Datagram.TheVariants as datagrams
+use Rattle.wb_host.specs.Counts.{MAX_CELLS}
 use Rattle.wb_member.specs.Opened.{Opened, asks_for, becomes, may_ask}
 use Rattle.wb_keeping.specs.Kept.{Line, Ticks, Arrives, Hears, Asks, Stops, SetsDistance, Tunes, Says, adds, came, performs, ticks}
 use Rattle.wb_keeping.specs.Performing.{Keeping, after_line, sees, sent_by_line}
@@ -64,8 +65,8 @@ pub record KeptIsDriven : Type 0 where
   pub tuned : (k : Keeping) (constants : Tuning) → IsDrivenBy (performs (Tunes constants) (sees k.host) k.policy).lines k.host
   pub drew : (k : Keeping) (now : ℕ) (page : PageId) (time : ℕ) (op : Op) → add_fault now page time op k ≡ None → IsDrivenBy (adds now page time op (sees k.host) k.policy).lines k.host
 
--- On a board of at most 65,535 cells, which is as many as a line can tell, no drawing is refused as too many, whatever was handed in
+-- On a board of no more cells than a line can tell no drawing is refused as too many, whatever was handed in
 -- before.
 abbrev pub AddIsNotTooMany : Type 0
-AddIsNotTooMany = (tuning : Tuning) (before : List InputLine) (adding : Adding) (k : Keeping) → (hosting_from (unopened tuning) before).host ≡ Some (Kept k) → k.host.is.cells ≤ 65535
+AddIsNotTooMany = (tuning : Tuning) (before : List InputLine) (adding : Adding) (k : Keeping) → (hosting_from (unopened tuning) before).host ≡ Some (Kept k) → k.host.is.cells ≤ MAX_CELLS
     → kept_reply (Add adding) k ≡ denies (refusals.Line faults.TooMany) → ⊥

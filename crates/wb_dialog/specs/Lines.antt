@@ -1,6 +1,8 @@
 -- What a line of a driver says, or its first fault.
 use Rattle.std.specs.Prelude.{◌≡◌, ◌≤◌, ◌<◌, ℕ, ◌-◌, ◌^◌, List, [], ◌∷◌, Option, Some, None, Result, Ok, Err, if◌then◌else◌, codes}
 use Rattle.std.specs.Str.{bytes_eq}
+use Rattle.wb_names.specs.Moments.{IsMoment}
+use Rattle.wb_names.specs.declared.moment.TheConstants.{MAX_MOMENT}
 use Rattle.wb_names.specs.Values.{NameValue}
 use Rattle.wb_codec.specs.declared.datagram.Datagram.{Datagram as DatagramValue}
 use Rattle.wb_words.specs.declared.fault.WrongWord.{WrongWord}
@@ -64,7 +66,7 @@ keep_line arguments = do
 unfoldable pub moment_of : List (List ℕ) → Result ℕ LineFault
 moment_of arguments = do
   words' ← or_fault faults.Words (two_of arguments)
-  number 0 (2 ^ 48 - 1) words'.0
+  number 0 MAX_MOMENT words'.0
 
 abbrev pub words_behind : List (List ℕ) → List (List ℕ)
 words_behind [] = []
@@ -128,8 +130,8 @@ IsWithin Known = Unit {0}
 IsWithin (Ask n) = Unit {0}
 IsWithin (Stop n) = Unit {0}
 IsWithin (Keep rate listen) = (1 ≤ rate) × (listen < 2 ^ 32)
-IsWithin (Came now v) = now < 2 ^ 48
-IsWithin (Add adding) = adding.moment < 2 ^ 48
+IsWithin (Came now v) = IsMoment now
+IsWithin (Add adding) = IsMoment adding.moment
 
 -- why a line of a script was not parsed
 abbrev pub unanswered_by : Untaken → Unanswered

@@ -1,6 +1,7 @@
 //! What the lines of a driver do at a host that keeps itself.
 ghost use Rattle.std.specs.Prelude.{◌≡◌, ◌<◌, ◌^◌, ◌++◌, [], IfOk, true};
 ghost use Rattle.std.specs.String.{string_bytes};
+ghost use Rattle.wb_names.specs.Moments.{IsMoment};
 ghost use Rattle.wb_names.specs.Shapes.{op_of};
 ghost use Rattle.wb_member.specs.Holding.{outcome_in};
 ghost use Rattle.wb_display.specs.Canvas.{is_canvas_size};
@@ -77,7 +78,7 @@ fn tick(
     now: u64,
     output: &mut Output,
 ) -> Result<(), Unanswered>
-    requires { now < 2 ^ 48 }
+    requires { IsMoment now }
     ensures text { Adds output.old output.new (λ written.
         DoesKept kept.old kept.new written result (kept_ticks now)) }
 {
@@ -117,7 +118,7 @@ fn came(
     datagram: &Datagram,
     output: &mut Output,
 ) -> Result<(), Unanswered>
-    requires { now < 2 ^ 48 }
+    requires { IsMoment now }
     ensures text { Adds output.old output.new (λ written.
         DoesKept kept.old kept.new written result (kept_takes now datagram.now)) }
 {
@@ -166,7 +167,7 @@ fn draw(
     shape: Shape<'_>,
     output: &mut Output,
 ) -> Result<(), Unanswered>
-    requires { adding.now.moment < 2 ^ 48 }
+    requires { IsMoment adding.now.moment }
     ensures text { Adds output.old output.new (λ written.
         DoesKept kept.old kept.new written result
         (kept_draws adding.now.moment adding.now.page adding.now.time (op_of shape.entry))) }
@@ -187,7 +188,7 @@ fn add(
     adding: &Adding,
     output: &mut Output,
 ) -> Result<(), Unanswered>
-    requires { adding.now.moment < 2 ^ 48 }
+    requires { IsMoment adding.now.moment }
     ensures text { Adds output.old output.new (λ written.
         DoesKept kept.old kept.new written result (kept_adds adding.now)) }
 {

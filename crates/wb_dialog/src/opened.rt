@@ -1,5 +1,6 @@
 //! A host once its board is open: what a line does there.
 ghost use Rattle.std.specs.Prelude.{◌≡◌, ◌≤◌, ◌<◌, [], None, Some, Option, true, IfOk};
+ghost use Rattle.wb_host.specs.Counts.{IsCellCount};
 ghost use Rattle.wb_recovery.specs.Timing.{are_constants};
 ghost use Rattle.wb_member.specs.Opened.{opened_with};
 ghost use Rattle.wb_dialog.specs.Dialog.{answer_at};
@@ -17,7 +18,8 @@ use wb_commands::Command;
 use wb_keeping::KeptMember;
 use wb_lines::Output;
 use wb_member::Member;
-use wb_recovery::{MOMENT_LIMIT, Tuning};
+use wb_names::MOMENT_LIMIT;
+use wb_recovery::Tuning;
 
 /// A host, once its board is open.
 #[derive(Drop)]
@@ -121,7 +123,7 @@ impl Host {
         seed: u64,
         tuning: Tuning,
     ) -> Result<Host, AllocError>
-        requires cells { (0 < cells) × (cells ≤ 65535) }
+        requires cells { IsCellCount cells }
         requires constants { are_constants tuning ≡ true }
         ensures { IfOk result (λ h.
             IsHostAt h (Driven (opened_with tuning member cells seed) (Some seed))) }

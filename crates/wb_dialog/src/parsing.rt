@@ -1,6 +1,7 @@
 //! What a line of a driver says.
 ghost use Rattle.std.specs.Prelude.{◌≡◌, ◌<◌, ◌^◌, IfOk};
 ghost use Rattle.std.specs.Option.{option_map};
+ghost use Rattle.wb_names.specs.Moments.{IsMoment};
 ghost use Rattle.wb_words.specs.Words.{split_once};
 ghost use Rattle.wb_words.specs.Adding.{adding_reading};
 ghost use Rattle.wb_words.specs.Reading.{reading as reading_words};
@@ -12,11 +13,11 @@ use crate::fault::{Refusal, Unanswered};
 use crate::line::DriverLine;
 use std::alloc::Global;
 use wb_commands::{
-    LineFault, MAX_MOMENT, Untaken, datagram, four_words, no_words, number_word, page, parse_line,
+    LineFault, Untaken, datagram, four_words, no_words, number_word, page, parse_line,
     two_words, u32_word,
 };
 use wb_lines::next_word;
-use wb_names::{Name, PageId};
+use wb_names::{MAX_MOMENT, Name, PageId};
 use wb_words::{WordsFault, read_adding, read_words, split_once};
 
 /// The most bytes a second that reports may take.
@@ -75,7 +76,7 @@ fn keep_line(rest: &[u8]) -> Result<DriverLine, LineFault>
 #[tactic(auto, unfolding(crate::specs::Lines::moment_of))]
 fn moment(rest: &[u8]) -> Result<u64, LineFault>
     ensures moment { result ≡ moment_of (words rest.now) }
-    ensures bound { IfOk result (λ now. now < 2 ^ 48) }
+    ensures bound { IfOk result IsMoment }
 {
     let (now, _digits) = two_words(rest).ok_or(LineFault::Words)?;
     number_word(now, 0, MAX_MOMENT)

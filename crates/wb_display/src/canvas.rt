@@ -70,9 +70,11 @@ impl Model for Canvas {
 }
 
 impl Canvas {
-    const MAX_WIDTH: u32 = 200;
+    /// The most columns of a canvas. The fewest is 1.
+    pub const MAX_WIDTH: u32 = 200;
 
-    const MAX_HEIGHT: u32 = 100;
+    /// The most rows of a canvas. The fewest is 1.
+    pub const MAX_HEIGHT: u32 = 100;
 
     fn is_size(width: u32, height: u32) -> bool
         ensures { result ≡ is_canvas_size_of width height }

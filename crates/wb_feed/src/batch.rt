@@ -4,6 +4,7 @@ ghost use Rattle.crossbeam_channel.specs.Claims.{view};
 ghost use Rattle.crossbeam_channel.specs.Ends.{sends_on, receives_on};
 ghost use Rattle.wb_names.specs.Values.{DrawopValue};
 ghost use Rattle.wb_names.specs.Arrivals.{Outcome};
+ghost use Rattle.wb_host.specs.Counts.{IsWorkerCount};
 ghost use Rattle.wb_host.specs.Desks.{IsPassOf};
 ghost use Rattle.wb_feed.specs.Accepts.{Keeps, LosesAtMost, Accepts};
 ghost use Rattle.wb_feed.specs.Channel.{channel_view};
@@ -23,7 +24,7 @@ use crossbeam_channel::bounded_with;
 use std::alloc::{AllocError, Global};
 use std::sync::Wait;
 use std::thread::Threads;
-use wb_host::{Board, BoardFault, Desk, Reply};
+use wb_host::{Board, BoardFault, Desk, MAX_WORKERS, Reply};
 use wb_names::Drawop;
 
 /// How many arrivals were new, were held already, had the name of another drawop, and were left for
@@ -79,8 +80,8 @@ pub fn run_batch<R: Threads + Wait + Sync, S: Arrivals, G: Gate + Sync>(
     ensures kept { Keeps desk.old desk.new }
     ensures rows { LosesAtMost (handed_out workers desk.old.free) desk.old desk.new }
     ensures every_row { result ≢ Err FeedFault.Memory → LosesAtMost 0 desk.old desk.new }
-    ensures workers { (result ≡ Err FeedFault.Workers) ↔ ((workers ≡ 0) ⊎ (8 < workers)) }
-    ensures untouched { (workers ≡ 0) ⊎ (8 < workers)
+    ensures workers { (result ≡ Err FeedFault.Workers) ↔ ((workers ≡ 0) ⊎ (MAX_WORKERS < workers)) }
+    ensures untouched { (workers ≡ 0) ⊎ (MAX_WORKERS < workers)
         → (desk.new ≡ desk.old) × (arrivals.new ≡ arrivals.old) }
     ensures started { result ≡ Err FeedFault.Start
         → (arrivals.new ≡ arrivals.old) × LosesAtMost 0 desk.old desk.new }
@@ -92,7 +93,7 @@ pub fn run_batch<R: Threads + Wait + Sync, S: Arrivals, G: Gate + Sync>(
     ensures shared { IfOk result (λ r. IsShared workers desk.old r.1.items desk.new) }
     ensures ended { OnOk result (S.has_ended arrivals.new ≡ true) }
 {
-    if workers == 0 || workers > 8 {
+    if workers == 0 || workers > MAX_WORKERS {
         return Err(FeedFault::Workers);
     }
     // No more room than for what may come.
@@ -126,7 +127,7 @@ fn take_batch<R: Threads + Wait + Sync, S: Arrivals, G: Gate + Sync>(
     arrivals: &mut S,
 ) -> Result<Batch, WorkFault>
     requires desk { IsPassOf place.board.now desk.old }
-    requires workers { (0 < place.workers) × (place.workers ≤ 8) }
+    requires workers { IsWorkerCount place.workers }
     requires channel { receives_on place.end.now ≡ sends_on feeding.old.channel }
     requires first { (view feeding.old.pass ≡ channel_view 16 true [] [])
         × (feeding.old.arrived.items ≡ []) × (feeding.old.going ≡ true) }

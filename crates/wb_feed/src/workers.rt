@@ -3,6 +3,8 @@ ghost use Rattle.std.specs.Prelude.{◌≡◌, ◌*◌, ◌/◌, ◌<◌, ◌≤
 ghost use Rattle.std.specs.Thread.{IsSync};
 ghost use Rattle.crossbeam_channel.specs.Claims.{view, IsSeatAt};
 ghost use Rattle.crossbeam_channel.specs.Ends.{sends_on, receives_on};
+ghost use Rattle.wb_host.specs.Counts.{IsWorkerCount};
+ghost use Rattle.wb_host.specs.declared.board.TheConstants.{MAX_WORKERS};
 ghost use Rattle.wb_host.specs.Desks.{IsPassOf};
 ghost use Rattle.wb_feed.specs.Accepts.{LosesAtMost};
 ghost use Rattle.wb_feed.specs.Feeding.{IsReady, IsMerged, HasFed};
@@ -114,7 +116,7 @@ fn run_several<'s, 'e: 's, R: Threads + Wait + Sync, S: Arrivals, G: Gate + Sync
 ) -> Result<Told, WorkFault>
     requires root { IsPassOf place.board.now root.old }
     requires rows { rows * left ≤ root.old.free }
-    requires workers { (left ≤ place.workers) × (place.workers ≤ 8) }
+    requires workers { (left ≤ place.workers) × (place.workers ≤ MAX_WORKERS) }
     requires channel { receives_on place.end.now ≡ sends_on feeding.old.channel }
     requires ready { IsReady left feeding.old }
     requires few { S.most_to_come arrivals.old < 2 ^ 32 }
@@ -183,7 +185,7 @@ fn run_some<'s, 'e: 's, R: Threads + Wait + Sync, S: Arrivals, G: Gate + Sync>(
     arrivals: &mut S,
 ) -> Result<Told, WorkFault>
     requires root { IsPassOf place.board.now root.old }
-    requires workers { (0 < place.workers) × (place.workers ≤ 8) }
+    requires workers { IsWorkerCount place.workers }
     requires rows { rows ≡ root.old.free / place.workers }
     requires channel { receives_on place.end.now ≡ sends_on feeding.old.channel }
     requires ready { IsReady place.workers feeding.old }
@@ -209,7 +211,7 @@ pub(crate) fn run_all<R: Threads + Wait + Sync, S: Arrivals, G: Gate + Sync>(
     arrivals: &mut S,
 ) -> Result<Told, WorkFault>
     requires root { IsPassOf place.board.now root.old }
-    requires workers { (0 < place.workers) × (place.workers ≤ 8) }
+    requires workers { IsWorkerCount place.workers }
     requires rows { rows ≡ root.old.free / place.workers }
     requires channel { receives_on place.end.now ≡ sends_on feeding.old.channel }
     requires ready { IsReady place.workers feeding.old }
@@ -224,7 +226,7 @@ pub(crate) fn run_all<R: Threads + Wait + Sync, S: Arrivals, G: Gate + Sync>(
         place.rt,
         move |scope| -> (&mut Desk, &mut Feeding, &mut S, Result<Told, WorkFault>)
             requires { IsSync R.row × IsSync G.row × IsPassOf place.board.now root.now
-                × ((0 < place.workers) × (place.workers ≤ 8)) × (rows ≡ root.now.free / place.workers)
+                × IsWorkerCount place.workers × (rows ≡ root.now.free / place.workers)
                 × (receives_on place.end.now ≡ sends_on feeding.now.channel)
                 × IsReady place.workers feeding.now × (S.most_to_come arrivals.now < 2 ^ 32) }
             ensures names { (result.0.ghost_name ≡ root.entry.ghost_name)

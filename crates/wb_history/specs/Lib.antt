@@ -4,6 +4,7 @@ pub mod Plays
 pub mod Indexed
 pub mod RowRanges
 pub mod Sizes
+pub mod CellCounts
 pub mod Views
 pub mod Seats
 pub mod Cursors

@@ -6,6 +6,7 @@ use Rattle.wb_names.specs.Values.{DrawopValue}
 use Rattle.wb_names.specs.History.{IsHistory}
 use Rattle.wb_codec.specs.Ranges.{IsDrawop}
 use Rattle.wb_history.specs.Sizes.{member_steps}
+use Rattle.wb_history.specs.declared.history.TheConstants.{MAX_CELLS}
 
 -- a history: which table it is, and how many cells it has, which is also the number of its rows
 pub record HistoryValue : Type 0 where
@@ -51,7 +52,7 @@ pub record IsSound (p : PassValue) : Type 0 where
   pub history : IsHistory p.seen
   pub lawful : All IsDrawop p.seen
   pub some_cells : 0 < p.cells
-  pub few_cells : p.cells ≤ 65535
+  pub few_cells : p.cells ≤ MAX_CELLS
   pub room : length p.seen + p.free ≤ p.cells  -- a free row has a free cell before it
   pub rows : p.free + length p.mine ≤ p.cells
   pub own : All (λ i. i < length p.seen) p.mine

@@ -3,6 +3,7 @@ use Rattle.wb_history.specs.Sizes.{row_stride}
 use Rattle.std.specs.Prelude.{◌≡◌, ◌+◌, ◌*◌, ◌<◌, ◌≤◌, length}
 use Rattle.wb_history.specs.declared.cursor.Cursor.{Cursor}
 use Rattle.wb_history.specs.declared.cells.CellTable.{CellTable}
+use Rattle.wb_history.specs.declared.history.TheConstants.{MAX_CELLS}
 use Rattle.wb_history.specs.Cursors.{MatchesSeat}
 use Rattle.wb_history.specs.Passes.{HistoryValue, PassValue}
 
@@ -24,4 +25,4 @@ view_of h = record {
 
 -- the parts of a pass agree with one another, and its cells are those of its table
 abbrev pub PartsAgree : Cursor → Type 0
-PartsAgree h = MatchesSeat h × (h.seat.table_id.words ≡ h.seat.me.0.cells + h.seat.me.0.cells * row_stride) × (0 < h.seat.me.0.cells) × (h.seat.me.0.cells ≤ 65535)
+PartsAgree h = MatchesSeat h × (h.seat.table_id.words ≡ h.seat.me.0.cells + h.seat.me.0.cells * row_stride) × (0 < h.seat.me.0.cells) × (h.seat.me.0.cells ≤ MAX_CELLS)

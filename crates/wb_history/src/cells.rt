@@ -1,4 +1,5 @@
 //! The table of a history: its cells, and then its rows.
+ghost use Rattle.wb_history.specs.CellCounts.{IsCellCount};
 ghost use Rattle.wb_history.specs.Sizes.{row_stride};
 ghost use Rattle.std.specs.Prelude.{◌≡◌, ◌+◌, ◌*◌, ◌<◌, ◌≤◌, IfOk};
 
@@ -22,7 +23,7 @@ pub struct CellTable {
     pub(crate) cells: u32,
     ghost keyed: { table.shared.key ≡ cells },
     ghost sized: { table.shared.table_id.words ≡ cells + cells * row_stride },
-    ghost bounded: { (0 < cells) × (cells ≤ 65535) },
+    ghost bounded: { IsCellCount cells },
 }
 
 impl CellTable {
@@ -32,7 +33,7 @@ impl CellTable {
     /// A table of free cells and rows that no cell names, with the seat that owns all rows.
     #[tactic(auto, using(crate::proofs::Opens::opens))]
     pub(crate) fn make(alloc: Global, cells: u32) -> Result<(CellTable, HistorySeat), AllocError>
-        requires { (0 < cells) × (cells ≤ 65535) }
+        requires { IsCellCount cells }
         ensures { IfOk result (λ t. (t.0.cells ≡ cells) × (t.1.table_id ≡ t.0.table.shared.table_id) × (t.1.me ≡ (whole_pass cells, []))) }
     {
         let words = Vec::from_elem(alloc, 0u64, cells as usize * (ROW_STRIDE + 1))?;

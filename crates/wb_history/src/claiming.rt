@@ -10,6 +10,7 @@ ghost use Rattle.wb_names.specs.History.{HoldsName};
 ghost use Rattle.wb_codec.specs.Rows.{row as record_of};
 ghost use Rattle.wb_codec.specs.Ranges.{IsDrawop};
 ghost use Rattle.wb_history.specs.Seats.{SitsAt};
+ghost use Rattle.wb_history.specs.declared.history.TheConstants.{MAX_CELLS};
 
 use crate::cells::CellTable;
 use crate::claim::{Claim, ClaimFault};
@@ -131,7 +132,7 @@ impl CellTable {
 /// The answer to a claim of a drawop whose name one of these members has.
 #[tactic(auto, using(atomic_table::proofs::Lists::at_index, crate::proofs::Lists::at_same, crate::proofs::Words::get_is))]
 fn known(members: &Members, drawop: &Drawop) -> Option<Claim>
-    requires { length members.now.items ≤ 65535 }
+    requires { length members.now.items ≤ MAX_CELLS }
     ensures { MatchOption result (¬ HoldsName members.now.items drawop.now.name) (λ c. TellsNamesake members.now.items drawop.now c) }
 {
     let place = members.place_of(&drawop.name())?;

@@ -17,6 +17,9 @@ use std::marker::Model;
 use thiserror::Error;
 use wb_names::Drawop;
 
+/// The most cells of a history. One list of marks can then tell all that a history holds.
+pub const MAX_CELLS: u32 = 65_535;
+
 /// One growing history of drawops, in which no name stands twice. Threads share it by reference.
 #[derive(Drop)]
 pub struct History {
@@ -62,10 +65,10 @@ impl History {
     /// owns all rows. There is room for as many drawops as there are cells.
     pub fn open(alloc: Global, cells: u32) -> Result<(History, Pass), OpenFault>
         ensures opened { IfOk result (λ t. IsOpened cells t.0 t.1) }
-        ensures refused { (cells ≡ 0) ⊎ (65535 < cells) → result ≡ Err fault.Cells }
-        ensures admitted { 0 < cells → cells ≤ 65535 → result ≢ Err fault.Cells }
+        ensures refused { (cells ≡ 0) ⊎ (MAX_CELLS < cells) → result ≡ Err fault.Cells }
+        ensures admitted { 0 < cells → cells ≤ MAX_CELLS → result ≢ Err fault.Cells }
     {
-        if cells == 0 || cells > 65535 {
+        if cells == 0 || cells > MAX_CELLS {
             return Err(OpenFault::Cells);
         }
         let Ok(free) = Rows::first(alloc, cells) else {

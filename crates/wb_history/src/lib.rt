@@ -34,6 +34,6 @@ mod steps;
 mod walk;
 
 pub use claim::{Claim, ClaimFault};
-pub use history::{History, OpenFault};
+pub use history::{History, MAX_CELLS, OpenFault};
 pub use parts::{JoinFault, SplitFault};
 pub use pass::Pass;

@@ -4,6 +4,7 @@ ghost use Rattle.wb_history.specs.declared.ranges.RowRange.{RowRange};
 ghost use mathlib.Core.Option.{some};
 ghost use lib.ListN.{get_elem?};
 ghost use Rattle.std.specs.List.{range_with_len};
+ghost use Rattle.wb_history.specs.CellCounts.{IsCellCount};
 ghost use Rattle.wb_history.specs.RowRanges.{rows_in};
 
 use std::alloc::{AllocError, Global};
@@ -36,7 +37,7 @@ impl Model for Rows {
 impl Rows {
     /// The rows from 0 on, so many, some at least.
     pub(crate) fn first(alloc: Global, count: u32) -> Result<Rows, AllocError>
-        requires { (0 < count) × (count < 65536) }
+        requires { IsCellCount count }
         ensures { IfOk result (λ r. r.items ≡ range_with_len 0 count) }
     {
         let mut ranges = Vec::new(alloc);

@@ -7,6 +7,7 @@ ghost use Rattle.wb_history.specs.Cursors.{MatchesSeat, Walked, ReadsOne, AtEnd,
 ghost use Rattle.wb_names.specs.History.{HoldsName};
 ghost use Rattle.wb_history.specs.Seats.{SitsAt, SameSeat};
 ghost use Rattle.wb_history.specs.Views.{IsMember};
+ghost use Rattle.wb_history.specs.declared.history.TheConstants.{MAX_CELLS};
 
 use crate::cells::CellTable;
 use crate::claim::Claim;
@@ -26,7 +27,7 @@ pub(crate) fn is_namesake(member: &Drawop, drawop: &Drawop) -> bool
 
 /// The answer where the member at a place has the name of the drawop.
 pub(crate) fn answer(drawop: &Drawop, member: &Drawop, place: usize) -> Claim
-    requires { (member.now.name ≡ drawop.now.name) × (place < 65536) }
+    requires { (member.now.name ≡ drawop.now.name) × (place ≤ MAX_CELLS) }
     ensures { (l : List DrawopValue) → slice_get l place ≡ Some member.now → TellsNamesake l drawop.now result }
 {
     if member == drawop {
@@ -38,7 +39,7 @@ pub(crate) fn answer(drawop: &Drawop, member: &Drawop, place: usize) -> Claim
 
 /// The answer where the member at this place has the name of the drawop.
 pub(crate) fn answer_at(members: &Members, place: usize, drawop: &Drawop) -> Option<Claim>
-    requires { (place < length members.now.items) × (place < 65536) }
+    requires { (place < length members.now.items) × (place ≤ MAX_CELLS) }
     ensures { MatchOption result ((d : DrawopValue) → slice_get members.now.items place ≡ Some d → d.name ≢ drawop.now.name) (λ c. TellsNamesake members.now.items drawop.now c) }
 {
     let member = &members.as_slice()[place];

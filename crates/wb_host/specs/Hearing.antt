@@ -3,6 +3,7 @@ use Rattle.std.specs.Prelude.{◌≡◌, ℕ, ◌≤◌, Bool, true, false, not,
 use Rattle.wb_names.specs.Values.{DrawopValue, MarkValue}
 use Rattle.wb_names.specs.Orders.{same_page}
 use Rattle.wb_names.specs.Faults.{first_of, fault_unless}
+use Rattle.wb_names.specs.declared.entries.TheConstants.{MAX_ENTRIES}
 use Rattle.wb_names.specs.declared.name.PageId.{PageId}
 use Rattle.wb_codec.specs.declared.datagram.Datagram.{Datagram}
 use Rattle.wb_codec.specs.declared.datagram.Datagram.TheVariants.{Draw, Session, Request, AskPages, PageState}
@@ -12,6 +13,7 @@ use Rattle.wb_gaps.specs.Merging.{source_count}
 use Rattle.wb_gaps.specs.PageReports.{AreReports}
 use Rattle.wb_gaps.specs.declared.page_reports.PageReport.{PageReport}
 use Rattle.wb_recovery.specs.Faults.{is_moment}
+use Rattle.wb_host.specs.Counts.{MAX_CELLS}
 use Rattle.wb_host.specs.Keeper.{KeeperCall, Hear, is_own, holds}
 use Rattle.wb_host.specs.declared.keep_fault.KeepFault.{KeepFault}
 use Rattle.wb_host.specs.declared.keep_fault.KeepFault.TheVariants.{BackInTime, Range, TooMany}
@@ -39,8 +41,8 @@ marks_heard me (call ∷ calls) page = joined (marks_reported me page call) (mar
 
 -- a list of marks has room for the sources that the datagram tells of, beside those that were heard of its page
 abbrev pub has_room : (PageId → List MarkValue) → Datagram → Bool
-has_room heard (Session sender sent page marks echoes) = nat_le (source_count (heard page) marks) 65535
-has_room heard (PageState sender page marks) = nat_le (source_count (heard page) marks) 65535
+has_room heard (Session sender sent page marks echoes) = nat_le (source_count (heard page) marks) MAX_ENTRIES
+has_room heard (PageState sender page marks) = nat_le (source_count (heard page) marks) MAX_ENTRIES
 has_room heard (Draw d) = true
 has_room heard (Request asker name) = true
 has_room heard (AskPages asker) = true
@@ -100,4 +102,4 @@ answers_to me history datagram = if asks_for_pages me datagram then page_states 
 
 -- A history of at most 65,535 members has a report of each page, and this is the one list that is sent.
 abbrev pub AnswersAreSent : Type 0
-AnswersAreSent = (me : ℕ) (history : List DrawopValue) (datagram : Datagram) → length history ≤ 65535 → IsSent me history datagram (answers_to me history datagram)
+AnswersAreSent = (me : ℕ) (history : List DrawopValue) (datagram : Datagram) → length history ≤ MAX_CELLS → IsSent me history datagram (answers_to me history datagram)

@@ -5,6 +5,7 @@ use Rattle.std.specs.Option.{option_or}
 use Rattle.wb_names.specs.Values.{NameValue, DrawopValue}
 use Rattle.wb_names.specs.Orders.{same_name, same_page}
 use Rattle.wb_names.specs.Marks.{mark_of}
+use Rattle.wb_names.specs.declared.entries.TheConstants.{MAX_ENTRIES}
 use Rattle.wb_names.specs.declared.name.PageId.{PageId}
 use Rattle.wb_names.specs.declared.echo.Echo.{Echo}
 use Rattle.wb_codec.specs.declared.datagram.Datagram.{Datagram}
@@ -131,7 +132,7 @@ session_heard me call = None
 -- the senders that are remembered: of those that were heard, the first 65,535
 abbrev pub remember : Option (ℕ × Heard) → List ℕ → List ℕ
 remember None senders = senders
-remember (Some told) senders = if list_any (nat_eq told.0) senders || nat_le 65535 (length senders) then senders else told.0 ∷ senders
+remember (Some told) senders = if list_any (nat_eq told.0) senders || nat_le MAX_ENTRIES (length senders) then senders else told.0 ∷ senders
 
 abbrev pub senders_of : ℕ → List KeeperCall → List ℕ
 senders_of me [] = []

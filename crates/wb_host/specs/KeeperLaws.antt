@@ -6,6 +6,7 @@ use Rattle.wb_names.specs.Values.{NameValue, DrawopValue}
 use Rattle.wb_names.specs.Ascending.{AreMarks}
 use Rattle.wb_names.specs.History.{IsHistory}
 use Rattle.wb_names.specs.Marks.{mark_of}
+use Rattle.wb_names.specs.declared.entries.TheConstants.{MAX_ENTRIES}
 use Rattle.wb_names.specs.declared.name.PageId.{PageId}
 use Rattle.wb_codec.specs.declared.datagram.Datagram.{Datagram}
 use Rattle.wb_codec.specs.declared.datagram.Datagram.TheVariants.{Draw, Request}
@@ -79,7 +80,7 @@ by_first (s ∷ older) = if list_any (nat_eq s) (by_first older) then by_first o
 
 -- the first 65,535 of them
 abbrev pub first_senders : ℕ → List KeeperCall → List ℕ
-first_senders me calls = take 65535 (by_first (all_senders me calls))
+first_senders me calls = take MAX_ENTRIES (by_first (all_senders me calls))
 
 -- the last session message of a source says this
 pub record IsLatest (me : ℕ) (calls : List KeeperCall) (source : ℕ) (h : Heard) : Type 0 where

@@ -3,9 +3,12 @@ use Rattle.std.specs.Prelude.{◌≡◌, ℕ, ◌<◌, ◌≤◌, ◌^◌, List,
 use Rattle.std.specs.BTreeMap.{BTreeMap, is_at}
 use Rattle.std.specs.Map.{lookup}
 use Rattle.std.specs.Ordering.{nat_cmp}
+use Rattle.wb_names.specs.Moments.{IsMoment}
+use Rattle.wb_recovery.specs.Delays.{IsDelay}
 use Rattle.wb_names.specs.Values.{MarkValue}
 use Rattle.wb_names.specs.Orders.{page_cmp}
 use Rattle.wb_names.specs.Marks.{mark_of}
+use Rattle.wb_names.specs.declared.entries.TheConstants.{MAX_ENTRIES}
 use Rattle.wb_names.specs.declared.name.PageId.{PageId}
 use Rattle.wb_recovery.specs.Values.{RecoveryValue}
 use Rattle.wb_recovery.specs.Accepted as timers
@@ -50,8 +53,8 @@ Keeps call old new = (me : ℕ) (tuning : Tuning) (calls : List KeeperCall) → 
 
 -- what holds of every keeper
 pub record IsWithinLimits (last : ℕ) (recovery : RecoveryValue) (delays : BTreeMap ℕ ℕ) (heard : BTreeMap ℕ Heard) (none : List MarkValue) : Type 0 where
-  pub moment : last < 2 ^ 48
+  pub moment : IsMoment last
   pub before : recovery.moment ≤ last
-  pub near : (source : ℕ) → delay_at delays.entries source < 2 ^ 24
-  pub few : length heard.entries ≤ 65535
+  pub near : (source : ℕ) → IsDelay (delay_at delays.entries source)
+  pub few : length heard.entries ≤ MAX_ENTRIES
   pub empty : none ≡ []

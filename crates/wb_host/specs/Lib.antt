@@ -4,6 +4,7 @@ pub mod Layers
 pub mod Held
 pub mod Board
 pub mod Desks
+pub mod Counts
 pub mod Borrows
 pub mod Runs
 pub mod Laws

@@ -13,6 +13,7 @@ use Rattle.wb_codec.specs.declared.datagram.Datagram.{Datagram}
 use Rattle.wb_codec.specs.declared.datagram.Datagram.TheVariants.{Session}
 use Rattle.wb_gaps.specs.Answers.{report_of}
 use Rattle.wb_gaps.specs.Sorting.{sorted}
+use Rattle.wb_host.specs.Counts.{MAX_CELLS}
 use Rattle.wb_host.specs.Keeper.{KeeperCall, senders_of, last_heard}
 use Rattle.wb_host.specs.declared.keeper.Heard.{Heard}
 
@@ -55,4 +56,4 @@ message_of me calls now history page = Session me now page (report_of history pa
 
 -- A history of at most 65,535 members has a report, and this is the one session message.
 abbrev pub MessageIsSession : Type 0
-MessageIsSession = (me : ℕ) (calls : List KeeperCall) (now : ℕ) (history : List DrawopValue) (page : PageId) → length history ≤ 65535 → IsSession me calls now history page (message_of me calls now history page)
+MessageIsSession = (me : ℕ) (calls : List KeeperCall) (now : ℕ) (history : List DrawopValue) (page : PageId) → length history ≤ MAX_CELLS → IsSession me calls now history page (message_of me calls now history page)

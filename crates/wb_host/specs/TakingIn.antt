@@ -8,6 +8,7 @@ use Rattle.wb_names.specs.Values.{MarkValue}
 use Rattle.wb_names.specs.Orders.{page_cmp}
 use Rattle.wb_names.specs.Marks.{mark_of, IsMerge}
 use Rattle.wb_names.specs.Ascending.{AreMarks}
+use Rattle.wb_names.specs.declared.entries.TheConstants.{MAX_ENTRIES}
 use Rattle.wb_names.specs.declared.name.PageId.{PageId}
 use Rattle.wb_codec.specs.declared.datagram.Datagram.{Datagram}
 use Rattle.wb_codec.specs.declared.datagram.Datagram.TheVariants.{Draw, Session, Request, AskPages, PageState}
@@ -21,14 +22,14 @@ delays_with sender (Some delay) delays = insert_entry nat_cmp delays sender dela
 
 -- it is remembered, or there is room for it
 abbrev pub has_place : ℕ → List (ℕ × Heard) → Bool
-has_place sender heard = is_some (heard_at heard sender) || nat_lt (length heard) 65535
+has_place sender heard = is_some (heard_at heard sender) || nat_lt (length heard) MAX_ENTRIES
 
 abbrev pub heard_with : ℕ → Heard → List (ℕ × Heard) → List (ℕ × Heard)
 heard_with sender told heard = if has_place sender heard then insert_entry nat_cmp heard sender told else heard
 
 -- how many are remembered then
 abbrev pub count_with : ℕ → List (ℕ × Heard) → ℕ
-count_with sender heard = if is_some (heard_at heard sender) || nat_le 65535 (length heard) then length heard else length heard + 1
+count_with sender heard = if is_some (heard_at heard sender) || nat_le MAX_ENTRIES (length heard) then length heard else length heard + 1
 
 -- what stood at a key stands there again
 abbrev pub restored : {X : Type 0} → ℕ → Option X → List (ℕ × X) → List (ℕ × X)

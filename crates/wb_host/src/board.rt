@@ -5,6 +5,7 @@ ghost use Rattle.wb_names.specs.History.{HoldsName};
 ghost use Rattle.wb_history.specs.Lists.{longer};
 ghost use Rattle.wb_history.specs.Passes.{IsOpened, IsPassOf, IsSamePass, IsSound, HearsMore, IsCaughtUp, ReadsOn};
 ghost use Rattle.wb_history.specs.Sharing.{IsSplit, IsSplitFault, IsJoined};
+ghost use Rattle.wb_history.specs.declared.history.TheConstants.{MAX_CELLS};
 ghost use Rattle.wb_history.specs.declared.history.OpenFault.TheVariants as opening;
 ghost use Rattle.wb_history.specs.declared.parts.SplitFault.TheVariants as splitting;
 ghost use Rattle.wb_host.specs.Replies.{Accepted, NotAccepted, AcceptSteps, RefusalSteps, point_of};
@@ -16,6 +17,9 @@ use std::alloc::{AllocError, Global};
 use std::marker::Model;
 use wb_history::{Claim, ClaimFault, History, JoinFault, OpenFault, SplitFault};
 use wb_names::Drawop;
+
+/// The most workers that take the drawops of a board at a time, each with a desk of its own.
+pub const MAX_WORKERS: u32 = 8;
 
 /// One growing history of drawops, in which no name stands twice. Threads share it by reference.
 #[derive(Drop)]
@@ -38,8 +42,8 @@ impl Board {
     /// Refused with `Cells`, just where the number is not from 1 to 65,535, or `Memory`.
     pub fn open(alloc: Global, cells: u32) -> Result<(Board, Desk), OpenFault>
         ensures opened { IfOk result (λ t. IsOpened cells t.0 t.1) }
-        ensures refused { (cells ≡ 0) ⊎ (65535 < cells) → result ≡ Err opening.Cells }
-        ensures admitted { 0 < cells → cells ≤ 65535 → result ≢ Err opening.Cells }
+        ensures refused { (cells ≡ 0) ⊎ (MAX_CELLS < cells) → result ≡ Err opening.Cells }
+        ensures admitted { 0 < cells → cells ≤ MAX_CELLS → result ≢ Err opening.Cells }
     {
         let (history, pass) = History::open(alloc, cells)?;
         Ok((Board { history }, Desk::new(alloc, pass)))

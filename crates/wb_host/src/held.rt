@@ -2,6 +2,7 @@
 ghost use Rattle.std.specs.Prelude.{◌≡◌, ◌≤◌, [], OnOk, length, if◌then◌else◌};
 ghost use Rattle.wb_names.specs.History.{highest, is_of};
 ghost use Rattle.wb_gaps.specs.Holdings.{HoldNamesOf};
+ghost use Rattle.wb_host.specs.Counts.{MAX_CELLS};
 ghost use Rattle.wb_host.specs.Held.{HoldsFirst};
 
 use std::alloc::{AllocError, Global};
@@ -32,7 +33,7 @@ impl Held {
         requires { HoldsFirst pass.now.seen self.old }
         ensures holds { HoldsFirst pass.now.seen self.new }
         ensures all { OnOk result (HoldNamesOf pass.now.seen self.new.holdings) }
-        ensures few { length self.new.holdings ≤ 65535 }
+        ensures few { length self.new.holdings ≤ MAX_CELLS }
     {
         let list = pass.list();
         for place in self.taken..list.len() {

@@ -7,6 +7,8 @@
 //! or a number that is reported and not held, is a loss.
 
 ghost use Rattle.std.specs.Prelude.{◌≡◌, ◌<◌, ◌≤◌, ◌^◌, [], ℕ, List, false, IsTrue, IsOk, IfOk, OnOk, OnErr, MatchOption, MatchResult, length};
+ghost use Rattle.wb_names.specs.Moments.{IsMoment};
+ghost use Rattle.wb_recovery.specs.Delays.{IsDelay};
 ghost use Rattle.wb_recovery.specs.Timing.{are_constants};
 ghost use Rattle.wb_recovery.specs.Values.{timers_in, names_in};
 ghost use Rattle.wb_recovery.specs.Events.{asking, due_asks, IsNextDue, names_of, timers_of};
@@ -31,8 +33,8 @@ use crate::keep_fault::KeepFault;
 use std::alloc::Global;
 use std::collections::BTreeMap;
 use std::marker::Model;
-use wb_names::{Marks, PageId};
-use wb_recovery::{DELAY_LIMIT, MOMENT_LIMIT, Recovery, Tuning, TuningFault};
+use wb_names::{MOMENT_LIMIT, Marks, PageId};
+use wb_recovery::{DELAY_LIMIT, Recovery, Tuning, TuningFault};
 
 /// Of a session message: the moment of its sender's clock that it named, and the moment at which it
 /// was heard, both in microseconds.
@@ -131,7 +133,7 @@ impl Keeper {
     /// The moment of the last accepted call that has one, in microseconds, and 0 before there is one.
     pub fn moment(&self) -> u64
         ensures moment { result ≡ self.now.moment }
-        ensures range { result < 2 ^ 48 }
+        ensures range { IsMoment result }
     {
         self.moment
     }
@@ -146,7 +148,7 @@ impl Keeper {
     /// The delay to a source, in microseconds.
     pub fn delay(&self, source: u32) -> u64
         ensures delay { result ≡ delay_at self.now.delays source }
-        ensures near { result < 2 ^ 24 }
+        ensures near { IsDelay result }
     {
         let delay = self.delays.get(&source).copied();
         delay.unwrap_or(Keeper::FIRST_DELAY)
@@ -193,7 +195,7 @@ impl Keeper {
     fn check(&self, now: u64) -> Result<(), KeepFault>
         ensures fault { MatchOption (moment_fault self.now.moment now) (IsOk result) (λ fault. result ≡ Err fault) }
         ensures after { OnOk result (self.now.moment ≤ now) }
-        ensures moment { OnOk result (now < 2 ^ 48) }
+        ensures moment { OnOk result (IsMoment now) }
     {
         if now < self.moment {
             return Err(KeepFault::BackInTime);

@@ -24,9 +24,9 @@ mod layers;
 mod queries;
 mod reply;
 
-pub use board::Board;
+pub use board::{Board, MAX_WORKERS};
 pub use desk::Desk;
 pub use keep_fault::KeepFault;
 pub use keeper::Keeper;
 pub use reply::{BoardFault, Reply};
-pub use wb_history::{JoinFault, OpenFault, SplitFault};
+pub use wb_history::{JoinFault, MAX_CELLS, OpenFault, SplitFault};

@@ -10,6 +10,7 @@ use Rattle.wb_names.specs.declared.parts.Op.{Op}
 use Rattle.wb_codec.specs.declared.datagram.Datagram.{Datagram}
 use Rattle.wb_recovery.specs.Timing.{are_constants}
 use Rattle.wb_recovery.specs.declared.tuning.Tuning.{Tuning}
+use Rattle.wb_host.specs.Counts.{MAX_CELLS}
 use Rattle.wb_member.specs.Opened.{last_number, opened_with, present}
 use Rattle.wb_keeping.specs.Kept.{Line, Ticks, Tunes, Transition, adds, came, drawing, last_heard, performs, still, ticks, want}
 use Rattle.wb_keeping.specs.Performing.{Keeping, after_doing, after_lines, sees, sent_by_doing, sent_by_lines, view_of}
@@ -123,7 +124,7 @@ KeptHostsAreHosts = (lines : List KeptLine) (k : Keeping)
 abbrev pub ANumberIsLeft : Type 0
 ANumberIsLeft = (constants : Tuning) (number cells seed : ℕ) (moments : List ℕ) (policy : Policy) (lines : List KeptLine)
     → let start : Keeping = record { host = after_lines (map Ticks moments) (opened_with constants number cells seed); policy = policy } in
-    cells ≤ 65535 → AreTaken lines start → (page : PageId) → last_number page (after_kept lines start).host < 4294967295
+    cells ≤ MAX_CELLS → AreTaken lines start → (page : PageId) → last_number page (after_kept lines start).host < 4294967295
 
 -- So a drawing is refused before the present moment, while the member listens, and where its operation is none of a drawop under the
 -- next number, and at no other time.

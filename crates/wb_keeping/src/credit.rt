@@ -1,6 +1,7 @@
 //! How much may be asked for.
 
 ghost use Rattle.std.specs.Prelude.{◌≡◌, ◌<◌, ◌^◌, IsTrue};
+ghost use Rattle.wb_names.specs.Moments.{IsMoment};
 ghost use Rattle.wb_keeping.specs.Credit.{has_credit, repaid, spent};
 
 /// The credit of who asks for names. Each name that is asked for is paid for in a quarter of a second, and 64 may be
@@ -32,7 +33,7 @@ impl Credit {
     /// A name is asked for.
     pub fn spend(&mut self, now: u64)
         requires left { IsTrue (has_credit self.old.owed now) }
-        requires moment { now < 2 ^ 48 }
+        requires moment { IsMoment now }
         ensures { self.new.owed ≡ spent self.old.owed now }
     {
         self.owed = self.owed.max(now) + Credit::COST;

@@ -1,5 +1,6 @@
 //! A member that keeps itself: it does what its policy judges, and hands out what is to be sent.
 ghost use Rattle.std.specs.Prelude.{◌≡◌, ◌≤◌, ◌<◌, ◌^◌, [], IfOk, OnErr, IsTrue, MatchResult, false, is_some, nat_le};
+ghost use Rattle.wb_names.specs.Moments.{IsMoment};
 ghost use Rattle.wb_recovery.specs.Timing.{are_constants};
 ghost use Rattle.wb_names.specs.Faults.{value_unless};
 ghost use Rattle.wb_names.specs.Shapes.{op_of};
@@ -85,7 +86,7 @@ impl KeptMember {
     /// a drawop. Refused before the present moment, and where it is a drawop of this member's own number that it would never
     /// come to and does not hold.
     pub fn came(&mut self, alloc: Global, now: u64, datagram: &Datagram) -> Result<Done, KeptFault>
-        requires { now < 2 ^ 48 }
+        requires { IsMoment now }
         ensures fault { (k : Keeping) → IsKeptAt self.old k → IsRefusedBy (came_fault now datagram.now k) result }
         ensures refused { (k : Keeping) → IsKeptAt self.old k → IsTrue (is_some (came_fault now datagram.now k)) → self.new ≡ self.old }
         ensures sent { IfOk result (λ done. (k : Keeping) → IsKeptAt self.old k → (done.sent.items ≡ sent_by_doing (came now datagram.now) k) × IsKeptAt self.new (after_doing (came now datagram.now) k)) }
@@ -105,7 +106,7 @@ impl KeptMember {
 
     /// Time goes on to a moment, in microseconds below 2^48. Answers what is to be sent. Refused before the present moment.
     pub fn tick(&mut self, alloc: Global, now: u64) -> Result<Vec<Datagram>, KeptFault>
-        requires { now < 2 ^ 48 }
+        requires { IsMoment now }
         ensures fault { (k : Keeping) → IsKeptAt self.old k → IsRefusedBy (tick_fault now k) result }
         ensures refused { (k : Keeping) → IsKeptAt self.old k → IsTrue (is_some (tick_fault now k)) → self.new ≡ self.old }
         ensures sent { IfOk result (λ sent. (k : Keeping) → IsKeptAt self.old k → (sent.items ≡ sent_by_doing (ticks now) k) × IsKeptAt self.new (after_doing (ticks now) k)) }
@@ -129,7 +130,7 @@ impl KeptMember {
         time: u64,
         shape: Shape<'_>,
     ) -> Result<Done, KeptFault>
-        requires { now < 2 ^ 48 }
+        requires { IsMoment now }
         ensures fault { (k : Keeping) → IsKeptAt self.old k → IsRefusedBy (add_fault now page time (op_of shape.entry) k) result }
         ensures refused { (k : Keeping) → IsKeptAt self.old k → IsTrue (is_some (add_fault now page time (op_of shape.entry) k)) → self.new ≡ self.old }
         ensures sent { IfOk result (λ done. (k : Keeping) → IsKeptAt self.old k → (done.sent.items ≡ sent_by_doing (adds now page time (op_of shape.entry)) k) × IsKeptAt self.new (after_doing (adds now page time (op_of shape.entry)) k)) }

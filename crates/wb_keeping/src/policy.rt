@@ -1,6 +1,7 @@
 //! The policy of a host that keeps itself: all that it remembers, and what each thing that happens makes of it.
 
 ghost use Rattle.std.specs.Prelude.{◌≡◌, ◌≤◌, ◌<◌, ◌^◌, ◌+◌, IfSome, if◌then◌else◌, nat_le, nat_lt};
+ghost use Rattle.wb_names.specs.Moments.{IsMoment};
 ghost use Rattle.wb_keeping.specs.Distances.{bounded};
 ghost use Rattle.wb_keeping.specs.Policy.{after_answer, after_came, after_question, after_report, after_state, after_taking_up, after_turn, after_wanting, begun, in_next_round, next_moment, sooner, with_distance};
 ghost use Rattle.wb_keeping.specs.Questions.{is_due, is_to_answer};
@@ -52,7 +53,7 @@ impl Policy {
     /// microseconds, below 2^32, nothing is added. The first word of the seed says when it reports, the second when it
     /// asks for pages.
     pub fn new(now: u64, rate: u64, listen: u64, seed: u64) -> Policy
-        requires moment { now < 2 ^ 48 }
+        requires moment { IsMoment now }
         requires rate { 1 ≤ rate }
         requires listen { listen < 2 ^ 32 }
         ensures { result ≡ begun now rate listen seed }
@@ -93,7 +94,7 @@ impl Policy {
 
     /// A name may be wanted: whether it is to be asked for, which costs credit.
     pub fn want(&mut self, candidate: &Candidate, may_start_anew: bool, now: u64) -> bool
-        requires { now < 2 ^ 48 }
+        requires { IsMoment now }
         ensures wanted { result ≡ is_wanted candidate.now.is_held candidate.now.is_full may_start_anew candidate.now.level self.old.owed now }
         ensures spent { self.new ≡ (if result then after_wanting now self.old else self.old) }
     {
@@ -145,7 +146,7 @@ impl Policy {
 
     /// Whether it is to ask for pages now, and when again.
     pub fn asks_pages(&mut self, now: u64) -> bool
-        requires { now < 2 ^ 48 }
+        requires { IsMoment now }
         ensures due { result ≡ is_due now self.old.questions.ask }
         ensures after { self.new ≡ (if result then after_question now self.old else self.old) }
     {
@@ -159,7 +160,7 @@ impl Policy {
 
     /// Another member asks for pages, where this one holds something or not.
     pub fn take_question(&mut self, now: u64, holds: bool)
-        requires { now < 2 ^ 48 }
+        requires { IsMoment now }
         ensures { self.new ≡ (if is_to_answer now holds self.old.questions then after_taking_up now self.old else self.old) }
     {
         if self.questions.takes_up(now, holds) {
@@ -170,7 +171,7 @@ impl Policy {
 
     /// Whether it is to tell its pages now.
     pub fn answers(&mut self, now: u64) -> bool
-        requires { now < 2 ^ 48 }
+        requires { IsMoment now }
         ensures due { result ≡ is_due now self.old.questions.answer }
         ensures after { self.new ≡ (if result then after_answer now self.old else self.old) }
     {
@@ -183,7 +184,7 @@ impl Policy {
 
     /// Another member told a page.
     pub fn hear_state(&mut self, now: u64)
-        requires { now < 2 ^ 48 }
+        requires { IsMoment now }
         ensures { self.new ≡ after_state now self.old }
     {
         self.questions.heard(now);
@@ -206,8 +207,8 @@ impl Policy {
     /// It reported a page up to a source, where it has one: so many bytes, among so many members. So reports are at least a
     /// second apart, and at most 96.
     pub fn reported(&mut self, now: u64, page: PageId, last: Option<u32>, members: u64, bytes: u64)
-        requires moment { now < 2 ^ 48 }
-        requires members { members ≤ 65536 }
+        requires moment { IsMoment now }
+        requires members { members ≤ Reports.MEMBERS }
         requires bytes { bytes ≤ 2000000 }
         ensures after { self.new ≡ after_report now page last members bytes self.old }
         ensures rare { now + 1000000 ≤ self.new.reports.due }

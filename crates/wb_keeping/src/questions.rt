@@ -1,6 +1,7 @@
 //! Questions for pages: when this member asks for them, and when it answers others.
 
 ghost use Rattle.std.specs.Prelude.{◌≡◌, ◌≤◌, ◌<◌, ◌^◌};
+ghost use Rattle.wb_names.specs.Moments.{IsMoment};
 ghost use Rattle.wb_keeping.specs.Questions.{answered_at, asked_at, heard_at, is_due, is_to_answer, opened_at, to_answer};
 
 /// When a member asks which pages there are, and when it answers who asks, in microseconds.
@@ -31,7 +32,7 @@ impl Questions {
 
     /// It asks after so long, from 0 to `FIRST`.
     pub fn new(now: u64, drawn: u64) -> Questions
-        requires moment { now < 2 ^ 48 }
+        requires moment { IsMoment now }
         requires drawn { drawn ≤ 200000 }
         ensures { result ≡ opened_at now drawn }
     {
@@ -52,7 +53,7 @@ impl Questions {
 
     /// It asked. The number is drawn from 0 to its wait.
     pub fn asked(&mut self, now: u64, drawn: u64)
-        requires moment { now < 2 ^ 48 }
+        requires moment { IsMoment now }
         requires wait { self.old.wait ≤ 64000000 }
         requires drawn { drawn ≤ self.old.wait }
         ensures { self.new ≡ asked_at now drawn self.old }
@@ -70,7 +71,7 @@ impl Questions {
 
     /// It will answer after so long, from 0 to `ANSWER`.
     pub fn take_up(&mut self, now: u64, drawn: u64)
-        requires moment { now < 2 ^ 48 }
+        requires moment { IsMoment now }
         requires drawn { drawn ≤ 500000 }
         ensures { self.new ≡ to_answer now drawn self.old }
     {
@@ -86,7 +87,7 @@ impl Questions {
 
     /// It answered.
     pub fn answered(&mut self, now: u64)
-        requires { now < 2 ^ 48 }
+        requires { IsMoment now }
         ensures { self.new ≡ answered_at now self.old }
     {
         self.answer = None;
@@ -95,7 +96,7 @@ impl Questions {
 
     /// Another member told a page that there is.
     pub fn heard(&mut self, now: u64)
-        requires { now < 2 ^ 48 }
+        requires { IsMoment now }
         ensures { self.new ≡ heard_at now self.old }
     {
         self.ask = None;

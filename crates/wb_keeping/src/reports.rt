@@ -2,10 +2,11 @@
 
 ghost use Rattle.std.specs.Prelude.{◌≡◌, ◌≤◌, ◌<◌, ◌^◌, ◌+◌, ◌*◌, IfOk, filter, length, nat_le, nat_lt};
 ghost use Rattle.std.specs.List.{find};
+ghost use Rattle.wb_names.specs.Moments.{IsMoment};
 ghost use Rattle.wb_keeping.specs.Reports.{is_after, is_untold, mean_time, members_in, next_report, page_after, slice_after};
 
 use std::alloc::{AllocError, Global};
-use wb_names::{Echo, Mark, PageId};
+use wb_names::{Echo, MAX_ENTRIES, Mark, PageId};
 
 /// For how long a member counts after it was heard, in microseconds.
 const HEARD: u64 = 192_000_000;
@@ -26,8 +27,8 @@ impl Reports {
     /// The most marks of one report.
     pub const MARKS: usize = 64;
 
-    /// The most members that are counted.
-    pub const MEMBERS: u64 = 65_536;
+    /// The most members that are counted: this one, and those of a list of echoes.
+    pub const MEMBERS: u64 = 1 + MAX_ENTRIES as u64;
 
     /// The shortest mean time between two reports.
     const SHORTEST: u64 = 2_000_000;
@@ -39,7 +40,7 @@ impl Reports {
     /// 2,000,000 to 64,000,000.
     pub fn mean_time(&self, members: u64, bytes: u64) -> u64
         requires rate { 1 ≤ self.now.rate }
-        requires members { members ≤ 65536 }
+        requires members { members ≤ Reports.MEMBERS }
         requires bytes { bytes ≤ 2000000 }
         ensures mean { result ≡ mean_time self.now.rate members bytes }
         ensures shortest { 2000000 ≤ result }
@@ -52,7 +53,7 @@ impl Reports {
     /// It reported: the next report is due after half of the mean time, and so much more as was drawn from 0 to it. So
     /// reports are at least a second apart, and at most 96.
     pub fn reported(&mut self, now: u64, mean: u64, drawn: u64)
-        requires moment { now < 2 ^ 48 }
+        requires moment { IsMoment now }
         requires shortest { 2000000 ≤ mean }
         requires longest { mean ≤ 64000000 }
         requires drawn { drawn ≤ mean }
@@ -74,9 +75,9 @@ impl Reports {
 /// How many members there are: this one, and those of whom a session message was heard within 192 seconds, which is
 /// three of the longest mean times.
 pub fn members(echoes: &[Echo]) -> u64
-    requires { length echoes.now ≤ 65535 }
+    requires { length echoes.now ≤ MAX_ENTRIES }
     ensures members { result ≡ members_in echoes.now }
-    ensures few { result ≤ 65536 }
+    ensures few { result ≤ Reports.MEMBERS }
 {
     1 + heard_count(echoes) as u64
 }

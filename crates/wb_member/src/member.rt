@@ -1,5 +1,7 @@
 //! A member: what it is handed, and what follows.
 ghost use Rattle.std.specs.Prelude.{◌≡◌, ◌<◌, ◌≤◌, ◌^◌, false, true, length, IfOk, OnErr, IfSome, IsTrue, MatchResult};
+ghost use Rattle.wb_names.specs.Moments.{IsMoment};
+ghost use Rattle.wb_host.specs.Counts.{IsCellCount};
 ghost use Rattle.wb_recovery.specs.Timing.{are_constants};
 ghost use Rattle.wb_host.specs.KeepFaults.{IsKeptBy, delay_fault};
 ghost use Rattle.wb_member.specs.Holding.{IsOpenAt, IsUnreached, outcome_in};
@@ -47,7 +49,7 @@ impl Member {
         seed: u64,
         tuning: Tuning,
     ) -> Result<Self, AllocError>
-        requires cells { (0 < cells) × (cells ≤ 65535) }
+        requires cells { IsCellCount cells }
         requires constants { are_constants tuning ≡ true }
         ensures { IfOk result (λ s. IsOpenAt s (opened_with tuning member cells seed)) }
     {
@@ -72,7 +74,7 @@ impl Member {
     /// The present moment in microseconds, below 2^48, and at first 0.
     pub fn moment(&self) -> u64
         ensures moment { (host : Opened) → IsOpenAt self.now host → result ≡ present host }
-        ensures range { result < 2 ^ 48 }
+        ensures range { IsMoment result }
     {
         self.keeper.moment()
     }
@@ -142,7 +144,7 @@ impl Member {
     /// Time goes on to a moment in microseconds. Answers what is sent: the requests and repairs that are due.
     /// Refused with `BackInTime`, before the present moment, or `Memory`.
     pub fn tick(&mut self, alloc: Global, now: u64) -> Result<Vec<Datagram>, KeepFault>
-        requires { now < 2 ^ 48 }
+        requires { IsMoment now }
         ensures fault { (host : Opened) → IsOpenAt self.old host → IsKeptBy (ticked_fault now host) result }
         ensures sent { IfOk result (λ sent. (host : Opened) → IsOpenAt self.old host → (sent.items ≡ sent_by now host) × IsOpenAt self.new (ticked now host)) }
         ensures err { OnErr result (self.new ≡ self.old) }

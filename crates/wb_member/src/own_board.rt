@@ -1,6 +1,7 @@
 //! The board of a member, with the desk that owns all of its rows.
 ghost use Rattle.std.specs.Prelude.{◌≡◌, ◌≤◌, ◌<◌, ◌∷◌, [], length, true, IfOk, OnOk, OnErr};
 ghost use Rattle.wb_names.specs.Arrivals.{outcome_of};
+ghost use Rattle.wb_host.specs.Counts.{IsCellCount, MAX_CELLS};
 ghost use Rattle.wb_host.specs.Keeper.{holds};
 ghost use Rattle.wb_host.specs.Keeping.{marks_at};
 ghost use Rattle.wb_display.specs.Canvas.{canvas_text, is_canvas_size};
@@ -38,7 +39,7 @@ impl Model for OwnBoard {
 impl OwnBoard {
     /// An empty board of so many cells.
     pub fn open(alloc: Global, cells: u32) -> Result<Self, AllocError>
-        requires { (0 < cells) × (cells ≤ 65535) }
+        requires { IsCellCount cells }
         ensures { IfOk result (λ w. w ≡ record { cells = cells; drawops = [] }) }
     {
         match Board::open(alloc, cells) {
@@ -51,7 +52,7 @@ impl OwnBoard {
     /// The drawops that are held.
     pub fn drawops(&self) -> &[Drawop]
         ensures value { result.now ≡ self.now.drawops }
-        ensures few { length result.now ≤ 65535 }
+        ensures few { length result.now ≤ MAX_CELLS }
     {
         self.desk.list()
     }

@@ -13,3 +13,4 @@ pub mod Ascending
 pub mod ListFaults
 pub mod Marks
 pub mod Stream
+pub mod Moments

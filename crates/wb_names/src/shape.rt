@@ -24,7 +24,8 @@ pub enum Shape<'a> {
     Aimed(Change, Target),
 }
 
-const MAX_COORDINATE: u16 = 4095;
+/// The greatest coordinate, in cells.
+pub const MAX_COORDINATE: u16 = 4095;
 
 #[inline(always)]
 fn is_coordinate(number: u16) -> bool

@@ -1,6 +1,7 @@
 -- How a recovery keeps its timers: by name, with their alarms, and the first moment of each kind.
 use Rattle.std.specs.Prelude.{◌≡◌, ℕ, ◌<◌, ◌^◌, IsTrue, true}
 use Rattle.std.specs.BTreeMap.{BTreeMap, IsOrdered}
+use Rattle.wb_names.specs.Moments.{IsMoment}
 use Rattle.wb_names.specs.Values.{NameValue}
 use Rattle.wb_names.specs.Orders.{name_cmp}
 use Rattle.wb_recovery.specs.Timing.{are_constants, ask_due, answer_due, AreDelays}
@@ -12,7 +13,7 @@ use Rattle.wb_recovery.specs.declared.alarms.Alarms.{Alarms}
 
 pub record IsConsistent (constants : Tuning) (last : ℕ) (kept : BTreeMap NameValue Timers) (ask_alarms answer_alarms : Alarms) : Type 0 where
   pub tuning : IsTrue (are_constants constants)
-  pub moment : last < 2 ^ 48
+  pub moment : IsMoment last
   pub ordered : IsOrdered name_cmp kept
   pub delays : (n : NameValue) → AreDelays (timers_at kept.entries n)
   pub asks : Keep (λ n. ask_due (timers_at kept.entries n)) ask_alarms

@@ -1,6 +1,8 @@
 -- The numbers of the faults, and the first fault of a call.
-use Rattle.std.specs.Prelude.{◌≡◌, ℕ, ◌^◌, Bool, ◌&&◌, nat_le, nat_lt, Option, Some, None, Result, Ok, Err, [], ◌∷◌}
+use Rattle.std.specs.Prelude.{◌≡◌, ℕ, Bool, ◌&&◌, nat_le, nat_lt, Option, Some, None, Result, Ok, Err, [], ◌∷◌}
 use Rattle.wb_names.specs.Faults.{first_of, fault_unless}
+use Rattle.wb_names.specs.declared.moment.TheConstants.{MOMENT_LIMIT}
+use Rattle.wb_recovery.specs.declared.fault.TheConstants.{DELAY_LIMIT}
 use Rattle.wb_recovery.specs.declared.fault.RecoveryFault.{RecoveryFault}
 use Rattle.wb_recovery.specs.declared.fault.RecoveryFault.TheVariants.{BackInTime, Range, Memory}
 use Rattle.wb_recovery.specs.declared.fault.TuningFault.{TuningFault}
@@ -14,12 +16,11 @@ recovery_code BackInTime = 1
 recovery_code Range = 2
 recovery_code Memory = 3
 
--- moments are microseconds below 2^48, delays microseconds below 2^24
 abbrev pub is_moment : ℕ → Bool
-is_moment now = nat_lt now (2 ^ 48)
+is_moment now = nat_lt now MOMENT_LIMIT
 
 abbrev pub is_delay : ℕ → Bool
-is_delay delay = nat_lt delay (2 ^ 24)
+is_delay delay = nat_lt delay DELAY_LIMIT
 
 -- the first fault of a call that comes after the moment of the last one, by whether all its delays are in range
 abbrev pub call_fault : ℕ → ℕ → Bool → Option RecoveryFault

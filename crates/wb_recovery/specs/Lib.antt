@@ -1,3 +1,4 @@
+pub mod Delays
 pub mod Faults
 pub mod Timing
 pub mod Alarms

@@ -1,6 +1,7 @@
 -- Names that have come, told of before a tick.
 use Rattle.std.specs.Prelude.{◌≡◌, ℕ, ◌<◌, ◌^◌, Bool, true, not, ◌&&◌, List, ◌∷◌, map, if◌then◌else◌}
 use Rattle.std.specs.List.{fold, list_all, list_any}
+use Rattle.wb_names.specs.Moments.{IsMoment}
 use Rattle.wb_names.specs.Values.{NameValue}
 use Rattle.wb_names.specs.Orders.{same_name, name_cmp}
 use Rattle.wb_names.specs.Listing.{Lists}
@@ -47,7 +48,7 @@ pub record FiresThese (now : ℕ) (words : List ℕ) (asking answering : List Na
 
 -- What a plan says of a recovery and of names that have come: those that fire, and what their requests become.
 pub record IsPlanOf (value : RecoveryValue) (received : List Received) (words : List ℕ) (plan : Plan) : Type 0 where
-  pub moment : plan.moment < 2 ^ 48
+  pub moment : IsMoment plan.moment
   pub delays : list_all (λ c. is_delay c.delay) received ≡ true
   pub asking : Lists name_cmp (λ n. (not (is_received received n) && is_ask_due plan.moment (timers_in value n).ask) ≡ true) plan.asking.items
   pub answering : Lists name_cmp (λ n. (not (is_received received n) && is_answer_due plan.moment (timers_in value n).answer) ≡ true) plan.answering.items

@@ -1,5 +1,7 @@
 -- What each call makes of the timers of one name.
 use Rattle.std.specs.Prelude.{ℕ, ◌+◌, ◌-◌, ◌*◌, ◌/◌, ◌%◌, ◌^◌, ◌<◌, Bool, true, false, ◌&&◌, ◌||◌, Option, Some, None, IfSome, is_some, is_none, min, nat_eq, nat_le, if◌then◌else◌}
+use Rattle.wb_recovery.specs.Delays.{IsDelay}
+use Rattle.wb_recovery.specs.declared.tuning.TheConstants.{MAX_CONSTANT}
 use Rattle.wb_recovery.specs.declared.tuning.Tuning.{Tuning}
 use Rattle.wb_recovery.specs.declared.timers.AskTimer.{AskTimer}
 use Rattle.wb_recovery.specs.declared.timers.AnswerTimer.{AnswerTimer}
@@ -7,7 +9,7 @@ use Rattle.wb_recovery.specs.declared.timers.Timers.{Timers}
 
 -- each constant is 1 to 16
 abbrev pub is_constant : ℕ → Bool
-is_constant n = nat_le 1 n && nat_le n 16
+is_constant n = nat_le 1 n && nat_le n MAX_CONSTANT
 
 abbrev pub are_constants : Tuning → Bool
 are_constants t = is_constant t.c1 && is_constant t.c2 && is_constant t.d1 && is_constant t.d2
@@ -120,4 +122,4 @@ with_answer s (Some answer) = record s { answer = Some answer }
 
 -- the timers' delays are below 2^24 microseconds
 abbrev pub AreDelays : Timers → Type 0
-AreDelays s = IfSome s.ask (λ ask. ask.delay < 2 ^ 24) × IfSome s.answer (λ answer. answer.delay < 2 ^ 24)
+AreDelays s = IfSome s.ask (λ ask. IsDelay ask.delay) × IfSome s.answer (λ answer. IsDelay answer.delay)

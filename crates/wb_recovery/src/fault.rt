@@ -1,14 +1,14 @@
-//! Why a call of the timers, or a constant of theirs, is refused, and the limits of moments and delays.
+//! Why a call of the timers, or a constant of theirs, is refused, and the limit of delays.
 ghost use Rattle.std.specs.Prelude.{◌≡◌};
 
 use std::alloc::AllocError;
 use thiserror::Error;
 
-/// Each moment is below this many microseconds.
-pub const MOMENT_LIMIT: u64 = 1 << 48;
-
 /// Each delay is below this many microseconds.
 pub const DELAY_LIMIT: u64 = 1 << 24;
+
+/// The greatest delay, in microseconds.
+pub const MAX_DELAY: u64 = DELAY_LIMIT - 1;
 
 /// Why a tuning is refused.
 #[derive(Clone, Copy, Debug, PartialEq, Eq, Error)]

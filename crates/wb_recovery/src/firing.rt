@@ -3,6 +3,7 @@
 ghost use Rattle.std.specs.Prelude.{◌≡◌, ◌<◌, ◌≤◌, ◌^◌, ◌++◌, length, map, true, is_some, IsTrue, IfOk, Contains, if◌then◌else◌};
 ghost use Rattle.std.specs.BTreeMap.{IsOrdered};
 ghost use Rattle.std.specs.List.Sorted.{IsStrictlySortedBy};
+ghost use Rattle.wb_names.specs.Moments.{IsMoment};
 ghost use Rattle.wb_names.specs.Values.{NameValue};
 ghost use Rattle.wb_names.specs.Orders.{name_cmp};
 ghost use Rattle.wb_recovery.specs.declared.plan.Action.TheVariants.{Ask, Answer};
@@ -45,7 +46,7 @@ pub(crate) fn asked_after(
     words: &[u64],
 ) -> Result<Vec<Timers>, AllocError>
     requires tuning { IsTrue (are_constants tuning) }
-    requires moment { now < 2 ^ 48 }
+    requires moment { IsMoment now }
     requires delays { (n : NameValue) → AreDelays (timers_at records.now.entries n) }
     requires rising { IsStrictlySortedBy name_cmp asking.now }
     requires words { length asking.now ≤ length words.now }
@@ -90,7 +91,7 @@ pub(crate) fn answer_all(
     answering: &[Name],
     now: u64,
 )
-    requires moment { now < 2 ^ 48 }
+    requires moment { IsMoment now }
     requires ordered { IsOrdered name_cmp records.old }
     requires delays { (n : NameValue) → AreDelays (timers_at records.old.entries n) }
     requires kept { Keep (λ n. answer_due (timers_at records.old.entries n)) alarms.old }

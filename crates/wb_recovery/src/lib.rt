@@ -28,10 +28,10 @@ mod round_trip;
 mod timers;
 mod tuning;
 
-pub use fault::{DELAY_LIMIT, MOMENT_LIMIT, RecoveryFault, TuningFault};
+pub use fault::{DELAY_LIMIT, MAX_DELAY, RecoveryFault, TuningFault};
 pub use missed::{Missed, Received};
 pub use plan::{Action, Plan};
 pub use recovery::Recovery;
 pub use round_trip::distance;
 pub use timers::{AnswerTimer, AskTimer};
-pub use tuning::Tuning;
+pub use tuning::{MAX_CONSTANT, Tuning};

@@ -7,6 +7,8 @@ ghost use Rattle.wb_recovery.specs.Faults.{is_delay, call_fault, IsCheckedBy};
 ghost use Rattle.wb_recovery.specs.Timing.{are_constants, is_standing, AreDelays, with_ask, with_answer};
 ghost use Rattle.wb_recovery.specs.Values.{record_in, timers_in, names_in, Replaces};
 ghost use Rattle.std.specs.Prelude.{Some as some, None as none};
+ghost use Rattle.wb_names.specs.Moments.{IsMoment};
+ghost use Rattle.wb_recovery.specs.Delays.{IsDelay};
 ghost use Rattle.wb_recovery.specs.Events.{Event, Notice, Asked, Got, Tick, Tune, names_of, timers_of, asking, due_asks, actions_of, IsNextDue};
 ghost use Rattle.wb_recovery.specs.Accepted.{StandsFor, Accepts};
 ghost use Rattle.wb_recovery.specs.declared.tuning.Tuning.{Tuning as Constants};
@@ -15,7 +17,7 @@ mod notices;
 mod stopping;
 
 use crate::alarms::Alarms;
-use crate::fault::{DELAY_LIMIT, MOMENT_LIMIT, RecoveryFault, TuningFault};
+use crate::fault::{DELAY_LIMIT, RecoveryFault, TuningFault};
 use crate::missed::Missed;
 use crate::plan::Action;
 use crate::records::{copy_of, rewrite, timers_of};
@@ -24,7 +26,7 @@ use crate::tuning::Tuning;
 use std::alloc::{AllocError, Global};
 use std::collections::BTreeMap;
 use std::marker::Model;
-use wb_names::Name;
+use wb_names::{MOMENT_LIMIT, Name};
 
 /// The request and answer timers of one host.
 ///
@@ -263,7 +265,7 @@ impl Recovery {
     /// Refuses a moment below the last one, and then a moment, or some delay of the call, out of its range.
     fn check(&self, now: u64, in_range: bool) -> Result<(), RecoveryFault>
         ensures fault { MatchOption (call_fault self.now.moment now in_range) (IsOk result) (λ fault. result ≡ Err fault) }
-        ensures moment { OnOk result (now < 2 ^ 48) }
+        ensures moment { OnOk result (IsMoment now) }
         ensures delays { OnOk result (in_range ≡ true) }
         ensures tuning { IsTrue (are_constants self.now.tuning) }
         ensures ordered { IsStrictlySortedBy name_cmp (names_in self.now) }
@@ -285,7 +287,7 @@ impl Recovery {
         ask: Option<AskTimer>,
     ) -> Result<(), AllocError>
         requires before { before ≡ timers_in self.old name }
-        requires delay { IfSome ask (λ timer. timer.delay < 2 ^ 24) }
+        requires delay { IfSome ask (λ timer. IsDelay timer.delay) }
         ensures ok { OnOk result (Replaces self.old self.new name (with_ask before ask)) }
         ensures records { OnOk result ((n : NameValue) → record_in self.new n ≡ (if same_name name n && is_some ask then some (with_ask before ask) else record_in self.old n)) }
         ensures err { OnErr result (self.new ≡ self.old) }
@@ -313,7 +315,7 @@ impl Recovery {
         answer: Option<AnswerTimer>,
     ) -> Result<(), AllocError>
         requires before { before ≡ timers_in self.old name }
-        requires delay { IfSome answer (λ timer. timer.delay < 2 ^ 24) }
+        requires delay { IfSome answer (λ timer. IsDelay timer.delay) }
         ensures ok { OnOk result (Replaces self.old self.new name (with_answer before answer)) }
         ensures err { OnErr result (self.new ≡ self.old) }
     {

@@ -1,5 +1,7 @@
 //! The timers of one name, and how each call changes them.
 ghost use Rattle.std.specs.Prelude.{◌≡◌, ◌^◌, ◌<◌, false, true, IsTrue, IfSome, is_none, is_some};
+ghost use Rattle.wb_names.specs.Moments.{IsMoment};
+ghost use Rattle.wb_recovery.specs.Delays.{IsDelay};
 ghost use Rattle.wb_recovery.specs.Timing.{are_constants, backed_off, noticed, asked, fired_ask, fired_answer, quiet_after, with_ask, with_answer, ask_due, answer_due, is_standing, AreDelays};
 
 use crate::expiry::expiry;
@@ -43,8 +45,8 @@ impl AskTimer {
     /// The timer one level up, drawn anew, deaf for half of its wait.
     pub(crate) fn backed_off(self, tuning: Tuning, now: u64, delay: u64, word: u64) -> AskTimer
         requires tuning { IsTrue (are_constants tuning) }
-        requires moment { now < 2 ^ 48 }
-        requires delay { delay < 2 ^ 24 }
+        requires moment { IsMoment now }
+        requires delay { IsDelay delay }
         ensures { result ≡ backed_off tuning self now delay word }
     {
         let level = self.level.min(AskTimer::MAX_LEVEL - 1) + 1;
@@ -75,11 +77,11 @@ impl Timers {
         word: u64,
     ) -> Option<AskTimer>
         requires tuning { IsTrue (are_constants tuning) }
-        requires moment { now < 2 ^ 48 }
-        requires delay { delay < 2 ^ 24 }
+        requires moment { IsMoment now }
+        requires delay { IsDelay delay }
         ensures timers { with_ask self.now result ≡ noticed tuning now delay word self.now }
         ensures set { is_some result ≡ is_none self.now.ask }
-        ensures delay { IfSome result (λ ask. ask.delay < 2 ^ 24) }
+        ensures delay { IfSome result (λ ask. IsDelay ask.delay) }
     {
         if self.ask.is_some() {
             return None;
@@ -103,10 +105,10 @@ impl Timers {
         word: u64,
     ) -> Option<AskTimer>
         requires tuning { IsTrue (are_constants tuning) }
-        requires moment { now < 2 ^ 48 }
-        requires delay { delay < 2 ^ 24 }
+        requires moment { IsMoment now }
+        requires delay { IsDelay delay }
         ensures timers { with_ask self.now result ≡ asked tuning false now delay word self.now }
-        ensures delay { IfSome result (λ ask. ask.delay < 2 ^ 24) }
+        ensures delay { IfSome result (λ ask. IsDelay ask.delay) }
     {
         match self.ask {
             Some(ask) if ask.deaf <= now => Some(ask.backed_off(tuning, now, delay, word)),
@@ -124,10 +126,10 @@ impl Timers {
         word: u64,
     ) -> Option<AnswerTimer>
         requires tuning { IsTrue (are_constants tuning) }
-        requires moment { now < 2 ^ 48 }
-        requires delay { delay < 2 ^ 24 }
+        requires moment { IsMoment now }
+        requires delay { IsDelay delay }
         ensures timers { with_answer self.now result ≡ asked tuning true now delay word self.now }
-        ensures delay { IfSome result (λ answer. answer.delay < 2 ^ 24) }
+        ensures delay { IfSome result (λ answer. IsDelay answer.delay) }
     {
         if self.answer.is_some() || now < self.quiet {
             return None;
@@ -162,7 +164,7 @@ impl Timers {
     /// The timers once the request timer has fired, where it is due: it backs off with its own delay.
     pub(crate) fn ask_fired(self, tuning: Tuning, now: u64, word: u64) -> Timers
         requires tuning { IsTrue (are_constants tuning) }
-        requires moment { now < 2 ^ 48 }
+        requires moment { IsMoment now }
         requires delays { AreDelays self }
         ensures timers { result ≡ record self { ask = fired_ask tuning now word self.ask } }
         ensures delays { AreDelays result }
@@ -179,7 +181,7 @@ impl Timers {
     /// The timers once the answer timer has fired, where it is due: it ends, and leaves the name
     /// quiet.
     pub(crate) fn answer_fired(self, now: u64) -> Timers
-        requires moment { now < 2 ^ 48 }
+        requires moment { IsMoment now }
         requires delays { AreDelays self }
         ensures timers { result ≡ record self { answer = fired_answer now self.answer; quiet = quiet_after now self.quiet self.answer } }
         ensures delays { AreDelays result }

@@ -2,6 +2,9 @@
 ghost use Rattle.std.specs.Prelude.{◌≡◌};
 ghost use Rattle.wb_recovery.specs.Timing.{are_constants};
 
+/// The greatest constant of the timers. The least is 1.
+pub const MAX_CONSTANT: u32 = 16;
+
 /// The constants of the timers, each 1 to 16. With the delay d to the other member, a request waits
 /// from `c1 * d` to `(c1 + c2) * d` at first, and an answer from `d1 * d` to `(d1 + d2) * d`.
 #[derive(Clone, Copy, Debug, PartialEq, Eq)]
@@ -33,7 +36,7 @@ impl Tuning {
     pub fn is_in_range(&self) -> bool
         ensures { result ≡ are_constants self.now }
     {
-        let constants = 1..=16;
+        let constants = 1..=MAX_CONSTANT;
         constants.contains(&self.c1)
             && constants.contains(&self.c2)
             && constants.contains(&self.d1)

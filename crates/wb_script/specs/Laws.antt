@@ -4,6 +4,7 @@ use Rattle.wb_names.specs.Values.{DrawopValue, MarkValue}
 use Rattle.wb_names.specs.History.{IsHistory}
 use Rattle.wb_names.specs.Arrivals.{history_after}
 use Rattle.wb_names.specs.declared.name.PageId.{PageId}
+use Rattle.wb_host.specs.Counts.{MAX_CELLS}
 use Rattle.wb_commands.specs.declared.query.Query.{Query}
 use Rattle.wb_commands.specs.Answers.{answer_text}
 use Rattle.wb_member.specs.Opened.{Opened, batched}
@@ -12,7 +13,7 @@ use Rattle.wb_script.specs.Hosts.{host_after}
 -- what a board can hold
 pub record IsBoardHistory (history : List DrawopValue) : Type 0 where
   pub once : IsHistory history
-  pub few : length history ≤ 65535
+  pub few : length history ≤ MAX_CELLS
 
 -- Boards that hold the same drawops, whatever the order in which they came, print the same for each question, where the same marks
 -- were heard.
@@ -35,9 +36,9 @@ BatchesAreOne = (cells : ℕ) (held some more : List DrawopValue) → history_af
 abbrev pub ArrivalsAreFree : Type 0
 ArrivalsAreFree = (cells : ℕ) (arrivals others : List DrawopValue) → IsPermutation arrivals others → NoneClash arrivals → HasCells cells arrivals → IsPermutation (history_after cells [] arrivals) (history_after cells [] others)
 
--- So what a board of at most 65,535 cells then prints for a question is the same.
+-- So what a board then prints for a question is the same.
 abbrev pub PrintsAreFree : Type 0
-PrintsAreFree = (marks : PageId → List MarkValue) (cells : ℕ) (arrivals others : List DrawopValue) (query : Query) → cells ≤ 65535 → IsPermutation arrivals others → NoneClash arrivals → HasCells cells arrivals
+PrintsAreFree = (marks : PageId → List MarkValue) (cells : ℕ) (arrivals others : List DrawopValue) (query : Query) → cells ≤ MAX_CELLS → IsPermutation arrivals others → NoneClash arrivals → HasCells cells arrivals
     → answer_text marks (history_after cells [] arrivals) query ≡ answer_text marks (history_after cells [] others) query
 
 -- A batch, whoever takes it in whatever order, is one act of the member that the host is.

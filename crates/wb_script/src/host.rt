@@ -5,6 +5,7 @@ ghost use Rattle.wb_lines.specs.Input.{InputLine};
 ghost use Rattle.wb_lines.specs.Handling.{whole};
 ghost use Rattle.wb_lines.specs.Moments.{moment, Reads};
 ghost use Rattle.wb_lines.specs.Steps.{DoesGroup};
+ghost use Rattle.wb_host.specs.Counts.{IsCellCount, IsWorkerCount};
 ghost use Rattle.wb_commands.specs.Parsing.{IsWithin};
 ghost use Rattle.wb_script.specs.Script.{State, IsAlone, Acts, Arrival, End, part_in, part_of, held_count, part_step, said_step};
 ghost use Rattle.wb_script.specs.Inside.Parts.{by_batches, EndsBatchAt, Says};
@@ -94,7 +95,7 @@ impl<'a, T, G> Host<'a, T, G> {
         workers: u32,
         seed: u64,
     ) -> Result<(), Stop<LineFault>>
-        requires { (0 < cells) × (cells ≤ 65535) }
+        requires { IsCellCount cells }
         ensures { (s : State) → IsAt self.old s → MayDoStep s self.new [] result (λ order. said_step s order (Ok (Command.Board member cells workers seed))) }
     {
         if self.member.is_some() {
@@ -209,7 +210,7 @@ impl<T: Threads + Wait + Sync, G: Gate + Sync> Host<'_, T, G> {
 
 /// By how many workers a batch is taken: one, until a number is known, and from 1 to 8 in any case.
 fn worker_count(workers: Option<u32>) -> u32
-    ensures range { (0 < result) × (result ≤ 8) }
+    ensures range { IsWorkerCount result }
     ensures alone { IsAlone workers → result ≤ 1 }
 {
     let Some(count) = workers else {

@@ -1,6 +1,7 @@
 //! A batch that is read from its script as workers take it.
 ghost use Rattle.std.specs.Prelude.{◌≡◌, ◌≤◌, ◌<◌, ℕ, [], List, true, false, IfOk, OnOk};
 ghost use Rattle.wb_names.specs.Values.{DrawopValue};
+ghost use Rattle.wb_host.specs.Counts.{IsWorkerCount};
 ghost use Rattle.wb_lines.specs.Input.{InputLine};
 ghost use Rattle.wb_lines.specs.Moments.{moment, Reads};
 ghost use Rattle.wb_feed.specs.Batches.{counts_in};
@@ -55,7 +56,7 @@ fn take_all<T: Threads + Wait + Sync, S: Arrivals, G: Gate + Sync>(
     workers: u32,
     arrivals: &mut S,
 ) -> Result<(Member, Batch, Vec<Drawop>), Untaken>
-    requires workers { (0 < workers) × (workers ≤ 8) }
+    requires workers { IsWorkerCount workers }
     ensures arrived { (given : List DrawopValue) × S.gives arrivals.old given arrivals.new }
     ensures given { IfOk result (λ r. S.gives arrivals.old r.2.items arrivals.new) }
     ensures taken { IfOk result (λ r. TakesAll member workers r.2.items (counts_in r.1) r.0) }
@@ -91,7 +92,7 @@ fn take_from<T: Threads + Wait + Sync, R: Source, W: Sink, G: Gate + Sync>(
     workers: u32,
     arriving: &mut BatchSource<'_, R, W>,
 ) -> Result<(Member, Batch), Untaken>
-    requires workers { (0 < workers) × (workers ≤ 8) }
+    requires workers { IsWorkerCount workers }
     requires start { arriving.old.over ≡ false }
     ensures names { (arriving.new.progress.ghost_name ≡ arriving.old.progress.ghost_name) × (arriving.new.source.ghost_name ≡ arriving.old.source.ghost_name)
         × (arriving.new.sink.ghost_name ≡ arriving.old.sink.ghost_name) }
@@ -115,7 +116,7 @@ fn take_arrivals<T: Threads + Wait + Sync, R: Source, W: Sink, G: Gate + Sync>(
     source: &mut R,
     sink: &mut W,
 ) -> Result<(Member, Batch), Untaken>
-    requires workers { (0 < workers) × (workers ≤ 8) }
+    requires workers { IsWorkerCount workers }
     ensures { (joined : List InputLine) × Reads by_batches
         (moment progress.old.lines progress.old.output (R.left source.old) (R.has_failed source.old) (W.taken sink.old) (W.has_failed sink.old))
         (moment progress.new.lines progress.new.output (R.left source.new) (R.has_failed source.new) (W.taken sink.new) (W.has_failed sink.new)) [] joined
@@ -143,7 +144,7 @@ pub fn take_batch<T: Threads + Wait + Sync, R: Source, W: Sink, G: Gate + Sync>(
     source: &mut R,
     sink: &mut W,
 ) -> Result<Member, Untaken>
-    requires workers { (0 < workers) × (workers ≤ 8) }
+    requires workers { IsWorkerCount workers }
     ensures { (printed : List ℕ) × (joined : List InputLine) × Reads by_batches
         (moment progress.old.lines progress.old.output (R.left source.old) (R.has_failed source.old) (W.taken sink.old) (W.has_failed sink.old))
         (moment progress.new.lines progress.new.output (R.left source.new) (R.has_failed source.new) (W.taken sink.new) (W.has_failed sink.new)) printed joined

@@ -8,6 +8,7 @@ use Rattle.wb_codec.specs.declared.datagram.Datagram.{Datagram}
 use Rattle.wb_codec.specs.declared.datagram.Datagram.TheVariants.{Draw, Request, AskPages}
 use Rattle.wb_recovery.specs.declared.tuning.Tuning.{Tuning}
 use Rattle.wb_gaps.specs.Answers.{gaps_of}
+use Rattle.wb_host.specs.Counts.{MAX_CELLS}
 use Rattle.wb_host.specs.Hearing.{marks_heard}
 use Rattle.wb_host.specs.Keeper.{Hear}
 use Rattle.wb_member.specs.Members.{Member, Act, Takes, Hears, after, sends}
@@ -21,10 +22,10 @@ pub record Group : Type 0 where
   pub cells : ℕ → ℕ
   pub constants : ℕ → Tuning
 
--- No two members have one number, and no board has more than 65,535 cells.
+-- No two members have one number, and no board has more cells than one can have.
 pub record IsDistinct (group : Group) : Type 0 where
   pub distinct : (i j : ℕ) → group.number i ≡ group.number j → i ≡ j
-  pub small : (i : ℕ) → group.cells i ≤ 65535
+  pub small : (i : ℕ) → group.cells i ≤ MAX_CELLS
 
 -- the member at a place does something
 pub record Event : Type 0 where

@@ -6,6 +6,7 @@ use Rattle.wb_names.specs.Marks.{known}
 use Rattle.wb_names.specs.declared.name.PageId.{PageId}
 use Rattle.wb_recovery.specs.Timing.{are_constants}
 use Rattle.wb_recovery.specs.declared.tuning.Tuning.{Tuning}
+use Rattle.wb_host.specs.Counts.{MAX_CELLS}
 use Rattle.wb_host.specs.Hearing.{marks_heard}
 use Rattle.wb_host.specs.Keeper.{holds}
 use Rattle.wb_lines.specs.Input.{InputLine}
@@ -26,12 +27,12 @@ pub record CanTake (constants : ℕ → Tuning) (older : List LineAt) (drawops :
   pub moment : present host < 2 ^ 47
 
 -- Hosts stand at these places. Each of the drawops is held by one of them, and each of them has room for all. Of the page they are all that
--- a board or a mark at any of the places tells: no number up to the greatest of a source is wanting. No board holds more than 65,535.
+-- a board or a mark at any of the places tells: no number up to the greatest of a source is wanting. One board has cells for all.
 pub record CanAgree (constants : ℕ → Tuning) (older : List LineAt) (places : List ℕ) (page : PageId) (drawops : List DrawopValue) : Type 0 where
   pub opened : (i : ℕ) → Contains places i → (host : Opened) × CanTake constants older drawops i host
   pub held : (d : DrawopValue) → Contains drawops d → (j : ℕ) × (other : Opened) × Contains places j × (host_at constants older j ≡ Some other) × Contains other.is.held d
   pub all : (i : ℕ) (host : Opened) (source n : ℕ) → Contains places i → host_at constants older i ≡ Some host → 1 ≤ n → n ≤ known host.is.held page (marks_heard host.is.number host.is.calls page) source → Contains (map (λ d. d.name) drawops) (name_of page source n)
-  pub few : length drawops ≤ 65535
+  pub few : length drawops ≤ MAX_CELLS
 
 -- the hosts at two places would print one report, no gaps and one canvas
 pub record PrintAlike (constants : ℕ → Tuning) (lines' : List LineAt) (i j : ℕ) (report gaps show : InputLine) : Type 0 where

@@ -6,7 +6,8 @@ use Rattle.wb_words.specs.declared.adding.Adding.{Adding}
 use Rattle.wb_words.specs.declared.fault.WrongWord.{WrongWord}
 use Rattle.wb_words.specs.declared.fault.WordsFault.{WordsFault}
 use Rattle.wb_words.specs.declared.fault.WordsFault.TheVariants as words_faults
-use Rattle.wb_words.specs.Words.{words, most64, most_moment}
+use Rattle.wb_names.specs.declared.moment.TheConstants.{MAX_MOMENT}
+use Rattle.wb_words.specs.Words.{words, most64}
 use Rattle.wb_words.specs.Reading.{◌>>=◌, word_at, number_at, page_at, op_at}
 
 -- the name of a drawing, which has no number yet: so nothing is its own target
@@ -27,7 +28,7 @@ earlier_fault words_faults.Memory = words_faults.Memory
 
 unfoldable pub adding_at : List (List ℕ) → Result Adding WrongWord
 adding_at ws = do
-  moment ← number_at 1 most_moment ws
+  moment ← number_at 1 MAX_MOMENT ws
   time ← number_at 2 most64 moment.1
   page ← page_at 3 time.1
   word ← word_at 4 page.1

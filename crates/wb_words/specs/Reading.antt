@@ -4,6 +4,7 @@ use Rattle.std.specs.Str.{bytes_eq}
 use Rattle.wb_names.specs.Values.{NameValue, DrawopValue, MarkValue}
 use Rattle.wb_names.specs.Drawing.{seq_fault, op_fault}
 use Rattle.wb_names.specs.Kinds.{kind_with}
+use Rattle.wb_names.specs.declared.shape.TheConstants.{MAX_COORDINATE}
 use Rattle.wb_names.specs.declared.name.PageId.{PageId}
 use Rattle.wb_names.specs.declared.fault.FieldFault.{FieldFault}
 use Rattle.wb_names.specs.declared.echo.Echo.{Echo}
@@ -110,10 +111,10 @@ drawn place name time op = in_range place (op_fault name op) (record { name = na
 
 unfoldable pub stroke_at : List (List ℕ) → Result (Stroke × List (List ℕ)) WrongWord
 stroke_at ws = do
-  x0 ← number_at 7 4095 ws
-  y0 ← number_at 8 4095 x0.1
-  x1 ← number_at 9 4095 y0.1
-  y1 ← number_at 10 4095 x1.1
+  x0 ← number_at 7 MAX_COORDINATE ws
+  y0 ← number_at 8 MAX_COORDINATE x0.1
+  x1 ← number_at 9 MAX_COORDINATE y0.1
+  y1 ← number_at 10 MAX_COORDINATE x1.1
   glyph ← glyph_at 11 y1.1
   Ok (record { x0 = x0.0; y0 = y0.0; x1 = x1.0; y1 = y1.0; glyph = glyph.0 }, glyph.1)
 
@@ -125,8 +126,8 @@ figure_at figure name time ws = do
 
 unfoldable pub written_at : NameValue → ℕ → List (List ℕ) → Result DrawopValue WrongWord
 written_at name time ws = do
-  x ← number_at 7 4095 ws
-  y ← number_at 8 4095 x.1
+  x ← number_at 7 MAX_COORDINATE ws
+  y ← number_at 8 MAX_COORDINATE x.1
   text ← text_at 9 y.1
   drawn 9 name time (Text x.0 y.0 text)
 

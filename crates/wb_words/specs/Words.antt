@@ -47,10 +47,6 @@ most32 = 2 ^ 32 - 1
 abbrev pub most64 : ℕ
 most64 = 2 ^ 64 - 1
 
--- the greatest moment of a host, in microseconds
-abbrev pub most_moment : ℕ
-most_moment = 2 ^ 48 - 1
-
 -- two numbers of 32 bits, with the mark between them
 unfoldable pub pair_in : ℕ → List ℕ → Option (ℕ × ℕ)
 pair_in mark word = do

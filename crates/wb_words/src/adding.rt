@@ -1,6 +1,7 @@
 //! Drawings that are to be added, from words: they have no number yet.
 
 ghost use Rattle.std.specs.Prelude.{◌≡◌, ◌<◌, ◌^◌, IfOk, ℕ};
+ghost use Rattle.wb_names.specs.Moments.{IsMoment};
 ghost use Rattle.wb_names.specs.declared.name.PageId.{PageId as PageIdValue};
 ghost use Rattle.wb_words.specs.Adding.{adding_at, adding_reading, earlier_fault, numberless};
 ghost use Rattle.wb_words.specs.Reading.{MayGive, Gives, op_at, change_at, figure_at, written_at};
@@ -113,7 +114,7 @@ fn earlier(fault: WordsFault) -> WordsFault
 #[tactic(auto, unfolding(crate::specs::Adding::adding_at))]
 pub fn read_adding(alloc: Global, line: &[u8]) -> Result<Adding, WordsFault>
     ensures reading { MayGive (λ a. a) result (adding_reading line.now) }
-    ensures moment { IfOk result (λ a. a.moment < 2 ^ 48) }
+    ensures moment { IfOk result (λ a. IsMoment a.moment) }
 {
     let (moment, rest) = moment_of(1, Rest::Words(line))?;
     let (time, rest) = u64_of(2, rest)?;

@@ -1,17 +1,14 @@
 //! The fields of a datagram from words.
 
 ghost use Rattle.std.specs.Prelude.{◌≡◌, ◌≤◌, IfOk};
-ghost use Rattle.wb_words.specs.Words.{number_in, pair_in, most32, most64, most_moment};
+ghost use Rattle.wb_words.specs.Words.{number_in, pair_in, most32, most64};
 ghost use Rattle.wb_words.specs.Rests.{words_left};
 ghost use Rattle.wb_words.specs.Reading.{Gives, number_at, page_at, glyph_at, name_at, named};
 
 use crate::fault::{WordFault, WrongWord};
 use crate::number::number_in;
 use crate::rest::{Rest, next_word, split_once};
-use wb_names::{Name, PageId};
-
-/// The greatest moment, in microseconds.
-const MAX_MOMENT: u64 = (1 << 48) - 1;
+use wb_names::{MAX_COORDINATE, MAX_MOMENT, Name, PageId};
 
 // Each of these reads a field from the word at a place, and gives what follows it.
 
@@ -30,8 +27,8 @@ fn number_of(place: u32, most: u64, rest: Rest<'_>) -> Result<(u64, Rest<'_>), W
 
 /// A moment in microseconds, below 2^48.
 pub(crate) fn moment_of(place: u32, rest: Rest<'_>) -> Result<(u64, Rest<'_>), WrongWord>
-    ensures number { Gives (λ x. (x.0, words_left x.1)) result (number_at place most_moment (words_left rest.entry)) }
-    ensures bound { IfOk result (λ x. x.0 ≤ most_moment) }
+    ensures number { Gives (λ x. (x.0, words_left x.1)) result (number_at place MAX_MOMENT (words_left rest.entry)) }
+    ensures bound { IfOk result (λ x. x.0 ≤ MAX_MOMENT) }
 {
     number_of(place, MAX_MOMENT, rest)
 }
@@ -53,9 +50,9 @@ pub(crate) fn u32_of(place: u32, rest: Rest<'_>) -> Result<(u32, Rest<'_>), Wron
 
 /// A coordinate, in cells.
 pub(crate) fn coordinate_of(place: u32, rest: Rest<'_>) -> Result<(u16, Rest<'_>), WrongWord>
-    ensures { Gives (λ x. (x.0, words_left x.1)) result (number_at place 4095 (words_left rest.entry)) }
+    ensures { Gives (λ x. (x.0, words_left x.1)) result (number_at place MAX_COORDINATE (words_left rest.entry)) }
 {
-    let (number, rest) = number_of(place, 4095, rest)?;
+    let (number, rest) = number_of(place, u64::from(MAX_COORDINATE), rest)?;
     Ok((number as u16, rest))
 }
 

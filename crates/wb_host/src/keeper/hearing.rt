@@ -4,6 +4,7 @@ ghost use Rattle.std.specs.Prelude.{◌≡◌, ◌≢◌, ◌⊎◌, ◌∷◌, 
 ghost use Rattle.wb_history.specs.Passes.{IsPassOf, IsCaughtUp};
 ghost use Rattle.wb_names.specs.Ascending.{AreMarks};
 ghost use Rattle.wb_names.specs.Faults.{first_of, fault_unless};
+ghost use Rattle.wb_names.specs.declared.entries.TheConstants.{MAX_ENTRIES};
 ghost use Rattle.wb_gaps.specs.Merging.{source_count};
 ghost use Rattle.wb_host.specs.Desks.{ReadsOn};
 ghost use Rattle.wb_host.specs.Hearing.{IsSent, ArePageStates, answers_to, asks_for_held, hear_fault, has_room};
@@ -129,7 +130,7 @@ impl Keeper {
 
 /// Both lists of marks as one, or None where those that were heard have all that the others tell.
 fn merge(alloc: Global, heard: &Marks, told: &Marks) -> Result<Option<Marks>, KeepFault>
-    ensures fault { IsKeptBy (first_of (fault_unless (nat_le (source_count heard.now told.now) 65535) TooMany ∷ [])) result }
+    ensures fault { IsKeptBy (first_of (fault_unless (nat_le (source_count heard.now told.now) MAX_ENTRIES) TooMany ∷ [])) result }
     ensures merged { IfOk result (IsMerged heard.now told.now) }
 {
     if have_all(heard.as_slice(), told.as_slice()) {

@@ -4,6 +4,7 @@ ghost use Rattle.std.specs.Prelude.{◌≡◌, ◌≢◌, ◌≤◌, ◌⊎◌, 
 ghost use Rattle.std.specs.Ordering.{nat_cmp};
 ghost use Rattle.std.specs.List.Sorted.{IsStrictlySortedBy};
 ghost use Rattle.std.specs.Map.{keys_of};
+ghost use Rattle.wb_names.specs.declared.entries.TheConstants.{MAX_ENTRIES};
 ghost use Rattle.wb_history.specs.Passes.{IsPassOf, IsCaughtUp};
 ghost use Rattle.wb_recovery.specs.declared.tuning.Tuning.{Tuning as Constants};
 ghost use Rattle.wb_host.specs.Desks.{ReadsOn};
@@ -73,7 +74,7 @@ impl Keeper {
     /// The echoes at a moment, as a list.
     fn heard_echoes(&self, alloc: Global, now: u64) -> Result<Vec<Echo>, AllocError>
         ensures ordered { IsStrictlySortedBy nat_cmp (keys_of self.now.heard) }
-        ensures few { length self.now.heard ≤ 65535 }
+        ensures few { length self.now.heard ≤ MAX_ENTRIES }
         ensures echoes { IfOk result (λ echoes. echoes.items ≡ echoes_at now self.now.heard) }
     {
         let heard = self.heard.iter().map(|(source, heard)| Echo {

@@ -4,6 +4,8 @@ ghost use Rattle.std.specs.Prelude.{◌≡◌, ◌<◌, ◌≤◌, ◌^◌, IsSo
 ghost use Rattle.std.specs.List.{find};
 ghost use Rattle.std.specs.BTreeMap.{get};
 ghost use Rattle.std.specs.Ordering.{nat_cmp};
+ghost use Rattle.wb_names.specs.Moments.{IsMoment};
+ghost use Rattle.wb_recovery.specs.Delays.{IsDelay};
 ghost use Rattle.wb_codec.specs.declared.datagram.Datagram.TheVariants.{Request};
 ghost use Rattle.wb_host.specs.Hearing.{asks_for_held};
 ghost use Rattle.wb_host.specs.Keeper.{Hear, distance_by, holds, is_own};
@@ -20,8 +22,8 @@ use wb_names::{Echo, Echoes, Marks, Name, PageId};
 use wb_recovery::distance;
 
 impl Keeper {
-    /// The most members whose session messages are remembered.
-    const MOST_HEARD: usize = 65_535;
+    /// The most members whose session messages are remembered: as many as one list of echoes names.
+    const MOST_HEARD: usize = Echoes::MAX_LEN;
 
     /// Takes in a datagram of another member. All growth comes before what a caller sees.
     pub(super) fn take_in(
@@ -33,7 +35,7 @@ impl Keeper {
         merged: Option<Marks>,
     ) -> Result<(), AllocError>
         requires after { self.old.moment ≤ now }
-        requires moment { now < 2 ^ 48 }
+        requires moment { IsMoment now }
         requires other { is_own self.old.me datagram.now ≡ false }
         requires merged { AreMerged (marks_at self.old.marks) datagram.now merged }
         ensures ok { OnOk result (Keeps (Hear now datagram.now word (asks_for_held desk.now.seen datagram.now)) self.old self.new) }
@@ -90,8 +92,8 @@ impl Keeper {
         merged: Option<Marks>,
     ) -> Result<(), AllocError>
         requires after { self.old.moment ≤ now }
-        requires moment { now < 2 ^ 48 }
-        requires near { IfSome delay (λ d. d < 2 ^ 24) }
+        requires moment { IsMoment now }
+        requires near { IfSome delay IsDelay }
         ensures ok { OnOk result (self.new ≡ record self.old { moment = now; delays = delays_with sender delay self.old.delays; heard = heard_with sender (record { sent = sent; at = now }) self.old.heard; marks = marks_with page merged self.old.marks }) }
         ensures counted { OnOk result (length self.new.heard ≡ count_with sender self.old.heard) }
         ensures err { OnErr result (self.new ≡ self.old) }
@@ -120,7 +122,7 @@ impl Keeper {
         merged: Option<Marks>,
     ) -> Result<(), AllocError>
         requires after { self.old.moment ≤ now }
-        requires moment { now < 2 ^ 48 }
+        requires moment { IsMoment now }
         ensures ok { OnOk result (self.new ≡ record self.old { moment = now; heard = heard_with sender (record { sent = sent; at = now }) self.old.heard; marks = marks_with page merged self.old.marks }) }
         ensures counted { OnOk result (length self.new.heard ≡ count_with sender self.old.heard) }
         ensures err { OnErr result (self.new ≡ self.old) }
@@ -156,7 +158,7 @@ impl Keeper {
         word: u64,
     ) -> Result<(), AllocError>
         requires after { self.old.moment ≤ now }
-        requires moment { now < 2 ^ 48 }
+        requires moment { IsMoment now }
         requires other { nat_eq asker self.old.me ≡ false }
         ensures ok { OnOk result (Keeps (Hear now (Request asker name) word (holds desk.now.seen name)) self.old self.new) }
         ensures err { OnErr result (self.new ≡ self.old) }
@@ -173,7 +175,7 @@ impl Keeper {
     /// The moment alone changes.
     pub(super) fn go_on(&mut self, now: u64)
         requires after { self.old.moment ≤ now }
-        requires moment { now < 2 ^ 48 }
+        requires moment { IsMoment now }
         ensures { self.new ≡ record self.old { moment = now } }
     {
         self.moment = now;
@@ -187,7 +189,7 @@ impl Keeper {
         merged: Option<Marks>,
     ) -> Result<(), AllocError>
         requires after { self.old.moment ≤ now }
-        requires moment { now < 2 ^ 48 }
+        requires moment { IsMoment now }
         ensures ok { OnOk result (self.new ≡ record self.old { moment = now; marks = marks_with page merged self.old.marks }) }
         ensures err { OnErr result (self.new ≡ self.old) }
     {

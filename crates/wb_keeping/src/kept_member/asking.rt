@@ -1,5 +1,6 @@
 //! What a member that keeps itself asks for.
 ghost use Rattle.std.specs.Prelude.{◌≡◌, ◌≤◌, ◌<◌, ◌^◌, ◌∷◌, [], IfOk, OnOk, IfSome, filter, length, nat_lt};
+ghost use Rattle.wb_recovery.specs.Delays.{IsDelay};
 ghost use Rattle.wb_keeping.specs.Kept.{Asks, and_then, end, ends_full, is_begun, is_unasked, learned, near_names, paid_for, performs, stops_oldest, turn, usual_lines, want, want_near, want_told};
 ghost use Rattle.wb_recovery.specs.Events.{timers_of};
 ghost use Rattle.wb_member.specs.Opened.{events};
@@ -47,7 +48,7 @@ impl KeptMember {
 
     /// It begins to ask for a name, at the usual distance, where there is one to set. Before that there is room for its timer.
     fn begin(&mut self, alloc: Global, name: &Name, usual: Option<u64>) -> Result<(), AllocError>
-        requires { IfSome usual (λ micros. micros < 2 ^ 24) }
+        requires { IfSome usual IsDelay }
         ensures { OnOk result (DoesQuietly (and_then (makes_room name.now) (and_then (performs_all (set_lines name.now.source usual)) (performs (Asks name.now)))) self.old self.new) }
     {
         self.make_room(alloc, name)?;
@@ -86,7 +87,7 @@ impl KeptMember {
     /// The usual distance, where the one to the source of a name is still the first.
     fn usual_to(&self, name: &Name) -> Option<u64>
         ensures lines { (k : Keeping) → IsKeptAt self.now k → set_lines name.now.source result ≡ usual_lines name.now.source ((view_of k.host).distance name.now.source) k.policy.usual }
-        ensures near { IfSome result (λ micros. micros < 2 ^ 24) }
+        ensures near { IfSome result IsDelay }
     {
         if self.member.delay(name.source()) != FIRST_DISTANCE {
             return None;

@@ -1,5 +1,7 @@
 //! The lines that a policy has its host perform, one by one.
 ghost use Rattle.std.specs.Prelude.{◌≡◌, ◌≤◌, ◌<◌, ◌^◌, ◌++◌, ◌∷◌, [], ℕ, false, IfOk, OnOk, IfSome, map};
+ghost use Rattle.wb_names.specs.Moments.{IsMoment};
+ghost use Rattle.wb_recovery.specs.Delays.{IsDelay};
 ghost use Rattle.wb_codec.specs.declared.datagram.Datagram.TheVariants.{Draw};
 ghost use Rattle.wb_host.specs.Hearing.{asks_for_pages};
 ghost use Rattle.wb_member.specs.Holding.{outcome_in};
@@ -18,7 +20,7 @@ impl KeptMember {
     /// Time goes on to a moment that is not before the present one, so that nothing but want of memory refuses it. Answers
     /// what is to be sent.
     pub(super) fn go_on(&mut self, alloc: Global, now: u64) -> Result<Vec<Datagram>, AllocError>
-        requires { now < 2 ^ 48 }
+        requires { IsMoment now }
         ensures { IfOk result (λ sent. Does (performs (Ticks now)) self.old self.new [] sent.items) }
     {
         match self.member.tick(alloc, now) {
@@ -75,7 +77,7 @@ impl KeptMember {
 
     /// The distance to a source is set, below 2^24 microseconds.
     pub(super) fn set_distance(&mut self, source: u32, micros: u64) -> Result<(), AllocError>
-        requires { micros < 2 ^ 24 }
+        requires { IsDelay micros }
         ensures { OnOk result (DoesQuietly (performs (SetsDistance source micros)) self.old self.new) }
     {
         match self.member.set_delay(source, micros) {
@@ -86,7 +88,7 @@ impl KeptMember {
 
     /// The distance to the source of a name is set to this one, where there is one.
     pub(super) fn set_usual(&mut self, name: &Name, usual: Option<u64>) -> Result<(), AllocError>
-        requires { IfSome usual (λ micros. micros < 2 ^ 24) }
+        requires { IfSome usual IsDelay }
         ensures { OnOk result (DoesQuietly (performs_all (set_lines name.now.source usual)) self.old self.new) }
     {
         match usual {

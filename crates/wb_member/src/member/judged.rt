@@ -1,6 +1,8 @@
 //! What a member shows to who judges for it: when it is to ask, and for what. None of it changes the member.
 ghost use Rattle.std.specs.Prelude.{◌≡◌, ◌<◌, ◌≤◌, ◌^◌, length, IfOk, IfSome};
 ghost use Rattle.wb_names.specs.Ascending.{AreEchoes};
+ghost use Rattle.wb_recovery.specs.Delays.{IsDelay};
+ghost use Rattle.wb_host.specs.Counts.{MAX_CELLS};
 ghost use Rattle.wb_member.specs.Holding.{IsOpenAt};
 ghost use Rattle.wb_member.specs.Judged.{is_full, holds, asked_names, level, delay, echoes, highest, hole_after};
 ghost use Rattle.wb_member.specs.Opened.{Opened};
@@ -15,7 +17,7 @@ impl Member {
     /// The drawops that are held, the newest last.
     pub fn drawops(&self) -> &[Drawop]
         ensures drawops { (host : Opened) → IsOpenAt self.now host → result.now ≡ host.is.held }
-        ensures few { length result.now ≤ 65535 }
+        ensures few { length result.now ≤ MAX_CELLS }
     {
         self.board.drawops()
     }
@@ -37,7 +39,7 @@ impl Member {
     /// The delay to a source in microseconds: the last that was set or told, and 100,000 before.
     pub fn delay(&self, source: u32) -> u64
         ensures delay { (host : Opened) → IsOpenAt self.now host → result ≡ delay host source }
-        ensures near { result < 2 ^ 24 }
+        ensures near { IsDelay result }
     {
         self.keeper.delay(source)
     }

@@ -1,5 +1,6 @@
 //! What a keeper does at the board of its member. Nobody else adds to it, so it stays as it is.
 ghost use Rattle.std.specs.Prelude.{◌≡◌, ◌<◌, ◌≤◌, ◌^◌, ℕ, List, filter, length, IfOk, OnOk, OnErr};
+ghost use Rattle.wb_names.specs.Moments.{IsMoment};
 ghost use Rattle.wb_recovery.specs.Events.{actions_of, due_asks};
 ghost use Rattle.wb_recovery.specs.Stopping.{receipts};
 ghost use Rattle.wb_recovery.specs.Values.{timers_in, names_in};
@@ -96,7 +97,7 @@ impl OwnBoard {
         ensures sent { IfOk result (λ sent. sent.items ≡ answers_to keeper.old.me self.old.drawops datagram.now) }
         ensures ok { OnOk result (Keeps (Hear keeper.old.moment datagram.now word (asks_for_held self.old.drawops datagram.now)) keeper.old keeper.new) }
         ensures err { OnErr result (keeper.new ≡ keeper.old) }
-        ensures range { keeper.old.moment < 2 ^ 48 }
+        ensures range { IsMoment keeper.old.moment }
     {
         let now = keeper.moment();
         keeper.hear(alloc, &self.board, &mut self.desk, now, datagram, word)

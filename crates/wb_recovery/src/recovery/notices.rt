@@ -4,6 +4,8 @@ ghost use Rattle.std.specs.Prelude.{◌≤◌, ◌≡◌, ◌<◌, ◌^◌, ◌&
 ghost use Rattle.std.specs.Prelude.{Some as some};
 ghost use Rattle.std.specs.List.{list_all};
 ghost use Rattle.std.specs.List.Sorted.{IsStrictlySortedBy};
+ghost use Rattle.wb_names.specs.Moments.{IsMoment};
+ghost use Rattle.wb_recovery.specs.Delays.{IsDelay};
 ghost use Rattle.wb_names.specs.Values.{NameValue};
 ghost use Rattle.wb_names.specs.Orders.{same_name, name_cmp};
 ghost use Rattle.wb_recovery.specs.Faults.{is_delay, call_fault, IsCheckedBy};
@@ -59,8 +61,8 @@ impl Recovery {
         now: u64,
         set: &mut Vec<(Name, bool)>,
     ) -> Result<(), AllocError>
-        requires moment { now < 2 ^ 48 }
-        requires delay { one.delay < 2 ^ 24 }
+        requires moment { IsMoment now }
+        requires delay { IsDelay one.delay }
         ensures ok { OnOk result (Replaces self.old self.new one.name (noticed self.old.tuning now one.delay one.word (timers_in self.old one.name))) }
         ensures back { (n : NameValue) → taken_back n set.new.items (record_in self.new n) ≡ taken_back n set.old.items (record_in self.old n) }
         ensures err { OnErr result (self.new ≡ self.old) }
@@ -82,8 +84,8 @@ impl Recovery {
 
     /// Sets the request timer of one name, unless one stands.
     pub(super) fn start(&mut self, one: Missed, now: u64) -> Result<(), AllocError>
-        requires moment { now < 2 ^ 48 }
-        requires delay { one.delay < 2 ^ 24 }
+        requires moment { IsMoment now }
+        requires delay { IsDelay one.delay }
         ensures ok { OnOk result (Replaces self.old self.new one.name (noticed self.old.tuning now one.delay one.word (timers_in self.old one.name))) }
         ensures records { OnOk result ((n : NameValue) → record_in self.new n ≡ (if same_name one.name n && is_none (timers_in self.old one.name).ask then some (noticed self.old.tuning now one.delay one.word (timers_in self.old one.name)) else record_in self.old n)) }
         ensures err { OnErr result (self.new ≡ self.old) }

@@ -4,6 +4,7 @@ ghost use Rattle.std.specs.Prelude.{◌≡◌, ◌<◌, ◌≤◌, ◌^◌, ◌�
 ghost use Rattle.std.specs.Fn.{FnReturnsAt};
 ghost use Rattle.std.specs.List.{list_all};
 ghost use Rattle.std.specs.BTreeSet.{contains};
+ghost use Rattle.wb_names.specs.Moments.{IsMoment};
 ghost use Rattle.wb_names.specs.Values.{NameValue};
 ghost use Rattle.wb_names.specs.Orders.{name_cmp};
 ghost use Rattle.wb_recovery.specs.Faults.{is_delay, call_fault, IsCheckedBy};
@@ -126,7 +127,7 @@ impl Recovery {
 
     /// Ends the timers of these names. It takes no memory.
     fn end_all(&mut self, received: &[Received], now: u64)
-        requires moment { now < 2 ^ 48 }
+        requires moment { IsMoment now }
         requires delays { list_all (λ c. is_delay c.delay) received.now ≡ true }
         ensures { EndsAll now received.now self.old self.new }
     {

@@ -12,7 +12,7 @@ pub invariant_of-pass : goal.invariant_of-pass
 invariant_of-pass c =
     let m = c.in-Ok-make.ensures in
     let none = c.if-cells-eq0.false in
-    let many = c.if-cells-gt65535.false in
+    let many = c.if-cells-gt-MAX_CELLS.false in
     let cells = ap (λ (x : Me DrawopValue Knowledge). x.0.cells) m.2 in
     let size = c.in-Ok-make.table.sized in
     let words = ap (λ z. z.words) m.1 in
