@@ -7,13 +7,14 @@ use Rattle.wb_codec.specs.Grammar.{Spells}
 use Rattle.wb_codec.proofs.GrammarLaws.{reading_again}
 use Rattle.wb_codec.specs.declared.datagram.Datagram.{Datagram}
 use Rattle.wb_codec.specs.declared.fault.ReadFault.{ReadFault}
+use Rattle.wb_words.specs.declared.digits_fault.DigitsFault.TheVariants as digit_faults
 use Rattle.wb_commands.specs.declared.fault.LineFault.TheVariants as faults
 use Rattle.wb_commands.specs.Faults.{line_code}
 use Rattle.wb_lines.specs.Words.{is_hex}
 use Rattle.wb_lines.proofs.HexWords.{unhex-not_hex, unhex-hex}
 use Rattle.wb_commands.specs.Parsing.{one_of, datagram, spelled}
 
-pub datagram-not_hex : (ws : List (List ℕ)) (digits : List ℕ) → one_of ws ≡ Some digits → is_hex digits ≡ false → datagram ws ≡ Err faults.Hex
+pub datagram-not_hex : (ws : List (List ℕ)) (digits : List ℕ) → one_of ws ≡ Some digits → is_hex digits ≡ false → datagram ws ≡ Err (faults.Digits digit_faults.Hex)
 unfolding datagram
 datagram-not_hex ws digits e no_hex = rw (e, unhex-not_hex digits no_hex) refl
 

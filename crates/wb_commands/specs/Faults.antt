@@ -1,18 +1,18 @@
 -- The numbers of the faults of a line, and their texts.
-use Rattle.std.specs.Prelude.{ℕ, List, ◌++◌, codes, decimal}
-use Rattle.wb_codec.specs.Fault.{read_code}
-use Rattle.wb_words.specs.FaultText.{wrong_text}
+use Rattle.std.specs.Prelude.{ℕ, List, codes}
+use Rattle.wb_words.specs.FaultText.{digits_text, wrong_text}
+use Rattle.wb_words.specs.declared.digits_fault.DigitsFault.TheVariants as digit_faults
 use Rattle.wb_commands.specs.declared.fault.LineFault.{LineFault}
-use Rattle.wb_commands.specs.declared.fault.LineFault.TheVariants.{Unknown, Words, Number, Hex, Datagram, Kind, NoBoard, SecondBoard, BackInTime, TooMany, Word}
+use Rattle.wb_commands.specs.declared.fault.LineFault.TheVariants.{Unknown, Words, Number, Digits, NoBoard, SecondBoard, BackInTime, TooMany, Word}
 
 -- from 1, in the order in which a line is looked at
 abbrev pub line_code : LineFault → ℕ
 line_code Unknown = 1
 line_code Words = 2
 line_code Number = 3
-line_code Hex = 4
-line_code (Datagram e) = 5
-line_code Kind = 6
+line_code (Digits digit_faults.Hex) = 4
+line_code (Digits (digit_faults.Datagram e)) = 5
+line_code (Digits digit_faults.Kind) = 6
 line_code NoBoard = 7
 line_code SecondBoard = 8
 line_code BackInTime = 9
@@ -24,9 +24,7 @@ abbrev pub line_text : LineFault → List ℕ
 line_text Unknown = codes "unknown"
 line_text Words = codes "words"
 line_text Number = codes "number"
-line_text Hex = codes "hex"
-line_text (Datagram e) = codes "datagram " ++ decimal (read_code e)
-line_text Kind = codes "kind"
+line_text (Digits e) = digits_text e
 line_text NoBoard = codes "no board"
 line_text SecondBoard = codes "second board"
 line_text BackInTime = codes "back in time"

@@ -8,6 +8,7 @@ use Rattle.wb_codec.specs.declared.datagram.Datagram.{Datagram}
 use Rattle.wb_codec.specs.declared.datagram.Datagram.TheVariants as datagrams
 use Rattle.wb_codec.specs.declared.fault.ReadFault.{ReadFault}
 use Rattle.wb_words.specs.Reading.{begins_datagram, reading as reading_words}
+use Rattle.wb_words.specs.declared.digits_fault.DigitsFault.TheVariants as digit_faults
 use Rattle.wb_words.specs.declared.fault.WrongWord.{WrongWord}
 use Rattle.wb_commands.specs.declared.fault.LineFault.{LineFault}
 use Rattle.wb_commands.specs.declared.fault.LineFault.TheVariants as faults
@@ -115,22 +116,22 @@ pages arguments = or_fault faults.Words (none_of arguments) >>= λ nothing. Ok P
 -- the datagram that bytes spell
 abbrev pub spelled : Result Datagram ReadFault → Result Datagram LineFault
 spelled (Ok v) = Ok v
-spelled (Err e) = Err (faults.Datagram e)
+spelled (Err e) = Err (faults.Digits (digit_faults.Datagram e))
 
 -- the datagram that digits spell
 unfoldable pub datagram : List (List ℕ) → Result Datagram LineFault
 datagram arguments = do
   digits ← or_fault faults.Words (one_of arguments)
-  bytes ← or_fault faults.Hex (unhex digits)
+  bytes ← or_fault (faults.Digits digit_faults.Hex) (unhex digits)
   spelled (reading bytes)
 
 -- drawops arrive, and every other datagram is heard
 abbrev pub arrived : Datagram → Result Command LineFault
 arrived (datagrams.Draw d) = Ok (Arrive d)
-arrived v = Err faults.Kind
+arrived v = Err (faults.Digits digit_faults.Kind)
 
 abbrev pub heard : Datagram → Result Command LineFault
-heard (datagrams.Draw d) = Err faults.Kind
+heard (datagrams.Draw d) = Err (faults.Digits digit_faults.Kind)
 heard v = Ok (Hear v)
 
 -- Where a line does not say which it is to be, a drawop arrives, and every other datagram is heard.

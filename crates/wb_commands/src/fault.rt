@@ -5,8 +5,7 @@ ghost use Rattle.wb_commands.specs.declared.fault.Untaken.TheVariants as untaken
 use std::alloc::{AllocError, AllocFailed};
 use std::{error, fmt};
 use thiserror::Error;
-use wb_codec::ReadFault;
-use wb_words::WrongWord;
+use wb_words::{DigitsFault, WrongWord};
 
 /// Why a line is refused: the first fault in the order of the variants. A datagram in words has a
 /// fault of its own, its first word that is wrong.
@@ -18,12 +17,8 @@ pub enum LineFault {
     Words,
     /// A number has another byte than digits, or is out of its range.
     Number,
-    /// A datagram is not an even number of hexadecimal digits.
-    Hex,
-    /// The bytes are no datagram.
-    Datagram(ReadFault),
-    /// The datagram is of a kind that the line does not take.
-    Kind,
+    /// The digits of a datagram are wrong.
+    Digits(DigitsFault),
     /// There is no board yet.
     NoBoard,
     /// There is a board already.
@@ -47,9 +42,9 @@ impl LineFault {
             LineFault::Unknown => 1,
             LineFault::Words => 2,
             LineFault::Number => 3,
-            LineFault::Hex => 4,
-            LineFault::Datagram(_) => 5,
-            LineFault::Kind => 6,
+            LineFault::Digits(DigitsFault::Hex) => 4,
+            LineFault::Digits(DigitsFault::Datagram(_)) => 5,
+            LineFault::Digits(DigitsFault::Kind) => 6,
             LineFault::NoBoard => 7,
             LineFault::SecondBoard => 8,
             LineFault::BackInTime => 9,
@@ -70,12 +65,7 @@ impl fmt::Display for LineFault {
             LineFault::Unknown => f.write_str("unknown"),
             LineFault::Words => f.write_str("words"),
             LineFault::Number => f.write_str("number"),
-            LineFault::Hex => f.write_str("hex"),
-            LineFault::Datagram(fault) => {
-                let code = fault.code();
-                write!(f, "datagram {code}")
-            }
-            LineFault::Kind => f.write_str("kind"),
+            LineFault::Digits(fault) => write!(f, "{fault}"),
             LineFault::NoBoard => f.write_str("no board"),
             LineFault::SecondBoard => f.write_str("second board"),
             LineFault::BackInTime => f.write_str("back in time"),

@@ -13,7 +13,7 @@ use wb_host::{MAX_CELLS, MAX_WORKERS};
 use wb_lines::{next_word, number, unhex};
 use wb_names::{MAX_MOMENT, PageId};
 use wb_recovery::{MAX_CONSTANT, MAX_DELAY, Tuning};
-use wb_words::{WordsFault, begins_datagram, read_words};
+use wb_words::{DigitsFault, WordsFault, begins_datagram, read_words};
 
 /// That there are no words.
 pub fn no_words(rest: &[u8]) -> Option<()>
@@ -172,12 +172,12 @@ pub fn datagram(alloc: Global, rest: &[u8]) -> Result<Datagram, Untaken>
 {
     let digits = one_word(rest).ok_or(LineFault::Words)?;
     let Some(bytes) = unhex(alloc, digits)? else {
-        return Err(Untaken::Line(LineFault::Hex));
+        return Err(Untaken::Line(LineFault::Digits(DigitsFault::Hex)));
     };
     match read(alloc, &bytes) {
         Ok(datagram) => Ok(datagram),
         Err(ReadFault::Memory) => Err(Untaken::Memory),
-        Err(fault) => Err(Untaken::Line(LineFault::Datagram(fault))),
+        Err(fault) => Err(Untaken::Line(LineFault::Digits(DigitsFault::Datagram(fault)))),
     }
 }
 
@@ -199,7 +199,7 @@ fn arrive(alloc: Global, rest: &[u8]) -> Result<Command, Untaken>
 {
     match datagram(alloc, rest)? {
         Datagram::Draw(drawop) => Ok(Command::Arrive(drawop)),
-        _ => Err(Untaken::Line(LineFault::Kind)),
+        _ => Err(Untaken::Line(LineFault::Digits(DigitsFault::Kind))),
     }
 }
 
@@ -208,7 +208,7 @@ fn hear(alloc: Global, rest: &[u8]) -> Result<Command, Untaken>
     ensures within { IfOk result IsWithin }
 {
     match datagram(alloc, rest)? {
-        Datagram::Draw(_) => Err(Untaken::Line(LineFault::Kind)),
+        Datagram::Draw(_) => Err(Untaken::Line(LineFault::Digits(DigitsFault::Kind))),
         heard => Ok(Command::Hear(heard)),
     }
 }

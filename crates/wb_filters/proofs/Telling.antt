@@ -5,6 +5,7 @@ use Rattle.wb_codec.specs.Reading.{reading}
 use Rattle.wb_codec.specs.Grammar.{Spells}
 use Rattle.wb_codec.proofs.GrammarLaws.{reading_again}
 use Rattle.wb_words.specs.Words.{split_once}
+use Rattle.wb_words.specs.declared.digits_fault.DigitsFault.TheVariants as digit_faults
 use Rattle.wb_lines.specs.Words.{is_hex}
 use Rattle.wb_lines.proofs.HexWords.{unhex-not_hex}
 use Rattle.wb_filters.specs.declared.carrier.Carrier.{Carrier}
@@ -14,7 +15,7 @@ use Rattle.wb_filters.specs.Turning.{carrier_of, takes, words_behind, told, with
 pub read_so : (bytes : List ℕ) (v : Datagram) → Spells bytes v → reading bytes ≡ Ok v
 read_so bytes v s = ap reading s.1 ∙ reading_again v s.0
 
-pub told_kind : (carrier : Carrier) (bytes : List ℕ) (v : Datagram) → Spells bytes v → takes carrier v ≡ false → told carrier (reading bytes) ≡ Err faults.Kind
+pub told_kind : (carrier : Carrier) (bytes : List ℕ) (v : Datagram) → Spells bytes v → takes carrier v ≡ false → told carrier (reading bytes) ≡ Err (faults.Digits digit_faults.Kind)
 told_kind carrier bytes v s e = ap (told carrier) (read_so bytes v s) ∙ rw e refl
 
 pub told_words : (carrier : Carrier) (bytes : List ℕ) (v : Datagram) → Spells bytes v → takes carrier v ≡ true → told carrier (reading bytes) ≡ Ok (words_behind carrier v)

@@ -10,6 +10,7 @@ use Rattle.wb_words.specs.declared.fault.WrongWord.{WrongWord}
 use Rattle.wb_words.specs.Words.{split_once}
 use Rattle.wb_words.specs.Spelling.{spelled}
 use Rattle.wb_words.specs.Reading.{reading as reading_words}
+use Rattle.wb_words.specs.declared.digits_fault.DigitsFault.TheVariants as digit_faults
 use Rattle.wb_lines.specs.Words.{unhex}
 use Rattle.wb_filters.specs.declared.carrier.Carrier.{Carrier}
 use Rattle.wb_filters.specs.declared.carrier.Carrier.TheVariants.{Arrive, Hear, Send}
@@ -89,12 +90,12 @@ hexed line = hexed_by line (sent_part (split_once 32 line))
 
 -- what the bytes say
 abbrev pub told : Carrier → Result Datagram ReadFault → Result (List ℕ) LineFault
-told carrier (Ok v) = if takes carrier v then Ok (words_behind carrier v) else Err faults.Kind
-told carrier (Err e) = Err (faults.Datagram e)
+told carrier (Ok v) = if takes carrier v then Ok (words_behind carrier v) else Err (faults.Digits digit_faults.Kind)
+told carrier (Err e) = Err (faults.Digits (digit_faults.Datagram e))
 
 -- One word that is no even number of digits is wrong. A line of more words carries nothing, and stays.
 abbrev pub without_digits : List ℕ → List ℕ → Result (List ℕ) LineFault
-without_digits line rest = if is_some (split_once 32 rest) then Ok line else Err faults.Hex
+without_digits line rest = if is_some (split_once 32 rest) then Ok line else Err (faults.Digits digit_faults.Hex)
 
 abbrev pub worded_digits : List ℕ → List ℕ → Carrier → Option (List ℕ) → Result (List ℕ) LineFault
 worded_digits line rest carrier None = without_digits line rest

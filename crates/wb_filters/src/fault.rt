@@ -6,21 +6,16 @@ ghost use Rattle.wb_filters.specs.declared.fault.TurnFault.TheVariants as turn_f
 use std::alloc::{AllocError, AllocFailed};
 use std::{error, fmt};
 use thiserror::Error;
-use wb_codec::ReadFault;
 use wb_lines::DriveFault;
-use wb_words::WrongWord;
+use wb_words::{DigitsFault, WrongWord};
 
 /// Why a line can't be turned.
 #[derive(Clone, Copy, Debug, PartialEq, Eq)]
 pub enum LineFault {
     /// A word of a datagram in words is wrong, by its place among them.
     Word(WrongWord),
-    /// The word after `arrive`, `hear` or `send` is no even number of hexadecimal digits.
-    Hex,
-    /// The bytes are no datagram.
-    Datagram(ReadFault),
-    /// The datagram is of a kind that the line does not take.
-    Kind,
+    /// The digits after `arrive`, `hear` or `send` are wrong.
+    Digits(DigitsFault),
 }
 
 impl fmt::Display for LineFault {
@@ -32,12 +27,7 @@ impl fmt::Display for LineFault {
     fn fmt<W: fmt::Write>(&self, f: &mut fmt::Formatter<W>) -> fmt::Result {
         match self {
             LineFault::Word(wrong) => write!(f, "{wrong}"),
-            LineFault::Hex => f.write_str("word 2: hex"),
-            LineFault::Datagram(fault) => {
-                let code = fault.code();
-                write!(f, "word 2: datagram {code}")
-            }
-            LineFault::Kind => f.write_str("word 2: kind"),
+            LineFault::Digits(fault) => write!(f, "word 2: {fault}"),
         }
     }
 }

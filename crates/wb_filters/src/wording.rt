@@ -10,7 +10,7 @@ use crate::line::copy;
 use std::alloc::{AllocError, Global};
 use wb_codec::{Datagram, ReadFault, read};
 use wb_lines::unhex;
-use wb_words::{split_once, write_words};
+use wb_words::{DigitsFault, split_once, write_words};
 
 /// The words of a datagram, behind `send` where it is sent.
 fn words_behind(alloc: Global, carrier: Carrier, datagram: &Datagram) -> Result<Vec<u8>, AllocError>
@@ -35,12 +35,12 @@ fn told(alloc: Global, carrier: Carrier, bytes: &[u8]) -> Result<Vec<u8>, TurnFa
     match read(alloc, bytes) {
         Ok(datagram) => {
             if !takes(carrier, &datagram) {
-                return Err(TurnFault::Line(LineFault::Kind));
+                return Err(TurnFault::Line(LineFault::Digits(DigitsFault::Kind)));
             }
             Ok(words_behind(alloc, carrier, &datagram)?)
         }
         Err(ReadFault::Memory) => Err(TurnFault::Memory),
-        Err(fault) => Err(TurnFault::Line(LineFault::Datagram(fault))),
+        Err(fault) => Err(TurnFault::Line(LineFault::Digits(DigitsFault::Datagram(fault)))),
     }
 }
 
@@ -50,7 +50,7 @@ fn without_digits(alloc: Global, line: &[u8], rest: &[u8]) -> Result<Vec<u8>, Tu
     ensures { MayTurn (λ text. text.items) result (without_digits line.now rest.now) }
 {
     if split_once(rest, b' ').is_none() {
-        return Err(TurnFault::Line(LineFault::Hex));
+        return Err(TurnFault::Line(LineFault::Digits(DigitsFault::Hex)));
     }
     Ok(copy(alloc, line)?)
 }

@@ -1,5 +1,6 @@
 pub mod Values
 pub mod Faults
+pub mod FaultTexts
 pub mod TextFields
 pub mod Drawing
 pub mod Shapes

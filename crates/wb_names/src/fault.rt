@@ -2,36 +2,31 @@
 
 ghost use Rattle.std.specs.Prelude.{◌≡◌};
 
+use std::{error, fmt};
 use thiserror::Error;
 
 /// Why a name, a drawop or a mark is refused: the first fault in the order of the variants.
-#[derive(Clone, Copy, Debug, PartialEq, Eq, Error)]
+#[derive(Clone, Copy, Debug, PartialEq, Eq)]
 pub enum FieldFault {
     /// A sequence number or a mark's number is 0: they begin at 1.
-    #[error("sequence number 0")]
     SeqZero,
     /// A coordinate is over 4095 cells.
-    #[error("coordinate over 4095")]
     Coordinate,
     /// The glyph is no visible character of ASCII, `!` to `~`.
-    #[error("glyph outside ! to ~")]
     Glyph,
     /// A text has no bytes, or over 64.
-    #[error("text of 0 or over 64 bytes")]
     TextLength,
     /// A byte of a text is no printable character of ASCII, space to `~`.
-    #[error("text byte outside space to ~")]
     TextByte,
     /// A delete or a restore names the sequence number 0.
-    #[error("target sequence number 0")]
     TargetZero,
     /// A delete or a restore names itself.
-    #[error("target is the drawop itself")]
     TargetSelf,
 }
 
 impl FieldFault {
     ghost use Rattle.wb_names.specs.Faults.{field_code};
+    ghost use Rattle.wb_names.specs.FaultTexts.{field_text};
 
     /// The number of the fault, from 1.
     pub fn code(&self) -> u32
@@ -47,7 +42,35 @@ impl FieldFault {
             FieldFault::TargetSelf => 7,
         }
     }
+
+    /// What is said of the fault.
+    pub fn text(&self) -> &'static str
+        ensures { result.now ≡ field_text self.now }
+    {
+        match self {
+            FieldFault::SeqZero => "sequence number 0",
+            FieldFault::Coordinate => "coordinate over 4095",
+            FieldFault::Glyph => "glyph outside ! to ~",
+            FieldFault::TextLength => "text of 0 or over 64 bytes",
+            FieldFault::TextByte => "text byte outside space to ~",
+            FieldFault::TargetZero => "target sequence number 0",
+            FieldFault::TargetSelf => "target is the drawop itself",
+        }
+    }
 }
+
+impl fmt::Display for FieldFault {
+    ghost use Rattle.std.specs.Prelude.{Some};
+    ghost use Rattle.wb_names.specs.FaultTexts.{field_text};
+
+    ghost output = { λ e. Some (field_text e) };
+
+    fn fmt<W: fmt::Write>(&self, f: &mut fmt::Formatter<W>) -> fmt::Result {
+        f.write_str(self.text())
+    }
+}
+
+impl error::Error for FieldFault {}
 
 /// Why a list of marks or echoes is refused: the first fault in the order of the variants.
 #[derive(Clone, Copy, Debug, PartialEq, Eq, Error)]

@@ -14,6 +14,7 @@ use Rattle.wb_codec.specs.Reading.{reading}
 use Rattle.wb_words.specs.Reading.{is_kind, begins_datagram, reading as reading_words}
 use Rattle.wb_words.specs.declared.fault.WrongWord.{WrongWord}
 use Rattle.wb_words.proofs.Visible.{read_visible, no_return_ends}
+use Rattle.wb_words.specs.declared.digits_fault.DigitsFault.TheVariants as digit_faults
 use Rattle.wb_commands.specs.declared.fault.LineFault.{LineFault}
 use Rattle.wb_commands.specs.declared.fault.LineFault.TheVariants as faults
 use Rattle.wb_commands.specs.declared.command.Command.{Command}
@@ -126,7 +127,7 @@ HasDigits ws = (digits : List ℕ) × (bytes : List ℕ) × (ws ≡ digits ∷ [
 digits_of : (ws : List (List ℕ)) (v : Datagram) → datagram ws ≡ Ok v → HasDigits ws
 unfolding datagram
 digits_of (a ∷ []) v e = at (unhex a) refl e where
-  at : (r : Option (List ℕ)) → unhex a ≡ r → (or_fault faults.Hex r >>= (λ bytes. spelled (reading bytes))) ≡ Ok v → HasDigits (a ∷ [])
+  at : (r : Option (List ℕ)) → unhex a ≡ r → (or_fault (faults.Digits digit_faults.Hex) r >>= (λ bytes. spelled (reading bytes))) ≡ Ok v → HasDigits (a ∷ [])
   at None is f = absurd cc
   at (Some bytes) is f = (a, bytes, refl, is)
 digits_of ws v e = absurd cc

@@ -16,6 +16,7 @@ use Rattle.wb_codec.specs.declared.fault.ReadFault.{ReadFault}
 use Rattle.wb_codec.proofs.GrammarLaws.{reading_takes}
 use Rattle.wb_words.specs.Reading.{begins_datagram, reading as reading_words}
 use Rattle.wb_words.specs.declared.fault.WrongWord.{WrongWord}
+use Rattle.wb_words.specs.declared.digits_fault.DigitsFault.TheVariants as digit_faults
 use Rattle.wb_lines.specs.Words.{words, is_digit, number_after, number_of, unhex}
 use Rattle.wb_recovery.specs.Timing.{are_constants, is_constant}
 use Rattle.wb_progress.proofs.OneCall.{le_true}
@@ -94,7 +95,7 @@ spelled_fits bytes fit (Err f) e = tt
 pub datagram_fits : (arguments : List (List ℕ)) → IfOk (datagram arguments) IsDatagram
 unfolding datagram
 datagram_fits arguments = behind IsDatagram (or_fault faults.Words (one_of arguments)) _ (λ digits.
-    bound IsBytes IsDatagram (or_fault faults.Hex (unhex digits)) _ (or_fault_fits IsBytes faults.Hex (unhex digits) (unhex_fits digits)) (λ bytes fit.
+    bound IsBytes IsDatagram (or_fault (faults.Digits digit_faults.Hex) (unhex digits)) _ (or_fault_fits IsBytes (faults.Digits digit_faults.Hex) (unhex digits) (unhex_fits digits)) (λ bytes fit.
     spelled_fits bytes fit (reading bytes) refl))
 
 -- the only argument is the digits of its bytes
@@ -124,7 +125,7 @@ datagram_digits arguments =
     let IsOnly : List ℕ → Type 0 = λ digits. arguments ≡ digits ∷ [] in
     bound IsOnly (IsDigitsOf arguments) (or_fault faults.Words (one_of arguments)) _ (or_fault_fits IsOnly faults.Words (one_of arguments) (only arguments)) (λ digits are.
     let IsRead : List ℕ → Type 0 = λ bytes. IsBytes bytes × (unhex digits ≡ Some bytes) in
-    bound IsRead (IsDigitsOf arguments) (or_fault faults.Hex (unhex digits)) _ (or_fault_fits IsRead faults.Hex (unhex digits) (read_is (unhex digits) (unhex_fits digits))) (λ bytes read.
+    bound IsRead (IsDigitsOf arguments) (or_fault (faults.Digits digit_faults.Hex) (unhex digits)) _ (or_fault_fits IsRead (faults.Digits digit_faults.Hex) (unhex digits) (read_is (unhex digits) (unhex_fits digits))) (λ bytes read.
     weaker (λ v. bytes ≡ spelling v) (IsDigitsOf arguments) (spelled (reading bytes)) (spelled_is bytes read.0 (reading bytes) refl) (λ v e. (digits, are, read.1 ∙ ap (λ (b : List ℕ). Some b) e))))
 
 -- ---- lines

@@ -1,19 +1,12 @@
--- What is said of a word that is wrong.
+-- What is said of a word that is wrong, and of digits that are.
 use Rattle.std.specs.Prelude.{ℕ, List, ◌++◌, codes, decimal}
-use Rattle.wb_names.specs.declared.fault.FieldFault.{FieldFault}
-use Rattle.wb_names.specs.declared.fault.FieldFault.TheVariants as fields
+use Rattle.wb_names.specs.FaultTexts.{field_text}
+use Rattle.wb_codec.specs.Fault.{read_code}
+use Rattle.wb_words.specs.declared.digits_fault.DigitsFault.{DigitsFault}
+use Rattle.wb_words.specs.declared.digits_fault.DigitsFault.TheVariants as digit_faults
 use Rattle.wb_words.specs.declared.fault.WordFault.{WordFault}
 use Rattle.wb_words.specs.declared.fault.WordFault.TheVariants as words
 use Rattle.wb_words.specs.declared.fault.WrongWord.{WrongWord}
-
-abbrev pub field_text : FieldFault → List ℕ
-field_text fields.SeqZero = codes "sequence number 0"
-field_text fields.Coordinate = codes "coordinate over 4095"
-field_text fields.Glyph = codes "glyph outside ! to ~"
-field_text fields.TextLength = codes "text of 0 or over 64 bytes"
-field_text fields.TextByte = codes "text byte outside space to ~"
-field_text fields.TargetZero = codes "target sequence number 0"
-field_text fields.TargetSelf = codes "target is the drawop itself"
 
 abbrev pub word_text : WordFault → List ℕ
 word_text words.Missing = codes "missing"
@@ -33,3 +26,9 @@ word_text (words.Field fault) = field_text fault
 -- `word PLACE: FAULT`
 abbrev pub wrong_text : WrongWord → List ℕ
 wrong_text wrong = codes "word " ++ (decimal wrong.place ++ (codes ": " ++ word_text wrong.fault))
+
+-- of digits that are no datagram for their line
+abbrev pub digits_text : DigitsFault → List ℕ
+digits_text digit_faults.Hex = codes "hex"
+digits_text (digit_faults.Datagram fault) = codes "datagram " ++ decimal (read_code fault)
+digits_text digit_faults.Kind = codes "kind"
