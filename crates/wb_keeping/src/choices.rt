@@ -127,7 +127,8 @@ pub(crate) fn last_source(marks: &[Mark]) -> Option<u32>
     last
 }
 
-/// The names of the marks of a page, but for numbers of this member from 2^31 on, which nobody but a forger tells.
+/// The names of the marks of a page, but for numbers of this member from 2^31 on, which nobody but
+/// a forger tells.
 pub(crate) fn told_names(
     alloc: Global,
     me: u32,
@@ -157,7 +158,8 @@ fn name_of(page: PageId, mark: Mark) -> Name
     Name::new(mark.source(), page, mark.high()).unwrap()
 }
 
-/// The names near one, from 64 above to 64 below, down to number 1 and below the greatest that is held.
+/// The names near one, from 64 above to 64 below, down to number 1 and below the greatest that is
+/// held.
 pub(crate) fn near_names(alloc: Global, name: &Name, top: u32) -> Result<Vec<Name>, AllocError>
     ensures { IfOk result (λ names. names.items ≡ near_names name.now top) }
 {
@@ -169,7 +171,8 @@ pub(crate) fn near_names(alloc: Global, name: &Name, top: u32) -> Result<Vec<Nam
 /// So many names of the source and page of one, from a number down.
 fn names_down(alloc: Global, name: &Name, high: u32, count: u32) -> Result<Vec<Name>, AllocError>
     requires { count ≤ high }
-    ensures { IfOk result (λ names. names.items ≡ map (name_of name.now.page name.now.source) (downwards high count)) }
+    ensures { IfOk result (λ names.
+        names.items ≡ map (name_of name.now.page name.now.source) (downwards high count)) }
 {
     let mut names = Vec::new(alloc);
     for below in 0..count {

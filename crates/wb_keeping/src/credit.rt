@@ -4,9 +4,9 @@ ghost use Rattle.std.specs.Prelude.{◌≡◌, ◌<◌, ◌^◌, IsTrue};
 ghost use Rattle.wb_names.specs.Moments.{IsMoment};
 ghost use Rattle.wb_keeping.specs.Credit.{has_credit, repaid, spent};
 
-/// The credit of who asks for names. Each name that is asked for is paid for in a quarter of a second, and 64 may be
-/// asked for at once. What came costs nothing. So who is answered asks as fast as it is, and who is not at four names a
-/// second.
+/// The credit of who asks for names. Each name that is asked for is paid for in a quarter of a
+/// second, and 64 may be asked for at once. What came costs nothing. So who is answered asks as
+/// fast as it is, and who is not at four names a second.
 #[derive(Clone, Copy, Debug, PartialEq, Eq)]
 pub struct Credit {
     /// Names are paid for up to this moment.

@@ -5,7 +5,8 @@ ghost use Rattle.wb_keeping.specs.Distances.{bounded, usual_with};
 
 use std::marker::Model;
 
-/// The distances that echoes told, in microseconds: the usual one, which is taken for that to a source that told none.
+/// The distances that echoes told, in microseconds: the usual one, which is taken for that to a
+/// source that told none.
 #[derive(Debug, Drop)]
 pub struct Distances {
     usual: Option<u64>,

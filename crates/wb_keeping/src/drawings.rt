@@ -8,8 +8,8 @@ use wb_names::{Drawop, PageId};
 /// How far ahead times are believed, in microseconds: an hour.
 const AHEAD: u64 = 3_600_000_000;
 
-/// The time of a drawing on a page of a list, where its user's clock tells this one: it comes after all that the page
-/// has, but for what is an hour or more ahead. It costs a walk over the list.
+/// The time of a drawing on a page of a list, where its user's clock tells this one: it comes after
+/// all that the page has, but for what is an hour or more ahead. It costs a walk over the list.
 pub fn time_of(list: &[Drawop], page: PageId, time: u64) -> u64
     ensures { result ≡ drawing_time list.now page time }
 {

@@ -31,12 +31,13 @@ use wb_recovery::{Tuning, TuningFault};
 /// From this number on a number of its own is one that the member would never come to.
 const FORGED: u32 = 1 << 31;
 
-/// A member of a session, and the policy that it keeps itself by: it is handed datagrams, moments and drawings, and
-/// gives what is to be sent.
+/// A member of a session, and the policy that it keeps itself by: it is handed datagrams, moments
+/// and drawings, and gives what is to be sent.
 ///
-/// What it does is the list of lines of `specs/Kept.antt`, performed by the member. So the contracts speak of each member at
-/// which the code may be, as those of `Member` do. A call that is refused changes nothing. Without memory it has performed the
-/// first of its lines, or none, and what these sent is lost, as a datagram may be.
+/// What it does is the list of lines of `specs/Kept.antt`, performed by the member. So the
+/// contracts speak of each member at which the code may be, as those of `Member` do. A call that is
+/// refused changes nothing. Without memory it has performed the first of its lines, or none, and
+/// what these sent is lost, as a datagram may be.
 #[derive(Drop)]
 pub struct KeptMember {
     member: Member,
@@ -56,41 +57,51 @@ impl Model for KeptMember {
 pub struct Done {
     /// What is to be sent, in this order.
     pub sent: Vec<Datagram>,
-    /// What became of the drawop that came or was drawn: None where the board is full, or no drawop came.
+    /// What became of the drawop that came or was drawn: None where the board is full, or no drawop
+    /// came.
     pub became: Option<Reply>,
 }
 
 impl KeptMember {
-    /// A member keeps itself from its present moment on. The reports of all members together may take so many bytes a second,
-    /// from 1 on. For so many microseconds, below 2^32, nothing is added. The seed is that of the member.
+    /// A member keeps itself from its present moment on. The reports of all members together may
+    /// take so many bytes a second, from 1 on. For so many microseconds, below 2^32, nothing is
+    /// added. The seed is that of the member.
     pub fn keep(member: Member, rate: u64, listen: u64, seed: u64) -> KeptMember
         requires rate { 1 ≤ rate }
         requires listen { listen < 2 ^ 32 }
-        ensures { (host : Opened) → IsOpenAt member host → IsKeptAt result (record { host = host; policy = begun (present host) rate listen seed }) }
+        ensures { (host : Opened) → IsOpenAt member host → IsKeptAt result
+            (record { host = host; policy = begun (present host) rate listen seed }) }
     {
         let policy = Policy::new(member.moment(), rate, listen, seed);
         KeptMember { member, policy }
     }
 
-    /// Gives its timers other constants, each 1 to 16: what is set or backed off from now on is by them. A timer that
-    /// stands keeps its moment. Refused with `Constant`.
+    /// Gives its timers other constants, each 1 to 16: what is set or backed off from now on is by
+    /// them. A timer that stands keeps its moment. Refused with `Constant`.
     pub fn set_constants(&mut self, constants: Tuning) -> Result<(), TuningFault>
-        ensures constants { MatchResult result (λ _. IsTrue (are_constants constants)) (λ e. are_constants constants ≡ false) }
-        ensures set { IfOk result (λ _. (k : Keeping) → IsKeptAt self.old k → IsKeptAt self.new (after_doing (performs (Tunes constants)) k)) }
+        ensures constants { MatchResult result (λ _. IsTrue (are_constants constants))
+            (λ e. are_constants constants ≡ false) }
+        ensures set { IfOk result (λ _. (k : Keeping) → IsKeptAt self.old k →
+            IsKeptAt self.new (after_doing (performs (Tunes constants)) k)) }
         ensures err { OnErr result (self.new ≡ self.old) }
     {
         self.member.set_constants(constants)
     }
 
-    /// A datagram came in at a moment of its clock, in microseconds below 2^48. Answers what is to be sent, and what became of
-    /// a drawop. Refused before the present moment, and where it is a drawop of this member's own number that it would never
-    /// come to and does not hold.
+    /// A datagram came in at a moment of its clock, in microseconds below 2^48. Answers what is to
+    /// be sent, and what became of a drawop. Refused before the present moment, and where it is a
+    /// drawop of this member's own number that it would never come to and does not hold.
     pub fn came(&mut self, alloc: Global, now: u64, datagram: &Datagram) -> Result<Done, KeptFault>
         requires { IsMoment now }
-        ensures fault { (k : Keeping) → IsKeptAt self.old k → IsRefusedBy (came_fault now datagram.now k) result }
-        ensures refused { (k : Keeping) → IsKeptAt self.old k → IsTrue (is_some (came_fault now datagram.now k)) → self.new ≡ self.old }
-        ensures sent { IfOk result (λ done. (k : Keeping) → IsKeptAt self.old k → (done.sent.items ≡ sent_by_doing (came now datagram.now) k) × IsKeptAt self.new (after_doing (came now datagram.now) k)) }
-        ensures became { IfOk result (λ done. (k : Keeping) → IsKeptAt self.old k → outcome_in done.became ≡ came_as datagram.now k.host) }
+        ensures fault { (k : Keeping) → IsKeptAt self.old k →
+            IsRefusedBy (came_fault now datagram.now k) result }
+        ensures refused { (k : Keeping) → IsKeptAt self.old k →
+            IsTrue (is_some (came_fault now datagram.now k)) → self.new ≡ self.old }
+        ensures sent { IfOk result (λ done. (k : Keeping) → IsKeptAt self.old k →
+            (done.sent.items ≡ sent_by_doing (came now datagram.now) k) ×
+            IsKeptAt self.new (after_doing (came now datagram.now) k)) }
+        ensures became { IfOk result (λ done. (k : Keeping) → IsKeptAt self.old k →
+            outcome_in done.became ≡ came_as datagram.now k.host) }
     {
         if !self.is_time(now) {
             return Err(KeptFault::Host(KeepFault::BackInTime));
@@ -104,12 +115,17 @@ impl KeptMember {
         Ok(Done { sent, became })
     }
 
-    /// Time goes on to a moment, in microseconds below 2^48. Answers what is to be sent. Refused before the present moment.
+    /// Time goes on to a moment, in microseconds below 2^48. Answers what is to be sent. Refused
+    /// before the present moment.
     pub fn tick(&mut self, alloc: Global, now: u64) -> Result<Vec<Datagram>, KeptFault>
         requires { IsMoment now }
-        ensures fault { (k : Keeping) → IsKeptAt self.old k → IsRefusedBy (tick_fault now k) result }
-        ensures refused { (k : Keeping) → IsKeptAt self.old k → IsTrue (is_some (tick_fault now k)) → self.new ≡ self.old }
-        ensures sent { IfOk result (λ sent. (k : Keeping) → IsKeptAt self.old k → (sent.items ≡ sent_by_doing (ticks now) k) × IsKeptAt self.new (after_doing (ticks now) k)) }
+        ensures fault { (k : Keeping) → IsKeptAt self.old k →
+            IsRefusedBy (tick_fault now k) result }
+        ensures refused { (k : Keeping) → IsKeptAt self.old k →
+            IsTrue (is_some (tick_fault now k)) → self.new ≡ self.old }
+        ensures sent { IfOk result (λ sent. (k : Keeping) → IsKeptAt self.old k →
+            (sent.items ≡ sent_by_doing (ticks now) k) ×
+            IsKeptAt self.new (after_doing (ticks now) k)) }
     {
         if !self.is_time(now) {
             return Err(KeptFault::Host(KeepFault::BackInTime));
@@ -119,9 +135,10 @@ impl KeptMember {
         Ok(sent)
     }
 
-    /// Its user draws on a page, at a time of the user's clock. Answers what is to be sent, and what became of the drawing: it is
-    /// among what is sent, unless the board is full. Refused before the present moment, while it listens, where no number is left
-    /// on the page, and where the operation is none of a drawop under the next number.
+    /// Its user draws on a page, at a time of the user's clock. Answers what is to be sent, and
+    /// what became of the drawing: it is among what is sent, unless the board is full. Refused
+    /// before the present moment, while it listens, where no number is left on the page, and where
+    /// the operation is none of a drawop under the next number.
     pub fn add(
         &mut self,
         alloc: Global,
@@ -131,10 +148,15 @@ impl KeptMember {
         shape: Shape<'_>,
     ) -> Result<Done, KeptFault>
         requires { IsMoment now }
-        ensures fault { (k : Keeping) → IsKeptAt self.old k → IsRefusedBy (add_fault now page time (op_of shape.entry) k) result }
-        ensures refused { (k : Keeping) → IsKeptAt self.old k → IsTrue (is_some (add_fault now page time (op_of shape.entry) k)) → self.new ≡ self.old }
-        ensures sent { IfOk result (λ done. (k : Keeping) → IsKeptAt self.old k → (done.sent.items ≡ sent_by_doing (adds now page time (op_of shape.entry)) k) × IsKeptAt self.new (after_doing (adds now page time (op_of shape.entry)) k)) }
-        ensures became { IfOk result (λ done. (k : Keeping) → IsKeptAt self.old k → outcome_in done.became ≡ drawn_as page time (op_of shape.entry) k.host) }
+        ensures fault { (k : Keeping) → IsKeptAt self.old k →
+            IsRefusedBy (add_fault now page time (op_of shape.entry) k) result }
+        ensures refused { (k : Keeping) → IsKeptAt self.old k →
+            IsTrue (is_some (add_fault now page time (op_of shape.entry) k)) → self.new ≡ self.old }
+        ensures sent { IfOk result (λ done. (k : Keeping) → IsKeptAt self.old k →
+            (done.sent.items ≡ sent_by_doing (adds now page time (op_of shape.entry)) k) ×
+            IsKeptAt self.new (after_doing (adds now page time (op_of shape.entry)) k)) }
+        ensures became { IfOk result (λ done. (k : Keeping) → IsKeptAt self.old k →
+            outcome_in done.became ≡ drawn_as page time (op_of shape.entry) k.host) }
     {
         if !self.is_time(now) {
             return Err(KeptFault::Host(KeepFault::BackInTime));
@@ -166,7 +188,8 @@ impl KeptMember {
 
     /// Whether it is a drawop of this member of a number from 2^31 on that is not held.
     fn is_unknown_of_ours(&self, datagram: &Datagram) -> bool
-        ensures { (k : Keeping) → IsKeptAt self.now k → result ≡ is_unknown_of_ours datagram.now k.host }
+        ensures { (k : Keeping) → IsKeptAt self.now k →
+            result ≡ is_unknown_of_ours datagram.now k.host }
     {
         match datagram {
             Datagram::Draw(drawop) => self.is_unknown(drawop.name()),
@@ -183,7 +206,9 @@ impl KeptMember {
 
     /// Its next drawing on a page.
     fn drawing(&self, page: PageId, time: u64, shape: Shape<'_>) -> Result<Drawop, KeptFault>
-        ensures { (k : Keeping) → IsKeptAt self.now k → result ≡ value_unless (drawing_fault page time (op_of shape.entry) k) (drawing (view_of k.host) page time (op_of shape.entry)) }
+        ensures { (k : Keeping) → IsKeptAt self.now k →
+            result ≡ value_unless (drawing_fault page time (op_of shape.entry) k)
+            (drawing (view_of k.host) page time (op_of shape.entry)) }
     {
         let Some(number) = self.member.next_number(page) else {
             return Err(KeptFault::Numbers);

@@ -1,79 +1,84 @@
-//! What follows of a policy, proved for all runs of it. The functions do nothing: each stands here for its clause.
+//! What follows of a policy, proved for all runs of it. The functions do nothing: each stands here
+//! for its clause.
 
 ghost use Rattle.wb_keeping.specs.Bounds.{FewNamesAreAsked, FewRequestsAtOnce, FewTimersStand, LittleIsSaid};
 ghost use Rattle.wb_keeping.specs.Fairness.{EachHoleHasItsTurn, EachMarkIsTold, EachNumberHasItsTurn, OnlyHeldIsAnswered, ReportsTell, TurnsAreTaken, WantedIsAsked};
 ghost use Rattle.wb_keeping.specs.Laws.{ANumberIsLeft, DrawingIsNotLocked, FewAreAsked, KeptHostsAreHosts, NothingIsDue, ReportsAreSmall, SlicesAreShort, TimeComesFirst, WantedIsPaid};
 
-/// Whatever comes in, from one moment to another at most 64 names are asked for, one more for each quarter of a second, and
-/// one more for each that was asked for and came. A name that is wanted is asked for only where there is credit, and costs.
+/// Whatever comes in, from one moment to another at most 64 names are asked for, one more for each
+/// quarter of a second, and one more for each that was asked for and came. A name that is wanted is
+/// asked for only where there is credit, and costs.
 pub fn few_are_asked()
     ensures few { FewAreAsked }
     ensures paid { WantedIsPaid }
 {}
 
-/// A host that keeps itself takes what comes in as today's driver does, who ticks first. Where nothing of its own is due, time
-/// goes on as it does today.
+/// A host that keeps itself takes what comes in as today's driver does, who ticks first. Where
+/// nothing of its own is due, time goes on as it does today.
 pub fn time_goes_on()
     ensures first { TimeComesFirst }
     ensures alone { NothingIsDue }
 {}
 
-/// A report or a page state has at most 64 marks, whatever is held. A report has at most 32 echoes beside, whoever was heard, and
-/// so at most 1,184 bytes.
+/// A report or a page state has at most 64 marks, whatever is held. A report has at most 32 echoes
+/// beside, whoever was heard, and so at most 1,184 bytes.
 pub fn slices_are_short()
     ensures marks { SlicesAreShort }
     ensures bytes { ReportsAreSmall }
 {}
 
-/// A host that keeps itself is a host whose driver hands in lines of today: for each list of what comes, ticks and is drawn, there is
-/// one list of these, after which such a host is the same member, and has sent the same datagrams in the same order.
+/// A host that keeps itself is a host whose driver hands in lines of today: for each list of what
+/// comes, ticks and is drawn, there is one list of these, after which such a host is the same
+/// member, and has sent the same datagrams in the same order.
 pub fn kept_hosts_are_hosts()
     ensures { KeptHostsAreHosts }
 {}
 
-/// Drawing is never locked, whatever comes in: a number is left on each page, so that a drawing is refused for its moment, while the
-/// member listens, and for its operation, and for nothing else.
+/// Drawing is never locked, whatever comes in: a number is left on each page, so that a drawing is
+/// refused for its moment, while the member listens, and for its operation, and for nothing else.
 pub fn drawing_is_never_locked()
     ensures numbers { ANumberIsLeft }
     ensures taken { DrawingIsNotLocked }
 {}
 
-/// At most 64 request timers stand at a host that keeps itself from its opening on, whatever comes in, and however many of the lines
-/// of its policy were performed. So no line sends more than 64 requests.
+/// At most 64 request timers stand at a host that keeps itself from its opening on, whatever comes
+/// in, and however many of the lines of its policy were performed. So no line sends more than 64
+/// requests.
 pub fn few_timers_stand()
     ensures timers { FewTimersStand }
     ensures requests { FewRequestsAtOnce }
 {}
 
-/// Whatever comes in, a host that keeps itself asks from one moment to another for at most 64 names, for one more in each quarter of
-/// a second, and for one more for each that it asked for and that came.
+/// Whatever comes in, a host that keeps itself asks from one moment to another for at most 64
+/// names, for one more in each quarter of a second, and for one more for each that it asked for and
+/// that came.
 pub fn few_names_are_asked()
     ensures { FewNamesAreAsked }
 {}
 
-/// Whatever comes in, its reports are a second apart or more; page states come at most 64 at once, and then a second apart or more;
-/// questions for pages are half a second apart or more.
+/// Whatever comes in, its reports are a second apart or more; page states come at most 64 at once,
+/// and then a second apart or more; questions for pages are half a second apart or more.
 pub fn little_is_said()
     ensures { LittleIsSaid }
 {}
 
-/// While what is held stays as it is, each of R holes has its turn among each R turns, and each of the n numbers of a hole among
-/// each 2 R n turns.
+/// While what is held stays as it is, each of R holes has its turn among each R turns, and each of
+/// the n numbers of a hole among each 2 R n turns.
 pub fn turns_are_fair()
     ensures taken { TurnsAreTaken }
     ensures holes { EachHoleHasItsTurn }
     ensures numbers { EachNumberHasItsTurn }
 {}
 
-/// While what is held stays as it is, each mark of a board of S slices is told among each S reports, and as many more as the page
-/// that was told last has slices.
+/// While what is held stays as it is, each mark of a board of S slices is told among each S
+/// reports, and as many more as the page that was told last has slices.
 pub fn each_mark_is_told()
     ensures told { ReportsTell }
     ensures marks { EachMarkIsTold }
 {}
 
-/// A name that is wanted has a request timer then, unless it is held, the board is full, or there is no credit. It is so of each host that
-/// answers for what it holds alone, as every host does.
+/// A name that is wanted has a request timer then, unless it is held, the board is full, or there
+/// is no credit. It is so of each host that answers for what it holds alone, as every host does.
 pub fn wanted_names_are_asked_for()
     ensures answers { OnlyHeldIsAnswered }
     ensures asked { WantedIsAsked }

@@ -1,15 +1,17 @@
-//! The judgement of a host that keeps itself whole: when it reports, how much of a page at a time, what it asks for
-//! and how fast, which distance it takes for one that it does not know, and which time a drawing gets.
+//! The judgement of a host that keeps itself whole: when it reports, how much of a page at a time,
+//! what it asks for and how fast, which distance it takes for one that it does not know, and which
+//! time a drawing gets.
 //!
-//! It follows Floyd, Jacobson, Liu, McCanne and Zhang, "A Reliable Multicast Framework for Light-weight Sessions and
-//! Application Level Framing", 1997, where that leaves the choice to the application. Its state is a fixed number of
-//! integers, whatever comes in. It has no clock, no board and no timers: moments, which are in microseconds, and what a
-//! member holds are handed in.
+//! It follows Floyd, Jacobson, Liu, McCanne and Zhang, "A Reliable Multicast Framework for
+//! Light-weight Sessions and Application Level Framing", 1997, where that leaves the choice to the
+//! application. Its state is a fixed number of integers, whatever comes in. It has no clock, no
+//! board and no timers: moments, which are in microseconds, and what a member holds are handed in.
 //!
-//! In reading order: `words` are its random words; `credit` says how much may be asked for, `wanting` which
-//! names, and `turns` which hole comes next; `questions` asks for pages and answers who asks; `reports` says when a report
-//! is due, and which marks it has; `distances` bounds what echoes tell; `drawings` has the time of a drawing; `policy` joins what is remembered. `laws` says what
-//! follows, and `specs/Kept.antt` what a host does that takes these decisions.
+//! In reading order: `words` are its random words; `credit` says how much may be asked for,
+//! `wanting` which names, and `turns` which hole comes next; `questions` asks for pages and answers
+//! who asks; `reports` says when a report is due, and which marks it has; `distances` bounds what
+//! echoes tell; `drawings` has the time of a drawing; `policy` joins what is remembered. `laws`
+//! says what follows, and `specs/Kept.antt` what a host does that takes these decisions.
 #![tactic(auto)]
 
 mod choices;

@@ -1,4 +1,5 @@
-//! The policy of a host that keeps itself: all that it remembers, and what each thing that happens makes of it.
+//! The policy of a host that keeps itself: all that it remembers, and what each thing that happens
+//! makes of it.
 
 ghost use Rattle.std.specs.Prelude.{◌≡◌, ◌≤◌, ◌<◌, ◌^◌, ◌+◌, IfSome, if◌then◌else◌, nat_le, nat_lt};
 ghost use Rattle.wb_names.specs.Moments.{IsMoment};
@@ -19,8 +20,8 @@ use std::marker::Model;
 use wb_gaps::Hole;
 use wb_names::{Name, PageId};
 
-/// What a host that keeps itself remembers: a fixed number of integers, whatever comes in. Moments are in microseconds,
-/// below 2^48.
+/// What a host that keeps itself remembers: a fixed number of integers, whatever comes in. Moments
+/// are in microseconds, below 2^48.
 #[derive(Drop)]
 pub struct Policy {
     /// Nothing is added before this moment.
@@ -43,15 +44,25 @@ impl Model for Policy {
 
     ghost Value = { PolicyValue };
 
-    ghost view = { λ p. record { ready = p.ready; reports = p.reports; questions = p.questions; turns = p.turns; told_page = p.told_page; told = p.told; owed = p.credit.owed; usual = p.distances; words = p.words } };
+    ghost view = { λ p. record {
+      ready = p.ready;
+      reports = p.reports;
+      questions = p.questions;
+      turns = p.turns;
+      told_page = p.told_page;
+      told = p.told;
+      owed = p.credit.owed;
+      usual = p.distances;
+      words = p.words;
+    } };
 
     ghost invariant = { λ p. (1 ≤ p.reports.rate) × (p.questions.wait ≤ 64000000) };
 }
 
 impl Policy {
-    /// Begins at a moment. The reports of all members together take so many bytes a second, from 1 on. For so many
-    /// microseconds, below 2^32, nothing is added. The first word of the seed says when it reports, the second when it
-    /// asks for pages.
+    /// Begins at a moment. The reports of all members together take so many bytes a second, from 1
+    /// on. For so many microseconds, below 2^32, nothing is added. The first word of the seed says
+    /// when it reports, the second when it asks for pages.
     pub fn new(now: u64, rate: u64, listen: u64, seed: u64) -> Policy
         requires moment { IsMoment now }
         requires rate { 1 ≤ rate }
@@ -95,7 +106,8 @@ impl Policy {
     /// A name may be wanted: whether it is to be asked for, which costs credit.
     pub fn want(&mut self, candidate: &Candidate, may_start_anew: bool, now: u64) -> bool
         requires { IsMoment now }
-        ensures wanted { result ≡ is_wanted candidate.now.is_held candidate.now.is_full may_start_anew candidate.now.level self.old.owed now }
+        ensures wanted { result ≡ is_wanted candidate.now.is_held candidate.now.is_full
+            may_start_anew candidate.now.level self.old.owed now }
         ensures spent { self.new ≡ (if result then after_wanting now self.old else self.old) }
     {
         if !candidate.is_wanted(&self.credit, may_start_anew, now) {
@@ -161,7 +173,8 @@ impl Policy {
     /// Another member asks for pages, where this one holds something or not.
     pub fn take_question(&mut self, now: u64, holds: bool)
         requires { IsMoment now }
-        ensures { self.new ≡ (if is_to_answer now holds self.old.questions then after_taking_up now self.old else self.old) }
+        ensures { self.new ≡ (if is_to_answer now holds self.old.questions then
+            after_taking_up now self.old else self.old) }
     {
         if self.questions.takes_up(now, holds) {
             let drawn = self.words.up_to(Questions::ANSWER);
@@ -204,8 +217,8 @@ impl Policy {
         (self.told_page, self.told)
     }
 
-    /// It reported a page up to a source, where it has one: so many bytes, among so many members. So reports are at least a
-    /// second apart, and at most 96.
+    /// It reported a page up to a source, where it has one: so many bytes, among so many members.
+    /// So reports are at least a second apart, and at most 96.
     pub fn reported(&mut self, now: u64, page: PageId, last: Option<u32>, members: u64, bytes: u64)
         requires moment { IsMoment now }
         requires members { members ≤ Reports.MEMBERS }

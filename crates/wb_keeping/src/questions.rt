@@ -62,7 +62,8 @@ impl Questions {
         self.wait = (2 * self.wait).min(Questions::MOST_WAIT);
     }
 
-    /// Another member asks: whether this one begins to wait for its answer, where it holds something or not.
+    /// Another member asks: whether this one begins to wait for its answer, where it holds
+    /// something or not.
     pub fn takes_up(&self, now: u64, holds: bool) -> bool
         ensures { result ≡ is_to_answer now holds self.now }
     {

@@ -36,8 +36,8 @@ impl Reports {
     /// The longest.
     const LONGEST: u64 = 64_000_000;
 
-    /// The mean time between two reports, by which those of so many members, each of so many bytes, take the rate: from
-    /// 2,000,000 to 64,000,000.
+    /// The mean time between two reports, by which those of so many members, each of so many bytes,
+    /// take the rate: from 2,000,000 to 64,000,000.
     pub fn mean_time(&self, members: u64, bytes: u64) -> u64
         requires rate { 1 ≤ self.now.rate }
         requires members { members ≤ Reports.MEMBERS }
@@ -50,8 +50,8 @@ impl Reports {
         all.max(Reports::SHORTEST).min(Reports::LONGEST)
     }
 
-    /// It reported: the next report is due after half of the mean time, and so much more as was drawn from 0 to it. So
-    /// reports are at least a second apart, and at most 96.
+    /// It reported: the next report is due after half of the mean time, and so much more as was
+    /// drawn from 0 to it. So reports are at least a second apart, and at most 96.
     pub fn reported(&mut self, now: u64, mean: u64, drawn: u64)
         requires moment { IsMoment now }
         requires shortest { 2000000 ≤ mean }
@@ -72,8 +72,8 @@ impl Reports {
     }
 }
 
-/// How many members there are: this one, and those of whom a session message was heard within 192 seconds, which is
-/// three of the longest mean times.
+/// How many members there are: this one, and those of whom a session message was heard within 192
+/// seconds, which is three of the longest mean times.
 pub fn members(echoes: &[Echo]) -> u64
     requires { length echoes.now ≤ MAX_ENTRIES }
     ensures members { result ≡ members_in echoes.now }

@@ -21,10 +21,11 @@ impl Candidate {
     /// The level from which a timer starts anew: it has then waited 63 to 126 times its distance.
     const OLD: u32 = 6;
 
-    /// Whether it is asked for at this moment, at this credit: a timer that stands goes on, unless it is old and may
-    /// start anew.
+    /// Whether it is asked for at this moment, at this credit: a timer that stands goes on, unless
+    /// it is old and may start anew.
     pub fn is_wanted(&self, credit: &Credit, may_start_anew: bool, now: u64) -> bool
-        ensures { result ≡ is_wanted self.now.is_held self.now.is_full may_start_anew self.now.level credit.now.owed now }
+        ensures { result ≡ is_wanted self.now.is_held self.now.is_full may_start_anew self.now.level
+            credit.now.owed now }
     {
         !self.is_held && !self.is_full && !self.goes_on(may_start_anew) && credit.is_left(now)
     }
@@ -49,8 +50,8 @@ pub struct AskedName {
     pub level: u32,
 }
 
-/// The one whose timer was backed off most, and the first of these: it makes room where another is to be asked for.
-/// None where there is none.
+/// The one whose timer was backed off most, and the first of these: it makes room where another is
+/// to be asked for. None where there is none.
 pub fn oldest(asked: &[AskedName]) -> Option<AskedName>
     ensures { result ≡ oldest asked.now }
 {

@@ -1,32 +1,35 @@
-//! Laws of progress of hosts that keep themselves. Each function does nothing: its contract is a law, for proofs to cite.
+//! Laws of progress of hosts that keep themselves. Each function does nothing: its contract is a
+//! law, for proofs to cite.
 
 ghost use Rattle.wb_kept_progress.specs.Repairs.{AskedCanCome, LostCanCome, MarksComeToBeTold, MissingCanCome, MissingIsAsked, MissingIsAskedSoon};
 ghost use Rattle.wb_kept_progress.specs.Timed.{KeptIsPerformed, KeptKeepsMoments, KeptRequestIsAnswered, KeptTimerLeads, RequestIsAnswered, TimerLeads};
 
-/// Whatever came in before, a drawop that one host asks for, and that another holds, comes by six more lines of the
-/// two. None of them is refused, and none hands in what was not sent.
+/// Whatever came in before, a drawop that one host asks for, and that another holds, comes by six
+/// more lines of the two. None of them is refused, and none hands in what was not sent.
 pub fn what_is_asked_for_can_come()
     ensures { AskedCanCome }
 {}
 
-/// A number that is missing below the greatest that a host holds of its source comes to be asked for, by ticks alone, where the
-/// board has a free cell. So a drawop of such a number can come from one that holds it.
+/// A number that is missing below the greatest that a host holds of its source comes to be asked
+/// for, by ticks alone, where the board has a free cell. So a drawop of such a number can come from
+/// one that holds it.
 pub fn what_is_missing_can_come()
     ensures asked { MissingIsAsked }
     ensures soon { MissingIsAskedSoon }
     ensures comes { MissingCanCome }
 {}
 
-/// No loss is for ever. Each mark of a board comes to be told, by ticks of its host alone. So, whatever came in before, a
-/// drawop that one host lacks and another holds can come, by lines of the two of which none is refused, and none hands in
-/// what was not sent.
+/// No loss is for ever. Each mark of a board comes to be told, by ticks of its host alone. So,
+/// whatever came in before, a drawop that one host lacks and another holds can come, by lines of
+/// the two of which none is refused, and none hands in what was not sent.
 pub fn what_is_lost_can_come()
     ensures told { MarksComeToBeTold }
     ensures comes { LostCanCome }
 {}
 
-/// Where hosts, drivers and the network keep to stated times: a request for what a live host held is answered to all of them, and
-/// a request timer leads to one, whatever else hosts ask for, give up and report. So it is with hosts that keep themselves.
+/// Where hosts, drivers and the network keep to stated times: a request for what a live host held
+/// is answered to all of them, and a request timer leads to one, whatever else hosts ask for, give
+/// up and report. So it is with hosts that keep themselves.
 pub fn what_is_asked_for_comes_in_time()
     ensures answered { RequestIsAnswered }
     ensures leads { TimerLeads }
@@ -34,8 +37,9 @@ pub fn what_is_asked_for_comes_in_time()
     ensures kept_leads { KeptTimerLeads }
 {}
 
-/// A host that keeps itself from its opening on is the host that performed the lines of its policy, each call at a time. Where each
-/// call tells the moment of its time, a tick to that moment stands before all else that is performed in it.
+/// A host that keeps itself from its opening on is the host that performed the lines of its policy,
+/// each call at a time. Where each call tells the moment of its time, a tick to that moment stands
+/// before all else that is performed in it.
 pub fn kept_hosts_perform_lines()
     ensures same { KeptIsPerformed }
     ensures moments { KeptKeepsMoments }

@@ -15,8 +15,8 @@ use std::snapshot::Snapshot;
 use wb_host::{Board, Desk, Keeper};
 use wb_names::{Drawop, Name};
 
-/// A member whose board is handed out, for a batch to be taken there. It is a member again once its keeper
-/// is told of the batch, and no sooner.
+/// A member whose board is handed out, for a batch to be taken there. It is a member again once its
+/// keeper is told of the batch, and no sooner.
 #[derive(Drop)]
 pub struct AwaitsBatch {
     /// For contracts alone: the board as it was.
@@ -57,8 +57,8 @@ impl Member {
 }
 
 impl AwaitsBatch {
-    /// Takes the board back, which took this batch in some order, and tells the keeper what arrived, in the
-    /// order of the batch. Without memory the member is gone.
+    /// Takes the board back, which took this batch in some order, and tells the keeper what
+    /// arrived, in the order of the batch. Without memory the member is gone.
     pub fn take_back(
         self,
         alloc: Global,
@@ -67,8 +67,11 @@ impl AwaitsBatch {
         batch: &[Drawop],
     ) -> Result<Member, AllocError>
         requires owns { OwnsAll board desk }
-        requires taken { (order : List DrawopValue) × IsPermutation batch.now order × (held_of desk ≡ board_after self.board order) }
-        ensures { IfOk result (λ member. (host : Opened) (order : List DrawopValue) → IsOpenAt self host → held_of desk ≡ board_after self.board order → IsOpenAt member (batched batch.now order host)) }
+        requires taken { (order : List DrawopValue) × IsPermutation batch.now order ×
+            (held_of desk ≡ board_after self.board order) }
+        ensures { IfOk result (λ member. (host : Opened) (order : List DrawopValue) →
+            IsOpenAt self host → held_of desk ≡ board_after self.board order →
+            IsOpenAt member (batched batch.now order host)) }
     {
         let AwaitsBatch {
             before: _before,

@@ -1,12 +1,14 @@
-//! One member of a session of the whiteboard: a machine that is handed what happens, and asked what follows.
+//! One member of a session of the whiteboard: a machine that is handed what happens, and asked what
+//! follows.
 //!
-//! It has a board, what its keeper holds of the session, and its random words. Datagrams and moments are
-//! handed in; datagrams, pages and the next moment come out. It reads no line, starts no thread and has no
-//! clock. A call that is refused, also for want of memory, changes nothing.
+//! It has a board, what its keeper holds of the session, and its random words. Datagrams and
+//! moments are handed in; datagrams, pages and the next moment come out. It reads no line, starts
+//! no thread and has no clock. A call that is refused, also for want of memory, changes nothing.
 //!
-//! In reading order: `member` opens a member and hands it what comes in, time and questions; `batches` has
-//! others take a batch at its board; `own_board` is the board with its only desk, and `random` has the words.
-//! `specs/Members.antt` says what a member is, and `specs/Opened.antt` what each call does.
+//! In reading order: `member` opens a member and hands it what comes in, time and questions;
+//! `batches` has others take a batch at its board; `own_board` is the board with its only desk, and
+//! `random` has the words. `specs/Members.antt` says what a member is, and `specs/Opened.antt` what
+//! each call does.
 #![tactic(auto)]
 
 mod batches;

@@ -22,8 +22,8 @@ use wb_recovery::{Tuning, TuningFault};
 
 /// A board, what its member keeps of the session, and the random words that were not taken yet.
 ///
-/// What the keeper holds stands for the calls that it accepted. So the contracts speak of each member at
-/// which the code may be, and say at which it is afterwards.
+/// What the keeper holds stands for the calls that it accepted. So the contracts speak of each
+/// member at which the code may be, and say at which it is afterwards.
 #[derive(Drop)]
 pub struct Member {
     pub(crate) board: OwnBoard,
@@ -86,10 +86,12 @@ impl Member {
         self.board.drawops().len() as u32
     }
 
-    /// A drawop arrives, as a batch of its own, and the keeper is told of it. Answers what became of it:
-    /// None where it is new and the board is full.
+    /// A drawop arrives, as a batch of its own, and the keeper is told of it. Answers what became
+    /// of it: None where it is new and the board is full.
     pub fn accept(&mut self, drawop: &Drawop) -> Result<Option<Reply>, AllocError>
-        ensures accepted { IfOk result (λ reply. (host : Opened) → IsOpenAt self.old host → (outcome_in reply ≡ becomes drawop.now host) × IsOpenAt self.new (accepted drawop.now host)) }
+        ensures accepted { IfOk result (λ reply. (host : Opened) → IsOpenAt self.old host →
+            (outcome_in reply ≡ becomes drawop.now host) ×
+            IsOpenAt self.new (accepted drawop.now host)) }
         ensures err { OnErr result (self.new ≡ self.old) }
     {
         let reply = self.board.accept(drawop)?;
@@ -97,11 +99,14 @@ impl Member {
         Ok(reply)
     }
 
-    /// A datagram other than a drawop is heard at the present moment. Answers what is sent at once. Refused
-    /// with `TooMany`, where a page would have marks of over 65,535 sources, or `Memory`.
+    /// A datagram other than a drawop is heard at the present moment. Answers what is sent at once.
+    /// Refused with `TooMany`, where a page would have marks of over 65,535 sources, or `Memory`.
     pub fn hear(&mut self, alloc: Global, datagram: &Datagram) -> Result<Vec<Datagram>, KeepFault>
-        ensures fault { (host : Opened) → IsOpenAt self.old host → IsKeptBy (heard_fault datagram.now host) result }
-        ensures sent { IfOk result (λ sent. (host : Opened) → IsOpenAt self.old host → (sent.items ≡ answered datagram.now host) × IsOpenAt self.new (heard datagram.now host)) }
+        ensures fault { (host : Opened) → IsOpenAt self.old host →
+            IsKeptBy (heard_fault datagram.now host) result }
+        ensures sent { IfOk result (λ sent. (host : Opened) → IsOpenAt self.old host →
+            (sent.items ≡ answered datagram.now host) ×
+            IsOpenAt self.new (heard datagram.now host)) }
         ensures err { OnErr result (self.new ≡ self.old) }
     {
         if takes_word(datagram) {
@@ -113,40 +118,45 @@ impl Member {
         self.board.hear(alloc, &mut self.keeper, datagram, 0)
     }
 
-    /// Sets the delay to a source, in microseconds. Refused with `Range`, from 2^24 microseconds on, or
-    /// `Memory`.
+    /// Sets the delay to a source, in microseconds. Refused with `Range`, from 2^24 microseconds
+    /// on, or `Memory`.
     pub fn set_delay(&mut self, source: u32, micros: u64) -> Result<(), KeepFault>
         ensures fault { IsKeptBy (delay_fault micros) result }
-        ensures set { IfOk result (λ _. (host : Opened) → IsOpenAt self.old host → IsOpenAt self.new (with_delay source micros host)) }
+        ensures set { IfOk result (λ _. (host : Opened) → IsOpenAt self.old host →
+            IsOpenAt self.new (with_delay source micros host)) }
         ensures err { OnErr result (self.new ≡ self.old) }
     {
         self.keeper.set_delay(source, micros)
     }
 
-    /// Gives its timers other constants, each 1 to 16: what is set or backed off from now on is by them. A timer that
-    /// stands keeps its moment. Refused with `Constant`.
+    /// Gives its timers other constants, each 1 to 16: what is set or backed off from now on is by
+    /// them. A timer that stands keeps its moment. Refused with `Constant`.
     pub fn set_constants(&mut self, constants: Tuning) -> Result<(), TuningFault>
-        ensures constants { MatchResult result (λ _. IsTrue (are_constants constants)) (λ e. are_constants constants ≡ false) }
-        ensures set { IfOk result (λ _. (host : Opened) → IsOpenAt self.old host → IsOpenAt self.new (with_constants constants host)) }
+        ensures constants { MatchResult result (λ _. IsTrue (are_constants constants))
+            (λ e. are_constants constants ≡ false) }
+        ensures set { IfOk result (λ _. (host : Opened) → IsOpenAt self.old host →
+            IsOpenAt self.new (with_constants constants host)) }
         ensures err { OnErr result (self.new ≡ self.old) }
     {
         self.keeper.set_constants(constants)
     }
 
-    /// The least moment at which a timer is due, and so when the next tick has something to do. None
-    /// where no timer stands.
+    /// The least moment at which a timer is due, and so when the next tick has something to do.
+    /// None where no timer stands.
     pub fn next_due(&self) -> Option<u64>
         ensures { (host : Opened) → IsOpenAt self.now host → result ≡ next_due host }
     {
         self.keeper.next_due()
     }
 
-    /// Time goes on to a moment in microseconds. Answers what is sent: the requests and repairs that are due.
-    /// Refused with `BackInTime`, before the present moment, or `Memory`.
+    /// Time goes on to a moment in microseconds. Answers what is sent: the requests and repairs
+    /// that are due. Refused with `BackInTime`, before the present moment, or `Memory`.
     pub fn tick(&mut self, alloc: Global, now: u64) -> Result<Vec<Datagram>, KeepFault>
         requires { IsMoment now }
-        ensures fault { (host : Opened) → IsOpenAt self.old host → IsKeptBy (ticked_fault now host) result }
-        ensures sent { IfOk result (λ sent. (host : Opened) → IsOpenAt self.old host → (sent.items ≡ sent_by now host) × IsOpenAt self.new (ticked now host)) }
+        ensures fault { (host : Opened) → IsOpenAt self.old host →
+            IsKeptBy (ticked_fault now host) result }
+        ensures sent { IfOk result (λ sent. (host : Opened) → IsOpenAt self.old host →
+            (sent.items ≡ sent_by now host) × IsOpenAt self.new (ticked now host)) }
         ensures err { OnErr result (self.new ≡ self.old) }
     {
         if now < self.keeper.moment() {
@@ -159,11 +169,12 @@ impl Member {
         Ok(sent)
     }
 
-    /// The number of its next drawop on a page: one above the greatest of its own that is held or was
-    /// heard of. None where that is 4,294,967,295, the last number.
+    /// The number of its next drawop on a page: one above the greatest of its own that is held or
+    /// was heard of. None where that is 4,294,967,295, the last number.
     pub fn next_number(&self, page: PageId) -> Option<u32>
         ensures number { (host : Opened) → IsOpenAt self.now host → result ≡ next_number page host }
-        ensures unreached { IfSome result (λ number. (host : Opened) → IsOpenAt self.now host → IsUnreached page host number) }
+        ensures unreached { IfSome result (λ number. (host : Opened) → IsOpenAt self.now host →
+            IsUnreached page host number) }
     {
         let last = self
             .board

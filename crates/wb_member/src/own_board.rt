@@ -57,8 +57,8 @@ impl OwnBoard {
         self.desk.list()
     }
 
-    /// The canvas of a page, so many cells wide and high. It is painted where the desk lends what the
-    /// page shows.
+    /// The canvas of a page, so many cells wide and high. It is painted where the desk lends what
+    /// the page shows.
     pub fn paint(
         &mut self,
         alloc: Global,
@@ -68,7 +68,8 @@ impl OwnBoard {
     ) -> Result<Canvas, AllocError>
         requires { is_canvas_size width height ≡ true }
         ensures same { self.new ≡ self.old }
-        ensures canvas { IfOk result (λ canvas. canvas ≡ canvas_text (view_of self.old.drawops page) width height) }
+        ensures canvas { IfOk result
+            (λ canvas. canvas ≡ canvas_text (view_of self.old.drawops page) width height) }
     {
         match self.desk.shown(alloc, &self.board, page) {
             Ok(shown) => painted(alloc, shown, width, height),
@@ -91,10 +92,11 @@ impl OwnBoard {
         self.desk.find(name).is_some()
     }
 
-    /// Accepts one drawop, and answers what became of it: None where the board is full. Without memory it
-    /// holds what it held.
+    /// Accepts one drawop, and answers what became of it: None where the board is full. Without
+    /// memory it holds what it held.
     pub fn accept(&mut self, drawop: &Drawop) -> Result<Option<Reply>, AllocError>
-        ensures became { IfOk result (λ reply. outcome_in reply ≡ outcome_of self.old.cells self.old.drawops drawop.now) }
+        ensures became { IfOk result
+            (λ reply. outcome_in reply ≡ outcome_of self.old.cells self.old.drawops drawop.now) }
         ensures held { OnOk result (self.new ≡ board_after self.old (drawop.now ∷ [])) }
         ensures err { OnErr result (self.new ≡ self.old) }
     {
@@ -105,7 +107,8 @@ impl OwnBoard {
         }
     }
 
-    /// The missing ranges of a page, up to the greatest numbers that are held or that a keeper heard.
+    /// The missing ranges of a page, up to the greatest numbers that are held or that a keeper
+    /// heard.
     pub fn gaps(
         &mut self,
         alloc: Global,
@@ -113,7 +116,8 @@ impl OwnBoard {
         page: PageId,
     ) -> Result<Vec<Gap>, AllocError>
         ensures same { self.new ≡ self.old }
-        ensures gaps { IfOk result (λ gaps. gaps.items ≡ gaps_of self.old.drawops page (marks_at keeper.now.marks page)) }
+        ensures gaps { IfOk result
+            (λ gaps. gaps.items ≡ gaps_of self.old.drawops page (marks_at keeper.now.marks page)) }
     {
         self.board
             .gaps(alloc, &mut self.desk, page, keeper.marks(page))

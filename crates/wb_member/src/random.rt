@@ -54,7 +54,8 @@ impl RandomWords {
 
     /// The next so many words, and the words behind them.
     pub fn ahead(&self, alloc: Global, count: usize) -> Result<(Vec<u64>, RandomWords), AllocError>
-        ensures { IfOk result (λ r. (r.0.items ≡ words_of self.now count) × (length r.0.items ≡ count) × (r.1 ≡ after_words self.now count)) }
+        ensures { IfOk result (λ r. (r.0.items ≡ words_of self.now count) ×
+            (length r.0.items ≡ count) × (r.1 ≡ after_words self.now count)) }
     {
         let mut rest = self.clone()?;
         let words = rest.take(alloc, count)?;

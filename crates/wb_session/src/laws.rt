@@ -15,8 +15,8 @@ pub fn nothing_is_invented()
     ensures clashes { NeverClashes }
 {}
 
-/// A member whose board holds all of its own drawops of a page finds its last number there on its board,
-/// whatever it heard.
+/// A member whose board holds all of its own drawops of a page finds its last number there on its
+/// board, whatever it heard.
 pub fn next_number_is_known()
     ensures { NextIsKnown }
 {}
@@ -27,26 +27,27 @@ pub fn reports_are_true()
     ensures heard { HeardMarksAreTrue }
 {}
 
-/// What was drawn a member holds, or it is in its gaps, or its number is above every mark that it heard.
+/// What was drawn a member holds, or it is in its gaps, or its number is above every mark that it
+/// heard.
 pub fn lacks_are_known()
     ensures { LacksKnowingly }
 {}
 
-/// A member that heard the session message of a page, and lacks nothing there, holds what its sender
-/// held of the page when it sent it.
+/// A member that heard the session message of a page, and lacks nothing there, holds what its
+/// sender held of the page when it sent it.
 pub fn nothing_is_missed()
     ensures { HoldsWhatWasReported }
 {}
 
-/// Two members that have one report of a page, and lack nothing there, hold the same drawops of it and
-/// show the same, at one point of a session, or one now and one at an earlier point.
+/// Two members that have one report of a page, and lack nothing there, hold the same drawops of it
+/// and show the same, at one point of a session, or one now and one at an earlier point.
 pub fn reports_tell_agreement()
     ensures now { ReportsTellAgreement }
     ensures later { ReportsTellAgreementLater }
 {}
 
-/// Two members that each heard the session message of a page which the other sent since it last took a
-/// drawop of it, and that lack nothing there, hold the same drawops of it and show the same.
+/// Two members that each heard the session message of a page which the other sent since it last
+/// took a drawop of it, and that lack nothing there, hold the same drawops of it and show the same.
 pub fn exchanges_tell_agreement()
     ensures { ExchangesTellAgreement }
 {}
@@ -56,8 +57,8 @@ pub fn quiet_is_agreed()
     ensures { QuietIsAgreed }
 {}
 
-/// By the same acts members hold the same, heard the same marks, and send the same but as time goes on,
-/// whatever the constants of their timers.
+/// By the same acts members hold the same, heard the same marks, and send the same but as time goes
+/// on, whatever the constants of their timers.
 pub fn constants_move_timers()
     ensures { ConstantsMoveTimers }
 {}

@@ -1,8 +1,8 @@
-//! What holds of a session of hosts that drivers talk to, from the bytes of their lines to the characters
-//! that they print.
+//! What holds of a session of hosts that drivers talk to, from the bytes of their lines to the
+//! characters that they print.
 //!
-//! Nothing here runs. `specs/Hosts.antt` says what a session of hosts is and what its drivers keep to,
-//! and `specs/Laws.antt` what then holds. `laws` carries the laws, for other crates to cite.
+//! Nothing here runs. `specs/Hosts.antt` says what a session of hosts is and what its drivers keep
+//! to, and `specs/Laws.antt` what then holds. `laws` carries the laws, for other crates to cite.
 #![tactic(auto)]
 
 pub mod closings;

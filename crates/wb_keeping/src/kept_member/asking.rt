@@ -25,15 +25,16 @@ const TIMERS: usize = 64;
 const FIRST_DISTANCE: u64 = 100_000;
 
 impl KeptMember {
-    /// A name is wanted; its timer may start anew where somebody says that he holds it, or it has its turn. Answers whether it
-    /// is asked for.
+    /// A name is wanted; its timer may start anew where somebody says that he holds it, or it has
+    /// its turn. Answers whether it is asked for.
     pub(super) fn want(
         &mut self,
         alloc: Global,
         name: &Name,
         may_start_anew: bool,
     ) -> Result<bool, AllocError>
-        ensures begun { IfOk result (λ begun. (k : Keeping) → IsKeptAt self.old k → begun ≡ is_begun (want name.now may_start_anew (sees k.host) k.policy)) }
+        ensures begun { IfOk result (λ begun. (k : Keeping) → IsKeptAt self.old k →
+            begun ≡ is_begun (want name.now may_start_anew (sees k.host) k.policy)) }
         ensures does { OnOk result (DoesQuietly (want name.now may_start_anew) self.old self.new) }
     {
         let now = self.member.moment();
@@ -46,10 +47,12 @@ impl KeptMember {
         Ok(true)
     }
 
-    /// It begins to ask for a name, at the usual distance, where there is one to set. Before that there is room for its timer.
+    /// It begins to ask for a name, at the usual distance, where there is one to set. Before that
+    /// there is room for its timer.
     fn begin(&mut self, alloc: Global, name: &Name, usual: Option<u64>) -> Result<(), AllocError>
         requires { IfSome usual IsDelay }
-        ensures { OnOk result (DoesQuietly (and_then (makes_room name.now) (and_then (performs_all (set_lines name.now.source usual)) (performs (Asks name.now)))) self.old self.new) }
+        ensures { OnOk result (DoesQuietly (and_then (makes_room name.now) (and_then (performs_all
+            (set_lines name.now.source usual)) (performs (Asks name.now)))) self.old self.new) }
     {
         self.make_room(alloc, name)?;
         self.set_usual(name, usual)?;
@@ -59,9 +62,12 @@ impl KeptMember {
 
     /// What it shows of a name that it might ask for.
     fn candidate(&self, name: &Name) -> Candidate
-        ensures held { (k : Keeping) → IsKeptAt self.now k → result.is_held ≡ holds (view_of k.host) name.now }
-        ensures full { (k : Keeping) → IsKeptAt self.now k → result.is_full ≡ is_full (view_of k.host) }
-        ensures level { (k : Keeping) → IsKeptAt self.now k → result.level ≡ level (view_of k.host) name.now }
+        ensures held { (k : Keeping) → IsKeptAt self.now k →
+            result.is_held ≡ holds (view_of k.host) name.now }
+        ensures full { (k : Keeping) → IsKeptAt self.now k →
+            result.is_full ≡ is_full (view_of k.host) }
+        ensures level { (k : Keeping) → IsKeptAt self.now k →
+            result.level ≡ level (view_of k.host) name.now }
     {
         Candidate {
             is_held: self.member.holds(name),
@@ -79,14 +85,16 @@ impl KeptMember {
 
     /// Whether a timer stands for a name.
     pub(super) fn is_asked(&self, name: &Name) -> bool
-        ensures { (k : Keeping) → IsKeptAt self.now k → result ≡ is_asked (view_of k.host) name.now }
+        ensures { (k : Keeping) → IsKeptAt self.now k →
+            result ≡ is_asked (view_of k.host) name.now }
     {
         self.level(name).is_some()
     }
 
     /// The usual distance, where the one to the source of a name is still the first.
     fn usual_to(&self, name: &Name) -> Option<u64>
-        ensures lines { (k : Keeping) → IsKeptAt self.now k → set_lines name.now.source result ≡ usual_lines name.now.source ((view_of k.host).distance name.now.source) k.policy.usual }
+        ensures lines { (k : Keeping) → IsKeptAt self.now k → set_lines name.now.source result ≡
+            usual_lines name.now.source ((view_of k.host).distance name.now.source) k.policy.usual }
         ensures near { IfSome result IsDelay }
     {
         if self.member.delay(name.source()) != FIRST_DISTANCE {
@@ -122,7 +130,8 @@ impl KeptMember {
 
     /// The names that it asks for, ascending, and how often the timer of each was backed off.
     fn asked(&self, alloc: Global) -> Result<Vec<AskedName>, AllocError>
-        ensures { IfOk result (λ asked. (k : Keeping) → IsKeptAt self.now k → asked.items ≡ (view_of k.host).asked) }
+        ensures { IfOk result (λ asked. (k : Keeping) → IsKeptAt self.now k →
+            asked.items ≡ (view_of k.host).asked) }
     {
         let names = self.member.asked_names(alloc)?;
         let asked = self.asked_of(alloc, &names)?;
@@ -131,7 +140,8 @@ impl KeptMember {
 
     /// Those of these names that it asks for, and how often the timer of each was backed off.
     fn asked_of(&self, alloc: Global, names: &[Name]) -> Result<Vec<AskedName>, AllocError>
-        ensures { IfOk result (λ asked. (k : Keeping) → IsKeptAt self.now k → asked.items ≡ asked_with (timers_of k.host.is.constants (events k.host)) names.now) }
+        ensures { IfOk result (λ asked. (k : Keeping) → IsKeptAt self.now k →
+            asked.items ≡ asked_with (timers_of k.host.is.constants (events k.host)) names.now) }
     {
         let mut asked = Vec::new(alloc);
         for name in names {
@@ -153,8 +163,8 @@ impl KeptMember {
         Ok(())
     }
 
-    /// A drawop is new: its missing neighbours are wanted. Where none is missing and it was asked for, another hole has its
-    /// turn in its place.
+    /// A drawop is new: its missing neighbours are wanted. Where none is missing and it was asked
+    /// for, another hole has its turn in its place.
     pub(super) fn learned(
         &mut self,
         alloc: Global,
@@ -183,7 +193,8 @@ impl KeptMember {
     /// The names near one.
     fn near(&mut self, alloc: Global, name: &Name) -> Result<Vec<Name>, AllocError>
         ensures same { self.new ≡ self.old }
-        ensures near { IfOk result (λ near. (k : Keeping) → IsKeptAt self.old k → near.items ≡ near_names name.now (highest name.now.page name.now.source (view_of k.host).held)) }
+        ensures near { IfOk result (λ near. (k : Keeping) → IsKeptAt self.old k → near.items ≡
+            near_names name.now (highest name.now.page name.now.source (view_of k.host).held)) }
     {
         let top = self.member.highest(name.page(), name.source())?;
         near_names(alloc, name, top)
@@ -201,7 +212,8 @@ impl KeptMember {
 
     /// Whether some of these names is neither held nor asked for.
     fn lacks_some(&self, names: &[Name]) -> bool
-        ensures { (k : Keeping) → IsKeptAt self.now k → result ≡ nat_lt 0 (length (filter (is_unasked (view_of k.host)) names.now)) }
+        ensures { (k : Keeping) → IsKeptAt self.now k →
+            result ≡ nat_lt 0 (length (filter (is_unasked (view_of k.host)) names.now)) }
     {
         for name in names {
             if self.is_unasked(name) {
@@ -213,7 +225,8 @@ impl KeptMember {
 
     /// Whether a name is neither held nor asked for.
     fn is_unasked(&self, name: &Name) -> bool
-        ensures { (k : Keeping) → IsKeptAt self.now k → result ≡ is_unasked (view_of k.host) name.now }
+        ensures { (k : Keeping) → IsKeptAt self.now k →
+            result ≡ is_unasked (view_of k.host) name.now }
     {
         let is_known = self.member.holds(name) || self.is_asked(name);
         !is_known
@@ -272,7 +285,8 @@ impl KeptMember {
 
     /// A hole has its turn: one of its names is wanted. No hole is without a number.
     fn want_in(&mut self, alloc: Global, hole: Hole) -> Result<(), AllocError>
-        ensures { OnOk result (1 ≤ hole.gap.first → hole.gap.first ≤ hole.gap.last → DoesQuietly (want_in hole) self.old self.new) }
+        ensures { OnOk result (1 ≤ hole.gap.first → hole.gap.first ≤ hole.gap.last →
+            DoesQuietly (want_in hole) self.old self.new) }
     {
         if hole.gap.first == 0 || hole.gap.last < hole.gap.first {
             return Ok(());

@@ -17,13 +17,15 @@ use wb_host::Reply;
 use wb_names::{Drawop, Echoes, Marks, Name, PageId};
 
 impl KeptMember {
-    /// A datagram came in. What names this member as its sender is no news. Answers what became of a drawop.
+    /// A datagram came in. What names this member as its sender is no news. Answers what became of
+    /// a drawop.
     pub(super) fn hears(
         &mut self,
         alloc: Global,
         datagram: &Datagram,
     ) -> Result<Option<Reply>, AllocError>
-        ensures became { IfOk result (λ reply. (k : Keeping) → IsKeptAt self.old k → outcome_in reply ≡ came_as datagram.now k.host) }
+        ensures became { IfOk result (λ reply. (k : Keeping) → IsKeptAt self.old k →
+            outcome_in reply ≡ came_as datagram.now k.host) }
         ensures does { OnOk result (DoesQuietly (hears datagram.now) self.old self.new) }
     {
         match datagram {
@@ -51,7 +53,8 @@ impl KeptMember {
 
     /// A drawop came. Answers what became of it.
     fn takes(&mut self, alloc: Global, drawop: &Drawop) -> Result<Option<Reply>, AllocError>
-        ensures became { IfOk result (λ reply. (k : Keeping) → IsKeptAt self.old k → outcome_in reply ≡ becomes drawop.now k.host) }
+        ensures became { IfOk result (λ reply. (k : Keeping) → IsKeptAt self.old k →
+            outcome_in reply ≡ becomes drawop.now k.host) }
         ensures does { OnOk result (DoesQuietly (takes drawop.now) self.old self.new) }
     {
         let name = drawop.name();
@@ -67,12 +70,14 @@ impl KeptMember {
 
     /// Whether a name is held, or there is no cell for it.
     fn is_no_news(&self, name: &Name) -> bool
-        ensures { (k : Keeping) → IsKeptAt self.now k → result ≡ (holds (view_of k.host) name.now || is_full (view_of k.host)) }
+        ensures { (k : Keeping) → IsKeptAt self.now k →
+            result ≡ (holds (view_of k.host) name.now || is_full (view_of k.host)) }
     {
         self.member.holds(name) || self.member.is_full()
     }
 
-    /// A session message came. Of another member's the keeper hears the own marks that are believed, and the own echo.
+    /// A session message came. Of another member's the keeper hears the own marks that are
+    /// believed, and the own echo.
     fn hears_session(
         &mut self,
         alloc: Global,
@@ -82,7 +87,8 @@ impl KeptMember {
         marks: &Marks,
         echoes: &Echoes,
     ) -> Result<(), AllocError>
-        ensures { OnOk result (DoesQuietly (of_other sender (hears_session sender sent page marks.now echoes.now)) self.old self.new) }
+        ensures { OnOk result (DoesQuietly (of_other sender
+            (hears_session sender sent page marks.now echoes.now)) self.old self.new) }
     {
         let (me, now) = (self.member.me(), self.member.moment());
         if sender == me {
@@ -120,7 +126,8 @@ impl KeptMember {
         Ok(())
     }
 
-    /// A page state came. Of another member's the own marks that are believed are heard, and nobody else answers.
+    /// A page state came. Of another member's the own marks that are believed are heard, and nobody
+    /// else answers.
     fn hears_state(
         &mut self,
         alloc: Global,
@@ -128,7 +135,8 @@ impl KeptMember {
         page: PageId,
         marks: &Marks,
     ) -> Result<(), AllocError>
-        ensures { OnOk result (DoesQuietly (of_other sender (hears_state sender page marks.now)) self.old self.new) }
+        ensures { OnOk result
+            (DoesQuietly (of_other sender (hears_state sender page marks.now)) self.old self.new) }
     {
         let (me, now) = (self.member.me(), self.member.moment());
         if sender == me {
@@ -172,7 +180,8 @@ impl KeptMember {
         request: &Datagram,
     ) -> Result<(), AllocError>
         requires { (me : ℕ) → asks_for_pages me request.now ≡ false }
-        ensures { OnOk result (DoesQuietly (of_other asker (performs (Hears request.now))) self.old self.new) }
+        ensures { OnOk result
+            (DoesQuietly (of_other asker (performs (Hears request.now))) self.old self.new) }
     {
         if asker == self.member.me() {
             return Ok(());

@@ -17,11 +17,12 @@ use wb_host::{KeepFault, Reply};
 use wb_names::{Drawop, Name};
 
 impl KeptMember {
-    /// Time goes on to a moment that is not before the present one, so that nothing but want of memory refuses it. Answers
-    /// what is to be sent.
+    /// Time goes on to a moment that is not before the present one, so that nothing but want of
+    /// memory refuses it. Answers what is to be sent.
     pub(super) fn go_on(&mut self, alloc: Global, now: u64) -> Result<Vec<Datagram>, AllocError>
         requires { IsMoment now }
-        ensures { IfOk result (λ sent. Does (performs (Ticks now)) self.old self.new [] sent.items) }
+        ensures { IfOk result
+            (λ sent. Does (performs (Ticks now)) self.old self.new [] sent.items) }
     {
         match self.member.tick(alloc, now) {
             Ok(sent) => Ok(sent),
@@ -31,15 +32,17 @@ impl KeptMember {
 
     /// A drawop arrives. Answers what became of it.
     pub(super) fn arrive(&mut self, drawop: &Drawop) -> Result<Option<Reply>, AllocError>
-        ensures became { IfOk result (λ reply. (k : Keeping) → IsKeptAt self.old k → outcome_in reply ≡ becomes drawop.now k.host) }
+        ensures became { IfOk result (λ reply. (k : Keeping) → IsKeptAt self.old k →
+            outcome_in reply ≡ becomes drawop.now k.host) }
         ensures does { OnOk result (DoesQuietly (performs (Arrives drawop.now)) self.old self.new) }
     {
         let reply = self.member.accept(drawop)?;
         Ok(reply)
     }
 
-    /// A datagram is heard that is no question for pages, so that nothing is sent at once. Where its marks would be too many it
-    /// changes nothing. It is heard at the present moment, so that nothing else but want of memory refuses it.
+    /// A datagram is heard that is no question for pages, so that nothing is sent at once. Where
+    /// its marks would be too many it changes nothing. It is heard at the present moment, so that
+    /// nothing else but want of memory refuses it.
     pub(super) fn hear(&mut self, alloc: Global, datagram: &Datagram) -> Result<(), AllocError>
         requires { (me : ℕ) → asks_for_pages me datagram.now ≡ false }
         ensures { OnOk result (DoesQuietly (performs (Hears datagram.now)) self.old self.new) }
@@ -78,7 +81,8 @@ impl KeptMember {
     /// The distance to a source is set, below 2^24 microseconds.
     pub(super) fn set_distance(&mut self, source: u32, micros: u64) -> Result<(), AllocError>
         requires { IsDelay micros }
-        ensures { OnOk result (DoesQuietly (performs (SetsDistance source micros)) self.old self.new) }
+        ensures { OnOk result
+            (DoesQuietly (performs (SetsDistance source micros)) self.old self.new) }
     {
         match self.member.set_delay(source, micros) {
             Ok(()) => Ok(()),
@@ -89,7 +93,8 @@ impl KeptMember {
     /// The distance to the source of a name is set to this one, where there is one.
     pub(super) fn set_usual(&mut self, name: &Name, usual: Option<u64>) -> Result<(), AllocError>
         requires { IfSome usual IsDelay }
-        ensures { OnOk result (DoesQuietly (performs_all (set_lines name.now.source usual)) self.old self.new) }
+        ensures { OnOk result
+            (DoesQuietly (performs_all (set_lines name.now.source usual)) self.old self.new) }
     {
         match usual {
             Some(micros) => {
@@ -100,15 +105,17 @@ impl KeptMember {
         }
     }
 
-    /// A drawop of its own is taken, and then sent, unless its name means another one or the board is full. Answers what became
-    /// of it.
+    /// A drawop of its own is taken, and then sent, unless its name means another one or the board
+    /// is full. Answers what became of it.
     pub(super) fn draw(
         &mut self,
         sent: &mut Vec<Datagram>,
         drawop: &Drawop,
     ) -> Result<Option<Reply>, AllocError>
-        ensures became { IfOk result (λ reply. (k : Keeping) → IsKeptAt self.old k → outcome_in reply ≡ becomes drawop.now k.host) }
-        ensures does { OnOk result (Does (performs (Says (Draw drawop.now))) self.old self.new sent.old.items sent.new.items) }
+        ensures became { IfOk result (λ reply. (k : Keeping) → IsKeptAt self.old k →
+            outcome_in reply ≡ becomes drawop.now k.host) }
+        ensures does { OnOk result (Does
+            (performs (Says (Draw drawop.now))) self.old self.new sent.old.items sent.new.items) }
     {
         let reply = self.member.accept(drawop)?;
         match reply {

@@ -15,7 +15,8 @@ impl KeptMember {
     /// What a page shows, in the order of display.
     pub fn view(&mut self, alloc: Global, page: PageId) -> Result<Vec<Drawop>, AllocError>
         ensures same { self.new ≡ self.old }
-        ensures shown { IfOk result (λ drawops. (k : Keeping) → IsKeptAt self.old k → drawops.items ≡ shown page k.host) }
+        ensures shown { IfOk result (λ drawops. (k : Keeping) → IsKeptAt self.old k →
+            drawops.items ≡ shown page k.host) }
     {
         self.member.view(alloc, page)
     }
@@ -30,7 +31,8 @@ impl KeptMember {
     ) -> Result<Canvas, AllocError>
         requires { is_canvas_size width height ≡ true }
         ensures same { self.new ≡ self.old }
-        ensures canvas { IfOk result (λ canvas. (k : Keeping) → IsKeptAt self.old k → canvas ≡ canvas_text (shown page k.host) width height) }
+        ensures canvas { IfOk result (λ canvas. (k : Keeping) → IsKeptAt self.old k →
+            canvas ≡ canvas_text (shown page k.host) width height) }
     {
         self.member.show(alloc, page, width, height)
     }
@@ -38,7 +40,8 @@ impl KeptMember {
     /// The missing ranges of a page, up to the greatest numbers that are held or were heard of.
     pub fn gaps(&mut self, alloc: Global, page: PageId) -> Result<Vec<Gap>, AllocError>
         ensures same { self.new ≡ self.old }
-        ensures gaps { IfOk result (λ gaps. (k : Keeping) → IsKeptAt self.old k → gaps.items ≡ gaps_at page k.host) }
+        ensures gaps { IfOk result (λ gaps. (k : Keeping) → IsKeptAt self.old k →
+            gaps.items ≡ gaps_at page k.host) }
     {
         self.member.gaps(alloc, page)
     }
@@ -46,7 +49,8 @@ impl KeptMember {
     /// The greatest number of each source that is held of a page.
     pub fn report(&mut self, alloc: Global, page: PageId) -> Result<Marks, AllocError>
         ensures same { self.new ≡ self.old }
-        ensures report { IfOk result (λ marks. (k : Keeping) → IsKeptAt self.old k → marks ≡ report_of k.host.is.held page) }
+        ensures report { IfOk result (λ marks. (k : Keeping) → IsKeptAt self.old k →
+            marks ≡ report_of k.host.is.held page) }
     {
         self.member.report(alloc, page)
     }
@@ -54,7 +58,8 @@ impl KeptMember {
     /// The pages that have a drawop, ascending, each once.
     pub fn pages(&mut self, alloc: Global) -> Result<Vec<PageId>, AllocError>
         ensures same { self.new ≡ self.old }
-        ensures pages { IfOk result (λ pages. (k : Keeping) → IsKeptAt self.old k → pages.items ≡ pages_of k.host.is.held) }
+        ensures pages { IfOk result (λ pages. (k : Keeping) → IsKeptAt self.old k →
+            pages.items ≡ pages_of k.host.is.held) }
     {
         self.member.pages(alloc)
     }
@@ -62,7 +67,8 @@ impl KeptMember {
     /// The pages that have a drawop or of which some mark was heard, ascending, each once.
     pub fn known(&mut self, alloc: Global) -> Result<Vec<PageId>, AllocError>
         ensures same { self.new ≡ self.old }
-        ensures known { IfOk result (λ pages. (k : Keeping) → IsKeptAt self.old k → pages.items ≡ pages_known k.host) }
+        ensures known { IfOk result (λ pages. (k : Keeping) → IsKeptAt self.old k →
+            pages.items ≡ pages_known k.host) }
     {
         self.member.known(alloc)
     }

@@ -17,7 +17,8 @@ use wb_names::{Echoes, Marks, PageId};
 const PAGES: usize = 64;
 
 impl KeptMember {
-    /// What is due is sent: an answer, then a question, then a report, after which a hole has its turn.
+    /// What is due is sent: an answer, then a question, then a report, after which a hole has its
+    /// turn.
     pub(super) fn timed(
         &mut self,
         alloc: Global,
@@ -52,7 +53,8 @@ impl KeptMember {
         pages: &[PageId],
     ) -> Result<(), AllocError>
         ensures same { self.new ≡ self.old }
-        ensures sent { OnOk result ((k : Keeping) → IsKeptAt self.old k → sent.new.items ≡ sent.old.items ++ map (state_of (view_of k.host)) pages.now) }
+        ensures sent { OnOk result ((k : Keeping) → IsKeptAt self.old k →
+            sent.new.items ≡ sent.old.items ++ map (state_of (view_of k.host)) pages.now) }
     {
         for page in pages {
             let marks = self.slice(alloc, *page, None)?;
@@ -69,7 +71,8 @@ impl KeptMember {
     /// The next marks of a page above a source that was told.
     fn slice(&mut self, alloc: Global, page: PageId, told: Option<u32>) -> Result<Marks, AllocError>
         ensures same { self.new ≡ self.old }
-        ensures slice { IfOk result (λ slice. (k : Keeping) → IsKeptAt self.old k → slice ≡ slice_after told (report_of k.host.is.held page)) }
+        ensures slice { IfOk result (λ slice. (k : Keeping) → IsKeptAt self.old k →
+            slice ≡ slice_after told (report_of k.host.is.held page)) }
     {
         let report = self.member.report(alloc, page)?;
         slice_of(alloc, told, &report)
@@ -124,7 +127,8 @@ impl KeptMember {
         page: PageId,
         marks: Marks,
     ) -> Result<(), AllocError>
-        ensures { OnOk result (Does (reports_page page marks) self.old self.new sent.old.items sent.new.items) }
+        ensures { OnOk result
+            (Does (reports_page page marks) self.old self.new sent.old.items sent.new.items) }
     {
         let all = self.heard(alloc)?;
         let echoes = last_heard(alloc, &all)?;
@@ -148,7 +152,8 @@ impl KeptMember {
     fn heard(&mut self, alloc: Global) -> Result<Echoes, AllocError>
         ensures same { DoesQuietly still self.old self.new }
         ensures policy { self.new.policy ≡ self.old.policy }
-        ensures echoes { IfOk result (λ all. (k : Keeping) → IsKeptAt self.old k → all ≡ (view_of k.host).echoes) }
+        ensures echoes { IfOk result (λ all. (k : Keeping) → IsKeptAt self.old k →
+            all ≡ (view_of k.host).echoes) }
     {
         self.member.echoes(alloc)
     }

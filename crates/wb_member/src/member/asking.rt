@@ -12,7 +12,8 @@ use wb_names::{Name, PageId};
 impl Member {
     /// The session message of a page, to be sent to all others.
     pub fn session(&mut self, alloc: Global, page: PageId) -> Result<Datagram, AllocError>
-        ensures message { IfOk result (λ datagram. (host : Opened) → IsOpenAt self.old host → (datagram ≡ message page host) × IsOpenAt self.new (reported page host)) }
+        ensures message { IfOk result (λ datagram. (host : Opened) → IsOpenAt self.old host →
+            (datagram ≡ message page host) × IsOpenAt self.new (reported page host)) }
         ensures err { OnErr result (self.new ≡ self.old) }
     {
         self.board.session(alloc, &mut self.keeper, page)
@@ -20,7 +21,8 @@ impl Member {
 
     /// Looks for what is missing of a page, and begins to miss it. Answers of how many drawops.
     pub fn look(&mut self, alloc: Global, page: PageId) -> Result<usize, AllocError>
-        ensures looked { IfOk result (λ count. (host : Opened) → IsOpenAt self.old host → (count ≡ length (wanted_of page host)) × IsOpenAt self.new (looked page host)) }
+        ensures looked { IfOk result (λ count. (host : Opened) → IsOpenAt self.old host →
+            (count ≡ length (wanted_of page host)) × IsOpenAt self.new (looked page host)) }
         ensures err { OnErr result (self.new ≡ self.old) }
     {
         let names = self.board.missing(alloc, &self.keeper, page)?;
@@ -36,10 +38,11 @@ impl Member {
         }
     }
 
-    /// Begins to miss a name: its request timer is set with the next random word. Where the name is held or
-    /// has a timer, nothing changes and the answer is false.
+    /// Begins to miss a name: its request timer is set with the next random word. Where the name is
+    /// held or has a timer, nothing changes and the answer is false.
     pub fn ask(&mut self, alloc: Global, name: &Name) -> Result<bool, AllocError>
-        ensures asked { IfOk result (λ begun. (host : Opened) → IsOpenAt self.old host → (begun ≡ may_ask name.now host) × IsOpenAt self.new (with_asked name.now host)) }
+        ensures asked { IfOk result (λ begun. (host : Opened) → IsOpenAt self.old host →
+            (begun ≡ may_ask name.now host) × IsOpenAt self.new (with_asked name.now host)) }
         ensures err { OnErr result (self.new ≡ self.old) }
     {
         if self.board.holds(name) || self.keeper.is_timed(name) {
@@ -59,7 +62,8 @@ impl Member {
 
     /// Gives up asking for a name: whether a request timer stood for it.
     pub fn stop(&mut self, name: &Name) -> bool
-        ensures { (host : Opened) → IsOpenAt self.old host → (result ≡ asks_for name.now host) × IsOpenAt self.new (with_stopped name.now host) }
+        ensures { (host : Opened) → IsOpenAt self.old host →
+            (result ≡ asks_for name.now host) × IsOpenAt self.new (with_stopped name.now host) }
     {
         let now = self.keeper.moment();
         match self.keeper.give_up(now, name) {

@@ -1,4 +1,5 @@
-//! What a member shows to who judges for it: when it is to ask, and for what. None of it changes the member.
+//! What a member shows to who judges for it: when it is to ask, and for what. None of it changes
+//! the member.
 ghost use Rattle.std.specs.Prelude.{◌≡◌, ◌<◌, ◌≤◌, ◌^◌, length, IfOk, IfSome};
 ghost use Rattle.wb_names.specs.Ascending.{AreEchoes};
 ghost use Rattle.wb_recovery.specs.Delays.{IsDelay};
@@ -53,12 +54,14 @@ impl Member {
 
     /// The names for which a request timer stands, ascending.
     pub fn asked_names(&self, alloc: Global) -> Result<Vec<Name>, AllocError>
-        ensures { IfOk result (λ names. (host : Opened) → IsOpenAt self.now host → names.items ≡ asked_names host) }
+        ensures { IfOk result (λ names. (host : Opened) → IsOpenAt self.now host →
+            names.items ≡ asked_names host) }
     {
         self.keeper.asked_names(alloc)
     }
 
-    /// How often the request timer of a name was backed off since it was set, up to 16. None where none stands.
+    /// How often the request timer of a name was backed off since it was set, up to 16. None where
+    /// none stands.
     pub fn level(&self, name: &Name) -> Option<u32>
         ensures { (host : Opened) → IsOpenAt self.now host → result ≡ level host name.now }
     {
@@ -68,7 +71,8 @@ impl Member {
     /// An echo to each sender that is remembered, ascending: those of its next session message.
     pub fn echoes(&mut self, alloc: Global) -> Result<Echoes, AllocError>
         ensures same { (host : Opened) → IsOpenAt self.old host → IsOpenAt self.new host }
-        ensures echoes { IfOk result (λ all. (host : Opened) → IsOpenAt self.old host → all ≡ echoes host) }
+        ensures echoes { IfOk result (λ all. (host : Opened) → IsOpenAt self.old host →
+            all ≡ echoes host) }
     {
         let page = PageId {
             creator: 0,
@@ -87,13 +91,14 @@ impl Member {
     /// The greatest number of a source on a page that is held, or 0.
     pub fn highest(&mut self, page: PageId, source: u32) -> Result<u32, AllocError>
         ensures same { self.new ≡ self.old }
-        ensures number { IfOk result (λ number. (host : Opened) → IsOpenAt self.old host → number ≡ highest page source host) }
+        ensures number { IfOk result (λ number. (host : Opened) → IsOpenAt self.old host →
+            number ≡ highest page source host) }
     {
         self.board.highest(page, source)
     }
 
-    /// The first hole that begins after this number of a source on a page: holes are the missing ranges of all pages below
-    /// what is held, ascending by page, source and number.
+    /// The first hole that begins after this number of a source on a page: holes are the missing
+    /// ranges of all pages below what is held, ascending by page, source and number.
     pub fn hole_after(
         &mut self,
         alloc: Global,
@@ -102,7 +107,8 @@ impl Member {
         number: u32,
     ) -> Result<Option<Hole>, AllocError>
         ensures same { self.new ≡ self.old }
-        ensures hole { IfOk result (λ found. (host : Opened) → IsOpenAt self.old host → found ≡ hole_after page source number host) }
+        ensures hole { IfOk result (λ found. (host : Opened) → IsOpenAt self.old host →
+            found ≡ hole_after page source number host) }
     {
         self.board.hole_after(alloc, page, source, number)
     }

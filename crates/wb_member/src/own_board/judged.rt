@@ -34,7 +34,8 @@ impl OwnBoard {
         number: u32,
     ) -> Result<Option<Hole>, AllocError>
         ensures same { self.new ≡ self.old }
-        ensures hole { IfOk result (λ found. found ≡ hole_after self.old.drawops page source number) }
+        ensures hole { IfOk result
+            (λ found. found ≡ hole_after self.old.drawops page source number) }
     {
         self.board
             .hole_after(alloc, &mut self.desk, page, source, number)

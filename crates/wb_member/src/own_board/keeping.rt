@@ -23,7 +23,8 @@ use wb_names::{Name, PageId};
 impl OwnBoard {
     /// Tells a keeper at this board, at the moment of its last call, that these names arrived.
     pub fn tell_arrived(&self, keeper: &mut Keeper, names: &[Name])
-        ensures { Keeps (Arrive keeper.old.moment (filter (holds self.now.drawops) names.now)) keeper.old keeper.new }
+        ensures { Keeps (Arrive keeper.old.moment
+            (filter (holds self.now.drawops) names.now)) keeper.old keeper.new }
     {
         let now = keeper.moment();
         match keeper.arrived(&self.desk, now, names) {
@@ -32,8 +33,8 @@ impl OwnBoard {
         }
     }
 
-    /// Time goes on to a moment for a keeper at this board: what is to be sent. Refused with `BackInTime`,
-    /// `Range` or `Memory`.
+    /// Time goes on to a moment for a keeper at this board: what is to be sent. Refused with
+    /// `BackInTime`, `Range` or `Memory`.
     pub fn tick(
         &mut self,
         alloc: Global,
@@ -41,11 +42,17 @@ impl OwnBoard {
         now: u64,
         words: &[u64],
     ) -> Result<Vec<Datagram>, KeepFault>
-        requires { length (due_asks (names_in keeper.old.recovery) (timers_in keeper.old.recovery) now) ≤ length words.now }
+        requires { length (due_asks (names_in keeper.old.recovery)
+            (timers_in keeper.old.recovery) now) ≤ length words.now }
         ensures same { self.new ≡ self.old }
         ensures fault { IsKeptBy (moment_fault keeper.old.moment now) result }
-        ensures sent { IfOk result (λ sent. (me : ℕ) (constants : Constants) (calls : List KeeperCall) → StandsFor me constants calls keeper.old → sent.items ≡ sends_for me self.old.drawops (actions_of constants (receipts now (events_of me calls) (received_of (delay_to me calls) (stopped_in self.old.drawops keeper.old.recovery))) now)) }
-        ensures ok { OnOk result (Keeps (GoOn now words.now (stopped_in self.old.drawops keeper.old.recovery)) keeper.old keeper.new) }
+        ensures sent { IfOk result
+            (λ sent. (me : ℕ) (constants : Constants) (calls : List KeeperCall) →
+            StandsFor me constants calls keeper.old → sent.items ≡ sends_for me self.old.drawops
+            (actions_of constants (receipts now (events_of me calls) (received_of
+            (delay_to me calls) (stopped_in self.old.drawops keeper.old.recovery))) now)) }
+        ensures ok { OnOk result (Keeps (GoOn now words.now
+            (stopped_in self.old.drawops keeper.old.recovery)) keeper.old keeper.new) }
         ensures err { OnErr result (keeper.new ≡ keeper.old) }
     {
         keeper.tick(alloc, &self.board, &mut self.desk, now, words)
@@ -59,7 +66,10 @@ impl OwnBoard {
         page: PageId,
     ) -> Result<Vec<Name>, AllocError>
         ensures same { self.new ≡ self.old }
-        ensures wanted { IfOk result (λ names. (me : ℕ) (constants : Constants) (calls : List KeeperCall) → StandsFor me constants calls keeper.now → names.items ≡ wanted_of constants (events_of me calls) self.old.drawops page (marks_heard me calls page)) }
+        ensures wanted { IfOk result
+            (λ names. (me : ℕ) (constants : Constants) (calls : List KeeperCall) →
+            StandsFor me constants calls keeper.now → names.items ≡ wanted_of constants
+            (events_of me calls) self.old.drawops page (marks_heard me calls page)) }
     {
         match keeper.missing(alloc, &self.board, &mut self.desk, page) {
             Ok(names) => Ok(names),
@@ -71,20 +81,25 @@ impl OwnBoard {
     /// The pages that have a drawop or of which a keeper at this board heard some mark.
     pub fn known_pages(&mut self, alloc: Global, keeper: &Keeper) -> Result<Vec<PageId>, AllocError>
         ensures same { self.new ≡ self.old }
-        ensures known { IfOk result (λ pages. (me : ℕ) (constants : Constants) (calls : List KeeperCall) → StandsFor me constants calls keeper.now → pages.items ≡ known_pages me calls self.old.drawops) }
+        ensures known { IfOk result (λ pages. (me : ℕ) (constants : Constants)
+            (calls : List KeeperCall) → StandsFor me constants calls keeper.now →
+            pages.items ≡ known_pages me calls self.old.drawops) }
     {
         keeper.known_pages(alloc, &self.board, &mut self.desk)
     }
 
-    /// The greatest number of a source on a page that is held or that a keeper at this board heard, or 0.
+    /// The greatest number of a source on a page that is held or that a keeper at this board heard,
+    /// or 0.
     pub fn known_number(&self, keeper: &Keeper, page: PageId, source: u32) -> u32
-        ensures { (me : ℕ) (constants : Constants) (calls : List KeeperCall) → StandsFor me constants calls keeper.now → result ≡ known_number me calls self.now.drawops page source }
+        ensures { (me : ℕ) (constants : Constants) (calls : List KeeperCall) →
+            StandsFor me constants calls keeper.now →
+            result ≡ known_number me calls self.now.drawops page source }
     {
         keeper.known_number(&self.desk, page, source)
     }
 
-    /// A keeper at this board hears a datagram, at the moment of its last call: what is to be sent at
-    /// once. Refused with `TooMany` or `Memory`.
+    /// A keeper at this board hears a datagram, at the moment of its last call: what is to be sent
+    /// at once. Refused with `TooMany` or `Memory`.
     pub fn hear(
         &mut self,
         alloc: Global,
@@ -93,9 +108,12 @@ impl OwnBoard {
         word: u64,
     ) -> Result<Vec<Datagram>, KeepFault>
         ensures same { self.new ≡ self.old }
-        ensures fault { IsKeptBy (hear_fault keeper.old.me keeper.old.moment (marks_at keeper.old.marks) keeper.old.moment datagram.now) result }
-        ensures sent { IfOk result (λ sent. sent.items ≡ answers_to keeper.old.me self.old.drawops datagram.now) }
-        ensures ok { OnOk result (Keeps (Hear keeper.old.moment datagram.now word (asks_for_held self.old.drawops datagram.now)) keeper.old keeper.new) }
+        ensures fault { IsKeptBy (hear_fault keeper.old.me keeper.old.moment
+            (marks_at keeper.old.marks) keeper.old.moment datagram.now) result }
+        ensures sent { IfOk result
+            (λ sent. sent.items ≡ answers_to keeper.old.me self.old.drawops datagram.now) }
+        ensures ok { OnOk result (Keeps (Hear keeper.old.moment datagram.now word
+            (asks_for_held self.old.drawops datagram.now)) keeper.old keeper.new) }
         ensures err { OnErr result (keeper.new ≡ keeper.old) }
         ensures range { IsMoment keeper.old.moment }
     {
@@ -111,7 +129,9 @@ impl OwnBoard {
         page: PageId,
     ) -> Result<Datagram, AllocError>
         ensures same { self.new ≡ self.old }
-        ensures message { IfOk result (λ message. (me : ℕ) (constants : Constants) (calls : List KeeperCall) → StandsFor me constants calls keeper.old → message ≡ message_of me calls keeper.old.moment self.old.drawops page) }
+        ensures message { IfOk result (λ message. (me : ℕ) (constants : Constants)
+            (calls : List KeeperCall) → StandsFor me constants calls keeper.old →
+            message ≡ message_of me calls keeper.old.moment self.old.drawops page) }
         ensures ok { OnOk result (Keeps (Report keeper.old.moment) keeper.old keeper.new) }
         ensures err { OnErr result (keeper.new ≡ keeper.old) }
     {
