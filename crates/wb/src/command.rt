@@ -174,8 +174,8 @@ fn host_command<'a>(alloc: Global) -> Result<Command<'a>, AllocError> {
         .arg(tuning)
 }
 
-/// The program without its subcommands. It is handed no name in front of its words, so the name that usage
-/// lines begin with is given here.
+/// The program without its subcommands. It is handed no name in front of its words, so the name
+/// that usage lines begin with is given here.
 fn bare_command<'a>(alloc: Global) -> Result<Command<'a>, AllocError> {
     Command::new(alloc, "wb")
         .about(ABOUT)
@@ -186,8 +186,8 @@ fn bare_command<'a>(alloc: Global) -> Result<Command<'a>, AllocError> {
         .bin_name("wb")
 }
 
-/// Adds a subcommand. One that could not be made is answered here, so that an early return drops one
-/// command and not two.
+/// Adds a subcommand. One that could not be made is answered here, so that an early return drops
+/// one command and not two.
 fn with_subcommand<'a>(
     program: Command<'a>,
     subcommand: Result<Command<'a>, AllocError>,

@@ -125,8 +125,8 @@ fn misuse<E: Sink>(alloc: Global, errors: &mut E, error: Error) -> u8
     }
 }
 
-/// Answers the status where the words of the command line can't be had: one of them is not UTF-8, which is
-/// told, or memory is refused.
+/// Answers the status where the words of the command line can't be had: one of them is not UTF-8,
+/// which is told, or memory is refused.
 pub fn refuse_words<E: Sink>(errors: &mut E, kind: io::ErrorKind) -> u8 {
     if kind == io::ErrorKind::InvalidData {
         push_all(
@@ -176,8 +176,8 @@ fn perform<T: Threads + Wait + Sync, R: Source, W: Sink>(
 
 /// Does what the words after the program's name ask for, and answers the status of the program: 0;
 /// 1 where a line is refused or a limit is passed; 2 where the words are not understood, or ask for
-/// help or the version, and then nothing is read; 3 where reading or writing fails; 4 where memory or a thread is
-/// refused. Only a script may wait for other threads: those of its own workers.
+/// help or the version, and then nothing is read; 3 where reading or writing fails; 4 where memory
+/// or a thread is refused. Only a script may wait for other threads: those of its own workers.
 pub fn serve<T: AllocGlobal + Threads + Wait + Sync, R: Source, W: Sink, E: Sink>(
     rt: &T,
     words: &[&str],

@@ -137,8 +137,8 @@ fn session(
     Ok(())
 }
 
-/// Does what a line says, once its batch has ended. A refused line changes nothing and prints nothing.
-/// One that is skipped, that opens a board or that hands in a drawop does nothing here.
+/// Does what a line says, once its batch has ended. A refused line changes nothing and prints
+/// nothing. One that is skipped, that opens a board or that hands in a drawop does nothing here.
 pub fn act(
     alloc: Global,
     member: &mut Member,

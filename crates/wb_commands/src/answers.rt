@@ -15,8 +15,8 @@ use wb_lines::Output;
 use wb_member::Member;
 use wb_names::{Gap, Mark, PageId};
 
-/// The line that ends a batch: how many of its drawops were fresh, held already, clashed with one of their name, and
-/// were left for want of a cell.
+/// The line that ends a batch: how many of its drawops were fresh, held already, clashed with one
+/// of their name, and were left for want of a cell.
 pub fn batch_line(
     alloc: Global,
     fresh: u32,
@@ -42,7 +42,8 @@ pub fn arrival_line(alloc: Global, became: Option<Reply>) -> Result<String, Allo
     }
 }
 
-/// How many missing ranges there are, and a line for each: its source, its first number and its last.
+/// How many missing ranges there are, and a line for each: its source, its first number and its
+/// last.
 pub fn gaps_text(alloc: Global, gaps: &[Gap]) -> Result<String, AllocError>
     ensures { IfOk result (λ text. string_bytes text ≡ gaps_text gaps.now) }
 {

@@ -15,7 +15,8 @@ pub enum Command {
         workers: u32,
         seed: u64,
     },
-    /// `arrive HEX` hands a drawop to the present batch. So do `datagram HEX` and the drawop in words.
+    /// `arrive HEX` hands a drawop to the present batch. So do `datagram HEX` and the drawop in
+    /// words.
     Arrive(Drawop),
     /// `hear HEX` hands in any other datagram, at the present moment. So do `datagram HEX` and the
     /// datagram in words.

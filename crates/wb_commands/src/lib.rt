@@ -1,9 +1,11 @@
-//! Lines that speak to one member: what a line says, what it does to the member, and what is printed for it.
+//! Lines that speak to one member: what a line says, what it does to the member, and what is
+//! printed for it.
 //!
-//! A line hands in a datagram, sets the moment or a delay, or asks. `parse_line` reads one, or names its first
-//! fault; `act` does what it says, and prints; the texts of batches, answers and sent datagrams stand here too.
-//! What a script and a host have in common is here, and below both. A line does not know its number. Batches,
-//! workers and the lines of a driver are of the crates above; there is no thread, no clock and no loop here.
+//! A line hands in a datagram, sets the moment or a delay, or asks. `parse_line` reads one, or
+//! names its first fault; `act` does what it says, and prints; the texts of batches, answers and
+//! sent datagrams stand here too. What a script and a host have in common is here, and below both.
+//! A line does not know its number. Batches, workers and the lines of a driver are of the crates
+//! above; there is no thread, no clock and no loop here.
 #![tactic(auto)]
 
 mod acting;

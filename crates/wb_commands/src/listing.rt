@@ -61,7 +61,8 @@ impl Listed for PageId {
     }
 }
 
-/// A word with a space behind it and how many there are, on a line; and a line for each, in their order.
+/// A word with a space behind it and how many there are, on a line; and a line for each, in their
+/// order.
 pub fn list_text<T: Listed>(alloc: Global, word: &str, items: &[T]) -> Result<String, AllocError>
     ensures { IfOk result (λ text. string_bytes text ≡ list_text word.now T.spelled items.now) }
 {

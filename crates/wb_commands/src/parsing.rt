@@ -59,7 +59,8 @@ pub fn four_words(rest: &[u8]) -> Option<(&[u8], &[u8], &[u8], &[u8])>
     Some((first, second, third, fourth))
 }
 
-/// The number that a word of decimal digits stands for, where it is from `low` to `high`; else `Number`.
+/// The number that a word of decimal digits stands for, where it is from `low` to `high`; else
+/// `Number`.
 pub fn number_word(word: &[u8], low: u64, high: u64) -> Result<u64, LineFault>
     ensures value { result ≡ number low high word.now }
     ensures bound { IfOk result (λ n. (low ≤ n) × (n ≤ high)) }
@@ -146,7 +147,8 @@ fn tick(rest: &[u8]) -> Result<Command, LineFault>
     Ok(Command::Tick { moment })
 }
 
-/// The page of the only two words, its creator and its number. The first fault is `Words` or `Number`.
+/// The page of the only two words, its creator and its number. The first fault is `Words` or
+/// `Number`.
 #[tactic(auto, unfolding(crate::specs::Parsing::page))]
 pub fn page(rest: &[u8]) -> Result<PageId, LineFault>
     ensures { result ≡ page (words rest.now) }
@@ -165,7 +167,8 @@ fn pages(rest: &[u8]) -> Result<Command, LineFault>
     Ok(Command::Pages)
 }
 
-/// The datagram whose bytes the only word spells in hexadecimal. The first fault is `Words`, `Hex` or `Datagram`.
+/// The datagram whose bytes the only word spells in hexadecimal. The first fault is `Words`, `Hex`
+/// or `Datagram`.
 #[tactic(auto, unfolding(crate::specs::Parsing::datagram))]
 pub fn datagram(alloc: Global, rest: &[u8]) -> Result<Datagram, Untaken>
     ensures { Parses result (datagram (words rest.now)) }
@@ -288,9 +291,9 @@ fn in_words(alloc: Global, line: &[u8]) -> Result<Command, Untaken>
 }
 
 /// The line that the bytes say, which stand without their end; or its first fault: `Unknown`,
-/// `Words`, `Number`, `Hex`, `Datagram` or `Kind`, in this order; or `Word`, of a datagram in words.
-/// Memory can run out only in a line that carries a datagram: where that is in hexadecimal, once its
-/// digits are checked.
+/// `Words`, `Number`, `Hex`, `Datagram` or `Kind`, in this order; or `Word`, of a datagram in
+/// words. Memory can run out only in a line that carries a datagram: where that is in hexadecimal,
+/// once its digits are checked.
 pub fn parse_line(alloc: Global, bytes: &[u8]) -> Result<Command, Untaken>
     ensures line { ParsesLine result (line_of bytes.now) }
     ensures within { IfOk result IsWithin }

@@ -218,7 +218,8 @@ fn stop(member: &mut Member, name: &Name, output: &mut Output) -> Result<(), Una
     Ok(())
 }
 
-/// What a line does at an open member: it prints, or it is refused, and then the member stays as it is.
+/// What a line does at an open member: it prints, or it is refused, and then the member stays as it
+/// is.
 pub(crate) fn answer(
     alloc: Global,
     member: &mut Member,

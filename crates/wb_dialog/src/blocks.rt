@@ -75,7 +75,8 @@ fn due_word(alloc: Global, due: Option<u64>) -> Result<String, AllocError>
     }
 }
 
-/// The line that closes the block of a line that was taken, with the next moment at which a timer is due.
+/// The line that closes the block of a line that was taken, with the next moment at which a timer
+/// is due.
 pub(crate) fn ok_line(alloc: Global, due: Option<u64>) -> Result<String, AllocError>
     ensures { IfOk result (λ text. string_bytes text ≡ ok_line due) }
 {

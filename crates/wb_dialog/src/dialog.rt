@@ -18,8 +18,8 @@ use wb_commands::{Command, LineFault};
 use wb_lines::{Handler, Output, Stop, without_end};
 use wb_recovery::Tuning;
 
-/// A host that answers the lines of a driver, one at a time. What its keeper holds stands for the calls that it
-/// accepted, so the contracts speak of each host at which it may be.
+/// A host that answers the lines of a driver, one at a time. What its keeper holds stands for the
+/// calls that it accepted, so the contracts speak of each host at which it may be.
 #[derive(Drop)]
 pub struct Dialog {
     tuning: Tuning,
@@ -39,7 +39,8 @@ impl Model for Dialog {
 }
 
 impl Dialog {
-    /// No board is open. The timers of the one that will be have these constants, each from 1 to 16.
+    /// No board is open. The timers of the one that will be have these constants, each from 1 to
+    /// 16.
     pub fn new(tuning: Tuning) -> Self
         requires { are_constants tuning ≡ true }
         ensures { result ≡ record { tuning = tuning; host = None } }
@@ -47,7 +48,8 @@ impl Dialog {
         Dialog { tuning, host: None }
     }
 
-    /// The next moment at which the host has something to do, in microseconds. None where there is none.
+    /// The next moment at which the host has something to do, in microseconds. None where there is
+    /// none.
     fn next_due(&self) -> Option<u64>
         ensures { (s : Option HostState) → MayBeAt self.now.host s → result ≡ due_at s }
     {
@@ -155,9 +157,9 @@ impl Dialog {
         output.add(text.as_bytes())
     }
 
-    /// Prints the block of a line, which stands without its end: what it prints, and `ok DUE`; or, where the line is
-    /// refused, `refused FAULT`, and nothing changes. Where memory runs out, a front of the block is printed, and the
-    /// host is to be given up.
+    /// Prints the block of a line, which stands without its end: what it prints, and `ok DUE`; or,
+    /// where the line is refused, `refused FAULT`, and nothing changes. Where memory runs out, a
+    /// front of the block is printed, and the host is to be given up.
     pub fn answer(
         &mut self,
         alloc: Global,

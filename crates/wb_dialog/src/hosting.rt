@@ -28,12 +28,12 @@ fn fault_of(fault: DriveFault<Infallible>) -> HostFault
     }
 }
 
-/// Answers the lines that a source has left, and writes their blocks to a sink: each before more is read. The
-/// timers of the host have these constants, each from 1 to 16.
+/// Answers the lines that a source has left, and writes their blocks to a sink: each before more is
+/// read. The timers of the host have these constants, each from 1 to 16.
 ///
-/// What is written is the transcript of the input, which ends where the source does or where it fails. Where
-/// memory runs out or the sink fails, a front of it is written; and so where it has no end that is waited for: more than
-/// 2^64 - 1 lines, or one that is too long to pass over.
+/// What is written is the transcript of the input, which ends where the source does or where it
+/// fails. Where memory runs out or the sink fails, a front of it is written; and so where it has no
+/// end that is waited for: more than 2^64 - 1 lines, or one that is too long to pass over.
 pub fn host<R: Source, W: Sink>(
     alloc: Global,
     tuning: Tuning,

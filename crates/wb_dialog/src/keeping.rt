@@ -326,7 +326,8 @@ fn known(alloc: Global, kept: &mut KeptMember, output: &mut Output) -> Result<()
     Ok(())
 }
 
-/// What a line does at a host that keeps itself: it prints, or it is refused, and then the host stays as it is.
+/// What a line does at a host that keeps itself: it prints, or it is refused, and then the host
+/// stays as it is.
 pub(crate) fn answer_kept(
     alloc: Global,
     kept: &mut KeptMember,

@@ -1,5 +1,5 @@
-//! Laws of the transcripts of a host, proved for all inputs. The functions do nothing: each stands here for
-//! its clause.
+//! Laws of the transcripts of a host, proved for all inputs. The functions do nothing: each stands
+//! here for its clause.
 ghost use Rattle.wb_dialog.specs.KeptLaws.{AddIsNotTooMany, KeptIsDriven};
 ghost use Rattle.wb_dialog.specs.Laws.{RefusedStays, EachIsAnswered, FrontsAreFronts, AcceptedAlone, DrivenAsBefore, NextIsNew, SaidIsRead, ScriptLinesAreRead};
 
@@ -23,18 +23,20 @@ pub fn accepted_lines_suffice()
     ensures { AcceptedAlone }
 {}
 
-/// What is written for lines of which none says `keep` is what a host writes that its driver drives.
+/// What is written for lines of which none says `keep` is what a host writes that its driver
+/// drives.
 pub fn driven_hosts_stay()
     ensures { DrivenAsBefore }
 {}
 
-/// A host that keeps itself is a host whose driver hands in the lines of its policy: it comes to the same hosts, and sends
-/// the same. So what is proved of hosts holds of it.
+/// A host that keeps itself is a host whose driver hands in the lines of its policy: it comes to
+/// the same hosts, and sends the same. So what is proved of hosts holds of it.
 pub fn kept_hosts_are_driven()
     ensures { KeptIsDriven }
 {}
 
-/// A host that keeps itself refuses no drawing as too many, whatever was handed in before: a number is left for each.
+/// A host that keeps itself refuses no drawing as too many, whatever was handed in before: a number
+/// is left for each.
 pub fn adds_are_not_too_many()
     ensures { AddIsNotTooMany }
 {}

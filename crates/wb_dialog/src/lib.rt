@@ -1,9 +1,10 @@
 //! A whiteboard host that a program talks to, line by line.
 //!
-//! The program, a driver, has the sockets, the clock and the screen. It writes lines: those of a script, the
-//! datagrams that came in, what it wants to say, and what it asks of the host. Each line is answered by one
-//! block: what it prints, and then `ok DUE` with the next moment at which a timer is due, or `refused FAULT`.
-//! A refused line changes nothing. This crate has no clock, no socket and no thread.
+//! The program, a driver, has the sockets, the clock and the screen. It writes lines: those of a
+//! script, the datagrams that came in, what it wants to say, and what it asks of the host. Each
+//! line is answered by one block: what it prints, and then `ok DUE` with the next moment at which a
+//! timer is due, or `refused FAULT`. A refused line changes nothing. This crate has no clock, no
+//! socket and no thread.
 #![tactic(auto)]
 
 mod answering;

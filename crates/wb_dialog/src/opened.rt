@@ -24,7 +24,8 @@ use wb_recovery::Tuning;
 /// A host, once its board is open.
 #[derive(Drop)]
 pub(crate) enum Host {
-    /// Its driver judges. It may begin to keep itself, with the seed of its board, until a line that acts was taken.
+    /// Its driver judges. It may begin to keep itself, with the seed of its board, until a line
+    /// that acts was taken.
     Driven { member: Member, seed: Option<u64> },
     /// It keeps itself.
     Kept(KeptMember),
@@ -45,7 +46,8 @@ fn acts_in_script(line: &Command) -> bool
     }
 }
 
-/// Whether a line that is taken acts on its host: behind such a one a host can't begin to keep itself.
+/// Whether a line that is taken acts on its host: behind such a one a host can't begin to keep
+/// itself.
 pub(crate) fn is_acting(line: &DriverLine) -> bool
     ensures { result ≡ is_acting line.now }
 {
@@ -135,8 +137,8 @@ impl Host {
         })
     }
 
-    /// The next moment at which it has something to do, in microseconds. None where there is none, or where no line could
-    /// tell it.
+    /// The next moment at which it has something to do, in microseconds. None where there is none,
+    /// or where no line could tell it.
     #[tactic(auto, using(crate::proofs::KeptReplies::due_driven, crate::proofs::KeptReplies::due_itself))]
     pub fn next_due(&self) -> Option<u64>
         ensures { (h : HostState) → IsHostAt self.now h → result ≡ due_at (Some h) }
@@ -147,7 +149,8 @@ impl Host {
         }
     }
 
-    /// What a line does that does not begin to keep it: it prints, or it is refused, and then the host stays as it is.
+    /// What a line does that does not begin to keep it: it prints, or it is refused, and then the
+    /// host stays as it is.
     #[tactic(auto, using(crate::proofs::KeptReplies::taken_driven, crate::proofs::KeptReplies::taken_kept))]
     pub fn take(
         &mut self,

@@ -13,8 +13,8 @@ use crate::fault::{Refusal, Unanswered};
 use crate::line::DriverLine;
 use std::alloc::Global;
 use wb_commands::{
-    LineFault, Untaken, datagram, four_words, no_words, number_word, page, parse_line,
-    two_words, u32_word,
+    LineFault, Untaken, datagram, four_words, no_words, number_word, page, parse_line, two_words,
+    u32_word,
 };
 use wb_lines::next_word;
 use wb_names::{MAX_MOMENT, Name, PageId};
@@ -33,7 +33,8 @@ fn behind<'a>(line: &'a [u8], opener: &[u8]) -> Option<&'a [u8]>
     }
 }
 
-/// The name of the only four words: creator and number of its page, its source and its number there.
+/// The name of the only four words: creator and number of its page, its source and its number
+/// there.
 #[tactic(auto, unfolding(crate::specs::Lines::name))]
 fn name(rest: &[u8]) -> Result<Name, LineFault>
     ensures { result ≡ name (words rest.now) }

@@ -44,8 +44,9 @@ fn give_back(
     }
 }
 
-/// Starts the worker with this desk, feeds it, and takes both back. Where its thread is refused, its
-/// work is called here behind an end message, which is all that it then receives: so the desk comes back.
+/// Starts the worker with this desk, feeds it, and takes both back. Where its thread is refused,
+/// its work is called here behind an end message, which is all that it then receives: so the desk
+/// comes back.
 fn work_with<'s, 'e: 's, R: Threads + Wait + Sync, S: Arrivals, G: Gate + Sync>(
     scope: &'s Scope<'s, &'e ()>,
     place: Place<'e, R, G>,
@@ -67,7 +68,8 @@ fn work_with<'s, 'e: 's, R: Threads + Wait + Sync, S: Arrivals, G: Gate + Sync>(
         desk: Snapshot::of(&desk),
         end: place.end,
     };
-    // Taken apart, since the proof sees what a closure captures only where it is no struct of type parameters.
+    // Taken apart, since the proof sees what a closure captures only where it is no struct of type
+    // parameters.
     let Place {
         rt,
         alloc,
@@ -100,8 +102,8 @@ fn work_with<'s, 'e: 's, R: Threads + Wait + Sync, S: Arrivals, G: Gate + Sync>(
     }
 }
 
-/// The one worker of a batch. While its thread has the desk, the desk of a board of one cell stands in
-/// its place.
+/// The one worker of a batch. While its thread has the desk, the desk of a board of one cell stands
+/// in its place.
 pub(crate) fn run_one<'s, 'e: 's, R: Threads + Wait + Sync, S: Arrivals, G: Gate + Sync>(
     scope: &'s Scope<'s, &'e ()>,
     place: Place<'e, R, G>,

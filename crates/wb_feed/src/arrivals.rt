@@ -7,10 +7,11 @@ use wb_names::Drawop;
 pub trait Arrivals {
     ghost use Rattle.wb_names.specs.Values.{DrawopValue};
 
-    /// That a source gives these drawops, in order, and is then the other. By it the caller knows its source again after
-    /// a batch. It need not be a function of the source and of how many came: of a script that is being read nobody knows what
-    /// comes. A batch is proved for each relation that a source may have, so for the least one too, which has what `next`
-    /// answered and nothing else. So a source that says little here only makes its own caller know little.
+    /// That a source gives these drawops, in order, and is then the other. By it the caller knows
+    /// its source again after a batch. It need not be a function of the source and of how many
+    /// came: of a script that is being read nobody knows what comes. A batch is proved for each
+    /// relation that a source may have, so for the least one too, which has what `next` answered
+    /// and nothing else. So a source that says little here only makes its own caller know little.
     ghost gives: { Self → List DrawopValue → Self → Type 0 };
 
     /// Whether `next` has answered None.
@@ -33,12 +34,15 @@ pub trait Arrivals {
 
     ghost gives_none: { (s : Self) → gives s [] s };
 
-    ghost gives_on: { (a b c : Self) (ds es : List DrawopValue) → gives a ds b → gives b es c → gives a (ds ++ es) c };
+    ghost gives_on: { (a b c : Self) (ds es : List DrawopValue) → gives a ds b → gives b es c →
+        gives a (ds ++ es) c };
 }
 
-/// A source whose drawops are known before they are taken: so many of them, from where it stands, are one list.
+/// A source whose drawops are known before they are taken: so many of them, from where it stands,
+/// are one list.
 pub trait KnownArrivals: Arrivals {
     ghost use Rattle.wb_names.specs.Values.{DrawopValue};
 
-    ghost one_list: { (a b c : Self) (ds es : List DrawopValue) → Self.Arrivals.gives a ds b → Self.Arrivals.gives a es c → length ds ≡ length es → ds ≡ es };
+    ghost one_list: { (a b c : Self) (ds es : List DrawopValue) → Self.Arrivals.gives a ds b →
+        Self.Arrivals.gives a es c → length ds ≡ length es → ds ≡ es };
 }

@@ -57,16 +57,17 @@ impl Batch {
 /// How many messages the channel has room for, at most.
 const CAPACITY: usize = 64;
 
-/// Takes all that the source gives, each drawop once, by so many workers, from 1 to 8, each on a thread
-/// of its own. One has the desk itself; of more each gets an equal part of the desk's free rows. A drawop
-/// that a worker had no row for is taken again with the desk once all are joined, in order of arrival, and
-/// `left` counts those that find no row there either. The gate is called round each accept of a worker.
-/// Answers the counts, and the drawops in the order in which they came.
+/// Takes all that the source gives, each drawop once, by so many workers, from 1 to 8, each on a
+/// thread of its own. One has the desk itself; of more each gets an equal part of the desk's free
+/// rows. A drawop that a worker had no row for is taken again with the desk once all are joined, in
+/// order of arrival, and `left` counts those that find no row there either. The gate is called
+/// round each accept of a worker. Answers the counts, and the drawops in the order in which they
+/// came.
 ///
-/// With a number of workers out of range nothing is taken. After `Start` nothing was taken, and each row and
-/// place is kept. After `Memory` any part of the arrivals may have been taken; one worker then loses no row,
-/// and of more, a worker's desk whose join was refused is dropped with its rows, and all others are joined
-/// back.
+/// With a number of workers out of range nothing is taken. After `Start` nothing was taken, and
+/// each row and place is kept. After `Memory` any part of the arrivals may have been taken; one
+/// worker then loses no row, and of more, a worker's desk whose join was refused is dropped with
+/// its rows, and all others are joined back.
 pub fn run_batch<R: Threads + Wait + Sync, S: Arrivals, G: Gate + Sync>(
     rt: &R,
     alloc: Global,

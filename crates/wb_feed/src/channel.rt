@@ -1,4 +1,5 @@
-//! The channel between the caller's thread and the workers, its messages, and the rule that it is under.
+//! The channel between the caller's thread and the workers, its messages, and the rule that it is
+//! under.
 ghost use Rattle.std.specs.Prelude.{◌≡◌};
 
 use crossbeam_channel::protocol::{Join, Lesson, Outcome, Protocol, Split};
@@ -13,9 +14,9 @@ pub(crate) enum Message {
     End,
 }
 
-/// What a pass of the channel knows: its parts, of which there are 16 in all, so that a pass with all
-/// of them knows that no other received anything; whether it sends; the drawops that were sent; and
-/// the messages that it received, in order. No value of it is ever made.
+/// What a pass of the channel knows: its parts, of which there are 16 in all, so that a pass with
+/// all of them knows that no other received anything; whether it sends; the drawops that were sent;
+/// and the messages that it received, in order. No value of it is ever made.
 pub(crate) struct ChannelView {
     pub parts: u64,
     pub sends: bool,

@@ -1,7 +1,7 @@
 //! What is called round each accept of a worker.
 
-/// Called by a worker's thread round each of its accepts. Workers are numbered from 0, and `nth` counts
-/// the worker's own calls from 0.
+/// Called by a worker's thread round each of its accepts. Workers are numbered from 0, and `nth`
+/// counts the worker's own calls from 0.
 pub trait Gate {
     /// Before the accept.
     fn before(&self, worker: u32, nth: u32);

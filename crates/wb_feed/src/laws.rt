@@ -1,12 +1,14 @@
-//! A law of batches. The function does nothing that is seen: its contract is the law, for proofs to cite.
+//! A law of batches. The function does nothing that is seen: its contract is the law, for proofs to
+//! cite.
 
 ghost use Rattle.wb_feed.specs.Calls.{BatchIsOneRun};
 
 use wb_host::laws::one_run;
 
-/// What a batch told is one run of a whiteboard of one thread, by the law of the board that serves all its
-/// callers. Its workers are callers, and so is the desk, which takes what they left: each is told its
-/// replies in its own order, at points of one history. The desk owned all rows before the batch.
+/// What a batch told is one run of a whiteboard of one thread, by the law of the board that serves
+/// all its callers. Its workers are callers, and so is the desk, which takes what they left: each
+/// is told its replies in its own order, at points of one history. The desk owned all rows before
+/// the batch.
 pub fn batches_are_one_run()
     ensures { BatchIsOneRun }
 {

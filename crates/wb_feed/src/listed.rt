@@ -6,8 +6,8 @@ ghost use Rattle.std.proofs.Math.Seq.{take-append_seam};
 use crate::arrivals::{Arrivals, KnownArrivals};
 use wb_names::Drawop;
 
-/// The drawops of a list, in order, of which some may be taken already. Of a list of more than 4,294,967,295 it gives so
-/// many.
+/// The drawops of a list, in order, of which some may be taken already. Of a list of more than
+/// 4,294,967,295 it gives so many.
 #[derive(Drop)]
 pub struct Listed {
     all: Vec<Drawop>,
@@ -40,7 +40,8 @@ impl Arrivals for Listed {
 
     ghost gives_none = { λ s. refl };
 
-    ghost gives_on = { λ a b c ds es p q. p ∙ ap (λ l. ds ++ l) q ∙ sym (append_assoc ds es (drop c.next c.all.items)) };
+    ghost gives_on = { λ a b c ds es p q. p ∙ ap
+        (λ l. ds ++ l) q ∙ sym (append_assoc ds es (drop c.next c.all.items)) };
 
     fn next(&mut self) -> Option<Drawop> {
         let at = self.next as usize;
@@ -58,5 +59,7 @@ impl Arrivals for Listed {
 }
 
 impl KnownArrivals for Listed {
-    ghost one_list = { λ a b c ds es p q same. sym (take-append_seam ds (drop b.next b.all.items)) ∙ (ap (λ l. take (length ds) l) (sym p ∙ q) ∙ (ap (λ n. take n (es ++ drop c.next c.all.items)) same ∙ take-append_seam es (drop c.next c.all.items))) };
+    ghost one_list = { λ a b c ds es p q same. sym (take-append_seam ds (drop b.next b.all.items)) ∙
+        (ap (λ l. take (length ds) l) (sym p ∙ q) ∙ (ap (λ n. take n
+        (es ++ drop c.next c.all.items)) same ∙ take-append_seam es (drop c.next c.all.items))) };
 }

@@ -4,8 +4,8 @@ use crate::channel::ChannelReceiver;
 use std::alloc::{AllocError, Global};
 use wb_host::Board;
 
-/// What all threads of a batch share: the handle, the allocator, the board, the end of the channel that they
-/// receive by, what is called round each accept, and how many workers there are.
+/// What all threads of a batch share: the handle, the allocator, the board, the end of the channel
+/// that they receive by, what is called round each accept, and how many workers there are.
 pub(crate) struct Place<'e, R, G> {
     pub(crate) rt: &'e R,
     pub(crate) alloc: Global,

@@ -37,9 +37,9 @@ impl RelayFault {
     }
 }
 
-/// The teller accepts the drawop, on a thread of its own where one can be made, and the hearer has then
-/// seen all that the teller has, the drawop with it. No row or place of either is lost, whatever is
-/// answered. After `Memory` the drawop may stand in the history.
+/// The teller accepts the drawop, on a thread of its own where one can be made, and the hearer has
+/// then seen all that the teller has, the drawop with it. No row or place of either is lost,
+/// whatever is answered. After `Memory` the drawop may stand in the history.
 pub fn relay<R: Threads + Sync>(
     rt: &R,
     alloc: Global,

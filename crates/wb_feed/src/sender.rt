@@ -104,8 +104,8 @@ impl Feeding {
         self.channel.absorb::<Cut>(&mut self.pass, theirs);
     }
 
-    /// Learns that all passes are back, so that the first drawops sent were received, each once. It is a
-    /// load of one word, for the proof alone.
+    /// Learns that all passes are back, so that the first drawops sent were received, each once. It
+    /// is a load of one word, for the proof alone.
     pub(crate) fn learn_all(&mut self)
         requires { (view self.old.pass).parts ≡ 16 }
         ensures all { IsComplete (view self.old.pass) }

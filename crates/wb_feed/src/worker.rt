@@ -116,8 +116,8 @@ fn take_turn<R, G: Gate>(
 ) -> bool
     requires desk { IsPassOf place.board.now desk.old }
     ensures kept { LosesAtMost 0 desk.old desk.new }
-    ensures took { result ≡ false → (failed ≡ false) × NotesOne desk.old arrival.0 arrival.1 desk.new
-        told.old.replies.items told.new.replies.items }
+    ensures took { result ≡ false → (failed ≡ false) × NotesOne desk.old arrival.0 arrival.1
+        desk.new told.old.replies.items told.new.replies.items }
 {
     if failed {
         return true;

@@ -45,7 +45,8 @@ impl<'a> Promise<Done> for WorkerServes<'a> {
     ghost use Rattle.crossbeam_channel.specs.Ends.{receives_on};
     ghost use Rattle.wb_feed.specs.Served.{Served};
 
-    ghost kept_by = { λ p r. IsSeatAt (receives_on p.end.now) r.pass × Served p.desk.value r.desk (view r.pass) r.told.replies.items r.failed };
+    ghost kept_by = { λ p r. IsSeatAt (receives_on p.end.now) r.pass ×
+        Served p.desk.value r.desk (view r.pass) r.told.replies.items r.failed };
 }
 
 /// Feeds the workers, who are all started, and ends their work.
@@ -102,9 +103,9 @@ fn take_back(
     }
 }
 
-/// Starts the workers that are still to start, feeds them all, and takes them back. Where a thread is
-/// refused, its work is called here behind an end message, which is all that it then receives: so its desk
-/// comes back too.
+/// Starts the workers that are still to start, feeds them all, and takes them back. Where a thread
+/// is refused, its work is called here behind an end message, which is all that it then receives:
+/// so its desk comes back too.
 fn run_several<'s, 'e: 's, R: Threads + Wait + Sync, S: Arrivals, G: Gate + Sync>(
     scope: &'s Scope<'s, &'e ()>,
     place: Place<'e, R, G>,
@@ -142,7 +143,8 @@ fn run_several<'s, 'e: 's, R: Threads + Wait + Sync, S: Arrivals, G: Gate + Sync
         desk: Snapshot::of(&desk),
         end: place.end,
     };
-    // Taken apart, since the proof sees what a closure captures only where it is no struct of type parameters.
+    // Taken apart, since the proof sees what a closure captures only where it is no struct of type
+    // parameters.
     let Place {
         rt,
         alloc,
@@ -193,7 +195,8 @@ fn run_some<'s, 'e: 's, R: Threads + Wait + Sync, S: Arrivals, G: Gate + Sync>(
     ensures kept { MayLose place.entry.workers root.old result root.new }
     ensures fed { HasFed S.gives S.most_to_come S.has_ended feeding.old arrivals.old
         feeding.new arrivals.new result }
-    ensures ok { HasWorked (Work place.entry.workers root.old) feeding.old feeding.new root.new result }
+    ensures ok { HasWorked
+        (Work place.entry.workers root.old) feeding.old feeding.new root.new result }
 {
     if place.workers == 1 {
         return run_one(scope, place, root, feeding, arrivals);
@@ -201,8 +204,8 @@ fn run_some<'s, 'e: 's, R: Threads + Wait + Sync, S: Arrivals, G: Gate + Sync>(
     run_several(scope, place, root, rows, place.workers, feeding, arrivals)
 }
 
-/// All workers, each on a thread of its own, fed from this one. One has the desk itself; of more each gets so many rows, an equal
-/// part of those that are free.
+/// All workers, each on a thread of its own, fed from this one. One has the desk itself; of more
+/// each gets so many rows, an equal part of those that are free.
 pub(crate) fn run_all<R: Threads + Wait + Sync, S: Arrivals, G: Gate + Sync>(
     place: Place<R, G>,
     root: &mut Desk,
@@ -219,7 +222,8 @@ pub(crate) fn run_all<R: Threads + Wait + Sync, S: Arrivals, G: Gate + Sync>(
     ensures kept { MayLose place.entry.workers root.old result root.new }
     ensures fed { HasFed S.gives S.most_to_come S.has_ended feeding.old arrivals.old
         feeding.new arrivals.new result }
-    ensures ok { HasWorked (Work place.entry.workers root.old) feeding.old feeding.new root.new result }
+    ensures ok { HasWorked
+        (Work place.entry.workers root.old) feeding.old feeding.new root.new result }
 {
     let (root, feeding, arrivals, told) = thread::scope(
         thread::scope_env(),
@@ -233,10 +237,10 @@ pub(crate) fn run_all<R: Threads + Wait + Sync, S: Arrivals, G: Gate + Sync>(
                 × (result.1.ghost_name ≡ feeding.entry.ghost_name)
                 × (result.2.ghost_name ≡ arrivals.entry.ghost_name) }
             ensures kept { MayLose place.entry.workers root.entry.now result.3 result.0.now }
-            ensures fed { HasFed S.gives S.most_to_come S.has_ended feeding.entry.now arrivals.entry.now
-                result.1.now result.2.now result.3 }
-            ensures ok { HasWorked (Work place.entry.workers root.entry.now) feeding.entry.now result.1.now
-                result.0.now result.3 }
+            ensures fed { HasFed S.gives S.most_to_come S.has_ended feeding.entry.now
+                arrivals.entry.now result.1.now result.2.now result.3 }
+            ensures ok { HasWorked (Work place.entry.workers root.entry.now) feeding.entry.now
+                result.1.now result.0.now result.3 }
         {
             let told = run_some(scope, place, root, rows, feeding, arrivals);
             (root, feeding, arrivals, told)
@@ -248,7 +252,8 @@ pub(crate) fn run_all<R: Threads + Wait + Sync, S: Arrivals, G: Gate + Sync>(
     told
 }
 
-/// Does nothing. It ends a borrow that the closure gave back, so that the proof knows what was written through it.
+/// Does nothing. It ends a borrow that the closure gave back, so that the proof knows what was
+/// written through it.
 fn ends_here<T>(x: &mut T)
     ensures { x.new ≡ x.old }
 {}

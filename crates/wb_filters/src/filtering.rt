@@ -49,7 +49,8 @@ fn answer(
     number: u64,
     content: &[u8],
 ) -> Result<Vec<u8>, Stop<LineFault>>
-    ensures { MayAnswer (λ text. text.items) result (told_on filter.keeps_going number (turned filter.direction content.now)) }
+    ensures { MayAnswer (λ text. text.items) result
+        (told_on filter.keeps_going number (turned filter.direction content.now)) }
 {
     match turn(alloc, filter.direction, content) {
         Ok(text) => Ok(text),
@@ -114,10 +115,10 @@ impl Handler for Filter {
     }
 }
 
-/// Turns the lines that a source has left, and writes what they become to a sink, with their ends as
-/// they were. Before it waits for more it has written what it has. Answers how many lines there were,
-/// or the first fault in their order; each line before it is written. One that keeps going never answers
-/// that a line can't be turned.
+/// Turns the lines that a source has left, and writes what they become to a sink, with their ends
+/// as they were. Before it waits for more it has written what it has. Answers how many lines there
+/// were, or the first fault in their order; each line before it is written. One that keeps going
+/// never answers that a line can't be turned.
 ///
 /// Where memory runs out or the sink fails, a front of the text is written.
 pub fn run_filter<R: Source, W: Sink>(
@@ -130,7 +131,8 @@ pub fn run_filter<R: Source, W: Sink>(
         × Gave (R.left source.old) (R.left source.new) (R.has_failed source.new) input
         × Appends (W.taken sink.old) (W.taken sink.new) written
         × Meets (outcome filter (R.has_failed source.new) input) written result }
-    ensures keeps { filter.keeps_going ≡ true → (number : ℕ) (fault : LineFault) → result ≢ Err (faults.Line number fault) }
+    ensures keeps { filter.keeps_going ≡ true → (number : ℕ) (fault : LineFault) →
+        result ≢ Err (faults.Line number fault) }
     ensures read { result ≡ Err faults.Read → R.has_failed source.new ≡ true }
     ensures write { result ≡ Err faults.Write → W.has_failed sink.new ≡ true }
 {

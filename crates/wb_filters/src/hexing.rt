@@ -40,8 +40,8 @@ fn sent_part(line: &[u8]) -> Option<&[u8]>
 }
 
 /// A line of a script, which stands without its end, as a whiteboard takes it: a datagram in words,
-/// or one behind the word `send`, as the line with its bytes in hexadecimal; any other line as it is.
-/// Or the first word from the left that is wrong, of those of a datagram.
+/// or one behind the word `send`, as the line with its bytes in hexadecimal; any other line as it
+/// is. Or the first word from the left that is wrong, of those of a datagram.
 pub fn hex_line(alloc: Global, line: &[u8]) -> Result<Vec<u8>, TurnFault>
     ensures { MayTurn (λ text. text.items) result (hexed line.now) }
 {

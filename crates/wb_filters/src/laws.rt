@@ -1,5 +1,5 @@
-//! Laws of the two filters, proved for all datagrams and scripts. The functions do nothing: each stands here for
-//! its clauses.
+//! Laws of the two filters, proved for all datagrams and scripts. The functions do nothing: each
+//! stands here for its clauses.
 
 ghost use Rattle.wb_filters.specs.Laws.{WordsAreTurned, DigitsAreTurned, OtherLinesStay, WordsComeBack, DigitsComeBack, NoLineIsRefused};
 
@@ -15,8 +15,8 @@ pub fn other_lines_stay()
     ensures { OtherLinesStay }
 {}
 
-/// A script in words comes back from `wb hex` and then `wb words`, byte for byte, and one as `wb` prints
-/// it from `wb words` and then `wb hex`, while no line is over the limits on the way.
+/// A script in words comes back from `wb hex` and then `wb words`, byte for byte, and one as `wb`
+/// prints it from `wb words` and then `wb hex`, while no line is over the limits on the way.
 pub fn scripts_come_back()
     ensures words { WordsComeBack }
     ensures digits { DigitsComeBack }

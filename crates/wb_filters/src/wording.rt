@@ -44,8 +44,8 @@ fn told(alloc: Global, carrier: Carrier, bytes: &[u8]) -> Result<Vec<u8>, TurnFa
     }
 }
 
-/// A line of `arrive`, `hear` or `send`, whose rest after the space is no even number of digits: where
-/// that is one word, it is wrong; a line of more words stays as it is.
+/// A line of `arrive`, `hear` or `send`, whose rest after the space is no even number of digits:
+/// where that is one word, it is wrong; a line of more words stays as it is.
 fn without_digits(alloc: Global, line: &[u8], rest: &[u8]) -> Result<Vec<u8>, TurnFault>
     ensures { MayTurn (λ text. text.items) result (without_digits line.now rest.now) }
 {
@@ -56,9 +56,9 @@ fn without_digits(alloc: Global, line: &[u8], rest: &[u8]) -> Result<Vec<u8>, Tu
 }
 
 /// A line that a whiteboard takes or prints, which stands without its end, in words: `arrive`,
-/// `hear` or `send`, a space and an even number of hexadecimal digits are the words of the datagram,
-/// behind `send` where it is sent. Or what is wrong with the digits or the bytes: one word after the
-/// space has to be digits. Any other line stays as it is.
+/// `hear` or `send`, a space and an even number of hexadecimal digits are the words of the
+/// datagram, behind `send` where it is sent. Or what is wrong with the digits or the bytes: one
+/// word after the space has to be digits. Any other line stays as it is.
 pub fn words_line(alloc: Global, line: &[u8]) -> Result<Vec<u8>, TurnFault>
     ensures { MayTurn (λ text. text.items) result (worded line.now) }
 {

@@ -24,10 +24,10 @@ use wb_gaps::{Hole, PageReport};
 use wb_history::Pass;
 use wb_names::{Drawop, Gap, Marks, Name, PageId};
 
-/// What one caller knows of a board and owns in it: the drawops that it has seen, the places of those
-/// that it added, and rows for more. It changes only when it is lent to a call of the board that it
-/// came from, and it may go to another thread. A desk that is dropped keeps its rows, so they are
-/// lost.
+/// What one caller knows of a board and owns in it: the drawops that it has seen, the places of
+/// those that it added, and rows for more. It changes only when it is lent to a call of the board
+/// that it came from, and it may go to another thread. A desk that is dropped keeps its rows, so
+/// they are lost.
 #[derive(Drop)]
 pub struct Desk {
     pub(crate) pass: Pass,
@@ -65,9 +65,9 @@ impl Desk {
         }
     }
 
-    /// What a page shows, in the order of display, lent from the desk: it reads the history to its end
-    /// first, takes in what came since the page was last viewed, and copies nothing. `Board::view` is
-    /// this and a copy. After a fault the desk may have seen more.
+    /// What a page shows, in the order of display, lent from the desk: it reads the history to its
+    /// end first, takes in what came since the page was last viewed, and copies nothing.
+    /// `Board::view` is this and a copy. After a fault the desk may have seen more.
     pub fn shown(
         &mut self,
         alloc: Global,
@@ -75,8 +75,9 @@ impl Desk {
         page: PageId,
     ) -> Result<&[Drawop], AllocError>
         requires desk { IsPassOf board.now self.old }
-        ensures* desk { sem 𝓛 (EndsAs self.entry.ghost_name (λ d. ReadsOn self.old d
-            × IfOk result (λ shown. IsCaughtUp self.old d × IsAnswer d.seen (AskView page) (Shown shown.now)) × (d.cells ≡ board.now.cells))) }
+        ensures* desk { sem 𝓛 (EndsAs self.entry.ghost_name
+            (λ d. ReadsOn self.old d × IfOk result (λ shown. IsCaughtUp self.old d ×
+            IsAnswer d.seen (AskView page) (Shown shown.now)) × (d.cells ≡ board.now.cells))) }
     {
         board.refresh(self)?;
         bring_up(&mut self.layers, alloc, page, self.pass.list())?;
@@ -98,8 +99,8 @@ impl Desk {
         Ok(gaps)
     }
 
-    /// The first names that are missing of a page, of what it has seen and the keeper heard, and for which no request
-    /// timer of the keeper stands.
+    /// The first names that are missing of a page, of what it has seen and the keeper heard, and
+    /// for which no request timer of the keeper stands.
     pub(crate) fn unasked(
         &mut self,
         alloc: Global,
@@ -108,7 +109,9 @@ impl Desk {
         room: usize,
     ) -> Result<Vec<Name>, AllocError>
         ensures same { self.new ≡ self.old }
-        ensures names { IfOk result (λ names. (gaps : List Gap) × AreGaps self.old.seen page (marks_at keeper.now.marks page) gaps × (names.items ≡ take room (filter (is_unasked (timers_in keeper.now.recovery)) (names_in_gaps page gaps)))) }
+        ensures names { IfOk result (λ names. (gaps : List Gap) × AreGaps self.old.seen page
+            (marks_at keeper.now.marks page) gaps × (names.items ≡ take room
+            (filter (is_unasked (timers_in keeper.now.recovery)) (names_in_gaps page gaps)))) }
     {
         self.held.catch_up(&self.pass)?;
         let gaps = self.held.holdings.missing(page, keeper.marks(page));
@@ -161,7 +164,8 @@ impl Desk {
         Ok(number)
     }
 
-    /// The greatest number of a source on a page, of what it has seen. It takes in nothing, and so it needs no memory.
+    /// The greatest number of a source on a page, of what it has seen. It takes in nothing, and so
+    /// it needs no memory.
     pub(crate) fn last_number(&self, page: PageId, source: u32) -> u32
         ensures { result ≡ highest page source self.now.seen }
     {
@@ -188,7 +192,8 @@ impl Desk {
 
     /// The drawop with this name, by one look-up.
     pub fn find(&self, name: &Name) -> Option<&Drawop>
-        ensures { MatchOption result (¬ HoldsName self.now.seen name.now) (λ d. Contains self.now.seen d.now × (d.now.name ≡ name.now)) }
+        ensures { MatchOption result (¬ HoldsName self.now.seen name.now)
+            (λ d. Contains self.now.seen d.now × (d.now.name ≡ name.now)) }
     {
         match self.pass.place_of(name) {
             Some(place) => self.pass.at(place),

@@ -28,7 +28,8 @@ impl Held {
         }
     }
 
-    /// Takes in what the pass has seen since. Where memory is refused, it holds what it has taken in.
+    /// Takes in what the pass has seen since. Where memory is refused, it holds what it has taken
+    /// in.
     pub(crate) fn catch_up(&mut self, pass: &Pass) -> Result<(), AllocError>
         requires { HoldsFirst pass.now.seen self.old }
         ensures holds { HoldsFirst pass.now.seen self.new }
@@ -43,8 +44,8 @@ impl Held {
         Ok(())
     }
 
-    /// The greatest number of a source on a page in the list, or 0: by look-ups in what was taken in, and by a walk through
-    /// what came since. So it needs no memory.
+    /// The greatest number of a source on a page in the list, or 0: by look-ups in what was taken
+    /// in, and by a walk through what came since. So it needs no memory.
     pub(crate) fn highest(&self, list: &[Drawop], page: PageId, source: u32) -> u32
         requires { HoldsFirst list.now self.now }
         ensures { result ≡ highest page source list.now }

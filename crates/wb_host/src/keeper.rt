@@ -1,10 +1,10 @@
 //! A keeper: what one member asks for, answers and reports.
 //!
-//! It follows Floyd, Jacobson, Liu, McCanne and Zhang, "A Reliable Multicast Framework for Light-weight
-//! Sessions and Application Level Framing", 1997: `session` and `hear` its part on session messages,
-//! which tell the state of a page and the distances of members; `notice`, `arrived` and `tick` its part
-//! on loss recovery, by requests and repairs; `missing` its rule that a gap in the numbers of a source,
-//! or a number that is reported and not held, is a loss.
+//! It follows Floyd, Jacobson, Liu, McCanne and Zhang, "A Reliable Multicast Framework for
+//! Light-weight Sessions and Application Level Framing", 1997: `session` and `hear` its part on
+//! session messages, which tell the state of a page and the distances of members; `notice`,
+//! `arrived` and `tick` its part on loss recovery, by requests and repairs; `missing` its rule that
+//! a gap in the numbers of a source, or a number that is reported and not held, is a loss.
 
 ghost use Rattle.std.specs.Prelude.{◌≡◌, ◌<◌, ◌≤◌, ◌^◌, [], ℕ, List, false, IsTrue, IsOk, IfOk, OnOk, OnErr, MatchOption, MatchResult, length};
 ghost use Rattle.wb_names.specs.Moments.{IsMoment};
@@ -71,7 +71,14 @@ impl Model for Keeper {
 
     ghost Value = { KeeperValue };
 
-    ghost view = { λ k. record { me = k.me; moment = k.moment; recovery = k.recovery; delays = k.delays.entries; heard = k.heard.entries; marks = k.marks.entries } };
+    ghost view = { λ k. record {
+      me = k.me;
+      moment = k.moment;
+      recovery = k.recovery;
+      delays = k.delays.entries;
+      heard = k.heard.entries;
+      marks = k.marks.entries;
+    } };
 
     ghost invariant = { λ k. IsWithinLimits k.moment k.recovery k.delays k.heard k.none };
 }
@@ -83,7 +90,8 @@ impl Keeper {
     /// The keeper of the member `me`, which has heard nothing. A constant that is not 1 to 16 is
     /// refused with `Constant`.
     pub fn new(alloc: Global, me: u32, tuning: Tuning) -> Result<Keeper, TuningFault>
-        ensures constants { MatchResult result (λ r. IsTrue (are_constants tuning)) (λ e. are_constants tuning ≡ false) }
+        ensures constants { MatchResult result (λ r. IsTrue (are_constants tuning))
+            (λ e. are_constants tuning ≡ false) }
         ensures empty { IfOk result (StandsFor me tuning []) }
     {
         let recovery = Recovery::new(alloc, tuning)?;
@@ -118,19 +126,21 @@ impl Keeper {
         Ok(())
     }
 
-    /// Gives the timers other constants, each 1 to 16: what is set or backed off from now on is by them. A timer that
-    /// stands keeps its moment.
+    /// Gives the timers other constants, each 1 to 16: what is set or backed off from now on is by
+    /// them. A timer that stands keeps its moment.
     ///
     /// Refused with `Constant`.
     pub fn set_constants(&mut self, constants: Tuning) -> Result<(), TuningFault>
-        ensures constants { MatchResult result (λ done. IsTrue (are_constants constants)) (λ e. are_constants constants ≡ false) }
+        ensures constants { MatchResult result (λ done. IsTrue (are_constants constants))
+            (λ e. are_constants constants ≡ false) }
         ensures ok { OnOk result (Keeps (SetConstants constants) self.old self.new) }
         ensures err { OnErr result (self.new ≡ self.old) }
     {
         self.recovery.tune(constants)
     }
 
-    /// The moment of the last accepted call that has one, in microseconds, and 0 before there is one.
+    /// The moment of the last accepted call that has one, in microseconds, and 0 before there is
+    /// one.
     pub fn moment(&self) -> u64
         ensures moment { result ≡ self.now.moment }
         ensures range { IsMoment result }
@@ -164,19 +174,26 @@ impl Keeper {
         }
     }
 
-    /// How many request timers are due at a moment, in microseconds, and so how many words `tick` then
-    /// wants. Which of them a tick stops, since what they ask for is held, the accepted calls tell too.
+    /// How many request timers are due at a moment, in microseconds, and so how many words `tick`
+    /// then wants. Which of them a tick stops, since what they ask for is held, the accepted calls
+    /// tell too.
     pub fn due_count(&self, now: u64) -> usize
-        ensures count { result ≡ length (due_asks (names_in self.now.recovery) (timers_in self.now.recovery) now) }
-        ensures calls { (me : ℕ) (constants : Constants) (calls : List KeeperCall) → StandsFor me constants calls self.now → result ≡ length (due_asks (names_of (events_of me calls)) (timers_of constants (events_of me calls)) now) }
+        ensures count { result ≡
+            length (due_asks (names_in self.now.recovery) (timers_in self.now.recovery) now) }
+        ensures calls { (me : ℕ) (constants : Constants) (calls : List KeeperCall) →
+            StandsFor me constants calls self.now → result ≡ length (due_asks
+            (names_of (events_of me calls)) (timers_of constants (events_of me calls)) now) }
     {
         self.recovery.due_count(now)
     }
 
     /// How many request timers stand.
     pub fn asks(&self) -> usize
-        ensures count { result ≡ length (asking (names_in self.now.recovery) (timers_in self.now.recovery)) }
-        ensures calls { (me : ℕ) (constants : Constants) (calls : List KeeperCall) → StandsFor me constants calls self.now → result ≡ length (asking (names_of (events_of me calls)) (timers_of constants (events_of me calls))) }
+        ensures count { result ≡
+            length (asking (names_in self.now.recovery) (timers_in self.now.recovery)) }
+        ensures calls { (me : ℕ) (constants : Constants) (calls : List KeeperCall) →
+            StandsFor me constants calls self.now → result ≡ length
+            (asking (names_of (events_of me calls)) (timers_of constants (events_of me calls))) }
     {
         self.recovery.asks()
     }
@@ -186,14 +203,17 @@ impl Keeper {
     /// None where no timer stands.
     pub fn next_due(&self) -> Option<u64>
         ensures due { IsNextDue (timers_in self.now.recovery) result }
-        ensures calls { (me : ℕ) (constants : Constants) (calls : List KeeperCall) → StandsFor me constants calls self.now → result ≡ next_due_of constants (events_of me calls) }
+        ensures calls { (me : ℕ) (constants : Constants) (calls : List KeeperCall) →
+            StandsFor me constants calls self.now →
+            result ≡ next_due_of constants (events_of me calls) }
     {
         self.recovery.next_due()
     }
 
     /// Refuses a moment below the last one, and then one out of its range.
     fn check(&self, now: u64) -> Result<(), KeepFault>
-        ensures fault { MatchOption (moment_fault self.now.moment now) (IsOk result) (λ fault. result ≡ Err fault) }
+        ensures fault { MatchOption (moment_fault self.now.moment now) (IsOk result)
+            (λ fault. result ≡ Err fault) }
         ensures after { OnOk result (self.now.moment ≤ now) }
         ensures moment { OnOk result (IsMoment now) }
     {

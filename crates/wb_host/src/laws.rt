@@ -1,5 +1,5 @@
-//! Laws of the board and of its keeper. Each function does nothing that is seen: its contract is a law,
-//! for proofs to cite.
+//! Laws of the board and of its keeper. Each function does nothing that is seen: its contract is a
+//! law, for proofs to cite.
 
 ghost use Rattle.wb_host.specs.Hearing.{OneSent, AnswersAreSent};
 ghost use Rattle.wb_host.specs.Missing.{FirstAreWanted, OneWanted, WantedOfPage};
@@ -17,11 +17,11 @@ ghost use Rattle.wb_host.specs.KeeperLaws.{AnswersWithHeld, AsksForNoneHeld, Dra
 use wb_codec::Datagram;
 use wb_codec::laws::{datagrams_are_in_range, reading_undoes_spelling};
 
-/// What all callers of a board were told is one run of a whiteboard of one thread. Let each reply be
-/// the answer at its point of the history, let the points of a caller never fall, and rise after a new
-/// drawop, and let each member be new to one of them. Then the calls by their points, at each point the
-/// new drawop last, make a run in which each answer is that of the whiteboard at the history so far,
-/// and in which each caller's calls stand, each once, in their order.
+/// What all callers of a board were told is one run of a whiteboard of one thread. Let each reply
+/// be the answer at its point of the history, let the points of a caller never fall, and rise after
+/// a new drawop, and let each member be new to one of them. Then the calls by their points, at each
+/// point the new drawop last, make a run in which each answer is that of the whiteboard at the
+/// history so far, and in which each caller's calls stand, each once, in their order.
 pub fn one_run()
     ensures { OneRun }
 {}
@@ -33,17 +33,18 @@ pub fn order_is_free()
     ensures canvases { CanvasesConverge }
 {}
 
-/// What a session message means: two boards that have one report of a page, and no gaps below it, show
-/// the same there, where each name has one content in both. So a host that lacks nothing below the
-/// marks of a session message, and has no more, shows what its sender showed, who lacked nothing.
+/// What a session message means: two boards that have one report of a page, and no gaps below it,
+/// show the same there, where each name has one content in both. So a host that lacks nothing below
+/// the marks of a session message, and has no more, shows what its sender showed, who lacked
+/// nothing.
 pub fn reports_agree()
     ensures { ReportsAgree }
 {}
 
 // ---- the keeper
 
-/// There is one list that a keeper sends at once for what it hears, and one list of the names that it
-/// wants of a page; each is the value of a function.
+/// There is one list that a keeper sends at once for what it hears, and one list of the names that
+/// it wants of a page; each is the value of a function.
 pub fn keepers_answer_alike()
     ensures sent { OneSent }
     ensures wanted { OneWanted }
@@ -51,14 +52,15 @@ pub fn keepers_answer_alike()
     ensures names { WantedOfPage }
 {}
 
-/// The names that a keeper wants of a page are, ascending, those of the page that are known of, not held
-/// and without a request timer: the first of them, as many as bring the standing request timers to 64.
+/// The names that a keeper wants of a page are, ascending, those of the page that are known of, not
+/// held and without a request timer: the first of them, as many as bring the standing request
+/// timers to 64.
 pub fn first_are_wanted()
     ensures { FirstAreWanted }
 {}
 
-/// There is one session message of a moment, and a function gives it: `session` has no choice in what it
-/// answers.
+/// There is one session message of a moment, and a function gives it: `session` has no choice in
+/// what it answers.
 pub fn one_session()
     ensures one { OneSession }
     ensures message { MessageIsSession }
@@ -70,22 +72,22 @@ pub fn order_of_arrival_is_free()
     ensures { OrderOfArrivalIsFree }
 {}
 
-/// The request timers that a tick stops, since what they ask for is held, are told by the accepted calls
-/// and the history.
+/// The request timers that a tick stops, since what they ask for is held, are told by the accepted
+/// calls and the history.
 pub fn stopped_by_calls()
     ensures { StoppedByCalls }
 {}
 
-/// A tick asks, as this member, for just the names whose request timer is due and that the desk does
-/// not hold; and it answers with just those members of the history whose answer timer is due, where
-/// no request timer stands for their names.
+/// A tick asks, as this member, for just the names whose request timer is due and that the desk
+/// does not hold; and it answers with just those members of the history whose answer timer is due,
+/// where no request timer stands for their names.
 pub fn ticks_spare_what_is_held()
     ensures asks { AsksForNoneHeld }
     ensures answers { AnswersWithHeld }
 {}
 
-/// The mark of a source on a page is the greatest number that a datagram of another member told, and
-/// the marks of a page that are merged from datagrams have those numbers.
+/// The mark of a source on a page is the greatest number that a datagram of another member told,
+/// and the marks of a page that are merged from datagrams have those numbers.
 pub fn marks_are_greatest()
     ensures marks { MarksAreGreatest }
     ensures merged { MergedAreGreatest }
@@ -98,8 +100,8 @@ pub fn own_datagrams_only_move()
     ensures drawops { DrawopsOnlyMove }
 {}
 
-/// A session message echoes the first 65,535 members whose session messages were heard, each with the
-/// last that it sent.
+/// A session message echoes the first 65,535 members whose session messages were heard, each with
+/// the last that it sent.
 pub fn first_senders_are_echoed()
     ensures { FirstSendersAreEchoed }
 {}

@@ -31,7 +31,8 @@ impl PageLayer {
         }
     }
 
-    /// Puts what came since, all at once, and nothing else. Where memory is refused nothing was put.
+    /// Puts what came since, all at once, and nothing else. Where memory is refused nothing was
+    /// put.
     fn catch_up(&mut self, list: &[Drawop]) -> Result<(), AllocError>
         requires { HasTakenIn list.now self.old.layer.page self.old }
         ensures page { self.new.layer.page ≡ self.old.layer.page }
@@ -44,8 +45,8 @@ impl PageLayer {
     }
 }
 
-/// Brings the layer of a page up to the list; where the page was never viewed, it gets a layer. Where
-/// memory is refused, each layer is right for what it has taken in.
+/// Brings the layer of a page up to the list; where the page was never viewed, it gets a layer.
+/// Where memory is refused, each layer is right for what it has taken in.
 pub(crate) fn bring_up(
     layers: &mut Layers,
     alloc: Global,
@@ -69,7 +70,8 @@ pub(crate) fn bring_up(
 /// What the layer of a page shows.
 pub(crate) fn shown_on(layers: &Layers, page: PageId) -> &[Drawop]
     requires { IsSome (layer_of layers.now.entries page) }
-    ensures { (s : PageLayerValue) → layer_of layers.now.entries page ≡ Some s → IsView s.layer.held s.layer.page result.now }
+    ensures { (s : PageLayerValue) → layer_of layers.now.entries page ≡ Some s →
+        IsView s.layer.held s.layer.page result.now }
 {
     layers.get(&page).unwrap().layer.shown()
 }

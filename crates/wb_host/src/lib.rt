@@ -10,8 +10,9 @@
 //!
 //! In reading order: `board` has the calls that open, divide and extend a board, `queries` what it
 //! answers of pages, `desk` what a desk tells by itself, and `reply` the answers to an arrival;
-//! `layers` keeps what viewed pages show, and `held` which numbers there are. `keeper` has what a member hears and answers, misses and asks
-//! for. `laws` says what follows for many callers, and for two boards.
+//! `layers` keeps what viewed pages show, and `held` which numbers there are. `keeper` has what a
+//! member hears and answers, misses and asks for. `laws` says what follows for many callers, and
+//! for two boards.
 #![tactic(auto)]
 
 mod board;

@@ -30,8 +30,8 @@ pub fn calls_tell_timers()
     ensures idle { GivenUpIsIdle }
 {}
 
-/// A keeper that misses a name comes to ask for it, and one that holds it comes to send it to one who
-/// asks, if time goes on far enough.
+/// A keeper that misses a name comes to ask for it, and one that holds it comes to send it to one
+/// who asks, if time goes on far enough.
 pub fn repairs_come()
     ensures asker { AskerAsks }
     ensures anew { AskedAnewIsSoon }
@@ -39,8 +39,8 @@ pub fn repairs_come()
     ensures holder { HolderAnswers }
 {}
 
-/// A timer stands as it was set until a call ends it, and a name is quiet only for a cause of the last
-/// three delays.
+/// A timer stands as it was set until a call ends it, and a name is quiet only for a cause of the
+/// last three delays.
 pub fn timers_stand()
     ensures answers { AnswersAreKept }
     ensures requests { RequestsAreKept }
@@ -49,8 +49,8 @@ pub fn timers_stand()
     ensures leads { RequestsLeadOn }
 {}
 
-/// What one call makes of the timers of a name: each stands as it was set until the call ends it, and begins
-/// for a stated cause and a stated wait.
+/// What one call makes of the timers of a name: each stands as it was set until the call ends it,
+/// and begins for a stated cause and a stated wait.
 pub fn calls_begin_and_end_timers()
     ensures answers { AnswersGoOn }
     ensures requests { RequestsGoOn }
@@ -59,9 +59,9 @@ pub fn calls_begin_and_end_timers()
     ensures heard { RequestsAreHeard }
 {}
 
-/// Where keepers, their drivers and the network keep to stated times: a request for what a live place held is
-/// answered to all, a request timer leads to one, what a look asks for comes in one round, and all of the page
-/// has come by a stated time.
+/// Where keepers, their drivers and the network keep to stated times: a request for what a live
+/// place held is answered to all, a request timer leads to one, what a look asks for comes in one
+/// round, and all of the page has come by a stated time.
 pub fn all_comes_in_time()
     ensures answered { RequestIsAnswered }
     ensures leads { TimerLeads }

@@ -9,17 +9,18 @@ use wb_feed::Arrivals;
 use wb_lines::Progress;
 use wb_names::{Drawop, Sink, Source};
 
-/// Reads a script up to its next arrival, and takes that line and those that are skipped before it. A line that
-/// is neither is looked at alone: the batch ends there.
+/// Reads a script up to its next arrival, and takes that line and those that are skipped before it.
+/// A line that is neither is looked at alone: the batch ends there.
 fn read_on<R: Source, W: Sink>(
     alloc: Global,
     progress: &mut Progress<Said>,
     source: &mut R,
     sink: &mut W,
 ) -> Option<Drawop>
-    ensures { ReadsTo
-        (moment progress.old.lines progress.old.output (R.left source.old) (R.has_failed source.old) (W.taken sink.old) (W.has_failed sink.old))
-        (moment progress.new.lines progress.new.output (R.left source.new) (R.has_failed source.new) (W.taken sink.new) (W.has_failed sink.new)) result }
+    ensures { ReadsTo (moment progress.old.lines progress.old.output
+        (R.left source.old) (R.has_failed source.old) (W.taken sink.old) (W.has_failed sink.old))
+        (moment progress.new.lines progress.new.output (R.left source.new) (R.has_failed source.new)
+        (W.taken sink.new) (W.has_failed sink.new)) result }
 {
     while let Some(said) = progress.next_joined(alloc, source, sink) {
         if let Part::Arrival(drawop) = said.part() {
@@ -37,9 +38,10 @@ fn next_arrival<R: Source, W: Sink>(
     sink: &mut W,
     first: &mut Option<Drawop>,
 ) -> Option<Drawop>
-    ensures { ArrivesTo
-        (moment progress.old.lines progress.old.output (R.left source.old) (R.has_failed source.old) (W.taken sink.old) (W.has_failed sink.old)) first.old
-        (moment progress.new.lines progress.new.output (R.left source.new) (R.has_failed source.new) (W.taken sink.new) (W.has_failed sink.new)) first.new result }
+    ensures { ArrivesTo (moment progress.old.lines progress.old.output (R.left source.old)
+        (R.has_failed source.old) (W.taken sink.old) (W.has_failed sink.old)) first.old
+        (moment progress.new.lines progress.new.output (R.left source.new) (R.has_failed source.new)
+        (W.taken sink.new) (W.has_failed sink.new)) first.new result }
 {
     match first.take() {
         Some(drawop) => Some(drawop),
@@ -47,8 +49,8 @@ fn next_arrival<R: Source, W: Sink>(
     }
 }
 
-/// The arrivals of a batch, read from a script: one whose line was taken before, and those of the lines that
-/// follow, up to one that is neither skipped nor an arrival.
+/// The arrivals of a batch, read from a script: one whose line was taken before, and those of the
+/// lines that follow, up to one that is neither skipped nor an arrival.
 #[derive(Drop)]
 pub struct BatchSource<'a, R: Source, W: Sink> {
     pub alloc: Global,
@@ -68,11 +70,20 @@ impl<R: Source, W: Sink> Arrivals for BatchSource<'_, R, W> {
     ghost use Rattle.std.proofs.Common.{◌++◌, ◌∙◌, sym, subst, append_assoc};
     ghost use Rattle.std.proofs.lemmas.List.{append-nil};
 
-    ghost gives = { λ a ds b. (a.progress.ghost_name ≡ b.progress.ghost_name) × (a.source.ghost_name ≡ b.source.ghost_name) × (a.sink.ghost_name ≡ b.sink.ghost_name)
-        × Gives
-        (record { at = moment a.progress.now.lines a.progress.now.output (R.left a.source.now) (R.has_failed a.source.now) (W.taken a.sink.now) (W.has_failed a.sink.now); first = a.first; over = a.over })
-        ds
-        (record { at = moment b.progress.now.lines b.progress.now.output (R.left b.source.now) (R.has_failed b.source.now) (W.taken b.sink.now) (W.has_failed b.sink.now); first = b.first; over = b.over }) };
+    ghost gives = { λ a ds b. (a.progress.ghost_name ≡ b.progress.ghost_name) ×
+        (a.source.ghost_name ≡ b.source.ghost_name) × (a.sink.ghost_name ≡ b.sink.ghost_name) ×
+        Gives (record {
+          at = moment a.progress.now.lines a.progress.now.output (R.left a.source.now)
+              (R.has_failed a.source.now) (W.taken a.sink.now) (W.has_failed a.sink.now);
+          first = a.first;
+          over = a.over;
+        }) ds (record {
+          at = moment b.progress.now.lines b.progress.now.output
+              (R.left b.source.now) (R.has_failed b.source.now) (W.taken b.sink.now)
+              (W.has_failed b.sink.now);
+          first = b.first;
+          over = b.over;
+        }) };
 
     ghost has_ended = { λ s. s.over };
 
@@ -101,7 +112,31 @@ impl<R: Source, W: Sink> Arrivals for BatchSource<'_, R, W> {
         MAX_LINES - self.progress.lines.done() as u32 + u32::from(self.first.is_some())
     }
 
-    ghost gives_none = { λ s. (refl, refl, refl, λ start arrived p. subst (λ l. ReadsOn start l (record { at = moment s.progress.now.lines s.progress.now.output (R.left s.source.now) (R.has_failed s.source.now) (W.taken s.sink.now) (W.has_failed s.sink.now); first = s.first; over = s.over })) (sym (append-nil arrived)) p) };
+    ghost gives_none = { λ s. (
+      refl,
+      refl,
+      refl,
+      λ start arrived p. subst (λ l. ReadsOn start l
+          (record {
+            at = moment s.progress.now.lines s.progress.now.output (R.left s.source.now)
+                (R.has_failed s.source.now) (W.taken s.sink.now) (W.has_failed s.sink.now);
+            first = s.first;
+            over = s.over;
+          })) (sym (append-nil arrived)) p,
+    ) };
 
-    ghost gives_on = { λ a b c ds es p q. (p.0 ∙ q.0, p.1 ∙ q.1, p.2 ∙ q.2, λ start arrived r. subst (λ l. ReadsOn start l (record { at = moment c.progress.now.lines c.progress.now.output (R.left c.source.now) (R.has_failed c.source.now) (W.taken c.sink.now) (W.has_failed c.sink.now); first = c.first; over = c.over })) (append_assoc arrived ds es) (q.3 start (arrived ++ ds) (p.3 start arrived r))) };
+    ghost gives_on = { λ a b c ds es p q. (
+      p.0 ∙ q.0,
+      p.1 ∙ q.1,
+      p.2 ∙ q.2,
+      λ start arrived r.
+          subst (λ l. ReadsOn start l (record {
+            at = moment c.progress.now.lines c.progress.now.output
+                (R.left c.source.now) (R.has_failed c.source.now) (W.taken c.sink.now)
+                (W.has_failed c.sink.now);
+            first = c.first;
+            over = c.over;
+          })) (append_assoc arrived ds es)
+          (q.3 start (arrived ++ ds) (p.3 start arrived r)),
+    ) };
 }

@@ -1,7 +1,8 @@
 //! The loop of a run, over the parts of the driver of wb_lines.
 //!
-//! It is `drive_groups` of wb_lines for one handler. That one is generic over its handler, and what starts threads can't
-//! stand behind a trait here: a bound `Sync` of an `impl` holds on its own thread alone.
+//! It is `drive_groups` of wb_lines for one handler. That one is generic over its handler, and what
+//! starts threads can't stand behind a trait here: a bound `Sync` of an `impl` holds on its own
+//! thread alone.
 ghost use Rattle.std.specs.Prelude.{◌≡◌, ◌<◌, ◌≤◌, List, ℕ, true, false, Ok, Err, Some, None, IfOk};
 ghost use Rattle.std.specs.Io.KnownBytes.{Appends};
 ghost use Rattle.wb_lines.specs.declared.lines.Seen.TheVariants as seens;
@@ -35,13 +36,17 @@ fn hand_over<T: Threads + Wait + Sync, R: Source, W: Sink, G: Gate + Sync>(
 ) -> Result<bool, DriveFault<LineFault>>
     requires said { Says progress.old.lines.line said }
     requires taken { progress.old.lines.seen ≡ seens.Nothing }
-    ensures text { (printed : List ℕ) × (moves : Moves
-        (moment progress.old.lines progress.old.output (R.left source.old) (R.has_failed source.old) (W.taken sink.old) (W.has_failed sink.old))
-        (moment progress.new.lines progress.new.output (R.left source.new) (R.has_failed source.new) (W.taken sink.new) (W.has_failed sink.new)) printed)
-        × ((s : State) → IsAt host.old s
-        → Drives by_batches may_take (IsAt host.new) (OutcomeAt by_batches may_take progress.old.lines (Some (begin progress.old.lines.done progress.old.lines.line)) s) moves.given printed progress.new.lines result) }
+    ensures text { (printed : List ℕ) ×
+        (moves : Moves (moment progress.old.lines progress.old.output
+        (R.left source.old) (R.has_failed source.old) (W.taken sink.old) (W.has_failed sink.old))
+        (moment progress.new.lines progress.new.output (R.left source.new) (R.has_failed source.new)
+        (W.taken sink.new) (W.has_failed sink.new)) printed) × ((s : State) → IsAt host.old s →
+        Drives by_batches may_take (IsAt host.new) (OutcomeAt by_batches may_take progress.old.lines
+        (Some (begin progress.old.lines.done progress.old.lines.line)) s) moves.given printed
+        progress.new.lines result) }
     ensures going { result ≡ Ok true → is_broken progress.new.lines.seen ≡ false }
-    ensures faults { (result ≡ Err DriveFault.Read → progress.new.lines.seen ≡ seens.Failed) × (result ≡ Err DriveFault.Write → progress.new.lines.seen ≡ seens.Unwritten) }
+    ensures faults { (result ≡ Err DriveFault.Read → progress.new.lines.seen ≡ seens.Failed) ×
+        (result ≡ Err DriveFault.Write → progress.new.lines.seen ≡ seens.Unwritten) }
 {
     let number = progress.lines.done();
     if let Err(stop) = host.take(alloc, said, progress, source, sink) {
@@ -63,13 +68,19 @@ fn take_group<T: Threads + Wait + Sync, R: Source, W: Sink, G: Gate + Sync>(
     sink: &mut W,
 ) -> Result<bool, DriveFault<LineFault>>
     requires going { is_broken progress.old.lines.seen ≡ false }
-    ensures text { (printed : List ℕ) × (moves : Moves
-        (moment progress.old.lines progress.old.output (R.left source.old) (R.has_failed source.old) (W.taken sink.old) (W.has_failed sink.old))
-        (moment progress.new.lines progress.new.output (R.left source.new) (R.has_failed source.new) (W.taken sink.new) (W.has_failed sink.new)) printed)
-        × ((s : State) → IsAt host.old s
-        → Drives by_batches may_take (IsAt host.new) (OutcomeAt by_batches may_take progress.old.lines None s) moves.given printed progress.new.lines result) }
-    ensures on { result ≡ Ok true → (progress.old.lines.done < progress.old.lines.most) × (progress.old.lines.done < progress.new.lines.done) × (is_broken progress.new.lines.seen ≡ false) }
-    ensures faults { (result ≡ Err DriveFault.Read → progress.new.lines.seen ≡ seens.Failed) × (result ≡ Err DriveFault.Write → progress.new.lines.seen ≡ seens.Unwritten) }
+    ensures text { (printed : List ℕ) ×
+        (moves : Moves (moment progress.old.lines progress.old.output
+        (R.left source.old) (R.has_failed source.old) (W.taken sink.old) (W.has_failed sink.old))
+        (moment progress.new.lines progress.new.output (R.left source.new) (R.has_failed source.new)
+        (W.taken sink.new) (W.has_failed sink.new)) printed) ×
+        ((s : State) → IsAt host.old s → Drives by_batches may_take (IsAt host.new)
+        (OutcomeAt by_batches may_take progress.old.lines None s) moves.given printed
+        progress.new.lines result) }
+    ensures on { result ≡ Ok true → (progress.old.lines.done < progress.old.lines.most) ×
+        (progress.old.lines.done < progress.new.lines.done) ×
+        (is_broken progress.new.lines.seen ≡ false) }
+    ensures faults { (result ≡ Err DriveFault.Read → progress.new.lines.seen ≡ seens.Failed) ×
+        (result ≡ Err DriveFault.Write → progress.new.lines.seen ≡ seens.Unwritten) }
 {
     progress
         .lines
@@ -93,20 +104,23 @@ fn take_groups<T: Threads + Wait + Sync, R: Source, W: Sink, G: Gate + Sync>(
     sink: &mut W,
 ) -> Result<u64, DriveFault<LineFault>>
     requires going { is_broken progress.old.lines.seen ≡ false }
-    ensures text { (printed : List ℕ) × (moves : Moves
-        (moment progress.old.lines progress.old.output (R.left source.old) (R.has_failed source.old) (W.taken sink.old) (W.has_failed sink.old))
-        (moment progress.new.lines progress.new.output (R.left source.new) (R.has_failed source.new) (W.taken sink.new) (W.has_failed sink.new)) printed)
-        × ((s : State) → IsAt host.old s
-        → DrivesAll (IsAt host.new) (OutcomeAt by_batches may_take progress.old.lines None s) moves.given printed progress.new.lines result) }
+    ensures text { (printed : List ℕ) ×
+        (moves : Moves (moment progress.old.lines progress.old.output
+        (R.left source.old) (R.has_failed source.old) (W.taken sink.old) (W.has_failed sink.old))
+        (moment progress.new.lines progress.new.output (R.left source.new) (R.has_failed source.new)
+        (W.taken sink.new) (W.has_failed sink.new)) printed) × ((s : State) → IsAt host.old s →
+        DrivesAll (IsAt host.new) (OutcomeAt by_batches may_take progress.old.lines None s)
+        moves.given printed progress.new.lines result) }
     ensures few { IfOk result (λ lines. lines ≤ progress.old.lines.most) }
-    ensures faults { (result ≡ Err DriveFault.Read → progress.new.lines.seen ≡ seens.Failed) × (result ≡ Err DriveFault.Write → progress.new.lines.seen ≡ seens.Unwritten) }
+    ensures faults { (result ≡ Err DriveFault.Read → progress.new.lines.seen ≡ seens.Failed) ×
+        (result ≡ Err DriveFault.Write → progress.new.lines.seen ≡ seens.Unwritten) }
 {
     while take_group(alloc, host, progress, source, sink)? {}
     Ok(progress.lines.done())
 }
 
-/// Hands the lines that a source has left to a host, so many at most, batch by batch, and writes what it prints to a sink.
-/// Answers how many lines there were, or why no more were taken.
+/// Hands the lines that a source has left to a host, so many at most, batch by batch, and writes
+/// what it prints to a sink. Answers how many lines there were, or why no more were taken.
 pub fn take_lines<T: Threads + Wait + Sync, R: Source, W: Sink, G: Gate + Sync>(
     alloc: Global,
     most: u64,
@@ -115,10 +129,11 @@ pub fn take_lines<T: Threads + Wait + Sync, R: Source, W: Sink, G: Gate + Sync>(
     sink: &mut W,
 ) -> Result<u64, DriveFault<LineFault>>
     requires { most ≤ most_lines }
-    ensures lines { (input : List ℕ) × (written : List ℕ)
-        × Gave (R.left source.old) (R.left source.new) (R.has_failed source.new) input
-        × Appends (W.taken sink.old) (W.taken sink.new) written
-        × ((s : State) → IsAt host.old s → MeetsOne (IsOutcome (group_rules by_batches may_take most) (R.has_failed source.new) s input) (IsAt host.new) written result) }
+    ensures lines { (input : List ℕ) × (written : List ℕ) ×
+        Gave (R.left source.old) (R.left source.new) (R.has_failed source.new) input × Appends
+        (W.taken sink.old) (W.taken sink.new) written × ((s : State) → IsAt host.old s → MeetsOne
+        (IsOutcome (group_rules by_batches may_take most) (R.has_failed source.new) s input)
+        (IsAt host.new) written result) }
     ensures few { IfOk result (λ lines. lines ≤ most) }
     ensures read { result ≡ Err DriveFault.Read → R.has_failed source.new ≡ true }
     ensures write { result ≡ Err DriveFault.Write → W.has_failed sink.new ≡ true }

@@ -26,11 +26,11 @@ use wb_member::Member;
 use wb_names::{Drawop, Sink, Source};
 use wb_recovery::Tuning;
 
-/// The host of a script, once it is open, and how many workers take its batches, once that is known. A batch
-/// is taken by the call that hands in its first arrival, so none waits.
+/// The host of a script, once it is open, and how many workers take its batches, once that is
+/// known. A batch is taken by the call that hands in its first arrival, so none waits.
 ///
-/// What its keeper holds stands for the calls that it accepted. So the contracts speak of each state of
-/// a script at which the host may be, and say at which it is afterwards.
+/// What its keeper holds stands for the calls that it accepted. So the contracts speak of each
+/// state of a script at which the host may be, and say at which it is afterwards.
 #[derive(Drop)]
 pub struct Host<'a, T, G> {
     place: Place<'a, T, G>,
@@ -96,7 +96,8 @@ impl<'a, T, G> Host<'a, T, G> {
         seed: u64,
     ) -> Result<(), Stop<LineFault>>
         requires { IsCellCount cells }
-        ensures { (s : State) → IsAt self.old s → MayDoStep s self.new [] result (λ order. said_step s order (Ok (Command.Board member cells workers seed))) }
+        ensures { (s : State) → IsAt self.old s → MayDoStep s self.new [] result
+            (λ order. said_step s order (Ok (Command.Board member cells workers seed))) }
     {
         if self.member.is_some() {
             return Err(Stop::Fault(LineFault::SecondBoard));
@@ -114,7 +115,9 @@ impl<'a, T, G> Host<'a, T, G> {
         output: &mut Output,
     ) -> Result<(), Stop<LineFault>>
         requires { IsWithin command.now }
-        ensures { (written : List ℕ) × (output.new ≡ output.old ++ written) × ((s : State) → IsAt self.old s → MayDoStep s self.new written result (λ order. part_step s order (End (Acts command.now)))) }
+        ensures { (written : List ℕ) × (output.new ≡ output.old ++ written) ×
+            ((s : State) → IsAt self.old s → MayDoStep s self.new written result
+            (λ order. part_step s order (End (Acts command.now)))) }
     {
         match &mut self.member {
             None => Err(Stop::Fault(LineFault::NoBoard)),
@@ -131,7 +134,9 @@ impl<'a, T, G> Host<'a, T, G> {
     ) -> Result<(), Stop<LineFault>>
         requires command { IsWithin command.now }
         requires other { EndsBatchAt (part_of (Ok command.now)) }
-        ensures { (written : List ℕ) × (output.new ≡ output.old ++ written) × ((s : State) → IsAt self.old s → MayDoStep s self.new written result (λ order. said_step s order (Ok command.now))) }
+        ensures { (written : List ℕ) × (output.new ≡ output.old ++ written) ×
+            ((s : State) → IsAt self.old s →
+            MayDoStep s self.new written result (λ order. said_step s order (Ok command.now))) }
     {
         match command {
             Command::Board {
@@ -157,12 +162,14 @@ impl<T: Threads + Wait + Sync, G: Gate + Sync> Host<'_, T, G> {
     ) -> Result<(), Stop<LineFault>>
         requires said { Says progress.old.lines.line said }
         requires taken { progress.old.lines.seen ≡ seens.Nothing }
-        ensures { (printed : List ℕ) × (joined : List InputLine)
-            × Reads by_batches
-            (moment progress.old.lines progress.old.output (R.left source.old) (R.has_failed source.old) (W.taken sink.old) (W.has_failed sink.old))
-            (moment progress.new.lines progress.new.output (R.left source.new) (R.has_failed source.new) (W.taken sink.new) (W.has_failed sink.new)) printed joined
-            × ((s : State) → IsAt self.old s
-            → DoesGroup by_batches (IsAt self.new) printed (may_take s progress.old.lines.done (whole progress.old.lines.line)) progress.old.lines.line joined progress.new.lines result) }
+        ensures { (printed : List ℕ) × (joined : List InputLine) ×
+            Reads by_batches (moment progress.old.lines progress.old.output (R.left source.old)
+            (R.has_failed source.old) (W.taken sink.old) (W.has_failed sink.old))
+            (moment progress.new.lines progress.new.output (R.left source.new)
+            (R.has_failed source.new) (W.taken sink.new) (W.has_failed sink.new)) printed joined ×
+            ((s : State) → IsAt self.old s → DoesGroup by_batches (IsAt self.new) printed
+            (may_take s progress.old.lines.done (whole progress.old.lines.line))
+            progress.old.lines.line joined progress.new.lines result) }
     {
         match said.part() {
             Part::Arrival(drawop) => self.arrive(drawop, progress, source, sink),
@@ -174,8 +181,8 @@ impl<T: Threads + Wait + Sync, G: Gate + Sync> Host<'_, T, G> {
         }
     }
 
-    /// Takes the batch that begins with the line that was taken last and hands in this drawop: the script is read on
-    /// to its end.
+    /// Takes the batch that begins with the line that was taken last and hands in this drawop: the
+    /// script is read on to its end.
     fn arrive<R: Source, W: Sink>(
         &mut self,
         drawop: Drawop,
@@ -184,12 +191,14 @@ impl<T: Threads + Wait + Sync, G: Gate + Sync> Host<'_, T, G> {
         sink: &mut W,
     ) -> Result<(), Stop<LineFault>>
         requires part { part_in progress.old.lines.line ≡ Arrival drawop }
-        ensures { (printed : List ℕ) × (joined : List InputLine)
-            × Reads by_batches
-            (moment progress.old.lines progress.old.output (R.left source.old) (R.has_failed source.old) (W.taken sink.old) (W.has_failed sink.old))
-            (moment progress.new.lines progress.new.output (R.left source.new) (R.has_failed source.new) (W.taken sink.new) (W.has_failed sink.new)) printed joined
-            × ((s : State) → IsAt self.old s
-            → DoesGroup by_batches (IsAt self.new) printed (may_take s progress.old.lines.done (whole progress.old.lines.line)) progress.old.lines.line joined progress.new.lines result) }
+        ensures { (printed : List ℕ) × (joined : List InputLine) ×
+            Reads by_batches (moment progress.old.lines progress.old.output (R.left source.old)
+            (R.has_failed source.old) (W.taken sink.old) (W.has_failed sink.old))
+            (moment progress.new.lines progress.new.output (R.left source.new)
+            (R.has_failed source.new) (W.taken sink.new) (W.has_failed sink.new)) printed joined ×
+            ((s : State) → IsAt self.old s → DoesGroup by_batches (IsAt self.new) printed
+            (may_take s progress.old.lines.done (whole progress.old.lines.line))
+            progress.old.lines.line joined progress.new.lines result) }
     {
         let Some(member) = self.member.take() else {
             return Err(Stop::Fault(LineFault::NoBoard));

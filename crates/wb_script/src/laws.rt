@@ -18,8 +18,8 @@ pub fn queries_are_answered()
     ensures pages { PagesOfHistory }
 {}
 
-/// There is no other view of a page, no other list of its missing ranges, no other report of it, and no
-/// other list of pages.
+/// There is no other view of a page, no other list of its missing ranges, no other report of it,
+/// and no other list of pages.
 pub fn answers_are_one()
     ensures view { OnlyView }
     ensures gaps { OnlyGaps }
@@ -27,14 +27,15 @@ pub fn answers_are_one()
     ensures pages { OnlyPages }
 {}
 
-/// Boards that hold the same drawops, whatever the order in which they came, print the same for each
-/// question, character for character, where the same marks were heard.
+/// Boards that hold the same drawops, whatever the order in which they came, print the same for
+/// each question, character for character, where the same marks were heard.
 pub fn order_is_free()
     ensures { AnswersAreFree }
 {}
 
-/// Arrivals that do not clash, with a cell for each of their names, lead to the same drawops in every
-/// order and in whatever batches, so that each question then prints the same, character for character.
+/// Arrivals that do not clash, with a cell for each of their names, lead to the same drawops in
+/// every order and in whatever batches, so that each question then prints the same, character for
+/// character.
 pub fn arrivals_are_free()
     ensures batches { BatchesAreOne }
     ensures held { ArrivalsAreFree }
@@ -46,9 +47,9 @@ pub fn batches_are_acts()
     ensures { BatchesAreActs }
 {}
 
-/// A script that shows a page at its end prints the canvas of all its arrivals, of whatever batches. Two
-/// such scripts whose arrivals are rearrangements of one another and do not clash, with cells for all
-/// names, end with the same canvas.
+/// A script that shows a page at its end prints the canvas of all its arrivals, of whatever
+/// batches. Two such scripts whose arrivals are rearrangements of one another and do not clash,
+/// with cells for all names, end with the same canvas.
 pub fn shows_are_free()
     ensures arrivals { ShowsArrivals }
     ensures free { ShowsAreFree }
@@ -72,34 +73,37 @@ pub fn batches_add_up()
     ensures held { HeldStays }
 {}
 
-/// What one thread prints for a script, which takes each batch as it came, is an outcome by any number of
-/// workers, and by one worker the only one. It does not depend on the number that is handed in.
+/// What one thread prints for a script, which takes each batch as it came, is an outcome by any
+/// number of workers, and by one worker the only one. It does not depend on the number that is
+/// handed in.
 pub fn one_worker_is_one_thread()
     ensures some { OneThreadIsOutcome }
     ensures only { OneWorkerIsOneThread }
     ensures free { OneThreadIsFree }
 {}
 
-/// Whatever workers print for a script, one thread prints for a script with the arrivals reordered inside
-/// their batches: the contents of the arrivals of one batch change places, and all other lines and the line feeds
-/// stay. Where a line feed ends each line, whole lines change places. What one thread prints for each script that is
-/// reordered so is an outcome by two workers or more.
+/// Whatever workers print for a script, one thread prints for a script with the arrivals reordered
+/// inside their batches: the contents of the arrivals of one batch change places, and all other
+/// lines and the line feeds stay. Where a line feed ends each line, whole lines change places. What
+/// one thread prints for each script that is reordered so is an outcome by two workers or more.
 pub fn workers_are_one_thread()
     ensures scripts { WorkersAreOneThread }
     ensures each { EachReorderingIsOutcome }
 {}
 
-/// Where no arrivals clash and the board has a cell for each of their names, a script has one outcome,
-/// whatever the number of workers and in whatever order they take each batch: what one thread prints.
+/// Where no arrivals clash and the board has a cell for each of their names, a script has one
+/// outcome, whatever the number of workers and in whatever order they take each batch: what one
+/// thread prints.
 pub fn workers_are_free()
     ensures orders { OrdersAreFree }
     ensures workers { WorkersAreFree }
 {}
 
-/// A script in which each arrival is a batch of its own prints, by `run` with any number of workers, what `host`
-/// prints for it, without the lines `ok DUE`. This is so where the run comes to the end of the script, or to
-/// where reading fails. Where a line is refused, which ends the run, it prints what `host` prints for the lines
-/// before it. The timers of the host have the constants of a script.
+/// A script in which each arrival is a batch of its own prints, by `run` with any number of
+/// workers, what `host` prints for it, without the lines `ok DUE`. This is so where the run comes
+/// to the end of the script, or to where reading fails. Where a line is refused, which ends the
+/// run, it prints what `host` prints for the lines before it. The timers of the host have the
+/// constants of a script.
 pub fn runs_are_transcripts()
     ensures order { AloneIsOneOrder }
     ensures whole { RunIsWithoutOks }

@@ -1,9 +1,10 @@
 //! Scripts for a whiteboard, and what they print.
 //!
 //! A script stands in for the network and the clock of a host: its lines hand in the datagrams that
-//! arrive, set the moment, and ask for what a page shows. This crate runs lines, has workers take their
-//! batches, and writes exactly what one thread prints for them, each batch taken in some order: as it came,
-//! where one worker takes it. What one line says and does is of wb_commands, and what reads text of wb_lines.
+//! arrive, set the moment, and ask for what a page shows. This crate runs lines, has workers take
+//! their batches, and writes exactly what one thread prints for them, each batch taken in some
+//! order: as it came, where one worker takes it. What one line says and does is of wb_commands, and
+//! what reads text of wb_lines.
 #![tactic(auto)]
 
 mod arriving;

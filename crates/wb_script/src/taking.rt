@@ -47,9 +47,9 @@ impl<T: Drop> From<AllocFailed<T>> for Untaken {
     }
 }
 
-/// Has so many workers take the arrivals of a source at the board of a member, and tells its keeper what arrived.
-/// Answers the member, the counts, and the drawops as they came. Where that is refused the member is gone: rows of
-/// its board may be lost.
+/// Has so many workers take the arrivals of a source at the board of a member, and tells its keeper
+/// what arrived. Answers the member, the counts, and the drawops as they came. Where that is
+/// refused the member is gone: rows of its board may be lost.
 fn take_all<T: Threads + Wait + Sync, S: Arrivals, G: Gate + Sync>(
     place: &Place<'_, T, G>,
     member: Member,
@@ -94,19 +94,32 @@ fn take_from<T: Threads + Wait + Sync, R: Source, W: Sink, G: Gate + Sync>(
 ) -> Result<(Member, Batch), Untaken>
     requires workers { IsWorkerCount workers }
     requires start { arriving.old.over ≡ false }
-    ensures names { (arriving.new.progress.ghost_name ≡ arriving.old.progress.ghost_name) × (arriving.new.source.ghost_name ≡ arriving.old.source.ghost_name)
-        × (arriving.new.sink.ghost_name ≡ arriving.old.sink.ghost_name) }
+    ensures names { (arriving.new.progress.ghost_name ≡ arriving.old.progress.ghost_name) ×
+        (arriving.new.source.ghost_name ≡ arriving.old.source.ghost_name) ×
+        (arriving.new.sink.ghost_name ≡ arriving.old.sink.ghost_name) }
     ensures reads { (arrived : List DrawopValue) × ReadsOn
-        (record { at = moment arriving.old.progress.now.lines arriving.old.progress.now.output (R.left arriving.old.source.now) (R.has_failed arriving.old.source.now) (W.taken arriving.old.sink.now) (W.has_failed arriving.old.sink.now); first = arriving.old.first; over = arriving.old.over })
-        arrived
-        (record { at = moment arriving.new.progress.now.lines arriving.new.progress.now.output (R.left arriving.new.source.now) (R.has_failed arriving.new.source.now) (W.taken arriving.new.sink.now) (W.has_failed arriving.new.sink.now); first = arriving.new.first; over = arriving.new.over })
-        × TakesFrom member workers arrived arriving.new.over result }
+        (record {
+          at = moment arriving.old.progress.now.lines arriving.old.progress.now.output
+              (R.left arriving.old.source.now) (R.has_failed arriving.old.source.now)
+              (W.taken arriving.old.sink.now) (W.has_failed arriving.old.sink.now);
+          first = arriving.old.first;
+          over = arriving.old.over;
+        }) arrived
+        (record {
+          at = moment arriving.new.progress.now.lines arriving.new.progress.now.output
+              (R.left arriving.new.source.now) (R.has_failed arriving.new.source.now)
+              (W.taken arriving.new.sink.now) (W.has_failed arriving.new.sink.now);
+          first = arriving.new.first;
+          over = arriving.new.over;
+        }) ×
+        TakesFrom member workers arrived arriving.new.over result }
 {
     let (member, batch, _drawops) = take_all(place, member, workers, arriving)?;
     Ok((member, batch))
 }
 
-/// Takes a batch, whose first arrival was read before, and reads on to its end. Answers the member and the counts.
+/// Takes a batch, whose first arrival was read before, and reads on to its end. Answers the member
+/// and the counts.
 fn take_arrivals<T: Threads + Wait + Sync, R: Source, W: Sink, G: Gate + Sync>(
     place: &Place<'_, T, G>,
     member: Member,
@@ -117,10 +130,12 @@ fn take_arrivals<T: Threads + Wait + Sync, R: Source, W: Sink, G: Gate + Sync>(
     sink: &mut W,
 ) -> Result<(Member, Batch), Untaken>
     requires workers { IsWorkerCount workers }
-    ensures { (joined : List InputLine) × Reads by_batches
-        (moment progress.old.lines progress.old.output (R.left source.old) (R.has_failed source.old) (W.taken sink.old) (W.has_failed sink.old))
-        (moment progress.new.lines progress.new.output (R.left source.new) (R.has_failed source.new) (W.taken sink.new) (W.has_failed sink.new)) [] joined
-        × TakesArrivals member workers first joined progress.new.lines result }
+    ensures { (joined : List InputLine) ×
+        Reads by_batches (moment progress.old.lines progress.old.output
+        (R.left source.old) (R.has_failed source.old) (W.taken sink.old) (W.has_failed sink.old))
+        (moment progress.new.lines progress.new.output (R.left source.new) (R.has_failed source.new)
+        (W.taken sink.new) (W.has_failed sink.new)) [] joined ×
+        TakesArrivals member workers first joined progress.new.lines result }
 {
     let mut arriving = BatchSource {
         alloc: place.alloc,
@@ -133,8 +148,8 @@ fn take_arrivals<T: Threads + Wait + Sync, R: Source, W: Sink, G: Gate + Sync>(
     take_from(place, member, workers, &mut arriving)
 }
 
-/// Takes a batch, whose first arrival was read before, reads on to its end, and prints its counts, unless no more lines
-/// can be read.
+/// Takes a batch, whose first arrival was read before, reads on to its end, and prints its counts,
+/// unless no more lines can be read.
 pub fn take_batch<T: Threads + Wait + Sync, R: Source, W: Sink, G: Gate + Sync>(
     place: &Place<'_, T, G>,
     member: Member,
@@ -145,10 +160,12 @@ pub fn take_batch<T: Threads + Wait + Sync, R: Source, W: Sink, G: Gate + Sync>(
     sink: &mut W,
 ) -> Result<Member, Untaken>
     requires workers { IsWorkerCount workers }
-    ensures { (printed : List ℕ) × (joined : List InputLine) × Reads by_batches
-        (moment progress.old.lines progress.old.output (R.left source.old) (R.has_failed source.old) (W.taken sink.old) (W.has_failed sink.old))
-        (moment progress.new.lines progress.new.output (R.left source.new) (R.has_failed source.new) (W.taken sink.new) (W.has_failed sink.new)) printed joined
-        × TakesBatch member workers first joined printed progress.new.lines result }
+    ensures { (printed : List ℕ) ×
+        (joined : List InputLine) × Reads by_batches (moment progress.old.lines progress.old.output
+        (R.left source.old) (R.has_failed source.old) (W.taken sink.old) (W.has_failed sink.old))
+        (moment progress.new.lines progress.new.output (R.left source.new) (R.has_failed source.new)
+        (W.taken sink.new) (W.has_failed sink.new)) printed joined ×
+        TakesBatch member workers first joined printed progress.new.lines result }
 {
     let (member, batch) = take_arrivals(place, member, workers, first, progress, source, sink)?;
     if progress.lines.is_broken() {

@@ -22,8 +22,10 @@ impl Keeper {
     ///
     /// Refused with `BackInTime` or `Range`, in this order.
     pub fn arrived(&mut self, desk: &Desk, now: u64, names: &[Name]) -> Result<(), KeepFault>
-        ensures fault { MatchOption (moment_fault self.old.moment now) (IsOk result) (λ fault. result ≡ Err fault) }
-        ensures ok { OnOk result (Keeps (Arrive now (filter (holds desk.now.seen) names.now)) self.old self.new) }
+        ensures fault { MatchOption (moment_fault self.old.moment now) (IsOk result)
+            (λ fault. result ≡ Err fault) }
+        ensures ok { OnOk result
+            (Keeps (Arrive now (filter (holds desk.now.seen) names.now)) self.old self.new) }
         ensures err { OnErr result (self.new ≡ self.old) }
     {
         self.check(now)?;
@@ -35,7 +37,10 @@ impl Keeper {
     /// Ends the timers of those of the names that the desk holds.
     fn receive_all(&mut self, desk: &Desk, names: &[Name])
         ensures rest { self.new ≡ record self.old { recovery = self.new.recovery } }
-        ensures came { (constants : Constants) (events : List Event) → TimersStandFor constants events self.old.recovery → TimersStandFor constants (receipts self.old.moment events (received_of (delay_at self.old.delays) (filter (holds desk.now.seen) names.now))) self.new.recovery }
+        ensures came { (constants : Constants) (events : List Event) →
+            TimersStandFor constants events self.old.recovery → TimersStandFor constants
+            (receipts self.old.moment events (received_of (delay_at self.old.delays)
+            (filter (holds desk.now.seen) names.now))) self.new.recovery }
     {
         for name in names {
             if is_held(desk, name) {
@@ -47,7 +52,8 @@ impl Keeper {
     /// Ends the timers of a name.
     fn receive(&mut self, name: Name)
         ensures rest { self.new ≡ record self.old { recovery = self.new.recovery } }
-        ensures came { Accepts (Got name self.old.moment (delay_at self.old.delays name.source)) self.old.recovery self.new.recovery }
+        ensures came { Accepts (Got name self.old.moment
+            (delay_at self.old.delays name.source)) self.old.recovery self.new.recovery }
     {
         let delay = self.delay(name.source());
         match self.recovery.got(name, self.moment, delay) {

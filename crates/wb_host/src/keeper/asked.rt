@@ -15,13 +15,17 @@ use wb_names::Name;
 impl Keeper {
     /// The names for which a request timer stands, ascending. It takes memory for these alone.
     pub fn asked_names(&self, alloc: Global) -> Result<Vec<Name>, AllocError>
-        ensures names { IfOk result (λ names. names.items ≡ asking (names_in self.now.recovery) (timers_in self.now.recovery)) }
-        ensures calls { IfOk result (λ names. (me : ℕ) (constants : Constants) (calls : List KeeperCall) → StandsFor me constants calls self.now → names.items ≡ asking (names_of (events_of me calls)) (timers_of constants (events_of me calls))) }
+        ensures names { IfOk result (λ names.
+            names.items ≡ asking (names_in self.now.recovery) (timers_in self.now.recovery)) }
+        ensures calls { IfOk result (λ names. (me : ℕ) (constants : Constants)
+            (calls : List KeeperCall) → StandsFor me constants calls self.now → names.items ≡
+            asking (names_of (events_of me calls)) (timers_of constants (events_of me calls))) }
     {
         self.recovery.asked_where(alloc, |_| true)
     }
 
-    /// How often the request timer of a name was backed off since it was set, up to 16. None where none stands.
+    /// How often the request timer of a name was backed off since it was set, up to 16. None where
+    /// none stands.
     pub fn level(&self, name: &Name) -> Option<u32>
         ensures { result ≡ level_of (timers_in self.now.recovery) name.now }
     {

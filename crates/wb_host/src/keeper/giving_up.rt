@@ -12,14 +12,17 @@ use crate::keeper::Keeper;
 use wb_names::Name;
 
 impl Keeper {
-    /// Gives up asking for a name: whether a request timer stood for it. Where one did, its timers end, as
-    /// by `Recovery::got` with a delay of 0, so that it may be asked for and answered at once again. Where
-    /// none did, the call moves the moment alone. It takes no memory. The moment is in microseconds.
+    /// Gives up asking for a name: whether a request timer stood for it. Where one did, its timers
+    /// end, as by `Recovery::got` with a delay of 0, so that it may be asked for and answered at
+    /// once again. Where none did, the call moves the moment alone. It takes no memory. The moment
+    /// is in microseconds.
     ///
     /// Refused with `BackInTime` or `Range`, in this order.
     pub fn give_up(&mut self, now: u64, name: &Name) -> Result<bool, KeepFault>
-        ensures fault { MatchOption (moment_fault self.old.moment now) (IsOk result) (λ fault. result ≡ Err fault) }
-        ensures asked { IfOk result (λ asked. asked ≡ is_asked (timers_in self.old.recovery) name.now) }
+        ensures fault { MatchOption (moment_fault self.old.moment now) (IsOk result)
+            (λ fault. result ≡ Err fault) }
+        ensures asked { IfOk result
+            (λ asked. asked ≡ is_asked (timers_in self.old.recovery) name.now) }
         ensures ok { IfOk result (λ asked. Keeps (GiveUp now name.now asked) self.old self.new) }
         ensures err { OnErr result (self.new ≡ self.old) }
     {

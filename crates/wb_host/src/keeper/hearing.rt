@@ -25,17 +25,17 @@ use wb_gaps::{MergeFault, merge_marks};
 use wb_names::{Mark, Marks};
 
 impl Keeper {
-    /// Hears a datagram, and answers what is to be sent at once: the page states where another member
-    /// asks which pages there are, and else nothing. It reads the history to its end first.
+    /// Hears a datagram, and answers what is to be sent at once: the page states where another
+    /// member asks which pages there are, and else nothing. It reads the history to its end first.
     ///
     /// The marks of a session message or page state are merged with those heard of its page. Of a
-    /// session message its sender is remembered, up to 65,535 senders, and its echo of this member, if it
-    /// has one, may tell the delay to the sender. A request is told to the timers, with the word. A drawop,
-    /// and what this member sent itself, changes nothing but the moment.
+    /// session message its sender is remembered, up to 65,535 senders, and its echo of this member,
+    /// if it has one, may tell the delay to the sender. A request is told to the timers, with the
+    /// word. A drawop, and what this member sent itself, changes nothing but the moment.
     ///
-    /// Refused with `BackInTime`, `Range`, `TooMany` (of the marks of its page) or `Memory`, in this order.
-    /// A refused call leaves the keeper as it was, and the desk too, but that it may have seen more where
-    /// memory ran out. The moment is in microseconds.
+    /// Refused with `BackInTime`, `Range`, `TooMany` (of the marks of its page) or `Memory`, in
+    /// this order. A refused call leaves the keeper as it was, and the desk too, but that it may
+    /// have seen more where memory ran out. The moment is in microseconds.
     pub fn hear(
         &mut self,
         alloc: Global,
@@ -46,12 +46,15 @@ impl Keeper {
         word: u64,
     ) -> Result<Vec<Datagram>, KeepFault>
         requires desk { IsPassOf board.now desk.old }
-        ensures fault { IsKeptBy (hear_fault self.old.me self.old.moment (marks_at self.old.marks) now datagram.now) result }
+        ensures fault { IsKeptBy (hear_fault self.old.me self.old.moment
+            (marks_at self.old.marks) now datagram.now) result }
         ensures desk { (desk.new ≡ desk.old) ⊎ ReadsOn desk.old desk.new }
         ensures untouched { IfErr result (λ fault. fault ≢ Memory → desk.new ≡ desk.old) }
         ensures end { OnOk result (ReadsOn desk.old desk.new × IsCaughtUp desk.old desk.new) }
-        ensures answers { IfOk result (λ sent. sent.items ≡ answers_to self.old.me desk.new.seen datagram.now) }
-        ensures ok { OnOk result (Keeps (Hear now datagram.now word (asks_for_held desk.new.seen datagram.now)) self.old self.new) }
+        ensures answers { IfOk result
+            (λ sent. sent.items ≡ answers_to self.old.me desk.new.seen datagram.now) }
+        ensures ok { OnOk result (Keeps (Hear now datagram.now word
+            (asks_for_held desk.new.seen datagram.now)) self.old self.new) }
         ensures err { OnErr result (self.new ≡ self.old) }
     {
         self.check(now)?;
@@ -80,10 +83,11 @@ impl Keeper {
         }
     }
 
-    /// The marks of its page once those that it tells are merged with what was heard, where it tells
-    /// something new.
+    /// The marks of its page once those that it tells are merged with what was heard, where it
+    /// tells something new.
     fn merged(&self, alloc: Global, datagram: &Datagram) -> Result<Option<Marks>, KeepFault>
-        ensures fault { IsKeptBy (first_of (fault_unless (has_room (marks_at self.now.marks) datagram.now) TooMany ∷ [])) result }
+        ensures fault { IsKeptBy (first_of
+            (fault_unless (has_room (marks_at self.now.marks) datagram.now) TooMany ∷ [])) result }
         ensures merged { IfOk result (AreMerged (marks_at self.now.marks) datagram.now) }
     {
         match datagram {
@@ -102,7 +106,8 @@ impl Keeper {
     ) -> Result<Vec<Datagram>, AllocError>
         requires other { is_own self.now.me datagram.now ≡ false }
         ensures same { desk.new ≡ desk.old }
-        ensures sent { IfOk result (λ sent. IsSent self.now.me desk.old.seen datagram.now sent.items) }
+        ensures sent { IfOk result
+            (λ sent. IsSent self.now.me desk.old.seen datagram.now sent.items) }
     {
         match datagram {
             Datagram::AskPages { .. } => self.page_states(alloc, desk),
@@ -130,7 +135,8 @@ impl Keeper {
 
 /// Both lists of marks as one, or None where those that were heard have all that the others tell.
 fn merge(alloc: Global, heard: &Marks, told: &Marks) -> Result<Option<Marks>, KeepFault>
-    ensures fault { IsKeptBy (first_of (fault_unless (nat_le (source_count heard.now told.now) MAX_ENTRIES) TooMany ∷ [])) result }
+    ensures fault { IsKeptBy (first_of
+        (fault_unless (nat_le (source_count heard.now told.now) MAX_ENTRIES) TooMany ∷ [])) result }
     ensures merged { IfOk result (IsMerged heard.now told.now) }
 {
     if have_all(heard.as_slice(), told.as_slice()) {

@@ -21,8 +21,8 @@ use std::alloc::{AllocError, Global};
 use wb_names::{Mark, Marks, PageId};
 
 impl Keeper {
-    /// The pages that have a drawop or of which some mark was heard, ascending, each once. It reads the
-    /// history to its end first. After a fault the desk may have seen more.
+    /// The pages that have a drawop or of which some mark was heard, ascending, each once. It reads
+    /// the history to its end first. After a fault the desk may have seen more.
     pub fn known_pages(
         &self,
         alloc: Global,
@@ -32,8 +32,11 @@ impl Keeper {
         requires desk { IsPassOf board.now desk.old }
         ensures desk { ReadsOn desk.old desk.new }
         ensures end { OnOk result (IsCaughtUp desk.old desk.new) }
-        ensures pages { IfOk result (λ pages. AreKnownPages (marks_at self.now.marks) desk.new.seen pages.items) }
-        ensures value { IfOk result (λ pages. (me : ℕ) (constants : Constants) (calls : List KeeperCall) → StandsFor me constants calls self.now → pages.items ≡ known_pages me calls desk.new.seen) }
+        ensures pages { IfOk result
+            (λ pages. AreKnownPages (marks_at self.now.marks) desk.new.seen pages.items) }
+        ensures value { IfOk result (λ pages. (me : ℕ) (constants : Constants)
+            (calls : List KeeperCall) → StandsFor me constants calls self.now →
+            pages.items ≡ known_pages me calls desk.new.seen) }
     {
         let mut pages = board.pages(alloc, desk)?;
         let heard = self.heard_pages(alloc)?;
@@ -48,7 +51,8 @@ impl Keeper {
     /// The pages of which some mark was heard.
     fn heard_pages(&self, alloc: Global) -> Result<Vec<PageId>, AllocError>
         ensures ordered { IsStrictlySortedBy page_cmp (keys_of self.now.marks) }
-        ensures pages { IfOk result (λ pages. (page : PageId) → Contains pages.items page ↔ (marks_at self.now.marks page ≢ [])) }
+        ensures pages { IfOk result (λ pages. (page : PageId) →
+            Contains pages.items page ↔ (marks_at self.now.marks page ≢ [])) }
     {
         let heard = self
             .marks
@@ -60,7 +64,9 @@ impl Keeper {
     /// The greatest number of a source on a page that the desk has or that was heard, or 0.
     pub fn known_number(&self, desk: &Desk, page: PageId, source: u32) -> u32
         ensures number { result ≡ known desk.now.seen page (marks_at self.now.marks page) source }
-        ensures value { (me : ℕ) (constants : Constants) (calls : List KeeperCall) → StandsFor me constants calls self.now → result ≡ known_number me calls desk.now.seen page source }
+        ensures value { (me : ℕ) (constants : Constants) (calls : List KeeperCall) →
+            StandsFor me constants calls self.now →
+            result ≡ known_number me calls desk.now.seen page source }
     {
         let heard = number_of(self.marks(page).as_slice(), source);
         heard.max(desk.last_number(page, source))

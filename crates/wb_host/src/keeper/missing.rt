@@ -23,10 +23,10 @@ impl Keeper {
     /// The number of request timers up to which `missing` wants names.
     pub const MOST_ASKS: usize = 64;
 
-    /// The names of a page that are missing and for which no request timer stands, ascending, at most
-    /// as many as bring the standing request timers to 64. A name is missing up to the greatest number
-    /// of its source that the desk then has or that was heard. It reads the history to its end first,
-    /// and leaves the keeper as it is.
+    /// The names of a page that are missing and for which no request timer stands, ascending, at
+    /// most as many as bring the standing request timers to 64. A name is missing up to the
+    /// greatest number of its source that the desk then has or that was heard. It reads the history
+    /// to its end first, and leaves the keeper as it is.
     ///
     /// Refused with `Memory` alone. The desk may then have seen more.
     pub fn missing(
@@ -40,7 +40,10 @@ impl Keeper {
         ensures fault { IsKeptBy none result }
         ensures desk { ReadsOn desk.old desk.new }
         ensures end { OnOk result (IsCaughtUp desk.old desk.new) }
-        ensures value { IfOk result (λ names. (me : ℕ) (constants : Constants) (calls : List KeeperCall) → StandsFor me constants calls self.now → names.items ≡ wanted_of constants (events_of me calls) desk.new.seen page (marks_heard me calls page)) }
+        ensures value { IfOk result
+            (λ names. (me : ℕ) (constants : Constants) (calls : List KeeperCall) →
+            StandsFor me constants calls self.now → names.items ≡ wanted_of constants
+            (events_of me calls) desk.new.seen page (marks_heard me calls page)) }
     {
         board.refresh(desk)?;
         let room = Keeper::MOST_ASKS.saturating_sub(self.recovery.asks());
@@ -50,8 +53,8 @@ impl Keeper {
         Ok(desk.unasked(alloc, self, page, room)?)
     }
 
-    /// The first names in the gaps of a page for which no request timer stands. It looks for no gap once
-    /// there is no room.
+    /// The first names in the gaps of a page for which no request timer stands. It looks for no gap
+    /// once there is no room.
     pub(crate) fn unasked(
         &self,
         alloc: Global,
@@ -61,7 +64,8 @@ impl Keeper {
     ) -> Result<Vec<Name>, AllocError>
         requires first { All (λ gap. 1 ≤ gap.first) gaps }
         requires filled { All (λ gap. gap.first ≤ gap.last) gaps }
-        ensures { IfOk result (λ names. names.items ≡ take room (filter (is_unasked (timers_in self.now.recovery)) (names_in_gaps page gaps.entry))) }
+        ensures { IfOk result (λ names. names.items ≡ take room
+            (filter (is_unasked (timers_in self.now.recovery)) (names_in_gaps page gaps.entry))) }
     {
         let mut gaps = gaps;
         let mut names = Vec::new(alloc);
@@ -85,7 +89,8 @@ impl Keeper {
         requires first { 1 ≤ gap.first }
         requires filled { gap.first ≤ gap.last }
         requires room { length names.old.items ≤ room }
-        ensures { OnOk result (names.new.items ≡ take room (names.old.items ++ filter (is_unasked (timers_in self.now.recovery)) (names_in_gap page gap))) }
+        ensures { OnOk result (names.new.items ≡ take room (names.old.items ++
+            filter (is_unasked (timers_in self.now.recovery)) (names_in_gap page gap))) }
     {
         for seq in gap.first..=gap.last {
             if names.len() == room {
@@ -98,7 +103,8 @@ impl Keeper {
 
     /// Adds a name, unless a request timer stands for it.
     fn add_if_unasked(&self, names: &mut Vec<Name>, name: Name) -> Result<(), AllocError>
-        ensures { OnOk result (names.new.items ≡ names.old.items ++ filter (is_unasked (timers_in self.now.recovery)) (name ∷ [])) }
+        ensures { OnOk result (names.new.items ≡
+            names.old.items ++ filter (is_unasked (timers_in self.now.recovery)) (name ∷ [])) }
     {
         if self.recovery.ask_of(&name).is_none() {
             names.push(name)?;

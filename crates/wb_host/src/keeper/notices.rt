@@ -13,8 +13,8 @@ use wb_recovery::Missed;
 
 impl Keeper {
     /// Names are missed: sets a request timer for each of which none stands, with the delay to its
-    /// source and the word beside it, so there are as many words as names. All are set or none. The moment
-    /// is in microseconds.
+    /// source and the word beside it, so there are as many words as names. All are set or none. The
+    /// moment is in microseconds.
     ///
     /// Refused with `BackInTime`, `Range` or `Memory`, in this order.
     pub fn notice(
@@ -45,7 +45,8 @@ impl Keeper {
         names: &[Name],
         words: &[u64],
     ) -> Result<Vec<Missed>, AllocError>
-        ensures { IfOk result (λ missed. missed.items ≡ missed_of (delay_at self.now.delays) names.now words.now) }
+        ensures { IfOk result
+            (λ missed. missed.items ≡ missed_of (delay_at self.now.delays) names.now words.now) }
     {
         let pairs = names.iter().zip(words);
         pairs

@@ -23,10 +23,10 @@ use wb_codec::Datagram;
 use wb_names::{Echo, Echoes, PageId};
 
 impl Keeper {
-    /// The session message of this moment: the report of a page at the list that the desk then sees,
-    /// and an echo to each member whose session messages are remembered. It reads the history to its
-    /// end first. A refused call leaves the keeper as it was, and the desk too, but that it may have seen
-    /// more where memory ran out. The moment is in microseconds.
+    /// The session message of this moment: the report of a page at the list that the desk then
+    /// sees, and an echo to each member whose session messages are remembered. It reads the history
+    /// to its end first. A refused call leaves the keeper as it was, and the desk too, but that it
+    /// may have seen more where memory ran out. The moment is in microseconds.
     ///
     /// Refused with `BackInTime`, `Range` or `Memory`, in this order.
     pub fn session(
@@ -42,7 +42,9 @@ impl Keeper {
         ensures desk { (desk.new ≡ desk.old) ⊎ ReadsOn desk.old desk.new }
         ensures untouched { IfErr result (λ fault. fault ≢ Memory → desk.new ≡ desk.old) }
         ensures end { OnOk result (ReadsOn desk.old desk.new × IsCaughtUp desk.old desk.new) }
-        ensures value { IfOk result (λ message. (me : ℕ) (constants : Constants) (calls : List KeeperCall) → StandsFor me constants calls self.old → message ≡ message_of me calls now desk.new.seen page) }
+        ensures value { IfOk result (λ message. (me : ℕ) (constants : Constants)
+            (calls : List KeeperCall) → StandsFor me constants calls self.old →
+            message ≡ message_of me calls now desk.new.seen page) }
         ensures ok { OnOk result (Keeps (Report now) self.old self.new) }
         ensures err { OnErr result (self.new ≡ self.old) }
     {

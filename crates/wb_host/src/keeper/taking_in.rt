@@ -38,7 +38,8 @@ impl Keeper {
         requires moment { IsMoment now }
         requires other { is_own self.old.me datagram.now ≡ false }
         requires merged { AreMerged (marks_at self.old.marks) datagram.now merged }
-        ensures ok { OnOk result (Keeps (Hear now datagram.now word (asks_for_held desk.now.seen datagram.now)) self.old self.new) }
+        ensures ok { OnOk result (Keeps (Hear now datagram.now word
+            (asks_for_held desk.now.seen datagram.now)) self.old self.new) }
         ensures err { OnErr result (self.new ≡ self.old) }
     {
         match datagram {
@@ -80,8 +81,8 @@ impl Keeper {
         }
     }
 
-    /// Keeps what a session message tells: the delay to its sender, where it tells one, when it was heard,
-    /// and the marks of its page, where they changed.
+    /// Keeps what a session message tells: the delay to its sender, where it tells one, when it was
+    /// heard, and the marks of its page, where they changed.
     fn note_session(
         &mut self,
         now: u64,
@@ -94,7 +95,13 @@ impl Keeper {
         requires after { self.old.moment ≤ now }
         requires moment { IsMoment now }
         requires near { IfSome delay IsDelay }
-        ensures ok { OnOk result (self.new ≡ record self.old { moment = now; delays = delays_with sender delay self.old.delays; heard = heard_with sender (record { sent = sent; at = now }) self.old.heard; marks = marks_with page merged self.old.marks }) }
+        ensures ok { OnOk result (self.new ≡
+            record self.old {
+              moment = now;
+              delays = delays_with sender delay self.old.delays;
+              heard = heard_with sender (record { sent = sent; at = now }) self.old.heard;
+              marks = marks_with page merged self.old.marks;
+            }) }
         ensures counted { OnOk result (length self.new.heard ≡ count_with sender self.old.heard) }
         ensures err { OnErr result (self.new ≡ self.old) }
     {
@@ -111,8 +118,8 @@ impl Keeper {
         Ok(())
     }
 
-    /// Keeps when the session message of a sender was heard, where the sender has a place, and the marks
-    /// of its page, where they changed.
+    /// Keeps when the session message of a sender was heard, where the sender has a place, and the
+    /// marks of its page, where they changed.
     fn note_sender(
         &mut self,
         now: u64,
@@ -123,7 +130,11 @@ impl Keeper {
     ) -> Result<(), AllocError>
         requires after { self.old.moment ≤ now }
         requires moment { IsMoment now }
-        ensures ok { OnOk result (self.new ≡ record self.old { moment = now; heard = heard_with sender (record { sent = sent; at = now }) self.old.heard; marks = marks_with page merged self.old.marks }) }
+        ensures ok { OnOk result (self.new ≡ record self.old {
+          moment = now;
+          heard = heard_with sender (record { sent = sent; at = now }) self.old.heard;
+          marks = marks_with page merged self.old.marks;
+        }) }
         ensures counted { OnOk result (length self.new.heard ≡ count_with sender self.old.heard) }
         ensures err { OnErr result (self.new ≡ self.old) }
     {
@@ -147,8 +158,8 @@ impl Keeper {
         self.heard.contains_key(&sender) || self.heard.len() < Keeper::MOST_HEARD
     }
 
-    /// Tells the timers of a request: the delay that counts is that to the asker where the desk holds the
-    /// name, and else that to its source.
+    /// Tells the timers of a request: the delay that counts is that to the asker where the desk
+    /// holds the name, and else that to its source.
     fn note_request(
         &mut self,
         desk: &Desk,
@@ -160,7 +171,8 @@ impl Keeper {
         requires after { self.old.moment ≤ now }
         requires moment { IsMoment now }
         requires other { nat_eq asker self.old.me ≡ false }
-        ensures ok { OnOk result (Keeps (Hear now (Request asker name) word (holds desk.now.seen name)) self.old self.new) }
+        ensures ok { OnOk result (Keeps
+            (Hear now (Request asker name) word (holds desk.now.seen name)) self.old self.new) }
         ensures err { OnErr result (self.new ≡ self.old) }
     {
         let held = is_held(desk, &name);
@@ -190,7 +202,8 @@ impl Keeper {
     ) -> Result<(), AllocError>
         requires after { self.old.moment ≤ now }
         requires moment { IsMoment now }
-        ensures ok { OnOk result (self.new ≡ record self.old { moment = now; marks = marks_with page merged self.old.marks }) }
+        ensures ok { OnOk result (self.new ≡
+            record self.old { moment = now; marks = marks_with page merged self.old.marks }) }
         ensures err { OnErr result (self.new ≡ self.old) }
     {
         if let Some(marks) = merged {

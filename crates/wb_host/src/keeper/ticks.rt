@@ -25,12 +25,12 @@ use wb_recovery::{Action, Received};
 
 impl Keeper {
     /// Time goes on to a moment: answers what is to be sent, a request for each name whose request
-    /// timer fires, ascending, and then the drawop of each name whose answer timer fires, ascending.
-    /// It reads the history to its end first, and the request timers of what is held then are stopped,
-    /// as by `arrived`, before any fires. The first word goes to the smallest name that is asked for.
-    /// A refused call leaves the keeper as it was, and the desk too, but that it may have seen more where
-    /// memory ran out. The moment is in microseconds. There are at least as many words as `due_count` says
-    /// at this moment.
+    /// timer fires, ascending, and then the drawop of each name whose answer timer fires,
+    /// ascending. It reads the history to its end first, and the request timers of what is held
+    /// then are stopped, as by `arrived`, before any fires. The first word goes to the smallest
+    /// name that is asked for. A refused call leaves the keeper as it was, and the desk too, but
+    /// that it may have seen more where memory ran out. The moment is in microseconds. There are at
+    /// least as many words as `due_count` says at this moment.
     ///
     /// Refused with `BackInTime`, `Range` or `Memory`, in this order.
     pub fn tick(
@@ -42,13 +42,18 @@ impl Keeper {
         words: &[u64],
     ) -> Result<Vec<Datagram>, KeepFault>
         requires desk { IsPassOf board.now desk.old }
-        requires words { length (due_asks (names_in self.old.recovery) (timers_in self.old.recovery) now) ≤ length words.now }
+        requires words { length (due_asks (names_in self.old.recovery)
+            (timers_in self.old.recovery) now) ≤ length words.now }
         ensures fault { IsKeptBy (moment_fault self.old.moment now) result }
         ensures desk { (desk.new ≡ desk.old) ⊎ ReadsOn desk.old desk.new }
         ensures untouched { IfErr result (λ fault. fault ≢ Memory → desk.new ≡ desk.old) }
         ensures end { OnOk result (ReadsOn desk.old desk.new × IsCaughtUp desk.old desk.new) }
-        ensures sent { IfOk result (λ sent. (me : ℕ) (constants : Constants) (calls : List KeeperCall) → StandsFor me constants calls self.old → sent.items ≡ sends_for me desk.new.seen (actions_of constants (receipts now (events_of me calls) (received_of (delay_to me calls) (stopped_in desk.new.seen self.old.recovery))) now)) }
-        ensures ok { OnOk result (Keeps (GoOn now words.now (stopped_in desk.new.seen self.old.recovery)) self.old self.new) }
+        ensures sent { IfOk result (λ sent. (me : ℕ) (constants : Constants)
+            (calls : List KeeperCall) → StandsFor me constants calls self.old → sent.items ≡
+            sends_for me desk.new.seen (actions_of constants (receipts now (events_of me calls)
+            (received_of (delay_to me calls) (stopped_in desk.new.seen self.old.recovery))) now)) }
+        ensures ok { OnOk result (Keeps
+            (GoOn now words.now (stopped_in desk.new.seen self.old.recovery)) self.old self.new) }
         ensures err { OnErr result (self.new ≡ self.old) }
     {
         self.check(now)?;
@@ -65,7 +70,8 @@ impl Keeper {
 
     /// The names with a request timer that the desk holds, with the delays to their sources.
     fn stopped(&self, alloc: Global, desk: &Desk) -> Result<Vec<Received>, AllocError>
-        ensures { IfOk result (λ received. received.items ≡ received_of (delay_at self.now.delays) (stopped_in desk.now.seen self.now.recovery)) }
+        ensures { IfOk result (λ received. received.items ≡
+            received_of (delay_at self.now.delays) (stopped_in desk.now.seen self.now.recovery)) }
     {
         let held = self
             .recovery
@@ -75,7 +81,8 @@ impl Keeper {
 
     /// The names with the delays to their sources.
     fn received_from(&self, alloc: Global, names: &[Name]) -> Result<Vec<Received>, AllocError>
-        ensures { IfOk result (λ received. received.items ≡ received_of (delay_at self.now.delays) names.now) }
+        ensures { IfOk result
+            (λ received. received.items ≡ received_of (delay_at self.now.delays) names.now) }
     {
         let received = names.iter().map(|name| Received {
             name: *name,
@@ -92,7 +99,8 @@ impl Keeper {
         actions: &[Action],
     ) -> Result<Vec<Datagram>, AllocError>
         requires { IsSound desk.now }
-        ensures { IfOk result (λ sent. sent.items ≡ sends_for self.now.me desk.now.seen actions.now) }
+        ensures { IfOk result
+            (λ sent. sent.items ≡ sends_for self.now.me desk.now.seen actions.now) }
     {
         let sent = actions
             .iter()
